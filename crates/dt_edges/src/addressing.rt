@@ -1,0 +1,17 @@
+/// An IPv4 address and a UDP port.
+#[derive(Clone, Copy, Debug, PartialEq, Eq)]
+pub struct Address {
+    /// The four numbers of the address, as they are written from left to right.
+    pub ip: [u8; 4],
+    /// The port, 0 to 65,535.
+    pub port: u16,
+}
+
+/// The other end of a link, in both directions.
+#[derive(Clone, Copy, Debug, PartialEq, Eq)]
+pub struct Peer {
+    /// The number of the link, 0 to 255.
+    pub link: u16,
+    /// Where datagrams of the link come from and go to.
+    pub address: Address,
+}
