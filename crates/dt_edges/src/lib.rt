@@ -1,8 +1,23 @@
-//! Where octets come from and go to: sources, sinks, the wire and the clock.
+//! Where octets come from and go to: sources, sinks, the wire and the clock, their forms in memory,
+//! and the adapters over the process's own streams.
 #![tactic(auto)]
 
 mod addressing;
+mod buffering;
+mod clocks;
 mod fault;
+mod memory;
+mod reading;
+mod streams;
+mod wires;
+mod writing;
 
 pub use addressing::{Address, Peer};
+pub use buffering::Buffered;
+pub use clocks::Clock;
 pub use fault::Failed;
+pub use memory::{MemSink, MemSource};
+pub use reading::Source;
+pub use streams::{ReaderSource, WriterSink};
+pub use wires::Wire;
+pub use writing::{Sink, put_all};
