@@ -1,4 +1,4 @@
-ghost use Rattle.std.specs.Prelude.{ℕ, ◌≡◌, ◌<◌, ◌≤◌, length, IfOk, OnOk, OnErr, AllPairs, ForSome, IfSome, ◌≢◌};
+ghost use Rattle.std.specs.Prelude.{ℕ, ◌≡◌, ◌<◌, ◌≤◌, length, IfOk, OnOk, OnErr, AllPairs, IfSome, ◌≢◌};
 ghost use Rattle.dt_edges.specs.Counts.{HasRisen};
 
 use crate::addressing::{Address, Peer};
