@@ -1,0 +1,11 @@
+pub mod Timed
+pub mod Ledger
+pub mod Frame
+pub mod SenderSteps
+pub mod Transmissions
+pub mod ReceiverSteps
+pub mod ReadKept
+pub mod Kept
+pub mod SafeOf
+pub mod Reached
+pub mod Props

@@ -1,0 +1,2 @@
+//! The laws of one flow.
+#![tactic(auto)]

@@ -1,0 +1,11 @@
+pub mod Numbering
+pub mod Ledger
+pub mod SendRecord
+pub mod SendActs
+pub mod ReceiveRecord
+pub mod Flow
+pub mod Acting
+pub mod Steps
+pub mod Safe
+pub mod Facts
+pub mod Carried

@@ -1,0 +1,158 @@
+-- The receiver of a flow: unread octets, and a receive record or none. What it does with a packet, with a read, and by itself. Moments are readings of the receiving station's clock.
+use Rattle.std.specs.Prelude.{ℕ, ◌+◌, ◌-◌, ◌<◌, min, Bool, true, false, ◌&&◌, if◌then◌else◌, nat_lt, nat_le, List, ◌++◌, drop, length, Option, Some, None}
+use Rattle.dt_items.specs.declared.item.Item.{Item}
+use Rattle.dt_units.specs.declared.parameters.Params.{Params}
+use Rattle.dt_units.specs.declared.order.Relation.{Relation}
+use Rattle.dt_units.specs.declared.order.Relation.TheVariants.{Below, Equal, Above}
+use Rattle.dt_units.specs.Times.{receive_time}
+use Rattle.dt_flow_model.specs.declared.acts.RecvKind.{RecvKind}
+use Rattle.dt_flow_model.specs.declared.acts.RecvKind.TheVariants.{Release, Ack}
+use Rattle.dt_flow_model.specs.declared.acts.RecvAct.{RecvAct}
+use Rattle.dt_flow_model.specs.declared.acts.RecvAct.TheVariants as T
+use Rattle.dt_flow_model.specs.declared.arrivals.Action.{Action}
+use Rattle.dt_flow_model.specs.declared.arrivals.Action.TheVariants.{Drop, Make, TellNumber, TellExpected, Accept, Skip}
+use Rattle.dt_flow_model.specs.declared.arrivals.Arrived.{Arrived}
+use Rattle.dt_flow_model.specs.declared.arrivals.Arrived.TheVariants.{Accepted, Replied, Dropped}
+use Rattle.dt_flow_model.specs.Numbering.{number_after, against_expected}
+use Rattle.dt_flow_model.specs.Ledger.{unread_items}
+use Rattle.dt_flow_model.specs.SendRecord.{ends}
+
+pub record ReceiveRecord : Type 0 where
+  -- the number of the octet that comes next
+  pub expected : ℕ
+  -- the moment of the last acceptance
+  pub touched : ℕ
+  -- the moment at which an acknowledgement that is owed goes out, or none
+  pub due : Option ℕ
+  -- the window that was told last
+  pub told : ℕ
+
+pub record Receiver : Type 0 where
+  pub unread : List Item
+  -- the receive record, or none
+  pub standing : Option ReceiveRecord
+
+-- how many more octets the unread queue takes
+abbrev pub free_of : Params → List Item → ℕ
+free_of p unread = p.rcap - length unread
+
+abbrev pub expected_of : Option ReceiveRecord → Option ℕ
+expected_of None = None
+expected_of (Some y) = Some y.expected
+
+-- a record is live while its last acceptance is less than `receive` ago
+abbrev pub IsLive : Params → ℕ → ReceiveRecord → Type 0
+IsLive p now y = now < y.touched + receive_time p
+
+-- The table of cases. Where no record stands: by the data-run flag, and whether the octets fit into the queue.
+abbrev pub action_without : Bool → Bool → Action
+action_without false fits = Drop
+action_without true true = Make
+action_without true false = TellNumber
+
+-- Where a record stands: by the packet's number against the expected one, the data-run flag, and whether the octets fit.
+abbrev pub action_with : Relation → Bool → Bool → Action
+action_with Below drf fits = TellExpected
+action_with Equal drf true = Accept
+action_with Equal drf false = TellExpected
+action_with Above true true = Skip
+action_with Above true false = TellNumber
+action_with Above false fits = TellExpected
+
+-- the action on a data packet: what is expected or none, the data-run flag, the packet's number and length, the free room
+abbrev pub action_of : Option ℕ → Bool → ℕ → ℕ → ℕ → Action
+action_of None drf number length free = action_without drf (nat_le length free)
+action_of (Some expected) drf number length free = action_with (against_expected number expected) drf (nat_le length free)
+
+-- An accepted packet owes an acknowledgement: at once where a message ends in it or one was owed already, else after `a`.
+abbrev pub owed_after : Params → ℕ → Option ℕ → Bool → Option ℕ
+owed_after p now (Some due) message_ends = Some now
+owed_after p now None message_ends = if message_ends then Some now else Some (now + p.a)
+
+-- the record after an acceptance at now: it expects what follows
+abbrev pub record_accepted : Params → ℕ → ℕ → List Item → Option ℕ → ℕ → ReceiveRecord
+record_accepted p now number items due told = record { expected = number_after number (length items); touched = now; due = owed_after p now due (ends items); told = told }
+
+-- a reply with the expected number pays what is owed; any reply of a standing record tells its window
+abbrev pub record_told : ReceiveRecord → ℕ → ReceiveRecord
+record_told y free = record y { due = None; told = free }
+
+-- the receiver after the action on a packet with a number and items, at now
+abbrev pub after_action : Params → ℕ → List Item → Option ReceiveRecord → ℕ → List Item → Action → Receiver
+after_action p now unread None number items Make = record { unread = unread ++ unread_items true items; standing = Some (record_accepted p now number items None p.rcap) }
+after_action p now unread (Some y) number items Accept = record { unread = unread ++ unread_items false items; standing = Some (record_accepted p now number items y.due y.told) }
+after_action p now unread (Some y) number items Skip = record { unread = unread ++ unread_items true items; standing = Some (record_accepted p now number items y.due y.told) }
+after_action p now unread (Some y) number items TellExpected = record { unread = unread; standing = Some (record_told y (free_of p unread)) }
+after_action p now unread (Some y) number items TellNumber = record { unread = unread; standing = Some (record y { told = free_of p unread }) }
+after_action p now unread standing number items other = record { unread = unread; standing = standing }
+
+-- what it answers
+abbrev pub answer_to : Option ReceiveRecord → ℕ → ℕ → ℕ → Action → Arrived
+answer_to standing number count free Drop = Dropped
+answer_to standing number count free Make = Accepted true count
+answer_to standing number count free Accept = Accepted false count
+answer_to standing number count free Skip = Accepted true count
+answer_to standing number count free TellNumber = Replied number free
+answer_to (Some y) number count free TellExpected = Replied y.expected free
+answer_to None number count free TellExpected = Dropped
+
+-- a data packet comes
+abbrev pub action_on : Params → Receiver → Bool → ℕ → List Item → Action
+action_on p r drf number items = action_of (expected_of r.standing) drf number (length items) (free_of p r.unread)
+
+abbrev pub after_data : Params → ℕ → Receiver → Bool → ℕ → List Item → Receiver
+after_data p now r drf number items = after_action p now r.unread r.standing number items (action_on p r drf number items)
+
+abbrev pub answer_to_data : Params → Receiver → Bool → ℕ → List Item → Arrived
+answer_to_data p r drf number items = answer_to r.standing number (length items) (free_of p r.unread) (action_on p r drf number items)
+
+-- a rendezvous packet comes: it is replied to with the expected number where a record stands, else with its own
+abbrev pub after_meet : Params → Receiver → Receiver
+after_meet p r = elim r.standing [ None ↦ r | Some y ↦ record r { standing = Some (record_told y (free_of p r.unread)) } ]
+
+abbrev pub answer_to_meet : Params → Receiver → ℕ → Arrived
+answer_to_meet p r number = elim r.standing [ None ↦ Replied number (free_of p r.unread) | Some y ↦ Replied y.expected (free_of p r.unread) ]
+
+-- A read that raises the free room from below the least of `seg` and `rcap` to at least that, where a record stands that told less, makes an acknowledgement due at once.
+abbrev pub worth_telling : Params → ℕ
+worth_telling p = min p.seg p.rcap
+
+abbrev pub opens_window : Params → ℕ → ℕ → ReceiveRecord → Bool
+opens_window p before after y = nat_lt before (worth_telling p) && nat_le (worth_telling p) after && nat_lt y.told (worth_telling p)
+
+abbrev pub record_read : Params → ℕ → ℕ → ℕ → Option ReceiveRecord → Option ReceiveRecord
+record_read p now before after None = None
+record_read p now before after (Some y) = Some (if opens_window p before after y then record y { due = Some now } else y)
+
+-- so many of the unread octets are read at now
+abbrev pub after_read : Params → ℕ → ℕ → Receiver → Receiver
+after_read p now count r = record { unread = drop count r.unread; standing = record_read p now (free_of p r.unread) (free_of p (drop count r.unread)) r.standing }
+
+-- The acts. Release: the last acceptance was at least `receive` ago. Ack: an acknowledgement is owed by now.
+abbrev pub recv_moment_if : Bool → RecvKind → ℕ → Option (RecvKind × ℕ)
+recv_moment_if true kind moment = Some (kind, moment)
+recv_moment_if false kind moment = None
+
+abbrev pub owing : ℕ → Option ℕ → Option (RecvKind × ℕ)
+owing now None = None
+owing now (Some due) = recv_moment_if (nat_le due now) Ack due
+
+-- the first kind that is due at now, with its due moment
+abbrev pub recv_due_of : Params → ℕ → Option ReceiveRecord → Option (RecvKind × ℕ)
+recv_due_of p now None = None
+recv_due_of p now (Some y) = if nat_le (y.touched + receive_time p) now then Some (Release, y.touched + receive_time p) else owing now y.due
+
+-- the receiver after an act: a released record goes with what it owes, and what is unread stays
+abbrev pub after_recv_act : Params → Receiver → RecvKind → Receiver
+after_recv_act p r Release = record r { standing = None }
+after_recv_act p r Ack = after_meet p r
+
+-- what is told of it
+abbrev pub recv_told_of : Params → List Item → ReceiveRecord → RecvKind → RecvAct
+recv_told_of p unread y Release = T.Released
+recv_told_of p unread y Ack = T.Acked y.expected (free_of p unread)
+
+-- when the receiver is to be woken: the least moment at which an act is due
+abbrev pub recv_wake_of : Params → Option ReceiveRecord → Option ℕ
+recv_wake_of p None = None
+recv_wake_of p (Some y) = Some (elim y.due [ None ↦ y.touched + receive_time p | Some due ↦ min (y.touched + receive_time p) due ])

@@ -1,0 +1,160 @@
+-- The acts of a send record: when each kind is due, its due moment, what it does, and when the record is to be woken.
+use Rattle.std.specs.Prelude.{ℕ, ◌+◌, ◌<◌, ◌≡◌, min, Bool, true, false, ◌&&◌, if◌then◌else◌, nat_lt, nat_le, List, [], ◌∷◌, ◌++◌, length, Option, Some, None}
+use Rattle.dt_items.specs.declared.item.Item.{Item}
+use Rattle.dt_units.specs.declared.parameters.Params.{Params}
+use Rattle.dt_units.specs.Times.{give_time, send_time}
+use Rattle.dt_flow_model.specs.declared.acts.SendKind.{SendKind}
+use Rattle.dt_flow_model.specs.declared.acts.SendKind.TheVariants.{GiveUp, Release, Resend, Send, Meet}
+use Rattle.dt_flow_model.specs.declared.acts.SendAct.{SendAct}
+use Rattle.dt_flow_model.specs.declared.acts.SendAct.TheVariants.{GaveUp, Released, Renewed, Resent, Sent, Met}
+use Rattle.dt_flow_model.specs.Numbering.{number_of}
+use Rattle.dt_flow_model.specs.SendRecord.{Segment, SendRecord, new_record, end_of, next_of, cut_size, cut_of, rest_of, cut_told}
+
+-- an act, with the octets that it is about
+pub data Act : Type 0 where
+  -- the leftmost segment is given up; the others stay
+  give_up : (g : Segment) → (rest : List Segment) → Act
+  -- the record goes
+  release : Act
+  -- the record begins anew; the octets that wait stay
+  renew : Act
+  -- a segment goes out again; these stand before it and after it
+  resend : (before : List Segment) → (g : Segment) → (after : List Segment) → Act
+  -- a cut goes out; the rest waits
+  send : (cut : List Item) → (rest : List Item) → Act
+  -- a rendezvous packet goes out
+  meet : Act
+
+abbrev pub when : Bool → Act → Option Act
+when true act = Some act
+when false act = None
+
+abbrev pub or_else : Option Act → Option Act → Option Act
+or_else None other = other
+or_else (Some act) other = Some act
+
+-- Give up: something is outstanding, and the leftmost segment first went out at least `give` ago.
+abbrev pub giving_up : Params → ℕ → List Segment → Option Act
+giving_up p now [] = None
+giving_up p now (g ∷ rest) = when (nat_le (g.first + give_time p) now) (give_up g rest)
+
+-- Release: nothing is outstanding, and the record was touched at least `send` ago. It is released where nothing waits, else renewed.
+abbrev pub release_or_renew : List Item → Act
+release_or_renew [] = release
+release_or_renew (i ∷ is) = renew
+
+abbrev pub releasing : Params → ℕ → SendRecord → List Segment → Option Act
+releasing p now x [] = when (nat_le (x.touched + send_time p) now) (release_or_renew x.waiting)
+releasing p now x (g ∷ gs) = None
+
+-- Resend: a segment last went out at least `rto` ago, and first went out less than `r` ago. The one that went out longest ago goes, ties by the lesser offset.
+abbrev pub is_late : Params → ℕ → Segment → Bool
+is_late p now g = nat_le (g.last + p.rto) now && nat_lt now (g.first + p.r)
+
+-- the better of a segment before the others and the best of the others
+abbrev pub better : Segment → List Segment → Bool → Option Act → Option Act
+better g gs true (Some (resend before h after)) = if nat_le g.last h.last then Some (resend [] g gs) else Some (resend (g ∷ before) h after)
+better g gs true other = Some (resend [] g gs)
+better g gs false (Some (resend before h after)) = Some (resend (g ∷ before) h after)
+better g gs false other = None
+
+abbrev pub resending : Params → ℕ → List Segment → Option Act
+resending p now [] = None
+resending p now (g ∷ gs) = better g gs (is_late p now g) (resending p now gs)
+
+-- how many segments may be outstanding
+abbrev pub most_segments : ℕ
+most_segments = 64
+
+-- Send: a cut of at least one octet can be made, and fewer than 64 segments are outstanding.
+abbrev pub can_send : Params → SendRecord → Bool
+can_send p x = nat_lt 0 (cut_size p x) && nat_lt (length x.outstanding) most_segments
+
+abbrev pub sending : Params → SendRecord → Option Act
+sending p x = when (can_send p x) (send (cut_of p x) (rest_of p x))
+
+-- Meet: nothing is outstanding, something waits, the window is used up, the run has numbers left, and the record was touched at least `probe` ago.
+abbrev pub could_meet : Params → SendRecord → List Segment → List Item → Bool
+could_meet p x [] [] = false
+could_meet p x [] (i ∷ is) = nat_le x.edge (next_of x) && nat_lt (next_of x) p.run_limit
+could_meet p x (g ∷ gs) waiting = false
+
+abbrev pub meeting : Params → ℕ → SendRecord → Option Act
+meeting p now x = when (could_meet p x x.outstanding x.waiting && nat_le (x.touched + p.probe) now) meet
+
+-- the act at now is that of the first kind that is due
+abbrev pub act_of : Params → ℕ → SendRecord → Option Act
+act_of p now x = or_else (giving_up p now x.outstanding) (or_else (releasing p now x x.outstanding) (or_else (resending p now x.outstanding) (or_else (sending p x) (meeting p now x))))
+
+-- the kind of an act, and its due moment
+abbrev pub kind_of : Act → SendKind
+kind_of (give_up g rest) = GiveUp
+kind_of release = Release
+kind_of renew = Release
+kind_of (resend before g after) = Resend
+kind_of (send cut rest) = Send
+kind_of meet = Meet
+
+abbrev pub due_moment : Params → SendRecord → Act → ℕ
+due_moment p x (give_up g rest) = g.first + give_time p
+due_moment p x release = x.touched + send_time p
+due_moment p x renew = x.touched + send_time p
+due_moment p x (resend before g after) = g.last + p.rto
+due_moment p x (send cut rest) = 0
+due_moment p x meet = x.touched + p.probe
+
+-- the first kind that is due at now, with its due moment
+abbrev pub kind_and_moment : Params → SendRecord → Option Act → Option (SendKind × ℕ)
+kind_and_moment p x None = None
+kind_and_moment p x (Some act) = Some (kind_of act, due_moment p x act)
+
+abbrev pub due_of : Params → ℕ → SendRecord → Option (SendKind × ℕ)
+due_of p now x = kind_and_moment p x (act_of p now x)
+
+-- the record after an act at now; none where it was released
+abbrev pub record_after : Params → ℕ → SendRecord → Act → Option SendRecord
+record_after p now x (give_up g rest) = Some (record x { left = end_of g; outstanding = rest })
+record_after p now x release = None
+record_after p now x renew = Some (new_record p now x.waiting)
+record_after p now x (resend before g after) = Some (record x { touched = now; outstanding = before ++ (record g { last = now }) ∷ after })
+record_after p now x (send cut rest) = Some (record x { touched = now; outstanding = x.outstanding ++ (record { offset = next_of x; items = cut; first = now; last = now }) ∷ []; waiting = rest })
+record_after p now x meet = Some (record x { touched = now })
+
+-- what is told of an act
+abbrev pub told_of : Params → SendRecord → Act → SendAct
+told_of p x (give_up g rest) = GaveUp (length g.items)
+told_of p x release = Released
+told_of p x renew = Renewed
+told_of p x (resend before g after) = Resent (cut_told p x g.offset g.items)
+told_of p x (send cut rest) = Sent (cut_told p x (next_of x) cut)
+told_of p x meet = Met (number_of p x.left)
+
+-- the lesser of two moments, of which each may be none
+abbrev pub earlier : Option ℕ → Option ℕ → Option ℕ
+earlier None n = n
+earlier (Some m) None = Some m
+earlier (Some m) (Some n) = Some (min m n)
+
+abbrev pub moment_if : Bool → ℕ → Option ℕ
+moment_if true moment = Some moment
+moment_if false moment = None
+
+-- from when on each kind is due, if nothing else is done: the leftmost segment is given up, the record is released or renewed
+abbrev pub gives_up_from : Params → List Segment → Option ℕ
+gives_up_from p [] = None
+gives_up_from p (g ∷ gs) = Some (g.first + give_time p)
+
+abbrev pub releases_from : Params → SendRecord → List Segment → Option ℕ
+releases_from p x [] = Some (x.touched + send_time p)
+releases_from p x (g ∷ gs) = None
+
+-- the first segment goes out again that does so at all
+abbrev pub resends_from : Params → List Segment → Option ℕ
+resends_from p [] = None
+resends_from p (g ∷ gs) = earlier (moment_if (nat_lt (g.last + p.rto) (g.first + p.r)) (g.last + p.rto)) (resends_from p gs)
+
+-- when the record is to be woken: the least moment at which an act of any kind is due
+abbrev pub wake_of : Params → SendRecord → Option ℕ
+wake_of p x =
+    earlier (gives_up_from p x.outstanding)
+    (earlier (releases_from p x x.outstanding) (earlier (resends_from p x.outstanding) (earlier (moment_if (can_send p x) 0) (moment_if (could_meet p x x.outstanding x.waiting) (x.touched + p.probe)))))
