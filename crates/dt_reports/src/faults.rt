@@ -1,6 +1,7 @@
 ghost use Rattle.std.specs.Prelude.{◌≡◌};
 
 use dt_items::NoMemory;
+use dt_units::ParamFault;
 use thiserror::Error;
 
 /// Why a line isn't read, or isn't allowed where it stands: the first test that fails. The tests
@@ -86,6 +87,21 @@ impl From<NoMemory> for StepFault {
     fn from(_: NoMemory) -> Self {
         StepFault::NoMemory
     }
+}
+
+/// Why a line of an input is refused. Want of memory isn't among the texts: it isn't printed.
+#[derive(Clone, Copy, Debug, PartialEq, Eq)]
+pub enum Fault {
+    /// The line isn't read, or isn't allowed at its place.
+    Line(LineFault),
+    /// A parameter is out of its range.
+    Param(ParamFault),
+    /// The setup refuses the line.
+    Setup(SetupFault),
+    /// The event is refused.
+    Step(StepFault),
+    /// The line is allowed, and nothing does yet what it says.
+    NotBuilt,
 }
 
 /// Why a station refuses to take octets to send.

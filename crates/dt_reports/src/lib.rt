@@ -3,5 +3,7 @@
 #![tactic(auto)]
 
 mod faults;
+mod reporting;
 
-pub use faults::{LineFault, Refusal, SetupFault, StepFault};
+pub use faults::{Fault, LineFault, Refusal, SetupFault, StepFault};
+pub use reporting::{LogLine, Report};

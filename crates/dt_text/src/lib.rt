@@ -5,6 +5,6 @@
 mod lines;
 mod stages;
 
-pub use dt_reports::{LineFault, Refusal, SetupFault, StepFault};
+pub use dt_reports::{Fault, LineFault, LogLine, Refusal, Report, SetupFault, StepFault};
 pub use lines::{Form, Line};
 pub use stages::Stage;
