@@ -3,6 +3,7 @@
 #![tactic(auto)]
 
 mod lines;
+mod putting;
 mod stages;
 
 pub use dt_reports::{Fault, LineFault, LogLine, Refusal, Report, SetupFault, StepFault};
