@@ -1,10 +1,11 @@
 -- Puts one after another.
-use Rattle.std.proofs.Common.{◌≡◌, ℕ, zero, suc, zero-add, ◌+◌, List, [], ◌∷◌, ◌++◌, length, take, drop, Option, Some, None, refl, ap, sym, ◌∙◌, append_assoc, length-drop, take_all, arith, ◌-◌}
+use Rattle.std.proofs.Common.{◌≡◌, ℕ, zero, suc, zero-add, ◌+◌, List, [], ◌∷◌, ◌++◌, length, take, drop, Option, Some, None, refl, ap, sym, subst, ◌∙◌, append_assoc, length-drop, take_all, arith, ◌-◌, ◌≤◌, min, Result, Ok, Err, IsErr}
 use Rattle.std.proofs.Math.Nat.{suc-add}
-use Rattle.std.proofs.Math.Seq.{take-nil}
-use Rattle.std.proofs.lemmas.List.{drop-drop, take-append-drop}
+use Rattle.std.proofs.Math.Seq.{take-nil, take-append-add}
+use Rattle.std.proofs.lemmas.List.{drop-drop, take-append-drop, take-append-le, take_min}
 use Rattle.std.proofs.lemmas.Grind.{common_steps}
-use Rattle.dt_edges.specs.Streams.{appended}
+use Rattle.dt_edges.specs.Counts.{HasRisen}
+use Rattle.dt_edges.specs.Streams.{appended, AppendsPrefix, Puts}
 
 -- what is appended in two parts is appended at once
 pub appended-appended : (xs ys : List ℕ) (held : Option (List ℕ)) → appended ys (appended xs held) ≡ appended (xs ++ ys) held
@@ -43,3 +44,32 @@ appended_passed waiting piece p k before after e a =
     ap (appended (drop (p + k) waiting)) (a ∙ ap (λ ys. appended (take k ys) before) e)
     ∙ appended-appended (take k (drop p waiting)) (drop (p + k) waiting) before
     ∙ ap (λ ys. appended ys before) (ap (λ ys. take k (drop p waiting) ++ ys) (sym (drop-drop k p waiting)) ∙ take-append-drop k (drop p waiting))
+
+-- the first n octets of a list are a first part of a longer one, too
+take_first : (xs ys : List ℕ) (n : ℕ) → take n xs ≡ take (min n (length xs)) (xs ++ ys)
+take_first xs ys n = sym (take-append-le (min n (length xs)) xs ys (omega arith) ∙ take_min n xs)
+
+-- A put of two parts that ends within the first: a first part of the first is one of both.
+pub puts_first : (xs ys : List ℕ) (before after : Option (List ℕ)) → AppendsPrefix xs before after → AppendsPrefix (xs ++ ys) before after
+puts_first xs ys before after (n , a) = (min n (length xs), a ∙ ap (λ zs. appended zs before) (take_first xs ys n))
+
+-- A put of two parts, of which the first was taken: what the put of the second says, it says of both.
+pub puts_then : {S T E : Type 0} (held : S → Option (List ℕ)) (faults : S → ℕ) (xs ys : List ℕ) (r : Result T E) (old between new : S) → held between ≡ appended xs (held old) → faults between ≡ faults old → Puts held faults ys r between new → Puts held faults (xs ++ ys) r old new
+puts_then held faults xs ys (Ok _) old between new h f p = (p.0 ∙ ap (appended ys) h ∙ appended-appended xs ys (held old), p.1 ∙ f)
+puts_then held faults xs ys (Err _) old between new h f p = (
+  (
+    length xs + p.0.0,
+    p.0.1 ∙ ap (appended (take p.0.0 ys)) h ∙ appended-appended xs (take p.0.0 ys) (held old) ∙ ap (λ zs. appended zs (held old)) (sym (take-append-add xs ys p.0.0)),
+  ),
+  subst (λ n. HasRisen n (faults new)) f p.1,
+)
+
+-- A call that fails within the first of two parts: it puts a first part of both.
+pub puts_failed : {S T E : Type 0} (held : S → Option (List ℕ)) (faults : S → ℕ) (xs ys : List ℕ) (r : Result T E) (old new : S) (n : ℕ) → held new ≡ appended (take n xs) (held old) → HasRisen (faults old) (faults new) → IsErr r → Puts held faults (xs ++ ys) r old new
+puts_failed held faults xs ys (Ok _) old new n p f is = cc
+puts_failed held faults xs ys (Err _) old new n p f is = (puts_first xs ys (held old) (held new) (n, p), f)
+
+-- Name this set on a function that puts two parts one after the other, the second by a call that it
+-- answers with or by `?` and `Ok`, and no file is needed:
+-- `#[tactic(auto, using(dt_edges::proofs::Puts::two_parts))]`.
+pub ruleset two_parts = (puts_then, puts_failed)

@@ -1,0 +1,13 @@
+//! Octets on the wire, both ways: frames, Deltagrams and packets.
+#![tactic(auto)]
+
+mod deltagrams;
+mod faults;
+mod frames;
+pub mod limits;
+mod packets;
+
+pub use deltagrams::Deltagram;
+pub use faults::LayoutFault;
+pub use frames::Frame;
+pub use packets::Packet;

@@ -1,0 +1,11 @@
+//! The texts of the program: lines of schedules and of scripts are read, and lines of the log are
+//! written.
+#![tactic(auto)]
+
+mod lines;
+mod putting;
+mod stages;
+
+pub use dt_reports::{Fault, LineFault, LogLine, Refusal, Report, SetupFault, StepFault};
+pub use lines::{Form, Line};
+pub use stages::Stage;

@@ -1,0 +1,17 @@
+ghost use Rattle.std.specs.Prelude.{◌≡◌, decimal};
+ghost use Rattle.dt_edges.specs.Streams.{Puts};
+ghost use Rattle.dt_text.specs.Texts.{flow_text, hex_text};
+
+use dt_edges::{Failed, Sink, put_all};
+use dt_units::Flow;
+use itoa::Buffer;
+
+/// Puts a number in decimal digits, without a leading zero. `Ok` has appended exactly these digits.
+/// `Failed` has appended a first part of them, and comes only where the sink's count of faults rose.
+/// Takes no memory.
+pub fn put_number<K: Sink>(n: u64, out: &mut K) -> Result<(), Failed>
+    ensures puts { Puts K.held K.faults (decimal n) result out.old out.new }
+    ensures same_sink { K.identity out.new ≡ K.identity out.old }
+{
+    put_all(Buffer::new().format(n).as_bytes(), out)
+}
