@@ -1,0 +1,3 @@
+pub mod Messages
+pub mod Shown
+pub mod Sending
