@@ -11,3 +11,6 @@ pub use item::Item;
 pub use memory::NoMemory;
 pub use piece::Piece;
 pub use unread::Queue;
+
+#[cfg(test)]
+mod tests;
