@@ -1,0 +1,59 @@
+ghost use Rattle.std.specs.Prelude.{◌<◌};
+
+use super::{Row, covers, pick};
+
+macro_rules! table {
+    ($($mask:literal $value:literal $action:literal;)*) => {
+        [$(Row { mask: $mask, value: $value, action: $action }),*]
+    };
+}
+
+// A receiver's table. A key has 1 where the octets fit, 2 where the data-run flag is on, 4 where
+// there is a record, and 8 times the relation of the number: 0 below, 1 equal, 2 above. The
+// actions are 0 drop, 1 make, 2 tell the number, 3 tell the expected one, 4 accept, 5 skip.
+const RECEIVE: [Row; 9] = table! {
+    6 0 0;
+    7 3 1;
+    7 2 2;
+    28 4 3;
+    29 13 4;
+    29 12 3;
+    31 23 5;
+    31 22 2;
+    30 20 3;
+};
+
+// As a crate above uses a table: its rule is proved by the table alone, and not tested.
+fn received(key: u8) -> u8
+    requires { key < 24 }
+{
+    pick(&RECEIVE, key)
+}
+
+#[test]
+fn the_receive_table_has_one_row_for_each_key(rt: HostRuntime) {
+    let actions = [
+        0, 0, 2, 1, 3, 3, 3, 3, 0, 0, 2, 1, 3, 4, 3, 4, 0, 0, 2, 1, 3, 3, 2, 5,
+    ];
+    assert!(rt; covers(&RECEIVE, 24));
+    for key in 0..24 {
+        assert_eq!(rt; received(key), actions[usize::from(key)], "at {key}");
+    }
+    // beyond those keys, 28 meets no row
+    assert!(rt; covers(&RECEIVE, 28));
+    assert!(rt; !covers(&RECEIVE, 29));
+}
+
+#[test]
+fn a_key_with_two_rows_or_none_breaks_the_rule(rt: HostRuntime) {
+    let two = table! { 1 0 7; 3 1 8; 3 3 9; 2 2 6; };
+    assert!(rt; covers(&two, 2));
+    assert!(rt; !covers(&two, 3));
+    let none = table! { 1 0 7; 3 1 8; };
+    assert!(rt; covers(&none, 3));
+    assert!(rt; !covers(&none, 4));
+    // a value with a bit outside the mask
+    assert!(rt; !covers(&table! { 1 2 7; }, 1));
+    assert!(rt; covers(&table! {}, 0));
+    assert!(rt; !covers(&table! {}, 1));
+}

@@ -1,0 +1,3 @@
+pub mod Pieces
+pub mod Marks
+pub mod Longest

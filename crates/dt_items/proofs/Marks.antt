@@ -1,0 +1,40 @@
+-- The item at a place of octets that come together.
+use Rattle.std.proofs.Common.{◌≡◌, ℕ, zero, suc, ◌+◌, ◌<◌, ◌≤◌, Bool, true, false, cond, ◌&&◌, List, [], ◌∷◌, ◌++◌, length-append, length, get_or, refl, ap, eqb, arith}
+use Rattle.std.proofs.lemmas.Bool.Decides.{nat_tests}
+use Rattle.dt_items.specs.declared.item.Item.{Item}
+use Rattle.dt_items.specs.Unread.{marked}
+
+pub length-marked : (octets : List ℕ) (begin end run : Bool) → length (marked octets begin end run) ≡ length octets
+length-marked [] begin end run = refl
+length-marked (x ∷ []) begin end run = refl
+length-marked (x ∷ y ∷ rest) begin end run = ap suc (length-marked (y ∷ rest) false end false)
+
+and_yes : (b : Bool) → (b && true) ≡ b
+and_yes true = refl
+and_yes false = refl
+
+and_no : (b : Bool) → (b && false) ≡ false
+and_no true = refl
+and_no false = refl
+
+pub marked-at : (octets : List ℕ) (i : ℕ) (begin end run : Bool) (d : Item) → i < length octets → get_or (marked octets begin end run) i d ≡ record { octet = get_or octets i 0; begin = begin && eqb i 0; end = end && eqb (i + 1) (length octets); run = run && eqb i 0 }
+marked-at [] i begin end run d h = absurd (omega arith)
+marked-at (x ∷ []) zero begin end run d h =
+    rw (and_yes begin, and_yes end, and_yes run) refl
+marked-at (x ∷ []) (suc i) begin end run d h = absurd (omega arith)
+marked-at (x ∷ y ∷ rest) zero begin end run d h =
+    let more : eqb 1 (suc (suc (length rest))) ≡ false = grind (arith, nat_tests) in
+    rw (and_yes begin, and_yes run, more, and_no end) refl
+marked-at (x ∷ y ∷ rest) (suc i) begin end run d h =
+    let later : eqb (suc i) 0 ≡ false = grind (arith, nat_tests) in
+    let same : eqb (suc i + 1) (suc (suc (length rest))) ≡ eqb (i + 1) (suc (length rest)) = grind (arith, nat_tests) in
+    rw (later, same, and_no begin, and_no run) (marked-at (y ∷ rest) i false end false d (omega arith))
+
+-- appending all or none
+pub appended : (ok : Bool) (was now : List Item) (octets : List ℕ) (begin end run : Bool) → now ≡ cond ok (was ++ marked octets begin end run) was → (length was ≤ length now) × (length now ≤ length was + length octets)
+appended true was now octets begin end run h =
+    let l = ap length h in
+    let m = length-append was (marked octets begin end run) in
+    let n = length-marked octets begin end run in
+    (omega arith, omega arith)
+appended false was now octets begin end run h = let l = ap length h in (omega arith, omega arith)

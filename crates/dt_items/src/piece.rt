@@ -1,0 +1,13 @@
+/// What a read took: octets of one message, or of one stretch of a message. An end mark stands only
+/// on the last of them, and a begin or run mark only on the first.
+#[derive(Clone, Copy, Debug, PartialEq, Eq)]
+pub struct Piece {
+    /// The number of octets, at least 1.
+    pub len: usize,
+    /// The first octet has a begin mark.
+    pub begin: bool,
+    /// The last octet has an end mark.
+    pub end: bool,
+    /// The first octet has a run mark.
+    pub run: bool,
+}
