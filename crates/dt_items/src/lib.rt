@@ -10,7 +10,7 @@ mod unread;
 pub use item::Item;
 pub use memory::NoMemory;
 pub use piece::Piece;
-pub use unread::Queue;
+pub use unread::{Queue, append_marked};
 
 #[cfg(test)]
 mod tests;

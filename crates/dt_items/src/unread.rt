@@ -93,8 +93,10 @@ fn item_at(octets: &[u8], i: usize, begin: bool, end: bool, run: bool) -> Item
     }
 }
 
-/// Appends the octets with their marks, or nothing where there is no memory.
-fn append(
+/// Appends octets that come together, with their marks: the first item gets the marks begin and run,
+/// the last gets the mark end, and all other marks are off. `NoMemory` changes nothing. The cost is
+/// that of the octets.
+pub fn append_marked(
     items: &mut Vec<Item>,
     octets: &[u8],
     begin: bool,
@@ -167,7 +169,7 @@ impl Queue {
         ensures err { OnErr result (self.new ≡ self.old) }
     {
         self.close_up();
-        append(&mut self.items, octets, begin, end, run)
+        append_marked(&mut self.items, octets, begin, end, run)
     }
 
     /// Takes the most items that fit in the buffer, which isn't empty, such that an end mark stands

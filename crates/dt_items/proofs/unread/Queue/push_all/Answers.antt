@@ -9,5 +9,5 @@ invariant_of-self c =
     let unread = ap (λ b. length b.items) view in
     let room = ap (λ b. b.room) view in
     let split = length-drop q.head q.items.items in
-    let longer = appended (is_ok c.append.result) q.items.items c.append.new.items.items c.args.octets.now c.args.begin c.args.end c.args.run c.append.ensures in
+    let longer = appended (is_ok c.append_marked.result) q.items.items c.append_marked.new.items.items c.args.octets.now c.args.begin c.args.end c.args.run c.append_marked.ensures in
     (omega arith, omega arith, omega arith)

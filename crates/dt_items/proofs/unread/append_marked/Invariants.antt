@@ -1,6 +1,6 @@
 use Rattle.std.proofs.Common.{◌≡◌, ◌+◌, ◌-◌, ◌≤◌, ◌++◌, take, length, vec_len, vec_capacity}
 use Rattle.dt_items.specs.Unread.{marked}
-use Rattle.dt_items.proofs.unread.append.Given as goal
+use Rattle.dt_items.proofs.unread.append_marked.Given as goal
 
 abbrev pub invariant-loop-i : goal.invariant-loop-i
 invariant-loop-i l = record {

@@ -3,7 +3,7 @@ use Rattle.std.proofs.lemmas.List.{take_all, take_more}
 use Rattle.dt_items.specs.Unread.{marked}
 use Rattle.dt_items.proofs.Marks.{length-marked, marked-at}
 use Rattle.dt_items.proofs.Pieces.{blank}
-use Rattle.dt_items.proofs.unread.append.Goals as goal
+use Rattle.dt_items.proofs.unread.append_marked.Goals as goal
 
 pub loop-i-preserved : goal.loop-i-preserved
 loop-i-preserved c =
