@@ -2,9 +2,21 @@
 //! written.
 #![tactic(auto)]
 
+mod endpoints;
+mod fields;
+mod hexadecimal;
 mod lines;
+mod numerals;
+
+mod splitting;
 mod stages;
 
-pub use dt_reports::{Fault, LineFault, LogLine, Refusal, Report, SetupFault, StepFault};
+pub use dt_reports::{
+    Fault, LineFault, LogLine, Refusal, Report, SetupFault, StepFault,
+};
+pub use endpoints::read_flow;
+pub use hexadecimal::{decode_hex, is_hex};
 pub use lines::{Form, Line};
+pub use numerals::read_number;
+
 pub use stages::Stage;

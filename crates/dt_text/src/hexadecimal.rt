@@ -1,0 +1,43 @@
+ghost use Rattle.std.specs.Prelude.{◌≡◌, [], IsTrue, OnOk, OnErr};
+ghost use Rattle.std.specs.Char.{digit_value, is_ascii_hexdigit};
+ghost use Rattle.dt_text.specs.Hexadecimal.{is_hex, are_pairs, octets_of};
+
+use dt_items::NoMemory;
+
+/// Whether a word is 1 to `most` pairs of hexadecimal digits, in either case. The cost is the word.
+pub fn is_hex(word: &[u8], most: u32) -> bool
+    ensures { result ≡ is_hex most word.now }
+{
+    let len = word.len() as u64;
+    len > 0
+        && len <= 2 * u64::from(most)
+        && len % 2 == 0
+        && word.iter().all(|octet| octet.is_ascii_hexdigit())
+}
+
+/// The value of a hexadecimal digit.
+fn value_of(digit: u8) -> u8
+    requires { IsTrue (is_ascii_hexdigit digit) }
+    ensures { result ≡ digit_value digit }
+{
+    match digit {
+        b'0'..=b'9' => digit - b'0',
+        b'a'..=b'f' => digit - b'a' + 10,
+        _ => digit - b'A' + 10,
+    }
+}
+
+/// Puts the octets that pairs of hexadecimal digits spell in place of what was there. After
+/// `NoMemory` nothing is there. The cost is the digits, and no memory where there is room.
+pub fn decode_hex(hex: &[u8], octets: &mut Vec<u8>) -> Result<(), NoMemory>
+    requires { IsTrue (are_pairs hex.now) }
+    ensures ok { OnOk result (octets.new.items ≡ octets_of hex.now) }
+    ensures err { OnErr result (octets.new.items ≡ []) }
+{
+    octets.clear();
+    octets.resize(hex.len() / 2, 0)?;
+    for (i, octet) in octets.iter_mut().enumerate() {
+        *octet = 16 * value_of(hex[2 * i]) + value_of(hex[2 * i + 1]);
+    }
+    Ok(())
+}
