@@ -1,1 +1,3 @@
 pub mod NumeralLemmas
+pub mod CutLemmas
+pub mod KeptLemmas

@@ -55,23 +55,28 @@ impl<'a> Words<'a> {
         ensures { result ≡ words line.now }
     {
         let mut kept = [line; MOST_WORDS];
-        let mut len = 0;
         let mut rest = line;
-        while len < MOST_WORDS {
+        for len in 0..MOST_WORDS {
             match cut(b' ', rest) {
                 Some((first, more)) => {
                     kept[len] = first;
                     rest = more;
-                    len += 1;
                 }
                 None => {
                     kept[len] = rest;
-                    len += 1;
-                    break;
+                    return Words {
+                        line,
+                        kept,
+                        len: len + 1,
+                    };
                 }
             }
         }
-        Words { line, kept, len }
+        Words {
+            line,
+            kept,
+            len: MOST_WORDS,
+        }
     }
 
     /// Whether there are as many words as that, which are fewer than [`MOST_WORDS`].
