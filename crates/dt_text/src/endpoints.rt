@@ -8,6 +8,7 @@ use dt_edges::Address;
 use dt_units::{Flow, NodeId};
 
 /// A node and a port of it: `a:p`.
+#[tactic(auto, unfolding(crate::specs::Endpoints::endpoint))]
 fn read_endpoint(word: &[u8]) -> Option<(u32, u16)>
     ensures { result ≡ endpoint word.now }
 {
@@ -19,6 +20,7 @@ fn read_endpoint(word: &[u8]) -> Option<(u32, u16)>
 
 /// The flow that a word is: `a:p>b:q` with numbers of nodes a and b, and ports p and q from 0 to
 /// 65,535. It is `None` exactly where the word isn't one.
+#[tactic(auto, unfolding(crate::specs::Endpoints::flow))]
 pub fn read_flow(word: &[u8]) -> Option<Flow>
     ensures { result ≡ flow word.now }
 {
@@ -42,6 +44,7 @@ fn read_octet(word: &[u8]) -> Option<u8>
 }
 
 /// The four numbers of an IPv4 address: `w.x.y.z`.
+#[tactic(auto, unfolding(crate::specs::Endpoints::ip))]
 fn read_ip(word: &[u8]) -> Option<[u8; 4]>
     ensures { result ≡ ip word.now }
 {
@@ -58,6 +61,7 @@ fn read_ip(word: &[u8]) -> Option<[u8; 4]>
 
 /// The address that a word is: `w.x.y.z:p` with numbers from 0 to 255 and a port from 0 to 65,535.
 /// It is `None` exactly where the word isn't one.
+#[tactic(auto, unfolding(crate::specs::Endpoints::address))]
 pub fn read_address(word: &[u8]) -> Option<Address>
     ensures { result ≡ address word.now }
 {

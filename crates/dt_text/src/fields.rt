@@ -1,5 +1,5 @@
 //! The words behind the first word of a line: what each may be, and its fault where it isn't that.
-ghost use Rattle.std.specs.Prelude.{◌≡◌, ◌<◌, length, OnOk, MatchResult};
+ghost use Rattle.std.specs.Prelude.{◌≡◌, ◌<◌, ◌≤◌, length, IfOk, OnOk, MatchResult};
 ghost use Rattle.dt_text.specs.Splitting.{word};
 ghost use Rattle.dt_text.specs.Fields as fields;
 
@@ -35,7 +35,8 @@ pub fn has(count: usize, words: &Words<'_>) -> Result<(), LineFault>
 
 /// A number from `least` to `most`.
 fn number_from(least: u32, most: u32, word: &[u8]) -> Result<u32, LineFault>
-    ensures { result ≡ fields.number_from least most word.now }
+    ensures value { result ≡ fields.number_from least most word.now }
+    ensures within { IfOk result (λ n. n ≤ most) }
 {
     match read_number(word, u64::from(most)) {
         Some(n) if n >= u64::from(least) => Ok(n as u32),

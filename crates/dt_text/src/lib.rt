@@ -19,4 +19,4 @@ pub use hexadecimal::{decode_hex, is_hex};
 pub use lines::{Form, Line};
 pub use numerals::read_number;
 
-pub use stages::Stage;
+pub use stages::{follows, Stage};

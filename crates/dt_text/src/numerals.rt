@@ -1,4 +1,4 @@
-ghost use Rattle.std.specs.Prelude.{◌≡◌, ◌+◌, ◌-◌, ◌*◌, ◌<◌, ◌^◌, IsTrue};
+ghost use Rattle.std.specs.Prelude.{◌≡◌, ◌+◌, ◌-◌, ◌*◌, ◌<◌, ◌≤◌, ◌^◌, IfSome, IsTrue};
 ghost use Rattle.std.specs.Char.{is_ascii_digit};
 ghost use Rattle.std.specs.Option.{SomeIff};
 ghost use Rattle.dt_text.specs.Numerals.{number, digits_number};
@@ -15,7 +15,8 @@ fn with_digit(number: u64, digit: u8) -> Option<u64>
 
 /// The number from 0 to `most` that decimal digits make.
 fn digits_number(digits: &[u8], most: u64) -> Option<u64>
-    ensures { result ≡ digits_number most digits.now }
+    ensures value { result ≡ digits_number most digits.now }
+    ensures within { IfSome result (λ n. n ≤ most) }
 {
     let mut value = 0;
     for digit in digits {
@@ -28,7 +29,8 @@ fn digits_number(digits: &[u8], most: u64) -> Option<u64>
 /// number is 0. It is `None` exactly where the word isn't one. The cost is at most 21 digits.
 #[tactic(auto, unfolding(crate::specs::Numerals::number))]
 pub fn read_number(word: &[u8], most: u64) -> Option<u64>
-    ensures { result ≡ number most word.now }
+    ensures value { result ≡ number most word.now }
+    ensures within { IfSome result (λ n. n ≤ most) }
 {
     let (first, more) = word.split_first()?;
     if *first == b'0' && !more.is_empty() {

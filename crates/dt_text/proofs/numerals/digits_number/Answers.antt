@@ -3,8 +3,8 @@ use Rattle.std.proofs.Math.ListN.{drop_of_length-le}
 use Rattle.dt_text.proofs.NumeralLemmas.{number_on, number_on-step, number_on-end, then_some-is, digits_number-is}
 use Rattle.dt_text.proofs.numerals.digits_number.Goals as goal
 
-pub returns-in_err-value : goal.returns-in_err-value
-returns-in_err-value c =
+pub returns-in_err-value-clause-value : goal.returns-in_err-value-clause-value
+returns-in_err-value-clause-value c =
     let digits = c.args.digits.now in
     let i = c.loop-digit.digit-index in
     let inside : i < length digits = omega arith in
@@ -21,8 +21,8 @@ loop-digit-preserved c =
     let some = rw c.in_ok-value.was at step in
     rw add-one (c.loop-digit.invariant ∙ rw (drop-cons digits i 0) some)
 
-pub returns : goal.returns
-returns c =
+pub returns-clause-value : goal.returns-clause-value
+returns-clause-value c =
     let digits = c.args.digits.now in
     let none_left : length digits ≤ c.loop-digit.digit-index = omega arith in
     c.then_some.ensures ∙ then_some-is _ _ ∙ sym (digits_number-is _ _ ∙ c.loop-digit.invariant ∙ ap (number_on c.args.most c.loop-digit.value) (drop_of_length-le digits none_left) ∙ number_on-end _ _)
