@@ -22,7 +22,7 @@ placed-past n len h = ap (λ b. cond b (Some n) None) (le-ltb n len h)
 placed-later : (n len : ℕ) → placed (1 + n) (suc len) ≡ option_map (λ k. 1 + k) (placed n len)
 placed-later n len =
     elim (cases_lt n len) [
-      inl inside ↦ placed-in _ _ (omega arith) ∙ sym (ap (option_map (λ k. 1 + k)) (placed-in n len inside))
+      | inl inside ↦ placed-in _ _ (omega arith) ∙ sym (ap (option_map (λ k. 1 + k)) (placed-in n len inside))
       | inr past ↦ placed-past _ _ (omega arith) ∙ sym (ap (option_map (λ k. 1 + k)) (placed-past n len past))
     ]
 
@@ -74,7 +74,7 @@ pub words-cut_none : (text : List ℕ) → cut 32 text ≡ None → words text �
 words-cut_none [] h = refl
 words-cut_none (x ∷ text) h =
     elim (cases_Bool (eqb x 32)) [
-      inl is ↦ let some = sym h ∙ cut-cons_yes 32 x text is in cc
+      | inl is ↦ let some = sym h ∙ cut-cons_yes 32 x text is in cc
       | inr other ↦ slice_split-cons_no (λ y. y == 32) x text other ∙ ap (onto_first x) (words-cut_none text (onto_front-none x _ (sym (cut-cons_no 32 x text other) ∙ h)))
     ]
 
@@ -83,11 +83,11 @@ pub words-cut_some : (text first more : List ℕ) → cut 32 text ≡ Some (firs
 words-cut_some [] first more h = cc
 words-cut_some (x ∷ text) first more h =
     elim (cases_Bool (eqb x 32)) [
-      inl is ↦
-        let pairs : ◌≡◌ {A = Option (List ℕ × List ℕ)} (Some ([], text)) (Some (first, more)) = sym (cut-cons_yes 32 x text is) ∙ h in
-        let same : ◌≡◌ {A = List ℕ × List ℕ} ([], text) (first, more) = cc in
-        slice_split-cons_yes (λ y. y == 32) x text is ∙ ap (λ q. q.0 ∷ words q.1) same
+      | inl is ↦
+          let pairs : ◌≡◌ {A = Option (List ℕ × List ℕ)} (Some ([], text)) (Some (first, more)) = sym (cut-cons_yes 32 x text is) ∙ h in
+          let same : ◌≡◌ {A = List ℕ × List ℕ} ([], text) (first, more) = cc in
+          slice_split-cons_yes (λ y. y == 32) x text is ∙ ap (λ q. q.0 ∷ words q.1) same
       | inr other ↦
-        let found = onto_front-some x (cut 32 text) first more (sym (cut-cons_no 32 x text other) ∙ h) in
-        slice_split-cons_no (λ y. y == 32) x text other ∙ ap (onto_first x) (words-cut_some text found.0 more found.1) ∙ ap (λ word. word ∷ words more) (sym found.2)
+          let found = onto_front-some x (cut 32 text) first more (sym (cut-cons_no 32 x text other) ∙ h) in
+          slice_split-cons_no (λ y. y == 32) x text other ∙ ap (onto_first x) (words-cut_some text found.0 more found.1) ∙ ap (λ word. word ∷ words more) (sym found.2)
     ]

@@ -27,8 +27,8 @@ pub kept-word : (kept : List (Bor (List ℕ))) (len : ℕ) (all more : List (Lis
 kept-word kept len all more inside h k below =
     let front : length (contents (take len kept)) ≡ len = length-map (take len kept) (λ kept. kept.now) ∙ length-take-le len kept inside in
     sym (
-      ap (word k) h
-      ∙ get_or_append_left (contents (take len kept)) more [] k (omega arith)
-      ∙ ap (word k) (sym (take-map (λ (kept : Bor (List ℕ)). kept.now) len kept))
-      ∙ get_or-take len (contents kept) k [] below
+    ap (word k) h
+    ∙ get_or_append_left (contents (take len kept)) more [] k (omega arith)
+    ∙ ap (word k) (sym (take-map (λ (kept : Bor (List ℕ)). kept.now) len kept))
+    ∙ get_or-take len (contents kept) k [] below
     )

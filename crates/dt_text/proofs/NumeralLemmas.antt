@@ -47,7 +47,7 @@ pub number_on-step : (most value digit : ℕ) (digits : List ℕ) (r : Option �
     → MatchOption r (number_on most value (digit ∷ digits) ≡ None) (λ next. number_on most value (digit ∷ digits) ≡ number_on most next digits)
 number_on-step most value digit digits None small h =
     elim (cases_Bool (is_ascii_digit digit)) [
-      inl is ↦ by_digit most value digit digits true is ∙ above most (value * 10 + (digit - 48)) digits (too_great most value digit small is h)
+      | inl is ↦ by_digit most value digit digits true is ∙ above most (value * 10 + (digit - 48)) digits (too_great most value digit small is h)
       | inr other ↦ by_digit most value digit digits false other
     ]
 number_on-step most value digit digits (Some next) small h =

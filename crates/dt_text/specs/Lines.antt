@@ -81,8 +81,8 @@ send_line line = do
   Ok (Send flow marks.0 marks.1 hex)
 
 -- `read FLOW MAX`
-unfoldable pub read_line : Reading
-read_line line = do
+unfoldable pub reading_line : Reading
+reading_line line = do
   _ ← has 3 line
   flow ← flow (word 1 line)
   max ← max (word 2 line)
@@ -200,7 +200,7 @@ lines Schedule =
     (codes "go", go_line) ∷
     (codes "pass", pass_line) ∷
     (codes "send", send_line) ∷
-    (codes "read", read_line) ∷
+    (codes "read", reading_line) ∷
     (codes "tick", tick_line) ∷
     (codes "arrive", arrive_line) ∷
     (codes "lose", lose_line) ∷

@@ -6,7 +6,7 @@ ghost use Rattle.dt_text.specs.Fields as fields;
 use crate::endpoints::{read_address, read_flow};
 use crate::hexadecimal::is_hex;
 use crate::numerals::read_number;
-use crate::splitting::{is, Words};
+use crate::splitting::{Words, is};
 use dt_edges::Address;
 use dt_reports::LineFault;
 use dt_units::Flow;

@@ -7,16 +7,14 @@ mod fields;
 mod hexadecimal;
 mod lines;
 mod numerals;
-
+mod reading;
 mod splitting;
 mod stages;
 
-pub use dt_reports::{
-    Fault, LineFault, LogLine, Refusal, Report, SetupFault, StepFault,
-};
+pub use dt_reports::{Fault, LineFault, LogLine, Refusal, Report, SetupFault, StepFault};
 pub use endpoints::read_flow;
 pub use hexadecimal::{decode_hex, is_hex};
 pub use lines::{Form, Line};
 pub use numerals::read_number;
-
-pub use stages::{follows, Stage};
+pub use reading::read_line;
+pub use stages::{Stage, follows};

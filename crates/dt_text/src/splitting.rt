@@ -1,4 +1,4 @@
-ghost use Rattle.std.specs.Prelude.{◌≡◌, ◌<◌, ◌↔◌, length, option_map, IsTrue, position, ◌==◌, ◌+◌};
+ghost use Rattle.std.specs.Prelude.{◌≡◌, ◌<◌, ◌≤◌, ◌↔◌, length, option_map, IsTrue, position, ◌==◌, ◌+◌};
 ghost use Rattle.std.specs.Str.{bytes_eq};
 ghost use Rattle.dt_text.specs.Splitting.{cut, words, word};
 
@@ -32,6 +32,7 @@ pub fn is(word: &[u8], text: &str) -> bool
 
 /// The words of a line: what stands between single spaces. A contract sees them as a list. Only the
 /// first [`MOST_WORDS`] of them are kept.
+#[derive(Drop)]
 pub struct Words<'a> {
     line: &'a [u8],
     kept: [&'a [u8]; MOST_WORDS],
@@ -85,6 +86,14 @@ impl<'a> Words<'a> {
         ensures { IsTrue result ↔ (length self.now ≡ count) }
     {
         self.len == count
+    }
+
+    /// Whether there are fewer words than that, which is at most [`MOST_WORDS`].
+    pub fn are_fewer(&self, count: usize) -> bool
+        requires { count ≤ 12 }
+        ensures { IsTrue result ↔ (length self.now < count) }
+    {
+        self.len < count
     }
 
     /// The word at a place, counted from 0.

@@ -58,9 +58,7 @@ fn script_after(stage: Stage, line: &Line<'_>) -> Option<Stage>
         (Stage::Me, Line::Local(_)) => Some(Stage::Setup),
         (Stage::Setup, Line::Peer { .. } | Line::Route { .. }) => Some(Stage::Setup),
         (Stage::Setup, Line::Go) => Some(Stage::Run { last: 0 }),
-        (Stage::Run { last }, Line::AtSend { at, .. } | Line::AtRead { at, .. })
-            if *at >= last =>
-        {
+        (Stage::Run { last }, Line::AtSend { at, .. } | Line::AtRead { at, .. }) if *at >= last => {
             Some(Stage::Run { last: *at })
         }
         (Stage::Run { last }, Line::AtStop { at }) if *at >= last => Some(Stage::Ended),

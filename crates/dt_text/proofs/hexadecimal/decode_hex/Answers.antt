@@ -8,8 +8,7 @@ loop-i-preserved c =
     let high = c.value_of.result in
     let low = c.value_of-in-loop-i.result in
     let inside : 2 * c.loop-i.i + 1 < length hex = omega (arith, c.in_ok-resize.ensures.len) in
-    let room : c.loop-i.i < length c.loop-i.octets.items = omega (arith, c.in_ok-resize.ensures.len) in
-    (
+    let room : c.loop-i.i < length c.loop-i.octets.items = omega (arith, c.in_ok-resize.ensures.len) in (
       length-set c.loop-i.octets.items c.loop-i.i (16 * high + low) ∙ c.loop-i.invariant.0,
       octets_of-next c.loop-i.i hex c.loop-i.octets.items high low inside room c.value_of.ensures.value c.value_of-in-loop-i.ensures.value c.loop-i.invariant.1,
     )
