@@ -7,6 +7,14 @@ use crate::splitting::cut;
 use dt_edges::Address;
 use dt_units::{Flow, NodeId};
 
+/// A port, 0 to 65,535.
+fn read_port(word: &[u8]) -> Option<u16>
+    ensures { result ≡ number 65535 word.now }
+{
+    let port = read_number(word, u64::from(u16::MAX))?;
+    Some(port as u16)
+}
+
 /// A node and a port of it: `a:p`.
 #[tactic(auto, unfolding(crate::specs::Endpoints::endpoint))]
 fn read_endpoint(word: &[u8]) -> Option<(u32, u16)>
@@ -14,8 +22,7 @@ fn read_endpoint(word: &[u8]) -> Option<(u32, u16)>
 {
     let (node, port) = cut(b':', word)?;
     let node = read_number(node, u64::from(u32::MAX))?;
-    let port = read_number(port, u64::from(u16::MAX))?;
-    Some((node as u32, port as u16))
+    Some((node as u32, read_port(port)?))
 }
 
 /// The flow that a word is: `a:p>b:q` with numbers of nodes a and b, and ports p and q from 0 to
@@ -67,9 +74,6 @@ pub fn read_address(word: &[u8]) -> Option<Address>
 {
     let (ip, port) = cut(b':', word)?;
     let ip = read_ip(ip)?;
-    let port = read_number(port, u64::from(u16::MAX))?;
-    Some(Address {
-        ip,
-        port: port as u16,
-    })
+    let port = read_port(port)?;
+    Some(Address { ip, port })
 }
