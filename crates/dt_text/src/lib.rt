@@ -2,10 +2,23 @@
 //! written.
 #![tactic(auto)]
 
+mod endpoints;
+mod fields;
+mod hexadecimal;
 mod lines;
 mod putting;
+mod numerals;
+mod reading;
+mod splitting;
 mod stages;
 
 pub use dt_reports::{Fault, LineFault, LogLine, Refusal, Report, SetupFault, StepFault};
+pub use endpoints::read_flow;
+pub use hexadecimal::{decode_hex, is_hex};
 pub use lines::{Form, Line};
-pub use stages::Stage;
+pub use numerals::read_number;
+pub use reading::read_line;
+pub use stages::{Stage, follows};
+
+#[cfg(test)]
+mod tests;

@@ -1,0 +1,4 @@
+pub mod NumeralLemmas
+pub mod CutLemmas
+pub mod KeptLemmas
+pub mod HexLemmas
