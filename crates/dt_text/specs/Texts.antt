@@ -169,12 +169,12 @@ node_words None = []
 -- The words of a line: the moment, the node, and then what was told. The loss of a copy and the end
 -- have no node, and the totals of a flow and a fault have no moment either.
 abbrev pub line_words : ℕ → Option ℕ → Told → List Text
-line_words moment node (Lost copy) = decimal moment ∷ words_of (Lost copy)
-line_words moment node (FlowTotals flow taken acked uncertain unsettled given read) = words_of (FlowTotals flow taken acked uncertain unsettled given read)
-line_words moment node End = codes "end" ∷ decimal moment ∷ []
-line_words moment node (Refuses line fault) = words_of (Refuses line fault)
-line_words moment node told = decimal moment ∷ node_words node ++ words_of told
+line_words moment teller (Lost copy) = decimal moment ∷ words_of (Lost copy)
+line_words moment teller (FlowTotals flow taken acked uncertain unsettled given read) = words_of (FlowTotals flow taken acked uncertain unsettled given read)
+line_words moment teller End = codes "end" ∷ decimal moment ∷ []
+line_words moment teller (Refuses line fault) = words_of (Refuses line fault)
+line_words moment teller told = decimal moment ∷ node_words teller ++ words_of told
 
 -- A line is its words with one space between two of them, and one line feed.
 abbrev pub line_text : ℕ → Option ℕ → Told → Text
-line_text moment node told = spaced (line_words moment node told) ++ codes "\n"
+line_text moment teller told = spaced (line_words moment teller told) ++ codes "\n"

@@ -8,4 +8,5 @@ mod stages;
 
 pub use dt_reports::{Fault, LineFault, LogLine, Refusal, Report, SetupFault, StepFault};
 pub use lines::{Form, Line};
+pub use putting::{put_flow, put_hex, put_number};
 pub use stages::Stage;
