@@ -1,4 +1,4 @@
--- How many digits the numbers of a flow take at most.
+-- How many digits numbers take at most.
 use Rattle.std.proofs.Common.{ℕ, ◌<◌, ◌≤◌, ◌^◌, length, decimal, arith}
 use Rattle.std.proofs.lemmas.Fmt.{length-decimal-le}
 
@@ -7,3 +7,6 @@ port_length n h = length-decimal-le 5 n (omega arith) (omega arith) (omega arith
 
 pub node_length : (n : ℕ) → n < 2 ^ 32 → length (decimal n) ≤ 10
 node_length n h = length-decimal-le 10 n (omega arith) (omega arith) (omega arith)
+
+pub number_length : (n : ℕ) → n < 2 ^ 64 → length (decimal n) ≤ 20
+number_length n h = length-decimal-le 20 n (omega arith) (omega arith) (omega arith)

@@ -1,5 +1,5 @@
 -- Puts of a text in parts.
-use Rattle.std.proofs.Common.{◌≡◌, ℕ, List, ◌++◌, take, drop, flat_map, Option, Result, ap, sym, subst, ◌∙◌, append_assoc}
+use Rattle.std.proofs.Common.{◌≡◌, ℕ, suc, ◌<◌, List, [], ◌∷◌, ◌++◌, length, get_or, drop-cons, take, drop, flat_map, Option, Result, ap, sym, subst, ◌∙◌, append_assoc}
 use Rattle.std.proofs.lemmas.List.{take-append-drop}
 use Rattle.std.proofs.lemmas.List.Concat.{flat_map-append}
 use Rattle.std.specs.Result.{IsErr}
@@ -26,3 +26,18 @@ cut_further xs before rest piece more n e p m =
 pub text_in_parts : {X : Type 0} (f : X → List ℕ) (xs before piece more : List X) → xs ≡ (before ++ piece) ++ more → flat_map f xs ≡ flat_map f before ++ (flat_map f piece ++ flat_map f more)
 text_in_parts f xs before piece more e =
     ap (flat_map f) (e ∙ append_assoc before piece more) ∙ flat_map-append f before (piece ++ more) ∙ ap (λ t. flat_map f before ++ t) (flat_map-append f piece more)
+
+-- One octet, and then a text: what the put of the text says, it says of both.
+pub octet_then : {S T E : Type 0} (held : S → Option (List ℕ)) (faults : S → ℕ) (octet : ℕ) (ys : List ℕ) (r : Result T E) (old between new : S) → held between ≡ appended (octet ∷ []) (held old) → faults between ≡ faults old → Puts held faults ys r between new → Puts held faults (octet ∷ ys) r old new
+octet_then held faults octet ys r old between new h f p = puts_then held faults (octet ∷ []) ys r old between new h f p
+
+-- A call that fails at the octet puts a first part of both.
+pub octet_failed : {S T E : Type 0} (held : S → Option (List ℕ)) (faults : S → ℕ) (octet : ℕ) (ys : List ℕ) (r : Result T E) (old new : S) (n : ℕ) → held new ≡ appended (take n (octet ∷ [])) (held old) → HasRisen (faults old) (faults new) → IsErr r → Puts held faults (octet ∷ ys) r old new
+octet_failed held faults octet ys r old new n p rose is = puts_failed held faults (octet ∷ []) ys r old new n p rose is
+
+pub ruleset after_octet = (octet_then, octet_failed)
+
+-- the text of all items around the one at index i
+pub text_around : {X : Type 0} (f : X → List ℕ) (xs : List X) (i : ℕ) (d : X) → i < length xs → flat_map f xs ≡ flat_map f (take i xs) ++ (f (get_or xs i d) ++ flat_map f (drop (suc i) xs))
+text_around f xs i d h =
+    ap (flat_map f) (sym (take-append-drop i xs)) ∙ flat_map-append f (take i xs) (drop i xs) ∙ ap (λ ys. flat_map f (take i xs) ++ flat_map f ys) (drop-cons xs i d h)

@@ -5,6 +5,7 @@
 mod lines;
 mod putting;
 mod stages;
+mod wording;
 
 pub use dt_reports::{Fault, LineFault, LogLine, Refusal, Report, SetupFault, StepFault};
 pub use lines::{Form, Line};
