@@ -2,6 +2,7 @@
 //! written.
 #![tactic(auto)]
 
+mod faulting;
 mod lines;
 mod putting;
 mod stages;
