@@ -7,3 +7,4 @@ pub mod Said
 pub mod Fields
 pub mod Lines
 pub mod Stages
+pub mod Wording

@@ -125,8 +125,40 @@ fault_words NotBuilt = codes "not built" ∷ []
 abbrev pub fault_text : Fault → Text
 fault_text fault = spaced (fault_words fault)
 
--- The table of lines: the word of a line and its fields, behind the moment and the node. The last
--- four have lines of another form, below.
+-- The tables of lines: the word of a line and its fields, behind the moment and the node. What is not
+-- in one table is in the next.
+
+-- what is told of links, of nodes and of a restart
+abbrev pub link_words : Told → List Text
+link_words (Put link life) = codes "put" ∷ decimal link ∷ decimal life ∷ []
+link_words (PutAs link life copy) = codes "put" ∷ decimal link ∷ decimal life ∷ codes "as" ∷ decimal copy ∷ []
+link_words (ExpiredIn link) = codes "expired" ∷ codes "in" ∷ decimal link ∷ []
+link_words (ExpiredOut link) = codes "expired" ∷ codes "out" ∷ decimal link ∷ []
+link_words (NoRoute to) = codes "noroute" ∷ decimal to ∷ []
+link_words (Full link) = codes "full" ∷ decimal link ∷ []
+link_words (Bad fault) = codes "bad" ∷ layout_words fault
+link_words (Unsent link) = codes "unsent" ∷ decimal link ∷ []
+link_words (Restarted life) = codes "restarted" ∷ decimal life ∷ []
+link_words _ = []
+
+-- what is told of packets that came, and of reading
+abbrev pub receiver_words : Told → List Text
+receiver_words (Accepted flow number length run) = codes "accepted" ∷ flow_text flow ∷ decimal number ∷ decimal length ∷ run_text run ∷ []
+receiver_words (Dropped flow number) = codes "dropped" ∷ flow_text flow ∷ decimal number ∷ []
+receiver_words (Quiet until) = codes "quiet" ∷ decimal until ∷ []
+receiver_words (Read flow run begin end octets) = codes "read" ∷ flow_text flow ∷ read_letters run begin end ∷ hex_text octets ∷ []
+receiver_words (Nothing flow) = codes "nothing" ∷ flow_text flow ∷ []
+receiver_words told = link_words told
+
+-- what is told of acknowledgements, at both ends
+abbrev pub acknowledgement_words : Told → List Text
+acknowledgement_words (Acked flow number window) = codes "acked" ∷ flow_text flow ∷ decimal number ∷ decimal window ∷ []
+acknowledgement_words (Replied flow number window) = codes "replied" ∷ flow_text flow ∷ decimal number ∷ decimal window ∷ []
+acknowledgement_words (Settled flow count window) = codes "settled" ∷ flow_text flow ∷ decimal count ∷ decimal window ∷ []
+acknowledgement_words (Ignored flow number window) = codes "ignored" ∷ flow_text flow ∷ decimal number ∷ decimal window ∷ []
+acknowledgement_words told = receiver_words told
+
+-- what is told of sending, and of records
 abbrev pub words_of : Told → List Text
 words_of (Took flow count) = codes "took" ∷ flow_text flow ∷ decimal count ∷ []
 words_of (Refused flow fault) = codes "refused" ∷ flow_text flow ∷ refusal_words fault
@@ -136,45 +168,24 @@ words_of (Met flow number) = codes "met" ∷ flow_text flow ∷ decimal number �
 words_of (Uncertain flow count) = codes "uncertain" ∷ flow_text flow ∷ decimal count ∷ []
 words_of (Released flow sending) = codes "released" ∷ flow_text flow ∷ record_text sending ∷ []
 words_of (Renewed flow) = codes "renewed" ∷ flow_text flow ∷ []
-words_of (Acked flow number window) = codes "acked" ∷ flow_text flow ∷ decimal number ∷ decimal window ∷ []
-words_of (Replied flow number window) = codes "replied" ∷ flow_text flow ∷ decimal number ∷ decimal window ∷ []
-words_of (Accepted flow number length run) = codes "accepted" ∷ flow_text flow ∷ decimal number ∷ decimal length ∷ run_text run ∷ []
-words_of (Dropped flow number) = codes "dropped" ∷ flow_text flow ∷ decimal number ∷ []
-words_of (Settled flow count window) = codes "settled" ∷ flow_text flow ∷ decimal count ∷ decimal window ∷ []
-words_of (Ignored flow number window) = codes "ignored" ∷ flow_text flow ∷ decimal number ∷ decimal window ∷ []
-words_of (Quiet until) = codes "quiet" ∷ decimal until ∷ []
-words_of (Read flow run begin end octets) = codes "read" ∷ flow_text flow ∷ read_letters run begin end ∷ hex_text octets ∷ []
-words_of (Nothing flow) = codes "nothing" ∷ flow_text flow ∷ []
-words_of (Put link life) = codes "put" ∷ decimal link ∷ decimal life ∷ []
-words_of (PutAs link life copy) = codes "put" ∷ decimal link ∷ decimal life ∷ codes "as" ∷ decimal copy ∷ []
-words_of (ExpiredIn link) = codes "expired" ∷ codes "in" ∷ decimal link ∷ []
-words_of (ExpiredOut link) = codes "expired" ∷ codes "out" ∷ decimal link ∷ []
-words_of (NoRoute to) = codes "noroute" ∷ decimal to ∷ []
-words_of (Full link) = codes "full" ∷ decimal link ∷ []
-words_of (Bad fault) = codes "bad" ∷ layout_words fault
-words_of (Unsent link) = codes "unsent" ∷ decimal link ∷ []
-words_of (Restarted life) = codes "restarted" ∷ decimal life ∷ []
-words_of (Lost copy) = codes "lost" ∷ decimal copy ∷ []
-words_of (FlowTotals flow taken acked uncertain unsettled given read) =
-    codes "flow" ∷ flow_text flow ∷ codes "taken" ∷ decimal taken ∷ codes "acked" ∷ decimal acked ∷ codes "uncertain" ∷ decimal uncertain
-    ∷ codes "open" ∷ decimal unsettled ∷ codes "given" ∷ decimal given ∷ codes "read" ∷ decimal read ∷ []
-words_of End = codes "end" ∷ []
-words_of (Refuses line fault) = codes "line" ∷ (decimal line ++ codes ":") ∷ fault_words fault
+words_of told = acknowledgement_words told
 
 -- the word of the node, where a node tells the line
 abbrev pub node_words : Option ℕ → List Text
 node_words (Some node) = decimal node ∷ []
 node_words None = []
 
--- The words of a line: the moment, the node, and then what was told. The loss of a copy and the end
--- have no node, and the totals of a flow and a fault have no moment either.
+-- The words of a line: the moment, the node, and then what the tables have. Four lines have another
+-- form.
 abbrev pub line_words : ℕ → Option ℕ → Told → List Text
-line_words moment node (Lost copy) = decimal moment ∷ words_of (Lost copy)
-line_words moment node (FlowTotals flow taken acked uncertain unsettled given read) = words_of (FlowTotals flow taken acked uncertain unsettled given read)
-line_words moment node End = codes "end" ∷ decimal moment ∷ []
-line_words moment node (Refuses line fault) = words_of (Refuses line fault)
-line_words moment node told = decimal moment ∷ node_words node ++ words_of told
+line_words moment teller (Lost copy) = decimal moment ∷ codes "lost" ∷ decimal copy ∷ []
+line_words moment teller (FlowTotals flow taken acked uncertain unsettled given read) =
+    codes "flow" ∷ flow_text flow ∷ codes "taken" ∷ decimal taken ∷ codes "acked" ∷ decimal acked ∷ codes "uncertain" ∷ decimal uncertain
+    ∷ codes "open" ∷ decimal unsettled ∷ codes "given" ∷ decimal given ∷ codes "read" ∷ decimal read ∷ []
+line_words moment teller End = codes "end" ∷ decimal moment ∷ []
+line_words moment teller (Refuses line fault) = codes "line" ∷ (decimal line ++ codes ":") ∷ fault_words fault
+line_words moment teller told = decimal moment ∷ node_words teller ++ words_of told
 
 -- A line is its words with one space between two of them, and one line feed.
 abbrev pub line_text : ℕ → Option ℕ → Told → Text
-line_text moment node told = spaced (line_words moment node told) ++ codes "\n"
+line_text moment teller told = spaced (line_words moment teller told) ++ codes "\n"

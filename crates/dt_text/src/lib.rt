@@ -5,12 +5,14 @@
 mod endpoints;
 mod fields;
 mod hexadecimal;
+mod faulting;
 mod lines;
 mod putting;
 mod numerals;
 mod reading;
 mod splitting;
 mod stages;
+mod wording;
 
 pub use dt_reports::{Fault, LineFault, LogLine, Refusal, Report, SetupFault, StepFault};
 pub use endpoints::read_flow;
@@ -22,3 +24,5 @@ pub use stages::{Stage, follows};
 
 #[cfg(test)]
 mod tests;
+pub use putting::{put_flow, put_hex, put_number};
+pub use stages::Stage;

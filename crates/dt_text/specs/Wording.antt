@@ -1,0 +1,23 @@
+-- The words that the code makes a line of.
+use Rattle.std.specs.Prelude.{List, ◌∷◌, flat_map, decimal}
+use Rattle.dt_text.specs.declared.wording.Word.{Word}
+use Rattle.dt_text.specs.declared.wording.Word.TheVariants.{Text, Number, Flow, Hex}
+use Rattle.dt_text.specs.Texts as texts
+use Rattle.dt_text.specs.Texts.{flow_text, hex_text}
+
+abbrev pub word_text : Word → texts.Text
+word_text (Text text) = text.now
+word_text (Number n) = decimal n
+word_text (Flow flow) = flow_text flow
+word_text (Hex octets) = hex_text octets.now
+
+abbrev pub after_space : texts.Text → texts.Text
+after_space text = 32 ∷ text
+
+-- words, each behind a space
+abbrev pub after_spaces : List Word → texts.Text
+after_spaces words = flat_map (λ word. after_space (word_text word)) words
+
+-- texts, each behind a space
+abbrev pub behind : List texts.Text → texts.Text
+behind texts = flat_map after_space texts
