@@ -25,4 +25,3 @@ pub use stages::{Stage, follows};
 #[cfg(test)]
 mod tests;
 pub use putting::{put_flow, put_hex, put_number};
-pub use stages::Stage;

@@ -1,2 +1,6 @@
 pub mod Shown
 pub mod Sending
+pub mod Cutting
+pub mod Logs
+pub mod Replay
+pub mod Stopping

@@ -18,12 +18,12 @@ abbrev pub next_cut : Params → SendRecord → Cut
 next_cut p x = cut_told p x (next_of x) (cut_of p x)
 
 -- the first transmissions, one after another, while the record can send; at most this many
-abbrev pub cuts : ℕ → Params → ℕ → SendRecord → List Cut
+unfoldable pub cuts : ℕ → Params → ℕ → SendRecord → List Cut
 cuts zero p now x = []
 cuts (suc more) p now x = if can_send p x then next_cut p x ∷ cuts more p now (after_cut p now x) else []
 
 -- the record after them
-abbrev pub after_cuts : ℕ → Params → ℕ → SendRecord → SendRecord
+unfoldable pub after_cuts : ℕ → Params → ℕ → SendRecord → SendRecord
 after_cuts zero p now x = x
 after_cuts (suc more) p now x = if can_send p x then after_cuts more p now (after_cut p now x) else x
 

@@ -17,7 +17,7 @@ use dt_units::Rules;
 use crate::path::segments::Segment;
 
 /// How many segments may be outstanding.
-const MOST_SEGMENTS: usize = 64;
+pub const MOST_SEGMENTS: usize = 64;
 
 /// What a sender holds of one flow. Offsets count octets from 0.
 #[derive(Drop)]
