@@ -4,6 +4,7 @@
 
 mod faulting;
 mod lines;
+mod logging;
 mod putting;
 mod stages;
 mod wording;

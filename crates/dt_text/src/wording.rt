@@ -1,7 +1,7 @@
-ghost use Rattle.std.specs.Prelude.{◌≡◌, ◌+◌, ◌≤◌, ◌∷◌, length, drop, decimal};
+ghost use Rattle.std.specs.Prelude.{◌≡◌, ◌+◌, ◌≤◌, [], ◌∷◌, length, drop, decimal};
 ghost use Rattle.dt_edges.specs.Streams.{Puts};
 ghost use Rattle.dt_text.specs.Texts.{flow_text, hex_text};
-ghost use Rattle.dt_text.specs.Wording.{word_text, after_space, after_spaces};
+ghost use Rattle.dt_text.specs.Wording.{word_text, after_space, after_spaces, behind};
 
 use crate::putting::{FLOW_ROOM, put_hex, write_flow};
 use dt_edges::{Failed, Sink, put_all};
@@ -100,4 +100,12 @@ pub fn put_words<K: Sink>(words: &[Word<'_>], out: &mut K) -> Result<(), Failed>
         put_word(word, out)?;
     }
     Ok(())
+}
+
+/// Puts a name and a number, each behind a space.
+pub fn put_named<K: Sink>(name: &'static str, n: u64, out: &mut K) -> Result<(), Failed>
+    ensures puts { Puts K.held K.faults (behind (name.now ∷ decimal n ∷ [])) result out.old out.new }
+    ensures same_sink { K.identity out.new ≡ K.identity out.old }
+{
+    put_words(&[Word::Text(name), Word::Number(n)], out)
 }
