@@ -1,12 +1,14 @@
 -- Puts of a text in parts.
-use Rattle.std.proofs.Common.{◌≡◌, ℕ, suc, ◌<◌, List, [], ◌∷◌, ◌++◌, length, get_or, drop-cons, take, drop, flat_map, Option, Result, ap, sym, subst, ◌∙◌, append_assoc}
+use Rattle.std.proofs.Common.{◌≡◌, ℕ, suc, ◌<◌, List, [], ◌∷◌, ◌++◌, length, get_or, drop-cons, take, drop, flat_map, Option, Result, ap, sym, subst, ◌∙◌, append_assoc, append-nil, map}
+use Rattle.std.proofs.lemmas.List.Folds.{flat_map-map}
 use Rattle.std.proofs.lemmas.List.{take-append-drop}
 use Rattle.std.proofs.lemmas.List.Concat.{flat_map-append}
 use Rattle.std.specs.Result.{IsErr}
 use Rattle.dt_edges.specs.Counts.{HasRisen}
 use Rattle.dt_edges.specs.Streams.{appended, Puts}
-use Rattle.dt_text.specs.Texts.{Text}
-use Rattle.dt_text.specs.Wording.{after_space, behind}
+use Rattle.dt_text.specs.Texts.{Text, spaced}
+use Rattle.dt_text.specs.Wording.{word_text, after_space, after_spaces, behind}
+use Rattle.dt_text.specs.declared.wording.Word.{Word}
 use Rattle.dt_edges.proofs.Puts.{puts_then, puts_failed, appended-appended}
 
 -- a put of a text is one of a text that equals it
@@ -57,3 +59,27 @@ behind_then held faults first more r old between new h f p =
 pub behind_failed : {S T E : Type 0} (held : S → Option (List ℕ)) (faults : S → ℕ) (first more : List Text) (r : Result T E) (old new : S) (n : ℕ) → held new ≡ appended (take n (behind first)) (held old) → HasRisen (faults old) (faults new) → IsErr r → Puts held faults (behind (first ++ more)) r old new
 behind_failed held faults first more r old new n p rose is =
     puts_as held faults _ _ r old new (flat_map-append after_space first more) (puts_failed held faults (behind first) (behind more) r old new n p rose is)
+
+-- Words with one space between two of them: the first, and then the rest behind spaces.
+pub spaced_first : (word : Text) (more : List Text) → spaced (word ∷ more) ≡ word ++ behind more
+spaced_first word [] = sym (append-nil word)
+spaced_first word (next ∷ more) = ap (λ t. word ++ 32 ∷ t) (spaced_first next more)
+
+-- the words of the code behind spaces are their texts behind spaces
+pub behind-texts : (words : List Word) → behind (map word_text words) ≡ after_spaces words
+behind-texts words = flat_map-map after_space word_text words
+
+-- words, and then more of them
+pub spaced_more : (word : Text) (some more : List Text) → spaced (word ∷ some ++ more) ≡ spaced (word ∷ some) ++ behind more
+spaced_more word some more =
+    spaced_first word (some ++ more) ∙ ap (λ t. word ++ t) (flat_map-append after_space some more) ∙ sym (append_assoc word (behind some) (behind more)) ∙ ap (λ t. t ++ behind more) (sym (spaced_first word some))
+
+-- Words with spaces between them, and then more of them: what the put of the more says, it says of all.
+pub spaced_then : {S T E : Type 0} (held : S → Option (List ℕ)) (faults : S → ℕ) (word : Text) (some more : List Text) (r : Result T E) (old between new : S) → held between ≡ appended (spaced (word ∷ some)) (held old) → faults between ≡ faults old → Puts held faults (behind more) r between new → Puts held faults (spaced (word ∷ some ++ more)) r old new
+spaced_then held faults word some more r old between new h f p =
+    puts_as held faults _ _ r old new (spaced_more word some more) (puts_then held faults (spaced (word ∷ some)) (behind more) r old between new h f p)
+
+-- A call that fails within the first words puts a first part of all.
+pub spaced_failed : {S T E : Type 0} (held : S → Option (List ℕ)) (faults : S → ℕ) (word : Text) (some more : List Text) (r : Result T E) (old new : S) (n : ℕ) → held new ≡ appended (take n (spaced (word ∷ some))) (held old) → HasRisen (faults old) (faults new) → IsErr r → Puts held faults (spaced (word ∷ some ++ more)) r old new
+spaced_failed held faults word some more r old new n p rose is =
+    puts_as held faults _ _ r old new (spaced_more word some more) (puts_failed held faults (spaced (word ∷ some)) (behind more) r old new n p rose is)

@@ -11,5 +11,6 @@ mod wording;
 
 pub use dt_reports::{Fault, LineFault, LogLine, Refusal, Report, SetupFault, StepFault};
 pub use lines::{Form, Line};
+pub use logging::write_line;
 pub use putting::{put_flow, put_hex, put_number};
 pub use stages::Stage;

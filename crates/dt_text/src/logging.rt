@@ -1,15 +1,15 @@
 //! The lines of the log.
-ghost use Rattle.std.specs.Prelude.{◌≡◌, [], ◌∷◌, codes, decimal};
+ghost use Rattle.std.specs.Prelude.{◌≡◌, [], ◌∷◌, ◌++◌, codes, decimal};
 ghost use Rattle.dt_edges.specs.Streams.{Puts};
 ghost use Rattle.dt_reports.specs.Told.{told};
-ghost use Rattle.dt_text.specs.Texts.{words_of, acknowledgement_words, receiver_words, link_words, flow_text, sent_letters, read_letters, record_text, run_text, refusal_words, layout_words};
+ghost use Rattle.dt_text.specs.Texts.{line_text, line_words, totals_words, node_words, fault_words, spaced, words_of, acknowledgement_words, receiver_words, link_words, flow_text, sent_letters, read_letters, record_text, run_text, refusal_words, layout_words};
 ghost use Rattle.dt_text.specs.Wording.{behind};
 
-use crate::faulting::{put_layout_fault, put_refusal};
-use crate::wording::{Word, put_named, put_words};
-use dt_edges::{Failed, Sink};
+use crate::faulting::{put_fault, put_layout_fault, put_refusal};
+use crate::wording::{Word, put_named, put_spaced, put_words};
+use dt_edges::{Failed, Sink, put_all};
 use dt_layout::LayoutFault;
-use dt_reports::{Refusal, Report};
+use dt_reports::{Fault, LogLine, Refusal, Report};
 use dt_units::Flow;
 
 /// The letters of a packet that was sent: its data-run flag, and whether it begins and ends a
@@ -312,4 +312,111 @@ fn put_report<K: Sink>(report: &Report<'_>, out: &mut K) -> Result<(), Failed>
         Report::Renewed { flow } => put_of_flow("renewed", flow, out),
         _ => put_acknowledgement_report(report, out),
     }
+}
+
+/// Puts the words of the totals of a flow: the octets that were taken, acked, uncertain and open,
+/// and those that were given and read.
+fn put_totals<K: Sink>(
+    flow: Flow,
+    taken: u64,
+    acked: u64,
+    uncertain: u64,
+    unsettled: u64,
+    given: u64,
+    read: u64,
+    out: &mut K,
+) -> Result<(), Failed>
+    ensures puts { Puts K.held K.faults (spaced (totals_words flow taken acked uncertain unsettled given read)) result out.old out.new }
+    ensures same_sink { K.identity out.new ≡ K.identity out.old }
+{
+    put_spaced(
+        &Word::Text("flow"),
+        &[
+            Word::Flow(flow),
+            Word::Text("taken"),
+            Word::Number(taken),
+            Word::Text("acked"),
+            Word::Number(acked),
+            Word::Text("uncertain"),
+            Word::Number(uncertain),
+            Word::Text("open"),
+            Word::Number(unsettled),
+            Word::Text("given"),
+            Word::Number(given),
+            Word::Text("read"),
+            Word::Number(read),
+        ],
+        out,
+    )
+}
+
+/// Puts the words of a refused line of an input.
+fn put_fault_line<K: Sink>(line: u64, fault: Fault, out: &mut K) -> Result<(), Failed>
+    ensures puts { Puts K.held K.faults (spaced (codes "line" ∷ (decimal line ++ codes ":") ∷ fault_words fault)) result out.old out.new }
+    ensures same_sink { K.identity out.new ≡ K.identity out.old }
+{
+    put_spaced(&Word::Text("line"), &[Word::Line(line)], out)?;
+    put_fault(fault, out)
+}
+
+/// Puts the moment, and the node where there is one.
+fn put_front<K: Sink>(moment: u64, node: Option<u32>, out: &mut K) -> Result<(), Failed>
+    ensures puts { Puts K.held K.faults (spaced (decimal moment ∷ node_words node)) result out.old out.new }
+    ensures same_sink { K.identity out.new ≡ K.identity out.old }
+{
+    match node {
+        Some(node) => put_spaced(&Word::Number(moment), &[Word::Number(u64::from(node))], out),
+        None => put_spaced(&Word::Number(moment), &[], out),
+    }
+}
+
+/// Puts the words of a line of a node.
+fn put_told<K: Sink>(line: &LogLine<'_>, out: &mut K) -> Result<(), Failed>
+    ensures puts { Puts K.held K.faults (spaced (decimal line.now.moment ∷ node_words line.now.node ++ words_of (told line.now.report))) result out.old out.new }
+    ensures same_sink { K.identity out.new ≡ K.identity out.old }
+{
+    put_front(line.moment, line.node, out)?;
+    put_report(&line.report, out)
+}
+
+/// Puts the words of a line.
+fn put_line<K: Sink>(line: &LogLine<'_>, out: &mut K) -> Result<(), Failed>
+    ensures puts { Puts K.held K.faults (spaced (line_words line.now.moment line.now.node (told line.now.report))) result out.old out.new }
+    ensures same_sink { K.identity out.new ≡ K.identity out.old }
+{
+    match line.report {
+        Report::Lost { copy } => put_spaced(
+            &Word::Number(line.moment),
+            &[Word::Text("lost"), Word::Number(u64::from(copy))],
+            out,
+        ),
+        Report::FlowTotals {
+            flow,
+            taken,
+            acked,
+            uncertain,
+            unsettled,
+            given,
+            read,
+        } => put_totals(flow, taken, acked, uncertain, unsettled, given, read, out),
+        Report::End => put_spaced(&Word::Text("end"), &[Word::Number(line.moment)], out),
+        Report::Fault { line, fault } => put_fault_line(line, fault, out),
+        _ => put_told(line, out),
+    }
+}
+
+/// Writes a line of the log, ended by one line feed: the moment, the node, the word of the report and
+/// its fields, with one space between two of them. Where `node` is `None` the line of a node is
+/// written without the node's word. The loss of a copy and the end of a run are written without the
+/// node, and the totals of a flow and a fault without moment and node.
+///
+/// `Ok` has appended exactly the line's text. `Failed` has appended a first part of it, and comes only
+/// where the sink's count of faults rose. Takes no memory. The cost is the line.
+#[tactic(auto, using(dt_edges::proofs::Puts::two_parts))]
+pub fn write_line<K: Sink>(line: &LogLine<'_>, out: &mut K) -> Result<(), Failed>
+    ensures puts { Puts K.held K.faults (line_text line.now.moment line.now.node (told line.now.report)) result out.old out.new }
+    ensures same_sink { K.identity out.new ≡ K.identity out.old }
+{
+    put_line(line, out)?;
+    put_all(b"\n", out)
 }
