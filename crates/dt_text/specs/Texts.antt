@@ -175,13 +175,17 @@ abbrev pub node_words : Option ℕ → List Text
 node_words (Some node) = decimal node ∷ []
 node_words None = []
 
+-- the totals of a flow
+abbrev pub totals_words : Flow → (taken acked uncertain unsettled given read : ℕ) → List Text
+totals_words flow taken acked uncertain unsettled given read =
+    codes "flow" ∷ flow_text flow ∷ codes "taken" ∷ decimal taken ∷ codes "acked" ∷ decimal acked ∷ codes "uncertain" ∷ decimal uncertain
+    ∷ codes "open" ∷ decimal unsettled ∷ codes "given" ∷ decimal given ∷ codes "read" ∷ decimal read ∷ []
+
 -- The words of a line: the moment, the node, and then what the tables have. Four lines have another
 -- form.
 abbrev pub line_words : ℕ → Option ℕ → Told → List Text
 line_words moment teller (Lost copy) = decimal moment ∷ codes "lost" ∷ decimal copy ∷ []
-line_words moment teller (FlowTotals flow taken acked uncertain unsettled given read) =
-    codes "flow" ∷ flow_text flow ∷ codes "taken" ∷ decimal taken ∷ codes "acked" ∷ decimal acked ∷ codes "uncertain" ∷ decimal uncertain
-    ∷ codes "open" ∷ decimal unsettled ∷ codes "given" ∷ decimal given ∷ codes "read" ∷ decimal read ∷ []
+line_words moment teller (FlowTotals flow taken acked uncertain unsettled given read) = totals_words flow taken acked uncertain unsettled given read
 line_words moment teller End = codes "end" ∷ decimal moment ∷ []
 line_words moment teller (Refuses line fault) = codes "line" ∷ (decimal line ++ codes ":") ∷ fault_words fault
 line_words moment teller told = decimal moment ∷ node_words teller ++ words_of told

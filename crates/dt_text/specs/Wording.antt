@@ -1,7 +1,7 @@
 -- The words that the code makes a line of.
-use Rattle.std.specs.Prelude.{List, ◌∷◌, flat_map, decimal}
+use Rattle.std.specs.Prelude.{List, ◌∷◌, ◌++◌, flat_map, codes, decimal}
 use Rattle.dt_text.specs.declared.wording.Word.{Word}
-use Rattle.dt_text.specs.declared.wording.Word.TheVariants.{Text, Number, Flow, Hex}
+use Rattle.dt_text.specs.declared.wording.Word.TheVariants.{Text, Number, Flow, Hex, Line}
 use Rattle.dt_text.specs.Texts as texts
 use Rattle.dt_text.specs.Texts.{flow_text, hex_text}
 
@@ -10,6 +10,7 @@ word_text (Text text) = text.now
 word_text (Number n) = decimal n
 word_text (Flow flow) = flow_text flow
 word_text (Hex octets) = hex_text octets.now
+word_text (Line n) = decimal n ++ codes ":"
 
 abbrev pub after_space : texts.Text → texts.Text
 after_space text = 32 ∷ text

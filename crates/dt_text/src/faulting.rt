@@ -4,7 +4,7 @@ ghost use Rattle.dt_edges.specs.Streams.{Puts};
 ghost use Rattle.dt_text.specs.Texts.{field_text, line_fault_text, setup_fault_words, step_fault_words, layout_words, fault_words, refusal_words};
 ghost use Rattle.dt_text.specs.Wording.{behind};
 
-use crate::wording::{Word, put_words};
+use crate::wording::{Word, put_named, put_words};
 use dt_edges::{Failed, Sink};
 use dt_layout::LayoutFault;
 use dt_reports::{Fault, LineFault, Refusal, SetupFault, StepFault};
@@ -48,18 +48,9 @@ fn put_setup_fault<K: Sink>(fault: SetupFault, out: &mut K) -> Result<(), Failed
     ensures same_sink { K.identity out.new ≡ K.identity out.old }
 {
     match fault {
-        SetupFault::Twice { n } => put_words(
-            &[Word::Text("twice"), Word::Number(u64::from(n))],
-            out,
-        ),
-        SetupFault::Unknown { n } => put_words(
-            &[Word::Text("unknown"), Word::Number(u64::from(n))],
-            out,
-        ),
-        SetupFault::Stray { n } => put_words(
-            &[Word::Text("stray"), Word::Number(u64::from(n))],
-            out,
-        ),
+        SetupFault::Twice { n } => put_named("twice", u64::from(n), out),
+        SetupFault::Unknown { n } => put_named("unknown", u64::from(n), out),
+        SetupFault::Stray { n } => put_named("stray", u64::from(n), out),
         SetupFault::NoMemory => put_words(&[Word::Text("out of memory")], out),
     }
 }
@@ -71,15 +62,9 @@ fn put_step_fault<K: Sink>(fault: StepFault, out: &mut K) -> Result<(), Failed>
 {
     match fault {
         StepFault::BadFlow => put_words(&[Word::Text("bad flow")], out),
-        StepFault::NoStation { n } => put_words(
-            &[Word::Text("no station"), Word::Number(u64::from(n))],
-            out,
-        ),
-        StepFault::NoCopy { n } => put_words(
-            &[Word::Text("no copy"), Word::Number(u64::from(n))],
-            out,
-        ),
-        StepFault::Lost { n } => put_words(&[Word::Text("lost"), Word::Number(u64::from(n))], out),
+        StepFault::NoStation { n } => put_named("no station", u64::from(n), out),
+        StepFault::NoCopy { n } => put_named("no copy", u64::from(n), out),
+        StepFault::Lost { n } => put_named("lost", u64::from(n), out),
         StepFault::TooLate { held, charge } => put_words(
             &[
                 Word::Text("too late"),
@@ -119,14 +104,8 @@ pub fn put_layout_fault<K: Sink>(fault: LayoutFault, out: &mut K) -> Result<(), 
     ensures same_sink { K.identity out.new ≡ K.identity out.old }
 {
     match fault {
-        LayoutFault::Short { len } => put_words(
-            &[Word::Text("short"), Word::Number(len as u64)],
-            out,
-        ),
-        LayoutFault::Version { octet } => put_words(
-            &[Word::Text("version"), Word::Number(u64::from(octet))],
-            out,
-        ),
+        LayoutFault::Short { len } => put_named("short", len as u64, out),
+        LayoutFault::Version { octet } => put_named("version", u64::from(octet), out),
         LayoutFault::Length { told, there } => put_words(
             &[
                 Word::Text("length"),
@@ -136,30 +115,12 @@ pub fn put_layout_fault<K: Sink>(fault: LayoutFault, out: &mut K) -> Result<(), 
             out,
         ),
         LayoutFault::Dead => put_words(&[Word::Text("dead")], out),
-        LayoutFault::Protocol { octet } => put_words(
-            &[Word::Text("protocol"), Word::Number(u64::from(octet))],
-            out,
-        ),
-        LayoutFault::Kind { octet } => put_words(
-            &[Word::Text("kind"), Word::Number(u64::from(octet))],
-            out,
-        ),
-        LayoutFault::Flags { octet } => put_words(
-            &[Word::Text("flags"), Word::Number(u64::from(octet))],
-            out,
-        ),
-        LayoutFault::Window { value } => put_words(
-            &[Word::Text("window"), Word::Number(u64::from(value))],
-            out,
-        ),
-        LayoutFault::Size { len } => put_words(
-            &[Word::Text("size"), Word::Number(len as u64)],
-            out,
-        ),
-        LayoutFault::Number { value } => put_words(
-            &[Word::Text("number"), Word::Number(u64::from(value))],
-            out,
-        ),
+        LayoutFault::Protocol { octet } => put_named("protocol", u64::from(octet), out),
+        LayoutFault::Kind { octet } => put_named("kind", u64::from(octet), out),
+        LayoutFault::Flags { octet } => put_named("flags", u64::from(octet), out),
+        LayoutFault::Window { value } => put_named("window", u64::from(value), out),
+        LayoutFault::Size { len } => put_named("size", len as u64, out),
+        LayoutFault::Number { value } => put_named("number", u64::from(value), out),
     }
 }
 
@@ -169,10 +130,7 @@ pub fn put_refusal<K: Sink>(refusal: Refusal, out: &mut K) -> Result<(), Failed>
     ensures same_sink { K.identity out.new ≡ K.identity out.old }
 {
     match refusal {
-        Refusal::Quiet { until } => put_words(&[Word::Text("quiet"), Word::Number(until)], out),
-        Refusal::Full { free } => put_words(
-            &[Word::Text("full"), Word::Number(u64::from(free))],
-            out,
-        ),
+        Refusal::Quiet { until } => put_named("quiet", until, out),
+        Refusal::Full { free } => put_named("full", u64::from(free), out),
     }
 }

@@ -7,6 +7,7 @@ mod fields;
 mod hexadecimal;
 mod faulting;
 mod lines;
+mod logging;
 mod putting;
 mod numerals;
 mod reading;
@@ -24,4 +25,5 @@ pub use stages::{Stage, follows};
 
 #[cfg(test)]
 mod tests;
+pub use logging::write_line;
 pub use putting::{put_flow, put_hex, put_number};
