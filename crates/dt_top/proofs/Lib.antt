@@ -1,2 +1,7 @@
 pub mod Cuts
 pub mod Segments
+pub mod Transmissions
+pub mod Sends
+pub mod Logging
+pub mod Lines
+pub mod Replays

@@ -6,6 +6,7 @@ use Rattle.dt_units.specs.declared.endpoints.Flow.{Flow}
 use Rattle.dt_units.specs.declared.parameters.Params.{Params}
 use Rattle.dt_units.specs.declared.parameters.Field.{Field}
 use Rattle.dt_units.specs.Limits.{value_of, first_out_of_range}
+use Rattle.dt_items.specs.declared.item.Item.{Item}
 use Rattle.dt_items.specs.Unread.{marked}
 use Rattle.dt_reports.specs.declared.faults.Fault.{Fault}
 use Rattle.dt_reports.specs.declared.faults.Fault.TheVariants as faults
@@ -21,41 +22,18 @@ use Rattle.dt_text.specs.Said.{Said, Params as ParamsLine, Send, Blank}
 use Rattle.dt_text.specs.Hexadecimal.{octets_of}
 use Rattle.dt_text.specs.Lines.{line_of}
 use Rattle.dt_text.specs.Stages.{stage_after}
-use Rattle.dt_flow_model.specs.declared.acts.Cut.{Cut}
 use Rattle.dt_flow_model.specs.SendRecord.{SendRecord, new_record, room_of, put}
 use Rattle.dt_flow_model.specs.SendActs.{most_segments}
 use Rattle.dt_top.specs.declared.path.state.Sender.{Sender}
 use Rattle.dt_top.specs.declared.path.state.Path.{Path}
-use Rattle.dt_top.specs.Sending.{cuts, after_cuts}
+use Rattle.dt_top.specs.Transmitting.{the_flow, is_the_flow, by_sender, by_world, transmissions, after_transmissions}
 use Rattle.dt_top.specs.Cutting.{lines_of}
 use Rattle.dt_top.specs.Logs.{Entry, log_text}
-
--- The flow that is served: from port 10 of node 1 to port 20 of node 2.
-abbrev pub the_flow : Flow
-the_flow = record { from = record { 0 = 1 }; from_port = 10; to = record { 0 = 2 }; to_port = 20 }
-
-abbrev pub is_the_flow : Flow → Bool
-is_the_flow flow = flow.from.0 == 1 && flow.from_port == 10 && flow.to.0 == 2 && flow.to_port == 20
 
 -- The setup that is served, behind its parameters: two stations, a link each way that charges 50 ms, and a route each way.
 abbrev pub setup_lines : List (List ℕ)
 setup_lines =
     codes "station 1 0" ∷ codes "station 2 0" ∷ codes "link 1 1 2 50 0" ∷ codes "link 2 2 1 50 0" ∷ codes "route 1 2 1" ∷ codes "route 2 1 2" ∷ codes "go" ∷ []
-
--- what the sending station tells at moment 0, and what the world tells
-abbrev pub by_sender : told.Told → Entry
-by_sender what = record { moment = 0; node = Some 1; told = what }
-
-abbrev pub by_world : told.Told → Entry
-by_world what = record { moment = 0; node = None; told = what }
-
--- Each cut goes out and leaves at once on link 1, as the next copy. The station charges the one millisecond that a packet waits at least.
-abbrev pub departures : Params → ℕ → List Cut → List Entry
-departures p copy [] = []
-departures p copy (cut ∷ more) =
-    by_sender (told.Sent the_flow cut.number cut.length cut.drf cut.begin cut.end)
-    ∷ by_sender (told.PutAs 1 (p.mpl - 1) copy)
-    ∷ departures p (suc copy) more
 
 -- what a line leads to, and what is told of it
 pub record Turned : Type 0 where
@@ -67,22 +45,17 @@ pub record SenderTurned : Type 0 where
   pub entries : List Entry
 
 -- Octets that fit are put into the record, and what can go out goes out. Others are refused, with the room that is left.
-abbrev pub sent : Sender → SendRecord → ℕ → SenderTurned
-sent s x count = record {
-  sender = record {
-    rules = s.rules;
-    send_record = after_cuts most_segments s.rules 0 x;
-    copies = s.copies + length (cuts most_segments s.rules 0 x);
-    taken = s.taken + count;
-  };
-  entries = by_sender (told.Took the_flow count) ∷ departures s.rules s.copies (cuts most_segments s.rules 0 x);
-}
+abbrev pub holding : Sender → List Item → ℕ → Sender
+holding s items count = record { rules = s.rules; send_record = put items s.send_record; copies = s.copies; taken = s.taken + count }
+
+abbrev pub taking : ℕ → Sender → SenderTurned
+taking count s = record { sender = after_transmissions most_segments s; entries = by_sender (told.Took the_flow count) ∷ transmissions most_segments s }
 
 abbrev pub sends : Sender → Bool → Bool → List ℕ → SenderTurned
 sends s begin end octets =
     if nat_lt (room_of s.rules s.send_record) (length octets)
     then record { sender = s; entries = by_sender (told.Refused the_flow (Full (room_of s.rules s.send_record))) ∷ [] }
-    else sent s (put (marked octets begin end false) s.send_record) (length octets)
+    else taking (length octets) (holding s (marked octets begin end false) (length octets))
 
 -- the path with its sender after a send
 abbrev pub with_sender : Path → SenderTurned → Turned

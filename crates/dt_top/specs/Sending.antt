@@ -1,4 +1,4 @@
--- The first transmissions of a send record at one moment.
+-- The first transmission of the next cut of a send record.
 use Rattle.std.specs.Prelude.{ℕ, zero, suc, ◌-◌, ◌++◌, List, [], ◌∷◌, if◌then◌else◌, length}
 use Rattle.dt_units.specs.declared.parameters.Params.{Params}
 use Rattle.dt_flow_model.specs.declared.acts.Cut.{Cut}
@@ -16,17 +16,3 @@ after_cut p now x = record x {
 -- what is told of the next cut
 abbrev pub next_cut : Params → SendRecord → Cut
 next_cut p x = cut_told p x (next_of x) (cut_of p x)
-
--- the first transmissions, one after another, while the record can send; at most this many
-unfoldable pub cuts : ℕ → Params → ℕ → SendRecord → List Cut
-cuts zero p now x = []
-cuts (suc more) p now x = if can_send p x then next_cut p x ∷ cuts more p now (after_cut p now x) else []
-
--- the record after them
-unfoldable pub after_cuts : ℕ → Params → ℕ → SendRecord → SendRecord
-after_cuts zero p now x = x
-after_cuts (suc more) p now x = if can_send p x then after_cuts more p now (after_cut p now x) else x
-
--- how many segments may yet become outstanding
-abbrev pub segments_left : SendRecord → ℕ
-segments_left x = most_segments - length x.outstanding

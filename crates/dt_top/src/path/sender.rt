@@ -1,14 +1,18 @@
 //! What the sender of the flow does.
-ghost use Rattle.std.specs.Prelude.{◌≡◌, ◌<◌, ◌≤◌, ◌+◌, ◌*◌, ◌^◌, ◌∷◌, [], length, IsTrue, OnOk, Some};
-ghost use Rattle.dt_edges.specs.Streams.{Puts};
+ghost use Rattle.std.specs.Prelude.{◌≡◌, ◌++◌, ◌<◌, ◌≤◌, ◌+◌, ◌*◌, ◌^◌, ◌∷◌, [], length, true, false, IsTrue, IfOk, IfErr, OnOk, Some};
+ghost use Rattle.dt_edges.specs.Streams.{appended, Puts};
 ghost use Rattle.dt_reports.specs.Told.{told};
 ghost use Rattle.dt_text.specs.Texts.{line_text};
 ghost use Rattle.dt_text.specs.Hexadecimal.{is_hex, octets_of};
-ghost use Rattle.dt_flow_model.specs.SendActs.{most_segments};
-ghost use Rattle.dt_top.specs.Sending.{cuts, after_cuts};
-ghost use Rattle.dt_top.specs.Logs.{log_text};
-ghost use Rattle.dt_top.specs.Replay.{departures, sends};
-ghost use Rattle.dt_top.specs.Stopping.{Logs};
+ghost use Rattle.std.specs.Bool.{OnTrue, OnFalse};
+ghost use Rattle.dt_items.specs.Unread.{marked};
+ghost use Rattle.dt_flow_model.specs.SendRecord.{held_of};
+ghost use Rattle.dt_flow_model.specs.SendActs.{can_send, most_segments};
+ghost use Rattle.dt_top.specs.Sending.{next_cut};
+ghost use Rattle.dt_top.specs.Logs.{entry_text, log_text};
+ghost use Rattle.dt_top.specs.Transmitting.{sent_entry, put_entry, after_transmission, transmissions, after_transmissions};
+ghost use Rattle.dt_top.specs.Replay.{sends, taking, holding};
+ghost use Rattle.dt_top.specs.Stopping.{StopsFor, Logs};
 
 use dt_edges::{Failed, Sink};
 use dt_flow_model::Cut;
@@ -47,8 +51,9 @@ pub fn tell<K: Sink>(node: Option<u32>, report: Report<'_>, out: &mut K) -> Resu
 
 impl Sender {
     /// Tells of a cut that it went out, and that its packet left as the next copy.
+    #[tactic(auto, using(dt_edges::proofs::Puts::two_parts))]
     fn tell_departure<K: Sink>(&self, cut: Cut, out: &mut K) -> Result<(), Failed>
-        ensures puts { Puts K.held K.faults (log_text (departures self.now.rules self.now.copies (cut ∷ []))) result out.old out.new }
+        ensures puts { Puts K.held K.faults (entry_text (sent_entry cut) ++ entry_text (put_entry self.now.rules self.now.copies)) result out.old out.new }
         ensures same_sink { K.identity out.new ≡ K.identity out.old }
     {
         let sent = Report::Sent {
@@ -64,7 +69,98 @@ impl Sender {
             life: self.rules.params().mpl - 1,
             copy: self.copies,
         };
-        tell(Some(FLOW.from.0), sent, out)?;
-        tell(Some(FLOW.from.0), put, out)
+        tell(Some(1), sent, out)?;
+        tell(Some(1), put, out)
+    }
+
+    /// Sends the next cut, if the record can send, and says whether one went out.
+    fn transmit_next<K: Sink>(&mut self, out: &mut K) -> Result<bool, Stop>
+        requires { self.old.copies < 2 ^ 63 }
+        ensures none { IfOk result (λ went. OnFalse went ((can_send self.old.rules self.old.send_record ≡ false) × (self.new ≡ self.old) × (K.held out.new ≡ K.held out.old) × (K.faults out.new ≡ K.faults out.old))) }
+        ensures one { IfOk result (λ went. OnTrue went ((can_send self.old.rules self.old.send_record ≡ true) × (self.new ≡ after_transmission self.old) × (K.faults out.new ≡ K.faults out.old)
+            × (K.held out.new ≡ appended (entry_text (sent_entry (next_cut self.old.rules self.old.send_record)) ++ entry_text (put_entry self.old.rules self.old.copies)) (K.held out.old)))) }
+        ensures stops { IfErr result (λ stop. StopsFor stop (K.faults out.old) (K.faults out.new)) }
+        ensures same_sink { K.identity out.new ≡ K.identity out.old }
+    {
+        match self.send_record.send(&self.rules, 0)? {
+            None => Ok(false),
+            Some(cut) => {
+                self.tell_departure(cut, out)?;
+                self.copies += 1;
+                Ok(true)
+            }
+        }
+    }
+
+    /// Sends what can go out now: at most as many segments as may be outstanding.
+    fn transmit<K: Sink>(&mut self, out: &mut K) -> Result<(), Stop>
+        requires { self.old.copies < 2 ^ 62 }
+        ensures ok { OnOk result (self.new ≡ after_transmissions most_segments self.old) }
+        ensures few { OnOk result (self.new.copies ≤ self.old.copies + 64) }
+        ensures same_taken { OnOk result (self.new.taken ≡ self.old.taken) }
+        ensures logs { Logs K.held K.faults (transmissions most_segments self.old) result out.old out.new }
+        ensures same_sink { K.identity out.new ≡ K.identity out.old }
+    {
+        for turn in 0..MOST_SEGMENTS {
+            if !self.transmit_next(out)? {
+                return Ok(());
+            }
+        }
+        Ok(())
+    }
+
+    /// Takes octets to send, which the record has room for.
+    #[tactic(auto, using(crate::proofs::Logging::logs_then))]
+    fn take<K: Sink>(
+        &mut self,
+        octets: &[u8],
+        begin: bool,
+        end: bool,
+        out: &mut K,
+    ) -> Result<(), Stop>
+        requires room { held_of self.old.send_record + length octets.now < 2 ^ 32 }
+        requires few_copies { self.old.copies < 2 ^ 62 }
+        requires few_octets { self.old.taken < 2 ^ 62 }
+        ensures ok { OnOk result (self.new ≡ (taking (length octets.now) (holding self.old (marked octets.now begin end false) (length octets.now))).sender) }
+        ensures copies { OnOk result (self.new.copies ≤ self.old.copies + 64) }
+        ensures taken { OnOk result (self.new.taken ≡ self.old.taken + length octets.now) }
+        ensures logs { Logs K.held K.faults (taking (length octets.now) (holding self.old (marked octets.now begin end false) (length octets.now))).entries result out.old out.new }
+        ensures same_sink { K.identity out.new ≡ K.identity out.old }
+    {
+        self.send_record.put(octets, begin, end)?;
+        let count = octets.len() as u32;
+        self.taken += u64::from(count);
+        tell(Some(1), Report::Took { flow: FLOW, count }, out)?;
+        self.transmit(out)
+    }
+
+    /// Takes octets to send, or refuses them for want of room. `octets` is room for the octets that the
+    /// digits spell.
+    pub fn send<K: Sink>(
+        &mut self,
+        begin: bool,
+        end: bool,
+        hex: &[u8],
+        octets: &mut Vec<u8>,
+        out: &mut K,
+    ) -> Result<(), Stop>
+        requires pairs { IsTrue (is_hex 65536 hex.now) }
+        requires few_copies { self.old.copies < 2 ^ 62 }
+        requires few_octets { self.old.taken < 2 ^ 62 }
+        ensures ok { OnOk result (self.new ≡ (sends self.old begin end (octets_of hex.now)).sender) }
+        ensures copies { OnOk result (self.new.copies ≤ self.old.copies + 64) }
+        ensures taken { OnOk result (self.new.taken ≤ self.old.taken + 65536) }
+        ensures logs { Logs K.held K.faults (sends self.old begin end (octets_of hex.now)).entries result out.old out.new }
+        ensures same_sink { K.identity out.new ≡ K.identity out.old }
+    {
+        let count = (hex.len() / 2) as u32;
+        let free = self.send_record.free(&self.rules);
+        if free < count {
+            let fault = Refusal::Full { free };
+            tell(Some(1), Report::Refused { flow: FLOW, fault }, out)?;
+            return Ok(());
+        }
+        decode_hex(hex, octets)?;
+        self.take(octets, begin, end, out)
     }
 }

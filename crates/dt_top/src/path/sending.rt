@@ -119,7 +119,8 @@ impl SendRecord {
 
     /// How many more octets the record takes.
     pub fn free(&self, rules: &Rules) -> u32
-        ensures { result ≡ room_of rules.now self.now }
+        ensures value { result ≡ room_of rules.now self.now }
+        ensures small { 0 < result → held_of self.now + result ≤ 65536 }
     {
         rules.params().cap.saturating_sub(self.held)
     }
