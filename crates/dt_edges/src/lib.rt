@@ -16,7 +16,7 @@ mod wires;
 mod writing;
 
 pub use addressing::{Address, Peer};
-pub use buffering::Buffered;
+pub use buffering::{Buffer, Buffered};
 pub use clocks::Clock;
 pub use fault::Failed;
 pub use memory::{MemSink, MemSource};

@@ -5,3 +5,6 @@ pub mod Logs
 pub mod Transmitting
 pub mod Replay
 pub mod Stopping
+pub mod Endings
+pub mod Inputs
+pub mod Serving

@@ -221,7 +221,7 @@ fn close<K: Sink>(path: &Path, number: u64, out: &mut K) -> Result<bool, Stop>
 
 /// Replays the lines of a schedule, up to the end or to the first line that is refused, and says
 /// whether it is accepted.
-fn replay_lines<K: Sink>(alloc: Global, bytes: &[u8], out: &mut K) -> Result<bool, Stop>
+pub fn replay_lines<K: Sink>(alloc: Global, bytes: &[u8], out: &mut K) -> Result<bool, Stop>
     requires { length bytes.now ≤ 16777216 }
     ensures logs { Logs K.held K.faults (replay bytes.now).entries result out.old out.new }
     ensures accepted { IfOk result (λ accepted. accepted ≡ is_accepted bytes.now) }
