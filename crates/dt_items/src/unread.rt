@@ -85,10 +85,10 @@ fn tell(taken: &[Item]) -> Option<Piece>
 /// The item of an octet among octets that come together.
 fn item_at(octets: &[u8], i: usize, begin: bool, end: bool, run: bool) -> Item
     requires { i < length octets.now }
-    ensures { let last = length octets.now in result ≡ record {
+    ensures { let count = length octets.now in result ≡ record {
       octet = slice_index octets.now i;
       begin = begin && (i == 0);
-      end = end && (i + 1 == last);
+      end = end && (i + 1 == count);
       run = run && (i == 0);
     } }
 {
@@ -119,7 +119,7 @@ fn append(
 }
 
 impl Queue {
-    /// An empty queue for at most `room` items. Memory for the first 1,024 of them is taken at once.
+    /// An empty queue for at most `room` items. It takes memory for the first 1,024 of them.
     pub fn with_room(alloc: Global, room: u32) -> Result<Queue, NoMemory>
         ensures { IfOk result (λ queue. queue ≡ record { items = []; room = room }) }
     {
@@ -146,8 +146,8 @@ impl Queue {
     }
 
     /// Moves the unread items to the front of the vector where no more of them are left than were
-    /// read, so that the vector has at most twice the room, and no item moves more often than one is
-    /// read.
+    /// read. So the vector has at most twice the room, and over all calls no more items are moved
+    /// than were read.
     fn close_up(&mut self)
         ensures { self.new ≡ self.old }
     {
