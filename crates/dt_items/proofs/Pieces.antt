@@ -1,5 +1,5 @@
 -- How a loop finds the piece that a read takes, and what a read tells of it.
-use Rattle.std.proofs.Common.{◌≡◌, ℕ, zero, suc, ◌+◌, ◌-◌, ◌<◌, ◌≤◌, min, inl, inr, true, false, cond, List, [], ◌∷◌, ◌++◌, length, get_or, set, take, drop, append_assoc, length-take-le, Some, refl, sym, ap, ◌∙◌, arith}
+use Rattle.std.proofs.Common.{◌≡◌, ℕ, zero, suc, ◌+◌, ◌-◌, ◌<◌, ◌≤◌, min, inl, inr, true, false, cond, List, [], ◌∷◌, ◌++◌, length, get_or, set, take, drop, append_assoc, length-take-le, Some, IfSome, refl, sym, ap, ◌∙◌, arith}
 use Rattle.std.specs.List.{slice_get}
 use Rattle.std.proofs.lemmas.List.{length-map, take-append-drop, take_rest, drop-drop, length-append, length-drop, at_drop_more, drop_all, drop_more, take_more, map_push, set_at}
 use Rattle.std.proofs.lemmas.Bool.{cases_lt}
@@ -130,3 +130,8 @@ pub taken_within : (n head : ℕ) (all now taken : List Item) → drop head all 
 taken_within n head all now taken view piece =
     let whole = ap length (rest_is n head all now taken view piece) in
     omega (arith, whole, ap length view, ap length piece, length-append (first_piece n now) (drop (head + length taken) all), length-drop head all)
+
+-- a piece is told with its length, which is not 0
+pub told_len : (n : ℕ) (items : List Item) → length items ≤ n → IfSome (told items) (λ piece. (0 < piece.len) × (piece.len ≤ n))
+told_len n [] h = tt
+told_len n (first ∷ rest) h = (omega arith, omega arith)

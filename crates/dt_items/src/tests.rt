@@ -98,3 +98,13 @@ fn a_queue_is_filled_and_read_for_long(rt: HostRuntime) -> Result<(), Fail> {
     reads_nothing(&rt, &mut queue);
     Ok(())
 }
+
+#[test]
+fn a_queue_grows_to_the_greatest_room(rt: HostRuntime) -> Result<(), Fail> {
+    let mut queue = Queue::with_room(rt.alloc(), 65_536)?;
+    for _ in 0..64 {
+        push(&rt, &mut queue, &[b'x'; 1024], b"be")?;
+    }
+    assert_eq!(rt; queue.free(), 0);
+    Ok(())
+}

@@ -1,4 +1,4 @@
-ghost use Rattle.std.specs.Prelude.{◌≡◌, ◌+◌, ◌^◌, ◌<◌, ◌≤◌, ◌↔◌, [], ◌++◌, if◌then◌else◌, drop, length, slice_index, ◌==◌, ◌&&◌, is_ok, IfOk, OnOk, OnErr, IsNone};
+ghost use Rattle.std.specs.Prelude.{◌≡◌, ◌+◌, ◌^◌, ◌<◌, ◌≤◌, ◌↔◌, [], ◌++◌, if◌then◌else◌, drop, length, slice_index, ◌==◌, ◌&&◌, is_ok, IfOk, IfSome, OnOk, OnErr, IsNone};
 ghost use Rattle.dt_items.specs.Unread.{Backlog, marked, octets_of, goes_on, first_piece, told};
 
 use crate::item::Item;
@@ -26,7 +26,9 @@ impl Model for Queue {
 
     ghost view = { λ q. record { items = drop q.head q.items.items; room = q.room } };
 
-    ghost invariant = { λ q. (q.head ≤ length q.items.items) × (length q.items.items ≤ q.head + q.room) × (q.room < 2 ^ 32) };
+    ghost invariant = { λ q. (q.head ≤ length q.items.items)
+        × (length q.items.items ≤ q.head + q.room)
+        × (q.room < 2 ^ 32) };
 }
 
 /// Whether an item goes on the piece of the item before it.
@@ -83,7 +85,12 @@ fn tell(taken: &[Item]) -> Option<Piece>
 /// The item of an octet among octets that come together.
 fn item_at(octets: &[u8], i: usize, begin: bool, end: bool, run: bool) -> Item
     requires { i < length octets.now }
-    ensures { result ≡ record { octet = slice_index octets.now i; begin = begin && (i == 0); end = end && (i + 1 == length octets.now); run = run && (i == 0) } }
+    ensures { let count = length octets.now in result ≡ record {
+      octet = slice_index octets.now i;
+      begin = begin && (i == 0);
+      end = end && (i + 1 == count);
+      run = run && (i == 0);
+    } }
 {
     Item {
         octet: octets[i],
@@ -103,7 +110,8 @@ pub fn append_marked(
     end: bool,
     run: bool,
 ) -> Result<(), NoMemory>
-    ensures { items.new.items ≡ (if is_ok result then items.old.items ++ marked octets.now begin end run else items.old.items) }
+    ensures { items.new.items
+        ≡ (if is_ok result then items.old.items ++ marked octets.now begin end run else items.old.items) }
 {
     items.reserve(octets.len())?;
     for i in 0..octets.len() {
@@ -113,7 +121,7 @@ pub fn append_marked(
 }
 
 impl Queue {
-    /// An empty queue for at most `room` items. Memory for the first 1,024 of them is taken at once.
+    /// An empty queue for at most `room` items. It takes memory for the first 1,024 of them.
     pub fn with_room(alloc: Global, room: u32) -> Result<Queue, NoMemory>
         ensures { IfOk result (λ queue. queue ≡ record { items = []; room = room }) }
     {
@@ -139,8 +147,9 @@ impl Queue {
         self.room - self.len()
     }
 
-    /// Moves the unread items to the front of the vector where at least as many were read before
-    /// them. So an item is moved at most once for each item that is read.
+    /// Moves the unread items to the front of the vector where no more of them are left than were
+    /// read. So the vector has at most twice the room, and over all calls no more items are moved
+    /// than were read.
     fn close_up(&mut self)
         ensures { self.new ≡ self.old }
     {
@@ -151,11 +160,11 @@ impl Queue {
     }
 
     /// Appends the octets. The first gets the begin and run marks, the last gets the end mark, and
-    /// all other marks are off. There is at least one octet, and at most as many as are free. Where
-    /// there is no memory, nothing changes.
+    /// all other marks are off. There is at least one octet, and no more than [`Queue::free`] tells.
+    /// Where there is no memory, nothing changes.
     ///
-    /// It costs the number of octets, and at times, never more often than that many octets were
-    /// read, a move of what is unread.
+    /// It costs the number of octets, and where no more items are unread than were read, a move of
+    /// the unread ones: over all calls no more than the octets that were pushed and read.
     pub fn push_all(
         &mut self,
         octets: &[u8],
@@ -165,7 +174,8 @@ impl Queue {
     ) -> Result<(), NoMemory>
         requires some { 0 < length octets.now }
         requires fits { length self.old.items + length octets.now ≤ self.old.room }
-        ensures ok { OnOk result (self.new ≡ record self.old { items = self.old.items ++ marked octets.now begin end run }) }
+        ensures ok { let added = marked octets.now begin end run in
+            OnOk result (self.new ≡ record self.old { items = self.old.items ++ added }) }
         ensures err { OnErr result (self.new ≡ self.old) }
     {
         self.close_up();
@@ -175,14 +185,16 @@ impl Queue {
     /// Takes the most items that fit in the buffer, which isn't empty, such that an end mark stands
     /// only on the last and a begin or run mark only on the first. Their octets are written to the
     /// front of the buffer, and the rest of it stays. None comes exactly where nothing is unread, and
-    /// then nothing changes. It costs the number of items that it takes.
+    /// then nothing changes. It takes no memory, and costs the number of items that it takes.
     pub fn read_into(&mut self, buf: &mut [u8]) -> Option<Piece>
         requires { 0 < length buf.old }
         ensures none { IsNone result ↔ (self.old.items ≡ []) }
         ensures piece { result ≡ told (first_piece (length buf.old) self.old.items) }
         ensures rest { self.old.items ≡ first_piece (length buf.old) self.old.items ++ self.new.items }
         ensures room { self.new.room ≡ self.old.room }
-        ensures octets { let piece = first_piece (length buf.old) self.old.items in buf.new ≡ octets_of piece ++ drop (length piece) buf.old }
+        ensures octets { let piece = first_piece (length buf.old) self.old.items in
+            buf.new ≡ octets_of piece ++ drop (length piece) buf.old }
+        ensures len { IfSome result (λ piece. (0 < piece.len) × (piece.len ≤ length buf.old)) }
     {
         let taken = piece_of(&self.items[self.head..], buf.len());
         copy_octets(taken, buf);

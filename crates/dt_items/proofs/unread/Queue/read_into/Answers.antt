@@ -1,6 +1,6 @@
 use Rattle.std.proofs.Common.{length, ap, ◌∙◌, arith}
 use Rattle.dt_items.specs.Unread.{first_piece}
-use Rattle.dt_items.proofs.Pieces.{first_piece-fits, unread_is, rest_is, taken_within}
+use Rattle.dt_items.proofs.Pieces.{first_piece-fits, unread_is, rest_is, taken_within, told_len}
 use Rattle.dt_items.proofs.unread.Queue.read_into.Goals as goal
 
 pub copy_octets-requires : goal.copy_octets-requires
@@ -20,3 +20,6 @@ returns-clause-rest c =
     let view = ap (λ b. b.items) c.self.view_is in
     let piece = c.piece_of-taken.ensures ∙ ap (first_piece (length c.args.buf.now)) (unread_is c.deref.result.now q.items.items c.args.self.now.items q.head c.deref.ensures.value view) in
     rest_is (length c.args.buf.now) q.head q.items.items c.args.self.now.items c.piece_of-taken.result.now view piece
+
+pub returns-clause-len : goal.returns-clause-len
+returns-clause-len c = rw c.tell.ensures (told_len (length c.args.buf.now) c.piece_of-taken.result.now (rw c.piece_of-taken.ensures (first_piece-fits _ _)))
