@@ -1,3 +1,12 @@
+ghost use Rattle.std.specs.Prelude.{◌≡◌, Ok, Some, IfOk, IsOkAnd};
+ghost use Rattle.std.specs.Result.{result_err};
+ghost use Rattle.dt_layout.specs.Spelling.{DeltagramValue, Gram, gram_of};
+ghost use Rattle.dt_layout.specs.Reading.{Reads, gram_fault, gram_read};
+
+use crate::faults::LayoutFault;
+use crate::fields::{four_at, two_at};
+use crate::limits::{HEADER, MOST_BODY, VERSION};
+
 /// A datagram with a life, from a node to a node. Its body is lent.
 #[derive(Clone, Copy, Debug, PartialEq, Eq)]
 pub struct Deltagram<'a> {
@@ -11,4 +20,33 @@ pub struct Deltagram<'a> {
     pub to: u32,
     /// At most 1,038 octets.
     pub body: &'a [u8],
+}
+
+#[tactic(auto, unfolding(crate::specs::Reading::gram_fault, crate::specs::Reading::gram_in))]
+fn read(bytes: &[u8]) -> Result<Deltagram<'_>, LayoutFault>
+    ensures { Reads gram_of result (gram_read bytes.now) }
+{
+    if bytes.len() < HEADER {
+        return Err(LayoutFault::Short { len: bytes.len() });
+    }
+    if bytes[0] != VERSION {
+        return Err(LayoutFault::Version { octet: bytes[0] });
+    }
+    let body = &bytes[HEADER..];
+    let told = usize::from(two_at(bytes, 2));
+    let there = body.len();
+    if told != there || there > MOST_BODY {
+        return Err(LayoutFault::Length { told, there });
+    }
+    let life = four_at(bytes, 4);
+    if life == 0 {
+        return Err(LayoutFault::Dead);
+    }
+    Ok(Deltagram {
+        protocol: bytes[1],
+        life,
+        from: four_at(bytes, 8),
+        to: four_at(bytes, 12),
+        body,
+    })
 }

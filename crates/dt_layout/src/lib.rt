@@ -3,6 +3,7 @@
 
 mod deltagrams;
 mod faults;
+mod fields;
 mod frames;
 pub mod limits;
 mod packets;

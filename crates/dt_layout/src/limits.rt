@@ -27,3 +27,21 @@ pub const VERSION: u8 = 1;
 
 /// The protocol of a Deltagram whose body is a packet.
 pub const PROTOCOL: u8 = 1;
+
+/// The kind of a data packet.
+pub const DATA: u8 = 1;
+
+/// The kind of an acknowledgement.
+pub const ACK: u8 = 2;
+
+/// The kind of a rendezvous packet.
+pub const MEET: u8 = 3;
+
+/// The bit of the data-run flag.
+pub const DRF: u8 = 1;
+
+/// The bit of the begin mark.
+pub const BEGIN: u8 = 2;
+
+/// The bit of the end mark.
+pub const END: u8 = 4;

@@ -1,0 +1,20 @@
+-- What those who carry frames see of their octets: the life, where they go, and the octets with less life.
+use Rattle.std.specs.Prelude.{◌≡◌, ℕ, ◌-◌, List, ◌++◌, take, drop, None}
+use Rattle.dt_layout.specs.Spelling.{four}
+use Rattle.dt_layout.specs.Reading.{four_at, gram_fault}
+
+-- The octets read as a Deltagram.
+abbrev pub IsGram : List ℕ → Type 0
+IsGram bytes = gram_fault bytes ≡ None
+
+-- the life that they tell, in milliseconds
+unfoldable pub life_of : List ℕ → ℕ
+life_of bytes = four_at 4 bytes
+
+-- the node that they go to
+unfoldable pub to_of : List ℕ → ℕ
+to_of bytes = four_at 12 bytes
+
+-- the same octets but for the life, which is less by this
+unfoldable pub lowered : (by : ℕ) → List ℕ → List ℕ
+lowered by bytes = take 4 bytes ++ four (life_of bytes - by) ++ drop 8 bytes
