@@ -72,21 +72,23 @@ size_fits kind count = if kind == DATA then (nat_le 1 count && nat_le count MOST
 abbrev pub number_fits : (kind number count : ℕ) → Bool
 number_fits kind number count = if kind == DATA then nat_le (number + count) MOST_NUMBER else nat_le number MOST_NUMBER
 
-abbrev pub packet_tests : (protocol : ℕ) → List ℕ → List Test
-packet_tests protocol body =
-    let kind = octet_at 0 body in
-    let flags = octet_at 1 body in
-    let number = four_at 6 body in
-    let window = four_at 10 body in
-    let count = length (drop PACKET_HEADER body) in
-    (protocol == PROTOCOL, fault.Protocol protocol)
-    ∷ (nat_le PACKET_HEADER (length body), fault.Short (length body))
-    ∷ (is_kind kind, fault.Kind kind)
-    ∷ (flags_fit kind flags, fault.Flags flags)
+-- the rules of a kind
+abbrev pub rule_tests : (kind flags window count number : ℕ) → List Test
+rule_tests kind flags window count number =
+    (flags_fit kind flags, fault.Flags flags)
     ∷ (window_fits kind window, fault.Window window)
     ∷ (size_fits kind count, fault.Size count)
     ∷ (number_fits kind number count, fault.Number number)
     ∷ []
+
+abbrev pub packet_tests : (protocol : ℕ) → List ℕ → List Test
+packet_tests protocol body =
+    let kind = octet_at 0 body in
+    let count = length (drop PACKET_HEADER body) in
+    (protocol == PROTOCOL, fault.Protocol protocol)
+    ∷ (nat_le PACKET_HEADER (length body), fault.Short (length body))
+    ∷ (is_kind kind, fault.Kind kind)
+    ∷ rule_tests kind (octet_at 1 body) (four_at 10 body) count (four_at 6 body)
 
 unfoldable pub packet_fault : DeltagramValue → Option LayoutFault
 packet_fault d = first_fault (packet_tests d.protocol d.body)
