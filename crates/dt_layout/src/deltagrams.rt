@@ -1,4 +1,4 @@
-ghost use Rattle.std.specs.Prelude.{◌≡◌, Ok, Some, IfOk, IsOkAnd};
+ghost use Rattle.std.specs.Prelude.{◌≡◌, IfOk, IsOkAnd};
 ghost use Rattle.std.specs.Result.{result_err};
 ghost use Rattle.dt_layout.specs.Spelling.{DeltagramValue, Gram, gram_of};
 ghost use Rattle.dt_layout.specs.Reading.{Reads, gram_fault, gram_read};
@@ -49,4 +49,25 @@ fn read(bytes: &[u8]) -> Result<Deltagram<'_>, LayoutFault>
         to: four_at(bytes, 12),
         body,
     })
+}
+
+/// The Deltagram that the octets spell, with its body lent, or the first fault in this order:
+///
+/// 1. `Short { len }`: there are only `len` octets, fewer than 16.
+/// 2. `Version { octet }`: octet 0 isn't 1.
+/// 3. `Length { told, there }`: octets 2 and 3 tell `told`, which isn't the number `there` of
+///    octets after octet 15, or `there` is more than 1,038.
+/// 4. `Dead`: the life, octets 4 to 7, is 0.
+///
+/// It copies nothing, and its cost doesn't depend on the body.
+pub fn read_deltagram(bytes: &[u8]) -> Result<Deltagram<'_>, LayoutFault>
+    // The octets spell what is read.
+    ensures found { IfOk result (λ d. Gram bytes.now (gram_of d)) }
+    // What the octets spell is read.
+    ensures only { (v : DeltagramValue) → Gram bytes.now v → IsOkAnd result (λ d. gram_of d ≡ v) }
+    // The fault is that of the first test that fails.
+    ensures fault { result_err result ≡ gram_fault bytes.now }
+    ensures exact { Reads gram_of result (gram_read bytes.now) }
+{
+    read(bytes)
 }

@@ -9,7 +9,7 @@ mod kinds;
 pub mod limits;
 mod packets;
 
-pub use deltagrams::Deltagram;
+pub use deltagrams::{Deltagram, read_deltagram};
 pub use faults::LayoutFault;
 pub use frames::Frame;
 pub use packets::Packet;
