@@ -94,7 +94,7 @@ gram_is_read bytes d g =
     let again : gram_read (gram_spelling d) ≡ Ok d = rw (gram_fault-spelling d g.fits) (ap Ok (gram_in-spelling d g.fits)) in
     ap gram_read g.spelled ∙ again
 
-same_ok : {A : Type 0} (x y : A) (r : Result A LayoutFault) → r ≡ Ok x → r ≡ Ok y → x ≡ y
+pub same_ok : {A : Type 0} (x y : A) (r : Result A LayoutFault) → r ≡ Ok x → r ≡ Ok y → x ≡ y
 same_ok x y r p q = cc
 
 pub one_deltagram : (bytes : List ℕ) (d e : DeltagramValue) → Gram bytes d → Gram bytes e → d ≡ e
@@ -109,7 +109,7 @@ pub gram_only : (bytes : List ℕ) (r : Result Deltagram LayoutFault) → Reads 
 gram_only bytes (Ok d) h v g = same_ok (gram_of d) v (gram_read bytes) h (gram_is_read bytes v g)
 gram_only bytes (Err f) h v g = let e = gram_is_read bytes v g in absurd cc
 
-fault_read : {A : Type 0} (o : Option LayoutFault) (x : A) (f : LayoutFault) → value_unless o x ≡ Err f → o ≡ Some f
+pub fault_read : {A : Type 0} (o : Option LayoutFault) (x : A) (f : LayoutFault) → value_unless o x ≡ Err f → o ≡ Some f
 fault_read None x f h = absurd cc
 fault_read (Some g) x f h = cc
 

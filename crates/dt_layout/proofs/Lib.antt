@@ -1,3 +1,4 @@
 pub mod KindLemmas
 pub mod Octets
 pub mod GramLemmas
+pub mod PackLemmas

@@ -81,31 +81,35 @@ rule_tests kind flags window count number =
     ∷ (number_fits kind number count, fault.Number number)
     ∷ []
 
-abbrev pub packet_tests : (protocol : ℕ) → List ℕ → List Test
-packet_tests protocol body =
+abbrev pub body_tests : List ℕ → List Test
+body_tests body =
     let kind = octet_at 0 body in
     let count = length (drop PACKET_HEADER body) in
-    (protocol == PROTOCOL, fault.Protocol protocol)
-    ∷ (nat_le PACKET_HEADER (length body), fault.Short (length body))
+    (nat_le PACKET_HEADER (length body), fault.Short (length body))
     ∷ (is_kind kind, fault.Kind kind)
     ∷ rule_tests kind (octet_at 1 body) (four_at 10 body) count (four_at 6 body)
 
+abbrev pub packet_tests : DeltagramValue → List Test
+packet_tests d = (d.protocol == PROTOCOL, fault.Protocol d.protocol) ∷ body_tests d.body
+
 unfoldable pub packet_fault : DeltagramValue → Option LayoutFault
-packet_fault d = first_fault (packet_tests d.protocol d.body)
+packet_fault d = first_fault (packet_tests d)
 
 abbrev pub is_set : (bit flags : ℕ) → Bool
 is_set bit flags = not (bit_and flags bit == 0)
 
+-- a packet by its octet of the kind, its fields and its data
+abbrev pub packet_with : (kind flags from_port to_port number window : ℕ) → List ℕ → PacketValue
+packet_with kind flags from_port to_port number window octets =
+    if kind == DATA then Data from_port to_port number (is_set DRF flags) (is_set BEGIN flags) (is_set END flags) octets
+    else (if kind == ACK then Ack from_port to_port number window else Meet from_port to_port number)
+
 -- what stands in the octets of a packet
 unfoldable pub packet_in : List ℕ → PacketValue
-packet_in body =
-    let kind = octet_at 0 body in
-    let flags = octet_at 1 body in
-    let from_port = two_at 2 body in
-    let to_port = two_at 4 body in
-    let number = four_at 6 body in
-    if kind == DATA then Data from_port to_port number (is_set DRF flags) (is_set BEGIN flags) (is_set END flags) (drop PACKET_HEADER body)
-    else (if kind == ACK then Ack from_port to_port number (four_at 10 body) else Meet from_port to_port number)
+packet_in body = packet_with (octet_at 0 body) (octet_at 1 body) (two_at 2 body) (two_at 4 body) (four_at 6 body) (four_at 10 body) (drop PACKET_HEADER body)
+
+abbrev pub body_read : List ℕ → Result PacketValue LayoutFault
+body_read body = value_unless (first_fault (body_tests body)) (packet_in body)
 
 -- A packet is read, or refused by its first fault.
 abbrev pub packet_read : DeltagramValue → Result PacketValue LayoutFault

@@ -89,6 +89,11 @@ pub record Pack (body : List ℕ) (p : PacketValue) : Type 0 where
   pub rules : KeepsRules p
   pub spelled : body ≡ packet_spelling p
 
--- The Deltagram that carries a packet.
+-- The Deltagram's protocol is that of packets, and its body spells this one.
+pub record Carries (d : DeltagramValue) (p : PacketValue) : Type 0 where
+  pub protocol : d.protocol ≡ PROTOCOL
+  pub pack : Pack d.body p
+
+-- the Deltagram that carries a packet
 abbrev pub carrying : (life from to : ℕ) → PacketValue → DeltagramValue
 carrying life from to p = record { protocol = PROTOCOL; life = life; from = from; to = to; body = packet_spelling p }

@@ -12,4 +12,4 @@ mod packets;
 pub use deltagrams::{Deltagram, read_deltagram};
 pub use faults::LayoutFault;
 pub use frames::Frame;
-pub use packets::Packet;
+pub use packets::{Packet, read_packet};

@@ -1,8 +1,8 @@
-ghost use Rattle.std.specs.Prelude.{◌≡◌, ◌≤◌, length};
+ghost use Rattle.std.specs.Prelude.{◌≡◌, ◌≤◌, length, IfOk, IsOkAnd};
 ghost use Rattle.std.specs.Result.{result_err};
-ghost use Rattle.dt_layout.specs.Spelling.{gram_of, packet_of};
+ghost use Rattle.dt_layout.specs.Spelling.{PacketValue, Pack, Carries, gram_of, packet_of};
 ghost use Rattle.dt_layout.specs.Kinds.{code_of, header_in, packet_by};
-ghost use Rattle.dt_layout.specs.Reading.{Reads, packet_read, first_fault, rule_tests};
+ghost use Rattle.dt_layout.specs.Reading.{Reads, body_read, packet_fault, packet_read, first_fault, rule_tests};
 
 use crate::deltagrams::Deltagram;
 use crate::faults::LayoutFault;
@@ -127,14 +127,12 @@ impl Header {
     }
 }
 
-#[tactic(auto, unfolding(crate::specs::Reading::packet_fault, crate::specs::Reading::packet_in))]
-fn read<'a>(d: &Deltagram<'a>) -> Result<Packet<'a>, LayoutFault>
-    ensures { Reads packet_of result (packet_read (gram_of d.now)) }
+/// The packet that the body of a Deltagram of the protocol of packets spells.
+#[tactic(auto, unfolding(crate::specs::Reading::packet_in))]
+fn read_body(body: &[u8]) -> Result<Packet<'_>, LayoutFault>
+    ensures found { IfOk result (λ p. Pack body.now (packet_of p)) }
+    ensures exact { Reads packet_of result (body_read body.now) }
 {
-    if d.protocol != PROTOCOL {
-        return Err(LayoutFault::Protocol { octet: d.protocol });
-    }
-    let body = d.body;
     if body.len() < PACKET_HEADER {
         return Err(LayoutFault::Short { len: body.len() });
     }
@@ -145,4 +143,32 @@ fn read<'a>(d: &Deltagram<'a>) -> Result<Packet<'a>, LayoutFault>
     let header = Header::read(body);
     header.check(kind, octets.len())?;
     Ok(header.packet(kind, octets))
+}
+
+/// The packet that a Deltagram carries, with its data lent, or the first fault in this order:
+///
+/// 1. `Protocol { octet }`: the Deltagram's protocol isn't 1.
+/// 2. `Short { len }`: the body has only `len` octets, fewer than 14.
+/// 3. `Kind { octet }`: octet 0 of the body isn't 1, 2 or 3.
+/// 4. `Flags { octet }`: octet 1 is more than 7 for data, or isn't 0 for another kind.
+/// 5. `Window { value }`: it is more than 65,536 for an acknowledgement, or isn't 0 for another
+///    kind.
+/// 6. `Size { len }`: the count of octets after the 14 isn't 1 to 1,024 for data, or isn't 0 for
+///    another kind.
+/// 7. `Number { value }`: the number, for data with the count of octets, is more than 2^31.
+///
+/// It copies nothing, and its cost doesn't depend on the data.
+pub fn read_packet<'a>(d: &Deltagram<'a>) -> Result<Packet<'a>, LayoutFault>
+    // The Deltagram carries what is read.
+    ensures found { IfOk result (λ p. Carries (gram_of d.now) (packet_of p)) }
+    // What the Deltagram carries is read.
+    ensures only { (v : PacketValue) → Carries (gram_of d.now) v → IsOkAnd result (λ p. packet_of p ≡ v) }
+    // The fault is that of the first test that fails.
+    ensures fault { result_err result ≡ packet_fault (gram_of d.now) }
+    ensures exact { Reads packet_of result (packet_read (gram_of d.now)) }
+{
+    if d.protocol != PROTOCOL {
+        return Err(LayoutFault::Protocol { octet: d.protocol });
+    }
+    read_body(d.body)
 }
