@@ -9,7 +9,7 @@ use Rattle.dt_layout.specs.declared.kinds.Kind.{Kind}
 use Rattle.dt_layout.specs.declared.kinds.Kind.TheVariants as kind
 use Rattle.dt_layout.specs.Spelling.{PacketValue}
 use Rattle.dt_layout.specs.Kinds.{code_of, kind_at, header_in, packet_by}
-use Rattle.dt_layout.specs.declared.packets.Header.{Header}
+use Rattle.dt_layout.specs.declared.headers.Header.{Header}
 use Rattle.dt_layout.specs.Reading.{first_fault, value_unless, rule_tests, body_tests, packet_in, body_read, octet_at, two_at, four_at}
 
 chosen : (a b c : Bool) (k : Kind) (P : Kind → Type 0) → (a ≡ true → P kind.Data) → (b ≡ true → P kind.Ack) → (c ≡ true → P kind.Meet)

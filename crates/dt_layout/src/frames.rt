@@ -1,4 +1,9 @@
+ghost use Rattle.std.specs.Prelude.{◌≡◌, ◌+◌, ◌<◌, ◌≤◌, ◌↔◌, length, [], ◌++◌, IfSome, IsNone};
+ghost use Rattle.dt_layout.specs.Carried.{IsGram, life_of, lowered};
+
+use crate::fields::four_at;
 use crate::limits::MOST_FRAME;
+use byteorder::{BigEndian, ByteOrder};
 use std::marker::Model;
 
 /// At most 1,054 octets, held in place. A contract sees them as a list.
@@ -19,8 +24,6 @@ impl Model for Frame {
 }
 
 impl Frame {
-    ghost use Rattle.std.specs.Prelude.{◌≡◌, []};
-
     /// No octets.
     pub fn new() -> Frame
         ensures { result ≡ [] }
@@ -29,5 +32,54 @@ impl Frame {
             octets: [0; MOST_FRAME],
             len: 0,
         }
+    }
+
+    /// A frame of these octets, or none where there are more than 1,054. It copies them.
+    pub fn from_bytes(bytes: &[u8]) -> Option<Frame>
+        ensures same { IfSome result (λ frame. frame ≡ bytes.now) }
+        ensures too_long { IsNone result ↔ (MOST_FRAME < length bytes.now) }
+    {
+        if bytes.len() > MOST_FRAME {
+            return None;
+        }
+        let mut frame = Frame::new();
+        frame.append(bytes);
+        Some(frame)
+    }
+
+    /// The octets. There are at most 1,054.
+    pub fn as_slice(&self) -> &[u8]
+        ensures same { result.now ≡ self.now }
+        ensures within { length self.now ≤ MOST_FRAME }
+    {
+        &self.octets[..self.len]
+    }
+
+    /// Lets all octets go.
+    pub(crate) fn clear(&mut self)
+        ensures { self.new ≡ [] }
+    {
+        self.len = 0;
+    }
+
+    /// Writes these octets after those that are there.
+    pub(crate) fn append(&mut self, octets: &[u8])
+        requires { length self.old + length octets.now ≤ MOST_FRAME }
+        ensures { self.new ≡ self.old ++ octets.now }
+    {
+        let end = self.len + octets.len();
+        self.octets[self.len..end].copy_from_slice(octets);
+        self.len = end;
+    }
+
+    /// Makes the life less by so many milliseconds, and changes nothing else. The frame must read
+    /// as a Deltagram with a life above that.
+    pub fn lower(&mut self, by: u32)
+        requires gram { IsGram self.old }
+        requires below { by < life_of self.old }
+        ensures { self.new ≡ lowered by self.old }
+    {
+        let life = four_at(&self.octets, 4) - by;
+        BigEndian::write_u32(&mut self.octets[4..8], life);
     }
 }

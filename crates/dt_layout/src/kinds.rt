@@ -26,6 +26,17 @@ impl Kind {
         }
     }
 
+    /// The octet of this kind.
+    pub fn octet(self) -> u8
+        ensures { result ≡ code_of self }
+    {
+        match self {
+            Kind::Data => DATA,
+            Kind::Ack => ACK,
+            Kind::Meet => MEET,
+        }
+    }
+
     /// Whether only bits are set that this kind allows.
     pub fn allows_flags(self, flags: u8) -> bool
         ensures { result ≡ flags_fit (code_of self) flags }

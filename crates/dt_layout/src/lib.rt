@@ -5,6 +5,7 @@ mod deltagrams;
 mod faults;
 mod fields;
 mod frames;
+mod headers;
 mod kinds;
 pub mod limits;
 mod packets;

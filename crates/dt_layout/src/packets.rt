@@ -1,14 +1,13 @@
-ghost use Rattle.std.specs.Prelude.{◌≡◌, ◌≤◌, length, IfOk, IsOkAnd};
+ghost use Rattle.std.specs.Prelude.{◌≡◌, IfOk, IsOkAnd};
 ghost use Rattle.std.specs.Result.{result_err};
 ghost use Rattle.dt_layout.specs.Spelling.{PacketValue, Pack, Carries, gram_of, packet_of};
-ghost use Rattle.dt_layout.specs.Kinds.{code_of, header_in, packet_by};
-ghost use Rattle.dt_layout.specs.Reading.{Reads, body_read, packet_fault, packet_read, first_fault, rule_tests};
+ghost use Rattle.dt_layout.specs.Reading.{Reads, body_read, packet_fault, packet_read};
 
 use crate::deltagrams::Deltagram;
 use crate::faults::LayoutFault;
-use crate::fields::{four_at, two_at};
+use crate::headers::Header;
 use crate::kinds::Kind;
-use crate::limits::{BEGIN, DRF, END, MOST_NUMBER, PACKET_HEADER, PROTOCOL};
+use crate::limits::{PACKET_HEADER, PROTOCOL};
 
 /// What a Deltagram of the protocol of packets carries. Data is lent.
 #[derive(Clone, Copy, Debug, PartialEq, Eq)]
@@ -45,86 +44,6 @@ pub enum Packet<'a> {
         /// The sequence number of the next octet of the sender, at most 2^31.
         number: u32,
     },
-}
-
-/// The fields of a packet before its data, but for the kind.
-#[derive(Clone, Copy)]
-struct Header {
-    flags: u8,
-    from_port: u16,
-    to_port: u16,
-    number: u32,
-    window: u32,
-}
-
-impl Header {
-    /// The fields that stand in the body of a Deltagram.
-    fn read(body: &[u8]) -> Header
-        requires { PACKET_HEADER ≤ length body.now }
-        ensures { result ≡ header_in body.now }
-    {
-        Header {
-            flags: body[1],
-            from_port: two_at(body, 2),
-            to_port: two_at(body, 4),
-            number: four_at(body, 6),
-            window: four_at(body, 10),
-        }
-    }
-
-    /// Whether the fields keep the rules of a kind, with so many octets of data after them.
-    fn check(&self, kind: Kind, count: usize) -> Result<(), LayoutFault>
-        ensures { result_err result ≡ first_fault (rule_tests (code_of kind) self.now.flags self.now.window count self.now.number) }
-    {
-        if !kind.allows_flags(self.flags) {
-            return Err(LayoutFault::Flags { octet: self.flags });
-        }
-        if !kind.allows_window(self.window) {
-            return Err(LayoutFault::Window { value: self.window });
-        }
-        if !kind.allows_size(count) {
-            return Err(LayoutFault::Size { len: count });
-        }
-        if !kind.allows_number(self.number, count) {
-            return Err(LayoutFault::Number { value: self.number });
-        }
-        Ok(())
-    }
-
-    /// The packet of a kind with these fields and this data.
-    fn packet<'a>(&self, kind: Kind, octets: &'a [u8]) -> Packet<'a>
-        ensures { packet_of result ≡ packet_by kind self.now octets.now }
-    {
-        let Header {
-            from_port,
-            to_port,
-            number,
-            window,
-            ..
-        } = *self;
-        match kind {
-            Kind::Data => Packet::Data {
-                from_port,
-                to_port,
-                number,
-                drf: self.flags & DRF != 0,
-                begin: self.flags & BEGIN != 0,
-                end: self.flags & END != 0,
-                octets,
-            },
-            Kind::Ack => Packet::Ack {
-                from_port,
-                to_port,
-                number,
-                window,
-            },
-            Kind::Meet => Packet::Meet {
-                from_port,
-                to_port,
-                number,
-            },
-        }
-    }
 }
 
 /// The packet that the body of a Deltagram of the protocol of packets spells.
