@@ -36,8 +36,12 @@ pub record IsDeltagram (d : DeltagramValue) : Type 0 where
   pub to : d.to < 2 ^ 32
   pub body : length d.body ≤ MOST_BODY
 
+-- the octets of a Deltagram before its body
+abbrev pub gram_header : (protocol count life from to : ℕ) → List ℕ
+gram_header protocol count life from to = VERSION ∷ protocol ∷ two count ++ four life ++ four from ++ four to
+
 unfoldable pub gram_spelling : DeltagramValue → List ℕ
-gram_spelling d = VERSION ∷ d.protocol ∷ two (length d.body) ++ four d.life ++ four d.from ++ four d.to ++ d.body
+gram_spelling d = gram_header d.protocol (length d.body) d.life d.from d.to ++ d.body
 
 -- These octets spell this Deltagram.
 pub record Gram (bytes : List ℕ) (d : DeltagramValue) : Type 0 where

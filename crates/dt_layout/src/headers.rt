@@ -124,6 +124,7 @@ fn flags(drf: bool, begin: bool, end: bool) -> u8
 }
 
 /// The kind of a packet, its fields and its data.
+#[tactic(auto, unfolding(crate::specs::Spelling::packet_spelling))]
 pub fn parts<'a>(packet: &Packet<'a>) -> (Kind, Header, &'a [u8])
     ensures { packet_spelling (packet_of packet.now) ≡ header_spelling result.0 result.1 ++ result.2.now }
 {

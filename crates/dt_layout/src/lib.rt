@@ -9,8 +9,10 @@ mod headers;
 mod kinds;
 pub mod limits;
 mod packets;
+mod writing;
 
 pub use deltagrams::{Deltagram, read_deltagram};
 pub use faults::LayoutFault;
 pub use frames::Frame;
 pub use packets::{Packet, read_packet};
+pub use writing::write_frame;
