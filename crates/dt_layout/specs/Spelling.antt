@@ -68,11 +68,19 @@ KeepsRules (Data from_port to_port number drf begin end octets) = (1 ≤ length 
 KeepsRules (Ack from_port to_port number window) = (number ≤ MOST_NUMBER) × (window ≤ MOST_WINDOW)
 KeepsRules (Meet from_port to_port number) = number ≤ MOST_NUMBER
 
+abbrev pub from_port_of : PacketValue → ℕ
+from_port_of (Data from_port to_port number drf begin end octets) = from_port
+from_port_of (Ack from_port to_port number window) = from_port
+from_port_of (Meet from_port to_port number) = from_port
+
+abbrev pub to_port_of : PacketValue → ℕ
+to_port_of (Data from_port to_port number drf begin end octets) = to_port
+to_port_of (Ack from_port to_port number window) = to_port
+to_port_of (Meet from_port to_port number) = to_port
+
 -- The ports are numbers of 16 bits.
 abbrev pub HasPorts : PacketValue → Type 0
-HasPorts (Data from_port to_port number drf begin end octets) = (from_port < 2 ^ 16) × (to_port < 2 ^ 16)
-HasPorts (Ack from_port to_port number window) = (from_port < 2 ^ 16) × (to_port < 2 ^ 16)
-HasPorts (Meet from_port to_port number) = (from_port < 2 ^ 16) × (to_port < 2 ^ 16)
+HasPorts p = (from_port_of p < 2 ^ 16) × (to_port_of p < 2 ^ 16)
 
 -- The flags of data: the data-run flag has the value 1, begin 2, end 4.
 abbrev pub flags_of : Bool → Bool → Bool → ℕ
@@ -86,6 +94,12 @@ unfoldable pub packet_spelling : PacketValue → List ℕ
 packet_spelling (Data from_port to_port number drf begin end octets) = packet_header DATA (flags_of drf begin end) from_port to_port number 0 ++ octets
 packet_spelling (Ack from_port to_port number window) = packet_header ACK 0 from_port to_port number window
 packet_spelling (Meet from_port to_port number) = packet_header MEET 0 from_port to_port number 0
+
+-- the data of a packet
+abbrev pub data_of : PacketValue → List ℕ
+data_of (Data from_port to_port number drf begin end octets) = octets
+data_of (Ack from_port to_port number window) = []
+data_of (Meet from_port to_port number) = []
 
 -- These octets, the body of a Deltagram, spell this packet.
 pub record Pack (body : List ℕ) (p : PacketValue) : Type 0 where

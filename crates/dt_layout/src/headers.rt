@@ -1,7 +1,7 @@
 //! The fields that stand before a packet's data, read and written.
 ghost use Rattle.std.specs.Prelude.{◌≡◌, ◌≤◌, length, ◌++◌, if◌then◌else◌};
 ghost use Rattle.std.specs.Result.{result_err};
-ghost use Rattle.dt_layout.specs.Spelling.{flags_of, packet_header, packet_of, packet_spelling};
+ghost use Rattle.dt_layout.specs.Spelling.{data_of, flags_of, from_port_of, to_port_of, packet_of, packet_spelling};
 ghost use Rattle.dt_layout.specs.Kinds.{code_of, header_in, packet_by, header_spelling};
 ghost use Rattle.dt_layout.specs.Reading.{first_fault, rule_tests};
 
@@ -126,7 +126,10 @@ fn flags(drf: bool, begin: bool, end: bool) -> u8
 /// The kind of a packet, its fields and its data.
 #[tactic(auto, unfolding(crate::specs::Spelling::packet_spelling))]
 pub fn parts<'a>(packet: &Packet<'a>) -> (Kind, Header, &'a [u8])
-    ensures { packet_spelling (packet_of packet.now) ≡ header_spelling result.0 result.1 ++ result.2.now }
+    ensures spelled { packet_spelling (packet_of packet.now) ≡ header_spelling result.0 result.1 ++ result.2.now }
+    ensures data { result.2.now ≡ data_of (packet_of packet.now) }
+    ensures from_port { result.1.from_port ≡ from_port_of (packet_of packet.now) }
+    ensures to_port { result.1.to_port ≡ to_port_of (packet_of packet.now) }
 {
     match *packet {
         Packet::Data {
