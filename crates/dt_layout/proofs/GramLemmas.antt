@@ -42,10 +42,6 @@ passes bytes h =
     let both = and_parts _ _ c.0 in
     record { long = leb-true _ _ a.0; version = eqb-true _ _ b.0; told = eqb-true _ _ both.0; body = leb-true _ _ both.1; alive = leb-true _ _ d.0 }
 
--- a Deltagram has its header
-pub gram_long : (bytes : List ℕ) → gram_fault bytes ≡ None → HEADER ≤ length bytes
-gram_long bytes h = (passes bytes h).long
-
 -- octets that pass the tests spell what stands in them
 pub gram_stands : (bytes : List ℕ) → AreOctets bytes → gram_fault bytes ≡ None → Gram bytes (gram_in bytes)
 unfolding gram_in gram_spelling

@@ -14,6 +14,10 @@ length-packet_spelling (Data from to number drf begin end octets) = omega arith
 length-packet_spelling (Ack from to number window) = refl
 length-packet_spelling (Meet from to number) = refl
 
+-- two appends after a clear
+pub joined : (cleared one both a b x y : List ℕ) → cleared ≡ [] → one ≡ cleared ++ a → a ≡ x → both ≡ one ++ b → b ≡ y → both ≡ x ++ y
+joined cleared one both a b x y e o p t q = t ∙ ap (λ (xs : List ℕ). xs ++ b) (o ∙ ap (λ (xs : List ℕ). xs ++ a) e ∙ p) ∙ ap (λ (ys : List ℕ). x ++ ys) q
+
 pub written : (p : PacketValue) (life from to count : ℕ) (fields octets : List ℕ) → packet_spelling p ≡ fields ++ octets → octets ≡ data_of p → count ≡ PACKET_HEADER + length octets
     → (gram_header PROTOCOL count life from to ++ fields) ++ octets ≡ gram_spelling (carrying life from to p)
 unfolding gram_spelling

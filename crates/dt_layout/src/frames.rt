@@ -1,5 +1,7 @@
 ghost use Rattle.std.specs.Prelude.{◌≡◌, ◌+◌, ◌<◌, ◌≤◌, ◌↔◌, length, [], ◌++◌, IfSome, IsNone};
-ghost use Rattle.dt_layout.specs.Carried.{IsGram, life_of, lowered};
+ghost use Rattle.dt_layout.specs.Spelling.{Gram};
+ghost use Rattle.dt_layout.specs.Reading.{gram_in};
+ghost use Rattle.dt_layout.specs.Carried.{IsGram, life_of, lowered, with_less_life};
 
 use crate::fields::four_at;
 use crate::limits::MOST_FRAME;
@@ -72,12 +74,14 @@ impl Frame {
         self.len = end;
     }
 
-    /// Makes the life less by so many milliseconds, and changes nothing else. The frame must read
-    /// as a Deltagram with a life above that.
+    /// Makes the life less by so many milliseconds, and changes no other octet. The frame must
+    /// read as a Deltagram with a life above that, and then reads as the same Deltagram with the
+    /// lesser life.
     pub fn lower(&mut self, by: u32)
         requires gram { IsGram self.old }
         requires below { by < life_of self.old }
-        ensures { self.new ≡ lowered by self.old }
+        ensures life_alone { self.new ≡ lowered by self.old }
+        ensures reads { Gram self.new (with_less_life by (gram_in self.old)) }
     {
         let life = four_at(&self.octets, 4) - by;
         BigEndian::write_u32(&mut self.octets[4..8], life);
