@@ -8,9 +8,9 @@ use Rattle.std.specs.Result.{result_err}
 use Rattle.dt_layout.specs.declared.deltagrams.Deltagram.{Deltagram}
 use Rattle.dt_layout.specs.declared.limits.TheConstants.{HEADER, VERSION, MOST_BODY}
 use Rattle.dt_layout.specs.declared.faults.LayoutFault.{LayoutFault}
-use Rattle.dt_layout.specs.Spelling.{DeltagramValue, IsDeltagram, Gram, gram_of, gram_spelling, two, four}
+use Rattle.dt_layout.specs.Spelling.{AreOctets, DeltagramValue, IsDeltagram, Gram, gram_of, gram_spelling, two, four}
 use Rattle.dt_layout.specs.Reading.{Test, first_fault, value_unless, gram_tests, gram_fault, gram_in, gram_read, Reads, octet_at, two_at, four_at}
-use Rattle.dt_layout.proofs.Octets.{AreOctets, two-two_at, four-four_at, four_at-fits, by_octets}
+use Rattle.dt_layout.proofs.Octets.{two-two_at, four-four_at, four_at-fits, by_octets}
 
 -- where no test fails, the first holds, and none of the rest fails
 pub first_holds : (b : Bool) (f : LayoutFault) (rest : Option LayoutFault) → cond b rest (Some f) ≡ None → (b ≡ true) × (rest ≡ None)
@@ -116,3 +116,7 @@ fault_read (Some g) x f h = cc
 pub gram_faults : (bytes : List ℕ) (r : Result Deltagram LayoutFault) → Reads gram_of r (gram_read bytes) → result_err r ≡ gram_fault bytes
 gram_faults bytes (Ok d) h = sym (ok_unless (gram_fault bytes) (gram_in bytes) (gram_of d) h).0
 gram_faults bytes (Err f) h = sym (fault_read (gram_fault bytes) (gram_in bytes) f h)
+
+pub refused : {A : Type 0} (o : Option LayoutFault) (x y : A) (f : LayoutFault) → o ≡ Some f → value_unless o x ≡ Ok y → ⊥
+refused None x y f h k = absurd cc
+refused (Some g) x y f h k = absurd cc

@@ -2,11 +2,8 @@
 use Rattle.std.proofs.Common.{◌≡◌, ℕ, zero, suc, ◌+◌, ◌^◌, ◌<◌, ◌≤◌, List, [], ◌∷◌, ◌++◌, length, get_or, drop, refl, sym, ap, ◌∙◌, arith, add-suc, add-zero, drop-cons}
 use Rattle.std.specs.Int.{w16, w32, from_be_bytes, to_be_bytes}
 use Rattle.std.proofs.lemmas.Nat.{be_bytes_2, be_bytes_4}
-use Rattle.dt_layout.specs.Spelling.{two, four}
+use Rattle.dt_layout.specs.Spelling.{AreOctets, two, four}
 use Rattle.dt_layout.specs.Reading.{octet_at, two_at, four_at}
-
-abbrev pub AreOctets : List ℕ → Type 0
-AreOctets bytes = (i : ℕ) → get_or bytes i 0 < 256
 
 past_two : (a b : ℕ) → a < 256 → b < 256 → AreOctets (a ∷ b ∷ [])
 past_two a b p q zero = p

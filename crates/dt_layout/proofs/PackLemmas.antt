@@ -10,9 +10,9 @@ use Rattle.dt_layout.specs.declared.limits.TheConstants.{PACKET_HEADER, PROTOCOL
 use Rattle.dt_layout.specs.declared.faults.LayoutFault.{LayoutFault}
 use Rattle.dt_layout.specs.declared.faults.LayoutFault.TheVariants as fault
 use Rattle.dt_layout.specs.declared.packets.Packet.{Packet}
-use Rattle.dt_layout.specs.Spelling.{DeltagramValue, PacketValue, Data, Ack, Meet, Pack, Carries, HasPorts, KeepsRules, flags_of, packet_header, packet_spelling, packet_of, two, four}
+use Rattle.dt_layout.specs.Spelling.{AreOctets, DeltagramValue, PacketValue, Data, Ack, Meet, Pack, Carries, HasPorts, KeepsRules, flags_of, packet_header, packet_spelling, packet_of, two, four}
 use Rattle.dt_layout.specs.Reading.{Test, first_fault, value_unless, body_tests, packet_fault, packet_with, packet_in, body_read, packet_read, Reads, octet_at, two_at, four_at, is_kind, is_set, flags_fit, window_fits, size_fits, number_fits}
-use Rattle.dt_layout.proofs.Octets.{AreOctets, two-two_at, four-four_at, two_at-fits, four_at-fits, by_octets}
+use Rattle.dt_layout.proofs.Octets.{two-two_at, four-four_at, two_at-fits, four_at-fits, by_octets}
 use Rattle.dt_layout.proofs.GramLemmas.{first_holds, ok_unless, same_ok, fault_read}
 
 -- ---- flags
@@ -229,3 +229,9 @@ packet_faults d (Err f) h = sym (fault_read (packet_fault d) (packet_in d.body) 
 
 pub reads_packets : (d : DeltagramValue) (r : Result Packet LayoutFault) → d.protocol ≡ PROTOCOL → Reads packet_of r (body_read d.body) → Reads packet_of r (packet_read d)
 reads_packets d r p h = subst (λ (x : Result PacketValue LayoutFault). Reads packet_of r x) (sym (of_packets d p)) h
+
+pub packet_stands : (d : DeltagramValue) → AreOctets d.body → packet_fault d ≡ None → Carries d (packet_in d.body)
+unfolding packet_fault
+packet_stands d octets h =
+    let a = first_holds (eqb d.protocol PROTOCOL) _ _ h in
+    record { protocol = eqb-true _ _ a.0; pack = pack_stands d.body octets a.1 }

@@ -1,11 +1,15 @@
 -- The wire layout: what a Deltagram and a packet are, and the one list of octets that spells each.
 -- A spelling is the fields, one after another. All numbers are big-endian.
-use Rattle.std.specs.Prelude.{◌≡◌, ℕ, ◌+◌, ◌≤◌, ◌<◌, ◌^◌, Bool, if◌then◌else◌, List, [], ◌∷◌, ◌++◌, length}
+use Rattle.std.specs.Prelude.{◌≡◌, ℕ, ◌+◌, ◌≤◌, ◌<◌, ◌^◌, Bool, if◌then◌else◌, List, [], ◌∷◌, ◌++◌, length, slice_index}
 use Rattle.std.specs.Int.{w16, w32, to_be_bytes}
 use Rattle.dt_layout.specs.declared.limits.TheConstants.{VERSION, PROTOCOL, MOST_BODY, MOST_DATA, MOST_NUMBER, MOST_WINDOW, DATA, ACK, MEET, DRF, BEGIN, END}
 use Rattle.dt_layout.specs.declared.deltagrams.Deltagram.{Deltagram}
 use Rattle.dt_layout.specs.declared.packets.Packet.{Packet}
 use Rattle.dt_layout.specs.declared.packets.Packet.TheVariants as lent
+
+-- Octets are numbers below 256.
+abbrev pub AreOctets : List ℕ → Type 0
+AreOctets bytes = (i : ℕ) → slice_index bytes i < 256
 
 -- a number in two octets, and in four
 abbrev pub two : ℕ → List ℕ

@@ -7,6 +7,7 @@ mod fields;
 mod frames;
 mod headers;
 mod kinds;
+pub mod laws;
 pub mod limits;
 mod packets;
 mod writing;
