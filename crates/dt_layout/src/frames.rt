@@ -6,10 +6,12 @@ ghost use Rattle.dt_layout.specs.Carried.{IsGram, life_of, lowered, with_less_li
 use crate::fields::four_at;
 use crate::limits::MOST_FRAME;
 use byteorder::{BigEndian, ByteOrder};
+use std::fmt;
+use std::fmt::{Debug, Formatter};
 use std::marker::Model;
 
 /// At most 1,054 octets, held in place. A contract sees them as a list.
-#[derive(Clone, Debug, Drop)]
+#[derive(Clone, Drop)]
 pub struct Frame {
     octets: [u8; MOST_FRAME],
     len: usize,
@@ -23,6 +25,34 @@ impl Model for Frame {
     ghost view = { λ f. take f.len f.octets };
 
     ghost invariant = { λ f. f.len ≤ 1054 };
+}
+
+/// Two frames are equal where they hold the same octets.
+impl PartialEq for Frame {
+    ghost use Rattle.std.specs.Prelude.{bytes_eq};
+    ghost use Rattle.std.specs.Cmp.{partial_equiv_from_equiv};
+    ghost use Rattle.std.specs.Cmp.Lexicographic.{nat_list_eq_equiv};
+
+    ghost eq = { λ a b. bytes_eq a b };
+
+    ghost laws = { partial_equiv_from_equiv nat_list_eq_equiv };
+
+    fn eq(&self, other: &Frame) -> bool {
+        self.as_slice() == other.as_slice()
+    }
+}
+
+impl Eq for Frame {
+    ghost use Rattle.std.specs.Cmp.Lexicographic.{nat_list_eq_equiv};
+
+    ghost laws = { nat_list_eq_equiv };
+}
+
+/// The octets alone are shown.
+impl Debug for Frame {
+    fn fmt<W: fmt::Write>(&self, f: &mut Formatter<W>) -> fmt::Result {
+        self.as_slice().fmt(f)
+    }
 }
 
 impl Frame {
