@@ -1,11 +1,14 @@
 -- What is seen of octets that are carried: the life, where they go, and what lowering leaves.
-use Rattle.std.proofs.Common.{◌≡◌, ℕ, suc, ◌+◌, ◌-◌, ◌^◌, ◌<◌, ◌≤◌, List, [], ◌∷◌, ◌++◌, length, take, drop, None, refl, sym, ap, subst, ◌∙◌, arith}
+use Rattle.std.proofs.Common.{◌≡◌, ℕ, suc, ◌-◌, ◌<◌, ◌≤◌, List, [], ◌∷◌, ◌++◌, length, take, drop, Result, Ok, Err, refl, sym, ap, subst, ◌∙◌, arith}
 use Rattle.std.proofs.lemmas.List.{get_or-take, length-append, length-drop, length-take}
 use Rattle.std.proofs.Math.ListN.{drop_of_length-le}
 use borrow.Rule.Slice.PartMut.{put_mid, mid_of}
-use Rattle.dt_layout.specs.Spelling.{DeltagramValue, IsDeltagram, Gram, gram_header, gram_spelling, four}
+use Rattle.std.specs.Prelude.{IfOk}
+use Rattle.dt_layout.specs.declared.deltagrams.Deltagram.{Deltagram}
+use Rattle.dt_layout.specs.declared.faults.LayoutFault.{LayoutFault}
+use Rattle.dt_layout.specs.Spelling.{DeltagramValue, gram_of, Gram, gram_header, gram_spelling, four}
 use Rattle.dt_layout.specs.Reading.{octet_at, four_at, gram_in}
-use Rattle.dt_layout.specs.Carried.{IsGram, life_of, to_of, lowered, with_less_life}
+use Rattle.dt_layout.specs.Carried.{IsGram, Shows, life_of, to_of, lowered, with_less_life}
 use Rattle.dt_layout.proofs.Octets.{by_octets, octets_from}
 use Rattle.dt_layout.proofs.GramLemmas.{gram_in-spelling}
 
@@ -34,6 +37,13 @@ life_of_is bytes d g = life_of-gram_in bytes ∙ ap (λ (d : DeltagramValue). d.
 
 pub to_of_is : (bytes : List ℕ) (d : DeltagramValue) → Gram bytes d → to_of bytes ≡ d.to
 to_of_is bytes d g = to_of-gram_in bytes ∙ ap (λ (d : DeltagramValue). d.to) (gram_in_is bytes d g)
+
+pub shows : (bytes : List ℕ) (d : DeltagramValue) → Gram bytes d → Shows bytes d
+shows bytes d g = record { reads = is_gram bytes d g; life = life_of_is bytes d g; to = to_of_is bytes d g }
+
+pub shows_ok : (bytes : List ℕ) (r : Result Deltagram LayoutFault) → IfOk r (λ d. Gram bytes (gram_of d)) → IfOk r (λ d. Shows bytes (gram_of d))
+shows_ok bytes (Ok d) g = shows bytes (gram_of d) g
+shows_ok bytes (Err f) g = tt
 
 -- ---- less life
 

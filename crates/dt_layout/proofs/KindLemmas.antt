@@ -1,8 +1,7 @@
 -- A body with an octet of a kind: the tests that are left, and the packet that stands in it.
-use Rattle.std.proofs.Common.{◌≡◌, ℕ, ◌-◌, ◌≤◌, Bool, true, false, cond, eqb, leb, List, length, take, drop, Option, Some, None, Result, Ok, Err, refl, sym, ap, subst, ◌∙◌, arith}
+use Rattle.std.proofs.Common.{◌≡◌, ℕ, ◌-◌, ◌≤◌, Bool, true, false, cond, eqb, leb, List, length, take, drop, Option, Some, None, Ok, Err, refl, sym, ap, subst, ◌∙◌, arith}
 use Rattle.std.proofs.lemmas.Grind.{common_steps}
-use Rattle.std.proofs.lemmas.Bool.{eq-eqb, eqb-true, le-leb}
-use Rattle.std.proofs.lemmas.Bool.Decides.{nat_tests}
+use Rattle.std.proofs.lemmas.Bool.{eqb-true, le-leb}
 use Rattle.dt_layout.specs.declared.limits.TheConstants.{PACKET_HEADER, DATA, ACK, MEET}
 use Rattle.dt_layout.specs.declared.faults.LayoutFault.{LayoutFault}
 use Rattle.dt_layout.specs.declared.kinds.Kind.{Kind}
@@ -10,7 +9,7 @@ use Rattle.dt_layout.specs.declared.kinds.Kind.TheVariants as kind
 use Rattle.dt_layout.specs.Spelling.{PacketValue}
 use Rattle.dt_layout.specs.Kinds.{code_of, kind_at, header_in, packet_by}
 use Rattle.dt_layout.specs.declared.headers.Header.{Header}
-use Rattle.dt_layout.specs.Reading.{first_fault, value_unless, rule_tests, body_tests, packet_in, body_read, octet_at, two_at, four_at}
+use Rattle.dt_layout.specs.Reading.{first_fault, value_unless, rule_tests, body_tests, packet_in, body_read, octet_at, four_at}
 
 chosen : (a b c : Bool) (k : Kind) (P : Kind → Type 0) → (a ≡ true → P kind.Data) → (b ≡ true → P kind.Ack) → (c ≡ true → P kind.Meet)
     → cond a (Some kind.Data) (cond b (Some kind.Ack) (cond c (Some kind.Meet) None)) ≡ Some k → P k

@@ -1,18 +1,17 @@
 -- What is read as a packet is spelled so, and what is spelled so is read.
-use Rattle.std.proofs.Common.{◌≡◌, ℕ, zero, suc, ◌+◌, ◌^◌, ◌<◌, ◌≤◌, Bool, true, false, cond, ◌&&◌, eqb, leb, List, [], ◌∷◌, ◌++◌, length, drop, Option, Some, None, Result, Ok, Err, refl, sym, ap, subst, ◌∙◌, arith, inl, inr}
+use Rattle.std.proofs.Common.{◌≡◌, ℕ, zero, suc, ◌+◌, ◌^◌, ◌<◌, ◌≤◌, Bool, true, false, eqb, leb, List, [], ◌∷◌, ◌++◌, length, drop, Option, None, Result, Ok, Err, refl, sym, ap, subst, ◌∙◌, arith, inl, inr}
 use Rattle.std.specs.Prelude.{IfOk, IsOkAnd}
 use Rattle.std.specs.Result.{result_err}
-use Rattle.std.specs.Int.{w16, w32, from_be_bytes}
-use Rattle.std.proofs.lemmas.Bool.{eq-eqb, eqb-true, ne_eqb, le-leb, leb-true, and_parts, and_from, or_cases}
-use Rattle.std.proofs.lemmas.List.{append-nil, nil_from_length}
+use Rattle.std.proofs.lemmas.Bool.{eq-eqb, eqb-true, ne_eqb, le-leb, leb-true, and_parts, or_cases}
+use Rattle.std.proofs.lemmas.List.{nil_from_length}
 use Rattle.std.proofs.lemmas.Nat.{from_be_bytes-to_be_bytes_2, from_be_bytes-to_be_bytes_4}
 use Rattle.dt_layout.specs.declared.limits.TheConstants.{PACKET_HEADER, PROTOCOL, DATA, ACK, MEET, DRF, BEGIN, END, MOST_DATA, MOST_NUMBER, MOST_WINDOW}
 use Rattle.dt_layout.specs.declared.faults.LayoutFault.{LayoutFault}
 use Rattle.dt_layout.specs.declared.faults.LayoutFault.TheVariants as fault
 use Rattle.dt_layout.specs.declared.packets.Packet.{Packet}
 use Rattle.dt_layout.specs.Spelling.{AreOctets, DeltagramValue, PacketValue, Data, Ack, Meet, Pack, Carries, HasPorts, KeepsRules, flags_of, packet_header, packet_spelling, packet_of, two, four}
-use Rattle.dt_layout.specs.Reading.{Test, first_fault, value_unless, body_tests, packet_fault, packet_with, packet_in, body_read, packet_read, Reads, octet_at, two_at, four_at, is_kind, is_set, flags_fit, window_fits, size_fits, number_fits}
-use Rattle.dt_layout.proofs.Octets.{two-two_at, four-four_at, two_at-fits, four_at-fits, by_octets}
+use Rattle.dt_layout.specs.Reading.{first_fault, value_unless, body_tests, packet_fault, packet_with, packet_in, body_read, packet_read, Reads, octet_at, two_at, four_at, is_kind, is_set, flags_fit, window_fits, size_fits, number_fits}
+use Rattle.dt_layout.proofs.Octets.{two-two_at, four-four_at, two_at-fits, by_octets}
 use Rattle.dt_layout.proofs.GramLemmas.{first_holds, ok_unless, same_ok, fault_read}
 
 -- ---- flags

@@ -1,5 +1,5 @@
 -- What those who carry frames see of their octets: the life, where they go, and the octets with less life.
-use Rattle.std.specs.Prelude.{ℕ, ◌-◌, List, ◌++◌, take, drop}
+use Rattle.std.specs.Prelude.{◌≡◌, ℕ, ◌-◌, List, ◌++◌, take, drop}
 use Rattle.dt_layout.specs.Spelling.{DeltagramValue, Gram, four}
 use Rattle.dt_layout.specs.Reading.{four_at, gram_in}
 
@@ -14,6 +14,12 @@ life_of bytes = four_at 4 bytes
 -- the node that they go to
 unfoldable pub to_of : List ℕ → ℕ
 to_of bytes = four_at 12 bytes
+
+-- What is seen of octets that spell this Deltagram.
+pub record Shows (bytes : List ℕ) (d : DeltagramValue) : Type 0 where
+  pub reads : IsGram bytes
+  pub life : life_of bytes ≡ d.life
+  pub to : to_of bytes ≡ d.to
 
 -- the same octets but for the life, which is less by this
 unfoldable pub lowered : (by : ℕ) → List ℕ → List ℕ

@@ -1,6 +1,6 @@
 -- Which octets are refused, and by which fault: tests in an order, of which the first that fails decides.
 -- What stands in octets that pass all tests is the one value that they spell.
-use Rattle.std.specs.Prelude.{◌≡◌, ℕ, ◌+◌, ◌≤◌, ◌<◌, ◌^◌, ◌==◌, nat_le, Bool, not, ◌&&◌, ◌||◌, if◌then◌else◌, List, [], ◌∷◌, ◌++◌, length, drop, slice_index, Option, Some, None, Result, Ok, Err, bit_and}
+use Rattle.std.specs.Prelude.{◌≡◌, ℕ, ◌+◌, ◌==◌, nat_le, Bool, not, ◌&&◌, ◌||◌, if◌then◌else◌, List, [], ◌∷◌, length, drop, slice_index, Option, Some, None, Result, Ok, Err, bit_and}
 use Rattle.std.specs.Int.{w16, w32, from_be_bytes}
 use Rattle.dt_layout.specs.declared.limits.TheConstants.{HEADER, PACKET_HEADER, VERSION, PROTOCOL, MOST_BODY, MOST_DATA, MOST_NUMBER, MOST_WINDOW, DATA, ACK, MEET, DRF, BEGIN, END}
 use Rattle.dt_layout.specs.declared.faults.LayoutFault.{LayoutFault}

@@ -1,6 +1,7 @@
-ghost use Rattle.std.specs.Prelude.{◌≡◌, IfOk, IsOkAnd};
+ghost use Rattle.std.specs.Prelude.{◌≡◌, IfOk, IsOk, IsOkAnd};
 ghost use Rattle.std.specs.Result.{result_err};
 ghost use Rattle.dt_layout.specs.Spelling.{DeltagramValue, Gram, gram_of};
+ghost use Rattle.dt_layout.specs.Carried.{IsGram, Shows};
 ghost use Rattle.dt_layout.specs.Reading.{Reads, gram_fault, gram_read};
 
 use crate::faults::LayoutFault;
@@ -63,8 +64,11 @@ fn read(bytes: &[u8]) -> Result<Deltagram<'_>, LayoutFault>
 pub fn read_deltagram(bytes: &[u8]) -> Result<Deltagram<'_>, LayoutFault>
     // The octets spell what is read.
     ensures found { IfOk result (λ d. Gram bytes.now (gram_of d)) }
+    // The life and the node are those that carriers see.
+    ensures shows { IfOk result (λ d. Shows bytes.now (gram_of d)) }
     // What the octets spell is read.
     ensures only { (v : DeltagramValue) → Gram bytes.now v → IsOkAnd result (λ d. gram_of d ≡ v) }
+    ensures reads { IsGram bytes.now → IsOk result }
     // The fault is that of the first test that fails.
     ensures fault { result_err result ≡ gram_fault bytes.now }
     ensures exact { Reads gram_of result (gram_read bytes.now) }

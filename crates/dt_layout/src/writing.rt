@@ -1,5 +1,6 @@
-ghost use Rattle.std.specs.Prelude.{◌≡◌, ◌≤◌, ◌<◌, ◌^◌, ℕ};
-ghost use Rattle.dt_layout.specs.Spelling.{KeepsRules, Gram, Carries, carrying, gram_header, gram_spelling, packet_of};
+ghost use Rattle.std.specs.Prelude.{◌≡◌, ◌≤◌};
+ghost use Rattle.dt_layout.specs.Spelling.{Carries, Gram, KeepsRules, carrying, gram_header, gram_spelling, packet_of};
+ghost use Rattle.dt_layout.specs.Carried.{Shows};
 
 use crate::frames::Frame;
 use crate::headers::parts;
@@ -34,6 +35,7 @@ pub fn write_frame(frame: &mut Frame, life: u32, from: u32, to: u32, packet: &Pa
     ensures spelled { frame.new ≡ gram_spelling (carrying life from to (packet_of packet.now)) }
     // So it reads as that Deltagram, and the packet is what it carries.
     ensures gram { Gram frame.new (carrying life from to (packet_of packet.now)) }
+    ensures shows { Shows frame.new (carrying life from to (packet_of packet.now)) }
     ensures carries { Carries (carrying life from to (packet_of packet.now)) (packet_of packet.now) }
 {
     let (kind, fields, octets) = parts(packet);
