@@ -19,12 +19,13 @@ pub struct Frame {
 
 impl Model for Frame {
     ghost use Rattle.std.specs.Prelude.{ℕ, ◌≤◌, List, take};
+    ghost use Rattle.dt_layout.specs.declared.limits.TheConstants.{MOST_FRAME};
 
     ghost Value = { List ℕ };
 
     ghost view = { λ f. take f.len f.octets };
 
-    ghost invariant = { λ f. f.len ≤ 1054 };
+    ghost invariant = { λ f. f.len ≤ MOST_FRAME };
 }
 
 /// Two frames are equal where they hold the same octets.
@@ -66,7 +67,7 @@ impl Frame {
         }
     }
 
-    /// A frame of these octets, or none where there are more than 1,054. It copies them.
+    /// A frame of these octets, or none where there are more than 1,054. It copies the octets.
     pub fn from_bytes(bytes: &[u8]) -> Option<Frame>
         ensures same { IfSome result (λ frame. frame ≡ bytes.now) }
         ensures too_long { IsNone result ↔ (MOST_FRAME < length bytes.now) }

@@ -3,17 +3,17 @@
 /// The octets of a Deltagram before its body.
 pub const HEADER: usize = 16;
 
-/// The most octets of a body: those of a packet with the most data.
-pub const MOST_BODY: usize = 1_038;
-
-/// The most octets of a frame: a Deltagram with the longest body.
-pub const MOST_FRAME: usize = 1_054;
-
 /// The octets of a packet before its data.
 pub const PACKET_HEADER: usize = 14;
 
 /// The most octets of data in a packet.
 pub const MOST_DATA: usize = 1_024;
+
+/// The most octets of a body, 1,038: those of a packet with the most data.
+pub const MOST_BODY: usize = PACKET_HEADER + MOST_DATA;
+
+/// The most octets of a frame, 1,054: those of a Deltagram with the longest body.
+pub const MOST_FRAME: usize = HEADER + MOST_BODY;
 
 /// The greatest sequence number, and the greatest sum of a data packet's number and its count of
 /// octets.

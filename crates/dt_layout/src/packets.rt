@@ -84,6 +84,7 @@ pub fn read_packet<'a>(d: &Deltagram<'a>) -> Result<Packet<'a>, LayoutFault>
     ensures only { (v : PacketValue) → Carries (gram_of d.now) v → IsOkAnd result (λ p. packet_of p ≡ v) }
     // The fault is that of the first test that fails.
     ensures fault { result_err result ≡ packet_fault (gram_of d.now) }
+    // The same in one equation, for definitions that go by cases.
     ensures exact { Reads packet_of result (packet_read (gram_of d.now)) }
 {
     if d.protocol != PROTOCOL {
