@@ -1,5 +1,5 @@
 //! The fields that stand before a packet's data, read and written.
-ghost use Rattle.std.specs.Prelude.{◌≡◌, ◌≤◌, length, ◌++◌, if◌then◌else◌};
+ghost use Rattle.std.specs.Prelude.{◌≡◌, ◌≤◌, ◌++◌, length};
 ghost use Rattle.std.specs.Result.{result_err};
 ghost use Rattle.dt_layout.specs.Spelling.{data_of, flags_of, from_port_of, to_port_of, packet_of, packet_spelling};
 ghost use Rattle.dt_layout.specs.Kinds.{code_of, header_in, packet_by, header_spelling};
@@ -39,7 +39,8 @@ impl Header {
 
     /// Whether the fields keep the rules of a kind, with so many octets of data after them.
     pub fn check(&self, kind: Kind, count: usize) -> Result<(), LayoutFault>
-        ensures { result_err result ≡ first_fault (rule_tests (code_of kind) self.now.flags self.now.window count self.now.number) }
+        ensures { result_err result ≡ first_fault (rule_tests (code_of kind)
+            self.now.flags self.now.window count self.now.number) }
     {
         if !kind.allows_flags(self.flags) {
             return Err(LayoutFault::Flags { octet: self.flags });
@@ -126,7 +127,8 @@ fn flags(drf: bool, begin: bool, end: bool) -> u8
 /// The kind of a packet, its fields and its data.
 #[tactic(auto, unfolding(crate::specs::Spelling::packet_spelling))]
 pub fn parts<'a>(packet: &Packet<'a>) -> (Kind, Header, &'a [u8])
-    ensures spelled { packet_spelling (packet_of packet.now) ≡ header_spelling result.0 result.1 ++ result.2.now }
+    ensures spelled { packet_spelling (packet_of packet.now)
+        ≡ header_spelling result.0 result.1 ++ result.2.now }
     ensures data { result.2.now ≡ data_of (packet_of packet.now) }
     ensures from_port { result.1.from_port ≡ from_port_of (packet_of packet.now) }
     ensures to_port { result.1.to_port ≡ to_port_of (packet_of packet.now) }

@@ -81,7 +81,8 @@ pub fn read_packet<'a>(d: &Deltagram<'a>) -> Result<Packet<'a>, LayoutFault>
     // The Deltagram carries what is read.
     ensures found { IfOk result (λ p. Carries (gram_of d.now) (packet_of p)) }
     // What the Deltagram carries is read.
-    ensures only { (v : PacketValue) → Carries (gram_of d.now) v → IsOkAnd result (λ p. packet_of p ≡ v) }
+    ensures only { (v : PacketValue)
+        → Carries (gram_of d.now) v → IsOkAnd result (λ p. packet_of p ≡ v) }
     // The fault is that of the first test that fails.
     ensures fault { result_err result ≡ packet_fault (gram_of d.now) }
     // The same in one equation, for definitions that go by cases.
