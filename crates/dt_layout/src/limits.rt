@@ -3,17 +3,17 @@
 /// The octets of a Deltagram before its body.
 pub const HEADER: usize = 16;
 
-/// The most octets of a body: those of a packet with the most data.
-pub const MOST_BODY: usize = 1_038;
-
-/// The most octets of a frame: a Deltagram with the longest body.
-pub const MOST_FRAME: usize = 1_054;
-
 /// The octets of a packet before its data.
 pub const PACKET_HEADER: usize = 14;
 
 /// The most octets of data in a packet.
 pub const MOST_DATA: usize = 1_024;
+
+/// The most octets of a body, 1,038: those of a packet with the most data.
+pub const MOST_BODY: usize = PACKET_HEADER + MOST_DATA;
+
+/// The most octets of a frame, 1,054: those of a Deltagram with the longest body.
+pub const MOST_FRAME: usize = HEADER + MOST_BODY;
 
 /// The greatest sequence number, and the greatest sum of a data packet's number and its count of
 /// octets.
@@ -27,3 +27,21 @@ pub const VERSION: u8 = 1;
 
 /// The protocol of a Deltagram whose body is a packet.
 pub const PROTOCOL: u8 = 1;
+
+/// The kind of a data packet.
+pub const DATA: u8 = 1;
+
+/// The kind of an acknowledgement.
+pub const ACK: u8 = 2;
+
+/// The kind of a rendezvous packet.
+pub const MEET: u8 = 3;
+
+/// The bit of the data-run flag.
+pub const DRF: u8 = 1;
+
+/// The bit of the begin mark.
+pub const BEGIN: u8 = 2;
+
+/// The bit of the end mark.
+pub const END: u8 = 4;
