@@ -6,6 +6,9 @@ pub mod Transmissions
 pub mod ReceiverSteps
 pub mod ReadKept
 pub mod Kept
+pub mod ActSteps
+pub mod Waking
+pub mod ArrivalSteps
 pub mod SafeOf
 pub mod Reached
 pub mod Props

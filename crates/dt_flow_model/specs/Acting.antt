@@ -74,9 +74,9 @@ abbrev pub given_by : FlowState → Packet → List Item → Arrived → List Gi
 given_by s q items (A.Accepted run count) = s.given ++ given_rows s.receiver_life s.now run q.place items
 given_by s q items other = s.given
 
-abbrev pub reply_to : FlowState → Packet → Arrived → List Packet
-reply_to s q (A.Replied number window) = (record { kind = Ack window; number = number; birth = s.now; place = ack_place s.receiver s.given number q.place }) ∷ []
-reply_to s q other = []
+abbrev pub reply_of : Option ReceiveRecord → FlowState → Packet → Arrived → List Packet
+reply_of standing s q (A.Replied number window) = (record { kind = Ack window; number = number; birth = s.now; place = ack_place standing s.given number q.place }) ∷ []
+reply_of standing s q other = []
 
 abbrev pub with_receiver : FlowState → Receiver → FlowState
 with_receiver s r = record s { receiver = r.standing; unread = r.unread }
@@ -91,14 +91,14 @@ abbrev pub after_data_packet : Params → FlowState → Packet → Bool → List
 after_data_packet p s q drf items = if nat_lt (receiver_reading s) s.receiver_until then s else data_flow p s q drf items
 
 abbrev pub made_by_data : Params → FlowState → Packet → Bool → List Item → List Packet
-made_by_data p s q drf items = if nat_lt (receiver_reading s) s.receiver_until then [] else reply_to s q (answer_to_data p (receiver_of s) drf q.number items)
+made_by_data p s q drf items = if nat_lt (receiver_reading s) s.receiver_until then [] else reply_of s.receiver s q (answer_to_data p (receiver_of s) drf q.number items)
 
 -- a rendezvous packet comes to the receiver
 abbrev pub after_meet_packet : Params → FlowState → Packet → FlowState
 after_meet_packet p s q = if nat_lt (receiver_reading s) s.receiver_until then s else with_receiver s (after_meet p (receiver_of s))
 
 abbrev pub made_by_meet : Params → FlowState → Packet → List Packet
-made_by_meet p s q = if nat_lt (receiver_reading s) s.receiver_until then [] else reply_to s q (answer_to_meet p (receiver_of s) q.number)
+made_by_meet p s q = if nat_lt (receiver_reading s) s.receiver_until then [] else reply_of s.receiver s q (answer_to_meet p (receiver_of s) q.number)
 
 -- a read of so many unread octets
 abbrev pub after_reading : Params → FlowState → ℕ → FlowState

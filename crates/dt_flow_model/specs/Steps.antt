@@ -109,6 +109,10 @@ pub data Steps (p : Params) : FlowState → List Packet → List Packet → Flow
   none : {s : FlowState} → Steps p s [] [] s
   more : {s mid after : FlowState} {ins made ins' made' : List Packet} → Step p s ins made mid → Steps p mid ins' made' after → Steps p s (ins ++ ins') (made ++ made') after
 
+-- what a packet that came did: a small step, which may take it, or nothing
+abbrev pub IsStepOrNothing : Params → FlowState → Packet → List Packet → FlowState → Type 0
+IsStepOrNothing p s q made after = Step p s (q ∷ []) made after ⊎ Step p s [] made after ⊎ (after ≡ s) × (made ≡ [])
+
 -- what small steps lead to from a first start, with all packets that were ever made. A step may take any of them: packets are lost, come again and come in any order
 pub data Reached (p : Params) : FlowState → List Packet → Type 0 where
   starts : (sender_zero receiver_zero : ℕ) → Reached p (new_flow sender_zero receiver_zero) []
