@@ -9,6 +9,10 @@ pub mod Kept
 pub mod ActSteps
 pub mod Waking
 pub mod ArrivalSteps
+pub mod Cuts
+pub mod Places
+pub mod Ages
+pub mod Fates
 pub mod SafeOf
 pub mod Reached
 pub mod Props

@@ -303,3 +303,8 @@ abbrev pub KeepsRows : List Taken → List Taken → Type 0
 KeepsRows [] after = Unit {0}
 KeepsRows (row ∷ rows) [] = ⊥
 KeepsRows (row ∷ rows) (row' ∷ rows') = KeepsRow row row' × KeepsRows rows rows'
+
+-- a fate that isn't Open stays, and so does each row
+pub record KeepsFates (rows after : List Taken) : Type 0 where
+  pub no_row_goes : length rows ≤ length after
+  pub fates : (place : ℕ) → place < length rows → (row_at rows place).fate ≢ Open → (row_at after place).fate ≡ (row_at rows place).fate
