@@ -16,3 +16,4 @@ pub mod Fates
 pub mod SafeOf
 pub mod Reached
 pub mod Props
+pub mod Laws

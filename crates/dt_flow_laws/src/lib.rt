@@ -1,2 +1,23 @@
-//! The laws of one flow.
+//! The laws of one flow. Each law is the contract of a public function with an empty body. The
+//! definitions that they speak of stand in dt_flow_model; in proofs/Laws the laws can be cited.
 #![tactic(auto)]
+
+mod functions;
+mod safety;
+mod transit;
+
+pub use functions::{
+    chosen_act_is_due, chosen_act_is_step, chosen_receiver_act_is_step, cut_is_the_longest,
+    due_kind_is_not_passed_over, first_place_is_told, reading_is_step, taking_is_steps,
+    wake_is_first_due, wake_of_receiver_is_first_due,
+};
+pub use safety::{
+    fates_are_final, fates_stay_final, facts_give_safety, new_flow_has_facts,
+    reached_flow_has_facts, receiver_without_live_record, safe_after_every_list_of_steps,
+    safety_has_one_proof, step_keeps_facts, steps_keep_facts,
+};
+pub use transit::{
+    acknowledgement_is_step_or_nothing, admitted_packet_waits, arriving_packet_is_alive,
+    copies_age_with_time, data_is_step_or_nothing, leaving_packet_flies, made_packet_waits,
+    rendezvous_is_step_or_nothing, waiting_ages_with_time,
+};

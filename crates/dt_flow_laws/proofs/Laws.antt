@@ -1,0 +1,85 @@
+-- The laws of one flow, in the words of the contracts.
+use Rattle.std.proofs.Common.{ℕ, suc, ◌+◌, ◌-◌, ◌<◌, ◌≤◌, ◌≡◌, List, [], ◌∷◌, ◌++◌, length, Option, Some, None, refl, ap, ◌∙◌, arith}
+use Rattle.std.specs.Prelude.{max}
+use Rattle.std.specs.List.{All}
+use Rattle.dt_flow_model.specs.Acting.{after_act, after_taking, made_by_act}
+use Rattle.dt_flow_model.specs.Facts.{AllFit, Facts, Fits, Kept, ReceiveSide}
+use Rattle.dt_flow_model.specs.Flow.{FlowState, Packet, receiver_reading, sender_reading}
+use Rattle.dt_flow_model.specs.Ledger.{last_at, top}
+use Rattle.dt_flow_model.specs.ReceiveRecord.{ReceiveRecord}
+use Rattle.dt_flow_model.specs.Safe.{Safe}
+use Rattle.dt_flow_model.specs.SendActs.{Act, act_of}
+use Rattle.dt_flow_model.specs.SendRecord.{SendRecord}
+use Rattle.dt_flow_model.specs.Steps.{Reached, Step, Steps, more, none}
+use Rattle.dt_items.specs.declared.item.Item.{Item}
+use Rattle.dt_units.specs.Limits.{IsWithinLimits}
+use Rattle.dt_units.specs.Times.{receive_time}
+use Rattle.dt_units.specs.declared.parameters.Params.{Params}
+use Rattle.dt_flow_laws.proofs.Kept.{kept}
+use Rattle.dt_flow_laws.proofs.Reached as R
+use Rattle.dt_flow_laws.proofs.SafeOf as S
+use Rattle.dt_flow_laws.proofs.ActSteps as A
+use Rattle.dt_flow_laws.proofs.ArrivalSteps as I
+-- imports: none more
+
+-- THE FACTS
+
+pub step_keeps : (p : Params) (s after : FlowState) (ins made : List Packet) → IsWithinLimits p → Step p s ins made after → Facts p s → AllFit p s ins → Kept p s after made
+step_keeps p s after ins made limits step f h =
+    let mpl : 0 < p.mpl = omega (arith, limits.mpl) in
+    let r : 0 < p.r = omega (arith, limits.r) in
+    kept p mpl r s after ins made step f h
+
+all_fit_append : (p : Params) (s : FlowState) (xs ys : List Packet) → AllFit p s xs → AllFit p s ys → AllFit p s (xs ++ ys)
+all_fit_append p s [] ys h k = k
+all_fit_append p s (x ∷ xs) ys h k = (h.0, all_fit_append p s xs ys h.1 k)
+
+fit_left : (p : Params) (s : FlowState) (xs ys : List Packet) → AllFit p s (xs ++ ys) → AllFit p s xs
+fit_left p s [] ys h = tt
+fit_left p s (x ∷ xs) ys h = (h.0, fit_left p s xs ys h.1)
+
+fit_right : (p : Params) (s : FlowState) (xs ys : List Packet) → AllFit p s (xs ++ ys) → AllFit p s ys
+fit_right p s [] ys h = h
+fit_right p s (x ∷ xs) ys h = fit_right p s xs ys h.1
+
+all_fit_on : (p : Params) (s after : FlowState) (qs : List Packet) → ((q : Packet) → Fits p s q → Fits p after q) → AllFit p s qs → AllFit p after qs
+all_fit_on p s after [] on h = tt
+all_fit_on p s after (q ∷ qs) on h = (on q h.0, all_fit_on p s after qs on h.1)
+
+pub steps_keep : (p : Params) (s after : FlowState) (ins made : List Packet) → IsWithinLimits p → Steps p s ins made after → Facts p s → AllFit p s ins → Kept p s after made
+steps_keep p s after ins made limits (none {s = t}) f h = record { facts = f; packets = λ q k. k; made_fit = tt }
+steps_keep p s after ins made limits (more {s = t} {mid = mid} {after = after'} {ins = i} {made = m} {ins' = i'} {made' = m'} step rest) f h =
+    let first = step_keeps p t mid i m limits step f (fit_left p t i i' h) in
+    let later = steps_keep p mid after' i' m' limits rest first.facts (all_fit_on p t mid i' first.packets (fit_right p t i i' h)) in
+    record {
+      facts = later.facts;
+      packets = λ q k. later.packets q (first.packets q k);
+      made_fit = all_fit_append p after' m m' (all_fit_on p mid after' m later.packets first.made_fit) later.made_fit;
+    }
+
+pub reached_has_facts : (p : Params) (s : FlowState) (packets : List Packet) → IsWithinLimits p → Reached p s packets → Facts p s × All (Fits p s) packets
+reached_has_facts p s packets limits r =
+    let mpl : 0 < p.mpl = omega (arith, limits.mpl) in
+    let r' : 0 < p.r = omega (arith, limits.r) in
+    R.reached p mpl r' s packets r
+
+pub reached_is_safe : (p : Params) (s : FlowState) (packets : List Packet) → IsWithinLimits p → Reached p s packets → Safe s
+reached_is_safe p s packets limits r = S.safe_of p s (reached_has_facts p s packets limits r).0
+
+-- without a live receive record enough time has passed since the last acceptance
+gone_by : (p : Params) (s : FlowState) (standing : Option ReceiveRecord) → s.receiver ≡ standing → ReceiveSide p s.now s.receiver_zero s.receiver_until s.sender_life s.run s.taken s.given standing → ((y : ReceiveRecord) → standing ≡ Some y → y.touched + receive_time p ≤ receiver_reading s)
+    → 0 < top s.given → last_at s.given + p.mpl + p.r + s.receiver_zero ≤ max (receiver_reading s) s.receiver_until
+gone_by p s None is f gone some = f.record_facts some
+gone_by p s (Some y) is f gone some = omega (arith, f.record_facts.touched, gone y refl)
+
+pub receiver_gone : (p : Params) (s : FlowState) → Facts p s → ((y : ReceiveRecord) → s.receiver ≡ Some y → y.touched + receive_time p ≤ receiver_reading s) → 0 < top s.given
+    → last_at s.given + p.mpl + p.r + s.receiver_zero ≤ max (receiver_reading s) s.receiver_until
+receiver_gone p s f gone some = gone_by p s s.receiver refl f.receive_side gone some
+
+-- THE FUNCTIONS
+
+pub act_is_step : (p : Params) (s : FlowState) (x : SendRecord) (act : Act) → IsWithinLimits p → s.sender ≡ Some x → act_of p (sender_reading s) x ≡ Some act → Step p s [] (made_by_act p s x act) (after_act p s x act)
+act_is_step p s x act limits is h = let window : 0 < p.window = omega (arith, limits.window) in A.act_step p s x act window is h
+
+pub taking_is_steps : (p : Params) (s : FlowState) (items : List Item) → IsWithinLimits p → s.sender_until ≤ sender_reading s → Steps p s [] [] (after_taking p s items)
+taking_is_steps p s items limits awake = let window : 0 < p.window = omega (arith, limits.window) in I.take_steps p s items window awake
