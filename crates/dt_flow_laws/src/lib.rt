@@ -5,6 +5,7 @@
 mod functions;
 mod safety;
 mod transit;
+mod worked;
 
 pub use functions::{
     chosen_act_is_due, chosen_act_is_step, chosen_receiver_act_is_step, cut_is_the_longest,
@@ -20,4 +21,10 @@ pub use transit::{
     acknowledgement_is_step_or_nothing, admitted_packet_waits, arriving_packet_is_alive,
     copies_age_with_time, data_is_step_or_nothing, leaving_packet_flies, made_packet_waits,
     rendezvous_is_step_or_nothing, waiting_ages_with_time,
+};
+pub use worked::{
+    long_message_is_cut_in_three, next_octet_leads, octet_is_given_up, read_opens_window,
+    receive_record_goes, record_is_renewed, record_is_woken, segments_come_in_another_order,
+    station_is_silent, third_segment_goes_again, two_segments_are_acknowledged,
+    window_is_asked_for,
 };
