@@ -1,5 +1,5 @@
 -- The act that a send record chooses is due, none of an earlier kind is, and it is a small step of the flow.
-use Rattle.std.proofs.Common.{ℕ, zero, suc, ◌+◌, ◌<◌, ◌≤◌, ◌≡◌, ◌⊎◌, ◌==◌, Bool, true, false, List, [], ◌∷◌, ◌++◌, length, take, drop, Option, Some, None, refl, ap, sym, ◌∙◌, subst, inl, inr, arith}
+use Rattle.std.proofs.Common.{ℕ, zero, suc, ◌+◌, ◌<◌, ◌≤◌, ◌≡◌, ◌⊎◌, Bool, true, false, List, [], ◌∷◌, ◌++◌, length, Option, Some, None, refl, ap, sym, subst, inl, inr, arith}
 use Rattle.std.specs.Prelude.{not, ◌&&◌, nat_lt, nat_le, if◌then◌else◌}
 use Rattle.std.proofs.lemmas.List.{take-append-drop, length-take-le}
 use Rattle.std.proofs.lemmas.Bool.{cases_Bool, and_parts}
@@ -13,6 +13,7 @@ use Rattle.dt_items.specs.declared.item.Item.{Item}
 use Rattle.dt_units.specs.Times.{send_time}
 use Rattle.dt_units.specs.declared.parameters.Params.{Params}
 use Rattle.dt_flow_model.specs.Steps as F
+
 -- imports: send meet release renew resend give_up or_else sending
 
 pub le_true : (m n : ℕ) → nat_le m n ≡ true → m ≤ n

@@ -1,6 +1,6 @@
 -- What an arriving packet does is a small step, or nothing; and so is what the receiver does by itself, what is read and what is taken.
-use Rattle.std.proofs.Common.{ℕ, zero, suc, ◌+◌, ◌<◌, ◌≤◌, ◌≡◌, ◌⊎◌, ◌==◌, Bool, true, false, List, [], ◌∷◌, ◌++◌, length, take, drop, Option, Some, None, refl, ap, sym, ◌∙◌, subst, inl, inr, arith}
-use Rattle.std.specs.Prelude.{nat_lt, nat_le, if◌then◌else◌, ◌&&◌}
+use Rattle.std.proofs.Common.{ℕ, ◌+◌, ◌<◌, ◌≤◌, ◌≡◌, ◌==◌, Bool, true, false, List, [], ◌∷◌, ◌++◌, length, take, drop, Option, Some, None, refl, ap, sym, ◌∙◌, subst, inl, inr, arith}
+use Rattle.std.specs.Prelude.{nat_lt, nat_le, if◌then◌else◌}
 use Rattle.std.proofs.lemmas.List.{take-append-drop, length-take-le}
 use Rattle.std.proofs.lemmas.Bool.{cases_Bool}
 use Rattle.std.proofs.lemmas.Bool.Decides.{nat_tests}
@@ -9,7 +9,7 @@ use Rattle.dt_flow_model.specs.Flow.{Ack, Data, FlowState, Meet, Packet, receive
 use Rattle.dt_flow_model.specs.Ledger.{note_read, take_rows}
 use Rattle.dt_flow_model.specs.Numbering.{against_expected, number_of}
 use Rattle.dt_flow_model.specs.ReceiveRecord.{IsCurrent, IsLive, ReceiveRecord, Receiver, action_of, action_with, action_without, after_action, answer_to, expected_of, free_of, meet_answer, opens_window, owing, record_read, recv_due_of, standing_told}
-use Rattle.dt_flow_model.specs.SendRecord.{Segment, SendRecord, acknowledged, before_all, end_of, new_record, next_from, put}
+use Rattle.dt_flow_model.specs.SendRecord.{Segment, SendRecord, acknowledged, before_all, end_of, fits, new_record, next_from, put}
 use Rattle.dt_flow_model.specs.Steps.{IsAlive, IsSameRecord, IsStepOrNothing, Step, Steps}
 use Rattle.dt_flow_model.specs.declared.acts.RecvKind.{RecvKind}
 use Rattle.dt_flow_model.specs.declared.arrivals.Action.{Action}
@@ -132,6 +132,30 @@ split_is p k left (g ∷ gs) w e =
     elim (cases_Bool (number_of p left == k)) [
       | inl y ↦ split_here p k left (g ∷ gs) w y (rw y at e)
       | inr n ↦ split_later p k left g gs (acknowledged p k (end_of g) gs) (split_is p k (end_of g) gs) w (rw n at e)
+    ]
+
+-- where nothing is split off, the number is that of no end
+abbrev the_pair : List Segment → List Segment → List Segment × List Segment
+the_pair gone rest = (gone, rest)
+
+none_later : (g : Segment) (o : Option (List Segment × List Segment)) → before_all g o ≡ None → o ≡ None
+none_later g None e = refl
+none_later g (Some w) e = absurd cc
+
+not_here : (p : Params) (k left : ℕ) (gs : List Segment) (o : Option (List Segment × List Segment)) → (if number_of p left == k then Some ([], gs) else o) ≡ None → k ≡ number_of p left → ⊥
+not_here p k left gs o none same = let y : (number_of p left == k) ≡ true = grind (arith, nat_tests) in let f : Some (the_pair [] gs) ≡ None = rw y at none in cc
+
+pub no_end : (p : Params) (k left : ℕ) (gs gone rest : List Segment) → acknowledged p k left gs ≡ None → gs ≡ gone ++ rest → k ≡ number_of p (next_from left gone) → ⊥
+no_end p k left [] [] rest none split same = not_here p k left [] None none same
+no_end p k left [] (h ∷ gone) rest none split same = cc
+no_end p k left (g ∷ gs) [] rest none split same = not_here p k left (g ∷ gs) (before_all g (acknowledged p k (end_of g) gs)) none same
+no_end p k left (g ∷ gs) (h ∷ gone) rest none split same =
+    elim (cases_Bool (number_of p left == k)) [
+      | inl y ↦ let f : Some (the_pair [] (g ∷ gs)) ≡ None = rw y at none in cc
+      | inr n ↦
+          let same_g : g ≡ h = cc in
+          let split' : gs ≡ gone ++ rest = cc in
+          no_end p k (end_of g) gs gone rest (none_later g (acknowledged p k (end_of g) gs) (rw n at none)) split' (subst (λ (u : Segment). k ≡ number_of p (next_from (end_of u) gone)) (sym same_g) same)
     ]
 
 ack_split : (p : Params) (s : FlowState) (x : SendRecord) (q : Packet) (window : ℕ) (o : Option (List Segment × List Segment)) → s.sender ≡ Some x → q.kind ≡ Ack window → IsAlive p s q → acknowledged p q.number x.left x.outstanding ≡ o

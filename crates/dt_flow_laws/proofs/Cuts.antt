@@ -1,7 +1,6 @@
 -- The cut that is computed is the cut of the rule.
-use Rattle.std.proofs.Common.{ℕ, zero, suc, ◌+◌, ◌-◌, ◌<◌, ◌≤◌, ◌≡◌, ◌⊎◌, Bool, true, false, List, [], ◌∷◌, length, refl, subst, inl, inr, arith, get_or}
-use Rattle.std.specs.Prelude.{◌&&◌, not, if◌then◌else◌, min}
-use Rattle.std.proofs.lemmas.Bool.{cases_Bool}
+use Rattle.std.proofs.Common.{ℕ, zero, suc, ◌+◌, ◌<◌, ◌≤◌, ◌≡◌, ◌⊎◌, Bool, true, false, List, [], ◌∷◌, length, refl, subst, inl, inr, arith}
+use Rattle.std.specs.Prelude.{◌&&◌, not, if◌then◌else◌}
 use Rattle.dt_flow_model.specs.SendRecord.{IsCut, SendRecord, cut_length, cut_size, item_at, may_go}
 use Rattle.dt_items.specs.declared.item.Item.{Item}
 use Rattle.dt_units.specs.declared.parameters.Params.{Params}

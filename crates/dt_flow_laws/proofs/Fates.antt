@@ -1,6 +1,7 @@
 -- A fate that isn't Open never changes, and no row goes.
-use Rattle.std.proofs.Common.{ℕ, ◌<◌, ◌≤◌, ◌≡◌, ◌≢◌, List, [], ◌∷◌, ◌++◌, length, refl, sym, ◌∙◌, arith}
-use Rattle.dt_flow_model.specs.Facts.{KeepsFates, KeepsRows}
+use Rattle.std.proofs.Common.{ℕ, ◌<◌, List, length, refl, sym, ◌∙◌, arith}
+use Rattle.dt_flow_laws.proofs.Rows.{KeepsRows}
+use Rattle.dt_flow_model.specs.Facts.{KeepsFates}
 use Rattle.dt_flow_model.specs.Flow.{FlowState, Packet, place_of}
 use Rattle.dt_flow_model.specs.Ledger.{note_first}
 use Rattle.dt_flow_model.specs.SendRecord.{items_in, next_of}
@@ -8,7 +9,8 @@ use Rattle.dt_flow_model.specs.Steps.{Step, Steps, accepts, accepts_first, gives
 use Rattle.dt_flow_model.specs.declared.rows.Fate.TheVariants.{Acked, Uncertain}
 use Rattle.dt_flow_model.specs.declared.rows.Taken.{Taken}
 use Rattle.dt_units.specs.declared.parameters.Params.{Params}
-use Rattle.dt_flow_laws.proofs.Ledger.{over_append, over_settle, over_at, over_length, settle_length, note_length, note_fates}
+use Rattle.dt_flow_laws.proofs.Ledger.{over_append, over_settle, over_at, over_length, note_length, note_fates}
+
 -- imports: passes sender_restarts receiver_restarts makes takes gives_up releases renews resends sends meets is_acked accepts_first accepts tells_number tells_expected receiver_releases reads none more
 
 same : (rows : List Taken) → KeepsFates rows rows

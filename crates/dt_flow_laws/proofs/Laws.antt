@@ -1,15 +1,16 @@
 -- The laws of one flow, in the words of the contracts.
-use Rattle.std.proofs.Common.{ℕ, suc, ◌+◌, ◌-◌, ◌<◌, ◌≤◌, ◌≡◌, List, [], ◌∷◌, ◌++◌, length, Option, Some, None, refl, ap, ◌∙◌, arith}
+use Rattle.std.proofs.Common.{ℕ, ◌+◌, ◌<◌, ◌≤◌, ◌≡◌, ◌≢◌, List, [], ◌∷◌, ◌++◌, Option, Some, None, refl, arith}
 use Rattle.std.specs.Prelude.{max}
 use Rattle.std.specs.List.{All}
-use Rattle.dt_flow_model.specs.Acting.{after_act, after_taking, made_by_act}
+use Rattle.dt_flow_model.specs.Acting.{after_act, after_taking, later_flow, made_by_act, receiver_again, sender_again}
 use Rattle.dt_flow_model.specs.Facts.{AllFit, Facts, Fits, Kept, ReceiveSide}
 use Rattle.dt_flow_model.specs.Flow.{FlowState, Packet, receiver_reading, sender_reading}
 use Rattle.dt_flow_model.specs.Ledger.{last_at, top}
+use Rattle.dt_flow_model.specs.Numbering.{number_of}
 use Rattle.dt_flow_model.specs.ReceiveRecord.{ReceiveRecord}
 use Rattle.dt_flow_model.specs.Safe.{Safe}
 use Rattle.dt_flow_model.specs.SendActs.{Act, act_of}
-use Rattle.dt_flow_model.specs.SendRecord.{SendRecord}
+use Rattle.dt_flow_model.specs.SendRecord.{Segment, SendRecord, acknowledged, next_from}
 use Rattle.dt_flow_model.specs.Steps.{Reached, Step, Steps, more, none}
 use Rattle.dt_items.specs.declared.item.Item.{Item}
 use Rattle.dt_units.specs.Limits.{IsWithinLimits}
@@ -18,8 +19,10 @@ use Rattle.dt_units.specs.declared.parameters.Params.{Params}
 use Rattle.dt_flow_laws.proofs.Kept.{kept}
 use Rattle.dt_flow_laws.proofs.Reached as R
 use Rattle.dt_flow_laws.proofs.SafeOf as S
+use Rattle.dt_flow_model.specs.Steps as F
 use Rattle.dt_flow_laws.proofs.ActSteps as A
 use Rattle.dt_flow_laws.proofs.ArrivalSteps as I
+
 -- imports: none more
 
 -- THE FACTS
@@ -83,3 +86,19 @@ act_is_step p s x act limits is h = let window : 0 < p.window = omega (arith, li
 
 pub taking_is_steps : (p : Params) (s : FlowState) (items : List Item) → IsWithinLimits p → s.sender_until ≤ sender_reading s → Steps p s [] [] (after_taking p s items)
 taking_is_steps p s items limits awake = let window : 0 < p.window = omega (arith, limits.window) in I.take_steps p s items window awake
+
+-- a packet's number splits the outstanding segments at an end, or is that of none
+pub split_where : (p : Params) (k : ℕ) (x : SendRecord) (gone rest : List Segment) → acknowledged p k x.left x.outstanding ≡ Some (gone, rest) → (x.outstanding ≡ gone ++ rest) × (k ≡ number_of p (next_from x.left gone))
+split_where p k x gone rest e = I.split_is p k x.left x.outstanding (gone, rest) e
+
+pub split_nowhere : (p : Params) (k : ℕ) (x : SendRecord) (gone rest : List Segment) → acknowledged p k x.left x.outstanding ≡ None → x.outstanding ≡ gone ++ rest → k ≢ number_of p (next_from x.left gone)
+split_nowhere p k x gone rest e split same = I.no_end p k x.left x.outstanding gone rest e split same
+
+pub later_is_step : (p : Params) (s : FlowState) (by : ℕ) → Step p s [] [] (later_flow s by)
+later_is_step p s by = F.passes s by
+
+pub sender_again_is_step : (p : Params) (s : FlowState) → Step p s [] [] (sender_again p s)
+sender_again_is_step p s = F.sender_restarts s
+
+pub receiver_again_is_step : (p : Params) (s : FlowState) → Step p s [] [] (receiver_again p s)
+receiver_again_is_step p s = F.receiver_restarts s

@@ -1,4 +1,5 @@
 pub mod Timed
+pub mod Rows
 pub mod Ledger
 pub mod Frame
 pub mod SenderSteps
@@ -8,6 +9,7 @@ pub mod ReadKept
 pub mod Kept
 pub mod ActSteps
 pub mod Waking
+pub mod Resends
 pub mod ArrivalSteps
 pub mod Cuts
 pub mod Places

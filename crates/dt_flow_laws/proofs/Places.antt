@@ -1,6 +1,5 @@
 -- The place of a segment that first goes out, told from the ledger and the run alone, is its place by what the record holds.
-use Rattle.std.proofs.Common.{ℕ, zero, suc, ◌+◌, ◌-◌, ◌<◌, ◌≡◌, ◌==◌, List, [], ◌∷◌, ◌++◌, length, map, Option, Some, None, refl, ap, sym, arith}
-use Rattle.std.specs.Prelude.{◌&&◌, if◌then◌else◌}
+use Rattle.std.proofs.Common.{ℕ, zero, suc, ◌+◌, ◌<◌, ◌≡◌, List, [], ◌∷◌, ◌++◌, length, map, Option, Some, None, refl, ap, arith}
 use Rattle.dt_flow_model.specs.Facts.{AllPast, Chain, Facts, SendSide, open_rows}
 use Rattle.dt_flow_model.specs.Flow.{FlowState, place_of, told_place}
 use Rattle.dt_flow_model.specs.Ledger.{first_open, open_row}
@@ -8,7 +7,7 @@ use Rattle.dt_flow_model.specs.SendRecord.{Segment, SendRecord, items_in, next_o
 use Rattle.dt_flow_model.specs.declared.rows.Taken.{Taken}
 use Rattle.dt_items.specs.declared.item.Item.{Item}
 use Rattle.dt_units.specs.declared.parameters.Params.{Params}
-use Rattle.dt_flow_laws.proofs.Ledger.{not_open, open_here, chain_next}
+use Rattle.dt_flow_laws.proofs.Ledger.{not_open, open_here}
 use Rattle.dt_flow_laws.proofs.SenderSteps.{taken_length, next_is}
 
 past_first : (life : ℕ) (old rows : List Taken) → AllPast life old → first_open life rows ≡ 0 → first_open life (old ++ rows) ≡ length old

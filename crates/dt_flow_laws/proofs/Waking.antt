@@ -1,6 +1,6 @@
 -- The moment at which a record is to be woken is the first at which an act is due; and the kind that is chosen is the first that is due.
-use Rattle.std.proofs.Common.{ℕ, zero, suc, ◌+◌, ◌<◌, ◌≤◌, ◌≡◌, ◌⊎◌, ◌==◌, Bool, true, false, List, [], ◌∷◌, ◌++◌, length, Option, Some, None, refl, ap, sym, ◌∙◌, subst, inl, inr, arith}
-use Rattle.std.specs.Prelude.{◌&&◌, nat_lt, nat_le, if◌then◌else◌, min}
+use Rattle.std.proofs.Common.{ℕ, ◌+◌, ◌<◌, ◌≤◌, ◌≡◌, Bool, true, false, List, [], ◌∷◌, ◌++◌, length, Option, Some, None, refl, ap, ◌∙◌, inl, inr, arith}
+use Rattle.std.specs.Prelude.{◌&&◌, nat_lt, nat_le, min}
 use Rattle.std.proofs.lemmas.Bool.{cases_Bool, cases_lt}
 use Rattle.std.proofs.lemmas.Bool.Decides.{nat_tests}
 use Rattle.dt_flow_model.specs.ReceiveRecord.{ReceiveRecord, owing, recv_due_of, recv_wake_of}
@@ -10,8 +10,9 @@ use Rattle.dt_flow_model.specs.declared.acts.RecvKind.{RecvKind}
 use Rattle.dt_items.specs.declared.item.Item.{Item}
 use Rattle.dt_units.specs.Times.{give_time, receive_time, send_time}
 use Rattle.dt_units.specs.declared.parameters.Params.{Params}
-use Rattle.dt_flow_laws.proofs.ActSteps.{DueOf, le_true, lt_true, true_le, true_lt, both, resend_may, cut_count}
+use Rattle.dt_flow_laws.proofs.ActSteps.{DueOf, le_true, true_le, true_lt, both, resend_may, cut_count}
 use Rattle.dt_flow_model.specs.declared.acts.RecvKind.TheVariants as V
+
 -- imports: send meet release renew resend give_up or_else sending earlier
 
 before_le : (m n : ℕ) → n < m → nat_le m n ≡ false

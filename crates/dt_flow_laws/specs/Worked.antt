@@ -4,11 +4,10 @@ use Rattle.dt_items.specs.declared.item.Item.{Item}
 use Rattle.dt_units.specs.declared.parameters.Params.{Params}
 use Rattle.dt_flow_model.specs.declared.acts.SendAct.{SendAct}
 use Rattle.dt_flow_model.specs.declared.acts.RecvAct.{RecvAct}
-use Rattle.dt_flow_model.specs.declared.acts.RecvKind.{RecvKind}
 use Rattle.dt_flow_model.specs.declared.acts.RecvKind.TheVariants as K
 use Rattle.dt_flow_model.specs.SendRecord.{SendRecord, new_record, put, on_ack}
-use Rattle.dt_flow_model.specs.SendActs.{Act, act_of, record_after, told_of, wake_of}
-use Rattle.dt_flow_model.specs.ReceiveRecord.{ReceiveRecord, Receiver, after_data, after_meet, after_read, after_recv_act, recv_told_of}
+use Rattle.dt_flow_model.specs.SendActs.{act_of, record_after, told_of, wake_of}
+use Rattle.dt_flow_model.specs.ReceiveRecord.{Receiver, after_data, after_meet, after_read, after_recv_act, recv_told_of}
 
 -- the usual parameters: receive 4200, give 5200, send and quiet 6200
 abbrev pub usual : Params

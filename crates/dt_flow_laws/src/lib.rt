@@ -8,12 +8,13 @@ mod transit;
 mod worked;
 
 pub use functions::{
-    chosen_act_is_due, chosen_act_is_step, chosen_receiver_act_is_step, cut_is_the_longest,
-    due_kind_is_not_passed_over, first_place_is_told, reading_is_step, taking_is_steps,
-    wake_is_first_due, wake_of_receiver_is_first_due,
+    acknowledgement_splits_at_an_end, chosen_act_is_due, chosen_act_is_step,
+    chosen_receiver_act_is_step, cut_is_the_longest, due_kind_is_not_passed_over,
+    first_place_is_told, reading_is_step, resent_segment_goes_first, taking_is_steps,
+    time_and_restarts_are_steps, wake_is_first_due, wake_of_receiver_is_first_due,
 };
 pub use safety::{
-    fates_are_final, fates_stay_final, facts_give_safety, new_flow_has_facts,
+    facts_give_safety, fates_are_final, fates_stay_final, new_flow_has_facts,
     reached_flow_has_facts, receiver_without_live_record, safe_after_every_list_of_steps,
     safety_has_one_proof, step_keeps_facts, steps_keep_facts,
 };

@@ -1,6 +1,6 @@
 -- The facts about time that each small step of a flow keeps. They are what makes the ledger safe.
 -- Numbers that speak of a run are 0 where there is none, so that no fact needs a case for it.
-use Rattle.std.specs.Prelude.{ℕ, suc, ◌+◌, ◌-◌, ◌<◌, ◌≤◌, ◌≡◌, ◌≢◌, ◌⊎◌, max, Bool, true, false, List, [], ◌∷◌, ◌++◌, map, length, Option, Some, None}
+use Rattle.std.specs.Prelude.{ℕ, suc, ◌+◌, ◌-◌, ◌<◌, ◌≤◌, ◌≡◌, ◌≢◌, ◌⊎◌, max, true, false, List, [], ◌∷◌, ◌++◌, map, length, Option, Some, None}
 use Rattle.std.proofs.Math.ListN.{get_or, drop}
 use Rattle.dt_items.specs.declared.item.Item.{Item}
 use Rattle.dt_units.specs.declared.parameters.Params.{Params}
@@ -291,18 +291,6 @@ pub record Kept (p : Params) (s after : FlowState) (made : List Packet) : Type 0
   pub facts : Facts p after
   pub packets : (q : Packet) → Fits p s q → Fits p after q
   pub made_fit : AllFit p after made
-
--- no row goes and no row changes, but for a first moment where there was none, and for a fate that was Open
-pub record KeepsRow (row after : Taken) : Type 0 where
-  pub item : item_of after ≡ item_of row
-  pub life : after.life ≡ row.life
-  pub first : (moment : ℕ) → row.first ≡ Some moment → after.first ≡ Some moment
-  pub fate : row.fate ≢ Open → after.fate ≡ row.fate
-
-abbrev pub KeepsRows : List Taken → List Taken → Type 0
-KeepsRows [] after = Unit {0}
-KeepsRows (row ∷ rows) [] = ⊥
-KeepsRows (row ∷ rows) (row' ∷ rows') = KeepsRow row row' × KeepsRows rows rows'
 
 -- a fate that isn't Open stays, and so does each row
 pub record KeepsFates (rows after : List Taken) : Type 0 where

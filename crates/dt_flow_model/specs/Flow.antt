@@ -1,6 +1,6 @@
 -- One flow between two stations: the records at its two ends, its ledger, and the run that its sender is in.
 -- Moments are the world's. A station's clock is ahead of them by a constant, its zero; the moments in a record and of a quiet time are readings of the station's clock.
-use Rattle.std.specs.Prelude.{ℕ, zero, suc, ◌+◌, ◌-◌, ◌==◌, Bool, true, false, if◌then◌else◌, List, [], ◌∷◌, length, Option, Some, None}
+use Rattle.std.specs.Prelude.{ℕ, zero, suc, ◌+◌, ◌-◌, ◌==◌, Bool, true, false, if◌then◌else◌, List, [], length, Option, Some, None}
 use Rattle.dt_items.specs.declared.item.Item.{Item}
 use Rattle.dt_flow_model.specs.declared.rows.Taken.{Taken}
 use Rattle.dt_flow_model.specs.declared.rows.Given.{Given}

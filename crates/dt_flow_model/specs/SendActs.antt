@@ -1,5 +1,5 @@
 -- The acts of a send record: when each kind is due, its due moment, what it does, and when the record is to be woken.
-use Rattle.std.specs.Prelude.{ℕ, ◌+◌, ◌<◌, ◌≤◌, ◌≡◌, min, Bool, true, false, ◌&&◌, if◌then◌else◌, nat_lt, nat_le, List, [], ◌∷◌, ◌++◌, length, Option, Some, None}
+use Rattle.std.specs.Prelude.{ℕ, ◌+◌, ◌<◌, ◌≤◌, ◌≡◌, min, Bool, true, false, ◌&&◌, if◌then◌else◌, nat_lt, nat_le, List, [], ◌∷◌, ◌++◌, length, Option, Some, None, All}
 use Rattle.dt_items.specs.declared.item.Item.{Item}
 use Rattle.dt_units.specs.declared.parameters.Params.{Params}
 use Rattle.dt_units.specs.Times.{give_time, send_time}
@@ -103,6 +103,11 @@ kind_of renew = Release
 kind_of (resend before g after) = Resend
 kind_of (send cut rest) = Send
 kind_of meet = Meet
+
+-- The segment that goes out again is, of those that may, the one whose last transmission was first, and the leftmost of these.
+pub record GoesFirst (p : Params) (now : ℕ) (before : List Segment) (g : Segment) (after : List Segment) : Type 0 where
+  pub before_it : All (λ h. is_late p now h ≡ true → g.last < h.last) before
+  pub after_it : All (λ h. is_late p now h ≡ true → g.last ≤ h.last) after
 
 -- the order of the kinds
 abbrev pub rank_of : SendKind → ℕ

@@ -56,6 +56,10 @@ held_of x = items_in x.outstanding + length x.waiting
 abbrev pub room_of : Params → SendRecord → ℕ
 room_of p x = p.cap - held_of x
 
+-- whether so many octets more fit
+abbrev pub fits : Params → SendRecord → ℕ → Bool
+fits p x count = nat_le (held_of x + count) p.cap
+
 -- octets are put into the record
 abbrev pub put : List Item → SendRecord → SendRecord
 put items x = record x { waiting = x.waiting ++ items }
