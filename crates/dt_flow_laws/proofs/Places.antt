@@ -1,13 +1,17 @@
 -- The place of a segment that first goes out, told from the ledger and the run alone, is its place by what the record holds.
-use Rattle.std.proofs.Common.{ℕ, zero, suc, ◌+◌, ◌<◌, ◌≡◌, List, [], ◌∷◌, ◌++◌, length, map, Option, Some, None, refl, ap, arith}
+use Rattle.std.proofs.Common.{ℕ, zero, suc, ◌+◌, ◌<◌, ◌≡◌, List, [], ◌∷◌, ◌++◌, length, map, Option, Some, None, refl, ap, ◌∙◌, subst, arith, length-append}
+use Rattle.dt_flow_model.specs.Acting.{after_act, made_by_act}
 use Rattle.dt_flow_model.specs.Facts.{AllPast, Chain, Facts, SendSide, open_rows}
-use Rattle.dt_flow_model.specs.Flow.{FlowState, place_of, told_place}
+use Rattle.dt_flow_model.specs.Flow.{FlowState, Packet, place_of, sender_reading, tag_of, told_place}
 use Rattle.dt_flow_model.specs.Ledger.{first_open, open_row}
-use Rattle.dt_flow_model.specs.SendRecord.{Segment, SendRecord, items_in, next_of}
+use Rattle.dt_flow_model.specs.SendActs.{Act, IsDue, act_of, give_up, meet, record_after, release, renew, resend, send}
+use Rattle.dt_flow_model.specs.SendRecord.{Segment, SendRecord, items_in, next_from, next_of}
 use Rattle.dt_flow_model.specs.declared.rows.Taken.{Taken}
 use Rattle.dt_items.specs.declared.item.Item.{Item}
 use Rattle.dt_units.specs.declared.parameters.Params.{Params}
-use Rattle.dt_flow_laws.proofs.Ledger.{not_open, open_here}
+use Rattle.dt_flow_laws.proofs.ActSteps.{act_is_due, cut_whole}
+-- imports: send meet release renew resend give_up
+use Rattle.dt_flow_laws.proofs.Ledger.{next_append, note_length, not_open, open_here}
 use Rattle.dt_flow_laws.proofs.SenderSteps.{taken_length, next_is}
 
 past_first : (life : ℕ) (old rows : List Taken) → AllPast life old → first_open life rows ≡ 0 → first_open life (old ++ rows) ≡ length old
@@ -42,3 +46,38 @@ told_is c s x is some f =
     let len = taken_length c s.now s.sender_zero s.sender_until s.sender_life s.run s.taken x fx in
     let told = told_at c s x fx some (next_of x) refl in
     omega (arith, told, len)
+
+-- THE TAG OF A PACKET THAT AN ACT MADE, told from the flow and the record after the act
+
+tag_resent : (p : Params) (s : FlowState) (x : SendRecord) (before after : List Segment) (g : Segment) (last : ℕ) → x.outstanding ≡ before ++ g ∷ after
+    → next_from x.left (before ++ (record g { last = last }) ∷ after) ≡ next_of x
+tag_resent p s x before after g last split = rw (next_append x.left before ((record g { last = last }) ∷ after), split, next_append x.left before (g ∷ after)) refl
+
+-- the packet's place is the tag
+abbrev TagIs : Params → FlowState → SendRecord → List Packet → Type 0
+TagIs p after x [] = Unit {0}
+TagIs p after x (q ∷ qs) = (q.place ≡ tag_of p after x q.number) × TagIs p after x qs
+
+tag_by : (p : Params) (s : FlowState) (x x' : SendRecord) (act : Act) → IsDue p (sender_reading s) x act → record_after p (sender_reading s) x act ≡ Some x' → TagIs p (after_act p s x act) x' (made_by_act p s x act)
+tag_by p s x x' (give_up g rest) due e = tt
+tag_by p s x x' release due e = tt
+tag_by p s x x' renew due e = tt
+tag_by p s x x' meet due e = let same : record x { touched = sender_reading s } ≡ x' = cc in subst (λ k. TagIs p (after_act p s x meet) k (made_by_act p s x meet)) same (refl, tt)
+tag_by p s x x' (resend before g after) due e =
+    let same : record x { touched = sender_reading s; outstanding = before ++ (record g { last = sender_reading s }) ∷ after } ≡ x' = cc in
+    let next = tag_resent p s x before after g (sender_reading s) due.0 in
+    subst (λ k. TagIs p (after_act p s x (resend before g after)) k (made_by_act p s x (resend before g after))) same (omega (arith, next), tt)
+tag_by p s x x' (send cut rest) due e =
+    let g : Segment = record { offset = next_of x; items = cut; first = sender_reading s; last = sender_reading s } in
+    let same : record x { touched = sender_reading s; outstanding = x.outstanding ++ g ∷ []; waiting = rest } ≡ x' = cc in
+    let next : next_from x.left (x.outstanding ++ g ∷ []) ≡ next_of x + length cut = next_append x.left x.outstanding (g ∷ []) in
+    let whole : x.waiting ≡ cut ++ rest = rw (due.0, due.1) (cut_whole p x) in
+    let count : length x.waiting ≡ length cut + length rest = ap (λ (is : List Item). length is) whole ∙ length-append cut rest in
+    subst (λ k. TagIs p (after_act p s x (send cut rest)) k (made_by_act p s x (send cut rest))) same
+    (omega (arith, next, count, note_length s.now (place_of s x (next_of x)) (length cut) s.taken), tt)
+
+pub tag_after : (p : Params) (s : FlowState) (x x' : SendRecord) (act : Act) (q : Packet) → act_of p (sender_reading s) x ≡ Some act → record_after p (sender_reading s) x act ≡ Some x' → made_by_act p s x act ≡ q ∷ [] → q.place ≡ tag_of p (after_act p s x act) x' q.number
+tag_after p s x x' act q chosen e made =
+    let h = tag_by p s x x' act (act_is_due p (sender_reading s) x act chosen) e in
+    let k : TagIs p (after_act p s x act) x' (q ∷ []) = subst (λ qs. TagIs p (after_act p s x act) x' qs) made h in
+    k.0

@@ -1,15 +1,15 @@
 //! The functions that say what the records do are small steps of the flow.
-ghost use Rattle.std.specs.Prelude.{ℕ, ◌≡◌, ◌≢◌, ◌<◌, ◌≤◌, List, [], ◌++◌, length, Option, Some, None};
+ghost use Rattle.std.specs.Prelude.{ℕ, ◌≡◌, ◌≢◌, ◌<◌, ◌≤◌, List, [], ◌∷◌, ◌++◌, length, Option, Some, None};
 ghost use Rattle.dt_items.specs.declared.item.Item.{Item};
 ghost use Rattle.dt_units.specs.declared.parameters.Params.{Params};
 ghost use Rattle.dt_units.specs.Limits.{IsWithinLimits};
 ghost use Rattle.dt_flow_model.specs.declared.acts.RecvKind.{RecvKind};
 ghost use Rattle.dt_flow_model.specs.Acting.{after_act, after_reading, after_receiver_act, after_taking, later_flow, made_by_act, made_by_receiver, receiver_again, sender_again};
 ghost use Rattle.dt_flow_model.specs.Facts.{Facts};
-ghost use Rattle.dt_flow_model.specs.Flow.{FlowState, place_of, receiver_reading, sender_reading, told_place};
+ghost use Rattle.dt_flow_model.specs.Flow.{FlowState, Packet, place_of, receiver_reading, sender_reading, tag_of, told_place};
 ghost use Rattle.dt_flow_model.specs.Numbering.{number_of};
 ghost use Rattle.dt_flow_model.specs.ReceiveRecord.{ReceiveRecord, recv_due_of, recv_wake_of};
-ghost use Rattle.dt_flow_model.specs.SendActs.{Act, GoesFirst, IsDue, IsFirst, act_of, kind_of, rank_of, resend, resending, wake_of};
+ghost use Rattle.dt_flow_model.specs.SendActs.{Act, GoesFirst, IsDue, IsFirst, act_of, kind_of, rank_of, record_after, resend, resending, wake_of};
 ghost use Rattle.dt_flow_model.specs.SendRecord.{IsCut, Segment, SendRecord, acknowledged, cut_size, may_go, next_from, next_of};
 ghost use Rattle.dt_flow_model.specs.Steps.{Step, Steps};
 
@@ -95,4 +95,11 @@ pub fn time_and_restarts_are_steps()
 /// by what the send record holds.
 pub fn first_place_is_told()
     ensures { (p : Params) (s : FlowState) (x : SendRecord) → s.sender ≡ Some x → 0 < length x.waiting → Facts p s → told_place s (next_of x) ≡ place_of s x (next_of x) }
+{}
+
+/// The place of a packet that an act made is its tag, told by its number from the flow and the send
+/// record as they are after the act.
+#[tactic(auto, using(crate::proofs::Places::tag_after))]
+pub fn tag_is_told_after_the_act()
+    ensures { (p : Params) (s : FlowState) (x after : SendRecord) (act : Act) (q : Packet) → act_of p (sender_reading s) x ≡ Some act → record_after p (sender_reading s) x act ≡ Some after → made_by_act p s x act ≡ q ∷ [] → q.place ≡ tag_of p (after_act p s x act) after q.number }
 {}
