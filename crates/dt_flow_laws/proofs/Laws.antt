@@ -1,5 +1,6 @@
 -- The laws of one flow, in the words of the contracts.
-use Rattle.std.proofs.Common.{ℕ, ◌+◌, ◌<◌, ◌≤◌, ◌≡◌, ◌≢◌, List, [], ◌∷◌, ◌++◌, Option, Some, None, refl, arith}
+use Rattle.std.proofs.Common.{ℕ, ◌+◌, ◌<◌, ◌≤◌, ◌≡◌, ◌≢◌, List, [], ◌∷◌, ◌++◌, Option, Some, None, refl, arith, append_assoc}
+use Rattle.std.proofs.lemmas.List.Elements.{All-nil, All-cons}
 use Rattle.std.specs.Prelude.{max}
 use Rattle.std.specs.List.{All}
 use Rattle.dt_flow_model.specs.Acting.{after_act, after_taking, later_flow, made_by_act, receiver_again, sender_again}
@@ -102,3 +103,34 @@ sender_again_is_step p s = F.sender_restarts s
 
 pub receiver_again_is_step : (p : Params) (s : FlowState) → Step p s [] [] (receiver_again p s)
 receiver_again_is_step p s = F.receiver_restarts s
+
+-- small steps joined to small steps
+pub steps_joined : (p : Params) (s mid after : FlowState) (ins made ins' made' : List Packet) → Steps p s ins made mid → Steps p mid ins' made' after → Steps p s (ins ++ ins') (made ++ made') after
+steps_joined p s mid after ins made ins' made' (none {s = t}) h = h
+steps_joined p s mid after ins made ins' made' (more {s = t} {mid = first} {after = last} {ins = i} {made = m} {ins' = j} {made' = n} step rest) h =
+    let tail : Steps p first (j ++ ins') (n ++ made') after = steps_joined p first last after j n ins' made' rest h in
+    rw (append_assoc i j ins', append_assoc m n made') (F.more step tail)
+
+-- a packet that a step made was made now
+born : (now : ℕ) (q : Packet) → q.birth ≡ now → All (λ k. k.birth ≡ now) (q ∷ [])
+born now q e = All-cons (λ k. k.birth ≡ now) q [] e (All-nil (λ k. k.birth ≡ now))
+
+pub made_now : (p : Params) (s after : FlowState) (ins made : List Packet) → Step p s ins made after → All (λ q. q.birth ≡ s.now) made
+made_now p s after ins made (F.passes t d) = All-nil (λ k. k.birth ≡ t.now)
+made_now p s after ins made (F.sender_restarts t) = All-nil (λ k. k.birth ≡ t.now)
+made_now p s after ins made (F.receiver_restarts t) = All-nil (λ k. k.birth ≡ t.now)
+made_now p s after ins made (F.makes t edge a b d) = All-nil (λ k. k.birth ≡ t.now)
+made_now p s after ins made (F.takes t x items a) = All-nil (λ k. k.birth ≡ t.now)
+made_now p s after ins made (F.gives_up t x g rest a b) = All-nil (λ k. k.birth ≡ t.now)
+made_now p s after ins made (F.releases t x a b d e) = All-nil (λ k. k.birth ≡ t.now)
+made_now p s after ins made (F.renews t x edge a b d e) = All-nil (λ k. k.birth ≡ t.now)
+made_now p s after ins made (F.resends t x pre post g a b d) = born t.now _ refl
+made_now p s after ins made (F.sends t x cut rest a b d) = born t.now _ refl
+made_now p s after ins made (F.meets t x a b d) = born t.now _ refl
+made_now p s after ins made (F.is_acked t x q window gone rest edge a b d e g) = All-nil (λ k. k.birth ≡ t.now)
+made_now p s after ins made (F.accepts_first t q items due told a b d e g) = All-nil (λ k. k.birth ≡ t.now)
+made_now p s after ins made (F.accepts t y q drf mark items due a b d e g i) = All-nil (λ k. k.birth ≡ t.now)
+made_now p s after ins made (F.tells_number t q y window a b d) = born t.now _ refl
+made_now p s after ins made (F.tells_expected t y due told window a b) = born t.now _ refl
+made_now p s after ins made (F.receiver_releases t y a b) = All-nil (λ k. k.birth ≡ t.now)
+made_now p s after ins made (F.reads t y piece rest a b) = All-nil (λ k. k.birth ≡ t.now)

@@ -14,9 +14,9 @@ pub use functions::{
     taking_is_steps, time_and_restarts_are_steps, wake_is_first_due, wake_of_receiver_is_first_due,
 };
 pub use safety::{
-    facts_give_safety, fates_are_final, fates_stay_final, new_flow_has_facts,
+    facts_give_safety, fates_are_final, fates_stay_final, new_flow_has_facts, packets_are_made_now,
     reached_flow_has_facts, receiver_without_live_record, safe_after_every_list_of_steps,
-    safety_has_one_proof, step_keeps_facts, steps_keep_facts,
+    safety_has_one_proof, step_keeps_facts, steps_are_joined, steps_keep_facts,
 };
 pub use transit::{
     acknowledgement_is_step_or_nothing, admitted_packet_waits, arriving_packet_is_alive,

@@ -1,5 +1,5 @@
 //! What each small step keeps, and that the ledger is safe.
-ghost use Rattle.std.specs.Prelude.{ℕ, ◌≡◌, ◌+◌, ◌<◌, ◌≤◌, max, List, Some, All};
+ghost use Rattle.std.specs.Prelude.{ℕ, ◌≡◌, ◌+◌, ◌<◌, ◌≤◌, max, List, ◌++◌, Some, All};
 ghost use Rattle.dt_units.specs.declared.parameters.Params.{Params};
 ghost use Rattle.dt_units.specs.Limits.{IsWithinLimits};
 ghost use Rattle.dt_units.specs.Times.{receive_time};
@@ -35,6 +35,20 @@ pub fn steps_keep_facts()
 pub fn reached_flow_has_facts()
     ensures { (p : Params) (s : FlowState) (packets : List Packet) → IsWithinLimits p → Reached p s packets → Facts p s × All (Fits p s) packets }
 {}
+
+/// Small steps can be joined.
+#[tactic(auto, using(crate::proofs::Laws::steps_joined))]
+pub fn steps_are_joined()
+    ensures { (p : Params) (s mid after : FlowState) (ins made ins' made' : List Packet) → Steps p s ins made mid → Steps p mid ins' made' after → Steps p s (ins ++ ins') (made ++ made') after }
+{
+}
+
+/// Each packet that a small step makes is made at the step's moment.
+#[tactic(auto, using(crate::proofs::Laws::made_now))]
+pub fn packets_are_made_now()
+    ensures { (p : Params) (s after : FlowState) (ins made : List Packet) → Step p s ins made after → All (λ q. q.birth ≡ s.now) made }
+{
+}
 
 /// The facts give a safe ledger.
 pub fn facts_give_safety()
