@@ -1,18 +1,19 @@
 -- The laws of one flow, in the words of the contracts.
-use Rattle.std.proofs.Common.{ℕ, ◌+◌, ◌<◌, ◌≤◌, ◌≡◌, ◌≢◌, List, [], ◌∷◌, ◌++◌, Option, Some, None, refl, arith, append_assoc}
+use Rattle.std.proofs.Common.{ℕ, zero, suc, ◌+◌, ◌<◌, ◌≤◌, ◌≡◌, ◌≢◌, List, length, [], ◌∷◌, ◌++◌, Option, Some, None, refl, arith, append_assoc}
 use Rattle.std.proofs.lemmas.List.Elements.{All-nil, All-cons}
 use Rattle.std.specs.Prelude.{max}
 use Rattle.std.specs.List.{All}
 use Rattle.dt_flow_model.specs.Acting.{after_act, after_taking, later_flow, made_by_act, receiver_again, sender_again}
-use Rattle.dt_flow_model.specs.Facts.{AllFit, Facts, Fits, Kept, ReceiveSide}
+use Rattle.dt_flow_model.specs.Facts.{AllFit, Facts, Fits, Kept, MomentsRise, ReceiveSide, accepted_before}
 use Rattle.dt_flow_model.specs.Flow.{FlowState, Packet, receiver_reading, sender_reading}
-use Rattle.dt_flow_model.specs.Ledger.{last_at, top}
+use Rattle.dt_flow_model.specs.Ledger.{given_at, last_at, last_from, top, top_from}
 use Rattle.dt_flow_model.specs.Numbering.{number_of}
 use Rattle.dt_flow_model.specs.ReceiveRecord.{ReceiveRecord}
 use Rattle.dt_flow_model.specs.Safe.{Safe}
 use Rattle.dt_flow_model.specs.SendActs.{Act, act_of}
 use Rattle.dt_flow_model.specs.SendRecord.{Segment, SendRecord, acknowledged, next_from}
 use Rattle.dt_flow_model.specs.Steps.{Reached, Step, Steps, more, none}
+use Rattle.dt_flow_model.specs.declared.rows.Given.{Given}
 use Rattle.dt_items.specs.declared.item.Item.{Item}
 use Rattle.dt_units.specs.Limits.{IsWithinLimits}
 use Rattle.dt_units.specs.Times.{receive_time}
@@ -79,6 +80,29 @@ gone_by p s (Some y) is f gone some = omega (arith, f.record_facts.touched, gone
 pub receiver_gone : (p : Params) (s : FlowState) → Facts p s → ((y : ReceiveRecord) → s.receiver ≡ Some y → y.touched + receive_time p ≤ receiver_reading s) → 0 < top s.given
     → last_at s.given + p.mpl + p.r + s.receiver_zero ≤ max (receiver_reading s) s.receiver_until
 receiver_gone p s f gone some = gone_by p s s.receiver refl f.receive_side gone some
+
+-- each acceptance was by now, and less than `mpl` after the last transmission
+moments_end : (n : ℕ) (given : List Given) → MomentsRise n given → n ≤ last_from n given
+moments_end n [] h = omega arith
+moments_end n (g ∷ gs) h = omega (arith, h.0, moments_end g.at gs h.1)
+
+moment_at : (n k : ℕ) (given : List Given) → MomentsRise n given → k < length given → (given_at given k).at ≤ last_from n given
+moment_at n k [] h lt = absurd (omega arith)
+moment_at n zero (g ∷ gs) h lt = moments_end g.at gs h.1
+moment_at n (suc k) (g ∷ gs) h lt = moment_at g.at k gs h.1 (omega arith)
+
+top_on : (n : ℕ) (given : List Given) → 0 < n → 0 < top_from n given
+top_on n [] h = h
+top_on n (g ∷ gs) h = top_on (suc g.place) gs (omega arith)
+
+top_some : (k : ℕ) (given : List Given) → k < length given → 0 < top given
+top_some k [] lt = absurd (omega arith)
+top_some k (g ∷ gs) lt = top_on (suc g.place) gs (omega arith)
+
+pub acceptance_in_time : (p : Params) (s : FlowState) (k : ℕ) → Facts p s → k < length s.given → ((given_at s.given k).at ≤ s.now) × ((given_at s.given k).at < accepted_before p s.run)
+acceptance_in_time p s k f lt =
+    let le = moment_at 0 k s.given f.receive_side.moments lt in
+    (omega (arith, le, f.receive_side.last_now), omega (arith, le, f.receive_side.last_before (top_some k s.given lt)))
 
 -- THE FUNCTIONS
 

@@ -1,11 +1,11 @@
 //! What each small step keeps, and that the ledger is safe.
-ghost use Rattle.std.specs.Prelude.{ℕ, ◌≡◌, ◌+◌, ◌<◌, ◌≤◌, max, List, ◌++◌, Some, All};
+ghost use Rattle.std.specs.Prelude.{ℕ, ◌≡◌, ◌+◌, ◌<◌, ◌≤◌, max, List, ◌++◌, length, Some, All};
 ghost use Rattle.dt_units.specs.declared.parameters.Params.{Params};
 ghost use Rattle.dt_units.specs.Limits.{IsWithinLimits};
 ghost use Rattle.dt_units.specs.Times.{receive_time};
-ghost use Rattle.dt_flow_model.specs.Facts.{AllFit, Facts, Fits, Kept, KeepsFates};
+ghost use Rattle.dt_flow_model.specs.Facts.{AllFit, Facts, Fits, Kept, KeepsFates, accepted_before};
 ghost use Rattle.dt_flow_model.specs.Flow.{FlowState, Packet, new_flow, receiver_reading};
-ghost use Rattle.dt_flow_model.specs.Ledger.{last_at, top};
+ghost use Rattle.dt_flow_model.specs.Ledger.{given_at, last_at, top};
 ghost use Rattle.dt_flow_model.specs.ReceiveRecord.{ReceiveRecord};
 ghost use Rattle.dt_flow_model.specs.Safe.{Safe};
 ghost use Rattle.dt_flow_model.specs.Steps.{Reached, Step, Steps};
@@ -40,15 +40,13 @@ pub fn reached_flow_has_facts()
 #[tactic(auto, using(crate::proofs::Laws::steps_joined))]
 pub fn steps_are_joined()
     ensures { (p : Params) (s mid after : FlowState) (ins made ins' made' : List Packet) → Steps p s ins made mid → Steps p mid ins' made' after → Steps p s (ins ++ ins') (made ++ made') after }
-{
-}
+{}
 
 /// Each packet that a small step makes is made at the step's moment.
 #[tactic(auto, using(crate::proofs::Laws::made_now))]
 pub fn packets_are_made_now()
     ensures { (p : Params) (s after : FlowState) (ins made : List Packet) → Step p s ins made after → All (λ q. q.birth ≡ s.now) made }
-{
-}
+{}
 
 /// The facts give a safe ledger.
 pub fn facts_give_safety()
@@ -84,4 +82,10 @@ pub fn fates_stay_final()
 #[tactic(auto, using(crate::proofs::Laws::receiver_gone))]
 pub fn receiver_without_live_record()
     ensures { (p : Params) (s : FlowState) → Facts p s → ((y : ReceiveRecord) → s.receiver ≡ Some y → y.touched + receive_time p ≤ receiver_reading s) → 0 < top s.given → last_at s.given + p.mpl + p.r + s.receiver_zero ≤ max (receiver_reading s) s.receiver_until }
+{}
+
+/// Each given row's moment is at most now, and less than `mpl` after the flow's last transmission.
+#[tactic(auto, using(crate::proofs::Laws::acceptance_in_time))]
+pub fn acceptance_is_in_time()
+    ensures { (p : Params) (s : FlowState) (k : ℕ) → Facts p s → k < length s.given → ((given_at s.given k).at ≤ s.now) × ((given_at s.given k).at < accepted_before p s.run) }
 {}
