@@ -14,8 +14,6 @@ use Rattle.dt_units.specs.Times.{send_time}
 use Rattle.dt_units.specs.declared.parameters.Params.{Params}
 use Rattle.dt_flow_model.specs.Steps as F
 
--- imports: send meet release renew resend give_up or_else sending
-
 pub le_true : (m n : ℕ) → nat_le m n ≡ true → m ≤ n
 le_true m n h = grind (arith, nat_tests)
 

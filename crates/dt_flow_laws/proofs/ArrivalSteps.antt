@@ -9,7 +9,7 @@ use Rattle.dt_flow_model.specs.Flow.{Ack, Data, FlowState, Meet, Packet, receive
 use Rattle.dt_flow_model.specs.Ledger.{note_read, take_rows}
 use Rattle.dt_flow_model.specs.Numbering.{against_expected, number_of}
 use Rattle.dt_flow_model.specs.ReceiveRecord.{IsCurrent, IsLive, ReceiveRecord, Receiver, action_of, action_with, action_without, after_action, answer_to, expected_of, free_of, meet_answer, opens_window, owing, record_read, recv_due_of, standing_told}
-use Rattle.dt_flow_model.specs.SendRecord.{Segment, SendRecord, acknowledged, before_all, end_of, fits, new_record, next_from, put}
+use Rattle.dt_flow_model.specs.SendRecord.{Segment, SendRecord, acknowledged, after_split, before_all, end_of, fits, new_record, next_from, put}
 use Rattle.dt_flow_model.specs.Steps.{IsAlive, IsSameRecord, IsStepOrNothing, Step, Steps}
 use Rattle.dt_flow_model.specs.declared.acts.RecvKind.{RecvKind}
 use Rattle.dt_flow_model.specs.declared.arrivals.Action.{Action}
@@ -22,7 +22,6 @@ use Rattle.dt_units.specs.declared.parameters.Params.{Params}
 use Rattle.dt_flow_model.specs.Steps as F
 use Rattle.dt_flow_model.specs.declared.acts.RecvKind.TheVariants as K
 use Rattle.dt_flow_laws.proofs.ActSteps.{le_true}
--- imports: put earlier
 use Rattle.dt_flow_laws.proofs.ReceiverSteps.{is_above}
 
 at_least : (n m : ℕ) → nat_lt n m ≡ false → m ≤ n
@@ -159,7 +158,7 @@ no_end p k left (g ∷ gs) (h ∷ gone) rest none split same =
     ]
 
 ack_split : (p : Params) (s : FlowState) (x : SendRecord) (q : Packet) (window : ℕ) (o : Option (List Segment × List Segment)) → s.sender ≡ Some x → q.kind ≡ Ack window → IsAlive p s q → acknowledged p q.number x.left x.outstanding ≡ o
-    → IsStepOrNothing p s q [] (acked_flow s x window o)
+    → IsStepOrNothing p s q [] (acked_flow s (after_split x window o))
 ack_split p s x q window None is kind alive e = inr (inr (refl, refl))
 ack_split p s x q window (Some w) is kind alive e =
     let h = split_is p q.number x.left x.outstanding w e in

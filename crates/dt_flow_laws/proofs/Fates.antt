@@ -11,8 +11,6 @@ use Rattle.dt_flow_model.specs.declared.rows.Taken.{Taken}
 use Rattle.dt_units.specs.declared.parameters.Params.{Params}
 use Rattle.dt_flow_laws.proofs.Ledger.{over_append, over_settle, over_at, over_length, note_length, note_fates}
 
--- imports: passes sender_restarts receiver_restarts makes takes gives_up releases renews resends sends meets is_acked accepts_first accepts tells_number tells_expected receiver_releases reads none more
-
 same : (rows : List Taken) → KeepsFates rows rows
 same rows = record { no_row_goes = omega arith; fates = λ p lt h. refl }
 

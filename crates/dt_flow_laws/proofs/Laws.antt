@@ -25,8 +25,6 @@ use Rattle.dt_flow_model.specs.Steps as F
 use Rattle.dt_flow_laws.proofs.ActSteps as A
 use Rattle.dt_flow_laws.proofs.ArrivalSteps as I
 
--- imports: none more
-
 -- THE FACTS
 
 pub step_keeps : (p : Params) (s after : FlowState) (ins made : List Packet) → IsWithinLimits p → Step p s ins made after → Facts p s → AllFit p s ins → Kept p s after made

@@ -1,16 +1,20 @@
 -- The place of a segment that first goes out, told from the ledger and the run alone, is its place by what the record holds.
-use Rattle.std.proofs.Common.{ℕ, zero, suc, ◌+◌, ◌<◌, ◌≡◌, List, [], ◌∷◌, ◌++◌, length, map, Option, Some, None, refl, ap, ◌∙◌, subst, arith, length-append}
+use Rattle.std.proofs.Common.{Bool, ℕ, zero, suc, ◌+◌, ◌<◌, ◌≡◌, List, [], ◌∷◌, ◌++◌, length, map, Option, Some, None, refl, ap, ◌∙◌, subst, arith, length-append}
 use Rattle.dt_flow_model.specs.Acting.{after_act, made_by_act}
 use Rattle.dt_flow_model.specs.Facts.{AllPast, Chain, Facts, SendSide, open_rows}
-use Rattle.dt_flow_model.specs.Flow.{FlowState, Packet, place_of, sender_reading, tag_of, told_place}
+use Rattle.dt_flow_model.specs.Flow.{FlowState, Packet, ack_place, place_of, sender_reading, tag_of, told_place}
 use Rattle.dt_flow_model.specs.Ledger.{first_open, open_row}
+use Rattle.dt_flow_model.specs.ReceiveRecord.{ReceiveRecord, Receiver, action_on, after_action, after_data, after_meet, answer_to, answer_to_data, free_of, standing_told}
 use Rattle.dt_flow_model.specs.SendActs.{Act, IsDue, act_of, give_up, meet, record_after, release, renew, resend, send}
 use Rattle.dt_flow_model.specs.SendRecord.{Segment, SendRecord, items_in, next_from, next_of}
+use Rattle.dt_flow_model.specs.declared.arrivals.Action.{Action}
+use Rattle.dt_flow_model.specs.declared.arrivals.Action.TheVariants.{Accept, Drop, Make, Skip, TellExpected, TellNumber}
+use Rattle.dt_flow_model.specs.declared.arrivals.Arrived.TheVariants.{Replied}
+use Rattle.dt_flow_model.specs.declared.rows.Given.{Given}
 use Rattle.dt_flow_model.specs.declared.rows.Taken.{Taken}
 use Rattle.dt_items.specs.declared.item.Item.{Item}
 use Rattle.dt_units.specs.declared.parameters.Params.{Params}
 use Rattle.dt_flow_laws.proofs.ActSteps.{act_is_due, cut_whole}
--- imports: send meet release renew resend give_up
 use Rattle.dt_flow_laws.proofs.Ledger.{next_append, note_length, not_open, open_here}
 use Rattle.dt_flow_laws.proofs.SenderSteps.{taken_length, next_is}
 
@@ -81,3 +85,31 @@ tag_after p s x x' act q chosen e made =
     let h = tag_by p s x x' act (act_is_due p (sender_reading s) x act chosen) e in
     let k : TagIs p (after_act p s x act) x' (q ∷ []) = subst (λ qs. TagIs p (after_act p s x act) x' qs) made h in
     k.0
+
+-- THE TAG OF AN ACKNOWLEDGEMENT, told from the receiver after it
+
+replied_place : (p : Params) (now : ℕ) (unread : List Item) (standing : Option ReceiveRecord) (number : ℕ) (items : List Item) (count free n w : ℕ) (action : Action) (given : List Given) (answered : ℕ) → answer_to standing number count free action ≡ Replied n w
+    → ack_place (after_action p now unread standing number items action).standing given n answered ≡ ack_place standing given n answered
+replied_place p now unread None number items count free n w Drop given answered e = refl
+replied_place p now unread None number items count free n w Make given answered e = absurd cc
+replied_place p now unread None number items count free n w TellNumber given answered e = refl
+replied_place p now unread None number items count free n w TellExpected given answered e = refl
+replied_place p now unread None number items count free n w Accept given answered e = refl
+replied_place p now unread None number items count free n w Skip given answered e = refl
+replied_place p now unread (Some y) number items count free n w Drop given answered e = refl
+replied_place p now unread (Some y) number items count free n w Make given answered e = refl
+replied_place p now unread (Some y) number items count free n w TellNumber given answered e = refl
+replied_place p now unread (Some y) number items count free n w TellExpected given answered e = refl
+replied_place p now unread (Some y) number items count free n w Accept given answered e = absurd cc
+replied_place p now unread (Some y) number items count free n w Skip given answered e = absurd cc
+
+pub data_tag : (p : Params) (now : ℕ) (r : Receiver) (drf : Bool) (number : ℕ) (items : List Item) (n w : ℕ) (given : List Given) (answered : ℕ) → answer_to_data p r drf number items ≡ Replied n w
+    → ack_place (after_data p now r drf number items).standing given n answered ≡ ack_place r.standing given n answered
+data_tag p now r drf number items n w given answered e = replied_place p now r.unread r.standing number items (length items) (free_of p r.unread) n w (action_on p r drf number items) given answered e
+
+told_tag : (standing : Option ReceiveRecord) (free n : ℕ) (given : List Given) (answered : ℕ) → ack_place (standing_told standing free) given n answered ≡ ack_place standing given n answered
+told_tag None free n given answered = refl
+told_tag (Some y) free n given answered = refl
+
+pub meet_tag : (p : Params) (r : Receiver) (n : ℕ) (given : List Given) (answered : ℕ) → ack_place (after_meet p r).standing given n answered ≡ ack_place r.standing given n answered
+meet_tag p r n given answered = told_tag r.standing (free_of p r.unread) n given answered

@@ -6,7 +6,6 @@ use Rattle.dt_flow_model.specs.Facts.{AllFit, Facts, Fits}
 use Rattle.dt_flow_model.specs.Flow.{FlowState, Packet, new_flow}
 use Rattle.dt_flow_model.specs.Steps.{Reached, goes, starts}
 use Rattle.dt_units.specs.declared.parameters.Params.{Params}
--- imports: starts goes
 use Rattle.dt_flow_laws.proofs.Kept.{kept}
 
 pub start_facts : (c : Params) (sender_zero receiver_zero : ℕ) → Facts c (new_flow sender_zero receiver_zero)

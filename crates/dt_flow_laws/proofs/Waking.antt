@@ -13,8 +13,6 @@ use Rattle.dt_units.specs.declared.parameters.Params.{Params}
 use Rattle.dt_flow_laws.proofs.ActSteps.{DueOf, le_true, true_le, true_lt, both, resend_may, cut_count}
 use Rattle.dt_flow_model.specs.declared.acts.RecvKind.TheVariants as V
 
--- imports: send meet release renew resend give_up or_else sending earlier
-
 before_le : (m n : ℕ) → n < m → nat_le m n ≡ false
 before_le m n h = grind (arith, nat_tests)
 

@@ -1,14 +1,16 @@
 //! The functions that say what the records do are small steps of the flow.
-ghost use Rattle.std.specs.Prelude.{ℕ, ◌≡◌, ◌≢◌, ◌<◌, ◌≤◌, List, [], ◌∷◌, ◌++◌, length, Option, Some, None};
+ghost use Rattle.std.specs.Prelude.{ℕ, Bool, ◌≡◌, ◌≢◌, ◌<◌, ◌≤◌, List, [], ◌∷◌, ◌++◌, length, Option, Some, None};
 ghost use Rattle.dt_items.specs.declared.item.Item.{Item};
 ghost use Rattle.dt_units.specs.declared.parameters.Params.{Params};
 ghost use Rattle.dt_units.specs.Limits.{IsWithinLimits};
 ghost use Rattle.dt_flow_model.specs.declared.acts.RecvKind.{RecvKind};
+ghost use Rattle.dt_flow_model.specs.declared.arrivals.Arrived.TheVariants.{Replied};
+ghost use Rattle.dt_flow_model.specs.declared.rows.Given.{Given};
 ghost use Rattle.dt_flow_model.specs.Acting.{after_act, after_reading, after_receiver_act, after_taking, later_flow, made_by_act, made_by_receiver, receiver_again, sender_again};
 ghost use Rattle.dt_flow_model.specs.Facts.{Facts};
-ghost use Rattle.dt_flow_model.specs.Flow.{FlowState, Packet, place_of, receiver_reading, sender_reading, tag_of, told_place};
+ghost use Rattle.dt_flow_model.specs.Flow.{FlowState, Packet, ack_place, place_of, receiver_reading, sender_reading, tag_of, told_place};
 ghost use Rattle.dt_flow_model.specs.Numbering.{number_of};
-ghost use Rattle.dt_flow_model.specs.ReceiveRecord.{ReceiveRecord, recv_due_of, recv_wake_of};
+ghost use Rattle.dt_flow_model.specs.ReceiveRecord.{ReceiveRecord, Receiver, after_data, after_meet, answer_to_data, recv_due_of, recv_wake_of};
 ghost use Rattle.dt_flow_model.specs.SendActs.{Act, GoesFirst, IsDue, IsFirst, act_of, kind_of, rank_of, record_after, resend, resending, wake_of};
 ghost use Rattle.dt_flow_model.specs.SendRecord.{IsCut, Segment, SendRecord, acknowledged, cut_size, may_go, next_from, next_of};
 ghost use Rattle.dt_flow_model.specs.Steps.{Step, Steps};
@@ -102,4 +104,10 @@ pub fn first_place_is_told()
 #[tactic(auto, using(crate::proofs::Places::tag_after))]
 pub fn tag_is_told_after_the_act()
     ensures { (p : Params) (s : FlowState) (x after : SendRecord) (act : Act) (q : Packet) → act_of p (sender_reading s) x ≡ Some act → record_after p (sender_reading s) x act ≡ Some after → made_by_act p s x act ≡ q ∷ [] → q.place ≡ tag_of p (after_act p s x act) after q.number }
+{}
+
+/// The place of an acknowledgement is the same, told from the receiver before it or after it.
+pub fn acknowledgement_tag_is_told_after()
+    ensures data_packet { (p : Params) (now : ℕ) (r : Receiver) (drf : Bool) (number : ℕ) (items : List Item) (n w : ℕ) (given : List Given) (answered : ℕ) → answer_to_data p r drf number items ≡ Replied n w → ack_place (after_data p now r drf number items).standing given n answered ≡ ack_place r.standing given n answered }
+    ensures own_act { (p : Params) (r : Receiver) (n : ℕ) (given : List Given) (answered : ℕ) → ack_place (after_meet p r).standing given n answered ≡ ack_place r.standing given n answered }
 {}

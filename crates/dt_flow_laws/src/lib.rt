@@ -8,10 +8,11 @@ mod transit;
 mod worked;
 
 pub use functions::{
-    acknowledgement_splits_at_an_end, chosen_act_is_due, chosen_act_is_step,
-    chosen_receiver_act_is_step, cut_is_the_longest, due_kind_is_not_passed_over,
-    first_place_is_told, reading_is_step, resent_segment_goes_first, tag_is_told_after_the_act,
-    taking_is_steps, time_and_restarts_are_steps, wake_is_first_due, wake_of_receiver_is_first_due,
+    acknowledgement_splits_at_an_end, acknowledgement_tag_is_told_after, chosen_act_is_due,
+    chosen_act_is_step, chosen_receiver_act_is_step, cut_is_the_longest,
+    due_kind_is_not_passed_over, first_place_is_told, reading_is_step, resent_segment_goes_first,
+    tag_is_told_after_the_act, taking_is_steps, time_and_restarts_are_steps, wake_is_first_due,
+    wake_of_receiver_is_first_due,
 };
 pub use safety::{
     facts_give_safety, fates_are_final, fates_stay_final, new_flow_has_facts, packets_are_made_now,

@@ -11,7 +11,7 @@ use Rattle.dt_flow_model.specs.declared.arrivals.Arrived.{Arrived}
 use Rattle.dt_flow_model.specs.declared.arrivals.Arrived.TheVariants as A
 use Rattle.dt_flow_model.specs.Numbering.{number_of}
 use Rattle.dt_flow_model.specs.Ledger.{settle, note_first, take_rows, given_rows, note_read}
-use Rattle.dt_flow_model.specs.SendRecord.{Segment, SendRecord, new_record, next_of, put, leads, acknowledged, record_acked, items_in}
+use Rattle.dt_flow_model.specs.SendRecord.{SendRecord, new_record, next_of, put, leads, on_ack}
 use Rattle.dt_flow_model.specs.SendActs.{Act, give_up, release, renew, resend, send, meet, record_after}
 use Rattle.dt_flow_model.specs.ReceiveRecord.{ReceiveRecord, Receiver, free_of, after_data, answer_to_data, after_meet, answer_to_meet, after_read, after_recv_act}
 use Rattle.dt_flow_model.specs.Flow.{Data, Ack, Meet, Packet, FlowState, sender_reading, receiver_reading, receiver_of, run_after, place_of, ack_place}
@@ -56,14 +56,14 @@ record_for p now (Some x) = x
 abbrev pub after_taking : Params → FlowState → List Item → FlowState
 after_taking p s items = record s { sender = Some (put items (record_for p (sender_reading s) s.sender)); taken = take_rows s.sender_life items s.taken }
 
--- an acknowledgement with a number and a window comes to the sender: what it splits off the outstanding segments is acknowledged
-abbrev pub acked_flow : FlowState → SendRecord → ℕ → Option (List Segment × List Segment) → FlowState
-acked_flow s x window None = s
-acked_flow s x window (Some (gone, rest)) = record s { sender = Some (record_acked x gone rest window); taken = settle s.sender_life Acked (items_in gone) s.taken }
+-- an acknowledgement with a number and a window comes to the sender: what it acknowledges gets its fate
+abbrev pub acked_flow : FlowState → Option (SendRecord × ℕ) → FlowState
+acked_flow s None = s
+acked_flow s (Some (after, count)) = record s { sender = Some after; taken = settle s.sender_life Acked count s.taken }
 
 abbrev pub ack_of_record : Params → FlowState → Option SendRecord → ℕ → ℕ → FlowState
 ack_of_record p s None number window = s
-ack_of_record p s (Some x) number window = acked_flow s x window (acknowledged p number x.left x.outstanding)
+ack_of_record p s (Some x) number window = acked_flow s (on_ack p x number window)
 
 -- a silent station takes no packet
 abbrev pub after_ack : Params → FlowState → Packet → ℕ → FlowState
