@@ -1,6 +1,7 @@
 -- What stays of the facts where the ledger, the time or the run moves on.
 use Rattle.std.proofs.Common.{ℕ, zero, suc, ◌+◌, ◌<◌, ◌≤◌, ◌≡◌, ◌≢◌, ◌⊎◌, Bool, false, List, [], ◌∷◌, ◌++◌, length, Option, Some, None, refl, sym, ◌∙◌, subst, inl, inr, arith}
-use Rattle.dt_flow_model.specs.Facts.{AllGivenFacts, Covers, IsGiven, IsOlder, IsPresent, KeepsRows, KindFacts, MomentsRise, OfRun, PacketFacts, ReceiveSide, ReceiverFacts, RecvFacts, Rising, accepted_before, births_end, firsts_end, free_from}
+use Rattle.dt_flow_laws.proofs.Rows.{KeepsRows}
+use Rattle.dt_flow_model.specs.Facts.{AllGivenFacts, Covers, IsGiven, IsOlder, IsPresent, KindFacts, MomentsRise, OfRun, PacketFacts, ReceiveSide, ReceiverFacts, RecvFacts, Rising, accepted_before, births_end, firsts_end, free_from}
 use Rattle.dt_flow_model.specs.Flow.{Ack, Data, Kind, Meet, Packet, Run}
 use Rattle.dt_flow_model.specs.Ledger.{given_rows, last_at, last_from, row_at, top, top_from}
 use Rattle.dt_flow_model.specs.ReceiveRecord.{IsLive, ReceiveRecord}

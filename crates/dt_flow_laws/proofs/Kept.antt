@@ -5,7 +5,6 @@ use Rattle.dt_flow_model.specs.Facts.{AllFit, Facts, Kept}
 use Rattle.dt_flow_model.specs.Flow.{FlowState, Packet}
 use Rattle.dt_flow_model.specs.Steps.{Step, accepts, accepts_first, gives_up, is_acked, makes, meets, passes, reads, receiver_releases, receiver_restarts, releases, renews, resends, sender_restarts, sends, takes, tells_expected, tells_number}
 use Rattle.dt_units.specs.declared.parameters.Params.{Params}
--- imports: passes sender_restarts receiver_restarts makes takes gives_up releases renews resends sends meets is_acked accepts_first accepts tells_number tells_expected receiver_releases reads
 use Rattle.dt_flow_laws.proofs.ReadKept.{read_kept}
 use Rattle.dt_flow_laws.proofs.SenderSteps as X
 use Rattle.dt_flow_laws.proofs.Transmissions as S

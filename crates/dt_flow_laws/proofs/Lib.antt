@@ -1,4 +1,5 @@
 pub mod Timed
+pub mod Rows
 pub mod Ledger
 pub mod Frame
 pub mod SenderSteps
@@ -6,6 +7,15 @@ pub mod Transmissions
 pub mod ReceiverSteps
 pub mod ReadKept
 pub mod Kept
+pub mod ActSteps
+pub mod Waking
+pub mod Resends
+pub mod ArrivalSteps
+pub mod Cuts
+pub mod Places
+pub mod Ages
+pub mod Fates
 pub mod SafeOf
 pub mod Reached
 pub mod Props
+pub mod Laws

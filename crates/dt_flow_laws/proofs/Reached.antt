@@ -1,13 +1,11 @@
 -- What small steps lead to is safe.
-use Rattle.std.proofs.Common.{ℕ, ◌<◌, ◌≡◌, List, [], ◌∷◌, refl, ◌∙◌, arith}
+use Rattle.std.proofs.Common.{ℕ, ◌<◌, List, [], ◌∷◌, refl, arith}
 use Rattle.std.specs.List.{All, Contains}
-use Rattle.std.proofs.lemmas.List.{append-nil}
 use Rattle.std.proofs.lemmas.List.Elements.{All-nil, All-append, All-cons, All-head, All-tail, All-contains, All-weaker}
 use Rattle.dt_flow_model.specs.Facts.{AllFit, Facts, Fits}
 use Rattle.dt_flow_model.specs.Flow.{FlowState, Packet, new_flow}
 use Rattle.dt_flow_model.specs.Steps.{Reached, goes, starts}
 use Rattle.dt_units.specs.declared.parameters.Params.{Params}
--- imports: starts goes
 use Rattle.dt_flow_laws.proofs.Kept.{kept}
 
 pub start_facts : (c : Params) (sender_zero receiver_zero : ℕ) → Facts c (new_flow sender_zero receiver_zero)

@@ -16,7 +16,6 @@ use Rattle.dt_units.specs.declared.parameters.Params.{Params}
 use Rattle.dt_flow_laws.proofs.Ledger.{fall_end, fall_more, fall_append}
 use Rattle.dt_flow_laws.proofs.Frame.{alive_present}
 use Rattle.dt_flow_laws.proofs.ReceiverSteps.{is_equal}
--- imports: passes sender_restarts receiver_restarts makes takes gives_up releases renews resends sends meets is_acked accepts_first accepts tells_number tells_expected receiver_releases reads
 
 nat_self : (n : ℕ) → (n == n) ≡ true
 nat_self n = grind (arith, nat_tests)

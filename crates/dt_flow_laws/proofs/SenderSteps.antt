@@ -2,8 +2,9 @@
 use Rattle.std.proofs.Common.{ℕ, ◌+◌, ◌-◌, ◌<◌, ◌≤◌, ◌≡◌, ◌≢◌, List, [], ◌∷◌, ◌++◌, length, map, Option, Some, None, refl, ap, sym, ◌∙◌, subst, inl, inr, arith, append_assoc, length-append}
 use Rattle.std.proofs.lemmas.List.{length-map, map-append, append-nil}
 use Rattle.std.proofs.lemmas.Bool.{cases_lt}
+use Rattle.dt_flow_laws.proofs.Rows.{KeepsRows}
 use Rattle.dt_flow_laws.proofs.Timed.{Timed, TimedKept}
-use Rattle.dt_flow_model.specs.Facts.{AllPast, Chain, Covers, Fits, IsGiven, KeepsRows, SendFacts, SendSide, SenderFacts, Sending, free_from, lives_of, open_rows, rows_out}
+use Rattle.dt_flow_model.specs.Facts.{AllPast, Chain, Covers, Fits, IsGiven, SendFacts, SendSide, SenderFacts, Sending, free_from, lives_of, open_rows, rows_out}
 use Rattle.dt_flow_model.specs.Flow.{Ack, FlowState, Packet, Run}
 use Rattle.dt_flow_model.specs.Ledger.{open_row, row_at, settle, take_rows}
 use Rattle.dt_flow_model.specs.Numbering.{number_of}

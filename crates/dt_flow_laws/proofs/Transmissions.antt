@@ -1,10 +1,11 @@
 -- The sender's transmissions keep the facts.
-use Rattle.std.proofs.Common.{ℕ, zero, suc, ◌+◌, ◌-◌, ◌<◌, ◌≤◌, ◌≡◌, ◌≢◌, ◌⊎◌, ◌==◌, List, [], ◌∷◌, ◌++◌, length, map, Option, Some, None, refl, ap, sym, ◌∙◌, inl, inr, arith, get_or, append_assoc, length-append}
+use Rattle.std.proofs.Common.{ℕ, zero, suc, ◌+◌, ◌-◌, ◌<◌, ◌≤◌, ◌≡◌, ◌≢◌, ◌⊎◌, List, [], ◌∷◌, ◌++◌, length, map, Option, Some, None, refl, ap, sym, ◌∙◌, inl, inr, arith, get_or, append_assoc, length-append}
 use Rattle.std.proofs.lemmas.List.{length-map, map-append, append-nil}
 use Rattle.std.proofs.lemmas.Bool.{cases_lt}
 use Rattle.std.proofs.lemmas.Bool.Decides.{nat_tests}
+use Rattle.dt_flow_laws.proofs.Rows.{KeepsRows}
 use Rattle.dt_flow_laws.proofs.Timed.{Timed, TimedKept}
-use Rattle.dt_flow_model.specs.Facts.{Chain, KeepsRows, PacketFacts, ReceiveSide, SendFacts, SendSide, Sending, firsts_end, free_from, open_rows, rows_out}
+use Rattle.dt_flow_model.specs.Facts.{Chain, PacketFacts, ReceiveSide, SendFacts, SendSide, Sending, firsts_end, free_from, open_rows, rows_out}
 use Rattle.dt_flow_model.specs.Flow.{Data, FlowState, Meet, Packet, Run, place_of, run_after}
 use Rattle.dt_flow_model.specs.Ledger.{no_item, note_first, open_row, row_at}
 use Rattle.dt_flow_model.specs.Numbering.{number_of}

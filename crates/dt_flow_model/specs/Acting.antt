@@ -1,5 +1,5 @@
 -- What the acts of the records and the arrivals of packets do to the flow, as functions: the flow after them, and the packets that they make.
-use Rattle.std.specs.Prelude.{ℕ, ◌+◌, Bool, true, false, if◌then◌else◌, nat_lt, List, [], ◌∷◌, ◌++◌, length, Option, Some, None}
+use Rattle.std.specs.Prelude.{ℕ, ◌+◌, Bool, if◌then◌else◌, nat_lt, List, [], ◌∷◌, ◌++◌, length, Option, Some, None}
 use Rattle.dt_items.specs.declared.item.Item.{Item}
 use Rattle.dt_units.specs.declared.parameters.Params.{Params}
 use Rattle.dt_units.specs.Times.{quiet_time}
@@ -11,7 +11,7 @@ use Rattle.dt_flow_model.specs.declared.arrivals.Arrived.{Arrived}
 use Rattle.dt_flow_model.specs.declared.arrivals.Arrived.TheVariants as A
 use Rattle.dt_flow_model.specs.Numbering.{number_of}
 use Rattle.dt_flow_model.specs.Ledger.{settle, note_first, take_rows, given_rows, note_read}
-use Rattle.dt_flow_model.specs.SendRecord.{Segment, SendRecord, new_record, next_of, put, leads, acknowledged, record_acked, items_in}
+use Rattle.dt_flow_model.specs.SendRecord.{SendRecord, new_record, next_of, put, leads, on_ack}
 use Rattle.dt_flow_model.specs.SendActs.{Act, give_up, release, renew, resend, send, meet, record_after}
 use Rattle.dt_flow_model.specs.ReceiveRecord.{ReceiveRecord, Receiver, free_of, after_data, answer_to_data, after_meet, answer_to_meet, after_read, after_recv_act}
 use Rattle.dt_flow_model.specs.Flow.{Data, Ack, Meet, Packet, FlowState, sender_reading, receiver_reading, receiver_of, run_after, place_of, ack_place}
@@ -56,14 +56,14 @@ record_for p now (Some x) = x
 abbrev pub after_taking : Params → FlowState → List Item → FlowState
 after_taking p s items = record s { sender = Some (put items (record_for p (sender_reading s) s.sender)); taken = take_rows s.sender_life items s.taken }
 
--- an acknowledgement with a number and a window comes to the sender: what it splits off the outstanding segments is acknowledged
-abbrev pub acked_flow : FlowState → SendRecord → ℕ → Option (List Segment × List Segment) → FlowState
-acked_flow s x window None = s
-acked_flow s x window (Some (gone, rest)) = record s { sender = Some (record_acked x gone rest window); taken = settle s.sender_life Acked (items_in gone) s.taken }
+-- an acknowledgement with a number and a window comes to the sender: what it acknowledges gets its fate
+abbrev pub acked_flow : FlowState → Option (SendRecord × ℕ) → FlowState
+acked_flow s None = s
+acked_flow s (Some (after, count)) = record s { sender = Some after; taken = settle s.sender_life Acked count s.taken }
 
 abbrev pub ack_of_record : Params → FlowState → Option SendRecord → ℕ → ℕ → FlowState
 ack_of_record p s None number window = s
-ack_of_record p s (Some x) number window = acked_flow s x window (acknowledged p number x.left x.outstanding)
+ack_of_record p s (Some x) number window = acked_flow s (on_ack p x number window)
 
 -- a silent station takes no packet
 abbrev pub after_ack : Params → FlowState → Packet → ℕ → FlowState
@@ -74,9 +74,9 @@ abbrev pub given_by : FlowState → Packet → List Item → Arrived → List Gi
 given_by s q items (A.Accepted run count) = s.given ++ given_rows s.receiver_life s.now run q.place items
 given_by s q items other = s.given
 
-abbrev pub reply_to : FlowState → Packet → Arrived → List Packet
-reply_to s q (A.Replied number window) = (record { kind = Ack window; number = number; birth = s.now; place = ack_place s.receiver s.given number q.place }) ∷ []
-reply_to s q other = []
+abbrev pub reply_of : Option ReceiveRecord → FlowState → Packet → Arrived → List Packet
+reply_of standing s q (A.Replied number window) = (record { kind = Ack window; number = number; birth = s.now; place = ack_place standing s.given number q.place }) ∷ []
+reply_of standing s q other = []
 
 abbrev pub with_receiver : FlowState → Receiver → FlowState
 with_receiver s r = record s { receiver = r.standing; unread = r.unread }
@@ -91,14 +91,14 @@ abbrev pub after_data_packet : Params → FlowState → Packet → Bool → List
 after_data_packet p s q drf items = if nat_lt (receiver_reading s) s.receiver_until then s else data_flow p s q drf items
 
 abbrev pub made_by_data : Params → FlowState → Packet → Bool → List Item → List Packet
-made_by_data p s q drf items = if nat_lt (receiver_reading s) s.receiver_until then [] else reply_to s q (answer_to_data p (receiver_of s) drf q.number items)
+made_by_data p s q drf items = if nat_lt (receiver_reading s) s.receiver_until then [] else reply_of s.receiver s q (answer_to_data p (receiver_of s) drf q.number items)
 
 -- a rendezvous packet comes to the receiver
 abbrev pub after_meet_packet : Params → FlowState → Packet → FlowState
 after_meet_packet p s q = if nat_lt (receiver_reading s) s.receiver_until then s else with_receiver s (after_meet p (receiver_of s))
 
 abbrev pub made_by_meet : Params → FlowState → Packet → List Packet
-made_by_meet p s q = if nat_lt (receiver_reading s) s.receiver_until then [] else reply_to s q (answer_to_meet p (receiver_of s) q.number)
+made_by_meet p s q = if nat_lt (receiver_reading s) s.receiver_until then [] else reply_of s.receiver s q (answer_to_meet p (receiver_of s) q.number)
 
 -- a read of so many unread octets
 abbrev pub after_reading : Params → FlowState → ℕ → FlowState

@@ -1,6 +1,6 @@
 -- The facts about time that each small step of a flow keeps. They are what makes the ledger safe.
 -- Numbers that speak of a run are 0 where there is none, so that no fact needs a case for it.
-use Rattle.std.specs.Prelude.{ℕ, suc, ◌+◌, ◌-◌, ◌<◌, ◌≤◌, ◌≡◌, ◌≢◌, ◌⊎◌, max, Bool, true, false, List, [], ◌∷◌, ◌++◌, map, length, Option, Some, None}
+use Rattle.std.specs.Prelude.{ℕ, suc, ◌+◌, ◌-◌, ◌<◌, ◌≤◌, ◌≡◌, ◌≢◌, ◌⊎◌, max, true, false, List, [], ◌∷◌, ◌++◌, map, length, Option, Some, None}
 use Rattle.std.proofs.Math.ListN.{get_or, drop}
 use Rattle.dt_items.specs.declared.item.Item.{Item}
 use Rattle.dt_units.specs.declared.parameters.Params.{Params}
@@ -83,7 +83,7 @@ MomentsRise at (row ∷ rows) = (at ≤ row.at) × MomentsRise row.at rows
 
 -- THE SENDER
 
--- a send record that has transmitted, with the rows before its open ones
+-- Sender's open places: a send record that has transmitted, with the rows before its open ones.
 pub record Sending (clock life : ℕ) (run : Run) (x : SendRecord) (old taken : List Taken) : Type 0 where
   -- its base is the run's: `left` stands at the first of its open rows
   pub base : run.base + x.left ≡ length old
@@ -105,7 +105,7 @@ pub record SendFacts (p : Params) (now clock life : ℕ) (run : Option Run) (old
   -- a record that has transmitted is of the present run
   pub sending : 0 < next_of x → (r : Run) × (run ≡ Some r) × Sending clock life r x old taken
 
--- without a send record, `send` has passed since the last transmission, or will have when the station is no longer silent
+-- Sender gone: without a send record, `send` has passed since the last transmission, or will have when the station is no longer silent
 abbrev pub SenderFacts : Params → ℕ → ℕ → ℕ → ℕ → Option Run → List Taken → List Taken → Option SendRecord → Type 0
 SenderFacts p now clock until life run old taken None = free_from p run + clock ≤ max (now + clock) until
 SenderFacts p now clock until life run old taken (Some x) = SendFacts p now clock life run old taken x
@@ -113,17 +113,17 @@ SenderFacts p now clock until life run old taken (Some x) = SendFacts p now cloc
 -- the sending side of a flow
 pub record SendSide (p : Params) (now clock until life : ℕ) (run : Option Run) (taken : List Taken) (sender : Option SendRecord) : Type 0 where
   pub old : List Taken
-  -- The ledger ends in what the send record holds: the rows of its outstanding octets, with the first moments of their segments, and then of its waiting ones. They are Open and of the present life.
+  -- Sender's open places. The ledger ends in what the send record holds: the rows of its outstanding octets, with the first moments of their segments, and then of its waiting ones. They are Open and of the present life.
   pub ledger : taken ≡ old ++ open_rows clock life sender
   -- Before them nothing of the present life is Open.
   pub past : AllPast life old
-  -- The life numbers of taken rows never fall with the place, and none is above the sender's present one.
+  -- Lives rise. The life numbers of taken rows never fall with the place, and none is above the sender's present one.
   pub lives : NeverFall 0 life (lives_of taken)
   pub record_facts : SenderFacts p now clock until life run old taken sender
 
 -- THE RECEIVER
 
--- a live receive record, with the present run
+-- Live receiver: a live receive record, with the present run.
 pub record Receiving (p : Params) (y : ReceiveRecord) (taken : List Taken) (given : List Given) (run : Run) : Type 0 where
   -- the expected number is that of an offset, and its place is the one after the last given
   pub offset : ℕ
@@ -139,7 +139,7 @@ pub record RecvFacts (p : Params) (now clock : ℕ) (run : Option Run) (taken : 
   -- a live record is of the present run
   pub receiving : IsLive p (now + clock) y → (r : Run) × (run ≡ Some r) × Receiving p y taken given r
 
--- without a receive record, `mpl + r` has passed since the last acceptance, or will have when the station is no longer silent
+-- Receiver gone: without a receive record, `mpl + r` has passed since the last acceptance, or will have when the station is no longer silent
 abbrev pub ReceiverFacts : Params → ℕ → ℕ → ℕ → Option Run → List Taken → List Given → Option ReceiveRecord → Type 0
 ReceiverFacts p now clock until run taken given None = 0 < top given → last_at given + p.mpl + p.r + clock ≤ max (now + clock) until
 ReceiverFacts p now clock until run taken given (Some y) = RecvFacts p now clock run taken given y
@@ -160,7 +160,7 @@ pub record ReceiveSide (p : Params) (now clock until sender_life : ℕ) (run : O
   -- the last transmission was by now, and none before the run began
   pub sent_now : firsts_end run ≤ suc now
   pub began : (r : Run) → run ≡ Some r → r.began ≤ r.sent
-  -- Each first moment is at most the moment of the last transmission.
+  -- First moments. Each first moment is at most the moment of the last transmission.
   pub first_end : (place first : ℕ) → (row_at taken place).first ≡ Some first → first < firsts_end run
   -- Among the places that have a first moment, first moments never fall with the place.
   pub firsts : (place later first next : ℕ) → place ≤ later → (row_at taken place).first ≡ Some first → (row_at taken later).first ≡ Some next → first ≤ next
@@ -207,7 +207,7 @@ pub record ReadSide (life : ℕ) (receiver : Option ReceiveRecord) (unread : Lis
   pub unread_is : unread ≡ drop (read_in life reads) (given_in life given)
   -- In no life was more read than given.
   pub within : (l : ℕ) → read_in l reads ≤ length (given_in l given)
-  -- The life numbers of given rows never fall, and none is above the receiver's present one.
+  -- Lives rise. The life numbers of given rows never fall, and none is above the receiver's present one.
   pub lives : NeverFall 0 life (lives_given given)
   -- A given row without a run mark follows the one before it.
   pub joined : Joined None given
@@ -221,7 +221,7 @@ pub record Facts (p : Params) (s : FlowState) : Type 0 where
 
 -- PACKETS
 
--- a data packet: its places have one first moment, it was made less than `r` after it, and its octets and marks are theirs
+-- Data in a packet: its places have one first moment, it was made less than `r` after it, and its octets and marks are theirs
 pub record DataFacts (p : Params) (taken : List Taken) (items : List Item) (q : Packet) : Type 0 where
   pub first : ℕ
   pub firsts : (k : ℕ) → k < length items → (row_at taken (q.place + k)).first ≡ Some first
@@ -241,13 +241,13 @@ births_end p None (Ack window) = 0
 births_end p (Some run) (Ack window) = run.sent + p.mpl + receive_time p
 births_end p run Meet = firsts_end run
 
--- Before a packet that leads, nothing of the run is Open. Before an acknowledgement, each place of the run is given or isn't Open.
+-- Settled below: before a packet that leads, nothing of the run is Open. Before an acknowledgement, each place of the run is given or isn't Open.
 abbrev pub Covers : List Taken → List Given → Run → Packet → Kind → Type 0
 Covers taken given run q (Data drf items) = drf ≡ true → (place : ℕ) → run.base ≤ place → place < q.place → (row_at taken place).fate ≢ Open
 Covers taken given run q (Ack window) = (place : ℕ) → run.base ≤ place → place < q.place → IsGiven given place ⊎ ((row_at taken place).fate ≢ Open)
 Covers taken given run q Meet = (place : ℕ) → run.base ≤ place → place < q.place → (row_at taken place).fate ≢ Open
 
--- a packet of the present run: its number is that of an offset, and its place is the offset's
+-- Packet of a run: a packet of the present run has the number of an offset, and its place is the offset's.
 pub record OfRun (p : Params) (taken : List Taken) (given : List Given) (q : Packet) (run : Run) : Type 0 where
   pub offset : ℕ
   pub place : run.base + offset ≡ q.place
@@ -292,14 +292,7 @@ pub record Kept (p : Params) (s after : FlowState) (made : List Packet) : Type 0
   pub packets : (q : Packet) → Fits p s q → Fits p after q
   pub made_fit : AllFit p after made
 
--- no row goes and no row changes, but for a first moment where there was none, and for a fate that was Open
-pub record KeepsRow (row after : Taken) : Type 0 where
-  pub item : item_of after ≡ item_of row
-  pub life : after.life ≡ row.life
-  pub first : (moment : ℕ) → row.first ≡ Some moment → after.first ≡ Some moment
-  pub fate : row.fate ≢ Open → after.fate ≡ row.fate
-
-abbrev pub KeepsRows : List Taken → List Taken → Type 0
-KeepsRows [] after = Unit {0}
-KeepsRows (row ∷ rows) [] = ⊥
-KeepsRows (row ∷ rows) (row' ∷ rows') = KeepsRow row row' × KeepsRows rows rows'
+-- a fate that isn't Open stays, and so does each row
+pub record KeepsFates (rows after : List Taken) : Type 0 where
+  pub no_row_goes : length rows ≤ length after
+  pub fates : (place : ℕ) → place < length rows → (row_at rows place).fate ≢ Open → (row_at after place).fate ≡ (row_at rows place).fate

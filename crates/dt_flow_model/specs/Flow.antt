@@ -1,10 +1,12 @@
 -- One flow between two stations: the records at its two ends, its ledger, and the run that its sender is in.
 -- Moments are the world's. A station's clock is ahead of them by a constant, its zero; the moments in a record and of a quiet time are readings of the station's clock.
-use Rattle.std.specs.Prelude.{ℕ, zero, suc, ◌+◌, ◌-◌, ◌==◌, Bool, true, false, if◌then◌else◌, List, [], ◌∷◌, length, Option, Some, None}
+use Rattle.std.specs.Prelude.{ℕ, zero, suc, ◌+◌, ◌-◌, ◌==◌, Bool, true, false, if◌then◌else◌, List, [], length, Option, Some, None}
 use Rattle.dt_items.specs.declared.item.Item.{Item}
 use Rattle.dt_flow_model.specs.declared.rows.Taken.{Taken}
 use Rattle.dt_flow_model.specs.declared.rows.Given.{Given}
 use Rattle.dt_flow_model.specs.declared.rows.ReadCount.{ReadCount}
+use Rattle.dt_units.specs.declared.parameters.Params.{Params}
+use Rattle.dt_flow_model.specs.Numbering.{number_of, numbers_before}
 use Rattle.dt_flow_model.specs.Ledger.{top, first_open}
 use Rattle.dt_flow_model.specs.SendRecord.{SendRecord, next_of}
 use Rattle.dt_flow_model.specs.ReceiveRecord.{ReceiveRecord, Receiver}
@@ -90,9 +92,13 @@ run_after run base now zero = Some (record { base = base; began = now; sent = no
 run_after None base now (suc next) = Some (record { base = base; began = now; sent = now })
 run_after (Some run) base now (suc next) = Some (record { base = run.base; began = run.began; sent = now })
 
--- The tag of a data or rendezvous packet: the place of an offset is the count taken, less the count waiting, less how far the offset is before the next one.
+-- the place of an offset of the send record: the count taken, less the count waiting, less how far the offset is before the next one
 abbrev pub place_of : FlowState → SendRecord → ℕ → ℕ
 place_of s x offset = length s.taken - length x.waiting - (next_of x - offset)
+
+-- The tag of a data or rendezvous packet, told by its number: the count taken, less the count waiting, less how far the number is before the next one.
+abbrev pub tag_of : Params → FlowState → SendRecord → ℕ → ℕ
+tag_of p s x number = length s.taken - length x.waiting - numbers_before number (number_of p (next_of x))
 
 -- The tag of an acknowledgement: the place after the last given one where its number is the expected one, else the place of the packet that it answers.
 abbrev pub ack_place : Option ReceiveRecord → List Given → ℕ → ℕ → ℕ

@@ -1,6 +1,6 @@
 -- The ledger of one flow: a row for each octet that it took, a row for each octet that was given to its receiver, and how much was read.
 -- The place of an octet is its row's position in the list of taken rows, over all lives of the sending station.
-use Rattle.std.specs.Prelude.{ℕ, zero, suc, ◌+◌, ◌==◌, Bool, true, false, if◌then◌else◌, ◌&&◌, ◌||◌, List, [], ◌∷◌, ◌++◌, length, map, Option, Some, None}
+use Rattle.std.specs.Prelude.{ℕ, zero, suc, ◌+◌, ◌==◌, Bool, true, false, if◌then◌else◌, ◌&&◌, ◌||◌, List, [], ◌∷◌, ◌++◌, map, Option, Some, None}
 use Rattle.std.proofs.Math.ListN.{get_or}
 use Rattle.dt_items.specs.declared.item.Item.{Item}
 use Rattle.dt_flow_model.specs.declared.rows.Fate.{Fate}

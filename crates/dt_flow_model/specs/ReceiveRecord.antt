@@ -16,6 +16,7 @@ use Rattle.dt_flow_model.specs.declared.arrivals.Arrived.TheVariants.{Accepted, 
 use Rattle.dt_flow_model.specs.Numbering.{number_after, against_expected}
 use Rattle.dt_flow_model.specs.Ledger.{unread_items}
 use Rattle.dt_flow_model.specs.SendRecord.{ends}
+use Rattle.dt_flow_model.specs.SendActs.{earlier}
 
 pub record ReceiveRecord : Type 0 where
   -- the number of the octet that comes next
@@ -43,6 +44,11 @@ expected_of (Some y) = Some y.expected
 -- a record is live while its last acceptance is less than `receive` ago
 abbrev pub IsLive : Params → ℕ → ReceiveRecord → Type 0
 IsLive p now y = now < y.touched + receive_time p
+
+-- where a record stands, it is live: it isn't due for release
+abbrev pub IsCurrent : Params → ℕ → Option ReceiveRecord → Type 0
+IsCurrent p now None = Unit {0}
+IsCurrent p now (Some y) = IsLive p now y
 
 -- The table of cases. Where no record stands: by the data-run flag, and whether the octets fit into the queue.
 abbrev pub action_without : Bool → Bool → Action
@@ -107,11 +113,19 @@ abbrev pub answer_to_data : Params → Receiver → Bool → ℕ → List Item �
 answer_to_data p r drf number items = answer_to r.standing number (length items) (free_of p r.unread) (action_on p r drf number items)
 
 -- a rendezvous packet comes: it is replied to with the expected number where a record stands, else with its own
+abbrev pub standing_told : Option ReceiveRecord → ℕ → Option ReceiveRecord
+standing_told None free = None
+standing_told (Some y) free = Some (record_told y free)
+
+abbrev pub meet_answer : Option ReceiveRecord → ℕ → ℕ → Arrived
+meet_answer None number free = Replied number free
+meet_answer (Some y) number free = Replied y.expected free
+
 abbrev pub after_meet : Params → Receiver → Receiver
-after_meet p r = elim r.standing [ None ↦ r | Some y ↦ record r { standing = Some (record_told y (free_of p r.unread)) } ]
+after_meet p r = record { unread = r.unread; standing = standing_told r.standing (free_of p r.unread) }
 
 abbrev pub answer_to_meet : Params → Receiver → ℕ → Arrived
-answer_to_meet p r number = elim r.standing [ None ↦ Replied number (free_of p r.unread) | Some y ↦ Replied y.expected (free_of p r.unread) ]
+answer_to_meet p r number = meet_answer r.standing number (free_of p r.unread)
 
 -- A read that raises the free room from below the least of `seg` and `rcap` to at least that, where a record stands that told less, makes an acknowledgement due at once.
 abbrev pub worth_telling : Params → ℕ
@@ -155,4 +169,4 @@ recv_told_of p unread y Ack = T.Acked y.expected (free_of p unread)
 -- when the receiver is to be woken: the least moment at which an act is due
 abbrev pub recv_wake_of : Params → Option ReceiveRecord → Option ℕ
 recv_wake_of p None = None
-recv_wake_of p (Some y) = Some (elim y.due [ None ↦ y.touched + receive_time p | Some due ↦ min (y.touched + receive_time p) due ])
+recv_wake_of p (Some y) = earlier (Some (y.touched + receive_time p)) y.due

@@ -1,7 +1,6 @@
 -- The safe ledger: what is promised of a flow at every moment. A place is given where a given row names it.
-use Rattle.std.specs.Prelude.{ℕ, ◌+◌, ◌<◌, ◌≤◌, ◌≡◌, ◌≢◌, Bool, true, false, List, length, Option, None}
+use Rattle.std.specs.Prelude.{ℕ, ◌+◌, ◌<◌, ◌≤◌, ◌≡◌, ◌≢◌, true, false, List, length, None}
 use Rattle.std.proofs.Math.ListN.{drop}
-use Rattle.dt_items.specs.declared.item.Item.{Item}
 use Rattle.dt_flow_model.specs.declared.rows.Fate.TheVariants.{Open, Acked, Uncertain}
 use Rattle.dt_flow_model.specs.declared.rows.Taken.{Taken}
 use Rattle.dt_flow_model.specs.declared.rows.Given.{Given}

@@ -1,5 +1,5 @@
 -- The acts of a send record: when each kind is due, its due moment, what it does, and when the record is to be woken.
-use Rattle.std.specs.Prelude.{ℕ, ◌+◌, ◌<◌, ◌≡◌, min, Bool, true, false, ◌&&◌, if◌then◌else◌, nat_lt, nat_le, List, [], ◌∷◌, ◌++◌, length, Option, Some, None}
+use Rattle.std.specs.Prelude.{ℕ, ◌+◌, ◌<◌, ◌≤◌, ◌≡◌, min, Bool, true, false, ◌&&◌, if◌then◌else◌, nat_lt, nat_le, List, [], ◌∷◌, ◌++◌, length, Option, Some, None, All}
 use Rattle.dt_items.specs.declared.item.Item.{Item}
 use Rattle.dt_units.specs.declared.parameters.Params.{Params}
 use Rattle.dt_units.specs.Times.{give_time, send_time}
@@ -25,9 +25,9 @@ pub data Act : Type 0 where
   -- a rendezvous packet goes out
   meet : Act
 
-abbrev pub when : Bool → Act → Option Act
-when true act = Some act
-when false act = None
+abbrev pub act_if : Bool → Act → Option Act
+act_if true act = Some act
+act_if false act = None
 
 abbrev pub or_else : Option Act → Option Act → Option Act
 or_else None other = other
@@ -36,7 +36,7 @@ or_else (Some act) other = Some act
 -- Give up: something is outstanding, and the leftmost segment first went out at least `give` ago.
 abbrev pub giving_up : Params → ℕ → List Segment → Option Act
 giving_up p now [] = None
-giving_up p now (g ∷ rest) = when (nat_le (g.first + give_time p) now) (give_up g rest)
+giving_up p now (g ∷ rest) = act_if (nat_le (g.first + give_time p) now) (give_up g rest)
 
 -- Release: nothing is outstanding, and the record was touched at least `send` ago. It is released where nothing waits, else renewed.
 abbrev pub release_or_renew : List Item → Act
@@ -44,7 +44,7 @@ release_or_renew [] = release
 release_or_renew (i ∷ is) = renew
 
 abbrev pub releasing : Params → ℕ → SendRecord → List Segment → Option Act
-releasing p now x [] = when (nat_le (x.touched + send_time p) now) (release_or_renew x.waiting)
+releasing p now x [] = act_if (nat_le (x.touched + send_time p) now) (release_or_renew x.waiting)
 releasing p now x (g ∷ gs) = None
 
 -- Resend: a segment last went out at least `rto` ago, and first went out less than `r` ago. The one that went out longest ago goes, ties by the lesser offset.
@@ -71,7 +71,7 @@ abbrev pub can_send : Params → SendRecord → Bool
 can_send p x = nat_lt 0 (cut_size p x) && nat_lt (length x.outstanding) most_segments
 
 abbrev pub sending : Params → SendRecord → Option Act
-sending p x = when (can_send p x) (send (cut_of p x) (rest_of p x))
+sending p x = act_if (can_send p x) (send (cut_of p x) (rest_of p x))
 
 -- Meet: nothing is outstanding, something waits, the window is used up, the run has numbers left, and the record was touched at least `probe` ago.
 abbrev pub could_meet : Params → SendRecord → List Segment → List Item → Bool
@@ -80,11 +80,20 @@ could_meet p x [] (i ∷ is) = nat_le x.edge (next_of x) && nat_lt (next_of x) p
 could_meet p x (g ∷ gs) waiting = false
 
 abbrev pub meeting : Params → ℕ → SendRecord → Option Act
-meeting p now x = when (could_meet p x x.outstanding x.waiting && nat_le (x.touched + p.probe) now) meet
+meeting p now x = act_if (could_meet p x x.outstanding x.waiting && nat_le (x.touched + p.probe) now) meet
 
 -- the act at now is that of the first kind that is due
 abbrev pub act_of : Params → ℕ → SendRecord → Option Act
 act_of p now x = or_else (giving_up p now x.outstanding) (or_else (releasing p now x x.outstanding) (or_else (resending p now x.outstanding) (or_else (sending p x) (meeting p now x))))
+
+-- When an act is due at now, as the table of acts has it. Of the segments that may go out again any is due; `act_of` chooses.
+abbrev pub IsDue : Params → ℕ → SendRecord → Act → Type 0
+IsDue p now x (give_up g rest) = (x.outstanding ≡ g ∷ rest) × (g.first + give_time p ≤ now)
+IsDue p now x release = (x.outstanding ≡ []) × (x.waiting ≡ []) × (x.touched + send_time p ≤ now)
+IsDue p now x renew = (x.outstanding ≡ []) × (0 < length x.waiting) × (x.touched + send_time p ≤ now)
+IsDue p now x (resend before g after) = (x.outstanding ≡ before ++ g ∷ after) × (g.last + p.rto ≤ now) × (now < g.first + p.r)
+IsDue p now x (send cut rest) = (cut ≡ cut_of p x) × (rest ≡ rest_of p x) × (0 < length cut) × (length x.outstanding < most_segments)
+IsDue p now x meet = (x.outstanding ≡ []) × (0 < length x.waiting) × (x.edge ≤ next_of x) × (next_of x < p.run_limit) × (x.touched + p.probe ≤ now)
 
 -- the kind of an act, and its due moment
 abbrev pub kind_of : Act → SendKind
@@ -94,6 +103,19 @@ kind_of renew = Release
 kind_of (resend before g after) = Resend
 kind_of (send cut rest) = Send
 kind_of meet = Meet
+
+-- The segment that goes out again is, of those that may, the one whose last transmission was first, and the leftmost of these.
+pub record GoesFirst (p : Params) (now : ℕ) (before : List Segment) (g : Segment) (after : List Segment) : Type 0 where
+  pub before_it : All (λ h. is_late p now h ≡ true → g.last < h.last) before
+  pub after_it : All (λ h. is_late p now h ≡ true → g.last ≤ h.last) after
+
+-- the order of the kinds
+abbrev pub rank_of : SendKind → ℕ
+rank_of GiveUp = 0
+rank_of Release = 1
+rank_of Resend = 2
+rank_of Send = 3
+rank_of Meet = 4
 
 abbrev pub due_moment : Params → SendRecord → Act → ℕ
 due_moment p x (give_up g rest) = g.first + give_time p
@@ -138,6 +160,15 @@ earlier (Some m) (Some n) = Some (min m n)
 abbrev pub moment_if : Bool → ℕ → Option ℕ
 moment_if true moment = Some moment
 moment_if false moment = None
+
+-- A moment is the first at which something is due: nothing is due before it, and something is due at it. Where there is none, nothing is ever due.
+abbrev pub IsBefore : ℕ → Option ℕ → Type 0
+IsBefore now None = Unit {0}
+IsBefore now (Some moment) = now < moment
+
+pub record IsFirst (A : Type 0) (due : ℕ → Option A) (wake : Option ℕ) : Type 0 where
+  pub nothing_before : (now : ℕ) → IsBefore now wake → due now ≡ None
+  pub something_at : (moment : ℕ) → wake ≡ Some moment → (act : A) × (due moment ≡ Some act)
 
 -- from when on each kind is due, if nothing else is done: the leftmost segment is given up, the record is released or renewed
 abbrev pub gives_up_from : Params → List Segment → Option ℕ

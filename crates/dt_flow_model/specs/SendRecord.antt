@@ -1,5 +1,6 @@
 -- The send record of a flow: what its sender holds, and what an acknowledgement does to it. Moments are readings of the sending station's clock.
-use Rattle.std.specs.Prelude.{ℕ, zero, suc, ◌+◌, ◌-◌, ◌==◌, min, Bool, true, false, not, if◌then◌else◌, ◌&&◌, ◌||◌, nat_le, List, [], ◌∷◌, ◌++◌, length, take, drop, Option, Some, None}
+use Rattle.std.specs.Prelude.{ℕ, zero, suc, ◌+◌, ◌-◌, ◌<◌, ◌≤◌, ◌≡◌, ◌⊎◌, ◌==◌, min, Bool, true, false, not, if◌then◌else◌, ◌&&◌, ◌||◌, nat_le, List, [], ◌∷◌, ◌++◌, length, take, drop, Option, Some, None}
+use Rattle.std.proofs.Math.ListN.{get_or}
 use Rattle.dt_items.specs.declared.item.Item.{Item}
 use Rattle.dt_units.specs.declared.parameters.Params.{Params}
 use Rattle.dt_flow_model.specs.declared.acts.Cut.{Cut}
@@ -55,6 +56,10 @@ held_of x = items_in x.outstanding + length x.waiting
 abbrev pub room_of : Params → SendRecord → ℕ
 room_of p x = p.cap - held_of x
 
+-- whether so many octets more fit
+abbrev pub fits : Params → SendRecord → ℕ → Bool
+fits p x count = nat_le (held_of x + count) p.cap
+
 -- octets are put into the record
 abbrev pub put : List Item → SendRecord → SendRecord
 put items x = record x { waiting = x.waiting ++ items }
@@ -82,6 +87,18 @@ cut_of p x = take (cut_size p x) x.waiting
 
 abbrev pub rest_of : Params → SendRecord → List Item
 rest_of p x = drop (cut_size p x) x.waiting
+
+-- The cut as a rule. It is the longest prefix of the items that has at most `most` octets, an end mark only on its last octet, and a begin mark only on its first.
+abbrev pub item_at : List Item → ℕ → Item
+item_at items k = get_or items k (record { octet = 0; begin = false; end = false; run = false })
+
+pub record IsCut (most : ℕ) (items : List Item) (size : ℕ) : Type 0 where
+  pub prefix : size ≤ length items
+  pub at_most : size ≤ most
+  pub begin_first : (k : ℕ) → 0 < k → k < size → (item_at items k).begin ≡ false
+  pub end_last : (k : ℕ) → k + 1 < size → (item_at items k).end ≡ false
+  -- a longer one has too many octets, or an end mark before its last octet, or a begin mark after its first
+  pub longest : size < most → size < length items → (last : ℕ) × (size ≡ last + 1) × ((item_at items last).end ≡ true ⊎ (item_at items size).begin ≡ true)
 
 -- whether a message begins with the first of the items, and whether one ends among them
 abbrev pub begins : List Item → Bool

@@ -1,5 +1,5 @@
 -- The small steps of one flow. What an event does to the flow is a list of these.
-use Rattle.std.specs.Prelude.{ℕ, zero, suc, ◌+◌, ◌-◌, ◌<◌, ◌≤◌, ◌≡◌, ◌⊎◌, Bool, true, false, List, [], ◌∷◌, ◌++◌, length, Option, Some, None, All, Contains}
+use Rattle.std.specs.Prelude.{ℕ, ◌+◌, ◌<◌, ◌≤◌, ◌≡◌, ◌⊎◌, Bool, true, false, List, [], ◌∷◌, ◌++◌, length, Option, Some, None, All, Contains}
 use Rattle.dt_items.specs.declared.item.Item.{Item}
 use Rattle.dt_units.specs.declared.parameters.Params.{Params}
 use Rattle.dt_units.specs.declared.order.Relation.TheVariants.{Equal, Above}
@@ -108,6 +108,10 @@ pub data Step (p : Params) : FlowState → List Packet → List Packet → FlowS
 pub data Steps (p : Params) : FlowState → List Packet → List Packet → FlowState → Type 0 where
   none : {s : FlowState} → Steps p s [] [] s
   more : {s mid after : FlowState} {ins made ins' made' : List Packet} → Step p s ins made mid → Steps p mid ins' made' after → Steps p s (ins ++ ins') (made ++ made') after
+
+-- what a packet that came did: a small step, which may take it, or nothing
+abbrev pub IsStepOrNothing : Params → FlowState → Packet → List Packet → FlowState → Type 0
+IsStepOrNothing p s q made after = Step p s (q ∷ []) made after ⊎ Step p s [] made after ⊎ (after ≡ s) × (made ≡ [])
 
 -- what small steps lead to from a first start, with all packets that were ever made. A step may take any of them: packets are lost, come again and come in any order
 pub data Reached (p : Params) : FlowState → List Packet → Type 0 where
