@@ -62,7 +62,7 @@ onto_front-none : (x : ℕ) (cut : Option (List ℕ × List ℕ)) → onto_front
 onto_front-none x None h = refl
 onto_front-none x (Some p) h = cc
 
-onto_front-some : (x : ℕ) (cut : Option (List ℕ × List ℕ)) (first more : List ℕ) → onto_front x cut ≡ Some (first, more)
+pub onto_front-some : (x : ℕ) (cut : Option (List ℕ × List ℕ)) (first more : List ℕ) → onto_front x cut ≡ Some (first, more)
     → (before : List ℕ) × (cut ≡ Some (before, more)) × (first ≡ x ∷ before)
 onto_front-some x None first more h = cc
 onto_front-some x (Some p) first more h =

@@ -2,3 +2,6 @@ pub mod NumeralLemmas
 pub mod CutLemmas
 pub mod KeptLemmas
 pub mod HexLemmas
+pub mod NumberLaws
+pub mod CutLaws
+pub mod FlowLaws

@@ -6,3 +6,4 @@ pub mod Said
 pub mod Fields
 pub mod Lines
 pub mod Stages
+pub mod Spelling

@@ -5,6 +5,7 @@
 mod endpoints;
 mod fields;
 mod hexadecimal;
+pub mod laws;
 mod lines;
 mod numerals;
 mod reading;
