@@ -5,3 +5,4 @@ pub mod HexLemmas
 pub mod NumberLaws
 pub mod CutLaws
 pub mod FlowLaws
+pub mod HexLaws
