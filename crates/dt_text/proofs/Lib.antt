@@ -6,3 +6,4 @@ pub mod NumberLaws
 pub mod CutLaws
 pub mod FlowLaws
 pub mod HexLaws
+pub mod OrderLaws

@@ -14,15 +14,13 @@ ghost use Rattle.dt_text.specs.Numerals.{number};
 pub fn numbers_have_one_spelling()
     ensures read { (most n : ℕ) → most < 2 ^ 64 → n ≤ most → number most (decimal n) ≡ Some n }
     ensures only { (most n : ℕ) (word : List ℕ) → most < 2 ^ 64 → number most word ≡ Some n → (word ≡ decimal n) × (n ≤ most) }
-{
-}
+{}
 
 /// A flow has one spelling: `a:p>b:q` with each number in its one spelling.
 pub fn flows_have_one_spelling()
     ensures read { (f : Flow) → IsFlow f → flow (flow_text f) ≡ Some f }
     ensures only { (word : List ℕ) (f : Flow) → flow word ≡ Some f → (word ≡ flow_text f) × IsFlow f }
-{
-}
+{}
 
 /// Octets are spelled by the hexadecimal digits of each, and what spells them is that up to the
 /// case of the letters.
@@ -30,5 +28,4 @@ pub fn octets_have_one_spelling_in_lower_case()
     ensures read { (most : ℕ) (octets : List ℕ) → AllByRecursion (λ octet. octet < 256) octets → 0 < length octets → length octets ≤ most → IsTrue (is_hex most (hex_text octets)) }
     ensures decoded { (octets : List ℕ) → AllByRecursion (λ octet. octet < 256) octets → octets_of (hex_text octets) ≡ octets }
     ensures only { (hex : List ℕ) → IsTrue (are_pairs hex) → hex_text (octets_of hex) ≡ str_to_ascii_lowercase hex }
-{
-}
+{}
