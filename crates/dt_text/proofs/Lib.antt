@@ -7,3 +7,5 @@ pub mod CutLaws
 pub mod FlowLaws
 pub mod HexLaws
 pub mod OrderLaws
+pub mod LineLaws
+pub mod SpelledLaws
