@@ -1,8 +1,8 @@
 -- A text cut at the first of some octets, head by head; and the words of a line by cuts.
-use Rattle.std.proofs.Common.{◌≡◌, ◌≢◌, ℕ, suc, ◌+◌, ◌<◌, ◌≤◌, Bool, true, false, cond, not, eqb, ltb, ◌==◌, List, [], ◌∷◌, ◌++◌, Option, Some, None, option_map, length, take, drop, refl, sym, ap, subst, ◌∙◌, arith, inl, inr}
+use Rattle.std.proofs.Common.{◌≡◌, ℕ, suc, ◌+◌, ◌<◌, ◌≤◌, true, false, cond, not, eqb, ltb, ◌==◌, List, [], ◌∷◌, Option, Some, None, option_map, length, take, drop, refl, sym, ap, ◌∙◌, arith, inl, inr}
 use Rattle.std.proofs.Math.Numerals.{one-add, add-one}
 use Rattle.std.proofs.lemmas.Bool.{lt-ltb, le-ltb}
-use Rattle.std.specs.List.{slice_split, position, position_or_len, onto_first}
+use Rattle.std.specs.List.{position_or_len, onto_first}
 use Rattle.std.proofs.lemmas.Bool.{cases_Bool, cases_lt}
 use Rattle.std.proofs.lemmas.List.Splits.{slice_split-cons_yes, slice_split-cons_no}
 use Rattle.dt_text.specs.Splitting.{words, cut}
@@ -62,7 +62,7 @@ onto_front-none : (x : ℕ) (cut : Option (List ℕ × List ℕ)) → onto_front
 onto_front-none x None h = refl
 onto_front-none x (Some p) h = cc
 
-onto_front-some : (x : ℕ) (cut : Option (List ℕ × List ℕ)) (first more : List ℕ) → onto_front x cut ≡ Some (first, more)
+pub onto_front-some : (x : ℕ) (cut : Option (List ℕ × List ℕ)) (first more : List ℕ) → onto_front x cut ≡ Some (first, more)
     → (before : List ℕ) × (cut ≡ Some (before, more)) × (first ≡ x ∷ before)
 onto_front-some x None first more h = cc
 onto_front-some x (Some p) first more h =

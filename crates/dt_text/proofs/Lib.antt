@@ -5,3 +5,10 @@ pub mod HexLemmas
 pub mod Hexes
 pub mod Lengths
 pub mod Parts
+pub mod NumberLaws
+pub mod CutLaws
+pub mod FlowLaws
+pub mod HexLaws
+pub mod OrderLaws
+pub mod LineLaws
+pub mod SpelledLaws

@@ -8,3 +8,4 @@ pub mod Fields
 pub mod Lines
 pub mod Stages
 pub mod Wording
+pub mod Spelling

@@ -6,6 +6,7 @@ mod endpoints;
 mod fields;
 mod hexadecimal;
 mod faulting;
+pub mod laws;
 mod lines;
 mod logging;
 mod putting;
