@@ -12,6 +12,9 @@ use dt_layout::LayoutFault;
 use dt_reports::{Fault, LogLine, Refusal, Report};
 use dt_units::Flow;
 
+#[cfg(test)]
+mod tests;
+
 /// The letters of a packet that was sent: its data-run flag, and whether it begins and ends a
 /// message.
 fn letters_sent(drf: bool, begin: bool, end: bool) -> &'static str
