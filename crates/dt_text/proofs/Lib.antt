@@ -1,3 +1,10 @@
+pub mod NumeralLemmas
+pub mod CutLemmas
+pub mod KeptLemmas
+pub mod HexLemmas
+pub mod NumberLaws
+pub mod CutLaws
+pub mod FlowLaws
 pub mod Hexes
 pub mod Lengths
 pub mod Parts

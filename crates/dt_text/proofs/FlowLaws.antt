@@ -1,0 +1,70 @@
+-- A flow has one spelling.
+use Rattle.std.proofs.Common.{◌≡◌, ℕ, ◌<◌, ◌≤◌, ◌^◌, List, [], ◌∷◌, ◌++◌, Option, Some, None, refl, sym, ap, subst, ◌∙◌, arith, inl, inr}
+use Rattle.std.specs.Option.{option_and_then}
+use Rattle.std.specs.Fmt.{decimal}
+use Rattle.std.proofs.lemmas.Bool.Decides.{nat_tests}
+use Rattle.dt_units.specs.declared.endpoints.Flow.{Flow}
+use Rattle.dt_text.specs.Numerals.{number}
+use Rattle.dt_text.specs.Splitting.{cut}
+use Rattle.dt_text.specs.Endpoints.{endpoint, flow}
+use Rattle.dt_text.specs.Spelling.{endpoint_text, flow_text, IsFlow}
+use Rattle.dt_text.proofs.NumberLaws.{number-decimal, number-only}
+use Rattle.dt_text.proofs.CutLaws.{IsFree, IsFree-append, IsFree-cons, IsFree-decimal, cut-at, cut-found}
+
+-- what was found by two steps was found by each
+pub both_found : {A B : Type 0} (read : Option A) (next : A → Option B) (y : B) → option_and_then next read ≡ Some y → (x : A) × (read ≡ Some x) × (next x ≡ Some y)
+both_found None next y h = cc
+both_found (Some x) next y h = (x, refl, h)
+
+pub endpoint-text : (node port : ℕ) → node < 2 ^ 32 → port < 2 ^ 16 → endpoint (endpoint_text node port) ≡ Some (node, port)
+unfolding endpoint
+endpoint-text node port small small_port =
+    let parts = cut-at 58 (decimal node) (decimal port) (IsFree-decimal 58 node (inr (omega arith)) (omega arith)) in
+    let node_read = number-decimal 4294967295 node (omega arith) (omega arith) in
+    let port_read = number-decimal 65535 port (omega arith) (omega arith) in
+    rw (parts, node_read, port_read) refl
+
+pub endpoint-only : (word : List ℕ) (node port : ℕ) → endpoint word ≡ Some (node, port) → (word ≡ endpoint_text node port) × (node < 2 ^ 32) × (port < 2 ^ 16)
+unfolding endpoint
+endpoint-only word node port h =
+    let parts = both_found (cut 58 word) _ (node, port) h in
+    let node_read = both_found (number 4294967295 parts.0.0) _ (node, port) parts.2 in
+    let port_read = both_found (number 65535 parts.0.1) _ (node, port) node_read.2 in
+    let pair : ◌≡◌ {A = ℕ × ℕ} (node_read.0, port_read.0) (node, port) = cc in
+    let node_is : node_read.0 ≡ node = ap (λ (p : ℕ × ℕ). p.0) pair in
+    let port_is : port_read.0 ≡ port = ap (λ (p : ℕ × ℕ). p.1) pair in
+    let node_text = number-only 4294967295 node_read.0 parts.0.0 (omega arith) node_read.1 in
+    let port_text = number-only 65535 port_read.0 parts.0.1 (omega arith) port_read.1 in (
+      cut-found 58 word parts.0.0 parts.0.1 parts.1
+          ∙ ap (λ front. front ++ 58 ∷ parts.0.1) (node_text.0 ∙ ap decimal node_is)
+          ∙ ap (λ after. decimal node ++ 58 ∷ after) (port_text.0 ∙ ap decimal port_is),
+      omega arith,
+      omega arith,
+    )
+
+pub flow-text : (f : Flow) → IsFlow f → flow (flow_text f) ≡ Some f
+unfolding flow flow_text
+flow-text f fits =
+    let free = IsFree-append 62 (decimal f.from.0) (58 ∷ decimal f.from_port) (IsFree-decimal 62 f.from.0 (inr (omega arith)) (omega (arith, fits.from))) (IsFree-cons 62 58 (decimal f.from_port) refl (IsFree-decimal 62 f.from_port (inr (omega arith)) (omega (arith, fits.from_port)))) in
+    let ends = cut-at 62 (endpoint_text f.from.0 f.from_port) (endpoint_text f.to.0 f.to_port) free in
+    let from = endpoint-text f.from.0 f.from_port fits.from fits.from_port in
+    let to = endpoint-text f.to.0 f.to_port fits.to fits.to_port in
+    rw (ends, from, to) refl
+
+pub flow-only : (word : List ℕ) (f : Flow) → flow word ≡ Some f → (word ≡ flow_text f) × IsFlow f
+unfolding flow flow_text
+flow-only word f h =
+    let ends = both_found (cut 62 word) _ f h in
+    let from = both_found (endpoint ends.0.0) _ f ends.2 in
+    let to = both_found (endpoint ends.0.1) _ f from.2 in
+    let made : Flow = record { from = record { 0 = from.0.0 }; from_port = from.0.1; to = record { 0 = to.0.0 }; to_port = to.0.1 } in
+    let is : made ≡ f = cc in
+    let from_text = endpoint-only ends.0.0 from.0.0 from.0.1 from.1 in
+    let to_text = endpoint-only ends.0.1 to.0.0 to.0.1 to.1 in
+    let fits : IsFlow made = record { from = from_text.1; from_port = from_text.2; to = to_text.1; to_port = to_text.2 } in (
+      cut-found 62 word ends.0.0 ends.0.1 ends.1
+          ∙ ap (λ front. front ++ 62 ∷ ends.0.1) from_text.0
+          ∙ ap (λ after. endpoint_text from.0.0 from.0.1 ++ 62 ∷ after) to_text.0
+          ∙ ap flow_text is,
+      subst IsFlow is fits,
+    )

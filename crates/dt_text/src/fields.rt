@@ -1,0 +1,131 @@
+//! The words behind the first word of a line: what each may be, and its fault where it isn't that.
+ghost use Rattle.std.specs.Prelude.{◌≡◌, ◌<◌, ◌≤◌, length, IfOk, OnOk, MatchResult};
+ghost use Rattle.dt_text.specs.Splitting.{word};
+ghost use Rattle.dt_text.specs.Fields as fields;
+
+use crate::endpoints::{read_address, read_flow};
+use crate::hexadecimal::is_hex;
+use crate::numerals::read_number;
+use crate::splitting::{Words, is};
+use dt_edges::Address;
+use dt_reports::LineFault;
+use dt_units::Flow;
+
+/// The greatest number of a link.
+const MOST_LINK: u32 = 255;
+
+/// A day: the greatest charge and the greatest pace, in ms.
+const DAY: u32 = 86_400_000;
+
+/// The most octets of one read, and the most pairs of hexadecimal digits of one line.
+const MOST_OCTETS: u32 = 65_536;
+
+/// Whether a line has as many words as that.
+pub fn has(count: usize, words: &Words<'_>) -> Result<(), LineFault>
+    requires { count < 12 }
+    ensures value { result ≡ fields.has count words.now }
+    ensures count { OnOk result (length words.now ≡ count) }
+{
+    if words.are(count) {
+        Ok(())
+    } else {
+        Err(LineFault::Count)
+    }
+}
+
+/// A number from `least` to `most`.
+fn number_from(least: u32, most: u32, word: &[u8]) -> Result<u32, LineFault>
+    ensures value { result ≡ fields.number_from least most word.now }
+    ensures within { IfOk result (λ n. n ≤ most) }
+{
+    match read_number(word, u64::from(most)) {
+        Some(n) if n >= u64::from(least) => Ok(n as u32),
+        _ => Err(LineFault::Number),
+    }
+}
+
+/// A number of 32 bits.
+pub fn number(word: &[u8]) -> Result<u32, LineFault>
+    ensures { result ≡ fields.number word.now }
+{
+    number_from(0, u32::MAX, word)
+}
+
+/// The number of a link, 0 to 255.
+pub fn link(word: &[u8]) -> Result<u16, LineFault>
+    ensures { result ≡ fields.link word.now }
+{
+    match number_from(0, MOST_LINK, word) {
+        Ok(link) => Ok(link as u16),
+        Err(fault) => Err(fault),
+    }
+}
+
+/// A charge or a pace, 0 to 86,400,000 ms.
+pub fn day(word: &[u8]) -> Result<u32, LineFault>
+    ensures { result ≡ fields.day word.now }
+{
+    number_from(0, DAY, word)
+}
+
+/// How many octets are read at most, 1 to 65,536.
+pub fn max(word: &[u8]) -> Result<u32, LineFault>
+    ensures { result ≡ fields.max word.now }
+{
+    number_from(1, MOST_OCTETS, word)
+}
+
+/// A flow.
+pub fn flow(word: &[u8]) -> Result<Flow, LineFault>
+    ensures { result ≡ fields.flow word.now }
+{
+    read_flow(word).ok_or(LineFault::Flow)
+}
+
+/// An IPv4 address and a port.
+pub fn address(word: &[u8]) -> Result<Address, LineFault>
+    ensures { result ≡ fields.address word.now }
+{
+    read_address(word).ok_or(LineFault::Number)
+}
+
+/// 1 to 65,536 pairs of hexadecimal digits, as they are written.
+pub fn hex(word: &[u8]) -> Result<&[u8], LineFault>
+    ensures { MatchResult result (λ hex. fields.hex word.now ≡ Ok hex.now) (λ fault. fields.hex word.now ≡ Err fault) }
+{
+    if is_hex(word, MOST_OCTETS) {
+        Ok(word)
+    } else {
+        Err(LineFault::Hex)
+    }
+}
+
+/// Whether a message begins with the octets, and whether it ends with them: `be`, `b`, `e`, `-`.
+pub fn marks(word: &[u8]) -> Result<(bool, bool), LineFault>
+    ensures { result ≡ fields.marks word.now }
+{
+    if is(word, "be") {
+        Ok((true, true))
+    } else if is(word, "b") {
+        Ok((true, false))
+    } else if is(word, "e") {
+        Ok((false, true))
+    } else if is(word, "-") {
+        Ok((false, false))
+    } else {
+        Err(LineFault::Word)
+    }
+}
+
+/// Whether a node begins again after an earlier life: `first` or `again`.
+pub fn again(word: &[u8]) -> Result<bool, LineFault>
+    ensures { result ≡ fields.again word.now }
+{
+    if is(word, "first") {
+        Ok(false)
+    } else if is(word, "again") {
+        Ok(true)
+    } else {
+        Err(LineFault::Word)
+    }
+}

@@ -1,0 +1,362 @@
+//! Each kind of line by its words, and the lines of both forms.
+ghost use Rattle.std.specs.Prelude.{◌≡◌, ◌<◌, length};
+ghost use Rattle.dt_text.specs.Said.{Reads};
+ghost use Rattle.dt_text.specs.Splitting.{word};
+ghost use Rattle.dt_text.specs.Lines.{line_of, line_named, lines};
+ghost use Rattle.dt_text.specs.declared.lines.Form.TheVariants.{Schedule, Script};
+ghost use Rattle.dt_text.specs.Lines as spelled;
+
+use crate::fields::{address, again, day, flow, has, hex, link, marks, max, number};
+use crate::lines::{Form, Line};
+use crate::splitting::{Words, is};
+use dt_reports::LineFault;
+use dt_units::Params;
+
+/// `params MPL R A RTO PROBE SEG CAP RCAP WINDOW RUN_LIMIT`
+#[tactic(auto, unfolding(crate::specs::Lines::params_line))]
+fn params_line<'a>(words: &Words<'a>) -> Result<Line<'a>, LineFault>
+    ensures { Reads result (spelled.params_line words.now) }
+{
+    has(11, words)?;
+    let mpl = number(words.word(1))?;
+    let r = number(words.word(2))?;
+    let a = number(words.word(3))?;
+    let rto = number(words.word(4))?;
+    let probe = number(words.word(5))?;
+    let seg = number(words.word(6))?;
+    let cap = number(words.word(7))?;
+    let rcap = number(words.word(8))?;
+    let window = number(words.word(9))?;
+    let run_limit = number(words.word(10))?;
+    Ok(Line::Params(Params {
+        mpl,
+        r,
+        a,
+        rto,
+        probe,
+        seg,
+        cap,
+        rcap,
+        window,
+        run_limit,
+    }))
+}
+
+/// `station N ZERO`
+#[tactic(auto, unfolding(crate::specs::Lines::station_line))]
+fn station_line<'a>(words: &Words<'a>) -> Result<Line<'a>, LineFault>
+    ensures { Reads result (spelled.station_line words.now) }
+{
+    has(3, words)?;
+    let n = number(words.word(1))?;
+    let zero = number(words.word(2))?;
+    Ok(Line::Station { n, zero })
+}
+
+/// `link L FROM TO CHARGE PACE`
+#[tactic(auto, unfolding(crate::specs::Lines::link_line))]
+fn link_line<'a>(words: &Words<'a>) -> Result<Line<'a>, LineFault>
+    ensures { Reads result (spelled.link_line words.now) }
+{
+    has(6, words)?;
+    let link = link(words.word(1))?;
+    let from = number(words.word(2))?;
+    let to = number(words.word(3))?;
+    let charge = day(words.word(4))?;
+    let pace = day(words.word(5))?;
+    Ok(Line::Link {
+        link,
+        from,
+        to,
+        charge,
+        pace,
+    })
+}
+
+/// `route AT TO L`
+#[tactic(auto, unfolding(crate::specs::Lines::route_line))]
+fn route_line<'a>(words: &Words<'a>) -> Result<Line<'a>, LineFault>
+    ensures { Reads result (spelled.route_line words.now) }
+{
+    has(4, words)?;
+    let at = number(words.word(1))?;
+    let to = number(words.word(2))?;
+    let link = link(words.word(3))?;
+    Ok(Line::Route { at, to, link })
+}
+
+/// `go`
+#[tactic(auto, unfolding(crate::specs::Lines::go_line))]
+fn go_line<'a>(words: &Words<'_>) -> Result<Line<'a>, LineFault>
+    ensures { Reads result (spelled.go_line words.now) }
+{
+    has(1, words)?;
+    Ok(Line::Go)
+}
+
+/// `pass D`
+#[tactic(auto, unfolding(crate::specs::Lines::pass_line))]
+fn pass_line<'a>(words: &Words<'a>) -> Result<Line<'a>, LineFault>
+    ensures { Reads result (spelled.pass_line words.now) }
+{
+    has(2, words)?;
+    let by = number(words.word(1))?;
+    Ok(Line::Pass { by })
+}
+
+/// `send FLOW MARKS HEX`
+#[tactic(auto, unfolding(crate::specs::Lines::send_line))]
+fn send_line<'a>(words: &Words<'a>) -> Result<Line<'a>, LineFault>
+    ensures { Reads result (spelled.send_line words.now) }
+{
+    has(4, words)?;
+    let flow = flow(words.word(1))?;
+    let (begin, end) = marks(words.word(2))?;
+    let hex = hex(words.word(3))?;
+    Ok(Line::Send {
+        flow,
+        begin,
+        end,
+        hex,
+    })
+}
+
+/// `read FLOW MAX`
+#[tactic(auto, unfolding(crate::specs::Lines::reading_line))]
+fn reading_line<'a>(words: &Words<'a>) -> Result<Line<'a>, LineFault>
+    ensures { Reads result (spelled.reading_line words.now) }
+{
+    has(3, words)?;
+    let flow = flow(words.word(1))?;
+    let max = max(words.word(2))?;
+    Ok(Line::Read { flow, max })
+}
+
+/// `tick N`
+#[tactic(auto, unfolding(crate::specs::Lines::tick_line))]
+fn tick_line<'a>(words: &Words<'a>) -> Result<Line<'a>, LineFault>
+    ensures { Reads result (spelled.tick_line words.now) }
+{
+    has(2, words)?;
+    let n = number(words.word(1))?;
+    Ok(Line::Tick { n })
+}
+
+/// `arrive C`
+#[tactic(auto, unfolding(crate::specs::Lines::arrive_line))]
+fn arrive_line<'a>(words: &Words<'a>) -> Result<Line<'a>, LineFault>
+    ensures { Reads result (spelled.arrive_line words.now) }
+{
+    has(2, words)?;
+    let copy = number(words.word(1))?;
+    Ok(Line::Arrive { copy })
+}
+
+/// `lose C`
+#[tactic(auto, unfolding(crate::specs::Lines::lose_line))]
+fn lose_line<'a>(words: &Words<'a>) -> Result<Line<'a>, LineFault>
+    ensures { Reads result (spelled.lose_line words.now) }
+{
+    has(2, words)?;
+    let copy = number(words.word(1))?;
+    Ok(Line::Lose { copy })
+}
+
+/// `restart N`
+#[tactic(auto, unfolding(crate::specs::Lines::restart_line))]
+fn restart_line<'a>(words: &Words<'a>) -> Result<Line<'a>, LineFault>
+    ensures { Reads result (spelled.restart_line words.now) }
+{
+    has(2, words)?;
+    let n = number(words.word(1))?;
+    Ok(Line::Restart { n })
+}
+
+/// `me N first` or `me N again`
+#[tactic(auto, unfolding(crate::specs::Lines::me_line))]
+fn me_line<'a>(words: &Words<'a>) -> Result<Line<'a>, LineFault>
+    ensures { Reads result (spelled.me_line words.now) }
+{
+    has(3, words)?;
+    let n = number(words.word(1))?;
+    let again = again(words.word(2))?;
+    Ok(Line::Me { n, again })
+}
+
+/// `local ADDRESS`
+#[tactic(auto, unfolding(crate::specs::Lines::local_line))]
+fn local_line<'a>(words: &Words<'a>) -> Result<Line<'a>, LineFault>
+    ensures { Reads result (spelled.local_line words.now) }
+{
+    has(2, words)?;
+    let address = address(words.word(1))?;
+    Ok(Line::Local(address))
+}
+
+/// `peer L ADDRESS CHARGE PACE`
+#[tactic(auto, unfolding(crate::specs::Lines::peer_line))]
+fn peer_line<'a>(words: &Words<'a>) -> Result<Line<'a>, LineFault>
+    ensures { Reads result (spelled.peer_line words.now) }
+{
+    has(5, words)?;
+    let link = link(words.word(1))?;
+    let address = address(words.word(2))?;
+    let charge = day(words.word(3))?;
+    let pace = day(words.word(4))?;
+    Ok(Line::Peer {
+        link,
+        address,
+        charge,
+        pace,
+    })
+}
+
+/// `route TO L`
+#[tactic(auto, unfolding(crate::specs::Lines::own_route_line))]
+fn own_route_line<'a>(words: &Words<'a>) -> Result<Line<'a>, LineFault>
+    ensures { Reads result (spelled.own_route_line words.now) }
+{
+    has(3, words)?;
+    let to = number(words.word(1))?;
+    let link = link(words.word(2))?;
+    Ok(Line::Route { at: 0, to, link })
+}
+
+/// `at T send FLOW MARKS HEX`
+#[tactic(auto, unfolding(crate::specs::Lines::at_send_line))]
+fn at_send_line<'a>(words: &Words<'a>) -> Result<Line<'a>, LineFault>
+    ensures { Reads result (spelled.at_send_line words.now) }
+{
+    has(6, words)?;
+    let at = number(words.word(1))?;
+    let flow = flow(words.word(3))?;
+    let (begin, end) = marks(words.word(4))?;
+    let hex = hex(words.word(5))?;
+    Ok(Line::AtSend {
+        at,
+        flow,
+        begin,
+        end,
+        hex,
+    })
+}
+
+/// `at T read FLOW MAX`
+#[tactic(auto, unfolding(crate::specs::Lines::at_read_line))]
+fn at_read_line<'a>(words: &Words<'a>) -> Result<Line<'a>, LineFault>
+    ensures { Reads result (spelled.at_read_line words.now) }
+{
+    has(5, words)?;
+    let at = number(words.word(1))?;
+    let flow = flow(words.word(3))?;
+    let max = max(words.word(4))?;
+    Ok(Line::AtRead { at, flow, max })
+}
+
+/// `at T stop`
+#[tactic(auto, unfolding(crate::specs::Lines::at_stop_line))]
+fn at_stop_line<'a>(words: &Words<'a>) -> Result<Line<'a>, LineFault>
+    ensures { Reads result (spelled.at_stop_line words.now) }
+{
+    has(3, words)?;
+    let at = number(words.word(1))?;
+    Ok(Line::AtStop { at })
+}
+
+/// A line of a script behind `at T`, which its third word chooses.
+#[tactic(auto, unfolding(crate::specs::Lines::at_line))]
+fn at_line<'a>(words: &Words<'a>) -> Result<Line<'a>, LineFault>
+    ensures { Reads result (spelled.at_line words.now) }
+{
+    if words.are_fewer(3) {
+        return Err(LineFault::Count);
+    }
+    let name = words.word(2);
+    if is(name, "send") {
+        at_send_line(words)
+    } else if is(name, "read") {
+        at_read_line(words)
+    } else if is(name, "stop") {
+        at_stop_line(words)
+    } else {
+        Err(LineFault::Word)
+    }
+}
+
+/// A line of a schedule, by its first word.
+fn schedule_line<'a>(words: &Words<'a>) -> Result<Line<'a>, LineFault>
+    requires { 0 < length words.now }
+    ensures { Reads result (line_named (lines Schedule) (word 0 words.now) words.now) }
+{
+    let name = words.word(0);
+    if is(name, "params") {
+        params_line(words)
+    } else if is(name, "station") {
+        station_line(words)
+    } else if is(name, "link") {
+        link_line(words)
+    } else if is(name, "route") {
+        route_line(words)
+    } else if is(name, "go") {
+        go_line(words)
+    } else if is(name, "pass") {
+        pass_line(words)
+    } else if is(name, "send") {
+        send_line(words)
+    } else if is(name, "read") {
+        reading_line(words)
+    } else if is(name, "tick") {
+        tick_line(words)
+    } else if is(name, "arrive") {
+        arrive_line(words)
+    } else if is(name, "lose") {
+        lose_line(words)
+    } else if is(name, "restart") {
+        restart_line(words)
+    } else {
+        Err(LineFault::Word)
+    }
+}
+
+/// A line of a script, by its first word.
+fn script_line<'a>(words: &Words<'a>) -> Result<Line<'a>, LineFault>
+    requires { 0 < length words.now }
+    ensures { Reads result (line_named (lines Script) (word 0 words.now) words.now) }
+{
+    let name = words.word(0);
+    if is(name, "params") {
+        params_line(words)
+    } else if is(name, "me") {
+        me_line(words)
+    } else if is(name, "local") {
+        local_line(words)
+    } else if is(name, "peer") {
+        peer_line(words)
+    } else if is(name, "route") {
+        own_route_line(words)
+    } else if is(name, "go") {
+        go_line(words)
+    } else if is(name, "at") {
+        at_line(words)
+    } else {
+        Err(LineFault::Word)
+    }
+}
+
+/// The line of this form that the octets spell, without the line feed behind it. Any octets are
+/// read, or refused by the first test that fails: the first word, the number of words, and then the
+/// words from left to right; never [`LineFault::Order`]. Behind `at T` the third word chooses the
+/// line. The cost is the line, and no memory is taken.
+#[tactic(auto, unfolding(crate::specs::Lines::line_of))]
+pub fn read_line(form: Form, bytes: &[u8]) -> Result<Line<'_>, LineFault>
+    ensures { Reads result (line_of form bytes.now) }
+{
+    if bytes.is_empty() || bytes[0] == b'#' {
+        return Ok(Line::Blank);
+    }
+    let words = Words::new(bytes);
+    match form {
+        Form::Schedule => schedule_line(&words),
+        Form::Script => script_line(&words),
+    }
+}
