@@ -21,7 +21,7 @@ unfolding BeginsWell
 begins_well-from [] h = absurd (omega (arith, h.0))
 begins_well-from (first ∷ more) h =
     elim (cases_eq first 48) [
-      | inl is ↦ let alone = h.1 is in let none : length more ≡ 0 = omega arith in grind (arith, nat_tests)
+      inl is ↦ let alone = h.1 is in let none : length more ≡ 0 = omega arith in grind (arith, nat_tests)
       | inr other ↦ grind (arith, nat_tests)
     ]
 
@@ -34,7 +34,7 @@ decimal-begins_well : (n : ℕ) → n < 2 ^ 64 → BeginsWell (decimal n)
 unfolding BeginsWell
 decimal-begins_well n small =
     elim (cases_lt n 10) [
-      | inl digit ↦ (omega (arith, (decimal_is_IsNumeral n small).0.0), λ _. ap length (decimal_digit n digit))
+      inl digit ↦ (omega (arith, (decimal_is_IsNumeral n small).0.0), λ _. ap length (decimal_digit n digit))
       | inr more ↦ (omega (arith, (decimal_is_IsNumeral n small).0.0), λ is. absurd (omega (arith, first_decimal n (omega arith) small)))
     ]
 

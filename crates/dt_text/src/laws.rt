@@ -11,10 +11,12 @@ ghost use Rattle.dt_text.specs.Numerals.{number};
 pub fn numbers_have_one_spelling()
     ensures read { (most n : ℕ) → most < 2 ^ 64 → n ≤ most → number most (decimal n) ≡ Some n }
     ensures only { (most n : ℕ) (word : List ℕ) → most < 2 ^ 64 → number most word ≡ Some n → (word ≡ decimal n) × (n ≤ most) }
-{}
+{
+}
 
 /// A flow has one spelling: `a:p>b:q` with each number in its one spelling.
 pub fn flows_have_one_spelling()
     ensures read { (f : Flow) → IsFlow f → flow (flow_text f) ≡ Some f }
     ensures only { (word : List ℕ) (f : Flow) → flow word ≡ Some f → (word ≡ flow_text f) × IsFlow f }
-{}
+{
+}
