@@ -1,8 +1,7 @@
 -- A text is cut exactly where the octet first stands, and numbers have none of the octets at which
 -- words are cut.
-use Rattle.std.proofs.Common.{◌≡◌, ◌≢◌, ℕ, ◌+◌, ◌<◌, ◌≤◌, ◌^◌, Bool, true, false, cond, eqb, ◌⊎◌, List, [], ◌∷◌, ◌++◌, Option, Some, None, refl, sym, ap, ◌∙◌, arith, inl, inr}
+use Rattle.std.proofs.Common.{◌≡◌, ℕ, ◌<◌, ◌≤◌, ◌^◌, false, eqb, ◌⊎◌, List, [], ◌∷◌, ◌++◌, Option, Some, refl, sym, ap, ◌∙◌, arith, inl, inr}
 use Rattle.std.specs.Fmt.{decimal}
-use Rattle.std.specs.Char.{digit_value}
 use Rattle.std.specs.Str.Parse.{AllDigits}
 use Rattle.std.proofs.lemmas.Bool.{cases_Bool, eqb-true, eq-eqb}
 use Rattle.std.proofs.lemmas.Bool.Decides.{nat_tests}
@@ -33,9 +32,9 @@ IsFree-digits : (octet : ℕ) (digits : List ℕ) → (octet < 48) ⊎ (57 < oct
 unfolding IsFree
 IsFree-digits octet [] outside h = tt
 IsFree-digits octet (x ∷ digits) outside h = (
-    digit_other octet x outside (digit_from_value x h.0),
-    IsFree-digits octet digits outside h.1,
-  )
+  digit_other octet x outside (digit_from_value x h.0),
+  IsFree-digits octet digits outside h.1,
+)
 
 pub IsFree-decimal : (octet n : ℕ) → (octet < 48) ⊎ (57 < octet) → n < 2 ^ 64 → IsFree octet (decimal n)
 IsFree-decimal octet n outside small = IsFree-digits octet (decimal n) outside (decimal_is_IsNumeral n small).0.1
@@ -49,11 +48,11 @@ pub cut-found : (octet : ℕ) (text before after : List ℕ) → cut octet text 
 cut-found octet [] before after h = cc
 cut-found octet (x ∷ text) before after h =
     elim (cases_Bool (eqb x octet)) [
-      inl is ↦
-        let some : ◌≡◌ {A = Option (List ℕ × List ℕ)} (Some ([], text)) (Some (before, after)) = sym (cut-cons_yes octet x text is) ∙ h in
-        let pair : ◌≡◌ {A = List ℕ × List ℕ} ([], text) (before, after) = cc in
-        ap (λ y. y ∷ text) (eqb-true x octet is) ∙ ap (λ (p : List ℕ × List ℕ). p.0 ++ octet ∷ p.1) pair
+      | inl is ↦
+          let some : ◌≡◌ {A = Option (List ℕ × List ℕ)} (Some ([], text)) (Some (before, after)) = sym (cut-cons_yes octet x text is) ∙ h in
+          let pair : ◌≡◌ {A = List ℕ × List ℕ} ([], text) (before, after) = cc in
+          ap (λ y. y ∷ text) (eqb-true x octet is) ∙ ap (λ (p : List ℕ × List ℕ). p.0 ++ octet ∷ p.1) pair
       | inr other ↦
-        let rest = onto_front-some x (cut octet text) before after (sym (cut-cons_no octet x text other) ∙ h) in
-        ap (λ t. x ∷ t) (cut-found octet text rest.0 after rest.1) ∙ ap (λ front. front ++ octet ∷ after) (sym rest.2)
+          let rest = onto_front-some x (cut octet text) before after (sym (cut-cons_no octet x text other) ∙ h) in
+          ap (λ t. x ∷ t) (cut-found octet text rest.0 after rest.1) ∙ ap (λ front. front ++ octet ∷ after) (sym rest.2)
     ]

@@ -1,15 +1,14 @@
 -- A flow has one spelling.
-use Rattle.std.proofs.Common.{◌≡◌, ℕ, ◌<◌, ◌≤◌, ◌^◌, List, [], ◌∷◌, ◌++◌, Option, Some, None, refl, sym, ap, subst, ◌∙◌, arith, inl, inr}
+use Rattle.std.proofs.Common.{◌≡◌, ℕ, ◌<◌, ◌^◌, List, ◌∷◌, ◌++◌, Option, Some, None, refl, ap, subst, ◌∙◌, arith, inr}
 use Rattle.std.specs.Option.{option_and_then}
 use Rattle.std.specs.Fmt.{decimal}
-use Rattle.std.proofs.lemmas.Bool.Decides.{nat_tests}
 use Rattle.dt_units.specs.declared.endpoints.Flow.{Flow}
 use Rattle.dt_text.specs.Numerals.{number}
 use Rattle.dt_text.specs.Splitting.{cut}
 use Rattle.dt_text.specs.Endpoints.{endpoint, flow}
 use Rattle.dt_text.specs.Spelling.{endpoint_text, flow_text, IsFlow}
 use Rattle.dt_text.proofs.NumberLaws.{number-decimal, number-only}
-use Rattle.dt_text.proofs.CutLaws.{IsFree, IsFree-append, IsFree-cons, IsFree-decimal, cut-at, cut-found}
+use Rattle.dt_text.proofs.CutLaws.{IsFree-append, IsFree-cons, IsFree-decimal, cut-at, cut-found}
 
 -- what was found by two steps was found by each
 pub both_found : {A B : Type 0} (read : Option A) (next : A → Option B) (y : B) → option_and_then next read ≡ Some y → (x : A) × (read ≡ Some x) × (next x ≡ Some y)
@@ -34,11 +33,10 @@ endpoint-only word node port h =
     let node_is : node_read.0 ≡ node = ap (λ (p : ℕ × ℕ). p.0) pair in
     let port_is : port_read.0 ≡ port = ap (λ (p : ℕ × ℕ). p.1) pair in
     let node_text = number-only 4294967295 node_read.0 parts.0.0 (omega arith) node_read.1 in
-    let port_text = number-only 65535 port_read.0 parts.0.1 (omega arith) port_read.1 in
-    (
+    let port_text = number-only 65535 port_read.0 parts.0.1 (omega arith) port_read.1 in (
       cut-found 58 word parts.0.0 parts.0.1 parts.1
-      ∙ ap (λ front. front ++ 58 ∷ parts.0.1) (node_text.0 ∙ ap decimal node_is)
-      ∙ ap (λ after. decimal node ++ 58 ∷ after) (port_text.0 ∙ ap decimal port_is),
+          ∙ ap (λ front. front ++ 58 ∷ parts.0.1) (node_text.0 ∙ ap decimal node_is)
+          ∙ ap (λ after. decimal node ++ 58 ∷ after) (port_text.0 ∙ ap decimal port_is),
       omega arith,
       omega arith,
     )
@@ -62,11 +60,10 @@ flow-only word f h =
     let is : made ≡ f = cc in
     let from_text = endpoint-only ends.0.0 from.0.0 from.0.1 from.1 in
     let to_text = endpoint-only ends.0.1 to.0.0 to.0.1 to.1 in
-    let fits : IsFlow made = record { from = from_text.1; from_port = from_text.2; to = to_text.1; to_port = to_text.2 } in
-    (
+    let fits : IsFlow made = record { from = from_text.1; from_port = from_text.2; to = to_text.1; to_port = to_text.2 } in (
       cut-found 62 word ends.0.0 ends.0.1 ends.1
-      ∙ ap (λ front. front ++ 62 ∷ ends.0.1) from_text.0
-      ∙ ap (λ after. endpoint_text from.0.0 from.0.1 ++ 62 ∷ after) to_text.0
-      ∙ ap flow_text is,
+          ∙ ap (λ front. front ++ 62 ∷ ends.0.1) from_text.0
+          ∙ ap (λ after. endpoint_text from.0.0 from.0.1 ++ 62 ∷ after) to_text.0
+          ∙ ap flow_text is,
       subst IsFlow is fits,
     )

@@ -5,6 +5,8 @@ pub mod HexLemmas
 pub mod NumberLaws
 pub mod CutLaws
 pub mod FlowLaws
+pub mod HexLaws
+pub mod OrderLaws
 pub mod Hexes
 pub mod Lengths
 pub mod Parts

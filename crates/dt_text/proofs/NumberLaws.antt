@@ -1,9 +1,9 @@
 -- A number has one spelling.
-use Rattle.std.proofs.Common.{◌≡◌, ◌≢◌, ℕ, suc, ◌+◌, ◌^◌, ◌<◌, ◌≤◌, Bool, true, false, ◌&&◌, ◌||◌, not, cond, eqb, leb, nat_le, List, [], ◌∷◌, Option, Some, None, length, get_or, refl, sym, ap, ◌∙◌, arith, inl, inr}
+use Rattle.std.proofs.Common.{◌≡◌, ℕ, ◌^◌, ◌<◌, ◌≤◌, Bool, true, false, ◌&&◌, cond, nat_le, List, [], ◌∷◌, Option, Some, None, length, get_or, refl, sym, ap, ◌∙◌, arith, inl, inr}
 use Rattle.std.specs.Fmt.{decimal}
 use Rattle.std.specs.Str.{all_ascii_digits}
 use Rattle.std.specs.Str.Parse.{digits_value}
-use Rattle.std.proofs.lemmas.Bool.{cases_Bool, cases_lt, cases_eq, le-leb, leb-true}
+use Rattle.std.proofs.lemmas.Bool.{cases_lt, cases_eq, le-leb, leb-true}
 use Rattle.std.proofs.lemmas.Bool.Decides.{nat_tests}
 use Rattle.std.proofs.lemmas.Fmt.{decimal_is_IsNumeral, decimal_digit, first_decimal, decimal-digits_value}
 use Rattle.std.proofs.lemmas.Str.Parse.{IsNumeralModel, numerals_by_value, tells_all_ascii_digits}
@@ -21,7 +21,7 @@ unfolding BeginsWell
 begins_well-from [] h = absurd (omega (arith, h.0))
 begins_well-from (first ∷ more) h =
     elim (cases_eq first 48) [
-      inl is ↦ let alone = h.1 is in let none : length more ≡ 0 = omega arith in grind (arith, nat_tests)
+      | inl is ↦ let alone = h.1 is in let none : length more ≡ 0 = omega arith in grind (arith, nat_tests)
       | inr other ↦ grind (arith, nat_tests)
     ]
 
@@ -34,7 +34,7 @@ decimal-begins_well : (n : ℕ) → n < 2 ^ 64 → BeginsWell (decimal n)
 unfolding BeginsWell
 decimal-begins_well n small =
     elim (cases_lt n 10) [
-      inl digit ↦ (omega (arith, (decimal_is_IsNumeral n small).0.0), λ _. ap length (decimal_digit n digit))
+      | inl digit ↦ (omega (arith, (decimal_is_IsNumeral n small).0.0), λ _. ap length (decimal_digit n digit))
       | inr more ↦ (omega (arith, (decimal_is_IsNumeral n small).0.0), λ is. absurd (omega (arith, first_decimal n (omega arith) small)))
     ]
 

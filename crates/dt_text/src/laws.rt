@@ -1,22 +1,31 @@
 //! What the grammar says in other words: what is written in one way is read, and nothing else is.
 //! Each function has an empty body and is called for its contract alone.
-ghost use Rattle.std.specs.Prelude.{◌≡◌, ◌≤◌, ◌<◌, ◌^◌, ℕ, List, Some};
+ghost use Rattle.std.specs.Prelude.{◌≡◌, ◌≤◌, ◌<◌, ◌^◌, ℕ, List, Some, length, IsTrue};
+ghost use Rattle.std.specs.List.{AllByRecursion};
+ghost use Rattle.std.specs.Str.{str_to_ascii_lowercase};
 ghost use Rattle.std.specs.Fmt.{decimal};
 ghost use Rattle.dt_units.specs.declared.endpoints.Flow.{Flow};
 ghost use Rattle.dt_text.specs.Endpoints.{flow};
-ghost use Rattle.dt_text.specs.Spelling.{flow_text, IsFlow};
+ghost use Rattle.dt_text.specs.Hexadecimal.{is_hex, are_pairs, octets_of};
+ghost use Rattle.dt_text.specs.Spelling.{flow_text, hex_text, IsFlow};
 ghost use Rattle.dt_text.specs.Numerals.{number};
 
 /// A number of at most 64 bits has one spelling: its decimal digits.
 pub fn numbers_have_one_spelling()
     ensures read { (most n : ℕ) → most < 2 ^ 64 → n ≤ most → number most (decimal n) ≡ Some n }
     ensures only { (most n : ℕ) (word : List ℕ) → most < 2 ^ 64 → number most word ≡ Some n → (word ≡ decimal n) × (n ≤ most) }
-{
-}
+{}
 
 /// A flow has one spelling: `a:p>b:q` with each number in its one spelling.
 pub fn flows_have_one_spelling()
     ensures read { (f : Flow) → IsFlow f → flow (flow_text f) ≡ Some f }
     ensures only { (word : List ℕ) (f : Flow) → flow word ≡ Some f → (word ≡ flow_text f) × IsFlow f }
-{
-}
+{}
+
+/// Octets are spelled by the hexadecimal digits of each, and what spells them is that up to the
+/// case of the letters.
+pub fn octets_have_one_spelling_in_lower_case()
+    ensures read { (most : ℕ) (octets : List ℕ) → AllByRecursion (λ octet. octet < 256) octets → 0 < length octets → length octets ≤ most → IsTrue (is_hex most (hex_text octets)) }
+    ensures decoded { (octets : List ℕ) → AllByRecursion (λ octet. octet < 256) octets → octets_of (hex_text octets) ≡ octets }
+    ensures only { (hex : List ℕ) → IsTrue (are_pairs hex) → hex_text (octets_of hex) ≡ str_to_ascii_lowercase hex }
+{}

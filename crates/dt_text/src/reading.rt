@@ -1,5 +1,5 @@
 //! Each kind of line by its words, and the lines of both forms.
-ghost use Rattle.std.specs.Prelude.{◌≡◌, ◌<◌, length};
+ghost use Rattle.std.specs.Prelude.{◌≡◌, ◌≢◌, ◌<◌, length};
 ghost use Rattle.dt_text.specs.Said.{Reads};
 ghost use Rattle.dt_text.specs.Splitting.{word};
 ghost use Rattle.dt_text.specs.Lines.{line_of, line_named, lines};
@@ -349,7 +349,8 @@ fn script_line<'a>(words: &Words<'a>) -> Result<Line<'a>, LineFault>
 /// line. The cost is the line, and no memory is taken.
 #[tactic(auto, unfolding(crate::specs::Lines::line_of))]
 pub fn read_line(form: Form, bytes: &[u8]) -> Result<Line<'_>, LineFault>
-    ensures { Reads result (line_of form bytes.now) }
+    ensures exact { Reads result (line_of form bytes.now) }
+    ensures not_order { result ≢ Err LineFault.Order }
 {
     if bytes.is_empty() || bytes[0] == b'#' {
         return Ok(Line::Blank);

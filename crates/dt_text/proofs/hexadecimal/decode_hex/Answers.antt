@@ -1,4 +1,4 @@
-use Rattle.std.proofs.Common.{◌≡◌, ◌∙◌, ◌+◌, ◌*◌, ◌<◌, length, length-set, arith}
+use Rattle.std.proofs.Common.{◌∙◌, ◌+◌, ◌*◌, ◌<◌, length, length-set, arith}
 use Rattle.dt_text.proofs.HexLemmas.{octets_of-next}
 use Rattle.dt_text.proofs.hexadecimal.decode_hex.Goals as goal
 

@@ -1,4 +1,4 @@
-use Rattle.std.proofs.Common.{◌≡◌, ◌*◌, ◌/◌, length, take, vec_len}
+use Rattle.std.proofs.Common.{◌≡◌, ◌*◌, ◌/◌, length, take}
 use Rattle.dt_text.specs.Hexadecimal.{octets_of}
 use Rattle.dt_text.proofs.hexadecimal.decode_hex.Given as goal
 

@@ -1,4 +1,4 @@
-use Rattle.std.proofs.Common.{◌≡◌, ◌∙◌, ◌+◌, ◌∷◌, drop, drop-cons, get_or, length, ◌≤◌, ◌<◌, suc, add-one, sym, ap, refl, arith}
+use Rattle.std.proofs.Common.{◌∙◌, drop, drop-cons, get_or, length, ◌≤◌, ◌<◌, suc, add-one, sym, ap, arith}
 use Rattle.std.proofs.Math.ListN.{drop_of_length-le}
 use Rattle.dt_text.proofs.NumeralLemmas.{number_on, number_on-step, number_on-end, then_some-is, digits_number-is}
 use Rattle.dt_text.proofs.numerals.digits_number.Goals as goal

@@ -1,5 +1,5 @@
-use Rattle.std.proofs.Common.{◌≡◌, ◌∙◌, ◌<◌, ◌≤◌, length, set, length-set, sym, arith, List, [], ◌∷◌, min, ◌+◌}
-use Rattle.dt_text.specs.Splitting.{cut, words, word}
+use Rattle.std.proofs.Common.{◌∙◌, ◌<◌, ◌≤◌, length, set, length-set, sym, arith, [], ◌+◌}
+use Rattle.dt_text.specs.Splitting.{words}
 use Rattle.dt_text.proofs.CutLemmas.{words-cut_none, words-cut_some}
 use Rattle.dt_text.proofs.KeptLemmas.{kept-next, kept-length, kept-word}
 use Rattle.dt_text.proofs.splitting.Words.new.Goals as goal
