@@ -2,7 +2,8 @@
 ghost use Rattle.std.specs.Prelude.{◌≡◌, [], ◌∷◌, ◌++◌, codes, decimal};
 ghost use Rattle.dt_edges.specs.Streams.{Puts};
 ghost use Rattle.dt_reports.specs.Told.{told};
-ghost use Rattle.dt_text.specs.Texts.{line_text, line_words, totals_words, node_words, fault_words, spaced, words_of, acknowledgement_words, receiver_words, link_words, flow_text, sent_letters, read_letters, record_text, run_text, refusal_words, layout_words};
+ghost use Rattle.dt_text.specs.Spelling.{flow_text};
+ghost use Rattle.dt_text.specs.Texts.{line_text, line_words, totals_words, node_words, fault_words, spaced, report_words, acknowledgement_words, receiver_words, link_words, sent_letters, read_letters, record_text, run_text, refusal_words, layout_words};
 ghost use Rattle.dt_text.specs.Wording.{behind};
 
 use crate::faulting::{put_fault, put_layout_fault, put_refusal};
@@ -266,7 +267,7 @@ fn put_acknowledgement_report<K: Sink>(report: &Report<'_>, out: &mut K) -> Resu
 
 /// Puts what a node tells, its words each behind a space.
 fn put_report<K: Sink>(report: &Report<'_>, out: &mut K) -> Result<(), Failed>
-    ensures puts { Puts K.held K.faults (behind (words_of (told report.now))) result out.old out.new }
+    ensures puts { Puts K.held K.faults (behind (report_words (told report.now))) result out.old out.new }
     ensures same_sink { K.identity out.new ≡ K.identity out.old }
 {
     match *report {
@@ -375,7 +376,7 @@ fn put_front<K: Sink>(moment: u64, node: Option<u32>, out: &mut K) -> Result<(),
 
 /// Puts the words of a line of a node.
 fn put_told<K: Sink>(line: &LogLine<'_>, out: &mut K) -> Result<(), Failed>
-    ensures puts { Puts K.held K.faults (spaced (decimal line.now.moment ∷ node_words line.now.node ++ words_of (told line.now.report))) result out.old out.new }
+    ensures puts { Puts K.held K.faults (spaced (decimal line.now.moment ∷ node_words line.now.node ++ report_words (told line.now.report))) result out.old out.new }
     ensures same_sink { K.identity out.new ≡ K.identity out.old }
 {
     put_front(line.moment, line.node, out)?;
