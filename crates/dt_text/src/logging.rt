@@ -150,6 +150,22 @@ fn put_bad<K: Sink>(fault: LayoutFault, out: &mut K) -> Result<(), Failed>
     put_layout_fault(fault, out)
 }
 
+/// Puts that an arrival (`in`) or a waiting packet (`out`) had no life left, the words each behind a
+/// space.
+fn put_expired<K: Sink>(way: &'static str, link: u16, out: &mut K) -> Result<(), Failed>
+    ensures puts { Puts K.held K.faults (behind (codes "expired" ∷ way.now ∷ decimal link ∷ [])) result out.old out.new }
+    ensures same_sink { K.identity out.new ≡ K.identity out.old }
+{
+    put_words(
+        &[
+            Word::Text("expired"),
+            Word::Text(way),
+            Word::Number(u64::from(link)),
+        ],
+        out,
+    )
+}
+
 /// Puts what is told of links, of nodes and of a restart, its words each behind a space.
 fn put_link_report<K: Sink>(report: &Report<'_>, out: &mut K) -> Result<(), Failed>
     ensures puts { Puts K.held K.faults (behind (link_words (told report.now))) result out.old out.new }
@@ -174,22 +190,8 @@ fn put_link_report<K: Sink>(report: &Report<'_>, out: &mut K) -> Result<(), Fail
             ],
             out,
         ),
-        Report::ExpiredIn { link } => put_words(
-            &[
-                Word::Text("expired"),
-                Word::Text("in"),
-                Word::Number(u64::from(link)),
-            ],
-            out,
-        ),
-        Report::ExpiredOut { link } => put_words(
-            &[
-                Word::Text("expired"),
-                Word::Text("out"),
-                Word::Number(u64::from(link)),
-            ],
-            out,
-        ),
+        Report::ExpiredIn { link } => put_expired("in", link, out),
+        Report::ExpiredOut { link } => put_expired("out", link, out),
         Report::NoRoute { to } => put_named("noroute", u64::from(to), out),
         Report::Full { link } => put_named("full", u64::from(link), out),
         Report::Bad { fault } => put_bad(fault, out),
@@ -265,6 +267,21 @@ fn put_acknowledgement_report<K: Sink>(report: &Report<'_>, out: &mut K) -> Resu
     }
 }
 
+/// Puts a record that was released, the words each behind a space.
+fn put_released<K: Sink>(flow: Flow, sending: bool, out: &mut K) -> Result<(), Failed>
+    ensures puts { Puts K.held K.faults (behind (codes "released" ∷ flow_text flow ∷ record_text sending ∷ [])) result out.old out.new }
+    ensures same_sink { K.identity out.new ≡ K.identity out.old }
+{
+    put_words(
+        &[
+            Word::Text("released"),
+            Word::Flow(flow),
+            Word::Text(record_name(sending)),
+        ],
+        out,
+    )
+}
+
 /// Puts what a node tells, its words each behind a space.
 fn put_report<K: Sink>(report: &Report<'_>, out: &mut K) -> Result<(), Failed>
     ensures puts { Puts K.held K.faults (behind (report_words (told report.now))) result out.old out.new }
@@ -280,14 +297,10 @@ fn put_report<K: Sink>(report: &Report<'_>, out: &mut K) -> Result<(), Failed>
             drf,
             begin,
             end,
-        } => put_segment(
-            "sent",
-            flow,
-            number,
-            length,
-            letters_sent(drf, begin, end),
-            out,
-        ),
+        } => {
+            let letters = letters_sent(drf, begin, end);
+            put_segment("sent", flow, number, length, letters, out)
+        }
         Report::Resent {
             flow,
             number,
@@ -295,24 +308,13 @@ fn put_report<K: Sink>(report: &Report<'_>, out: &mut K) -> Result<(), Failed>
             drf,
             begin,
             end,
-        } => put_segment(
-            "resent",
-            flow,
-            number,
-            length,
-            letters_sent(drf, begin, end),
-            out,
-        ),
+        } => {
+            let letters = letters_sent(drf, begin, end);
+            put_segment("resent", flow, number, length, letters, out)
+        }
         Report::Met { flow, number } => put_count("met", flow, number, out),
         Report::Uncertain { flow, count } => put_count("uncertain", flow, count, out),
-        Report::Released { flow, sending } => put_words(
-            &[
-                Word::Text("released"),
-                Word::Flow(flow),
-                Word::Text(record_name(sending)),
-            ],
-            out,
-        ),
+        Report::Released { flow, sending } => put_released(flow, sending, out),
         Report::Renewed { flow } => put_of_flow("renewed", flow, out),
         _ => put_acknowledgement_report(report, out),
     }
