@@ -11,7 +11,7 @@ use Rattle.dt_text.specs.Splitting.{cut}
 use Rattle.dt_text.proofs.CutLemmas.{cut-cons_yes, cut-cons_no, onto_front, onto_front-some}
 
 -- the octet doesn't stand in the text
-pub IsFree : ℕ → List ℕ → Type 0
+unfoldable pub IsFree : ℕ → List ℕ → Type 0
 IsFree octet [] = Unit {0}
 IsFree octet (x ∷ text) = (eqb x octet ≡ false) × IsFree octet text
 

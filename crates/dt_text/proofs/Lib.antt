@@ -7,6 +7,8 @@ pub mod CutLaws
 pub mod FlowLaws
 pub mod HexLaws
 pub mod OrderLaws
+pub mod LineLaws
+pub mod SpelledLaws
 pub mod Hexes
 pub mod Lengths
 pub mod Parts

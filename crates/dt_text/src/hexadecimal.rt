@@ -1,4 +1,4 @@
-ghost use Rattle.std.specs.Prelude.{◌≡◌, ◌<◌, [], IsTrue, OnOk, OnErr};
+ghost use Rattle.std.specs.Prelude.{◌≡◌, ◌<◌, ◌/◌, [], length, vec_len, IsTrue, OnOk, OnErr};
 ghost use Rattle.std.specs.List.{list_all};
 ghost use Rattle.std.specs.Char.{digit_value, is_ascii_hexdigit};
 ghost use Rattle.dt_text.specs.Hexadecimal.{is_hex, are_pairs, octets_of};
@@ -38,6 +38,7 @@ fn value_of(digit: u8) -> u8
 pub fn decode_hex(hex: &[u8], octets: &mut Vec<u8>) -> Result<(), NoMemory>
     requires { IsTrue (are_pairs hex.now) }
     ensures ok { OnOk result (octets.new.items ≡ octets_of hex.now) }
+    ensures len { OnOk result (vec_len octets.new ≡ length hex.now / 2) }
     ensures err { OnErr result (octets.new.items ≡ []) }
 {
     octets.clear();

@@ -1,13 +1,17 @@
 //! What the grammar says in other words: what is written in one way is read, and nothing else is.
 //! Each function has an empty body and is called for its contract alone.
-ghost use Rattle.std.specs.Prelude.{◌≡◌, ◌≤◌, ◌<◌, ◌^◌, ℕ, List, Some, length, IsTrue};
+ghost use Rattle.std.specs.Prelude.{◌≡◌, ◌≤◌, ◌<◌, ◌^◌, ℕ, List, Some, length, IsTrue, ◌⊎◌};
 ghost use Rattle.std.specs.List.{AllByRecursion};
 ghost use Rattle.std.specs.Str.{str_to_ascii_lowercase};
 ghost use Rattle.std.specs.Fmt.{decimal};
 ghost use Rattle.dt_units.specs.declared.endpoints.Flow.{Flow};
 ghost use Rattle.dt_text.specs.Endpoints.{flow};
 ghost use Rattle.dt_text.specs.Hexadecimal.{is_hex, are_pairs, octets_of};
-ghost use Rattle.dt_text.specs.Spelling.{flow_text, hex_text, IsFlow};
+ghost use Rattle.dt_text.specs.Spelling.{flow_text, hex_text, spelling, IsFlow, IsLine};
+ghost use Rattle.dt_text.specs.Said as said;
+ghost use Rattle.dt_text.specs.Said.{Said};
+ghost use Rattle.dt_text.specs.Lines.{line_of};
+ghost use Rattle.dt_text.specs.declared.lines.Form.{Form};
 ghost use Rattle.dt_text.specs.Numerals.{number};
 
 /// A number of at most 64 bits has one spelling: its decimal digits.
@@ -28,4 +32,10 @@ pub fn octets_have_one_spelling_in_lower_case()
     ensures read { (most : ℕ) (octets : List ℕ) → AllByRecursion (λ octet. octet < 256) octets → 0 < length octets → length octets ≤ most → IsTrue (is_hex most (hex_text octets)) }
     ensures decoded { (octets : List ℕ) → AllByRecursion (λ octet. octet < 256) octets → octets_of (hex_text octets) ≡ octets }
     ensures only { (hex : List ℕ) → IsTrue (are_pairs hex) → hex_text (octets_of hex) ≡ str_to_ascii_lowercase hex }
+{}
+
+/// A line that isn't blank has one spelling: its words with one space between two of them.
+pub fn lines_have_one_spelling()
+    ensures read { (form : Form) (line : Said) → IsLine form line → line_of form (spelling form line) ≡ Ok line }
+    ensures only { (form : Form) (octets : List ℕ) (line : Said) → line_of form octets ≡ Ok line → (line ≡ said.Blank) ⊎ ((octets ≡ spelling form line) × IsLine form line) }
 {}

@@ -1,6 +1,7 @@
 //! Each kind of line by its words, and the lines of both forms.
-ghost use Rattle.std.specs.Prelude.{◌≡◌, ◌≢◌, ◌<◌, length};
-ghost use Rattle.dt_text.specs.Said.{Reads};
+ghost use Rattle.std.specs.Prelude.{◌≡◌, ◌≢◌, ◌<◌, length, IfOk};
+ghost use Rattle.dt_text.specs.Said.{Reads, said};
+ghost use Rattle.dt_text.specs.Spelling.{IsLine};
 ghost use Rattle.dt_text.specs.Splitting.{word};
 ghost use Rattle.dt_text.specs.Lines.{line_of, line_named, lines};
 ghost use Rattle.dt_text.specs.declared.lines.Form.TheVariants.{Schedule, Script};
@@ -350,6 +351,7 @@ fn script_line<'a>(words: &Words<'a>) -> Result<Line<'a>, LineFault>
 #[tactic(auto, unfolding(crate::specs::Lines::line_of))]
 pub fn read_line(form: Form, bytes: &[u8]) -> Result<Line<'_>, LineFault>
     ensures exact { Reads result (line_of form bytes.now) }
+    ensures within { IfOk result (λ line. IsLine form (said line)) }
     ensures not_order { result ≢ Err LineFault.Order }
 {
     if bytes.is_empty() || bytes[0] == b'#' {
