@@ -51,7 +51,7 @@ take_first xs ys n = sym (take-append-le (min n (length xs)) xs ys (omega arith)
 
 -- A put of two parts that ends within the first: a first part of the first is one of both.
 pub puts_first : (xs ys : List ℕ) (before after : Option (List ℕ)) → AppendsPrefix xs before after → AppendsPrefix (xs ++ ys) before after
-puts_first xs ys before after (n , a) = (min n (length xs), a ∙ ap (λ zs. appended zs before) (take_first xs ys n))
+puts_first xs ys before after (n, a) = (min n (length xs), a ∙ ap (λ zs. appended zs before) (take_first xs ys n))
 
 -- A put of two parts, of which the first was taken: what the put of the second says, it says of both.
 pub puts_then : {S T E : Type 0} (held : S → Option (List ℕ)) (faults : S → ℕ) (xs ys : List ℕ) (r : Result T E) (old between new : S) → held between ≡ appended xs (held old) → faults between ≡ faults old → Puts held faults ys r between new → Puts held faults (xs ++ ys) r old new
