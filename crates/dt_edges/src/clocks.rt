@@ -1,5 +1,18 @@
+ghost use Rattle.std.specs.Prelude.{ℕ, ◌≡◌, List, Option, IfSome, length};
+ghost use Rattle.dt_edges.specs.Wires.{Notes, reading_at};
+
 /// A clock of the machine. It never fails.
 pub trait Clock {
+    /// The readings so far, where they are told.
+    ghost readings: { Self → Option (List ℕ) };
+
+    /// The readings that come, one or more, where they are told; the last one repeats. No call
+    /// changes them.
+    ghost plan: { Self → Option (List ℕ) };
+
     /// The clock's reading, in milliseconds.
-    fn now(&mut self) -> u64;
+    fn now(&mut self) -> u64
+        ensures noted { Notes result (readings self.old) (readings self.new) }
+        ensures by_plan { IfSome (plan self.old) (λ p. IfSome (readings self.old) (λ before. result ≡ reading_at p (length before))) }
+        ensures same_plan { plan self.new ≡ plan self.old };
 }

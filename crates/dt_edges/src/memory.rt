@@ -5,18 +5,12 @@ ghost use Rattle.dt_edges.specs.Streams.{HandsOver, appended};
 ghost use Rattle.dt_edges.specs.Memory.{Stock, Shelf, is_planned};
 
 use crate::fault::Failed;
+use crate::planning::{call_numbers, fails};
 use crate::reading::Source;
 use crate::writing::Sink;
 use dt_items::NoMemory;
 use std::alloc::Global;
 use std::marker::Model;
-
-/// Whether call number `call`, counted from 1, is among those that fail.
-fn fails(failing: &[u32], call: u64) -> bool
-    ensures { result ≡ is_planned failing.now call }
-{
-    failing.iter().any(|number| u64::from(*number) == call)
-}
 
 /// A source over octets in memory. It tells what is left.
 #[derive(Drop)]
@@ -24,7 +18,7 @@ pub struct MemSource {
     octets: Vec<u8>,
     /// How many of the octets were handed over.
     next: usize,
-    failing: Vec<u32>,
+    failing: Vec<u64>,
     calls: u64,
     faults: u64,
 }
@@ -49,7 +43,7 @@ impl MemSource {
         Ok(MemSource {
             octets: Vec::from_slice(alloc, octets)?,
             next: 0,
-            failing: Vec::from_slice(alloc, failing)?,
+            failing: call_numbers(alloc, failing)?,
             calls: 0,
             faults: 0,
         })
@@ -90,7 +84,7 @@ impl Source for MemSource {
 pub struct MemSink {
     octets: Vec<u8>,
     room: usize,
-    failing: Vec<u32>,
+    failing: Vec<u64>,
     calls: u64,
     faults: u64,
 }
@@ -115,7 +109,7 @@ impl MemSink {
         Ok(MemSink {
             octets: Vec::with_capacity(alloc, room)?,
             room,
-            failing: Vec::from_slice(alloc, failing)?,
+            failing: call_numbers(alloc, failing)?,
             calls: 0,
             faults: 0,
         })
