@@ -1,5 +1,5 @@
 -- The texts of the log: what the lines, their fields and the faults look like, as lists of octets.
-use Rattle.std.specs.Prelude.{ℕ, ◌/◌, ◌%◌, Bool, true, false, List, [], ◌∷◌, ◌++◌, flat_map, slice_index, codes, decimal, Option, Some, None}
+use Rattle.std.specs.Prelude.{ℕ, Bool, true, false, List, [], ◌∷◌, ◌++◌, codes, decimal, Option, Some, None}
 use Rattle.std.specs.List.{join_with_byte}
 use Rattle.dt_units.specs.declared.endpoints.Flow.{Flow}
 use Rattle.dt_units.specs.declared.parameters.Field.{Field}
@@ -16,6 +16,7 @@ use Rattle.dt_reports.specs.declared.faults.StepFault.{StepFault}
 use Rattle.dt_reports.specs.declared.faults.StepFault.TheVariants as step_faults
 use Rattle.dt_reports.specs.declared.faults.Refusal.{Refusal}
 use Rattle.dt_reports.specs.declared.faults.Refusal.TheVariants as refusals
+use Rattle.dt_text.specs.Spelling.{flow_text, hex_text}
 use Rattle.dt_reports.specs.Told.{Told, Took, Refused, Sent, Resent, Met, Uncertain, Released, Renewed, Acked, Replied, Accepted, Dropped, Settled, Ignored, Quiet, Read, Nothing, Put, PutAs, ExpiredIn, ExpiredOut, NoRoute, Full, Bad, Unsent, Restarted, Lost, FlowTotals, End, Refuses}
 
 -- A text is octets, and a line is words.
@@ -25,17 +26,6 @@ Text = List ℕ
 -- words with one space between two of them
 abbrev pub spaced : List Text → Text
 spaced words = join_with_byte 32 words
-
--- `a:p>b:q`: the octets go from the port p of the node a to the port q of the node b
-abbrev pub flow_text : Flow → Text
-flow_text flow = decimal flow.from.0 ++ codes ":" ++ decimal flow.from_port ++ codes ">" ++ decimal flow.to.0 ++ codes ":" ++ decimal flow.to_port
-
--- an octet as two hexadecimal digits in lower case, the high one first
-abbrev pub octet_text : ℕ → Text
-octet_text octet = slice_index (codes "0123456789abcdef") (octet / 16) ∷ slice_index (codes "0123456789abcdef") (octet % 16) ∷ []
-
-abbrev pub hex_text : List ℕ → Text
-hex_text octets = flat_map octet_text octets
 
 -- a letter, where the mark is there
 abbrev pub letter : Text → Bool → Text
@@ -159,16 +149,16 @@ acknowledgement_words (Ignored flow number window) = codes "ignored" ∷ flow_te
 acknowledgement_words told = receiver_words told
 
 -- what is told of sending, and of records
-abbrev pub words_of : Told → List Text
-words_of (Took flow count) = codes "took" ∷ flow_text flow ∷ decimal count ∷ []
-words_of (Refused flow fault) = codes "refused" ∷ flow_text flow ∷ refusal_words fault
-words_of (Sent flow number length drf begin end) = codes "sent" ∷ flow_text flow ∷ decimal number ∷ decimal length ∷ sent_letters drf begin end ∷ []
-words_of (Resent flow number length drf begin end) = codes "resent" ∷ flow_text flow ∷ decimal number ∷ decimal length ∷ sent_letters drf begin end ∷ []
-words_of (Met flow number) = codes "met" ∷ flow_text flow ∷ decimal number ∷ []
-words_of (Uncertain flow count) = codes "uncertain" ∷ flow_text flow ∷ decimal count ∷ []
-words_of (Released flow sending) = codes "released" ∷ flow_text flow ∷ record_text sending ∷ []
-words_of (Renewed flow) = codes "renewed" ∷ flow_text flow ∷ []
-words_of told = acknowledgement_words told
+abbrev pub report_words : Told → List Text
+report_words (Took flow count) = codes "took" ∷ flow_text flow ∷ decimal count ∷ []
+report_words (Refused flow fault) = codes "refused" ∷ flow_text flow ∷ refusal_words fault
+report_words (Sent flow number length drf begin end) = codes "sent" ∷ flow_text flow ∷ decimal number ∷ decimal length ∷ sent_letters drf begin end ∷ []
+report_words (Resent flow number length drf begin end) = codes "resent" ∷ flow_text flow ∷ decimal number ∷ decimal length ∷ sent_letters drf begin end ∷ []
+report_words (Met flow number) = codes "met" ∷ flow_text flow ∷ decimal number ∷ []
+report_words (Uncertain flow count) = codes "uncertain" ∷ flow_text flow ∷ decimal count ∷ []
+report_words (Released flow sending) = codes "released" ∷ flow_text flow ∷ record_text sending ∷ []
+report_words (Renewed flow) = codes "renewed" ∷ flow_text flow ∷ []
+report_words told = acknowledgement_words told
 
 -- the word of the node, where a node tells the line
 abbrev pub node_words : Option ℕ → List Text
@@ -188,7 +178,7 @@ line_words moment teller (Lost copy) = decimal moment ∷ codes "lost" ∷ decim
 line_words moment teller (FlowTotals flow taken acked uncertain unsettled given read) = totals_words flow taken acked uncertain unsettled given read
 line_words moment teller End = codes "end" ∷ decimal moment ∷ []
 line_words moment teller (Refuses line fault) = codes "line" ∷ (decimal line ++ codes ":") ∷ fault_words fault
-line_words moment teller told = decimal moment ∷ node_words teller ++ words_of told
+line_words moment teller told = decimal moment ∷ node_words teller ++ report_words told
 
 -- A line is its words with one space between two of them, and one line feed.
 abbrev pub line_text : ℕ → Option ℕ → Told → Text

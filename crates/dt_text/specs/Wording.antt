@@ -3,7 +3,7 @@ use Rattle.std.specs.Prelude.{List, ◌∷◌, ◌++◌, flat_map, codes, decima
 use Rattle.dt_text.specs.declared.wording.Word.{Word}
 use Rattle.dt_text.specs.declared.wording.Word.TheVariants.{Text, Number, Flow, Hex, Line}
 use Rattle.dt_text.specs.Texts as texts
-use Rattle.dt_text.specs.Texts.{flow_text, hex_text}
+use Rattle.dt_text.specs.Spelling.{flow_text, hex_text}
 
 abbrev pub word_text : Word → texts.Text
 word_text (Text text) = text.now

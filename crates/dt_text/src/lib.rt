@@ -3,9 +3,9 @@
 #![tactic(auto)]
 
 mod endpoints;
+mod faulting;
 mod fields;
 mod hexadecimal;
-mod faulting;
 pub mod laws;
 mod lines;
 mod logging;
@@ -20,11 +20,11 @@ pub use dt_reports::{Fault, LineFault, LogLine, Refusal, Report, SetupFault, Ste
 pub use endpoints::read_flow;
 pub use hexadecimal::{decode_hex, is_hex};
 pub use lines::{Form, Line};
+pub use logging::write_line;
 pub use numerals::read_number;
+pub use putting::{put_flow, put_hex, put_number};
 pub use reading::read_line;
 pub use stages::{Stage, follows};
 
 #[cfg(test)]
 mod tests;
-pub use logging::write_line;
-pub use putting::{put_flow, put_hex, put_number};

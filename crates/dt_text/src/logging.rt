@@ -2,7 +2,8 @@
 ghost use Rattle.std.specs.Prelude.{◌≡◌, [], ◌∷◌, ◌++◌, codes, decimal};
 ghost use Rattle.dt_edges.specs.Streams.{Puts};
 ghost use Rattle.dt_reports.specs.Told.{told};
-ghost use Rattle.dt_text.specs.Texts.{line_text, line_words, totals_words, node_words, fault_words, spaced, words_of, acknowledgement_words, receiver_words, link_words, flow_text, sent_letters, read_letters, record_text, run_text, refusal_words, layout_words};
+ghost use Rattle.dt_text.specs.Spelling.{flow_text};
+ghost use Rattle.dt_text.specs.Texts.{line_text, line_words, totals_words, node_words, fault_words, spaced, report_words, acknowledgement_words, receiver_words, link_words, sent_letters, read_letters, record_text, run_text, refusal_words, layout_words};
 ghost use Rattle.dt_text.specs.Wording.{behind};
 
 use crate::faulting::{put_fault, put_layout_fault, put_refusal};
@@ -11,6 +12,9 @@ use dt_edges::{Failed, Sink, put_all};
 use dt_layout::LayoutFault;
 use dt_reports::{Fault, LogLine, Refusal, Report};
 use dt_units::Flow;
+
+#[cfg(test)]
+mod tests;
 
 /// The letters of a packet that was sent: its data-run flag, and whether it begins and ends a
 /// message.
@@ -146,6 +150,22 @@ fn put_bad<K: Sink>(fault: LayoutFault, out: &mut K) -> Result<(), Failed>
     put_layout_fault(fault, out)
 }
 
+/// Puts that an arrival (`in`) or a waiting packet (`out`) had no life left, the words each behind a
+/// space.
+fn put_expired<K: Sink>(way: &'static str, link: u16, out: &mut K) -> Result<(), Failed>
+    ensures puts { Puts K.held K.faults (behind (codes "expired" ∷ way.now ∷ decimal link ∷ [])) result out.old out.new }
+    ensures same_sink { K.identity out.new ≡ K.identity out.old }
+{
+    put_words(
+        &[
+            Word::Text("expired"),
+            Word::Text(way),
+            Word::Number(u64::from(link)),
+        ],
+        out,
+    )
+}
+
 /// Puts what is told of links, of nodes and of a restart, its words each behind a space.
 fn put_link_report<K: Sink>(report: &Report<'_>, out: &mut K) -> Result<(), Failed>
     ensures puts { Puts K.held K.faults (behind (link_words (told report.now))) result out.old out.new }
@@ -170,22 +190,8 @@ fn put_link_report<K: Sink>(report: &Report<'_>, out: &mut K) -> Result<(), Fail
             ],
             out,
         ),
-        Report::ExpiredIn { link } => put_words(
-            &[
-                Word::Text("expired"),
-                Word::Text("in"),
-                Word::Number(u64::from(link)),
-            ],
-            out,
-        ),
-        Report::ExpiredOut { link } => put_words(
-            &[
-                Word::Text("expired"),
-                Word::Text("out"),
-                Word::Number(u64::from(link)),
-            ],
-            out,
-        ),
+        Report::ExpiredIn { link } => put_expired("in", link, out),
+        Report::ExpiredOut { link } => put_expired("out", link, out),
         Report::NoRoute { to } => put_named("noroute", u64::from(to), out),
         Report::Full { link } => put_named("full", u64::from(link), out),
         Report::Bad { fault } => put_bad(fault, out),
@@ -261,9 +267,24 @@ fn put_acknowledgement_report<K: Sink>(report: &Report<'_>, out: &mut K) -> Resu
     }
 }
 
+/// Puts a record that was released, the words each behind a space.
+fn put_released<K: Sink>(flow: Flow, sending: bool, out: &mut K) -> Result<(), Failed>
+    ensures puts { Puts K.held K.faults (behind (codes "released" ∷ flow_text flow ∷ record_text sending ∷ [])) result out.old out.new }
+    ensures same_sink { K.identity out.new ≡ K.identity out.old }
+{
+    put_words(
+        &[
+            Word::Text("released"),
+            Word::Flow(flow),
+            Word::Text(record_name(sending)),
+        ],
+        out,
+    )
+}
+
 /// Puts what a node tells, its words each behind a space.
 fn put_report<K: Sink>(report: &Report<'_>, out: &mut K) -> Result<(), Failed>
-    ensures puts { Puts K.held K.faults (behind (words_of (told report.now))) result out.old out.new }
+    ensures puts { Puts K.held K.faults (behind (report_words (told report.now))) result out.old out.new }
     ensures same_sink { K.identity out.new ≡ K.identity out.old }
 {
     match *report {
@@ -276,14 +297,10 @@ fn put_report<K: Sink>(report: &Report<'_>, out: &mut K) -> Result<(), Failed>
             drf,
             begin,
             end,
-        } => put_segment(
-            "sent",
-            flow,
-            number,
-            length,
-            letters_sent(drf, begin, end),
-            out,
-        ),
+        } => {
+            let letters = letters_sent(drf, begin, end);
+            put_segment("sent", flow, number, length, letters, out)
+        }
         Report::Resent {
             flow,
             number,
@@ -291,24 +308,13 @@ fn put_report<K: Sink>(report: &Report<'_>, out: &mut K) -> Result<(), Failed>
             drf,
             begin,
             end,
-        } => put_segment(
-            "resent",
-            flow,
-            number,
-            length,
-            letters_sent(drf, begin, end),
-            out,
-        ),
+        } => {
+            let letters = letters_sent(drf, begin, end);
+            put_segment("resent", flow, number, length, letters, out)
+        }
         Report::Met { flow, number } => put_count("met", flow, number, out),
         Report::Uncertain { flow, count } => put_count("uncertain", flow, count, out),
-        Report::Released { flow, sending } => put_words(
-            &[
-                Word::Text("released"),
-                Word::Flow(flow),
-                Word::Text(record_name(sending)),
-            ],
-            out,
-        ),
+        Report::Released { flow, sending } => put_released(flow, sending, out),
         Report::Renewed { flow } => put_of_flow("renewed", flow, out),
         _ => put_acknowledgement_report(report, out),
     }
@@ -372,7 +378,7 @@ fn put_front<K: Sink>(moment: u64, node: Option<u32>, out: &mut K) -> Result<(),
 
 /// Puts the words of a line of a node.
 fn put_told<K: Sink>(line: &LogLine<'_>, out: &mut K) -> Result<(), Failed>
-    ensures puts { Puts K.held K.faults (spaced (decimal line.now.moment ∷ node_words line.now.node ++ words_of (told line.now.report))) result out.old out.new }
+    ensures puts { Puts K.held K.faults (spaced (decimal line.now.moment ∷ node_words line.now.node ++ report_words (told line.now.report))) result out.old out.new }
     ensures same_sink { K.identity out.new ≡ K.identity out.old }
 {
     put_front(line.moment, line.node, out)?;

@@ -1,6 +1,6 @@
 ghost use Rattle.std.specs.Prelude.{◌≡◌, ◌+◌, ◌<◌, ◌≤◌, ◌∷◌, ◌++◌, length, drop, decimal};
 ghost use Rattle.dt_edges.specs.Streams.{Puts};
-ghost use Rattle.dt_text.specs.Texts.{flow_text, hex_text};
+ghost use Rattle.dt_text.specs.Spelling.{flow_text, hex_text};
 
 use dt_edges::{Failed, Sink, put_all};
 use dt_units::Flow;
@@ -33,7 +33,7 @@ fn write_before(n: u64, mark: u8, text: &mut [u8], end: usize) -> usize
 }
 
 /// Writes a flow at the end of a text, and says where it starts.
-#[tactic(auto, using(crate::proofs::Lengths::port_length, crate::proofs::Lengths::node_length))]
+#[tactic(auto, using(crate::proofs::Lengths::port_length, crate::proofs::Lengths::node_length), unfolding(crate::specs::Spelling::flow_text))]
 pub(crate) fn write_flow(flow: &Flow, text: &mut [u8]) -> usize
     requires { FLOW_ROOM ≤ length text.old }
     ensures start { result ≤ length text.old }
@@ -63,7 +63,6 @@ pub fn put_flow<K: Sink>(flow: &Flow, out: &mut K) -> Result<(), Failed>
 const PIECE: usize = 64;
 
 /// Puts a few octets in hexadecimal digits.
-#[tactic(auto, using(crate::proofs::Hexes::encode_lower_is))]
 fn put_piece<K: Sink>(octets: &[u8], out: &mut K) -> Result<(), Failed>
     requires { length octets.now ≤ PIECE }
     ensures puts { Puts K.held K.faults (hex_text octets.now) result out.old out.new }

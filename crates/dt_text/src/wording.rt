@@ -1,6 +1,7 @@
 ghost use Rattle.std.specs.Prelude.{◌≡◌, ◌+◌, ◌≤◌, [], ◌∷◌, ◌++◌, length, drop, map, codes, decimal};
 ghost use Rattle.dt_edges.specs.Streams.{Puts};
-ghost use Rattle.dt_text.specs.Texts.{flow_text, hex_text, spaced};
+ghost use Rattle.dt_text.specs.Spelling.{flow_text, hex_text};
+ghost use Rattle.dt_text.specs.Texts.{spaced};
 ghost use Rattle.dt_text.specs.Wording.{word_text, after_space, after_spaces, behind};
 
 use crate::putting::{FLOW_ROOM, put_flow, put_hex, put_number, write_flow};

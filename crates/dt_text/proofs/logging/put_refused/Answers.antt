@@ -1,5 +1,6 @@
 use Rattle.std.proofs.Common.{[], ◌∷◌, codes}
-use Rattle.dt_text.specs.Texts.{flow_text, refusal_words}
+use Rattle.dt_text.specs.Spelling.{flow_text}
+use Rattle.dt_text.specs.Texts.{refusal_words}
 use Rattle.dt_text.proofs.Parts.{behind_then, behind_failed}
 use Rattle.dt_text.proofs.logging.put_refused.Goals as goal
 

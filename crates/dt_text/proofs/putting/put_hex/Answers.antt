@@ -1,5 +1,5 @@
-use Rattle.std.proofs.Common.{◌≡◌, List, ◌++◌, ◌∙◌}
-use Rattle.dt_text.specs.Texts.{octet_text}
+use Rattle.std.proofs.Common.{◌++◌, ◌∙◌}
+use Rattle.dt_text.specs.Spelling.{octet_text}
 use Rattle.dt_text.proofs.Parts.{more_appended, cut_further, text_in_parts, puts_failed_between}
 use Rattle.dt_text.proofs.putting.put_hex.Goals as goal
 

@@ -1,6 +1,6 @@
 use Rattle.std.proofs.Common.{◌≡◌, ℕ, List, ◌++◌, length}
 use Rattle.dt_edges.specs.Streams.{appended}
-use Rattle.dt_text.specs.Texts.{hex_text}
+use Rattle.dt_text.specs.Spelling.{hex_text}
 use Rattle.dt_text.proofs.putting.put_hex.Given as goal
 
 -- the digits of the octets before the rest were put

@@ -1,4 +1,4 @@
-use Rattle.std.proofs.Common.{◌≡◌, List, ◌∷◌, ◌++◌, map, ap, sym, ◌∙◌}
+use Rattle.std.proofs.Common.{◌≡◌, List, ◌∷◌, ◌++◌, map, ap, ◌∙◌}
 use Rattle.dt_text.specs.declared.wording.Word.{Word}
 use Rattle.dt_text.specs.Texts.{spaced}
 use Rattle.dt_text.specs.Wording.{word_text, after_spaces}
