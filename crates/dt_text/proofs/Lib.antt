@@ -2,9 +2,6 @@ pub mod NumeralLemmas
 pub mod CutLemmas
 pub mod KeptLemmas
 pub mod HexLemmas
-pub mod Hexes
-pub mod Lengths
-pub mod Parts
 pub mod NumberLaws
 pub mod CutLaws
 pub mod FlowLaws
@@ -12,3 +9,6 @@ pub mod HexLaws
 pub mod OrderLaws
 pub mod LineLaws
 pub mod SpelledLaws
+pub mod Hexes
+pub mod Lengths
+pub mod Parts

@@ -1,4 +1,3 @@
-pub mod Texts
 pub mod Numerals
 pub mod Splitting
 pub mod Endpoints
@@ -7,5 +6,6 @@ pub mod Said
 pub mod Fields
 pub mod Lines
 pub mod Stages
-pub mod Wording
 pub mod Spelling
+pub mod Texts
+pub mod Wording

@@ -1,10 +1,9 @@
 -- What a line says: a line as a value without loans. The digits of hex are a list.
-use Rattle.std.specs.Prelude.{◌≡◌, ℕ, List, Bool, IsTrue, Result, Ok, Err}
+use Rattle.std.specs.Prelude.{◌≡◌, ℕ, List, Bool, Result, Ok, Err}
 use Rattle.dt_units.specs.declared.endpoints.Flow.{Flow}
 use Rattle.dt_units.specs.declared.parameters.Params as units
 use Rattle.dt_edges.specs.declared.addressing.Address.{Address}
 use Rattle.dt_reports.specs.declared.faults.LineFault.{LineFault}
-use Rattle.dt_text.specs.Hexadecimal.{is_hex}
 use Rattle.dt_text.specs.declared.lines.Line.{Line}
 use Rattle.dt_text.specs.declared.lines.Line.TheVariants as lines
 
@@ -51,13 +50,7 @@ said (lines.AtSend at flow begin end hex) = AtSend at flow begin end hex.now
 said (lines.AtRead at flow max) = AtRead at flow max
 said (lines.AtStop at) = AtStop at
 
--- the hex of a line is pairs of hexadecimal digits
-abbrev pub HasPairs : Line → Type 0
-HasPairs (lines.Send flow begin end hex) = IsTrue (is_hex 65536 hex.now)
-HasPairs (lines.AtSend at flow begin end hex) = IsTrue (is_hex 65536 hex.now)
-HasPairs _ = Unit {0}
-
--- what was read is what the definition says: this line, whose hex is pairs of digits, or this fault
+-- what was read is what the definition says: this line, or this fault
 abbrev pub Reads : Result Line LineFault → Result Said LineFault → Type 0
-Reads (Ok line) line_of = (line_of ≡ Ok (said line)) × HasPairs line
+Reads (Ok line) line_of = line_of ≡ Ok (said line)
 Reads (Err fault) line_of = line_of ≡ Err fault

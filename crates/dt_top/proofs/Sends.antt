@@ -1,10 +1,11 @@
 -- A send, and the digits that it comes in.
-use Rattle.std.proofs.Common.{◌≡◌, ℕ, ◌+◌, ◌-◌, ◌*◌, ◌/◌, ◌%◌, ◌<◌, ◌≤◌, Bool, true, false, ◌&&◌, ◌==◌, nat_lt, nat_le, IsTrue, List, [], ◌∷◌, length, refl, ap, sym, subst, ◌∙◌, append-nil, arith, ltb-true}
-use Rattle.std.proofs.lemmas.Bool.{eqb-true, leb-true}
+use Rattle.std.proofs.Common.{◌≡◌, ℕ, ◌+◌, ◌-◌, ◌*◌, ◌/◌, ◌%◌, Bool, true, false, ◌&&◌, ◌==◌, nat_lt, nat_le, IsTrue, List, [], ◌∷◌, length, refl, ap, sym, subst, ◌∙◌, append-nil, arith}
+use Rattle.std.proofs.lemmas.Bool.{eqb-true}
 use Rattle.dt_items.specs.Unread.{marked}
 use Rattle.dt_reports.specs.declared.faults.Refusal.TheVariants.{Full}
 use Rattle.dt_reports.specs.Told as told
-use Rattle.dt_text.specs.Hexadecimal.{are_pairs, is_hex, octets_of}
+use Rattle.dt_text.specs.Hexadecimal.{octets_of}
+use Rattle.dt_text.specs.Spelling.{IsHex}
 use Rattle.dt_flow_model.specs.SendRecord.{room_of}
 use Rattle.dt_top.specs.declared.path.state.Sender.{Sender}
 use Rattle.dt_top.specs.Transmitting.{the_flow, by_sender}
@@ -21,18 +22,11 @@ both : (a b : Bool) → (a && b) ≡ true → (a ≡ true) × (b ≡ true)
 both true b h = (refl, h)
 both false b h = cc
 
--- what hex is: some digits, at most 131,072, and an even number of them
-pub record IsHex (hex : List ℕ) : Type 0 where
-  pub some : 0 < length hex
-  pub most : length hex ≤ 131072
-  pub octets : 2 * length (octets_of hex) ≡ length hex
-
-pub hex_is : (hex : List ℕ) → is_hex 65536 hex ≡ true → IsHex hex
+-- hex has two digits for each of its octets
+pub hex_is : (hex : List ℕ) → IsHex hex → 2 * length (octets_of hex) ≡ length hex
 hex_is hex h =
-    let parts = both _ (are_pairs hex) h in
-    let sizes = both _ _ parts.0 in
-    let even = both (length hex % 2 == 0) _ parts.1 in
-    record { some = ltb-true _ _ sizes.0; most = leb-true _ _ sizes.1; octets = two_digits hex (eqb-true _ _ even.0) }
+    let even = both (length hex % 2 == 0) _ h.pairs in
+    two_digits hex (eqb-true _ _ even.0)
 
 -- octets that don't fit are refused, and others are taken
 pub refuses : (s : Sender) (begin end : Bool) (octets : List ℕ) → nat_lt (room_of s.rules s.send_record) (length octets) ≡ true

@@ -2,10 +2,9 @@
 //! a status.
 #![tactic(auto)]
 
-ghost use Rattle.std.specs.Prelude.{◌≡◌, ◌≤◌, ◌<◌, ◌↔◌, ◌⊎◌, ℕ, IfSome, IfOk, IfErr, false, true, length, MatchResult};
+ghost use Rattle.std.specs.Prelude.{◌≡◌, ◌≤◌, ◌<◌, ◌↔◌, ◌⊎◌, ℕ, IfSome, IfOk, IfErr, OnOk, false, true, length, MatchResult};
 ghost use Rattle.dt_edges.specs.Counts.{HasRisen};
 ghost use Rattle.dt_edges.specs.Streams.{appended};
-ghost use Rattle.dt_edges.specs.Buffering.{waits, behind, loan};
 ghost use Rattle.dt_top.specs.Inputs.{limit};
 ghost use Rattle.dt_top.specs.Replay.{replay_text, is_accepted};
 ghost use Rattle.dt_top.specs.Stopping.{StopsFor};
@@ -19,7 +18,7 @@ mod path;
 
 use std::alloc::Global;
 
-use dt_edges::{Buffered, Clock, Sink, Source, Wire, put_all};
+use dt_edges::{Buffer, Buffered, Clock, Sink, Source, Wire, put_all};
 
 use crate::ending::Ending;
 use crate::input::{InputFault, read_input};
@@ -36,21 +35,34 @@ fn is_replay(words: &[String]) -> bool
     }
 }
 
-/// Replays a schedule into a buffer, and empties the buffer.
+/// Replays a schedule behind a buffer.
 fn replay_buffered<K: Sink>(
     alloc: Global,
     bytes: &[u8],
-    log: &mut Buffered<'_, K>,
+    buffer: &mut Buffer,
+    out: &mut K,
 ) -> Result<bool, Stop>
     requires { length bytes.now ≤ limit }
     ensures accepted { IfOk result (λ accepted. accepted ≡ is_accepted bytes.now) }
-    ensures text { IfOk result (λ _. K.held (behind log.new) ≡ appended (replay_text bytes.now) (appended (waits log.old) (K.held (behind log.old)))) }
-    ensures steady { IfOk result (λ _. K.faults (behind log.new) ≡ K.faults (behind log.old)) }
-    ensures stops { IfErr result (λ stop. StopsFor stop (K.faults (behind log.old)) (K.faults (behind log.new))) }
-    ensures same_loan { loan log.new ≡ loan log.old }
+    ensures text { OnOk result (appended buffer.new (K.held out.new) ≡ appended (replay_text bytes.now) (appended buffer.old (K.held out.old))) }
+    ensures steady { OnOk result (K.faults out.new ≡ K.faults out.old) }
+    ensures stops { IfErr result (λ stop. StopsFor stop (K.faults out.old) (K.faults out.new)) }
 {
-    let accepted = replay_lines(alloc, bytes, log)?;
-    log.flush()?;
+    let mut log = Buffered { out, buffer };
+    replay_lines(alloc, bytes, &mut log)
+}
+
+/// Replays a schedule, and says whether it is accepted.
+fn replay_all<K: Sink>(alloc: Global, bytes: &[u8], out: &mut K) -> Result<bool, Stop>
+    requires { length bytes.now ≤ limit }
+    ensures accepted { IfOk result (λ accepted. accepted ≡ is_accepted bytes.now) }
+    ensures text { OnOk result (K.held out.new ≡ appended (replay_text bytes.now) (K.held out.old)) }
+    ensures steady { OnOk result (K.faults out.new ≡ K.faults out.old) }
+    ensures stops { IfErr result (λ stop. StopsFor stop (K.faults out.old) (K.faults out.new)) }
+{
+    let mut buffer = Buffer::new(alloc)?;
+    let accepted = replay_buffered(alloc, bytes, &mut buffer, out)?;
+    buffer.pass_on(out)?;
     Ok(accepted)
 }
 
@@ -71,11 +83,7 @@ fn replay<K: Sink>(alloc: Global, bytes: &[u8], out: &mut K) -> Ending
     requires { length bytes.now ≤ limit }
     ensures { Replays result bytes.now (K.held out.old) (K.held out.new) (K.faults out.old) (K.faults out.new) }
 {
-    let Ok(room) = Buffered::<K>::room(alloc) else {
-        return Ending::NoMemory;
-    };
-    let mut log = Buffered::new(room, out);
-    ending_of(replay_buffered(alloc, bytes, &mut log))
+    ending_of(replay_all(alloc, bytes, out))
 }
 
 /// Serves the command that the words name.

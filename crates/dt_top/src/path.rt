@@ -3,7 +3,8 @@ ghost use Rattle.std.specs.Prelude.{◌≡◌, ◌<◌, ◌≤◌, ◌+◌, ◌*
 ghost use Rattle.std.specs.List.{slice_get};
 ghost use Rattle.dt_units.specs.Limits.{first_out_of_range};
 ghost use Rattle.dt_text.specs.Said as Said;
-ghost use Rattle.dt_text.specs.Said.{HasPairs};
+ghost use Rattle.dt_text.specs.declared.lines.Form.TheVariants.{Schedule};
+ghost use Rattle.dt_text.specs.Spelling.{IsLine};
 ghost use Rattle.dt_reports.specs.Told as Told;
 ghost use Rattle.dt_top.specs.Transmitting.{by_world};
 ghost use Rattle.dt_top.specs.Replay.{at_start, setup_lines, params_turn, setup_turn, line_turn, turn, taken_by, totals, refused_at, closing, replay, is_accepted};
@@ -97,7 +98,7 @@ impl Path {
         octets: &mut Vec<u8>,
         out: &mut K,
     ) -> Result<Option<Fault>, Stop>
-        requires pairs { HasPairs said.now }
+        requires in_form { IsLine Schedule (Said.said said.now) }
         requires few_copies { copies_by self.old.sender < 2 ^ 62 }
         requires few_octets { taken_by self.old.sender < 2 ^ 62 }
         ensures turns { Turns K.held K.faults (line_turn self.old line.now (Said.said said.now)) result self.new out.old out.new }

@@ -3,7 +3,8 @@ ghost use Rattle.std.specs.Prelude.{◌≡◌, ◌++◌, ◌<◌, ◌≤◌, ◌
 ghost use Rattle.dt_edges.specs.Streams.{appended, Puts};
 ghost use Rattle.dt_reports.specs.Told.{told};
 ghost use Rattle.dt_text.specs.Texts.{line_text};
-ghost use Rattle.dt_text.specs.Hexadecimal.{is_hex, octets_of};
+ghost use Rattle.dt_text.specs.Hexadecimal.{octets_of};
+ghost use Rattle.dt_text.specs.Spelling.{IsHex};
 ghost use Rattle.std.specs.Bool.{OnTrue, OnFalse};
 ghost use Rattle.dt_items.specs.Unread.{marked};
 ghost use Rattle.dt_flow_model.specs.SendRecord.{held_of};
@@ -144,7 +145,7 @@ impl Sender {
         octets: &mut Vec<u8>,
         out: &mut K,
     ) -> Result<(), Stop>
-        requires pairs { IsTrue (is_hex 65536 hex.now) }
+        requires pairs { IsHex hex.now }
         requires few_copies { self.old.copies < 2 ^ 62 }
         requires few_octets { self.old.taken < 2 ^ 62 }
         ensures ok { OnOk result (self.new ≡ (sends self.old begin end (octets_of hex.now)).sender) }
