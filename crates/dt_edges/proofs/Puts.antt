@@ -1,5 +1,5 @@
 -- Puts one after another.
-use Rattle.std.proofs.Common.{◌≡◌, ℕ, zero, suc, zero-add, ◌+◌, List, [], ◌∷◌, ◌++◌, length, take, drop, Option, Some, None, refl, ap, sym, subst, ◌∙◌, append_assoc, length-drop, take_all, arith, ◌-◌, ◌≤◌, min, Result, Ok, Err, IsErr}
+use Rattle.std.proofs.Common.{◌≡◌, ℕ, zero, suc, zero-add, ◌+◌, List, [], ◌∷◌, ◌++◌, length, take, drop, Option, Some, None, refl, ap, sym, subst, ◌∙◌, append_assoc, length-drop, take_all, arith, ◌-◌, min, Result, Ok, Err, IsErr}
 use Rattle.std.proofs.Math.Nat.{suc-add}
 use Rattle.std.proofs.Math.Seq.{take-nil, take-append-add}
 use Rattle.std.proofs.lemmas.List.{drop-drop, take-append-drop, take-append-le, take_min}

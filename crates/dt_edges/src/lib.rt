@@ -26,3 +26,6 @@ pub use reading::Source;
 pub use streams::{ReaderSource, WriterSink};
 pub use wires::Wire;
 pub use writing::{Sink, put_all};
+
+#[cfg(test)]
+mod tests;
