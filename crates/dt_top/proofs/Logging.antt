@@ -1,5 +1,5 @@
 -- Lines logged one after another.
-use Rattle.std.proofs.Common.{◌≡◌, ℕ, List, [], ◌∷◌, ◌++◌, Option, Result, Ok, Err, refl, ap, sym, subst, ◌∙◌, ◌<◌, nat_lt, true, lt-ltb}
+use Rattle.std.proofs.Common.{◌≡◌, ℕ, List, [], ◌∷◌, Option, Result, Ok, Err, refl, ap, subst, ◌∙◌, ◌<◌, nat_lt, true, lt-ltb}
 use Rattle.dt_edges.specs.Counts.{HasRisen}
 use Rattle.dt_edges.specs.Streams.{appended}
 use Rattle.dt_edges.proofs.Puts.{appended-appended}

@@ -1,5 +1,5 @@
 -- Transmissions one by one.
-use Rattle.std.proofs.Common.{◌≡◌, ℕ, zero, suc, ◌+◌, ◌-◌, ◌<◌, ◌≤◌, Bool, true, false, List, [], ◌∷◌, ◌++◌, Option, refl, ap, sym, ◌∙◌, append_assoc, arith}
+use Rattle.std.proofs.Common.{◌≡◌, ℕ, zero, suc, ◌+◌, ◌-◌, ◌<◌, true, false, List, [], ◌++◌, Option, refl, ap, sym, ◌∙◌, append_assoc, arith}
 use Rattle.dt_edges.specs.Streams.{appended}
 use Rattle.dt_edges.proofs.Puts.{appended-appended, appended-nothing}
 use Rattle.dt_flow_model.specs.SendActs.{can_send}

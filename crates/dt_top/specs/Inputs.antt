@@ -1,5 +1,5 @@
 -- How the input is read to its end.
-use Rattle.std.specs.Prelude.{ℕ, ◌<◌, ◌≤◌, ◌≡◌, List, [], ◌++◌, length, Option, Some, None, Result, Ok, Err, IfSome}
+use Rattle.std.specs.Prelude.{ℕ, ◌<◌, ◌≡◌, List, ◌++◌, length, Option, Some, None, IfSome}
 use Rattle.dt_edges.specs.Counts.{HasRisen}
 use Rattle.dt_top.specs.declared.input.InputFault.{InputFault}
 use Rattle.dt_top.specs.declared.input.InputFault.TheVariants as faults

@@ -1,5 +1,5 @@
 -- The log: what is told, line by line.
-use Rattle.std.specs.Prelude.{ℕ, Option, Some, None, List, flat_map}
+use Rattle.std.specs.Prelude.{ℕ, Option, List, flat_map}
 use Rattle.dt_reports.specs.Told.{Told}
 use Rattle.dt_text.specs.Texts.{line_text}
 

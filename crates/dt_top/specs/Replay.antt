@@ -1,5 +1,5 @@
 -- The log of a whole schedule, as far as schedules are served: one setup, and messages that are sent at moment 0 on one flow.
-use Rattle.std.specs.Prelude.{ℕ, suc, ◌+◌, ◌-◌, Bool, true, false, ◌&&◌, ◌==◌, nat_lt, if◌then◌else◌, List, [], ◌∷◌, ◌++◌, length, Option, Some, None, Result, Ok, Err, codes}
+use Rattle.std.specs.Prelude.{ℕ, suc, ◌+◌, Bool, true, false, nat_lt, if◌then◌else◌, List, [], ◌∷◌, ◌++◌, length, Option, Some, None, Result, Ok, Err, codes}
 use Rattle.std.specs.List.{slice_get}
 use Rattle.std.specs.Str.{bytes_eq}
 use Rattle.dt_units.specs.declared.endpoints.Flow.{Flow}
@@ -12,7 +12,6 @@ use Rattle.dt_reports.specs.declared.faults.Fault.{Fault}
 use Rattle.dt_reports.specs.declared.faults.Fault.TheVariants as faults
 use Rattle.dt_reports.specs.declared.faults.LineFault.{LineFault}
 use Rattle.dt_reports.specs.declared.faults.LineFault.TheVariants.{Order}
-use Rattle.dt_reports.specs.declared.faults.Refusal.{Refusal}
 use Rattle.dt_reports.specs.declared.faults.Refusal.TheVariants.{Full}
 use Rattle.dt_reports.specs.Told as told
 use Rattle.dt_text.specs.declared.lines.Form.TheVariants.{Schedule}
@@ -22,7 +21,7 @@ use Rattle.dt_text.specs.Said.{Said, Params as ParamsLine, Send, Blank}
 use Rattle.dt_text.specs.Hexadecimal.{octets_of}
 use Rattle.dt_text.specs.Lines.{line_of}
 use Rattle.dt_text.specs.Stages.{stage_after}
-use Rattle.dt_flow_model.specs.SendRecord.{SendRecord, new_record, room_of, put}
+use Rattle.dt_flow_model.specs.SendRecord.{new_record, room_of, put}
 use Rattle.dt_flow_model.specs.SendActs.{most_segments}
 use Rattle.dt_top.specs.declared.path.state.Sender.{Sender}
 use Rattle.dt_top.specs.declared.path.state.Path.{Path}
@@ -133,7 +132,7 @@ unfoldable pub replay_from : ℕ → Path → List (List ℕ) → Replay
 replay_from number path [] = closing number path.stage path.sender
 replay_from number path (line ∷ lines) =
     elim (turn path line) [
-      Ok turned ↦ behind turned.entries (replay_from (suc number) turned.path lines)
+      | Ok turned ↦ behind turned.entries (replay_from (suc number) turned.path lines)
       | Err fault ↦ refused_at number fault
     ]
 

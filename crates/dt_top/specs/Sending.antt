@@ -1,9 +1,8 @@
 -- The first transmission of the next cut of a send record.
-use Rattle.std.specs.Prelude.{ℕ, zero, suc, ◌-◌, ◌++◌, List, [], ◌∷◌, if◌then◌else◌, length}
+use Rattle.std.specs.Prelude.{ℕ, ◌++◌, [], ◌∷◌}
 use Rattle.dt_units.specs.declared.parameters.Params.{Params}
 use Rattle.dt_flow_model.specs.declared.acts.Cut.{Cut}
-use Rattle.dt_flow_model.specs.SendRecord.{SendRecord, next_of, cut_of, cut_size, rest_of, cut_told}
-use Rattle.dt_flow_model.specs.SendActs.{can_send, most_segments}
+use Rattle.dt_flow_model.specs.SendRecord.{SendRecord, next_of, cut_of, rest_of, cut_told}
 
 -- the record after its next cut went out at now
 abbrev pub after_cut : Params → ℕ → SendRecord → SendRecord

@@ -1,5 +1,5 @@
 -- What the program answers, and what it has written then.
-use Rattle.std.specs.Prelude.{ℕ, ◌<◌, ◌≤◌, ◌≡◌, ◌⊎◌, Bool, true, false, List, [], ◌∷◌, length, codes, Option, Some, IfSome, Result, Ok, Err, String, string_bytes, bytes_eq}
+use Rattle.std.specs.Prelude.{ℕ, ◌<◌, ◌≤◌, ◌≡◌, ◌⊎◌, Bool, true, false, List, [], ◌∷◌, length, codes, Option, IfSome, Result, Ok, Err, String, string_bytes, bytes_eq}
 use Rattle.dt_edges.specs.Counts.{HasRisen}
 use Rattle.dt_edges.specs.Streams.{appended, AppendsPrefix}
 use Rattle.dt_top.specs.declared.ending.Ending.{Ending}

@@ -1,5 +1,5 @@
 -- What calls that log lines leave.
-use Rattle.std.specs.Prelude.{ℕ, ◌+◌, ◌*◌, ◌≤◌, ◌≡◌, List, Option, Some, None, Result, Ok, Err, IsOkAnd}
+use Rattle.std.specs.Prelude.{ℕ, ◌*◌, ◌≤◌, ◌≡◌, List, Option, Some, None, Result, Ok, Err, IsOkAnd}
 use Rattle.dt_edges.specs.Counts.{HasRisen}
 use Rattle.dt_edges.specs.Streams.{appended}
 use Rattle.dt_reports.specs.declared.faults.Fault.{Fault}

@@ -2,9 +2,8 @@
 ghost use Rattle.std.specs.Prelude.{◌≡◌, ◌≤◌, IfOk, IfErr, vec_len, IfSome, length};
 ghost use Rattle.dt_top.specs.Inputs.{limit, HasRead, LacksInput};
 
-use std::alloc::{AllocError, Global};
-
 use dt_edges::{Failed, Source};
+use std::alloc::{AllocError, Global};
 
 /// The most octets of an input.
 const LIMIT: usize = 16_777_216;

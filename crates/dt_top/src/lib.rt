@@ -16,14 +16,12 @@ mod ending;
 mod input;
 mod path;
 
-use std::alloc::Global;
-
-use dt_edges::{Buffer, Buffered, Clock, Sink, Source, Wire, put_all};
-
 use crate::ending::Ending;
 use crate::input::{InputFault, read_input};
 use crate::path::replay_lines;
 use crate::path::stop::Stop;
+use dt_edges::{Buffer, Buffered, Clock, Sink, Source, Wire, put_all};
+use std::alloc::Global;
 
 /// Whether the words are the one word `replay`.
 fn is_replay(words: &[String]) -> bool
@@ -87,20 +85,15 @@ fn replay<K: Sink>(alloc: Global, bytes: &[u8], out: &mut K) -> Ending
 }
 
 /// Serves the command that the words name.
-fn serve<S: Source, K: Sink>(
-    alloc: Global,
-    words: &[String],
-    source: &mut S,
-    out: &mut K,
-) -> Ending
+fn serve<S: Source, K: Sink>(alloc: Global, words: &[String], source: &mut S, out: &mut K) -> Ending
     ensures { Ends result (is_replay words.now) (record {
-        left = S.left source.old;
-        source_before = S.faults source.old;
-        source_after = S.faults source.new;
-        held_before = K.held out.old;
-        held_after = K.held out.new;
-        out_before = K.faults out.old;
-        out_after = K.faults out.new;
+      left = S.left source.old;
+      source_before = S.faults source.old;
+      source_after = S.faults source.new;
+      held_before = K.held out.old;
+      held_after = K.held out.new;
+      out_before = K.faults out.old;
+      out_after = K.faults out.new;
     }) }
 {
     if !is_replay(words) {
@@ -146,13 +139,13 @@ pub fn run<S: Source, K: Sink, E: Sink, W: Wire, C: Clock>(
     ensures write_failed { result ≡ 8 → HasRisen (K.faults out.old) (K.faults out.new) }
     // No other status is answered, and standard error has the text of the one that is.
     ensures ends { (ending : Ending) × (result ≡ status_of ending) × Ends ending (is_replay words.now) (record {
-        left = S.left source.old;
-        source_before = S.faults source.old;
-        source_after = S.faults source.new;
-        held_before = K.held out.old;
-        held_after = K.held out.new;
-        out_before = K.faults out.old;
-        out_after = K.faults out.new;
+      left = S.left source.old;
+      source_before = S.faults source.old;
+      source_after = S.faults source.new;
+      held_before = K.held out.old;
+      held_after = K.held out.new;
+      out_before = K.faults out.old;
+      out_after = K.faults out.new;
     }) × Says (text_of ending) (E.held err.old) (E.held err.new) (E.faults err.old) (E.faults err.new) }
     ensures same_wire { wire.new ≡ wire.old }
     ensures same_clock { clock.new ≡ clock.old }
@@ -161,3 +154,6 @@ pub fn run<S: Source, K: Sink, E: Sink, W: Wire, C: Clock>(
     let _ = put_all(ending.text(), err);
     ending.status()
 }
+
+#[cfg(test)]
+mod tests;

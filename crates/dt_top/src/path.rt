@@ -17,17 +17,15 @@ pub mod sending;
 pub mod state;
 pub mod stop;
 
-use std::alloc::Global;
-
-use dt_edges::Sink;
-use dt_text::{Fault, Form, Line, LineFault, Report, Stage, follows, read_line};
-use dt_units::Params;
-
 use crate::path::lines::split_line;
 use crate::path::sender::{FLOW, tell};
 use crate::path::sending::SendRecord;
 use crate::path::state::{Path, Sender};
 use crate::path::stop::Stop;
+use dt_edges::Sink;
+use dt_text::{Fault, Form, Line, LineFault, Report, Stage, follows, read_line};
+use dt_units::Params;
+use std::alloc::Global;
 
 /// The lines of the setup that is served, behind the parameters.
 fn setup_line(place: usize) -> Option<&'static [u8]>

@@ -15,14 +15,13 @@ ghost use Rattle.dt_top.specs.Transmitting.{sent_entry, put_entry, after_transmi
 ghost use Rattle.dt_top.specs.Replay.{sends, taking, holding};
 ghost use Rattle.dt_top.specs.Stopping.{StopsFor, Logs};
 
+use crate::path::sending::MOST_SEGMENTS;
+use crate::path::state::Sender;
+use crate::path::stop::Stop;
 use dt_edges::{Failed, Sink};
 use dt_flow_model::Cut;
 use dt_text::{LogLine, Refusal, Report, decode_hex, write_line};
 use dt_units::{Flow, NodeId};
-
-use crate::path::sending::MOST_SEGMENTS;
-use crate::path::state::Sender;
-use crate::path::stop::Stop;
 
 /// The flow that is served.
 pub const FLOW: Flow = Flow {

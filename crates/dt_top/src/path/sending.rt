@@ -6,15 +6,13 @@ ghost use Rattle.dt_flow_model.specs.SendRecord.{begins, new_record, held_of, ro
 ghost use Rattle.dt_flow_model.specs.SendActs.{can_send, most_segments};
 ghost use Rattle.dt_top.specs.Sending.{after_cut, next_cut};
 
-use std::alloc::Global;
-use std::marker::Model;
-use std::mem;
-
+use crate::path::segments::Segment;
 use dt_flow_model::Cut;
 use dt_items::{Item, NoMemory, append_marked};
 use dt_units::Rules;
-
-use crate::path::segments::Segment;
+use std::alloc::Global;
+use std::marker::Model;
+use std::mem;
 
 /// How many segments may be outstanding.
 pub const MOST_SEGMENTS: usize = 64;

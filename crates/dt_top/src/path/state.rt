@@ -1,7 +1,6 @@
+use crate::path::sending::SendRecord;
 use dt_text::Stage;
 use dt_units::Rules;
-
-use crate::path::sending::SendRecord;
 
 /// The sender of the flow.
 #[derive(Drop)]

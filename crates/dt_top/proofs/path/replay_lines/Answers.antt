@@ -1,10 +1,10 @@
-use Rattle.std.proofs.Common.{◌≡◌, ◌∙◌, refl, sym, ap, arith}
+use Rattle.std.proofs.Common.{◌∙◌, refl, sym, ap, arith}
 use Rattle.std.proofs.lemmas.Bool.{eqb-true}
 use Rattle.std.proofs.lemmas.Result.{IfOk-weaker}
 use Rattle.dt_edges.specs.Streams.{appended}
 use Rattle.dt_top.specs.Cutting.{lines_of}
 use Rattle.dt_top.specs.Logs.{log_text}
-use Rattle.dt_top.specs.Replay.{Replay, replay, replay_from, refused_at, at_start}
+use Rattle.dt_top.specs.Replay.{Replay, replay_from, refused_at}
 use Rattle.dt_top.specs.Replay.{taken_by, turn}
 use Rattle.dt_top.specs.Stopping.{copies_by}
 use Rattle.dt_top.proofs.Replays.{replay_is, refused, closed, text_goes_on, accepted_goes_on, serves_steady, logs_all}
@@ -12,13 +12,14 @@ use Rattle.dt_top.proofs.path.replay_lines.Goals as goal
 
 pub loop-rest-init : goal.loop-rest-init
 loop-rest-init g c =
-    let all = ap (λ p. replay_from 1 p (lines_of c.args.bytes.now)) c.new-path.ensures ∙ sym (replay_is c.args.bytes.now) in
-    (ap (λ (r : Replay). appended (log_text r.entries) (g.K.Sink.held c.args.out.now)) all,
-     ap (λ (r : Replay). r.accepted) all,
-     refl,
-     refl,
-     (omega (arith, ap (λ p. copies_by p.sender) c.new-path.ensures), omega (arith, ap (λ p. taken_by p.sender) c.new-path.ensures)),
-     omega arith)
+    let all = ap (λ p. replay_from 1 p (lines_of c.args.bytes.now)) c.new-path.ensures ∙ sym (replay_is c.args.bytes.now) in (
+      ap (λ (r : Replay). appended (log_text r.entries) (g.K.Sink.held c.args.out.now)) all,
+      ap (λ (r : Replay). r.accepted) all,
+      refl,
+      refl,
+      (omega (arith, ap (λ p. copies_by p.sender) c.new-path.ensures), omega (arith, ap (λ p. taken_by p.sender) c.new-path.ensures)),
+      omega arith,
+    )
 
 pub loop-rest-preserved : goal.loop-rest-preserved
 loop-rest-preserved g c =
@@ -26,13 +27,14 @@ loop-rest-preserved g c =
     let serves = rw c.in-None.is at c.in_ok-line.ensures.turns in
     let copies = rw c.in-None.is at c.in_ok-line.ensures.copies in
     let taken = rw c.in-None.is at c.in_ok-line.ensures.taken in
-    let steady = serves_steady (turn c.loop-rest.path c.split_line.result.0.now) c.line.new.self _ _ _ serves in
-    (text_goes_on c.loop-rest.number c.loop-rest.path c.line.new.self c.split_line.result.0.now c.loop-rest.rest.now c.split_line.result.1.now _ _ _ c.split_line.ensures.lines serves ∙ i.0,
-     accepted_goes_on c.loop-rest.number c.loop-rest.path c.line.new.self c.split_line.result.0.now c.loop-rest.rest.now c.split_line.result.1.now _ _ _ c.split_line.ensures.lines serves ∙ i.1,
-     steady ∙ i.2,
-     c.line.ensures.same_sink ∙ i.3,
-     (omega (arith, copies, i.4.0), omega (arith, taken, i.4.1)),
-     omega (arith, i.5, c.split_line.ensures.fewer))
+    let steady = serves_steady (turn c.loop-rest.path c.split_line.result.0.now) c.line.new.self _ _ _ serves in (
+      text_goes_on c.loop-rest.number c.loop-rest.path c.line.new.self c.split_line.result.0.now c.loop-rest.rest.now c.split_line.result.1.now _ _ _ c.split_line.ensures.lines serves ∙ i.0,
+      accepted_goes_on c.loop-rest.number c.loop-rest.path c.line.new.self c.split_line.result.0.now c.loop-rest.rest.now c.split_line.result.1.now _ _ _ c.split_line.ensures.lines serves ∙ i.1,
+      steady ∙ i.2,
+      c.line.ensures.same_sink ∙ i.3,
+      (omega (arith, copies, i.4.0), omega (arith, taken, i.4.1)),
+      omega (arith, i.5, c.split_line.ensures.fewer),
+    )
 
 pub returns-in-Some-clause-logs : goal.returns-in-Some-clause-logs
 returns-in-Some-clause-logs g c =

@@ -14,6 +14,7 @@ invariant_of-self-2 c =
     let within = c.next_length-length.ensures.within in
     let waits = ap (λ x. length x.waiting) c.self.view_is in
     let whole = cut_and_rest n x.waiting.items cut.items c.take_front.new.items.items (omega (arith, within, waits)) c.in_ok-items.ensures.front c.in_ok-items.ensures.rest in
-    let long : length cut.items ≡ n = ap length c.in_ok-items.ensures.front ∙ length-take-le n x.waiting.items (omega (arith, within, waits)) in
-    (next_after x.left (x.next + n) x.outstanding.items c.push_reserved.new.self.items gone one_more (omega (arith, long)),
-     held_after x.held x.outstanding.items c.push_reserved.new.self.items gone x.waiting.items c.take_front.new.items.items one_more whole i.1)
+    let long : length cut.items ≡ n = ap length c.in_ok-items.ensures.front ∙ length-take-le n x.waiting.items (omega (arith, within, waits)) in (
+      next_after x.left (x.next + n) x.outstanding.items c.push_reserved.new.self.items gone one_more (omega (arith, long)),
+      held_after x.held x.outstanding.items c.push_reserved.new.self.items gone x.waiting.items c.take_front.new.items.items one_more whole i.1,
+    )

@@ -1,9 +1,8 @@
-use Rattle.std.proofs.Common.{◌≡◌, true, false, nat_lt, sym, ap, subst, ◌∙◌, length, arith, lt-ltb, le-ltb, ◌++◌, [], append-nil}
-use Rattle.std.proofs.lemmas.Result.{IfOk-weaker, on_ok_weaker}
+use Rattle.std.proofs.Common.{◌≡◌, true, false, nat_lt, sym, ap, subst, ◌∙◌, length, arith, lt-ltb, le-ltb}
+use Rattle.std.proofs.lemmas.Result.{on_ok_weaker}
 use Rattle.dt_edges.specs.Streams.{appended}
 use Rattle.dt_text.specs.Hexadecimal.{octets_of}
 use Rattle.dt_flow_model.specs.SendRecord.{room_of}
-use Rattle.dt_top.specs.Logs.{log_text}
 use Rattle.dt_top.specs.Stopping.{Logs}
 use Rattle.dt_top.specs.Replay.{SenderTurned}
 use Rattle.dt_top.proofs.Sends.{hex_is, refuses, takes, refused_text}

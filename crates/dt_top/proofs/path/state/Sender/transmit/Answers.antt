@@ -6,13 +6,14 @@ use Rattle.dt_top.proofs.path.state.Sender.transmit.Goals as goal
 pub loop-turn-preserved : goal.loop-turn-preserved
 loop-turn-preserved g c =
     let i = c.loop-turn.invariant in
-    let one = rw c.if-not-branch.false at c.in_ok-transmit_next.ensures.one in
-    (went_after 64 c.loop-turn.turn c.loop-turn.self c.transmit_next.new.self (omega arith) one.0 one.1 ∙ i.0,
-     went_told 64 c.loop-turn.turn c.loop-turn.self c.transmit_next.new.self _ _ (omega arith) one.0 one.1 one.3 ∙ i.1,
-     one.2 ∙ i.2,
-     c.transmit_next.ensures.same_sink ∙ i.3,
-     omega (arith, ap (λ s. s.copies) one.1, i.4),
-     ap (λ s. s.taken) one.1 ∙ i.5)
+    let one = rw c.if-not-branch.false at c.in_ok-transmit_next.ensures.one in (
+      went_after 64 c.loop-turn.turn c.loop-turn.self c.transmit_next.new.self (omega arith) one.0 one.1 ∙ i.0,
+      went_told 64 c.loop-turn.turn c.loop-turn.self c.transmit_next.new.self _ _ (omega arith) one.0 one.1 one.3 ∙ i.1,
+      one.2 ∙ i.2,
+      c.transmit_next.ensures.same_sink ∙ i.3,
+      omega (arith, ap (λ s. s.copies) one.1, i.4),
+      ap (λ s. s.taken) one.1 ∙ i.5,
+    )
 
 pub returns-then-not-branch-clause-ok : goal.returns-then-not-branch-clause-ok
 returns-then-not-branch-clause-ok g c =

@@ -1,0 +1,240 @@
+//! The top call over the forms in memory: worked schedules, and each way in which reading and writing
+//! can fail.
+use crate::run;
+use dt_edges::{MemClock, MemSink, MemSource, MemWire};
+use std::alloc::Global;
+use std::test::Fail;
+
+/// The parameters of the worked schedules.
+const PARAMS: &str = "params 1000 3000 200 500 800 100 4096 4096 512 2147483648\n";
+
+/// The setup behind them.
+const SETUP: &str =
+    "station 1 0\nstation 2 0\nlink 1 1 2 50 0\nlink 2 2 1 50 0\nroute 1 2 1\nroute 2 1 2\ngo\n";
+
+/// What a run left: the status, and what the sinks hold.
+#[derive(Drop)]
+struct Left {
+    status: u8,
+    out: MemSink,
+    err: MemSink,
+}
+
+/// How a run is hindered.
+#[derive(Clone, Copy)]
+struct Hinder<'a> {
+    takes: &'a [u32],
+    out: usize,
+    err: usize,
+}
+
+const FREELY: Hinder<'static> = Hinder {
+    takes: &[],
+    out: 4096,
+    err: 64,
+};
+
+/// One run of the program.
+fn after_run(
+    alloc: Global,
+    words: &[&str],
+    input: &[u8],
+    hinder: Hinder<'_>,
+) -> Result<Left, Fail> {
+    let mut line = Vec::new(alloc);
+    for word in words {
+        line.push(String::from_str(alloc, word)?)?;
+    }
+    let mut source = MemSource::new(alloc, input, hinder.takes)
+        .ok()
+        .ok_or("memory")?;
+    let mut out = MemSink::new(alloc, hinder.out, &[]).ok().ok_or("memory")?;
+    let mut err = MemSink::new(alloc, hinder.err, &[]).ok().ok_or("memory")?;
+    let mut wire = MemWire::new(alloc, false, &[], &[], None)
+        .ok()
+        .ok_or("memory")?;
+    let mut clock = MemClock::new(alloc, &[0]).ok().ok_or("memory")?;
+    let status = run(
+        alloc,
+        &line,
+        &mut source,
+        &mut out,
+        &mut err,
+        &mut wire,
+        &mut clock,
+    );
+    Ok(Left { status, out, err })
+}
+
+/// These texts, one after another.
+fn joined(alloc: Global, texts: &[&str]) -> Result<String, Fail> {
+    let mut all = String::new(alloc);
+    for text in texts {
+        all.push_str(text)?;
+    }
+    Ok(all)
+}
+
+/// A message of 250 octets, as digits.
+fn long_send(alloc: Global) -> Result<String, Fail> {
+    let mut line = joined(alloc, &["send 1:10>2:20 be "])?;
+    for _ in 0..250 {
+        line.push_str("61")?;
+    }
+    line.push_str("\n")?;
+    Ok(line)
+}
+
+const LONG_LOG: &str = "0 1 took 1:10>2:20 250
+0 1 sent 1:10>2:20 0 100 db
+0 1 put 1 999 as 0
+0 1 sent 1:10>2:20 100 100 -
+0 1 put 1 999 as 1
+0 1 sent 1:10>2:20 200 50 e
+0 1 put 1 999 as 2
+flow 1:10>2:20 taken 250 acked 0 uncertain 0 open 250 given 0 read 0
+end 0
+";
+
+const FULL_LOG: &str = "0 1 took 1:10>2:20 8
+0 1 sent 1:10>2:20 0 8 d
+0 1 put 1 999 as 0
+0 1 refused 1:10>2:20 full 0
+flow 1:10>2:20 taken 8 acked 0 uncertain 0 open 8 given 0 read 0
+end 0
+";
+
+#[test]
+fn worked_schedules(rt: HostRuntime) -> Result<(), Fail> {
+    let long = long_send(rt.alloc())?;
+    let long = long.as_str();
+    let small = "params 1000 3000 200 500 800 100 8 4096 512 2147483648\n";
+    let cases = [
+        (PARAMS, "", "end 0\n", 0),
+        (PARAMS, "\n# nothing\n", "end 0\n", 0),
+        (PARAMS, long, LONG_LOG, 0),
+        (
+            small,
+            "send 1:10>2:20 - 6161616161616161\nsend 1:10>2:20 - 61\n",
+            FULL_LOG,
+            0,
+        ),
+        (
+            "params 1 3000 200 500 800 100 4096 4096 512 2147483648\n",
+            "",
+            "line 1: param mpl 1\n",
+            3,
+        ),
+        (
+            "params 4294967296 3000 200 500 800 100 4096 4096 512 2147483648\n",
+            "",
+            "line 1: number\n",
+            3,
+        ),
+        (PARAMS, "pass 01\n", "line 9: number\n", 3),
+        (PARAMS, "pass 1\n", "line 9: not built\n", 3),
+        (PARAMS, "send 1:11>2:20 be 61\n", "line 9: not built\n", 3),
+        (PARAMS, "send 1:10>2:20 be 68656c6c6\n", "line 9: hex\n", 3),
+        (PARAMS, "hop 1\n", "line 9: word\n", 3),
+        (PARAMS, "station 3 0\n", "line 9: order\n", 3),
+        (PARAMS, "send 1:10>2:20 be 6", "line 9: hex\n", 3),
+    ];
+    for (params, rest, log, status) in &cases {
+        let input = joined(rt.alloc(), &[*params, SETUP, *rest])?;
+        let left = after_run(rt.alloc(), &["replay"], input.as_bytes(), FREELY)?;
+        assert_eq!(rt; left.out.as_slice(), log.as_bytes(), "after {rest:?}");
+        assert_eq!(rt; left.status, *status);
+        let text = if *status == 0 { "" } else { "input refused\n" };
+        assert_eq!(rt; left.err.as_slice(), text.as_bytes());
+    }
+    Ok(())
+}
+
+#[test]
+fn inputs_that_end_early(rt: HostRuntime) -> Result<(), Fail> {
+    let cases = [
+        ("", "line 1: order\n"),
+        ("params 1000", "line 1: count\n"),
+        ("station 1 0\n", "line 1: order\n"),
+        (PARAMS, "line 2: order\n"),
+        (
+            "params 1000 3000 200 500 800 100 4096 4096 512 2147483648\nstation 2 0\n",
+            "line 2: not built\n",
+        ),
+    ];
+    for (input, log) in &cases {
+        let left = after_run(rt.alloc(), &["replay"], input.as_bytes(), FREELY)?;
+        assert_eq!(rt; left.out.as_slice(), log.as_bytes(), "of {input:?}");
+        assert_eq!(rt; left.status, 3);
+    }
+    Ok(())
+}
+
+#[test]
+fn other_words_are_no_command(rt: HostRuntime) -> Result<(), Fail> {
+    let cases = [
+        [].as_slice(),
+        &["node"],
+        &["Replay"],
+        &["replay", "5"],
+        &["--help"],
+    ];
+    for words in &cases {
+        let left = after_run(rt.alloc(), words, b"", FREELY)?;
+        assert_eq!(rt; left.status, 2);
+        assert_eq!(rt; left.out.as_slice(), b"".as_slice());
+        assert_eq!(rt;
+            left.err.as_slice(),
+            b"usage: deltat replay | node | make N\n".as_slice()
+        );
+    }
+    Ok(())
+}
+
+#[test]
+fn failing_reads_and_writes(rt: HostRuntime) -> Result<(), Fail> {
+    let long = long_send(rt.alloc())?;
+    let input = joined(rt.alloc(), &[PARAMS, SETUP, long.as_str()])?;
+    let input = input.as_bytes();
+    for takes in &[[1], [2]] {
+        let left = after_run(rt.alloc(), &["replay"], input, Hinder { takes, ..FREELY })?;
+        assert_eq!(rt; left.status, 7);
+        assert_eq!(rt; left.out.as_slice(), b"".as_slice());
+        assert_eq!(rt; left.err.as_slice(), b"read failed\n".as_slice());
+    }
+    for room in 0..LONG_LOG.len() {
+        let left = after_run(
+            rt.alloc(),
+            &["replay"],
+            input,
+            Hinder {
+                out: room,
+                ..FREELY
+            },
+        )?;
+        assert_eq!(rt; left.status, 8);
+        assert!(rt; LONG_LOG.as_bytes().starts_with(left.out.as_slice()));
+        assert_eq!(rt; left.err.as_slice(), b"write failed\n".as_slice());
+    }
+    let left = after_run(rt.alloc(), &["replay"], b"", Hinder { err: 0, ..FREELY })?;
+    assert_eq!(rt; left.status, 3);
+    assert_eq!(rt; left.out.as_slice(), b"line 1: order\n".as_slice());
+    Ok(())
+}
+
+#[test]
+fn the_limit_of_the_input(rt: HostRuntime) -> Result<(), Fail> {
+    let mut input = vec![in rt.alloc(); b'x'; 16_777_216]?;
+    let longest = after_run(rt.alloc(), &["replay"], &input, FREELY)?;
+    assert_eq!(rt; longest.status, 3);
+    assert_eq!(rt; longest.out.as_slice(), b"line 1: word\n".as_slice());
+    input.push(b'x')?;
+    let longer = after_run(rt.alloc(), &["replay"], &input, FREELY)?;
+    assert_eq!(rt; longer.status, 3);
+    assert_eq!(rt; longer.out.as_slice(), b"".as_slice());
+    assert_eq!(rt;
+        longer.err.as_slice(),
+        b"input longer than 16777216 octets\n".as_slice()
+    );
+    Ok(())
+}
