@@ -1,13 +1,12 @@
 //! The program `deltat`: makes the real objects, calls the top call, and ends with its answer.
 #![tactic(auto)]
 
-use std::env;
-use std::io::ErrorKind;
-use std::process::ExitCode;
-
 use dt_edges::{MemClock, MemWire, ReaderSource, WriterSink, put_all};
 use dt_items::NoMemory;
 use dt_top::run;
+use std::env;
+use std::io::ErrorKind;
+use std::process::ExitCode;
 
 /// The exit status for want of memory.
 const NO_MEMORY: u8 = 4;
@@ -46,5 +45,19 @@ fn main(rt: HostRuntime) -> ExitCode {
             let _ = put_all(b"out of memory\n", &mut WriterSink::new(rt.stderr()));
             ExitCode::from(NO_MEMORY)
         }
+    }
+}
+
+#[cfg(test)]
+mod tests {
+    use super::*;
+
+    #[test]
+    fn standard_error_is_a_sink(rt: HostRuntime) {
+        let mut err = WriterSink::new(rt.stderr());
+        assert_eq!(rt;
+            put_all(b"a test writes on standard error\n", &mut err),
+            Ok(())
+        );
     }
 }
