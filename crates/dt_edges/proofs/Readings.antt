@@ -4,7 +4,7 @@ use Rattle.std.proofs.lemmas.Bool.{cases_Bool}
 use borrow.Author.Tests.{ltb-true}
 use Rattle.std.specs.List.{range_with_len}
 use Rattle.std.proofs.lemmas.List.FromFn.{map-range_with_len_more, length-map-range_with_len}
-use Rattle.std.specs.Option.{IfSome}
+use Rattle.std.specs.Option.{IfSome, IsSome}
 use Rattle.dt_edges.specs.Counts.{last_count}
 use Rattle.dt_edges.specs.Wires.{Notes, next_count, reading_at}
 use Rattle.dt_edges.specs.MemoryClock.{told_readings}
@@ -30,5 +30,17 @@ pub reads_by_plan : (plan : List ℕ) (taken reading : ℕ) → reading ≡ read
 reads_by_plan plan taken reading r =
     elim (cases_Bool (nat_lt taken last_count)) [
       | inl y ↦ rw y (r ∙ ap (reading_at plan) (sym (length-map-range_with_len (reading_at plan) 0 taken)))
+      | inr n ↦ rw n tt
+    ]
+
+-- a clock that told its readings tells one more, while few were taken
+pub tells_readings : (plan : List ℕ) (taken after : ℕ) → after ≡ next_count taken → IfSome (told_readings (record { plan = plan; taken = taken })) (λ before. length before + 1 < last_count → IsSome (told_readings (record { plan = plan; taken = after })))
+tells_readings plan taken after a =
+    elim (cases_Bool (nat_lt taken last_count)) [
+      | inl y ↦
+          rw y (λ few.
+          let below : after < last_count = omega (arith, few, length-map-range_with_len (reading_at plan) 0 taken) in
+          let t : nat_lt after last_count ≡ true = lt-ltb _ _ below in
+          rw t refl)
       | inr n ↦ rw n tt
     ]

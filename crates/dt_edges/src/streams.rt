@@ -1,6 +1,6 @@
 //! The adapters over the readers and writers of std: the trusted edge. What they read and write is
 //! not told.
-ghost use Rattle.std.specs.Prelude.{ℕ, [], None};
+ghost use Rattle.std.specs.Prelude.{ℕ, ◌≡◌, [], None};
 
 use crate::fault::Failed;
 use crate::reading::Source;
@@ -16,7 +16,9 @@ pub struct ReaderSource<R> {
 
 impl<R: Read> ReaderSource<R> {
     /// A source that reads from the reader, and has no fault yet.
-    pub fn new(reader: R) -> Self {
+    pub fn new(reader: R) -> Self
+        ensures { ⟦<ReaderSource<R> as Source>⟧.faults result ≡ 0 }
+    {
         ReaderSource { reader, faults: 0 }
     }
 }
@@ -46,7 +48,9 @@ pub struct WriterSink<W> {
 
 impl<W: Write> WriterSink<W> {
     /// A sink that writes to the writer, and has no fault yet.
-    pub fn new(writer: W) -> Self {
+    pub fn new(writer: W) -> Self
+        ensures { ⟦<WriterSink<W> as Sink>⟧.faults result ≡ 0 }
+    {
         WriterSink { writer, faults: 0 }
     }
 }

@@ -1,5 +1,5 @@
-ghost use Rattle.std.specs.Prelude.{ℕ, ◌≡◌, ◌≢◌, ◌<◌, ◌≤◌, ◌↔◌, List, Option, Some, length, AllPairs, IfOk, OnOk, OnErr, IfSome, IsErr, IsTrue};
-ghost use Rattle.dt_edges.specs.Counts.{HasRisen};
+ghost use Rattle.std.specs.Prelude.{ℕ, ◌≡◌, ◌≢◌, ◌<◌, ◌≤◌, ◌↔◌, List, Option, Some, length, AllPairs, IfOk, OnOk, OnErr, IfSome, IsSome, IsErr, IsTrue};
+ghost use Rattle.dt_edges.specs.Counts.{HasRisen, last_count};
 ghost use Rattle.dt_edges.specs.Wires.{Datagram, Opening, Plan, Notes, Keeps, handed, next_count, TakesByPlan, FailsByPlan};
 
 use crate::addressing::{Address, Peer};
@@ -15,7 +15,8 @@ pub trait Wire {
     /// How many gives failed.
     ghost give_faults: { Self → ℕ };
 
-    /// What takes have handed over, with nothing for a take that found nothing, where it is told.
+    /// What takes have handed over, with nothing for a take that found nothing, where it is told. A
+    /// wire that tells a plan tells it of its first 2^64 - 1 takes.
     ghost taken: { Self → Option (List (Option Datagram)) };
 
     /// What gives have taken, where it is told.
@@ -67,6 +68,7 @@ pub trait Wire {
         ensures noted { IfOk result (λ t. Notes (handed t buf.new) (taken self.old) (taken self.new)) }
         ensures handed_nothing { OnErr result (Keeps (taken self.old) (taken self.new)) }
         ensures by_plan { IfSome (plan self.old) (λ p. TakesByPlan p (takes self.old) (used self.old) result buf.new (used self.new)) }
+        ensures tells { IfSome (plan self.old) (λ _. takes self.new < last_count → IsSome (taken self.new)) }
         ensures counted { takes self.new ≡ next_count (takes self.old) }
         ensures failed { OnErr result (HasRisen (take_faults self.old) (take_faults self.new)) }
         ensures steady { OnOk result (take_faults self.new ≡ take_faults self.old) }
