@@ -19,7 +19,7 @@ pub struct Params {
     /// The time from the last transmission to a rendezvous: 1 to 86,400,000 ms, and less than the
     /// send time bound.
     pub probe: u32,
-    /// The most octets of a segment: 1 to 1,024.
+    /// The most octets of a segment: 1 to 8,192.
     pub seg: u32,
     /// The most octets that a send record holds: 1 to 65,536.
     pub cap: u32,
@@ -27,11 +27,13 @@ pub struct Params {
     pub rcap: u32,
     /// The window of a new send record: 1 to 65,536 octets.
     pub window: u32,
-    /// The number at which a run of sequence numbers ends: 1 to 2,147,483,648.
+    /// The quantum of a run of sequence numbers, where it is below 536,870,912: 1 to 2,147,483,648.
     pub run_limit: u32,
+    /// The number of the first octet of a send record: any.
+    pub start: u32,
 }
 
-/// The four time bounds, in milliseconds. Each is at most 432,000,000.
+/// The five time bounds, in milliseconds. Each is at most 518,400,000.
 #[derive(Clone, Copy, Debug, PartialEq, Eq)]
 pub struct Times {
     /// How long a receive record is kept after its last acceptance: mpl + r + a.
@@ -42,6 +44,8 @@ pub struct Times {
     pub send: u64,
     /// How long a host is silent after a restart: as long as a send record is kept.
     pub quiet: u64,
+    /// How long a send record waits from one quantum of its octets to the next: 3·mpl + 2·r + a.
+    pub spacing: u64,
 }
 
 /// A field of [`Params`], in the order of the struct.
@@ -113,6 +117,7 @@ impl Params {
             give: 2 * mpl + rest,
             send: 3 * mpl + rest,
             quiet: 3 * mpl + rest,
+            spacing: 3 * mpl + u64::from(self.r) + rest,
         }
     }
 
@@ -126,7 +131,7 @@ impl Params {
             Field::R | Field::A | Field::Rto => (1..=DAY).contains(&value),
             Field::Probe => (1..=DAY).contains(&value)
                 && u64::from(value) < self.time_bounds().send,
-            Field::Seg => (1..=1024).contains(&value),
+            Field::Seg => (1..=8192).contains(&value),
             Field::Cap | Field::Rcap | Field::Window => (1..=65_536).contains(&value),
             Field::RunLimit => (1..=2_147_483_648).contains(&value),
         }
