@@ -1,34 +1,18 @@
 -- Puts one after another.
-use Rattle.std.proofs.Common.{◌≡◌, ℕ, zero, suc, zero-add, ◌+◌, List, [], ◌∷◌, ◌++◌, length, take, drop, Option, Some, None, refl, ap, sym, subst, ◌∙◌, append_assoc, length-drop, take_all, arith, ◌-◌, min, Result, Ok, Err, IsErr}
+use Rattle.std.proofs.Common.{◌≡◌, ℕ, zero, suc, zero-add, ◌+◌, ◌≤◌, List, [], ◌∷◌, ◌++◌, length, take, drop, Option, Some, None, refl, ap, sym, subst, ◌∙◌, length-drop, take_all, arith, ◌-◌, min, Result, Ok, Err, IsErr}
 use Rattle.std.proofs.Math.Nat.{suc-add}
 use Rattle.std.proofs.Math.Seq.{take-nil, take-append-add}
 use Rattle.std.proofs.lemmas.List.{drop-drop, take-append-drop, take-append-le, take_min}
-use Rattle.std.proofs.lemmas.Grind.{common_steps}
+use Rattle.std.specs.Io.KnownBytes.{Appends, Keeps, append_known}
+use Rattle.std.proofs.KnownBytes.{Appends-nil, Appends-trans, Appends-kept, append_known-moved, Keeps-trans}
 use Rattle.dt_edges.specs.Counts.{HasRisen}
-use Rattle.dt_edges.specs.Streams.{appended, AppendsPrefix, Puts}
-
--- what is appended in two parts is appended at once
-pub appended-appended : (xs ys : List ℕ) (held : Option (List ℕ)) → appended ys (appended xs held) ≡ appended (xs ++ ys) held
-appended-appended xs ys None = refl
-appended-appended xs ys (Some h) = ap Some (append_assoc h xs ys)
-
-pub appended-nothing : (held : Option (List ℕ)) → appended [] held ≡ held
-appended-nothing None = refl
-appended-nothing (Some h) = grind (arith, common_steps)
+use Rattle.dt_edges.specs.Sinks.{SinkSight, Takes, TakesPart, Puts}
 
 -- the first n + k octets are the first n, and the first k of the rest
 pub take_further : (xs : List ℕ) (n k : ℕ) → take (n + k) xs ≡ take n xs ++ take k (drop n xs)
 take_further xs zero k = rw zero-add refl
 take_further [] (suc n) k = rw (suc-add, take-nil k) refl
 take_further (x ∷ xs) (suc n) k = rw suc-add (ap (λ ys. x ∷ ys) (take_further xs n k))
-
--- the first n octets are appended, and then the first k of the rest
-pub appended_further : (xs : List ℕ) (n k : ℕ) (held : Option (List ℕ)) → appended (take k (drop n xs)) (appended (take n xs) held) ≡ appended (take (n + k) xs) held
-appended_further xs n k held = appended-appended (take n xs) (take k (drop n xs)) held ∙ ap (λ ys. appended ys held) (sym (take_further xs n k))
-
--- the same, for a put of a rest
-pub appended_rest : (xs rest : List ℕ) (n k : ℕ) (before between after : Option (List ℕ)) → rest ≡ drop n xs → between ≡ appended (take n xs) before → after ≡ appended (take k rest) between → after ≡ appended (take (n + k) xs) before
-appended_rest xs rest n k before between after r b a = a ∙ ap (λ ys. appended (take k ys) between) r ∙ ap (appended (take k (drop n xs))) b ∙ appended_further xs n k before
 
 -- the rest from octet n on, as the code cuts it
 pub drop_cut : (xs waiting : List ℕ) (n : ℕ) → xs ≡ waiting → take (length xs - n) (drop n xs) ≡ drop n waiting
@@ -38,36 +22,71 @@ drop_cut xs waiting n e = take_all (length xs - n) (drop n xs) (omega (arith, le
 pub rest_cut : (xs rest : List ℕ) (n k : ℕ) → rest ≡ drop n xs → take (length rest - k) (drop k rest) ≡ drop (n + k) xs
 rest_cut xs rest n k r = drop_cut rest (drop n xs) k r ∙ drop-drop k n xs
 
--- of what waits from octet p on, the first k octets are put: together it is the same as before
-pub appended_passed : (waiting piece : List ℕ) (p k : ℕ) (before after : Option (List ℕ)) → piece ≡ drop p waiting → after ≡ appended (take k piece) before → appended (drop (p + k) waiting) after ≡ appended (drop p waiting) before
-appended_passed waiting piece p k before after e a =
-    ap (appended (drop (p + k) waiting)) (a ∙ ap (λ ys. appended (take k ys) before) e)
-    ∙ appended-appended (take k (drop p waiting)) (drop (p + k) waiting) before
-    ∙ ap (λ ys. appended ys before) (ap (λ ys. take k (drop p waiting) ++ ys) (sym (drop-drop k p waiting)) ∙ take-append-drop k (drop p waiting))
-
 -- the first n octets of a list are a first part of a longer one, too
 take_first : (xs ys : List ℕ) (n : ℕ) → take n xs ≡ take (min n (length xs)) (xs ++ ys)
 take_first xs ys n = sym (take-append-le (min n (length xs)) xs ys (omega arith) ∙ take_min n xs)
 
--- A put of two parts that ends within the first: a first part of the first is one of both.
-pub puts_first : (xs ys : List ℕ) (before after : Option (List ℕ)) → AppendsPrefix xs before after → AppendsPrefix (xs ++ ys) before after
-puts_first xs ys before after (n, a) = (min n (length xs), a ∙ ap (λ zs. appended zs before) (take_first xs ys n))
+-- WHAT A SINK TOOK
+
+-- nothing was put, and nothing changed
+pub takes_nothing : (a : SinkSight) → Takes [] a a
+takes_nothing a = record { held = Appends-nil a.held; faults = refl; identity = refl }
+
+-- what is taken in two parts is taken at once
+pub takes_then : (xs ys : List ℕ) (a b c : SinkSight) → Takes xs a b → Takes ys b c → Takes (xs ++ ys) a c
+takes_then xs ys a b c p q = record {
+  held = Appends-trans a.held b.held c.held xs ys p.held q.held;
+  faults = q.faults ∙ p.faults;
+  identity = q.identity ∙ p.identity;
+}
+
+-- the same octets, in other words
+pub takes_as : (xs ys : List ℕ) (a b : SinkSight) → xs ≡ ys → Takes xs a b → Takes ys a b
+takes_as xs ys a b e p = subst (λ zs. Takes zs a b) e p
+
+-- the first n octets are taken, and then the first k of the rest
+pub takes_further : (xs rest : List ℕ) (n k : ℕ) (a b c : SinkSight) → rest ≡ drop n xs → Takes (take n xs) a b → Takes (take k rest) b c → Takes (take (n + k) xs) a c
+takes_further xs rest n k a b c r p q =
+    takes_as _ _ a c (ap (λ zs. take n xs ++ take k zs) r ∙ sym (take_further xs n k)) (takes_then (take n xs) (take k rest) a b c p q)
+
+-- A first part of the first of two parts is one of both.
+pub takes_part_first : (xs ys : List ℕ) (a b : SinkSight) → TakesPart xs a b → TakesPart (xs ++ ys) a b
+takes_part_first xs ys a b p = record {
+  count = min p.count (length xs);
+  held = subst (Appends a.held b.held) (take_first xs ys p.count) p.held;
+  faults = p.faults;
+  identity = p.identity;
+}
+
+-- the first of two parts was taken, and a first part of the second
+pub takes_part_then : (xs ys : List ℕ) (a b c : SinkSight) → Takes xs a b → TakesPart ys b c → TakesPart (xs ++ ys) a c
+takes_part_then xs ys a b c p q = record {
+  count = length xs + q.count;
+  held = subst (Appends a.held c.held) (sym (take-append-add xs ys q.count)) (Appends-trans a.held b.held c.held xs (take q.count ys) p.held q.held);
+  faults = subst (λ n. HasRisen n c.faults) p.faults q.faults;
+  identity = q.identity ∙ p.identity;
+}
+
+-- the first n octets were taken, and then a put failed that took nothing
+pub takes_until : (xs : List ℕ) (n : ℕ) (a b c : SinkSight) → Takes (take n xs) a b → Keeps b.held c.held → HasRisen b.faults c.faults → c.identity ≡ b.identity → TakesPart xs a c
+takes_until xs n a b c p k f i = record {
+  count = n;
+  held = Appends-kept a.held b.held c.held (take n xs) p.held k;
+  faults = subst (λ m. HasRisen m c.faults) p.faults f;
+  identity = i ∙ p.identity;
+}
+
+-- CALLS ONE AFTER ANOTHER
 
 -- A put of two parts, of which the first was taken: what the put of the second says, it says of both.
-pub puts_then : {S T E : Type 0} (held : S → Option (List ℕ)) (faults : S → ℕ) (xs ys : List ℕ) (r : Result T E) (old between new : S) → held between ≡ appended xs (held old) → faults between ≡ faults old → Puts held faults ys r between new → Puts held faults (xs ++ ys) r old new
-puts_then held faults xs ys (Ok _) old between new h f p = (p.0 ∙ ap (appended ys) h ∙ appended-appended xs ys (held old), p.1 ∙ f)
-puts_then held faults xs ys (Err _) old between new h f p = (
-  (
-    length xs + p.0.0,
-    p.0.1 ∙ ap (appended (take p.0.0 ys)) h ∙ appended-appended xs (take p.0.0 ys) (held old) ∙ ap (λ zs. appended zs (held old)) (sym (take-append-add xs ys p.0.0)),
-  ),
-  subst (λ n. HasRisen n (faults new)) f p.1,
-)
+pub puts_then : {S T E : Type 0} (sight : S → SinkSight) (xs ys : List ℕ) (r : Result T E) (old between new : S) → Takes xs (sight old) (sight between) → Puts sight ys r between new → Puts sight (xs ++ ys) r old new
+puts_then sight xs ys (Ok _) old between new p q = takes_then xs ys (sight old) (sight between) (sight new) p q
+puts_then sight xs ys (Err _) old between new p q = takes_part_then xs ys (sight old) (sight between) (sight new) p q
 
 -- A call that fails within the first of two parts: it puts a first part of both.
-pub puts_failed : {S T E : Type 0} (held : S → Option (List ℕ)) (faults : S → ℕ) (xs ys : List ℕ) (r : Result T E) (old new : S) (n : ℕ) → held new ≡ appended (take n xs) (held old) → HasRisen (faults old) (faults new) → IsErr r → Puts held faults (xs ++ ys) r old new
-puts_failed held faults xs ys (Ok _) old new n p f is = cc
-puts_failed held faults xs ys (Err _) old new n p f is = (puts_first xs ys (held old) (held new) (n, p), f)
+pub puts_failed : {S T E : Type 0} (sight : S → SinkSight) (xs ys : List ℕ) (r : Result T E) (old new : S) → TakesPart xs (sight old) (sight new) → IsErr r → Puts sight (xs ++ ys) r old new
+puts_failed sight xs ys (Ok _) old new p is = cc
+puts_failed sight xs ys (Err _) old new p is = takes_part_first xs ys (sight old) (sight new) p
 
 -- Name this set on a function that puts two parts one after the other, the second by a call that it
 -- answers with or by `?` and `Ok`, and no file is needed:

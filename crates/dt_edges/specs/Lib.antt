@@ -1,7 +1,6 @@
 pub mod Counts
-pub mod Streams
-pub mod Memory
+pub mod Telling
+pub mod Sources
+pub mod Sinks
 pub mod Wires
-pub mod MemoryCable
-pub mod MemoryWire
-pub mod MemoryClock
+pub mod Clocks

@@ -2,30 +2,23 @@
 //! and the adapters over the process's own streams.
 #![tactic(auto)]
 
-mod addressing;
-mod buffering;
+mod addresses;
+mod buffers;
 mod clocks;
-mod fault;
-mod memory;
-mod memory_clock;
-mod memory_wire;
+mod failures;
 mod planning;
-mod reading;
-mod streams;
+mod readers;
+mod sinks;
+mod sources;
 mod wires;
-mod writing;
+mod writers;
 
-pub use addressing::{Address, Peer};
-pub use buffering::{Buffer, Buffered};
+pub use addresses::{Address, Peer};
+pub use buffers::{Buffer, Buffered};
 pub use clocks::Clock;
-pub use fault::Failed;
-pub use memory::{MemSink, MemSource};
-pub use memory_clock::MemClock;
-pub use memory_wire::MemWire;
-pub use reading::Source;
-pub use streams::{ReaderSource, WriterSink};
+pub use failures::Failed;
+pub use readers::ReaderSource;
+pub use sinks::{Sink, put_all};
+pub use sources::Source;
 pub use wires::Wire;
-pub use writing::{Sink, put_all};
-
-#[cfg(test)]
-mod tests;
+pub use writers::WriterSink;

@@ -1,6 +1,6 @@
 //! Which calls of the forms in memory fail.
 ghost use Rattle.std.specs.Prelude.{◌≡◌, IfOk};
-ghost use Rattle.dt_edges.specs.Memory.{is_planned};
+ghost use Rattle.dt_edges.specs.Counts.{is_planned};
 
 use dt_items::NoMemory;
 use std::alloc::Global;

@@ -1,6 +1,6 @@
 use Rattle.std.proofs.Common.{◌≡◌, ◌+◌, length, arith, length-drop, ap, ◌∙◌}
-use Rattle.dt_edges.proofs.Puts.{appended_rest, rest_cut}
-use Rattle.dt_edges.proofs.writing.put_all.Goals as goal
+use Rattle.dt_edges.proofs.Puts.{takes_further, rest_cut}
+use Rattle.dt_edges.proofs.sinks.put_all.Goals as goal
 
 pub loop-rest-preserved : goal.loop-rest-preserved
 loop-rest-preserved g c =
@@ -9,7 +9,6 @@ loop-rest-preserved g c =
       i.0 + c.in_ok-taken.taken,
       omega (arith, i.1, c.in_ok-taken.ensures.within),
       rest_cut c.args.bytes.now c.loop-rest.rest.now i.0 c.in_ok-taken.taken i.2,
-      appended_rest c.args.bytes.now c.loop-rest.rest.now i.0 c.in_ok-taken.taken _ _ _ i.2 i.3 c.in_ok-taken.ensures.taken,
-      c.in_ok-taken.ensures.steady ∙ i.4,
-      c.put.ensures.same_sink ∙ i.5,
+      takes_further c.args.bytes.now c.loop-rest.rest.now i.0 c.in_ok-taken.taken _ _ _ i.2 i.3
+      (record { held = c.in_ok-taken.ensures.taken; faults = c.in_ok-taken.ensures.counted; identity = c.put.ensures.same_sink }),
     )

@@ -1,9 +1,10 @@
-ghost use Rattle.std.specs.Prelude.{◌≡◌, ◌++◌, ◌<◌, ◌≤◌, [], take, length, IfOk, OnOk, OnErr};
-ghost use Rattle.dt_edges.specs.Counts.{HasRisen};
-ghost use Rattle.dt_edges.specs.Streams.{appended};
+ghost use Rattle.std.specs.Prelude.{◌≡◌, ◌++◌, ◌<◌, ◌≤◌, [], take, length, IfOk, OnOk};
+ghost use Rattle.std.specs.Io.KnownBytes.{WriteAppends, append_known};
+ghost use Rattle.dt_edges.specs.Counts.{CountsFaults};
+ghost use Rattle.dt_edges.specs.Sinks.{Puts, PassesOn};
 
-use crate::fault::Failed;
-use crate::writing::Sink;
+use crate::failures::Failed;
+use crate::sinks::Sink;
 use dt_items::NoMemory;
 use std::alloc::Global;
 use std::marker::Model;
@@ -22,7 +23,7 @@ pub struct Buffer {
 
 impl Model for Buffer {
     ghost use Rattle.std.specs.Prelude.{List, ℕ, ◌≤◌, drop, vec_len, vec_capacity};
-    ghost use Rattle.dt_edges.specs.declared.buffering.TheConstants.{ROOM};
+    ghost use Rattle.dt_edges.specs.declared.buffers.TheConstants.{ROOM};
 
     ghost Value = { List ℕ };
 
@@ -42,16 +43,14 @@ impl Buffer {
         })
     }
 
-    /// Puts what waits on a sink. An `Err` comes only where the sink's count of faults rose, and the
-    /// octets that were not taken still wait. The cost is that of what waits.
+    /// Puts what waits on a sink. `Ok` has put all of it, and nothing waits any more. An `Err` comes
+    /// only where the sink's count of faults rose; it has put a first part, and the other octets still
+    /// wait. Takes no memory. The cost is that of what waits.
     pub fn pass_on<K: Sink>(&mut self, out: &mut K) -> Result<(), Failed>
+        ensures puts { Puts K.sight self.old result out.old out.new }
         ensures empty { OnOk result (self.new ≡ []) }
-        ensures passed { OnOk result (K.held out.new ≡ appended self.old (K.held out.old)) }
-        ensures lost_nothing { appended self.new (K.held out.new) ≡ appended self.old (K.held out.old) }
-        ensures failed { OnErr result (HasRisen (K.faults out.old) (K.faults out.new)) }
-        ensures steady { OnOk result (K.faults out.new ≡ K.faults out.old) }
-        ensures never_falls { K.faults out.old ≤ K.faults out.new }
-        ensures same_sink { K.identity out.new ≡ K.identity out.old }
+        ensures waits { PassesOn self.old self.new (K.sight out.old).held (K.sight out.new).held }
+        ensures never_falls { (K.sight out.old).faults ≤ (K.sight out.new).faults }
     {
         while self.passed < self.octets.len() {
             let taken = out.put(&self.octets[self.passed..])?;
@@ -68,12 +67,9 @@ impl Buffer {
         requires { 0 < length piece.now }
         ensures some { IfOk result (λ n. 0 < n) }
         ensures within { IfOk result (λ n. n ≤ length piece.now) }
-        ensures taken { IfOk result (λ n. appended self.new (K.held out.new) ≡ appended (take n piece.now) (appended self.old (K.held out.old))) }
-        ensures took_nothing { OnErr result (appended self.new (K.held out.new) ≡ appended self.old (K.held out.old)) }
-        ensures failed { OnErr result (HasRisen (K.faults out.old) (K.faults out.new)) }
-        ensures steady { OnOk result (K.faults out.new ≡ K.faults out.old) }
-        ensures never_falls { K.faults out.old ≤ K.faults out.new }
-        ensures same_sink { K.identity out.new ≡ K.identity out.old }
+        ensures taken { WriteAppends (append_known (K.sight out.old).held self.old) (append_known (K.sight out.new).held self.new) result piece.now }
+        ensures counted { CountsFaults result (K.sight out.old).faults (K.sight out.new).faults }
+        ensures never_falls { (K.sight out.old).faults ≤ (K.sight out.new).faults }
     {
         let count = self.append(piece);
         if count > 0 {
@@ -112,13 +108,15 @@ pub struct Buffered<'a, K> {
 
 impl<'a, K: Sink> Sink for Buffered<'a, K> {
     ghost use Rattle.std.specs.Prelude.{◌∷◌, []};
-    ghost use Rattle.dt_edges.specs.Streams.{appended};
+    ghost use Rattle.std.specs.Io.KnownBytes.{append_known};
 
-    ghost held = { λ b. appended b.buffer.now (K.held b.out.now) };
+    ghost sight = { λ b. record {
+      held = append_known (K.sight b.out.now).held b.buffer.now;
+      faults = (K.sight b.out.now).faults;
+      identity = b.out.ghost_name ∷ b.buffer.ghost_name ∷ [];
+    } };
 
-    ghost faults = { λ b. K.faults b.out.now };
-
-    ghost identity = { λ b. b.out.ghost_name ∷ b.buffer.ghost_name ∷ [] };
+    ghost bounded = { λ b. K.bounded b.out.now };
 
     fn put(&mut self, piece: &[u8]) -> Result<usize, Failed> {
         self.buffer.fill(piece, self.out)

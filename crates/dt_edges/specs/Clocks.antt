@@ -1,0 +1,22 @@
+-- What contracts see of a clock.
+use Rattle.std.specs.Prelude.{ℕ, ◌+◌, ◌-◌, ◌<◌, ◌≡◌, List, length, slice_index_or, Option, IfSome, IsSome}
+use Rattle.dt_edges.specs.Counts.{last_count}
+use Rattle.dt_edges.specs.Telling.{Notes}
+
+pub record ClockSight : Type 0 where
+  -- the readings so far, where they are told
+  pub readings : Option (List ℕ)
+  -- The readings that come, one or more, where they are told. The last one repeats.
+  pub plan : Option (List ℕ)
+
+-- the reading of this number, counted from 0: the plan's, or its last where it has fewer
+abbrev pub reading_at : List ℕ → ℕ → ℕ
+reading_at plan k = slice_index_or plan k (slice_index_or plan (length plan - 1) 0)
+
+-- A reading: the next that is told, and the planned one where a plan is told. Who tells a plan goes on
+-- telling its readings while they are fewer than 2^64 - 1.
+pub record ReadsOne (reading : ℕ) (before after : ClockSight) : Type 0 where
+  pub readings : Notes reading before.readings after.readings
+  pub by_plan : IfSome before.plan (λ plan. IfSome before.readings (λ earlier. reading ≡ reading_at plan (length earlier)))
+  pub tells : IfSome before.plan (λ plan. IfSome before.readings (λ earlier. length earlier + 1 < last_count → IsSome after.readings))
+  pub plan : after.plan ≡ before.plan

@@ -1,0 +1,36 @@
+-- What contracts see of a sink, and what puts do to it.
+use Rattle.std.specs.Prelude.{ℕ, ◌≡◌, List, take, drop, Option, Result, Ok, Err}
+use Rattle.std.specs.Borrow.{GName}
+use Rattle.std.specs.Io.KnownBytes.{Appends}
+use Rattle.dt_edges.specs.Counts.{HasRisen}
+
+pub record SinkSight : Type 0 where
+  -- the octets that it holds, where they are told
+  pub held : Option (List ℕ)
+  -- how many puts failed
+  pub faults : ℕ
+  -- which sink it is: the names of the loans that it passes its octets on through
+  pub identity : List GName
+
+-- The sink took these octets: they stand behind those that it held, where it told them, and nothing
+-- else changed.
+pub record Takes (octets : List ℕ) (before after : SinkSight) : Type 0 where
+  pub held : Appends before.held after.held octets
+  pub faults : after.faults ≡ before.faults
+  pub identity : after.identity ≡ before.identity
+
+-- The sink took a first part of these octets, and its count of faults rose. It is the same sink.
+pub record TakesPart (octets : List ℕ) (before after : SinkSight) : Type 0 where
+  pub count : ℕ
+  pub held : Appends before.held after.held (take count octets)
+  pub faults : HasRisen before.faults after.faults
+  pub identity : after.identity ≡ before.identity
+
+-- A call that puts octets: with Ok the sink took all of them, with any other answer a first part.
+abbrev pub Puts : {S T E : Type 0} → (S → SinkSight) → List ℕ → Result T E → S → S → Type 0
+Puts sight octets (Ok _) old new = Takes octets (sight old) (sight new)
+Puts sight octets (Err _) old new = TakesPart octets (sight old) (sight new)
+
+-- Of the octets that waited, a first part was put on a sink, and the others still wait.
+abbrev pub PassesOn : List ℕ → List ℕ → Option (List ℕ) → Option (List ℕ) → Type 0
+PassesOn waiting still before after = (n : ℕ) × (still ≡ drop n waiting) × Appends before after (take n waiting)
