@@ -1,8 +1,9 @@
 -- What contracts see of a sink, and what puts do to it.
-use Rattle.std.specs.Prelude.{ℕ, ◌≡◌, List, take, drop, Option, Result, Ok, Err}
+use Rattle.std.specs.Prelude.{ℕ, ◌≡◌, ◌++◌, List, [], take, drop, Option, Some, Result, Ok, Err}
 use Rattle.std.specs.Borrow.{GName}
 use Rattle.std.specs.Io.KnownBytes.{Appends}
-use Rattle.dt_edges.specs.Counts.{HasRisen}
+use Rattle.dt_edges.specs.declared.failures.Failed.{Failed}
+use Rattle.dt_edges.specs.Counts.{HasRisen, next_count, as_count}
 
 pub record SinkSight : Type 0 where
   -- the octets that it holds, where they are told
@@ -34,3 +35,24 @@ Puts sight octets (Err _) old new = TakesPart octets (sight old) (sight new)
 -- Of the octets that waited, a first part was put on a sink, and the others still wait.
 abbrev pub PassesOn : List ℕ → List ℕ → Option (List ℕ) → Option (List ℕ) → Type 0
 PassesOn waiting still before after = (n : ℕ) × (still ≡ drop n waiting) × Appends before after (take n waiting)
+
+-- IN MEMORY
+
+pub record SinkInMemory : Type 0 where
+  pub held : List ℕ
+  -- how many octets it has room for
+  pub room : ℕ
+  -- the numbers of the puts that fail, the first of which is number 1
+  pub failing : List ℕ
+  -- how many puts were called, and how many failed
+  pub calls : ℕ
+  pub faults : ℕ
+
+-- it tells all that it holds
+abbrev pub sink_in_memory : SinkInMemory → SinkSight
+sink_in_memory sink = record { held = Some sink.held; faults = as_count sink.faults; identity = [] }
+
+-- a sink in memory after a put of these octets
+abbrev pub sink_after : Result ℕ Failed → List ℕ → SinkInMemory → SinkInMemory
+sink_after (Ok n) octets sink = record sink { held = sink.held ++ take n octets; calls = next_count sink.calls }
+sink_after (Err _) octets sink = record sink { calls = next_count sink.calls; faults = next_count sink.faults }
