@@ -3,7 +3,14 @@
 #![tactic(auto)]
 
 mod faults;
-mod reporting;
+mod flow_totals;
+mod log_lines;
+mod reports;
 
 pub use faults::{Fault, LineFault, Refusal, SetupFault, StepFault};
-pub use reporting::{LogLine, Report};
+pub use flow_totals::Totals;
+pub use log_lines::LogLine;
+pub use reports::Report;
+
+#[cfg(test)]
+mod tests;

@@ -2,15 +2,6 @@ use crate::faults::{Fault, Refusal};
 use dt_layout::LayoutFault;
 use dt_units::Flow;
 
-/// A line of the log: when it was told, by which node, and what. The moment is in ms: the world's
-/// in a replay, and the node's own over a wire. The node is there where a station tells the line.
-#[derive(Clone, Copy, Debug, PartialEq, Eq)]
-pub struct LogLine<'a> {
-    pub moment: u64,
-    pub node: Option<u32>,
-    pub report: Report<'a>,
-}
-
 /// What is told in the log. Counts, lengths and windows are octets.
 #[derive(Clone, Copy, Debug, PartialEq, Eq)]
 pub enum Report<'a> {
@@ -80,8 +71,15 @@ pub enum Report<'a> {
         length: u32,
         run: bool,
     },
-    /// Data was dropped: there was no record, and it doesn't begin a data run.
+    /// A packet was dropped: data that doesn't begin a data run, where there was no record, or a
+    /// closing packet whose number isn't the one that is expected.
     Dropped {
+        flow: Flow,
+        number: u32,
+    },
+    /// A closing packet tells that no more data of its run follows. The number is the one after the
+    /// run's last octet.
+    Closing {
         flow: Flow,
         number: u32,
     },
@@ -156,7 +154,7 @@ pub enum Report<'a> {
     Lost {
         copy: u32,
     },
-    /// The totals of a flow over all lives, at the end of a replay. `unsettled` are open yet.
+    /// The totals of a flow over all lives, at the end of a replay: see [`crate::Totals`].
     FlowTotals {
         flow: Flow,
         taken: u64,

@@ -1,0 +1,45 @@
+use super::*;
+use dt_items::NoMemory;
+use dt_units::{Flow, NodeId};
+
+fn no_setup() -> Result<(), SetupFault> {
+    Err(NoMemory)?
+}
+
+fn no_step() -> Result<(), StepFault> {
+    Err(NoMemory)?
+}
+
+#[test]
+fn want_of_memory_is_passed_on(rt: HostRuntime) {
+    assert_eq!(rt; no_setup(), Err(SetupFault::NoMemory));
+    assert_eq!(rt; no_step(), Err(StepFault::NoMemory));
+}
+
+#[test]
+fn totals_are_reported(rt: HostRuntime) {
+    let flow = Flow {
+        from: NodeId(1),
+        from_port: 10,
+        to: NodeId(2),
+        to_port: 20,
+    };
+    let totals = Totals {
+        taken: 6,
+        acked: 1,
+        uncertain: 2,
+        unsettled: 3,
+        given: 5,
+        read: 4,
+    };
+    let report = Report::FlowTotals {
+        flow,
+        taken: 6,
+        acked: 1,
+        uncertain: 2,
+        unsettled: 3,
+        given: 5,
+        read: 4,
+    };
+    assert_eq!(rt; totals.report(flow), report);
+}
