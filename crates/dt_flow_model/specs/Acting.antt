@@ -13,8 +13,8 @@ use Rattle.dt_flow_model.specs.Numbering.{number_of}
 use Rattle.dt_flow_model.specs.Ledger.{settle, note_first, take_rows, given_rows, note_read}
 use Rattle.dt_flow_model.specs.SendRecord.{SendRecord, new_record, next_of, put, leads, on_ack}
 use Rattle.dt_flow_model.specs.SendActs.{Act, give_up, release, renew, resend, send, meet, record_after}
-use Rattle.dt_flow_model.specs.ReceiveRecord.{ReceiveRecord, Receiver, free_of, after_data, answer_to_data, after_meet, answer_to_meet, after_read, after_recv_act}
-use Rattle.dt_flow_model.specs.Flow.{Data, Ack, Meet, Packet, FlowState, sender_reading, receiver_reading, receiver_of, run_after, place_of, ack_place}
+use Rattle.dt_flow_model.specs.ReceiveRecord.{ReceiveRecord, Receiver, free_of, after_close, after_data, answer_to_data, after_meet, answer_to_meet, after_read, after_recv_act}
+use Rattle.dt_flow_model.specs.Flow.{Data, Ack, Meet, Packet, FlowState, sender_reading, receiver_reading, receiver_of, run_after, crossings_after, place_of, ack_place}
 
 -- the packets that a send record makes at now
 abbrev pub segment_sent : Params → FlowState → SendRecord → ℕ → List Item → Packet
@@ -37,6 +37,7 @@ after_act p s x (send cut rest) =
       sender = record_after p (sender_reading s) x (send cut rest);
       taken = note_first s.now (place_of s x (next_of x)) (length cut) s.taken;
       run = run_after s.run (place_of s x 0) s.now (next_of x);
+      crossings = crossings_after p (next_of x) (place_of s x (next_of x)) s.now s.crossings;
     }
 after_act p s x meet = record s { sender = record_after p (sender_reading s) x meet; run = run_after s.run (place_of s x 0) s.now (next_of x) }
 
@@ -71,12 +72,20 @@ after_ack p s q window = if nat_lt (sender_reading s) s.sender_until then s else
 
 -- a receiver's answer to the packet q: what it accepted is given, and a reply is an acknowledgement
 abbrev pub given_by : FlowState → Packet → List Item → Arrived → List Given
+given_by s q items (A.Quiet until) = s.given
 given_by s q items (A.Accepted run count) = s.given ++ given_rows s.receiver_life s.now run q.place items
-given_by s q items other = s.given
+given_by s q items (A.Replied number window) = s.given
+given_by s q items A.Dropped = s.given
+given_by s q items (A.Acked count) = s.given
+given_by s q items (A.Closing number) = s.given
 
 abbrev pub reply_of : Option ReceiveRecord → FlowState → Packet → Arrived → List Packet
+reply_of standing s q (A.Quiet until) = []
+reply_of standing s q (A.Accepted run count) = []
 reply_of standing s q (A.Replied number window) = (record { kind = Ack window; number = number; birth = s.now; place = ack_place standing s.given number q.place }) ∷ []
-reply_of standing s q other = []
+reply_of standing s q A.Dropped = []
+reply_of standing s q (A.Acked count) = []
+reply_of standing s q (A.Closing number) = []
 
 abbrev pub with_receiver : FlowState → Receiver → FlowState
 with_receiver s r = record s { receiver = r.standing; unread = r.unread }
@@ -99,6 +108,10 @@ after_meet_packet p s q = if nat_lt (receiver_reading s) s.receiver_until then s
 
 abbrev pub made_by_meet : Params → FlowState → Packet → List Packet
 made_by_meet p s q = if nat_lt (receiver_reading s) s.receiver_until then [] else reply_of s.receiver s q (answer_to_meet p (receiver_of s) q.number)
+
+-- a closing packet with this number comes to the receiver. It is no packet of the flow, since no host makes one. That it changes nothing is a law
+abbrev pub after_close_packet : Params → FlowState → ℕ → FlowState
+after_close_packet p s number = if nat_lt (receiver_reading s) s.receiver_until then s else with_receiver s (after_close p (receiver_reading s) (receiver_of s) number)
 
 -- a read of so many unread octets
 abbrev pub after_reading : Params → FlowState → ℕ → FlowState

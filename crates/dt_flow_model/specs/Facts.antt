@@ -1,19 +1,20 @@
 -- The facts about time that each small step of a flow keeps. They are what makes the ledger safe.
 -- Numbers that speak of a run are 0 where there is none, so that no fact needs a case for it.
-use Rattle.std.specs.Prelude.{ℕ, suc, ◌+◌, ◌-◌, ◌<◌, ◌≤◌, ◌≡◌, ◌≢◌, ◌⊎◌, max, true, false, List, [], ◌∷◌, ◌++◌, map, length, Option, Some, None}
+use Rattle.std.specs.Prelude.{ℕ, suc, ◌+◌, ◌-◌, ◌*◌, ◌^◌, ◌<◌, ◌≤◌, ◌≡◌, ◌≢◌, ◌⊎◌, max, true, false, List, [], ◌∷◌, ◌++◌, map, length, Option, Some, None}
 use Rattle.std.proofs.Math.ListN.{get_or, drop}
 use Rattle.dt_items.specs.declared.item.Item.{Item}
 use Rattle.dt_units.specs.declared.parameters.Params.{Params}
-use Rattle.dt_units.specs.Times.{send_time, receive_time}
+use Rattle.dt_units.specs.Times.{send_time, receive_time, spacing_time}
+use Rattle.dt_units.specs.Numbers.{quantum}
 use Rattle.dt_flow_model.specs.declared.rows.Fate.TheVariants.{Open, Acked, Uncertain}
 use Rattle.dt_flow_model.specs.declared.rows.Taken.{Taken}
 use Rattle.dt_flow_model.specs.declared.rows.Given.{Given}
 use Rattle.dt_flow_model.specs.declared.rows.ReadCount.{ReadCount}
 use Rattle.dt_flow_model.specs.Numbering.{number_of}
-use Rattle.dt_flow_model.specs.Ledger.{plain, item_of, sent_item_of, open_row, given_in, read_in, top, last_at, row_at, no_item}
-use Rattle.dt_flow_model.specs.SendRecord.{Segment, SendRecord, end_of, next_of}
+use Rattle.dt_flow_model.specs.Ledger.{plain, item_of, sent_item_of, open_row, given_in, read_in, OneEntryEach, top, last_at, row_at, no_item}
+use Rattle.dt_flow_model.specs.SendRecord.{Segment, SendRecord, end_of, next_of, held_of}
 use Rattle.dt_flow_model.specs.ReceiveRecord.{ReceiveRecord, IsLive}
-use Rattle.dt_flow_model.specs.Flow.{Run, Kind, Data, Ack, Meet, Packet, FlowState}
+use Rattle.dt_flow_model.specs.Flow.{Run, Crossing, Kind, Data, Ack, Meet, Packet, FlowState}
 
 -- first moments of octets are below this: the last transmission of the run, and one more
 abbrev pub firsts_end : Option Run → ℕ
@@ -57,7 +58,12 @@ abbrev pub Chain : ℕ → List Segment → Type 0
 Chain offset [] = Unit {0}
 Chain offset (g ∷ gs) = (g.offset ≡ offset) × (0 < length g.items) × Chain (end_of g) gs
 
--- the Open rows that a send record stands for, at a station whose clock is ahead by `clock`: those of its segments, with their first moments, and then those of the octets that wait
+-- each segment first went out at a reading of the clock, so not before its zero
+abbrev pub FirstsFrom : ℕ → List Segment → Type 0
+FirstsFrom clock [] = Unit {0}
+FirstsFrom clock (g ∷ gs) = (clock ≤ g.first) × FirstsFrom clock gs
+
+-- the Open rows that a send record stands for, at a station whose clock is ahead by `clock`: those of its segments, with their first moments, and then those of the octets that wait. By `FirstsFrom` nothing is cut off at 0
 abbrev pub rows_out : ℕ → ℕ → List Segment → List Taken
 rows_out clock life [] = []
 rows_out clock life (g ∷ gs) = map (open_row life (Some (g.first - clock))) g.items ++ rows_out clock life gs
@@ -97,6 +103,8 @@ pub record Sending (clock life : ℕ) (run : Run) (x : SendRecord) (old taken : 
 pub record SendFacts (p : Params) (now clock life : ℕ) (run : Option Run) (old taken : List Taken) (x : SendRecord) : Type 0 where
   -- its segments follow each other from left on
   pub chain : Chain x.left x.outstanding
+  -- its readings are the world's moments and the clock's zero: `first - clock` is the moment, and nothing is cut off
+  pub firsts : FirstsFrom clock x.outstanding
   pub touched : x.touched ≤ now + clock
   -- a record that hasn't transmitted has a window, so that its first transmission is no rendezvous
   pub edge : next_of x ≡ 0 → 0 < x.edge
@@ -125,8 +133,9 @@ pub record SendSide (p : Params) (now clock until life : ℕ) (run : Option Run)
 
 -- Live receiver: a live receive record, with the present run.
 pub record Receiving (p : Params) (y : ReceiveRecord) (taken : List Taken) (given : List Given) (run : Run) : Type 0 where
-  -- the expected number is that of an offset, and its place is the one after the last given
+  -- the expected number is that of an offset above 0, and its place is the one after the last given
   pub offset : ℕ
+  pub some : 0 < offset
   pub place : run.base + offset ≡ top given
   pub number : y.expected ≡ number_of p offset
   -- each place of the run up to there is given or isn't Open
@@ -205,8 +214,9 @@ IsOfLife life given (Some y) = life_from 0 given ≡ life
 pub record ReadSide (life : ℕ) (receiver : Option ReceiveRecord) (unread : List Item) (reads : List ReadCount) (given : List Given) : Type 0 where
   -- What is unread are the octets that were given in the present life, from those on that were read, with their marks.
   pub unread_is : unread ≡ drop (read_in life reads) (given_in life given)
-  -- In no life was more read than given.
+  -- In no life was more read than given, and each life has one entry.
   pub within : (l : ℕ) → read_in l reads ≤ length (given_in l given)
+  pub one_entry : OneEntryEach reads
   -- Lives rise. The life numbers of given rows never fall, and none is above the receiver's present one.
   pub lives : NeverFall 0 life (lives_given given)
   -- A given row without a run mark follows the one before it.
@@ -214,15 +224,131 @@ pub record ReadSide (life : ℕ) (receiver : Option ReceiveRecord) (unread : Lis
   -- Where a receive record stands, the last given row is of the receiver's present life.
   pub of_life : IsOfLife life given receiver
 
+-- NUMBERS THAT GO ROUND. What is near in time is near in place, so the order of numbers is the order of places.
+
+-- the most octets that wait in a send record
+abbrev pub most_waiting : ℕ
+most_waiting = 65536
+
+-- crossings stand in the order of their places and moments, the last one first
+abbrev pub InOrder : List Crossing → Type 0
+InOrder [] = Unit {0}
+InOrder (c ∷ []) = Unit {0}
+InOrder (c ∷ d ∷ rest) = (d.place < c.place) × (d.moment < c.moment) × InOrder (d ∷ rest)
+
+abbrev pub AtFirsts : List Taken → List Crossing → Type 0
+AtFirsts taken [] = Unit {0}
+AtFirsts taken (c ∷ rest) = ((row_at taken c.place).first ≡ Some c.moment) × AtFirsts taken rest
+
+abbrev pub Neighbours : Params → List Crossing → Type 0
+Neighbours p [] = Unit {0}
+Neighbours p (c ∷ []) = Unit {0}
+Neighbours p (c ∷ d ∷ rest) = (d.moment + send_time p ≤ c.moment) × (c.place ≤ d.place + quantum p + most_waiting) × Neighbours p (d ∷ rest)
+
+abbrev pub ThirdBefore : Params → List Crossing → Type 0
+ThirdBefore p [] = Unit {0}
+ThirdBefore p (c ∷ []) = Unit {0}
+ThirdBefore p (c ∷ d ∷ []) = Unit {0}
+ThirdBefore p (c ∷ d ∷ e ∷ rest) = e.moment + spacing_time p < c.moment
+
+abbrev pub BothSides : List Taken → List Crossing → Type 0
+BothSides taken [] = Unit {0}
+BothSides taken (c ∷ rest) =
+    ((place first : ℕ) → (row_at taken place).first ≡ Some first → (place < c.place → first ≤ c.moment) × (c.place ≤ place → c.moment ≤ first))
+    × BothSides taken rest
+
+-- a place stands less than the quantum above the last crossing
+abbrev pub IsBelowNext : Params → List Crossing → ℕ → Type 0
+IsBelowNext p [] place = ⊥
+IsBelowNext p (c ∷ rest) place = place < c.place + quantum p
+
+-- the place of the first of these crossings
+abbrev pub lowest : List Crossing → ℕ
+lowest [] = 0
+lowest (c ∷ []) = c.place
+lowest (c ∷ d ∷ rest) = lowest (d ∷ rest)
+
+pub record CrossingFacts (p : Params) (taken : List Taken) (crossings : List Crossing) : Type 0 where
+  -- Crossings. At most three are noted.
+  pub at_most_three : length crossings ≤ 3
+  -- Crossings stand in the order of their places and moments.
+  pub order : InOrder crossings
+  -- The moment of each is the first moment of its place.
+  pub moments : AtFirsts taken crossings
+  -- Neighbours are at least `send` apart in moment, and at most the quantum and 65,536 apart in place.
+  pub neighbours : Neighbours p crossings
+  -- The first of three is more than `spacing` before the third.
+  pub third : ThirdBefore p crossings
+  -- A place below a crossing has no first moment after the crossing's, and a place at or above it has none before.
+  pub sides : BothSides taken crossings
+  -- Each place with a first moment is less than the quantum above the last crossing.
+  pub reach : (place first : ℕ) → (row_at taken place).first ≡ Some first → IsBelowNext p crossings place
+  -- Where there are fewer than three crossings, no place below the first has a first moment.
+  pub fewer : length crossings < 3 → (place first : ℕ) → (row_at taken place).first ≡ Some first → lowest crossings ≤ place
+  -- Near in time, near in place. Two places whose first moments differ by at most `spacing` are fewer than 2^31 apart.
+  pub near : (place later first next : ℕ) → place ≤ later → (row_at taken place).first ≡ Some first → (row_at taken later).first ≡ Some next → next ≤ first + spacing_time p → later < place + 2 ^ 31
+
+-- the place up to which octets are taken at most, but for those that wait in a record that hasn't transmitted
+abbrev pub taken_end : Params → List Crossing → ℕ
+taken_end p [] = 0
+taken_end p (c ∷ rest) = c.place + quantum p + most_waiting
+
+-- a record that has transmitted, with the last crossing
+pub record Crossed (p : Params) (clock : ℕ) (run : Run) (x : SendRecord) (last : Crossing) : Type 0 where
+  -- what the record noted is the moment of the last crossing
+  pub crossed : x.crossed ≡ Some (last.moment + clock)
+  -- that crossing stands a multiple of the quantum above base
+  pub multiple : ℕ
+  pub place : last.place ≡ run.base + multiple * quantum p
+  -- and the place of `next` is above it by at most the quantum
+  pub above : multiple * quantum p < next_of x
+  pub within : next_of x ≤ multiple * quantum p + quantum p
+
+abbrev pub HasCrossed : Params → ℕ → Run → SendRecord → List Crossing → Type 0
+HasCrossed p clock run x [] = ⊥
+HasCrossed p clock run x (c ∷ rest) = Crossed p clock run x c
+
+pub record SenderCrossings (p : Params) (clock : ℕ) (run : Option Run) (taken : List Taken) (crossings : List Crossing) (x : SendRecord) : Type 0 where
+  -- the record holds at most `cap`
+  pub held : held_of x ≤ p.cap
+  -- a record that hasn't transmitted noted no crossing, and what was taken before its own octets is bounded
+  pub uncrossed : next_of x ≡ 0 → x.crossed ≡ None
+  pub fresh : next_of x ≡ 0 → length taken ≤ taken_end p crossings + length x.waiting
+  -- a record that has transmitted noted the last crossing
+  pub going : 0 < next_of x → (r : Run) × (run ≡ Some r) × HasCrossed p clock r x crossings
+  -- and each place of its run that went out has a first moment
+  pub sent : 0 < next_of x → (r : Run) → run ≡ Some r → (place : ℕ) → r.base ≤ place → place < r.base + next_of x → (first : ℕ) × ((row_at taken place).first ≡ Some first)
+
+-- Without a send record, the count of octets taken is at most the quantum and 65,536 above the last crossing, and it is 0 where there is no crossing.
+abbrev pub CrossingsOf : Params → ℕ → Option Run → List Taken → List Crossing → Option SendRecord → Type 0
+CrossingsOf p clock run taken crossings None = length taken ≤ taken_end p crossings
+CrossingsOf p clock run taken crossings (Some x) = SenderCrossings p clock run taken crossings x
+
+-- Given in time: each given row's moment is less than `mpl + r` after the first moment of its place.
+abbrev pub GivenInTime : Params → List Taken → List Given → Type 0
+GivenInTime p taken [] = Unit {0}
+GivenInTime p taken (row ∷ rows) = ((first : ℕ) → (row_at taken row.place).first ≡ Some first → row.at < first + p.mpl + p.r) × GivenInTime p taken rows
+
+-- the facts on which numbers rest
+pub record Spacing (p : Params) (s : FlowState) : Type 0 where
+  -- Crossings, and near in time is near in place
+  pub crossings : CrossingFacts p s.taken s.crossings
+  -- Crossings of the sender's record, and the count of octets taken
+  pub sender : CrossingsOf p s.sender_zero s.run s.taken s.crossings s.sender
+  -- Given in time
+  pub given_in_time : GivenInTime p s.taken s.given
+
 pub record Facts (p : Params) (s : FlowState) : Type 0 where
   pub send_side : SendSide p s.now s.sender_zero s.sender_until s.sender_life s.run s.taken s.sender
   pub receive_side : ReceiveSide p s.now s.receiver_zero s.receiver_until s.sender_life s.run s.taken s.given s.receiver
   pub read_side : ReadSide s.receiver_life s.receiver s.unread s.reads s.given
+  pub spacing : Spacing p s
 
 -- PACKETS
 
--- Data in a packet: its places have one first moment, it was made less than `r` after it, and its octets and marks are theirs
+-- Data in a packet: it has octets, its places have one first moment, it was made less than `r` after it, and its octets and marks are theirs
 pub record DataFacts (p : Params) (taken : List Taken) (items : List Item) (q : Packet) : Type 0 where
+  pub some : 0 < length items
   pub first : ℕ
   pub firsts : (k : ℕ) → k < length items → (row_at taken (q.place + k)).first ≡ Some first
   pub items_are : (k : ℕ) → k < length items → item_of (row_at taken (q.place + k)) ≡ plain (get_or items k no_item)
@@ -279,8 +405,38 @@ pub record PacketFacts (p : Params) (run : Option Run) (taken : List Taken) (giv
   -- if it is of the present run, its number fits its place, and nothing is Open below it
   pub present : (r : Run) → run ≡ Some r → IsPresent p r q.birth q.kind → OfRun p taken given q r
 
-abbrev pub Fits : Params → FlowState → Packet → Type 0
-Fits p s q = PacketFacts p s.run s.taken s.given q
+-- Acknowledged in time. The place before an acknowledgement's, or its own, has a first moment less than `spacing` before its last moment of life.
+pub record IsNearOctet (p : Params) (taken : List Taken) (q : Packet) : Type 0 where
+  pub place : ℕ
+  pub beside : (place ≡ q.place) ⊎ (place + 1 ≡ q.place)
+  pub first : ℕ
+  pub first_is : (row_at taken place).first ≡ Some first
+  pub in_time : q.birth + p.mpl < first + spacing_time p
+
+-- Or no place of its run before its own is Open, and no place from its own on has a first moment `mpl` before its birth or earlier.
+pub record IsPastOpen (p : Params) (run : Option Run) (taken : List Taken) (q : Packet) : Type 0 where
+  pub settled : (r : Run) → run ≡ Some r → IsPresent p r q.birth q.kind → (place : ℕ) → r.base ≤ place → place < q.place → (row_at taken place).fate ≢ Open
+  pub later : (place first : ℕ) → q.place ≤ place → (row_at taken place).first ≡ Some first → q.birth < first + p.mpl
+
+-- For a rendezvous packet no place from its own on has a first moment before its birth.
+abbrev pub NearKind : Params → Option Run → List Taken → Packet → Kind → Type 0
+NearKind p run taken q (Data drf items) = Unit {0}
+NearKind p run taken q (Ack window) = IsNearOctet p taken q ⊎ IsPastOpen p run taken q
+NearKind p run taken q Meet = (place first : ℕ) → q.place ≤ place → (row_at taken place).first ≡ Some first → q.birth ≤ first
+
+pub record Near (p : Params) (now : ℕ) (run : Option Run) (taken : List Taken) (q : Packet) : Type 0 where
+  -- it was made by now
+  pub made : q.birth ≤ now
+  pub kind : NearKind p run taken q q.kind
+
+pub record Fits (p : Params) (s : FlowState) (q : Packet) : Type 0 where
+  pub facts : PacketFacts p s.run s.taken s.given q
+  pub near : Near p s.now s.run s.taken q
+
+-- there is a packet, and it fits
+abbrev pub FitsSome : Params → FlowState → Option Packet → Type 0
+FitsSome p s None = ⊥
+FitsSome p s (Some q) = Fits p s q
 
 abbrev pub AllFit : Params → FlowState → List Packet → Type 0
 AllFit p s [] = Unit {0}

@@ -1,6 +1,6 @@
 -- The ledger of one flow: a row for each octet that it took, a row for each octet that was given to its receiver, and how much was read.
 -- The place of an octet is its row's position in the list of taken rows, over all lives of the sending station.
-use Rattle.std.specs.Prelude.{ℕ, zero, suc, ◌+◌, ◌==◌, Bool, true, false, if◌then◌else◌, ◌&&◌, ◌||◌, List, [], ◌∷◌, ◌++◌, map, Option, Some, None}
+use Rattle.std.specs.Prelude.{ℕ, zero, suc, ◌+◌, ◌==◌, ◌≢◌, Bool, true, false, if◌then◌else◌, ◌&&◌, ◌||◌, List, [], ◌∷◌, ◌++◌, map, Option, Some, None}
 use Rattle.std.proofs.Math.ListN.{get_or}
 use Rattle.dt_items.specs.declared.item.Item.{Item}
 use Rattle.dt_flow_model.specs.declared.rows.Fate.{Fate}
@@ -54,10 +54,14 @@ note_first at zero zero (row ∷ rows) = row ∷ rows
 note_first at zero (suc count) (row ∷ rows) = (record row { first = Some at }) ∷ note_first at zero count rows
 note_first at (suc place) count (row ∷ rows) = row ∷ note_first at place count rows
 
--- the place of the leftmost Open row of this life, or the end of the rows where there is none
-abbrev pub first_open : ℕ → List Taken → ℕ
-first_open life [] = 0
-first_open life (row ∷ rows) = if is_open_in life row then 0 else suc (first_open life rows)
+-- the place of the leftmost Open row of this life that has no first moment, or the end of the rows where there is none
+abbrev pub is_unsent : Option ℕ → Bool
+is_unsent None = true
+is_unsent (Some first) = false
+
+abbrev pub first_unsent : ℕ → List Taken → ℕ
+first_unsent life [] = 0
+first_unsent life (row ∷ rows) = if is_open_in life row && is_unsent row.first then 0 else suc (first_unsent life rows)
 
 -- octets are given: a row each, from the place on, the first with the run mark or without
 abbrev pub given_rows : ℕ → ℕ → Bool → ℕ → List Item → List Given
@@ -74,14 +78,24 @@ abbrev pub given_in : ℕ → List Given → List Item
 given_in life [] = []
 given_in life (row ∷ rows) = if row.life == life then given_item_of row ∷ given_in life rows else given_in life rows
 
--- how much was read in a life, and one read more
+-- how much was read in a life, by its first entry: each life has one at most, which is a fact that every step keeps. A life without an entry read nothing
 abbrev pub read_in : ℕ → List ReadCount → ℕ
 read_in life [] = 0
 read_in life (r ∷ rs) = if r.life == life then r.count else read_in life rs
 
+-- one read more in a life
 abbrev pub note_read : ℕ → ℕ → List ReadCount → List ReadCount
 note_read life count [] = (record { life = life; count = count }) ∷ []
 note_read life count (r ∷ rs) = if r.life == life then (record { life = life; count = r.count + count }) ∷ rs else r ∷ note_read life count rs
+
+-- no entry is of this life; and each life has at most one entry
+abbrev pub HasNoEntry : ℕ → List ReadCount → Type 0
+HasNoEntry life [] = Unit {0}
+HasNoEntry life (r ∷ rs) = (r.life ≢ life) × HasNoEntry life rs
+
+abbrev pub OneEntryEach : List ReadCount → Type 0
+OneEntryEach [] = Unit {0}
+OneEntryEach (r ∷ rs) = HasNoEntry r.life rs × OneEntryEach rs
 
 -- the place after the last given one, which is 0 where nothing was given
 abbrev pub top_from : ℕ → List Given → ℕ
@@ -104,7 +118,7 @@ abbrev pub is_given : List Given → ℕ → Bool
 is_given [] place = false
 is_given (row ∷ rows) place = (row.place == place) || is_given rows place
 
--- the taken row at a place. Past the end of the rows nothing is Open, and nothing has a first moment
+-- the taken row at a place. Past the end of the rows stands a row that no promise speaks of: it isn't Open and isn't Acked, has no first moment, and is of no life above another. What is said of a row's octet is said of places of the ledger alone
 abbrev pub no_row : Taken
 no_row = record { life = 0; octet = 0; begin = false; end = false; first = None; fate = Uncertain }
 
@@ -114,9 +128,15 @@ no_item = item_of no_row
 abbrev pub row_at : List Taken → ℕ → Taken
 row_at rows place = get_or rows place no_row
 
--- the given row at a position in its list
+-- the given row at a position in its list, and the entry at one. What speaks of them bounds the position by the list's length, so that the default stands nowhere
 abbrev pub no_given : Given
 no_given = record { place = 0; octet = 0; begin = false; end = false; run = false; life = 0; at = 0 }
 
 abbrev pub given_at : List Given → ℕ → Given
 given_at rows position = get_or rows position no_given
+
+abbrev pub no_entry : ReadCount
+no_entry = record { life = 0; count = 0 }
+
+abbrev pub entry_at : List ReadCount → ℕ → ReadCount
+entry_at entries position = get_or entries position no_entry

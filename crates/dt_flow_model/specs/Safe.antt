@@ -5,7 +5,7 @@ use Rattle.dt_flow_model.specs.declared.rows.Fate.TheVariants.{Open, Acked, Unce
 use Rattle.dt_flow_model.specs.declared.rows.Taken.{Taken}
 use Rattle.dt_flow_model.specs.declared.rows.Given.{Given}
 use Rattle.dt_flow_model.specs.declared.rows.ReadCount.{ReadCount}
-use Rattle.dt_flow_model.specs.Ledger.{item_of, sent_item_of, given_in, read_in, top, is_given, row_at, given_at}
+use Rattle.dt_flow_model.specs.Ledger.{item_of, sent_item_of, given_in, read_in, top, is_given, row_at, given_at, entry_at}
 use Rattle.dt_flow_model.specs.Flow.{FlowState}
 
 -- a given row follows another: it stands one place higher, in the same life of the receiver
@@ -17,6 +17,8 @@ pub record Follows (before row : Given) : Type 0 where
 pub record SafeLedger (sender_life : ℕ) (taken : List Taken) (given : List Given) (reads : List ReadCount) : Type 0 where
   -- In order: the places in the list of given rows strictly increase.
   pub in_order : (j k : ℕ) → j < k → k < length given → (given_at given j).place < (given_at given k).place
+  -- Each given row names a place of the ledger.
+  pub in_ledger : (k : ℕ) → k < length given → (given_at given k).place < length taken
   -- Intact: the octet, the begin mark and the end mark of each given row are those of its place.
   pub intact : (k : ℕ) → k < length given → item_of (row_at taken (given_at given k).place) ≡ sent_item_of (given_at given k)
   -- Skips reported: each place below the last given one that isn't given is uncertain, or is of an earlier life than the sender's present one.
@@ -28,6 +30,8 @@ pub record SafeLedger (sender_life : ℕ) (taken : List Taken) (given : List Giv
   pub unbroken : (k : ℕ) → k + 1 < length given → (given_at given (k + 1)).run ≡ false → Follows (given_at given k) (given_at given (k + 1))
   -- Reads: for each life of the receiver, what was read is at most what was given in that life.
   pub read_within : (life : ℕ) → read_in life reads ≤ length (given_in life given)
+  -- Each life has one entry of what was read.
+  pub one_entry : (j k : ℕ) → j < k → k < length reads → (entry_at reads j).life ≢ (entry_at reads k).life
 
 pub record Safe (s : FlowState) : Type 0 where
   pub ledger : SafeLedger s.sender_life s.taken s.given s.reads

@@ -1,14 +1,15 @@
 -- The acts of a send record: when each kind is due, its due moment, what it does, and when the record is to be woken.
-use Rattle.std.specs.Prelude.{ℕ, ◌+◌, ◌<◌, ◌≤◌, ◌≡◌, min, Bool, true, false, ◌&&◌, if◌then◌else◌, nat_lt, nat_le, List, [], ◌∷◌, ◌++◌, length, Option, Some, None, All}
+use Rattle.std.specs.Prelude.{ℕ, ◌+◌, ◌<◌, ◌≤◌, ◌≡◌, min, max, Bool, true, false, ◌&&◌, if◌then◌else◌, nat_lt, nat_le, List, [], ◌∷◌, ◌++◌, length, Option, Some, None, All}
 use Rattle.dt_items.specs.declared.item.Item.{Item}
 use Rattle.dt_units.specs.declared.parameters.Params.{Params}
-use Rattle.dt_units.specs.Times.{give_time, send_time}
+use Rattle.dt_units.specs.Times.{give_time, send_time, spacing_time}
 use Rattle.dt_flow_model.specs.declared.acts.SendKind.{SendKind}
 use Rattle.dt_flow_model.specs.declared.acts.SendKind.TheVariants.{GiveUp, Release, Resend, Send, Meet}
+use Rattle.dt_flow_model.specs.declared.moments.SendMoments.{SendMoments}
 use Rattle.dt_flow_model.specs.declared.acts.SendAct.{SendAct}
 use Rattle.dt_flow_model.specs.declared.acts.SendAct.TheVariants.{GaveUp, Released, Renewed, Resent, Sent, Met}
-use Rattle.dt_flow_model.specs.Numbering.{number_of}
-use Rattle.dt_flow_model.specs.SendRecord.{Segment, SendRecord, new_record, end_of, next_of, cut_size, cut_of, rest_of, cut_told}
+use Rattle.dt_flow_model.specs.Numbering.{number_of, is_crossing}
+use Rattle.dt_flow_model.specs.SendRecord.{Segment, SendRecord, new_record, end_of, next_of, cut_size, cut_of, rest_of, crossed_after, cut_told}
 
 -- an act, with the octets that it is about
 pub data Act : Type 0 where
@@ -66,25 +67,38 @@ resending p now (g ∷ gs) = better g gs (is_late p now g) (resending p now gs)
 abbrev pub most_segments : ℕ
 most_segments = 64
 
--- Send: a cut of at least one octet can be made, and fewer than 64 segments are outstanding.
+-- Send: a cut of at least one octet can be made, fewer than 64 segments are outstanding and, where `next` is a multiple of the quantum and one was crossed before, that was at least `spacing` ago.
 abbrev pub can_send : Params → SendRecord → Bool
 can_send p x = nat_lt 0 (cut_size p x) && nat_lt (length x.outstanding) most_segments
 
-abbrev pub sending : Params → SendRecord → Option Act
-sending p x = act_if (can_send p x) (send (cut_of p x) (rest_of p x))
+abbrev pub spaced_from : Params → Option ℕ → ℕ
+spaced_from p None = 0
+spaced_from p (Some crossed) = crossed + spacing_time p
 
--- Meet: nothing is outstanding, something waits, the window is used up, the run has numbers left, and the record was touched at least `probe` ago.
-abbrev pub could_meet : Params → SendRecord → List Segment → List Item → Bool
-could_meet p x [] [] = false
-could_meet p x [] (i ∷ is) = nat_le x.edge (next_of x) && nat_lt (next_of x) p.run_limit
-could_meet p x (g ∷ gs) waiting = false
+-- the moment from which on the cut may go out
+abbrev pub may_send_from : Params → SendRecord → ℕ
+may_send_from p x = if is_crossing p (next_of x) then spaced_from p x.crossed else 0
+
+abbrev pub sending : Params → ℕ → SendRecord → Option Act
+sending p now x = act_if (can_send p x && nat_le (may_send_from p x) now) (send (cut_of p x) (rest_of p x))
+
+-- Meet: nothing is outstanding, something waits, the window is used up, and the record was touched at least `probe` ago.
+abbrev pub could_meet : SendRecord → List Segment → List Item → Bool
+could_meet x [] [] = false
+could_meet x [] (i ∷ is) = nat_le x.edge (next_of x)
+could_meet x (g ∷ gs) waiting = false
 
 abbrev pub meeting : Params → ℕ → SendRecord → Option Act
-meeting p now x = act_if (could_meet p x x.outstanding x.waiting && nat_le (x.touched + p.probe) now) meet
+meeting p now x = act_if (could_meet x x.outstanding x.waiting && nat_le (x.touched + p.probe) now) meet
 
 -- the act at now is that of the first kind that is due
 abbrev pub act_of : Params → ℕ → SendRecord → Option Act
-act_of p now x = or_else (giving_up p now x.outstanding) (or_else (releasing p now x x.outstanding) (or_else (resending p now x.outstanding) (or_else (sending p x) (meeting p now x))))
+act_of p now x = or_else (giving_up p now x.outstanding) (or_else (releasing p now x x.outstanding) (or_else (resending p now x.outstanding) (or_else (sending p now x) (meeting p now x))))
+
+-- where a record stands, none of its acts is due
+abbrev pub IsIdle : Params → ℕ → Option SendRecord → Type 0
+IsIdle p now None = Unit {0}
+IsIdle p now (Some x) = act_of p now x ≡ None
 
 -- When an act is due at now, as the table of acts has it. Of the segments that may go out again any is due; `act_of` chooses.
 abbrev pub IsDue : Params → ℕ → SendRecord → Act → Type 0
@@ -92,8 +106,8 @@ IsDue p now x (give_up g rest) = (x.outstanding ≡ g ∷ rest) × (g.first + gi
 IsDue p now x release = (x.outstanding ≡ []) × (x.waiting ≡ []) × (x.touched + send_time p ≤ now)
 IsDue p now x renew = (x.outstanding ≡ []) × (0 < length x.waiting) × (x.touched + send_time p ≤ now)
 IsDue p now x (resend before g after) = (x.outstanding ≡ before ++ g ∷ after) × (g.last + p.rto ≤ now) × (now < g.first + p.r)
-IsDue p now x (send cut rest) = (cut ≡ cut_of p x) × (rest ≡ rest_of p x) × (0 < length cut) × (length x.outstanding < most_segments)
-IsDue p now x meet = (x.outstanding ≡ []) × (0 < length x.waiting) × (x.edge ≤ next_of x) × (next_of x < p.run_limit) × (x.touched + p.probe ≤ now)
+IsDue p now x (send cut rest) = (cut ≡ cut_of p x) × (rest ≡ rest_of p x) × (0 < length cut) × (length x.outstanding < most_segments) × (may_send_from p x ≤ now)
+IsDue p now x meet = (x.outstanding ≡ []) × (0 < length x.waiting) × (x.edge ≤ next_of x) × (x.touched + p.probe ≤ now)
 
 -- the kind of an act, and its due moment
 abbrev pub kind_of : Act → SendKind
@@ -122,7 +136,7 @@ due_moment p x (give_up g rest) = g.first + give_time p
 due_moment p x release = x.touched + send_time p
 due_moment p x renew = x.touched + send_time p
 due_moment p x (resend before g after) = g.last + p.rto
-due_moment p x (send cut rest) = 0
+due_moment p x (send cut rest) = may_send_from p x
 due_moment p x meet = x.touched + p.probe
 
 -- the first kind that is due at now, with its due moment
@@ -139,7 +153,7 @@ record_after p now x (give_up g rest) = Some (record x { left = end_of g; outsta
 record_after p now x release = None
 record_after p now x renew = Some (new_record p now x.waiting)
 record_after p now x (resend before g after) = Some (record x { touched = now; outstanding = before ++ (record g { last = now }) ∷ after })
-record_after p now x (send cut rest) = Some (record x { touched = now; outstanding = x.outstanding ++ (record { offset = next_of x; items = cut; first = now; last = now }) ∷ []; waiting = rest })
+record_after p now x (send cut rest) = Some (record x { touched = now; crossed = crossed_after p now x; outstanding = x.outstanding ++ (record { offset = next_of x; items = cut; first = now; last = now }) ∷ []; waiting = rest })
 record_after p now x meet = Some (record x { touched = now })
 
 -- what is told of an act
@@ -170,22 +184,54 @@ pub record IsFirst (A : Type 0) (due : ℕ → Option A) (wake : Option ℕ) : T
   pub nothing_before : (now : ℕ) → IsBefore now wake → due now ≡ None
   pub something_at : (moment : ℕ) → wake ≡ Some moment → (act : A) × (due moment ≡ Some act)
 
--- from when on each kind is due, if nothing else is done: the leftmost segment is given up, the record is released or renewed
+-- THE MOMENTS OF THE KINDS, as they stand at now: from when on each is due if nothing else is done, and none where it is never due from now on.
+
+-- the leftmost segment is given up
 abbrev pub gives_up_from : Params → List Segment → Option ℕ
 gives_up_from p [] = None
 gives_up_from p (g ∷ gs) = Some (g.first + give_time p)
 
+-- the record is released or renewed
 abbrev pub releases_from : Params → SendRecord → List Segment → Option ℕ
 releases_from p x [] = Some (x.touched + send_time p)
 releases_from p x (g ∷ gs) = None
 
--- the first segment goes out again that does so at all
-abbrev pub resends_from : Params → List Segment → Option ℕ
-resends_from p [] = None
-resends_from p (g ∷ gs) = earlier (moment_if (nat_lt (g.last + p.rto) (g.first + p.r)) (g.last + p.rto)) (resends_from p gs)
+-- A segment may still go out again where the later of now and `rto` after it went out last is less than `r` after it first went out. The first of these moments of last transmissions counts, with `rto`.
+abbrev pub resends_from : Params → ℕ → List Segment → Option ℕ
+resends_from p now [] = None
+resends_from p now (g ∷ gs) = earlier (moment_if (nat_lt (max now (g.last + p.rto)) (g.first + p.r)) (g.last + p.rto)) (resends_from p now gs)
+
+abbrev pub send_moments : Params → ℕ → SendRecord → SendMoments
+send_moments p now x =
+    record {
+      give_up = gives_up_from p x.outstanding;
+      release = releases_from p x x.outstanding;
+      resend = resends_from p now x.outstanding;
+      send = moment_if (can_send p x) (may_send_from p x);
+      meet = moment_if (could_meet x x.outstanding x.waiting) (x.touched + p.probe);
+    }
+
+-- the moment of one kind, and the least of all
+abbrev pub send_moment : SendMoments → SendKind → Option ℕ
+send_moment m GiveUp = m.give_up
+send_moment m Release = m.release
+send_moment m Resend = m.resend
+send_moment m Send = m.send
+send_moment m Meet = m.meet
+
+abbrev pub least_moment : SendMoments → Option ℕ
+least_moment m = earlier m.give_up (earlier m.release (earlier m.resend (earlier m.send m.meet)))
 
 -- when the record is to be woken: the least moment at which an act of any kind is due
 abbrev pub wake_of : Params → SendRecord → Option ℕ
-wake_of p x =
-    earlier (gives_up_from p x.outstanding)
-    (earlier (releases_from p x x.outstanding) (earlier (resends_from p x.outstanding) (earlier (moment_if (can_send p x) 0) (moment_if (could_meet p x x.outstanding x.waiting) (x.touched + p.probe)))))
+wake_of p x = least_moment (send_moments p 0 x)
+
+-- an act of this kind is due
+abbrev pub IsKindDue : Params → ℕ → SendRecord → SendKind → Type 0
+IsKindDue p now x kind = (act : Act) × (kind_of act ≡ kind) × IsDue p now x act
+
+-- What the moment of a kind says, as it stands at now: where there is none the kind is never due from now on; else it isn't due from now on before the moment, and it is due at the later of the two.
+pub record IsMomentOf (due : ℕ → Type 0) (now : ℕ) (moment : Option ℕ) : Type 0 where
+  pub never : moment ≡ None → (later : ℕ) → now ≤ later → due later → ⊥
+  pub not_before : (m : ℕ) → moment ≡ Some m → (later : ℕ) → now ≤ later → later < m → due later → ⊥
+  pub from : (m : ℕ) → moment ≡ Some m → due (max now m)

@@ -4,7 +4,9 @@ use Rattle.std.proofs.Math.ListN.{get_or}
 use Rattle.dt_items.specs.declared.item.Item.{Item}
 use Rattle.dt_units.specs.declared.parameters.Params.{Params}
 use Rattle.dt_flow_model.specs.declared.acts.Cut.{Cut}
-use Rattle.dt_flow_model.specs.Numbering.{number_of}
+use Rattle.dt_flow_model.specs.declared.faults.PutFault.{PutFault}
+use Rattle.dt_flow_model.specs.declared.faults.PutFault.TheVariants.{Full}
+use Rattle.dt_flow_model.specs.Numbering.{number_of, is_crossing, up_to_crossing}
 
 -- octets that went out together. They go out again as they were cut
 pub record Segment : Type 0 where
@@ -22,6 +24,8 @@ pub record SendRecord : Type 0 where
   pub edge : ℕ
   -- the later of the record's making and its last transmission of any kind
   pub touched : ℕ
+  -- the moment at which an octet whose offset is a multiple of the quantum went out last, or none
+  pub crossed : Option ℕ
   -- the segments that went out and are neither acknowledged nor given up, from left on
   pub outstanding : List Segment
   -- the octets that have not gone out
@@ -29,7 +33,7 @@ pub record SendRecord : Type 0 where
 
 -- a record that begins, or begins anew, at now
 abbrev pub new_record : Params → ℕ → List Item → SendRecord
-new_record p now waiting = record { left = 0; edge = p.window; touched = now; outstanding = []; waiting = waiting }
+new_record p now waiting = record { left = 0; edge = p.window; touched = now; crossed = None; outstanding = []; waiting = waiting }
 
 -- where a segment ends
 abbrev pub end_of : Segment → ℕ
@@ -64,6 +68,13 @@ fits p x count = nat_le (held_of x + count) p.cap
 abbrev pub put : List Item → SendRecord → SendRecord
 put items x = record x { waiting = x.waiting ++ items }
 
+-- so many octets are offered: they are refused where they don't fit, with the room that is left; and the record after it
+abbrev pub put_fault : Params → SendRecord → ℕ → Option PutFault
+put_fault p x count = if fits p x count then None else Some (Full (room_of p x))
+
+abbrev pub after_put : Params → List Item → SendRecord → SendRecord
+after_put p items x = if fits p x (length items) then put items x else x
+
 -- the data-run flag of a segment: nothing is outstanding before it
 abbrev pub leads : SendRecord → ℕ → Bool
 leads x offset = offset == x.left
@@ -74,9 +85,13 @@ cut_length zero at_first items = 0
 cut_length (suc most) at_first [] = 0
 cut_length (suc most) at_first (i ∷ is) = if i.begin && not at_first then 0 else suc (if i.end then 0 else cut_length most false is)
 
--- how many octets may go out next: at most `seg`, up to the edge of the window and the end of the run
+-- how many octets may go out next: at most `seg`, up to the edge of the window and to the least multiple of the quantum above `next`
 abbrev pub may_go : Params → SendRecord → ℕ
-may_go p x = min p.seg (min (x.edge - next_of x) (p.run_limit - next_of x))
+may_go p x = min p.seg (min (x.edge - next_of x) (up_to_crossing p (next_of x)))
+
+-- the moment that is noted of a multiple of the quantum, when octets go out at now
+abbrev pub crossed_after : Params → ℕ → SendRecord → Option ℕ
+crossed_after p now x = if is_crossing p (next_of x) then Some now else x.crossed
 
 -- the cut: the waiting octets that go out next, and those that wait on
 abbrev pub cut_size : Params → SendRecord → ℕ

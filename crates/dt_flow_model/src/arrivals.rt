@@ -1,4 +1,4 @@
-/// What a receiver does with a data packet: the outcome of its table of cases.
+/// What a receiver does with a packet: the outcome of its table of cases.
 #[derive(Clone, Copy, Debug, PartialEq, Eq)]
 pub enum Action {
     /// Nothing.
@@ -13,6 +13,8 @@ pub enum Action {
     Accept,
     /// Accepts the octets as a new run: those before them were passed over.
     Skip,
+    /// Tells that a closing packet came, and changes nothing.
+    Close,
 }
 
 /// What a host answers to a packet that came.
@@ -20,12 +22,16 @@ pub enum Action {
 pub enum Arrived {
     /// Nothing: the host is silent until this moment of its clock, in milliseconds.
     Quiet { until: u64 },
-    /// So many octets were accepted, as a new run or following the ones before.
+    /// So many octets were accepted, 1 to 8,192, as a new run or following the ones before.
     Accepted { run: bool, count: u32 },
-    /// An acknowledgement goes out at once.
+    /// An acknowledgement goes out at once, with this number and the free room of the queue, 0 to
+    /// 65,536 octets.
     Replied { number: u32, window: u32 },
     /// Nothing.
     Dropped,
-    /// So many octets were acknowledged.
+    /// So many octets were acknowledged, 0 to 65,536.
     Acked { count: u32 },
+    /// A closing packet tells that no more octets of its run follow: its number is the one that is
+    /// expected. Nothing changes.
+    Closing { number: u32 },
 }
