@@ -1,8 +1,12 @@
 -- The item at a place of octets that come together.
-use Rattle.std.proofs.Common.{◌≡◌, ℕ, zero, suc, ◌+◌, ◌<◌, ◌≤◌, Bool, true, false, cond, ◌&&◌, List, [], ◌∷◌, ◌++◌, length-append, length, get_or, refl, ap, eqb, arith}
+use Rattle.std.proofs.Common.{◌≡◌, ℕ, zero, suc, ◌+◌, ◌<◌, Bool, true, false, ◌&&◌, List, [], ◌∷◌, length, get_or, refl, ap, eqb, arith}
 use Rattle.std.proofs.lemmas.Bool.Decides.{nat_tests}
 use Rattle.dt_items.specs.declared.item.Item.{Item}
 use Rattle.dt_items.specs.Unread.{marked}
+
+-- what stands at a place past the end
+abbrev pub blank : Item
+blank = record { octet = 0; begin = false; end = false; run = false }
 
 pub length-marked : (octets : List ℕ) (begin end run : Bool) → length (marked octets begin end run) ≡ length octets
 length-marked [] begin end run = refl
@@ -29,12 +33,3 @@ marked-at (x ∷ y ∷ rest) (suc i) begin end run d h =
     let later : eqb (suc i) 0 ≡ false = grind (arith, nat_tests) in
     let same : eqb (suc i + 1) (suc (suc (length rest))) ≡ eqb (i + 1) (suc (length rest)) = grind (arith, nat_tests) in
     rw (later, same, and_no begin, and_no run) (marked-at (y ∷ rest) i false end false d (omega arith))
-
--- appending all or none
-pub appended : (ok : Bool) (was now : List Item) (octets : List ℕ) (begin end run : Bool) → now ≡ cond ok (was ++ marked octets begin end run) was → (length was ≤ length now) × (length now ≤ length was + length octets)
-appended true was now octets begin end run h =
-    let l = ap length h in
-    let m = length-append was (marked octets begin end run) in
-    let n = length-marked octets begin end run in
-    (omega arith, omega arith)
-appended false was now octets begin end run h = let l = ap length h in (omega arith, omega arith)

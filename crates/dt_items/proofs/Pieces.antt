@@ -1,87 +1,94 @@
--- How a loop finds the piece that a read takes, and what a read tells of it.
-use Rattle.std.proofs.Common.{◌≡◌, ℕ, zero, suc, ◌+◌, ◌-◌, ◌<◌, ◌≤◌, min, inl, inr, true, false, cond, List, [], ◌∷◌, ◌++◌, length, get_or, set, take, drop, append_assoc, length-take-le, Some, IfSome, refl, sym, ap, ◌∙◌, arith}
-use Rattle.std.specs.List.{slice_get}
-use Rattle.std.proofs.lemmas.List.{length-map, take-append-drop, take_rest, drop-drop, length-append, length-drop, at_drop_more, drop_all, drop_more, take_more, map_push, set_at}
-use Rattle.std.proofs.lemmas.Bool.{cases_lt}
+-- How a loop takes the piece of a read, one item after another.
+use Rattle.std.proofs.Common.{◌≡◌, ℕ, zero, suc, ◌+◌, ◌-◌, ◌<◌, ◌≤◌, true, false, cond, List, [], ◌∷◌, ◌++◌, length, get_or, set, take, drop, subst, append_assoc, Some, None, refl, sym, ap, ◌∙◌, arith}
+use Rattle.std.proofs.lemmas.List.{append-nil, length-append, length-map, drop_more, map_push, set_at}
 use Rattle.dt_items.specs.declared.item.Item.{Item}
-use Rattle.dt_items.specs.Unread.{goes_on, following, first_piece, last_item, told, octets_of}
+use Rattle.dt_items.specs.Unread.{goes_on, following, first_piece, last_item, piece_told, octets_of, Follows, TakesPiece}
 
-abbrev pub blank : Item
-blank = record { octet = 0; begin = false; end = false; run = false }
+-- What a read of at most n octets has done so far: it took the first item and more behind it, of
+-- which `last` is the last, and their octets stand in the buffer. What it takes yet follows that one.
+pub record HasTaken (n : ℕ) (items : List Item) (was : List ℕ) (first last : Item) (len : ℕ) (rest : List Item) (buf : List ℕ) : Type 0 where
+  pub more : List Item
+  pub len_is : len ≡ suc (length more)
+  pub within : len ≤ n
+  pub items_are : items ≡ (first ∷ more) ++ rest
+  pub last_is : last_item first more ≡ last
+  pub piece_is : first_piece n items ≡ (first ∷ more) ++ following (n - len) last rest
+  pub octets_are : buf ≡ octets_of (first ∷ more) ++ drop len was
 
--- how many items follow the first i in their piece
-abbrev pub left : ℕ → List Item → ℕ → ℕ
-left most items i = length (following (most - i) (get_or items (i - 1) blank) (drop i items))
+pub taken_first : (n : ℕ) (first : Item) (rest : List Item) (was : List ℕ) → length was ≡ n → 0 < n → HasTaken n (first ∷ rest) was first first 1 rest (set was 0 first.octet)
+taken_first zero first rest was l h = absurd (omega arith)
+taken_first (suc n) first rest [] l h = absurd (omega arith)
+taken_first (suc n) first rest (x ∷ was) l h =
+    let e : suc n - 1 ≡ n = omega arith in
+    record {
+      more = [];
+      len_is = refl;
+      within = omega arith;
+      items_are = refl;
+      last_is = refl;
+      piece_is = rw e refl;
+      octets_are = refl;
+    }
+
+last_item-push : (first : Item) (more : List Item) (next : Item) → last_item first (more ++ next ∷ []) ≡ next
+last_item-push first [] next = refl
+last_item-push first (item ∷ more) next = last_item-push item more next
+
+following_yes : (n : ℕ) (before item : Item) (items : List Item) → goes_on before item ≡ true → following (suc n) before (item ∷ items) ≡ item ∷ following n item items
+following_yes n before item items h = ap (λ b. cond b (item ∷ following n item items) []) h
+
+following_no : (n : ℕ) (before : Item) (items : List Item) → ((item : Item) (rest : List Item) → items ≡ item ∷ rest → goes_on before item ≡ false) → following n before items ≡ []
+following_no n before [] h = refl
+following_no zero before (item ∷ items) h = refl
+following_no (suc n) before (item ∷ items) h = ap (λ b. cond b (item ∷ following n item items) []) (h item items refl)
 
 following_none : (before : Item) (items : List Item) → following 0 before items ≡ []
 following_none before [] = refl
 following_none before (item ∷ items) = refl
 
-pub left_first : (most : ℕ) (items : List Item) → 0 < most → 0 < length items → length (first_piece most items) ≡ 1 + left most items 1
-left_first zero items p q = absurd (omega arith)
-left_first (suc m) [] p q = absurd (omega arith)
-left_first (suc m) (x ∷ xs) p q =
-    let e : suc m - 1 ≡ m = omega arith in
-    rw e (omega arith)
+-- one more octet is written behind those of the items before it
+written_more : (items : List Item) (next : Item) (was buf : List ℕ) (len : ℕ) → len ≡ length items → len < length was → buf ≡ octets_of items ++ drop len was → set buf len next.octet ≡ octets_of (items ++ next ∷ []) ++ drop (len + 1) was
+written_more items next was buf len e p h =
+    let l : length (octets_of items) ≡ len = length-map _ _ ∙ sym e in
+    ap (λ b. set b len next.octet) (h ∙ ap (λ r. octets_of items ++ r) (drop_more was len 0 p))
+    ∙ set_at (octets_of items) (get_or was len 0) (drop (len + 1) was) next.octet len l
+    ∙ sym (ap (λ r. r ++ drop (len + 1) was) (map_push _ items next) ∙ append_assoc (octets_of items) (next.octet ∷ []) (drop (len + 1) was))
 
-following_yes : (n : ℕ) (before item : Item) (items : List Item) → goes_on before item ≡ true → following (suc n) before (item ∷ items) ≡ item ∷ following n item items
-following_yes n before item items h = ap (λ b. cond b (item ∷ following n item items) []) h
+pub taken_more : {n : ℕ} {items : List Item} {was : List ℕ} {first last : Item} {len : ℕ} {rest : List Item} {buf : List ℕ} → HasTaken n items was first last len rest buf → (next : Item) (left : List Item) → length was ≡ n → len < n → rest ≡ next ∷ left → goes_on last next ≡ true → HasTaken n items was first next (len + 1) left (set buf len next.octet)
+taken_more {n} {items} {was} {first} {last} {len} {rest} {buf} t next left l p split goes =
+    let e : n - len ≡ suc (n - (len + 1)) = omega arith in
+    let f : following (n - len) last rest ≡ next ∷ following (n - (len + 1)) next left =
+    ap (λ r. following (n - len) last r) split ∙ ap (λ k. following k last (next ∷ left)) e ∙ following_yes (n - (len + 1)) last next left goes in
+    record {
+      more = t.more ++ next ∷ [];
+      len_is = omega (arith, t.len_is, length-append t.more (next ∷ []));
+      within = omega arith;
+      items_are = t.items_are ∙ ap (λ r. (first ∷ t.more) ++ r) split ∙ sym (append_assoc (first ∷ t.more) (next ∷ []) left);
+      last_is = last_item-push first t.more next;
+      piece_is = t.piece_is ∙ ap (λ r. (first ∷ t.more) ++ r) f ∙ sym (append_assoc (first ∷ t.more) (next ∷ []) (following (n - (len + 1)) next left));
+      octets_are = written_more (first ∷ t.more) next was buf len t.len_is (omega arith) t.octets_are;
+    }
 
-following_no : (n : ℕ) (before item : Item) (items : List Item) → goes_on before item ≡ false → following (suc n) before (item ∷ items) ≡ []
-following_no n before item items h = ap (λ b. cond b (item ∷ following n item items) []) h
+-- where nothing more follows, what was taken is the piece
+taken_all : {n : ℕ} {items : List Item} {was : List ℕ} {first last : Item} {len : ℕ} {rest : List Item} {buf : List ℕ} → (t : HasTaken n items was first last len rest buf) → following (n - len) last rest ≡ [] → TakesPiece n items was (record { len = len; begin = first.begin; end = last.end; run = first.run }) rest buf
+taken_all {n} {items} {was} {first} {last} {len} {rest} {buf} t none =
+    let piece : first_piece n items ≡ first ∷ t.more = t.piece_is ∙ ap (λ r. (first ∷ t.more) ++ r) none ∙ append-nil (first ∷ t.more) in
+    let l : length (first_piece n items) ≡ len = ap length piece ∙ sym t.len_is in
+    let m : length t.more + 1 ≡ len = omega (arith, t.len_is) in
+    record {
+      told = ap piece_told piece ∙ ap (λ item. Some (record { len = length t.more + 1; begin = first.begin; end = item.end; run = first.run })) t.last_is ∙ ap (λ k. Some (record { len = k; begin = first.begin; end = last.end; run = first.run })) m;
+      split = t.items_are ∙ ap (λ p. p ++ rest) (sym piece);
+      octets = t.octets_are ∙ ap (λ k. octets_of (first ∷ t.more) ++ drop k was) (sym l) ∙ ap (λ p. octets_of p ++ drop (length (first_piece n items)) was) (sym piece);
+    }
 
--- an item that goes on
-pub left_more : (most i : ℕ) (items : List Item) → i < most → i < length items → goes_on (get_or items (i - 1) blank) (get_or items i blank) ≡ true → left most items i ≡ 1 + left most items (i + 1)
-left_more most i items p q h =
-    let e : most - i ≡ suc (most - (i + 1)) = omega arith in
-    let f : (i + 1) - 1 ≡ i = omega arith in
-    let g = at_drop_more (following (suc (most - (i + 1))) (get_or items (i - 1) blank)) items i blank q
-    ∙ following_yes (most - (i + 1)) (get_or items (i - 1) blank) (get_or items i blank) (drop (i + 1) items) h in
-    rw (e, f) (omega (arith, ap length g))
+pub taken_full : {n : ℕ} {items : List Item} {was : List ℕ} {first last : Item} {len : ℕ} {rest : List Item} {buf : List ℕ} → HasTaken n items was first last len rest buf → n ≤ len → TakesPiece n items was (record { len = len; begin = first.begin; end = last.end; run = first.run }) rest buf
+taken_full {n} {items} {was} {first} {last} {len} {rest} {buf} t p =
+    let e : n - len ≡ 0 = omega arith in
+    taken_all t (ap (λ k. following k last rest) e ∙ following_none last rest)
 
--- an item that doesn't
-pub left_stop : (most i : ℕ) (items : List Item) → i < most → i < length items → goes_on (get_or items (i - 1) blank) (get_or items i blank) ≡ false → left most items i ≡ 0
-left_stop most i items p q h =
-    let e : most - i ≡ suc (most - (i + 1)) = omega arith in
-    let g = at_drop_more (following (suc (most - (i + 1))) (get_or items (i - 1) blank)) items i blank q
-    ∙ following_no (most - (i + 1)) (get_or items (i - 1) blank) (get_or items i blank) (drop (i + 1) items) h in
-    rw e (ap length g)
-
--- where no more items fit, or there are none
-pub left_none : (most i : ℕ) (items : List Item) → min most (length items) ≤ i → left most items i ≡ 0
-left_none most i items h = elim (cases_lt i most) [
-  | inl more ↦ rw (drop_all i items (omega arith)) refl
-  | inr none ↦ let e : most - i ≡ 0 = omega arith in rw (e, following_none) refl
-]
-
-pub no_piece : (most : ℕ) (items : List Item) → min most (length items) ≡ 0 → length (first_piece most items) ≡ 0
-no_piece most [] h = refl
-no_piece zero (x ∷ xs) h = refl
-no_piece (suc m) (x ∷ xs) h = absurd (omega arith)
-
-last_is : (x : Item) (xs : List Item) (y : Item) → slice_get (x ∷ xs) (length xs) ≡ Some y → last_item x xs ≡ y
-last_is x [] y h = cc
-last_is x (z ∷ zs) y h = last_is z zs y h
-
--- what is told of items, by the first and the last of them
-pub told_of : (items : List Item) (first last : Item) → slice_get items 0 ≡ Some first → slice_get items (length items - 1) ≡ Some last → told items ≡ Some (record { len = length items; begin = first.begin; end = last.end; run = first.run })
-told_of [] first last p q = cc
-told_of (x ∷ xs) first last p q =
-    let e : length (x ∷ xs) - 1 ≡ length xs = omega arith in
-    let a : x ≡ first = cc in
-    let b = last_is x xs last (rw e at q) in
-    let n : length xs + 1 ≡ suc (length xs) = omega arith in
-    cc
-
--- one more octet is written
-pub copied_more : (items : List Item) (was buf : List ℕ) (i : ℕ) → i < length items → length items ≤ length was → buf ≡ octets_of (take i items) ++ drop i was → set buf i (get_or items i blank).octet ≡ octets_of (take (i + 1) items) ++ drop (i + 1) was
-copied_more items was buf i p q h =
-    let octet = (get_or items i blank).octet in
-    let l : length (octets_of (take i items)) ≡ i = length-map _ _ ∙ length-take-le i items (omega arith) in
-    let m : octets_of (take (i + 1) items) ≡ octets_of (take i items) ++ octet ∷ [] = ap octets_of (take_more items i blank p) ∙ map_push _ _ _ in
-    ap (λ b. set b i octet) (h ∙ ap (λ r. octets_of (take i items) ++ r) (drop_more was i 0 (omega arith)))
-    ∙ set_at (octets_of (take i items)) (get_or was i 0) (drop (i + 1) was) octet i l
-    ∙ sym (ap (λ r. r ++ drop (i + 1) was) m ∙ append_assoc (octets_of (take i items)) (octet ∷ []) (drop (i + 1) was))
+pub taken_to_the_end : {n : ℕ} {items : List Item} {was : List ℕ} {first last : Item} {len : ℕ} {rest after : List Item} {buf : List ℕ} → HasTaken n items was first last len rest buf → Follows last rest None after → TakesPiece n items was (record { len = len; begin = first.begin; end = last.end; run = first.run }) after buf
+taken_to_the_end {n} {items} {was} {first} {last} {len} {rest} {after} {buf} t f =
+    subst (λ r. TakesPiece n items was (record { len = len; begin = first.begin; end = last.end; run = first.run }) r buf) (sym f.0) (taken_all t (following_no (n - len) last rest f.1))
 
 -- a prefix of as many items as the piece has is the piece
 following_prefix : (n : ℕ) (before : Item) (items : List Item) → take (length (following n before items)) items ≡ following n before items
@@ -111,27 +118,3 @@ pub first_piece-fits : (n : ℕ) (items : List Item) → length (first_piece n i
 first_piece-fits n [] = omega arith
 first_piece-fits zero (item ∷ items) = omega arith
 first_piece-fits (suc n) (item ∷ items) = omega (arith, following_fits n item items)
-
--- a list is the piece that a read takes of it, and the rest
-pub piece_and_rest : (n : ℕ) (items : List Item) → items ≡ first_piece n items ++ drop (length (first_piece n items)) items
-piece_and_rest n items =
-    sym (ap (λ p. p ++ drop (length (first_piece n items)) items) (sym (first_piece-prefix n items)) ∙ take-append-drop (length (first_piece n items)) items)
-
--- what is read from a list of which the first `head` were read before
-pub unread_is : (slice all now : List Item) (head : ℕ) → slice ≡ all → drop head all ≡ now → take (length slice - head) (drop head slice) ≡ now
-unread_is slice all now head same view = take_rest slice head ∙ ap (drop head) same ∙ view
-
-pub rest_is : (n head : ℕ) (all now taken : List Item) → drop head all ≡ now → taken ≡ first_piece n now → now ≡ first_piece n now ++ drop (head + length taken) all
-rest_is n head all now taken view piece =
-    piece_and_rest n now
-    ∙ ap (λ r. first_piece n now ++ r) (sym (ap (drop (length (first_piece n now))) view) ∙ drop-drop (length (first_piece n now)) head all ∙ ap (λ p. drop (head + length p) all) (sym piece))
-
-pub taken_within : (n head : ℕ) (all now taken : List Item) → drop head all ≡ now → taken ≡ first_piece n now → length taken ≤ length all - head
-taken_within n head all now taken view piece =
-    let whole = ap length (rest_is n head all now taken view piece) in
-    omega (arith, whole, ap length view, ap length piece, length-append (first_piece n now) (drop (head + length taken) all), length-drop head all)
-
--- a piece is told with its length, which is not 0
-pub told_len : (n : ℕ) (items : List Item) → length items ≤ n → IfSome (told items) (λ piece. (0 < piece.len) × (piece.len ≤ n))
-told_len n [] h = tt
-told_len n (first ∷ rest) h = (omega arith, omega arith)

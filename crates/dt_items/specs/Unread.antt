@@ -1,5 +1,5 @@
 -- What waits to be read: octets with their marks, and the pieces that reads take of them.
-use Rattle.std.specs.Prelude.{ℕ, zero, suc, ◌+◌, ◌<◌, ◌≤◌, ◌≡◌, Bool, false, not, ◌||◌, if◌then◌else◌, List, [], ◌∷◌, length, take, map, slice_index_or, Option, Some, None}
+use Rattle.std.specs.Prelude.{ℕ, zero, suc, ◌+◌, ◌<◌, ◌≤◌, ◌≡◌, Bool, true, false, not, ◌||◌, if◌then◌else◌, List, [], ◌∷◌, ◌++◌, length, take, drop, map, slice_index_or, Option, Some, None}
 use Rattle.dt_items.specs.declared.item.Item.{Item}
 use Rattle.dt_items.specs.declared.piece.Piece.{Piece}
 
@@ -30,6 +30,12 @@ following n before [] = []
 following zero before (item ∷ items) = []
 following (suc n) before (item ∷ items) = if goes_on before item then item ∷ following n item items else []
 
+-- The next of these items is taken where it goes on the piece of the item before it; else nothing
+-- is, and the items stay.
+abbrev pub Follows : Item → List Item → Option Item → List Item → Type 0
+Follows before items (Some next) rest = (items ≡ next ∷ rest) × (goes_on before next ≡ true)
+Follows before items None rest = (rest ≡ items) × ((next : Item) (more : List Item) → items ≡ next ∷ more → goes_on before next ≡ false)
+
 -- What a read of n octets takes: the longest prefix of at most n items in which an end mark stands
 -- only on the last and a begin or run mark only on the first.
 abbrev pub first_piece : ℕ → List Item → List Item
@@ -44,9 +50,9 @@ last_item item (next ∷ items) = last_item next items
 
 -- What a read tells of the items that it took: nothing where there are none, and else their number,
 -- the marks begin and run of the first and the mark end of the last.
-abbrev pub told : List Item → Option Piece
-told [] = None
-told (first ∷ rest) =
+abbrev pub piece_told : List Item → Option Piece
+piece_told [] = None
+piece_told (first ∷ rest) =
     Some (record { len = length rest + 1; begin = first.begin; end = (last_item first rest).end; run = first.run })
 
 -- Items of one piece: an end mark stands only on the last, and a begin or run mark only on the first.
@@ -61,3 +67,10 @@ pub record IsLongestPiece (n : ℕ) (items piece : List Item) : Type 0 where
   pub fits : length piece ≤ n
   pub one : IsOnePiece piece
   pub longest : (k : ℕ) → k ≤ n → IsOnePiece (take k items) → length (take k items) ≤ length piece
+
+-- A read of at most n octets: it tells the piece and leaves the items behind it, and the octets of the
+-- piece stand first in the buffer, whose rest stays.
+pub record TakesPiece (n : ℕ) (items : List Item) (was : List ℕ) (piece : Piece) (rest : List Item) (buf : List ℕ) : Type 0 where
+  pub told : piece_told (first_piece n items) ≡ Some piece
+  pub split : items ≡ first_piece n items ++ rest
+  pub octets : buf ≡ octets_of (first_piece n items) ++ drop (length (first_piece n items)) was

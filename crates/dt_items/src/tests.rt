@@ -1,4 +1,4 @@
-use super::{NoMemory, Piece, Queue};
+use super::{Piece, Queue};
 use std::process::Abort;
 use std::test::Fail;
 
@@ -7,10 +7,10 @@ fn has(marks: &[u8], mark: u8) -> bool {
     marks.contains(&mark)
 }
 
-fn push(rt: &impl Abort, queue: &mut Queue, octets: &[u8], marks: &[u8]) -> Result<(), NoMemory> {
+fn push(rt: &impl Abort, queue: &mut Queue, octets: &[u8], marks: &[u8]) {
     assert!(rt; !octets.is_empty());
     assert!(rt; octets.len() <= queue.free() as usize);
-    queue.push_all(octets, has(marks, b'b'), has(marks, b'e'), has(marks, b'r'))
+    queue.push_all(octets, has(marks, b'b'), has(marks, b'e'), has(marks, b'r'));
 }
 
 // A read of at most `most` octets gives these octets with these marks, and leaves the rest of the
@@ -44,7 +44,7 @@ fn reads_nothing(rt: &impl Abort, queue: &mut Queue) {
 #[test]
 fn a_message_is_read_in_pieces(rt: HostRuntime) -> Result<(), Fail> {
     let mut queue = Queue::with_room(rt.alloc(), 5)?;
-    push(&rt, &mut queue, b"hello", b"rbe")?;
+    push(&rt, &mut queue, b"hello", b"rbe");
     assert_eq!(rt; queue.len(), 5);
     assert_eq!(rt; queue.free(), 0);
     reads(&rt, &mut queue, 1, b"h", b"rb");
@@ -52,11 +52,11 @@ fn a_message_is_read_in_pieces(rt: HostRuntime) -> Result<(), Fail> {
     reads(&rt, &mut queue, 1, b"l", b"");
     reads(&rt, &mut queue, 1, b"l", b"");
     reads(&rt, &mut queue, 1, b"o", b"e");
-    push(&rt, &mut queue, b"hello", b"be")?;
+    push(&rt, &mut queue, b"hello", b"be");
     reads(&rt, &mut queue, 2, b"he", b"b");
     reads(&rt, &mut queue, 2, b"ll", b"");
     reads(&rt, &mut queue, 2, b"o", b"e");
-    push(&rt, &mut queue, b"hello", b"rbe")?;
+    push(&rt, &mut queue, b"hello", b"rbe");
     reads(&rt, &mut queue, 8, b"hello", b"rbe");
     reads_nothing(&rt, &mut queue);
     Ok(())
@@ -66,15 +66,15 @@ fn a_message_is_read_in_pieces(rt: HostRuntime) -> Result<(), Fail> {
 fn a_piece_is_of_one_message_and_of_one_run(rt: HostRuntime) -> Result<(), Fail> {
     let mut queue = Queue::with_room(rt.alloc(), 12)?;
     // two messages, the first of which came in two segments
-    push(&rt, &mut queue, b"ab", b"b")?;
-    push(&rt, &mut queue, b"cd", b"e")?;
-    push(&rt, &mut queue, b"ef", b"be")?;
+    push(&rt, &mut queue, b"ab", b"b");
+    push(&rt, &mut queue, b"cd", b"e");
+    push(&rt, &mut queue, b"ef", b"be");
     // one that doesn't end, and one that begins
-    push(&rt, &mut queue, b"gh", b"b")?;
-    push(&rt, &mut queue, b"i", b"b")?;
+    push(&rt, &mut queue, b"gh", b"b");
+    push(&rt, &mut queue, b"i", b"b");
     // a run mark in the middle
-    push(&rt, &mut queue, b"jk", b"r")?;
-    push(&rt, &mut queue, b"l", b"e")?;
+    push(&rt, &mut queue, b"jk", b"r");
+    push(&rt, &mut queue, b"l", b"e");
     reads(&rt, &mut queue, 8, b"abcd", b"be");
     reads(&rt, &mut queue, 8, b"ef", b"be");
     reads(&rt, &mut queue, 8, b"gh", b"b");
@@ -89,9 +89,9 @@ fn a_queue_is_filled_and_read_for_long(rt: HostRuntime) -> Result<(), Fail> {
     let mut queue = Queue::with_room(rt.alloc(), 4)?;
     reads_nothing(&rt, &mut queue);
     for _ in 0..1000 {
-        push(&rt, &mut queue, b"abc", b"be")?;
+        push(&rt, &mut queue, b"abc", b"be");
         reads(&rt, &mut queue, 1, b"a", b"b");
-        push(&rt, &mut queue, b"d", b"e")?;
+        push(&rt, &mut queue, b"d", b"e");
         reads(&rt, &mut queue, 8, b"bc", b"e");
         reads(&rt, &mut queue, 8, b"d", b"e");
     }
@@ -100,11 +100,13 @@ fn a_queue_is_filled_and_read_for_long(rt: HostRuntime) -> Result<(), Fail> {
 }
 
 #[test]
-fn a_queue_grows_to_the_greatest_room(rt: HostRuntime) -> Result<(), Fail> {
+fn a_queue_is_filled_to_the_greatest_room(rt: HostRuntime) -> Result<(), Fail> {
     let mut queue = Queue::with_room(rt.alloc(), 65_536)?;
     for _ in 0..64 {
-        push(&rt, &mut queue, &[b'x'; 1024], b"be")?;
+        push(&rt, &mut queue, &[b'x'; 1024], b"be");
     }
     assert_eq!(rt; queue.free(), 0);
+    assert_eq!(rt; queue.ring().len(), 65_536);
+    assert_eq!(rt; queue.ring().capacity(), 65_536);
     Ok(())
 }

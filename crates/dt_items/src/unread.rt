@@ -1,34 +1,28 @@
-ghost use Rattle.std.specs.Prelude.{◌≡◌, ◌+◌, ◌^◌, ◌<◌, ◌≤◌, ◌↔◌, [], ◌++◌, if◌then◌else◌, drop, length, slice_index, ◌==◌, ◌&&◌, is_ok, IfOk, IfSome, OnOk, OnErr, IsNone};
-ghost use Rattle.dt_items.specs.Unread.{Backlog, marked, octets_of, goes_on, first_piece, told};
+ghost use Rattle.std.specs.Prelude.{◌≡◌, ◌+◌, ◌^◌, ◌<◌, ◌≤◌, ◌↔◌, [], ◌∷◌, ◌++◌, drop, length, slice_get, slice_index, ◌==◌, ◌&&◌, IfOk, IfSome, IfNone, IsNone, IsSome};
+ghost use Rattle.circular_buffer.specs.Buffer.{buffer};
+ghost use Rattle.dt_items.specs.Unread.{Backlog, marked, octets_of, goes_on, first_piece, piece_told, IsLongestPiece, Follows, TakesPiece};
 
 use crate::item::Item;
 use crate::memory::NoMemory;
 use crate::piece::Piece;
+use circular_buffer::HeapCircularBuffer;
 use std::alloc::Global;
 use std::marker::Model;
 
-/// The items for which memory is taken when a queue is made: the longest segment.
-const FIRST_ITEMS: u32 = 1024;
-
 /// The octets that were accepted and not read yet, with their marks: a list of items, the next to be
-/// read first, and a room, which is the most items that there may be.
+/// read first, and a room, which is the most items that there may be. The memory for the room is
+/// taken when the queue is made.
 #[derive(Drop)]
 pub struct Queue {
-    /// Items that were read, and then the unread ones.
-    items: Vec<Item>,
-    /// How many of the items were read.
-    head: usize,
-    room: u32,
+    ring: HeapCircularBuffer<Item>,
 }
 
 impl Model for Queue {
     ghost Value = { Backlog };
 
-    ghost view = { λ q. record { items = drop q.head q.items.items; room = q.room } };
+    ghost view = { λ q. record { items = q.ring.items; room = q.ring.capacity } };
 
-    ghost invariant = { λ q. (q.head ≤ length q.items.items)
-        × (length q.items.items ≤ q.head + q.room)
-        × (q.room < 2 ^ 32) };
+    ghost invariant = { λ q. (length q.ring.items ≤ q.ring.capacity) × (q.ring.capacity < 2 ^ 32) };
 }
 
 /// Whether an item goes on the piece of the item before it.
@@ -38,48 +32,45 @@ fn goes_on(before: &Item, item: &Item) -> bool
     !(before.end || item.begin || item.run)
 }
 
-/// The number of items that a read of at most `most` octets takes.
-fn piece_len(unread: &[Item], most: usize) -> usize
-    ensures { result ≡ length (first_piece most unread.now) }
+/// Takes the next item, where it goes on the piece of the item before it.
+fn take_following(before: &Item, ring: &mut HeapCircularBuffer<Item>) -> Option<Item>
+    ensures follows { Follows before.now ring.old.items result ring.new.items }
+    ensures capacity { ring.new.capacity ≡ ring.old.capacity }
 {
-    let fitting = most.min(unread.len());
-    for i in 1..fitting {
-        if !goes_on(&unread[i - 1], &unread[i]) {
-            return i;
-        }
-    }
-    fitting
-}
-
-/// The items that a read of at most `most` octets takes.
-fn piece_of(unread: &[Item], most: usize) -> &[Item]
-    ensures { result.now ≡ first_piece most unread.now }
-{
-    &unread[..piece_len(unread, most)]
-}
-
-/// Writes the octets of the items to the front of the buffer.
-fn copy_octets(items: &[Item], buf: &mut [u8])
-    requires { length items.now ≤ length buf.old }
-    ensures { buf.new ≡ octets_of items.now ++ drop (length items.now) buf.old }
-{
-    for (i, item) in items.iter().enumerate() {
-        buf[i] = item.octet;
+    let next = *ring.front()?;
+    if goes_on(before, &next) {
+        let _next = ring.pop_front();
+        Some(next)
+    } else {
+        None
     }
 }
 
-/// What a read tells of the items that it took.
-fn tell(taken: &[Item]) -> Option<Piece>
-    ensures { result ≡ told taken.now }
+/// Takes the items that go on the piece of the first one, as many as fit in the buffer with it, and
+/// writes the octets of all to the front of the buffer.
+fn take_piece(first: &Item, ring: &mut HeapCircularBuffer<Item>, buf: &mut [u8]) -> Piece
+    requires { 0 < length buf.old }
+    ensures taken { let items = first.now ∷ ring.old.items in
+        TakesPiece (length buf.old) items buf.old result ring.new.items buf.new }
+    ensures capacity { ring.new.capacity ≡ ring.old.capacity }
 {
-    let first = taken.first()?;
-    let last = taken.last()?;
-    Some(Piece {
-        len: taken.len(),
+    buf[0] = first.octet;
+    let mut last = *first;
+    let mut len = 1;
+    while len < buf.len() {
+        let Some(next) = take_following(&last, ring) else {
+            break;
+        };
+        buf[len] = next.octet;
+        last = next;
+        len += 1;
+    }
+    Piece {
+        len,
         begin: first.begin,
         end: last.end,
         run: first.run,
-    })
+    }
 }
 
 /// The item of an octet among octets that come together.
@@ -101,34 +92,30 @@ fn item_at(octets: &[u8], i: usize, begin: bool, end: bool, run: bool) -> Item
 }
 
 /// Appends octets that come together, with their marks: the first item gets the marks begin and run,
-/// the last gets the mark end, and all other marks are off. `NoMemory` changes nothing. The cost is
-/// that of the octets.
+/// the last gets the mark end, and all other marks are off. They fit into the ring. The cost is that
+/// of the octets, and no memory is taken.
 pub fn append_marked(
-    items: &mut Vec<Item>,
+    ring: &mut HeapCircularBuffer<Item>,
     octets: &[u8],
     begin: bool,
     end: bool,
     run: bool,
-) -> Result<(), NoMemory>
-    ensures { items.new.items
-        ≡ (if is_ok result then items.old.items ++ marked octets.now begin end run else items.old.items) }
+)
+    requires { length ring.old.items + length octets.now ≤ ring.old.capacity }
+    ensures { ring.new ≡ buffer (ring.old.items ++ marked octets.now begin end run) ring.old.capacity }
 {
-    items.reserve(octets.len())?;
     for i in 0..octets.len() {
-        items.push_reserved(item_at(octets, i, begin, end, run));
+        ring.push_back(item_at(octets, i, begin, end, run));
     }
-    Ok(())
 }
 
 impl Queue {
-    /// An empty queue for at most `room` items. It takes memory for the first 1,024 of them.
+    /// An empty queue for at most `room` items. Takes the memory for all of them.
     pub fn with_room(alloc: Global, room: u32) -> Result<Queue, NoMemory>
         ensures { IfOk result (λ queue. queue ≡ record { items = []; room = room }) }
     {
         Ok(Queue {
-            items: Vec::with_capacity(alloc, room.min(FIRST_ITEMS) as usize)?,
-            head: 0,
-            room,
+            ring: HeapCircularBuffer::with_capacity(alloc, room as usize)?,
         })
     }
 
@@ -137,49 +124,33 @@ impl Queue {
         ensures value { result ≡ length self.now.items }
         ensures within { length self.now.items ≤ self.now.room }
     {
-        (self.items.len() - self.head) as u32
+        self.ring.len() as u32
     }
 
     /// How many more items there may be.
     pub fn free(&self) -> u32
         ensures { result + length self.now.items ≡ self.now.room }
     {
-        self.room - self.len()
+        self.ring.capacity() as u32 - self.len()
     }
 
-    /// Moves the unread items to the front of the vector where no more of them are left than were
-    /// read. So the vector has at most twice the room, and over all calls no more items are moved
-    /// than were read.
-    fn close_up(&mut self)
-        ensures { self.new ≡ self.old }
+    /// The ring that holds the unread items, the next to be read first. Its capacity is the room.
+    pub fn ring(&self) -> &HeapCircularBuffer<Item>
+        ensures { result.now ≡ buffer self.now.items self.now.room }
     {
-        if self.head >= self.items.len() - self.head {
-            self.items.drain(..self.head);
-            self.head = 0;
-        }
+        &self.ring
     }
 
     /// Appends the octets. The first gets the begin and run marks, the last gets the end mark, and
     /// all other marks are off. There is at least one octet, and no more than [`Queue::free`] tells.
-    /// Where there is no memory, nothing changes.
-    ///
-    /// It costs the number of octets, and where no more items are unread than were read, a move of
-    /// the unread ones: over all calls no more than the octets that were pushed and read.
-    pub fn push_all(
-        &mut self,
-        octets: &[u8],
-        begin: bool,
-        end: bool,
-        run: bool,
-    ) -> Result<(), NoMemory>
+    /// The cost is that of the octets, and no memory is taken.
+    pub fn push_all(&mut self, octets: &[u8], begin: bool, end: bool, run: bool)
         requires some { 0 < length octets.now }
         requires fits { length self.old.items + length octets.now ≤ self.old.room }
-        ensures ok { let added = marked octets.now begin end run in
-            OnOk result (self.new ≡ record self.old { items = self.old.items ++ added }) }
-        ensures err { OnErr result (self.new ≡ self.old) }
+        ensures { let added = marked octets.now begin end run in
+            self.new ≡ record self.old { items = self.old.items ++ added } }
     {
-        self.close_up();
-        append_marked(&mut self.items, octets, begin, end, run)
+        append_marked(&mut self.ring, octets, begin, end, run);
     }
 
     /// Takes the most items that fit in the buffer, which isn't empty, such that an end mark stands
@@ -189,16 +160,15 @@ impl Queue {
     pub fn read_into(&mut self, buf: &mut [u8]) -> Option<Piece>
         requires { 0 < length buf.old }
         ensures none { IsNone result ↔ (self.old.items ≡ []) }
-        ensures piece { result ≡ told (first_piece (length buf.old) self.old.items) }
+        ensures piece { result ≡ piece_told (first_piece (length buf.old) self.old.items) }
+        ensures longest { IsLongestPiece (length buf.old) self.old.items (first_piece (length buf.old) self.old.items) }
         ensures rest { self.old.items ≡ first_piece (length buf.old) self.old.items ++ self.new.items }
         ensures room { self.new.room ≡ self.old.room }
         ensures octets { let piece = first_piece (length buf.old) self.old.items in
             buf.new ≡ octets_of piece ++ drop (length piece) buf.old }
         ensures len { IfSome result (λ piece. (0 < piece.len) × (piece.len ≤ length buf.old)) }
     {
-        let taken = piece_of(&self.items[self.head..], buf.len());
-        copy_octets(taken, buf);
-        self.head += taken.len();
-        tell(taken)
+        let first = self.ring.pop_front()?;
+        Some(take_piece(&first, &mut self.ring, buf))
     }
 }

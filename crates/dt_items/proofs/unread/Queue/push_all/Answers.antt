@@ -1,13 +1,15 @@
-use Rattle.std.proofs.Common.{length, is_ok, ap, ◌∙◌, length-drop, arith}
-use Rattle.dt_items.proofs.Marks.{appended}
+use Rattle.std.proofs.Common.{length, ap, length-append, arith}
+use Rattle.dt_items.specs.Unread.{marked}
+use Rattle.dt_items.proofs.Marks.{length-marked}
 use Rattle.dt_items.proofs.unread.Queue.push_all.Goals as goal
 
 pub invariant_of-self : goal.invariant_of-self
 invariant_of-self c =
-    let q = c.self.inside in
-    let view = c.self.view_is ∙ c.close_up.ensures in
-    let unread = ap (λ b. length b.items) view in
+    let view = c.self.view_is in
+    let items = ap (λ b. length b.items) view in
     let room = ap (λ b. b.room) view in
-    let split = length-drop q.head q.items.items in
-    let longer = appended (is_ok c.append_marked.result) q.items.items c.append_marked.new.items.items c.args.octets.now c.args.begin c.args.end c.args.run c.append_marked.ensures in
-    (omega arith, omega arith, omega arith)
+    let long = length-marked c.args.octets.now c.args.begin c.args.end c.args.run in
+    let both = length-append c.self.inside.ring.items (marked c.args.octets.now c.args.begin c.args.end c.args.run) in
+    let now = ap (λ b. length b.items) c.append_marked.ensures in
+    let capacity = ap (λ b. b.capacity) c.append_marked.ensures in
+    (omega arith, omega arith)
