@@ -2,7 +2,7 @@
 use Rattle.std.proofs.Common.{◌≡◌, ℕ, zero, suc, ◌+◌, ◌<◌, ◌≤◌, inl, inr, Bool, true, false, ◌&&◌, ◌==◌, List, count_by, refl, ap, ◌∙◌, eq-eqb, arith}
 use Rattle.std.specs.List.{list_all, range_with_len}
 use Rattle.std.proofs.lemmas.Bool.{eqb-true, cases_eq}
-use Rattle.dt_cases.specs.declared.table.Row.{Row}
+use Rattle.dt_cases.specs.declared.rows.Row.{Row}
 use Rattle.dt_cases.specs.Tables.{meets, EachMeetsOne, is_covered}
 
 both : (a b : Bool) → (a && b) ≡ true → (a ≡ true) × (b ≡ true)

@@ -1,7 +1,7 @@
 -- Which rows of a table a key meets, and the rule that a table keeps.
 use Rattle.std.specs.Prelude.{ℕ, ◌<◌, ◌≡◌, ◌==◌, Bool, bit_and, List, map, filter, count_by}
 use Rattle.std.specs.List.{list_all, range_with_len}
-use Rattle.dt_cases.specs.declared.table.Row.{Row}
+use Rattle.dt_cases.specs.declared.rows.Row.{Row}
 
 -- A row meets a key where the key's bits under the row's mask are the row's value.
 abbrev pub meets : ℕ → Row → Bool

@@ -2,9 +2,9 @@
 //! its rule where each key meets exactly one row.
 #![tactic(auto)]
 
-mod table;
+mod rows;
 
-pub use table::{Row, covers, pick};
+pub use rows::{Row, covers, pick};
 
 #[cfg(test)]
 mod tests;

@@ -1,3 +1,5 @@
 pub mod Puts
 pub mod Writes
 pub mod Readings
+pub mod Spanning
+pub mod Answering

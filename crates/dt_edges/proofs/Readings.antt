@@ -46,8 +46,9 @@ tells_readings plan taken after a =
     ]
 
 -- what a reading by the plan does to what the clock tells
-pub reads_one : (clock : ClockInMemory) (reading : ℕ) → reading ≡ reading_at clock.plan clock.taken → ReadsOne reading (clock_in_memory clock) (clock_in_memory (clock_after clock))
-reads_one clock reading r = record {
+pub reads_one : (clock : ClockInMemory) (reading : ℕ) → 0 < length clock.plan → reading ≡ reading_at clock.plan clock.taken → ReadsOne reading (clock_in_memory clock) (clock_in_memory (clock_after clock))
+reads_one clock reading some r = record {
+  some = some;
   readings = notes_reading clock.plan clock.taken reading (next_count clock.taken) r refl;
   by_plan = reads_by_plan clock.plan clock.taken reading r;
   tells = tells_readings clock.plan clock.taken (next_count clock.taken) refl;

@@ -17,6 +17,7 @@ reading_at plan k = slice_index_or plan k (slice_index_or plan (length plan - 1)
 -- A reading: the next that is told, and the planned one where a plan is told. Who tells a plan goes on
 -- telling its readings while they are fewer than 2^64 - 1.
 pub record ReadsOne (reading : ℕ) (before after : ClockSight) : Type 0 where
+  pub some : IfSome before.plan (λ plan. 0 < length plan)
   pub readings : Notes reading before.readings after.readings
   pub by_plan : IfSome before.plan (λ plan. IfSome before.readings (λ earlier. reading ≡ reading_at plan (length earlier)))
   pub tells : IfSome before.plan (λ plan. IfSome before.readings (λ earlier. length earlier + 1 < last_count → IsSome after.readings))

@@ -23,6 +23,11 @@ abbrev pub CountsFaults : {T E : Type 0} → Result T E → ℕ → ℕ → Type
 CountsFaults (Ok _) before after = after ≡ before
 CountsFaults (Err _) before after = HasRisen before after
 
+-- A count of faults that a call raises by one where it fails, and else leaves.
+abbrev pub CountsOne : {T E : Type 0} → Result T E → ℕ → ℕ → Type 0
+CountsOne (Ok _) before after = after ≡ before
+CountsOne (Err _) before after = after ≡ next_count before
+
 -- whether the call of this number is among those that fail
 abbrev pub is_planned : List ℕ → ℕ → Bool
 is_planned failing call = list_any (λ number. number == call) failing

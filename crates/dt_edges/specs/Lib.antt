@@ -4,3 +4,4 @@ pub mod Sources
 pub mod Sinks
 pub mod Wires
 pub mod Clocks
+pub mod Spans

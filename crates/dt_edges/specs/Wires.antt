@@ -1,9 +1,11 @@
 -- What contracts see of a wire, and what its calls do to it.
-use Rattle.std.specs.Prelude.{ℕ, ◌+◌, ◌<◌, ◌≤◌, ◌≡◌, Bool, true, false, List, length, take, Option, Some, None, IfSome, IsSome, option_and_then, if◌then◌else◌, nat_lt}
-use Rattle.std.specs.List.{slice_get}
+use Rattle.std.specs.Prelude.{ℕ, ◌+◌, ◌<◌, ◌≤◌, ◌≡◌, ◌++◌, ◌&&◌, Bool, true, false, not, List, [], ◌∷◌, length, take, slice_get, Option, Some, None, IfSome, IsSome, Result, Ok, Err, if◌then◌else◌, nat_lt, nat_le}
+use Rattle.std.specs.List.{sum_by}
+use Rattle.std.specs.Option.{option_map, option_and_then}
 use Rattle.dt_edges.specs.declared.addresses.Address.{Address}
 use Rattle.dt_edges.specs.declared.addresses.Peer.{Peer}
-use Rattle.dt_edges.specs.Counts.{last_count, next_count, HasRisen, is_planned}
+use Rattle.dt_edges.specs.declared.failures.Failed.{Failed}
+use Rattle.dt_edges.specs.Counts.{last_count, next_count, as_count, HasRisen, is_planned}
 use Rattle.dt_edges.specs.Telling.{Notes, NotesNothing}
 
 -- octets that passed on a link
@@ -60,12 +62,12 @@ abbrev pub cut_to : ℕ → Option Datagram → Option Datagram
 cut_to room None = None
 cut_to room (Some d) = Some (record { link = d.link; octets = take room d.octets })
 
--- the entry behind those that were used, and nothing where all are used
-abbrev pub entry_after : List (Option Datagram) → ℕ → Option Datagram
-entry_after entries used = option_and_then (λ entry. entry) (slice_get entries used)
+-- the entry of this number, counted from 0, and nothing where there are fewer
+abbrev pub entry_at : List (Option Datagram) → ℕ → Option Datagram
+entry_at entries k = option_and_then (λ entry. entry) (slice_get entries k)
 
 -- how many entries are used after one more take
-abbrev pub used_after : List (Option Datagram) → ℕ → ℕ
+abbrev pub used_after : {A : Type 0} → List A → ℕ → ℕ
 used_after entries used = if nat_lt used (length entries) then used + 1 else used
 
 -- OPEN
@@ -109,7 +111,7 @@ pub record SameGiving (w v : WireSight) : Type 0 where
 -- handed over is told while the count of takes is below 2^64 - 1.
 pub record TakesOne (room : ℕ) (handed : Option Datagram) (w v : WireSight) : Type 0 where
   pub taken : Notes handed w.taken v.taken
-  pub plan : IfSome w.plan (λ plan. w.takes < last_count → (is_planned plan.failing_takes (w.takes + 1) ≡ false) × (handed ≡ cut_to room (entry_after plan.entries w.used)) × (v.used ≡ used_after plan.entries w.used))
+  pub plan : IfSome w.plan (λ plan. w.takes < last_count → (is_planned plan.failing_takes (w.takes + 1) ≡ false) × (handed ≡ cut_to room (entry_at plan.entries w.used)) × (v.used ≡ used_after plan.entries w.used))
   pub tells : IfSome w.plan (λ plan. v.takes < last_count → IsSome v.taken)
   pub takes : v.takes ≡ next_count w.takes
   pub faults : v.take_faults ≡ w.take_faults
@@ -152,3 +154,121 @@ pub record GiveFails (w v : WireSight) : Type 0 where
   pub gives : v.gives ≡ next_count w.gives
   pub faults : HasRisen w.give_faults v.give_faults
   pub same : SameTaking w v
+
+-- IN MEMORY
+
+-- The entries that come, how many of them were used, and how many takes were answered. What these were
+-- answered is told until their count stands still.
+pub record Arrivals : Type 0 where
+  pub entries : List (Option Datagram)
+  pub used : ℕ
+  pub answered : ℕ
+  pub taken : Option (List (Option Datagram))
+
+-- what gives have taken, and the room for it: the most octets in all, and the most datagrams
+pub record Departures : Type 0 where
+  pub room : ℕ
+  pub given : List Datagram
+
+pub record WireInMemory : Type 0 where
+  -- the last open that answered Ok, where it is told
+  pub opening : Option (Option Opening)
+  pub open_fails : Bool
+  -- the numbers of the takes and of the gives that fail
+  pub failing_takes : List ℕ
+  pub failing_gives : List ℕ
+  -- what the takes find, and how many of these entries were used
+  pub entries : List (Option Datagram)
+  pub used : ℕ
+  -- what takes have handed over, told until the count of takes stands still
+  pub taken : Option (List (Option Datagram))
+  -- what gives have taken; none where nothing is kept of them
+  pub departures : Option Departures
+  pub takes : ℕ
+  pub gives : ℕ
+  pub take_faults : ℕ
+  pub give_faults : ℕ
+
+-- how many octets these datagrams have
+abbrev pub octets_in : List Datagram → ℕ
+octets_in datagrams = sum_by (λ d. length d.octets) datagrams
+
+-- there is room for one more datagram of so many octets
+abbrev pub has_room : Departures → ℕ → Bool
+has_room departures n = nat_le (octets_in departures.given + n) departures.room && nat_lt (length departures.given) departures.room
+
+-- a give of so many octets lacks room; a wire that keeps nothing of gives needs none
+abbrev pub lacks_room : Option Departures → ℕ → Bool
+lacks_room None n = false
+lacks_room (Some departures) n = not (has_room departures n)
+
+-- what gives have taken, none where nothing is kept of them
+abbrev pub kept_given : Option Departures → List Datagram
+kept_given None = []
+kept_given (Some departures) = departures.given
+
+-- A wire that keeps nothing of gives fails by its lists alone, and tells its plan.
+abbrev pub plan_of : Option Departures → WireInMemory → Option Plan
+plan_of None w = Some (record { entries = w.entries; failing_takes = w.failing_takes; failing_gives = w.failing_gives; open_fails = w.open_fails })
+plan_of (Some _) w = None
+
+abbrev pub wire_in_memory : WireInMemory → WireSight
+wire_in_memory w = record {
+  taken = w.taken;
+  given = option_map (λ departures. departures.given) w.departures;
+  opening = w.opening;
+  plan = plan_of w.departures w;
+  takes = as_count w.takes;
+  gives = as_count w.gives;
+  used = w.used;
+  take_faults = as_count w.take_faults;
+  give_faults = as_count w.give_faults;
+}
+
+-- the most peers whose opening a wire in memory tells: as many as there are links
+abbrev pub most_told_peers : ℕ
+most_told_peers = 256
+
+-- what a wire in memory tells of an opening
+abbrev pub told_opening : Opening → Option (Option Opening)
+told_opening opening = if nat_le (length opening.peers) most_told_peers then Some (Some opening) else None
+
+-- one more answer at the end, where a count of calls that became this is below its greatest value
+abbrev pub noted_until : ℕ → Option Datagram → Option (List (Option Datagram)) → Option (List (Option Datagram))
+noted_until calls answer taken = if nat_lt calls last_count then option_map (λ xs. xs ++ answer ∷ []) taken else None
+
+-- arrivals after one more take was answered, into a buffer of this room
+abbrev pub arrivals_after : ℕ → Arrivals → Arrivals
+arrivals_after room a = record {
+  entries = a.entries;
+  used = used_after a.entries a.used;
+  answered = next_count a.answered;
+  taken = noted_until (next_count a.answered) (cut_to room (entry_at a.entries a.used)) a.taken;
+}
+
+-- a wire in memory after an open
+abbrev pub opened_after : Result (Unit {0}) Failed → Opening → WireInMemory → WireInMemory
+opened_after (Ok _) opening w = record w { opening = told_opening opening }
+opened_after (Err _) opening w = record w { take_faults = next_count w.take_faults }
+
+-- a wire in memory after a take into a buffer of this room
+abbrev pub taken_after : Result (Option (ℕ × ℕ)) Failed → ℕ → WireInMemory → WireInMemory
+taken_after (Ok _) room w = record w {
+  used = used_after w.entries w.used;
+  taken = noted_until (next_count w.takes) (cut_to room (entry_at w.entries w.used)) w.taken;
+  takes = next_count w.takes;
+}
+taken_after (Err _) room w = record w {
+  taken = if nat_lt (next_count w.takes) last_count then w.taken else None;
+  takes = next_count w.takes;
+  take_faults = next_count w.take_faults;
+}
+
+-- departures with one more datagram
+abbrev pub departed : Datagram → Departures → Departures
+departed datagram d = record d { given = d.given ++ datagram ∷ [] }
+
+-- a wire in memory after a give of this datagram
+abbrev pub given_after : Result (Unit {0}) Failed → Datagram → WireInMemory → WireInMemory
+given_after (Ok _) datagram w = record w { departures = option_map (departed datagram) w.departures; gives = next_count w.gives }
+given_after (Err _) datagram w = record w { gives = next_count w.gives; give_faults = next_count w.give_faults }

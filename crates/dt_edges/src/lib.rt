@@ -6,13 +6,17 @@ mod addresses;
 mod buffers;
 mod clocks;
 mod failures;
+mod inboxes;
 mod mem_clocks;
 mod mem_sinks;
 mod mem_sources;
+mod mem_wires;
+mod outboxes;
 mod planning;
 mod readers;
 mod sinks;
 mod sources;
+mod spans;
 mod wires;
 mod writers;
 
@@ -23,8 +27,12 @@ pub use failures::Failed;
 pub use mem_clocks::MemClock;
 pub use mem_sinks::MemSink;
 pub use mem_sources::MemSource;
+pub use mem_wires::MemWire;
 pub use readers::ReaderSource;
 pub use sinks::{Sink, put_all};
 pub use sources::Source;
 pub use wires::Wire;
 pub use writers::WriterSink;
+
+#[cfg(test)]
+mod tests;

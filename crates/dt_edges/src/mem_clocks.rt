@@ -58,6 +58,7 @@ impl Clock for MemClock {
 
     /// Gives the next of the readings, and the last one where all were given.
     fn now(&mut self) -> u64
+        ensures some { 0 < length self.old.plan }
         ensures planned { result ≡ reading_at self.old.plan self.old.taken }
         ensures after { self.new ≡ clock_after self.old }
     {

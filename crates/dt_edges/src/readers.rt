@@ -1,4 +1,6 @@
-ghost use Rattle.std.specs.Prelude.{◌≡◌};
+ghost use Rattle.std.specs.Prelude.{◌≡◌, ◌<◌, ◌≤◌, length, IfOk};
+ghost use Rattle.std.specs.Io.KnownBytes.{ReadConsumes};
+ghost use Rattle.dt_edges.specs.Counts.{CountsOne};
 
 use crate::failures::Failed;
 use crate::sources::Source;
@@ -31,7 +33,12 @@ impl<R: Read> Source for ReaderSource<R> {
 
     /// Reads once. A read that fails counts as one fault; one that was interrupted by a signal has
     /// failed, too.
-    fn take(&mut self, buf: &mut [u8]) -> Result<usize, Failed> {
+    fn take(&mut self, buf: &mut [u8]) -> Result<usize, Failed>
+        requires { 0 < length buf.old }
+        ensures within { IfOk result (λ n. n ≤ length buf.old) }
+        ensures reads { ReadConsumes (R.remaining self.old.reader) (R.remaining self.new.reader) result buf.new }
+        ensures counted { CountsOne result self.old.faults self.new.faults }
+    {
         match self.reader.read(buf) {
             Ok(n) => Ok(n),
             Err(_) => {

@@ -1,4 +1,6 @@
-ghost use Rattle.std.specs.Prelude.{◌≡◌, []};
+ghost use Rattle.std.specs.Prelude.{◌≡◌, ◌<◌, ◌≤◌, [], length, IfOk};
+ghost use Rattle.std.specs.Io.KnownBytes.{WriteAppends};
+ghost use Rattle.dt_edges.specs.Counts.{CountsOne};
 
 use crate::failures::Failed;
 use crate::sinks::Sink;
@@ -40,7 +42,13 @@ impl<W: Write> Sink for WriterSink<W> {
     /// Writes once. A write that fails or takes nothing counts as one fault; one that was interrupted
     /// by a signal has failed, too.
     #[tactic(auto, using(crate::proofs::Writes::took_none))]
-    fn put(&mut self, piece: &[u8]) -> Result<usize, Failed> {
+    fn put(&mut self, piece: &[u8]) -> Result<usize, Failed>
+        requires { 0 < length piece.now }
+        ensures some { IfOk result (λ n. 0 < n) }
+        ensures within { IfOk result (λ n. n ≤ length piece.now) }
+        ensures writes { WriteAppends (W.contents self.old.writer) (W.contents self.new.writer) result piece.now }
+        ensures counted { CountsOne result self.old.faults self.new.faults }
+    {
         match self.writer.write(piece) {
             Ok(n) if n > 0 => Ok(n),
             _ => {

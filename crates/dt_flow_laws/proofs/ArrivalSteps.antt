@@ -5,11 +5,15 @@ use Rattle.std.proofs.lemmas.List.{take-append-drop, length-take-le}
 use Rattle.std.proofs.lemmas.Bool.{cases_Bool}
 use Rattle.std.proofs.lemmas.Bool.Decides.{nat_tests}
 use Rattle.dt_flow_model.specs.Acting.{ack_of_record, acked_flow, after_ack, after_data_packet, after_meet_packet, after_reading, after_receiver_act, after_taking, given_by, made_by_data, made_by_meet, made_by_receiver, record_for, reply_of}
+use Rattle.dt_flow_model.specs.Facts.{Facts, Fits}
+use Rattle.dt_flow_model.specs.SendActs.{IsIdle}
+use Rattle.dt_units.specs.Limits.{IsWithinLimits}
 use Rattle.dt_flow_model.specs.Flow.{Ack, Data, FlowState, Meet, Packet, receiver_reading, sender_reading}
-use Rattle.dt_flow_model.specs.Ledger.{note_read, take_rows}
-use Rattle.dt_flow_model.specs.Numbering.{against_expected, number_of}
-use Rattle.dt_flow_model.specs.ReceiveRecord.{IsCurrent, IsLive, ReceiveRecord, Receiver, action_of, action_with, action_without, after_action, answer_to, expected_of, free_of, meet_answer, opens_window, owing, record_read, recv_due_of, standing_told}
-use Rattle.dt_flow_model.specs.SendRecord.{Segment, SendRecord, acknowledged, after_split, before_all, end_of, fits, new_record, next_from, put}
+use Rattle.dt_flow_model.specs.Ledger.{note_read, take_rows, top}
+use Rattle.dt_flow_model.specs.Numbering.{number_of, order_of}
+use Rattle.dt_units.specs.Numbers.{relation_of}
+use Rattle.dt_flow_model.specs.ReceiveRecord.{IsCurrent, IsLive, ReceiveRecord, Receiver, action_of, action_with, action_without, after_action, answer_to, expected_of, free_of, expected_told, opens_window, owing, record_read, recv_due_of, standing_told}
+use Rattle.dt_flow_model.specs.SendRecord.{Segment, SendRecord, acknowledged, after_split, before_all, end_of, fits, held_of, new_record, next_from, put}
 use Rattle.dt_flow_model.specs.Steps.{IsAlive, IsSameRecord, IsStepOrNothing, Step, Steps}
 use Rattle.dt_flow_model.specs.declared.acts.RecvKind.{RecvKind}
 use Rattle.dt_flow_model.specs.declared.arrivals.Action.{Action}
@@ -22,7 +26,8 @@ use Rattle.dt_units.specs.declared.parameters.Params.{Params}
 use Rattle.dt_flow_model.specs.Steps as F
 use Rattle.dt_flow_model.specs.declared.acts.RecvKind.TheVariants as K
 use Rattle.dt_flow_laws.proofs.ActSteps.{le_true}
-use Rattle.dt_flow_laws.proofs.ReceiverSteps.{is_above}
+use Rattle.dt_flow_laws.proofs.Modular.{is_above, is_equal}
+use Rattle.dt_flow_laws.proofs.Ordering.{above_differs, ack_end, data_order}
 
 at_least : (n m : ℕ) → nat_lt n m ≡ false → m ≤ n
 at_least n m h = grind (arith, nat_tests)
@@ -33,16 +38,13 @@ below n m h = grind (arith, nat_tests)
 self_same : (n : ℕ) → (n == n) ≡ true
 self_same n = grind (arith, nat_tests)
 
-apart : (n m : ℕ) → m < n → (n == m) ≡ false
-apart n m h = grind (arith, nat_tests)
-
 same_record : (y : Option ReceiveRecord) → IsSameRecord y y
 same_record None = tt
 same_record (Some y) = (refl, refl)
 
 -- A DATA PACKET
 
-module _ (p : Params) (s : FlowState) (q : Packet) (drf : Bool) (items : List Item) (kind : q.kind ≡ Data drf items) (some : 0 < length items) (alive : IsAlive p s q) (awake : s.receiver_until ≤ receiver_reading s) where
+module _ (p : Params) (s : FlowState) (q : Packet) (drf : Bool) (items : List Item) (kind : q.kind ≡ Data drf items) (some : 0 < length items) (alive : IsAlive p s q) (awake : s.receiver_until ≤ receiver_reading s) (f : Facts p s) (h : Fits p s q) where
   abbrev the_receiver : Option ReceiveRecord → Action → Receiver
   the_receiver standing action = after_action p (receiver_reading s) s.unread standing q.number items action
 
@@ -60,34 +62,37 @@ module _ (p : Params) (s : FlowState) (q : Packet) (drf : Bool) (items : List It
   without true true same none = inl (F.accepts_first s q items _ p.rcap none awake (kind ∙ ap (λ (b : Bool). Data b items) (sym same)) some alive)
   without true false same none = inl (F.tells_number s q None (free_of p s.unread) (rw (kind, ← same) refl) alive (rw none tt))
 
-  with_it : (y : ReceiveRecord) (relation : Relation) (flag fits : Bool) → flag ≡ drf → s.receiver ≡ Some y → IsLive p (receiver_reading s) y → against_expected q.number y.expected ≡ relation
+  ordered : (y : ReceiveRecord) → s.receiver ≡ Some y → IsLive p (receiver_reading s) y → relation_of q.number y.expected ≡ order_of q.place (top s.given)
+  ordered y is live = data_order p s q drf items y kind alive f h is live
+
+  with_it : (y : ReceiveRecord) (relation : Relation) (flag fits : Bool) → flag ≡ drf → s.receiver ≡ Some y → IsLive p (receiver_reading s) y → relation_of q.number y.expected ≡ relation
       → IsStepOrNothing p s q (the_made (Some y) (action_with relation flag fits)) (the_flow (Some y) (action_with relation flag fits))
   with_it y Below flag fits same is live e = inr (inl (rw (self_same y.expected) (F.tells_expected s y None (free_of p s.unread) (free_of p s.unread) is live)))
-  with_it y Equal flag true same is live e = inl (F.accepts s y q drf false items _ is live kind some alive (inl (e, refl)))
+  with_it y Equal flag true same is live e = inl (F.accepts s y q drf false items _ is live kind some alive (inl (is_equal q.place (top s.given) (sym (ordered y is live) ∙ e), refl)))
   with_it y Equal flag false same is live e = inr (inl (rw (self_same y.expected) (F.tells_expected s y None (free_of p s.unread) (free_of p s.unread) is live)))
-  with_it y Above true true same is live e = inl (F.accepts s y q drf true items _ is live kind some alive (inr (sym same, e, refl)))
+  with_it y Above true true same is live e = inl (F.accepts s y q drf true items _ is live kind some alive (inr (sym same, is_above q.place (top s.given) (sym (ordered y is live) ∙ e), refl)))
   with_it y Above true false same is live e =
-      let no : (q.number == y.expected) ≡ false = apart q.number y.expected (is_above q.number y.expected e) in
+      let no : (q.number == y.expected) ≡ false = above_differs p s q drf items y kind alive f h is live (is_above q.place (top s.given) (sym (ordered y is live) ∙ e)) in
       inl (rw no (F.tells_number s q (Some (record y { told = free_of p s.unread })) (free_of p s.unread) (rw (kind, ← same) refl) alive (rw is (refl, refl))))
   with_it y Above false fits same is live e = inr (inl (rw (self_same y.expected) (F.tells_expected s y None (free_of p s.unread) (free_of p s.unread) is live)))
 
   data_goes : (standing : Option ReceiveRecord) → s.receiver ≡ standing → IsCurrent p (receiver_reading s) standing
       → IsStepOrNothing p s q (the_made standing (action_of (expected_of standing) drf q.number (length items) (free_of p s.unread))) (the_flow standing (action_of (expected_of standing) drf q.number (length items) (free_of p s.unread)))
   data_goes None is current = without drf (nat_le (length items) (free_of p s.unread)) refl is
-  data_goes (Some y) is current = with_it y (against_expected q.number y.expected) drf (nat_le (length items) (free_of p s.unread)) refl is current refl
+  data_goes (Some y) is current = with_it y (relation_of q.number y.expected) drf (nat_le (length items) (free_of p s.unread)) refl is current refl
 
-pub data_arrives : (p : Params) (s : FlowState) (q : Packet) (drf : Bool) (items : List Item) → q.kind ≡ Data drf items → 0 < length items → IsAlive p s q → IsCurrent p (receiver_reading s) s.receiver
+pub data_arrives : (p : Params) (s : FlowState) (q : Packet) (drf : Bool) (items : List Item) → q.kind ≡ Data drf items → 0 < length items → IsAlive p s q → IsCurrent p (receiver_reading s) s.receiver → Facts p s → Fits p s q
     → IsStepOrNothing p s q (made_by_data p s q drf items) (after_data_packet p s q drf items)
-data_arrives p s q drf items kind some alive current =
+data_arrives p s q drf items kind some alive current f h =
     elim (cases_Bool (nat_lt (receiver_reading s) s.receiver_until)) [
       | inl silent ↦ rw silent (inr (inr (refl, refl)))
-      | inr awake ↦ rw awake (data_goes p s q drf items kind some alive (at_least (receiver_reading s) s.receiver_until awake) s.receiver refl current)
+      | inr awake ↦ rw awake (data_goes p s q drf items kind some alive (at_least (receiver_reading s) s.receiver_until awake) f h s.receiver refl current)
     ]
 
 -- A RENDEZVOUS PACKET
 
 meet_goes : (p : Params) (s : FlowState) (q : Packet) (standing : Option ReceiveRecord) → q.kind ≡ Meet → IsAlive p s q → s.receiver ≡ standing → IsCurrent p (receiver_reading s) standing
-    → IsStepOrNothing p s q (reply_of standing s q (meet_answer standing q.number (free_of p s.unread))) (record s { receiver = standing_told standing (free_of p s.unread) })
+    → IsStepOrNothing p s q (reply_of standing s q (expected_told standing q.number (free_of p s.unread))) (record s { receiver = standing_told standing (free_of p s.unread) })
 meet_goes p s q None kind alive is current = inl (F.tells_number s q None (free_of p s.unread) (rw kind refl) alive (rw is tt))
 meet_goes p s q (Some y) kind alive is current = inr (inl (rw (self_same y.expected) (F.tells_expected s y None (free_of p s.unread) (free_of p s.unread) is current)))
 
@@ -157,22 +162,22 @@ no_end p k left (g ∷ gs) (h ∷ gone) rest none split same =
           no_end p k (end_of g) gs gone rest (none_later g (acknowledged p k (end_of g) gs) (rw n at none)) split' (subst (λ (u : Segment). k ≡ number_of p (next_from (end_of u) gone)) (sym same_g) same)
     ]
 
-ack_split : (p : Params) (s : FlowState) (x : SendRecord) (q : Packet) (window : ℕ) (o : Option (List Segment × List Segment)) → s.sender ≡ Some x → q.kind ≡ Ack window → IsAlive p s q → acknowledged p q.number x.left x.outstanding ≡ o
+ack_split : (p : Params) (s : FlowState) (x : SendRecord) (q : Packet) (window : ℕ) (o : Option (List Segment × List Segment)) → IsWithinLimits p → s.sender ≡ Some x → IsIdle p (sender_reading s) (Some x) → q.kind ≡ Ack window → IsAlive p s q → Facts p s → Fits p s q → acknowledged p q.number x.left x.outstanding ≡ o
     → IsStepOrNothing p s q [] (acked_flow s (after_split x window o))
-ack_split p s x q window None is kind alive e = inr (inr (refl, refl))
-ack_split p s x q window (Some w) is kind alive e =
-    let h = split_is p q.number x.left x.outstanding w e in
-    inl (F.is_acked s x q window w.0 w.1 (next_from x.left w.0 + window) is kind alive h.0 h.1)
+ack_split p s x q window None limits is idle kind alive f h e = inr (inr (refl, refl))
+ack_split p s x q window (Some w) limits is idle kind alive f h e =
+    let k = split_is p q.number x.left x.outstanding w e in
+    inl (F.is_acked s x q window w.0 w.1 (next_from x.left w.0 + window) is kind alive k.0 (ack_end p limits s x q window w.0 w.1 is idle kind alive f h k.0 k.1))
 
-ack_goes : (p : Params) (s : FlowState) (sender : Option SendRecord) (q : Packet) (window : ℕ) → s.sender ≡ sender → q.kind ≡ Ack window → IsAlive p s q → IsStepOrNothing p s q [] (ack_of_record p s sender q.number window)
-ack_goes p s None q window is kind alive = inr (inr (refl, refl))
-ack_goes p s (Some x) q window is kind alive = ack_split p s x q window (acknowledged p q.number x.left x.outstanding) is kind alive refl
+ack_goes : (p : Params) (s : FlowState) (sender : Option SendRecord) (q : Packet) (window : ℕ) → IsWithinLimits p → s.sender ≡ sender → IsIdle p (sender_reading s) sender → q.kind ≡ Ack window → IsAlive p s q → Facts p s → Fits p s q → IsStepOrNothing p s q [] (ack_of_record p s sender q.number window)
+ack_goes p s None q window limits is idle kind alive f h = inr (inr (refl, refl))
+ack_goes p s (Some x) q window limits is idle kind alive f h = ack_split p s x q window (acknowledged p q.number x.left x.outstanding) limits is idle kind alive f h refl
 
-pub ack_arrives : (p : Params) (s : FlowState) (q : Packet) (window : ℕ) → q.kind ≡ Ack window → IsAlive p s q → IsStepOrNothing p s q [] (after_ack p s q window)
-ack_arrives p s q window kind alive =
+pub ack_arrives : (p : Params) (s : FlowState) (q : Packet) (window : ℕ) → IsWithinLimits p → q.kind ≡ Ack window → IsAlive p s q → IsIdle p (sender_reading s) s.sender → Facts p s → Fits p s q → IsStepOrNothing p s q [] (after_ack p s q window)
+ack_arrives p s q window limits kind alive idle f h =
     elim (cases_Bool (nat_lt (sender_reading s) s.sender_until)) [
       | inl silent ↦ rw silent (inr (inr (refl, refl)))
-      | inr awake ↦ rw awake (ack_goes p s s.sender q window refl kind alive)
+      | inr awake ↦ rw awake (ack_goes p s s.sender q window limits refl idle kind alive f h)
     ]
 
 -- THE RECEIVER'S ACTS
@@ -232,10 +237,10 @@ read_step p s count le =
 one : (p : Params) (s after : FlowState) → Step p s [] [] after → Steps p s [] [] after
 one p s after h = F.more h F.none
 
-take_goes : (p : Params) (s : FlowState) (items : List Item) (sender : Option SendRecord) → s.sender ≡ sender → 0 < p.window → s.sender_until ≤ sender_reading s
+take_goes : (p : Params) (s : FlowState) (items : List Item) (sender : Option SendRecord) → s.sender ≡ sender → 0 < p.window → s.sender_until ≤ sender_reading s → held_of (record_for p (sender_reading s) sender) + length items ≤ p.cap
     → Steps p s [] [] (record s { sender = Some (put items (record_for p (sender_reading s) sender)); taken = take_rows s.sender_life items s.taken })
-take_goes p s items None is pos awake = F.more (F.makes s p.window is awake pos) (one p _ _ (F.takes (record s { sender = Some (new_record p (sender_reading s) []) }) (new_record p (sender_reading s) []) items refl))
-take_goes p s items (Some x) is pos awake = one p s _ (F.takes s x items is)
+take_goes p s items None is pos awake room = F.more (F.makes s p.window is awake pos) (one p _ _ (F.takes (record s { sender = Some (new_record p (sender_reading s) []) }) (new_record p (sender_reading s) []) items refl room))
+take_goes p s items (Some x) is pos awake room = one p s _ (F.takes s x items is room)
 
-pub take_steps : (p : Params) (s : FlowState) (items : List Item) → 0 < p.window → s.sender_until ≤ sender_reading s → Steps p s [] [] (after_taking p s items)
-take_steps p s items pos awake = take_goes p s items s.sender refl pos awake
+pub take_steps : (p : Params) (s : FlowState) (items : List Item) → 0 < p.window → s.sender_until ≤ sender_reading s → held_of (record_for p (sender_reading s) s.sender) + length items ≤ p.cap → Steps p s [] [] (after_taking p s items)
+take_steps p s items pos awake room = take_goes p s items s.sender refl pos awake room

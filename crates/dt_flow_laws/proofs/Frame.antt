@@ -122,7 +122,7 @@ module _ (c : Params) (now z until life : ℕ) (run : Option Run) (xs ys : List 
   y_moved (Some y) le h = record {
     accepted = h.accepted;
     touched = h.touched;
-    receiving = λ live. let r = h.receiving live in (r.0, r.1, record { offset = r.2.offset; place = r.2.place; number = r.2.number; covered = λ p from to. done_over xs ys over given p (omega arith) (r.2.covered p from to) });
+    receiving = λ live. let r = h.receiving live in (r.0, r.1, record { offset = r.2.offset; some = r.2.some; place = r.2.place; number = r.2.number; covered = λ p from to. done_over xs ys over given p (omega arith) (r.2.covered p from to) });
   }
 
   pub rest_moved : (y : Option ReceiveRecord) → SameFirsts xs ys → ((p : ℕ) → (row_at ys p).fate ≡ Acked → IsGiven given p) → ReceiveSide c now z until life run xs given y → ReceiveSide c now z until life run ys given y
@@ -228,7 +228,7 @@ later_run None run' h r e = absurd cc
 later_run (Some q) None h r e = elim h [ ]
 later_run (Some q) (Some r') h r e = let same : q ≡ r = cc in (r', refl, rw (← same) h.0, rw (← same) h.1, rw (← same) h.2)
 
-earlier_run : (run run' : Option Run) → Later run run' → (q : Run) → run ≡ Some q → (r' : Run) → run' ≡ Some r' → (r'.base ≡ q.base) × (q.sent ≤ r'.sent) × (r'.began ≡ q.began)
+pub earlier_run : (run run' : Option Run) → Later run run' → (q : Run) → run ≡ Some q → (r' : Run) → run' ≡ Some r' → (r'.base ≡ q.base) × (q.sent ≤ r'.sent) × (r'.began ≡ q.began)
 earlier_run run run' h q e r' e' = let k = later_run run run' h q e in let same : k.0 ≡ r' = cc (k.1, e') in rw (← same) (k.2, k.3, k.4)
 
 module _ (c : Params) (now z until life : ℕ) (run run' : Option Run) (taken : List Taken) (given : List Given) (later : Later run run') (began : (r : Run) → run' ≡ Some r → r.began ≤ r.sent) (sent : firsts_end run' ≤ suc now) where
@@ -239,7 +239,7 @@ module _ (c : Params) (now z until life : ℕ) (run run' : Option Run) (taken : 
     touched = h.touched;
     receiving = λ live.
         let q = h.receiving live in let k = later_run run run' later q.0 q.1 in
-        (k.0, k.1, record { offset = q.2.offset; place = rw k.2 q.2.place; number = q.2.number; covered = λ p from to. q.2.covered p (omega arith) to });
+        (k.0, k.1, record { offset = q.2.offset; some = q.2.some; place = rw k.2 q.2.place; number = q.2.number; covered = λ p from to. q.2.covered p (omega arith) to });
   }
 
   pub rest_on : (y : Option ReceiveRecord) → ReceiveSide c now z until life run taken given y → ReceiveSide c now z until life run' taken given y
@@ -295,6 +295,7 @@ module _ (c : Params) (now z until life : ℕ) (run : Option Run) (r : Run) (tak
 -- packets
 kind_over : (c : Params) (xs ys : List Taken) → KeepsRows xs ys → (p : Packet) (kind : Kind) → KindFacts c xs p kind → KindFacts c ys p kind
 kind_over c xs ys o p (Data drf items) h = record {
+  some = h.some;
   first = h.first;
   firsts = λ k lt. over_first xs ys o (p.place + k) h.first (h.firsts k lt);
   items_are = λ k lt. over_item xs ys o (p.place + k) h.first (h.firsts k lt) ∙ h.items_are k lt;
@@ -311,7 +312,7 @@ covers_over xs ys o given given' more r r' same p within (Ack window) h = λ q f
 covers_over xs ys o given given' more r r' same p within Meet h = λ q from to. over_done xs ys o q (omega arith) (h q (omega arith) to)
 
 -- the origin goes by when the run began
-present_same : (c : Params) (r r' : Run) (birth : ℕ) (kind : Kind) → r'.began ≡ r.began → IsPresent c r birth kind → IsPresent c r' birth kind
+pub present_same : (c : Params) (r r' : Run) (birth : ℕ) (kind : Kind) → r'.began ≡ r.began → IsPresent c r birth kind → IsPresent c r' birth kind
 present_same c r r' birth (Data drf items) e h = omega arith
 present_same c r r' birth (Ack window) e h = omega arith
 present_same c r r' birth Meet e h = omega arith
@@ -321,7 +322,7 @@ older_same c r r' birth (Data drf items) e h = omega arith
 older_same c r r' birth (Ack window) e h = omega arith
 older_same c r r' birth Meet e h = omega arith
 
-not_both : (c : Params) (r : Run) (birth : ℕ) (kind : Kind) → 0 < c.mpl → IsPresent c r birth kind → IsOlder c r birth kind → ⊥
+pub not_both : (c : Params) (r : Run) (birth : ℕ) (kind : Kind) → 0 < c.mpl → IsPresent c r birth kind → IsOlder c r birth kind → ⊥
 not_both c r birth (Data drf items) pos h k = omega arith
 not_both c r birth (Ack window) pos h k = omega arith
 not_both c r birth Meet pos h k = omega arith
@@ -358,7 +359,7 @@ fresh_birth c now run r (Data drf items) birth pos h free e = omega (arith, dead
 fresh_birth c now run r (Ack window) birth pos h free e = omega (arith, dead c now run (Ack window) birth h free)
 fresh_birth c now run r Meet birth pos h free e = omega (arith, dead c now run Meet birth h free)
 
-older : (c : Params) (now : ℕ) (run : Option Run) (r : Run) (kind : Kind) (birth : ℕ) → birth < births_end c run kind → free_from c run ≤ now → r.began ≡ now → IsOlder c r birth kind
+pub older : (c : Params) (now : ℕ) (run : Option Run) (r : Run) (kind : Kind) (birth : ℕ) → birth < births_end c run kind → free_from c run ≤ now → r.began ≡ now → IsOlder c r birth kind
 older c now None r (Data drf items) birth h free e = absurd (omega arith)
 older c now None r (Ack window) birth h free e = absurd (omega arith)
 older c now None r Meet birth h free e = absurd (omega arith)
@@ -415,6 +416,23 @@ made_now c now run r taken given p pos is began born within birth kind w = recor
 pub run_now : (c : Params) (run : Option Run) (now : ℕ) → firsts_end run ≤ suc now → free_from c run ≤ now + send_time c
 run_now c None now h = omega arith
 run_now c (Some r) now h = omega arith
+
+-- the receive record changes, or the moment until which its station is silent, and nothing else
+pub rest_with : (c : Params) (now z until until' life : ℕ) (run : Option Run) (taken : List Taken) (given : List Given) (y y' : Option ReceiveRecord) → ReceiveSide c now z until life run taken given y → ReceiverFacts c now z until' run taken given y' → ReceiveSide c now z until' life run taken given y'
+rest_with c now z until until' life run taken given y y' f ok = record {
+  sent_now = f.sent_now;
+  began = f.began;
+  first_end = f.first_end;
+  firsts = f.firsts;
+  given_facts = f.given_facts;
+  moments = f.moments;
+  last_now = f.last_now;
+  last_before = f.last_before;
+  record_facts = ok;
+  rising = f.rising;
+  skipped = f.skipped;
+  acked = f.acked;
+}
 
 -- the sender restarts
 pub rest_reborn : (c : Params) (now z until life : ℕ) (run : Option Run) (taken : List Taken) (given : List Given) (y : Option ReceiveRecord) → ReceiveSide c now z until life run taken given y → ReceiveSide c now z until (life + 1) run taken given y

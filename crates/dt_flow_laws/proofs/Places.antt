@@ -1,55 +1,58 @@
--- The place of a segment that first goes out, told from the ledger and the run alone, is its place by what the record holds.
-use Rattle.std.proofs.Common.{Bool, ℕ, zero, suc, ◌+◌, ◌<◌, ◌≡◌, List, [], ◌∷◌, ◌++◌, length, map, Option, Some, None, refl, ap, ◌∙◌, subst, arith, length-append}
+-- The place of a segment that first goes out is that of the leftmost open octet without a first moment; and the tag of each packet that an act or a reply made is its place.
+use Rattle.std.proofs.Common.{Bool, ℕ, ◌+◌, ◌-◌, ◌<◌, ◌≤◌, ◌≡◌, List, [], ◌∷◌, ◌++◌, length, map, Option, Some, None, refl, ap, ◌∙◌, subst, arith, length-append, append_assoc}
 use Rattle.dt_flow_model.specs.Acting.{after_act, made_by_act}
-use Rattle.dt_flow_model.specs.Facts.{AllPast, Chain, Facts, SendSide, open_rows}
-use Rattle.dt_flow_model.specs.Flow.{FlowState, Packet, ack_place, place_of, sender_reading, tag_of, told_place}
-use Rattle.dt_flow_model.specs.Ledger.{first_open, open_row}
+use Rattle.dt_flow_model.specs.Facts.{AllPast, Chain, CrossingsOf, Facts, SendSide, open_rows, rows_out}
+use Rattle.dt_flow_model.specs.Flow.{FlowState, Packet, ack_place, place_of, sender_reading, tag_of}
+use Rattle.dt_flow_model.specs.Ledger.{first_unsent, open_row}
 use Rattle.dt_flow_model.specs.ReceiveRecord.{ReceiveRecord, Receiver, action_on, after_action, after_data, after_meet, answer_to, answer_to_data, free_of, standing_told}
 use Rattle.dt_flow_model.specs.SendActs.{Act, IsDue, act_of, give_up, meet, record_after, release, renew, resend, send}
-use Rattle.dt_flow_model.specs.SendRecord.{Segment, SendRecord, items_in, next_from, next_of}
+use Rattle.dt_flow_model.specs.SendRecord.{Segment, SendRecord, crossed_after, held_of, items_in, next_from, next_of}
 use Rattle.dt_flow_model.specs.declared.arrivals.Action.{Action}
-use Rattle.dt_flow_model.specs.declared.arrivals.Action.TheVariants.{Accept, Drop, Make, Skip, TellExpected, TellNumber}
+use Rattle.dt_flow_model.specs.declared.arrivals.Action.TheVariants.{Accept, Close, Drop, Make, Skip, TellExpected, TellNumber}
 use Rattle.dt_flow_model.specs.declared.arrivals.Arrived.TheVariants.{Replied}
 use Rattle.dt_flow_model.specs.declared.rows.Given.{Given}
 use Rattle.dt_flow_model.specs.declared.rows.Taken.{Taken}
 use Rattle.dt_items.specs.declared.item.Item.{Item}
+use Rattle.dt_flow_model.specs.Numbering.{number_of}
+use Rattle.dt_units.specs.Numbers.{number_distance}
+use Rattle.dt_units.specs.Limits.{IsWithinLimits}
 use Rattle.dt_units.specs.declared.parameters.Params.{Params}
 use Rattle.dt_flow_laws.proofs.ActSteps.{act_is_due, cut_whole}
-use Rattle.dt_flow_laws.proofs.Ledger.{next_append, note_length, not_open, open_here}
-use Rattle.dt_flow_laws.proofs.SenderSteps.{taken_length, next_is}
+use Rattle.dt_flow_laws.proofs.Modular.{distance_from}
+use Rattle.dt_flow_laws.proofs.Ledger.{chain_front, chain_next, chain_rest, items_append, next_append, note_length, not_open, open_here}
+use Rattle.dt_flow_laws.proofs.SenderSteps.{taken_length}
 
-past_first : (life : ℕ) (old rows : List Taken) → AllPast life old → first_open life rows ≡ 0 → first_open life (old ++ rows) ≡ length old
-past_first life [] rows h e = e
-past_first life (row ∷ old) rows h e = rw (not_open life row h.0) (ap (λ (n : ℕ). suc n) (past_first life old rows h.1 e))
+-- the first Open place of the present life without a first moment
+past_old : (life : ℕ) (old rows : List Taken) → AllPast life old → first_unsent life (old ++ rows) ≡ length old + first_unsent life rows
+past_old life [] rows h = omega arith
+past_old life (row ∷ old) rows h = let k = past_old life old rows h.1 in rw (not_open life row h.0) (omega (arith, k))
 
-here_first : (life : ℕ) (first : Option ℕ) (items : List Item) → 0 < length items → first_open life (map (open_row life first) items) ≡ 0
-here_first life first [] h = absurd (omega arith)
-here_first life first (item ∷ items) h = rw (open_here life first item)
+past_items : (life first : ℕ) (items : List Item) (rows : List Taken) → first_unsent life (map (open_row life (Some first)) items ++ rows) ≡ length items + first_unsent life rows
+past_items life first [] rows = omega arith
+past_items life first (i ∷ is) rows = let k = past_items life first is rows in rw (open_here life (Some first) i) (omega (arith, k))
 
--- segments without octets are none
-none_out : (offset : ℕ) (gs : List Segment) → Chain offset gs → items_in gs ≡ 0 → gs ≡ []
-none_out offset [] h e = refl
-none_out offset (g ∷ gs) h e = absurd (omega (arith, h.1))
+past_out : (clock life : ℕ) (gs : List Segment) (rows : List Taken) → first_unsent life (rows_out clock life gs ++ rows) ≡ items_in gs + first_unsent life rows
+past_out clock life [] rows = omega arith
+past_out clock life (g ∷ gs) rows =
+    let k = past_out clock life gs rows in
+    let l = past_items life (g.first - clock) g.items (rows_out clock life gs ++ rows) in
+    let same : (map (open_row life (Some (g.first - clock))) g.items ++ rows_out clock life gs) ++ rows ≡ map (open_row life (Some (g.first - clock))) g.items ++ (rows_out clock life gs ++ rows) = append_assoc (map (open_row life (Some (g.first - clock))) g.items) (rows_out clock life gs) rows in
+    let e : first_unsent life ((map (open_row life (Some (g.first - clock))) g.items ++ rows_out clock life gs) ++ rows) ≡ first_unsent life (map (open_row life (Some (g.first - clock))) g.items ++ (rows_out clock life gs ++ rows)) = ap (first_unsent life) same in
+    omega (arith, e, l, k)
 
-told_at : (c : Params) (s : FlowState) (x : SendRecord) (f : SendSide c s.now s.sender_zero s.sender_until s.sender_life s.run s.taken (Some x)) → 0 < length x.waiting → (n : ℕ) → next_of x ≡ n → told_place s n ≡ length f.old + items_in x.outstanding
-told_at c s x f some zero e =
-    let next = next_is c s.now s.sender_zero s.sender_until s.sender_life s.run s.taken x f in
-    let none : items_in x.outstanding ≡ 0 = omega (arith, next) in
-    let out : x.outstanding ≡ [] = none_out x.left x.outstanding f.record_facts.chain none in
-    let first : first_open s.sender_life (open_rows s.sender_zero s.sender_life (Some x)) ≡ 0 = rw out (here_first s.sender_life None x.waiting some) in
-    let there : first_open s.sender_life s.taken ≡ length f.old = rw (f.ledger) (past_first s.sender_life f.old (open_rows s.sender_zero s.sender_life (Some x)) f.past first) in
-    omega (arith, there)
-told_at c s x f some (suc n) e =
-    let next = next_is c s.now s.sender_zero s.sender_until s.sender_life s.run s.taken x f in
-    let q = f.record_facts.sending (omega arith) in
-    rw (q.1) (omega (arith, q.2.base, next))
+first_waiting : (life : ℕ) (items : List Item) → 0 < length items → first_unsent life (map (open_row life None) items) ≡ 0
+first_waiting life [] h = absurd (omega arith)
+first_waiting life (i ∷ is) h = rw (open_here life None i) refl
 
-pub told_is : (c : Params) (s : FlowState) (x : SendRecord) → s.sender ≡ Some x → 0 < length x.waiting → Facts c s → told_place s (next_of x) ≡ place_of s x (next_of x)
-told_is c s x is some f =
-    let fx : SendSide c s.now s.sender_zero s.sender_until s.sender_life s.run s.taken (Some x) = rw is at f.send_side in
-    let len = taken_length c s.now s.sender_zero s.sender_until s.sender_life s.run s.taken x fx in
-    let told = told_at c s x fx some (next_of x) refl in
-    omega (arith, told, len)
+pub unsent_is_place : (p : Params) (s : FlowState) (x : SendRecord) → s.sender ≡ Some x → 0 < length x.waiting → Facts p s → first_unsent s.sender_life s.taken ≡ place_of s x (next_of x)
+unsent_is_place p s x is some f =
+    let fx : SendSide p s.now s.sender_zero s.sender_until s.sender_life s.run s.taken (Some x) = rw is at f.send_side in
+    let len = taken_length p s.now s.sender_zero s.sender_until s.sender_life s.run s.taken x fx in
+    let a : first_unsent s.sender_life s.taken ≡ first_unsent s.sender_life (fx.old ++ open_rows s.sender_zero s.sender_life (Some x)) = ap (first_unsent s.sender_life) fx.ledger in
+    let b = past_old s.sender_life fx.old (open_rows s.sender_zero s.sender_life (Some x)) fx.past in
+    let c = past_out s.sender_zero s.sender_life x.outstanding (map (open_row s.sender_life None) x.waiting) in
+    let e = first_waiting s.sender_life x.waiting some in
+    omega (arith, len, a, b, c, e)
 
 -- THE TAG OF A PACKET THAT AN ACT MADE, told from the flow and the record after the act
 
@@ -62,27 +65,41 @@ abbrev TagIs : Params → FlowState → SendRecord → List Packet → Type 0
 TagIs p after x [] = Unit {0}
 TagIs p after x (q ∷ qs) = (q.place ≡ tag_of p after x q.number) × TagIs p after x qs
 
-tag_by : (p : Params) (s : FlowState) (x x' : SendRecord) (act : Act) → IsDue p (sender_reading s) x act → record_after p (sender_reading s) x act ≡ Some x' → TagIs p (after_act p s x act) x' (made_by_act p s x act)
-tag_by p s x x' (give_up g rest) due e = tt
-tag_by p s x x' release due e = tt
-tag_by p s x x' renew due e = tt
-tag_by p s x x' meet due e = let same : record x { touched = sender_reading s } ≡ x' = cc in subst (λ k. TagIs p (after_act p s x meet) k (made_by_act p s x meet)) same (refl, tt)
-tag_by p s x x' (resend before g after) due e =
+tag_by : (p : Params) (s : FlowState) (x x' : SendRecord) (act : Act) → Chain x.left x.outstanding → held_of x ≤ 65536 → IsDue p (sender_reading s) x act → record_after p (sender_reading s) x act ≡ Some x' → TagIs p (after_act p s x act) x' (made_by_act p s x act)
+tag_by p s x x' (give_up g rest) chain held due e = tt
+tag_by p s x x' release chain held due e = tt
+tag_by p s x x' renew chain held due e = tt
+tag_by p s x x' meet chain held due e =
+    let same : record x { touched = sender_reading s } ≡ x' = cc in
+    let before = distance_from p x.left (next_of x) (omega (arith, chain_next x.left x.outstanding chain)) (omega (arith, chain_next x.left x.outstanding chain)) in
+    subst (λ k. TagIs p (after_act p s x meet) k (made_by_act p s x meet)) same (omega (arith, before), tt)
+tag_by p s x x' (resend before g after) chain held due e =
     let same : record x { touched = sender_reading s; outstanding = before ++ (record g { last = sender_reading s }) ∷ after } ≡ x' = cc in
     let next = tag_resent p s x before after g (sender_reading s) due.0 in
-    subst (λ k. TagIs p (after_act p s x (resend before g after)) k (made_by_act p s x (resend before g after))) same (omega (arith, next), tt)
-tag_by p s x x' (send cut rest) due e =
+    let all : Chain x.left (before ++ g ∷ after) = rw (due.0) at chain in
+    let rest : Chain (next_from x.left before) (g ∷ after) = chain_rest x.left before (g ∷ after) all in
+    let count : items_in x.outstanding ≡ items_in before + (length g.items + items_in after) = rw (due.0) (items_append before (g ∷ after)) in
+    let at : g.offset ≡ x.left + items_in before = omega (arith, rest.0, chain_next x.left before (chain_front x.left before (g ∷ after) all)) in
+    let end = chain_next x.left x.outstanding chain in
+    let number = distance_from p g.offset (next_of x) (omega (arith, at, end, count)) (omega (arith, at, end, count)) in
+    let there : number_distance (number_of p (next_from x.left (before ++ (record g { last = sender_reading s }) ∷ after))) (number_of p g.offset) ≡ next_of x - g.offset = ap (λ (n : ℕ). number_distance (number_of p n) (number_of p g.offset)) next ∙ number in
+    subst (λ k. TagIs p (after_act p s x (resend before g after)) k (made_by_act p s x (resend before g after))) same (omega (arith, there), tt)
+tag_by p s x x' (send cut rest) chain held due e =
     let g : Segment = record { offset = next_of x; items = cut; first = sender_reading s; last = sender_reading s } in
-    let same : record x { touched = sender_reading s; outstanding = x.outstanding ++ g ∷ []; waiting = rest } ≡ x' = cc in
+    let same : record x { touched = sender_reading s; crossed = crossed_after p (sender_reading s) x; outstanding = x.outstanding ++ g ∷ []; waiting = rest } ≡ x' = cc in
     let next : next_from x.left (x.outstanding ++ g ∷ []) ≡ next_of x + length cut = next_append x.left x.outstanding (g ∷ []) in
     let whole : x.waiting ≡ cut ++ rest = rw (due.0, due.1) (cut_whole p x) in
     let count : length x.waiting ≡ length cut + length rest = ap (λ (is : List Item). length is) whole ∙ length-append cut rest in
+    let number = distance_from p (next_of x) (next_of x + length cut) (omega arith) (omega (arith, count)) in
+    let there : number_distance (number_of p (next_from x.left (x.outstanding ++ g ∷ []))) (number_of p (next_of x)) ≡ next_of x + length cut - next_of x = ap (λ (n : ℕ). number_distance (number_of p n) (number_of p (next_of x))) next ∙ number in
     subst (λ k. TagIs p (after_act p s x (send cut rest)) k (made_by_act p s x (send cut rest))) same
-    (omega (arith, next, count, note_length s.now (place_of s x (next_of x)) (length cut) s.taken), tt)
+    (omega (arith, there, count, note_length s.now (place_of s x (next_of x)) (length cut) s.taken), tt)
 
-pub tag_after : (p : Params) (s : FlowState) (x x' : SendRecord) (act : Act) (q : Packet) → act_of p (sender_reading s) x ≡ Some act → record_after p (sender_reading s) x act ≡ Some x' → made_by_act p s x act ≡ q ∷ [] → q.place ≡ tag_of p (after_act p s x act) x' q.number
-tag_after p s x x' act q chosen e made =
-    let h = tag_by p s x x' act (act_is_due p (sender_reading s) x act chosen) e in
+pub tag_after : (p : Params) (s : FlowState) (x x' : SendRecord) (act : Act) (q : Packet) → IsWithinLimits p → s.sender ≡ Some x → Facts p s → act_of p (sender_reading s) x ≡ Some act → record_after p (sender_reading s) x act ≡ Some x' → made_by_act p s x act ≡ q ∷ [] → q.place ≡ tag_of p (after_act p s x act) x' q.number
+tag_after p s x x' act q limits is f chosen e made =
+    let fx : SendSide p s.now s.sender_zero s.sender_until s.sender_life s.run s.taken (Some x) = rw is at f.send_side in
+    let sx : CrossingsOf p s.sender_zero s.run s.taken s.crossings (Some x) = rw is at f.spacing.sender in
+    let h = tag_by p s x x' act fx.record_facts.chain (omega (arith, sx.held, limits.cap)) (act_is_due p (sender_reading s) x act chosen) e in
     let k : TagIs p (after_act p s x act) x' (q ∷ []) = subst (λ qs. TagIs p (after_act p s x act) x' qs) made h in
     k.0
 
@@ -94,14 +111,16 @@ replied_place p now unread None number items count free n w Drop given answered 
 replied_place p now unread None number items count free n w Make given answered e = absurd cc
 replied_place p now unread None number items count free n w TellNumber given answered e = refl
 replied_place p now unread None number items count free n w TellExpected given answered e = refl
-replied_place p now unread None number items count free n w Accept given answered e = refl
-replied_place p now unread None number items count free n w Skip given answered e = refl
+replied_place p now unread None number items count free n w Accept given answered e = absurd cc
+replied_place p now unread None number items count free n w Skip given answered e = absurd cc
+replied_place p now unread None number items count free n w Close given answered e = refl
 replied_place p now unread (Some y) number items count free n w Drop given answered e = refl
-replied_place p now unread (Some y) number items count free n w Make given answered e = refl
+replied_place p now unread (Some y) number items count free n w Make given answered e = absurd cc
 replied_place p now unread (Some y) number items count free n w TellNumber given answered e = refl
 replied_place p now unread (Some y) number items count free n w TellExpected given answered e = refl
 replied_place p now unread (Some y) number items count free n w Accept given answered e = absurd cc
 replied_place p now unread (Some y) number items count free n w Skip given answered e = absurd cc
+replied_place p now unread (Some y) number items count free n w Close given answered e = refl
 
 pub data_tag : (p : Params) (now : ℕ) (r : Receiver) (drf : Bool) (number : ℕ) (items : List Item) (n w : ℕ) (given : List Given) (answered : ℕ) → answer_to_data p r drf number items ≡ Replied n w
     → ack_place (after_data p now r drf number items).standing given n answered ≡ ack_place r.standing given n answered

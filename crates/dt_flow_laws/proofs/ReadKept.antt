@@ -1,12 +1,12 @@
 -- The small steps keep what is unread, the run marks and the lives.
-use Rattle.std.proofs.Common.{ℕ, suc, ◌+◌, ◌-◌, ◌<◌, ◌≤◌, ◌≡◌, ◌==◌, Bool, true, false, List, [], ◌∷◌, ◌++◌, length, Option, Some, None, refl, ap, sym, ◌∙◌, subst, inl, inr, arith, drop, length-append, length-drop}
+use Rattle.std.proofs.Common.{ℕ, suc, ◌+◌, ◌-◌, ◌<◌, ◌≤◌, ◌≡◌, ◌==◌, Bool, true, false, List, [], ◌∷◌, ◌++◌, length, Option, Some, None, refl, ap, sym, ◌∙◌, subst, inl, inr, arith, drop, length-append, length-drop, ◌≢◌}
 use Rattle.std.proofs.lemmas.List.{drop-append-le, drop_at, drop-drop, drop_all}
 use Rattle.std.proofs.lemmas.Bool.{cases_Bool}
 use Rattle.std.proofs.lemmas.Bool.Decides.{nat_tests}
-use Rattle.dt_flow_laws.proofs.Timed.{Timed}
-use Rattle.dt_flow_model.specs.Facts.{AllFit, IsOfLife, Joined, NeverFall, ReadSide, ReceiveSide, last_of, life_from, lives_given}
+use Rattle.dt_flow_laws.proofs.Timed.{AllFitTime, Timed}
+use Rattle.dt_flow_model.specs.Facts.{IsOfLife, Joined, NeverFall, ReadSide, ReceiveSide, last_of, life_from, lives_given}
 use Rattle.dt_flow_model.specs.Flow.{FlowState, Packet}
-use Rattle.dt_flow_model.specs.Ledger.{given_in, given_rows, note_read, read_in, top, top_from, unread_items}
+use Rattle.dt_flow_model.specs.Ledger.{HasNoEntry, OneEntryEach, given_in, given_rows, note_read, read_in, top, top_from, unread_items}
 use Rattle.dt_flow_model.specs.ReceiveRecord.{ReceiveRecord}
 use Rattle.dt_flow_model.specs.Steps.{IsSameRecord, Step, accepts, accepts_first, gives_up, is_acked, makes, meets, passes, reads, receiver_releases, receiver_restarts, releases, renews, resends, sender_restarts, sends, takes, tells_expected, tells_number}
 use Rattle.dt_flow_model.specs.declared.rows.Given.{Given}
@@ -14,8 +14,6 @@ use Rattle.dt_flow_model.specs.declared.rows.ReadCount.{ReadCount}
 use Rattle.dt_items.specs.declared.item.Item.{Item}
 use Rattle.dt_units.specs.declared.parameters.Params.{Params}
 use Rattle.dt_flow_laws.proofs.Ledger.{fall_end, fall_more, fall_append}
-use Rattle.dt_flow_laws.proofs.Frame.{alive_present}
-use Rattle.dt_flow_laws.proofs.ReceiverSteps.{is_equal}
 
 nat_self : (n : ℕ) → (n == n) ≡ true
 nat_self n = grind (arith, nat_tests)
@@ -92,6 +90,19 @@ counted_other life l n (e ∷ es) h =
       | inr o ↦ rw o (elim (cases_Bool (e.life == l)) [ inl y ↦ rw y | inr n' ↦ rw n' (counted_other life l n es h) ])
     ]
 
+-- each life has one entry still
+absent_note : (life l n : ℕ) (es : List ReadCount) → (life == l) ≡ false → HasNoEntry l es → HasNoEntry l (note_read life n es)
+absent_note life l n [] other h = ((λ e. let t : (life == l) ≡ true = grind (arith, nat_tests) in cc), tt)
+absent_note life l n (e ∷ es) other h = elim (cases_Bool (e.life == life)) [ inl y ↦ rw y (subst (λ (k : ℕ). k ≢ l) (nat_is e.life life y) h.0, h.1) | inr o ↦ rw o (h.0, absent_note life l n es other h.1) ]
+
+noted_once : (life n : ℕ) (es : List ReadCount) → OneEntryEach es → OneEntryEach (note_read life n es)
+noted_once life n [] h = (tt, tt)
+noted_once life n (e ∷ es) h =
+    elim (cases_Bool (e.life == life)) [
+      | inl y ↦ let same : e.life ≡ life = nat_is e.life life y in rw y (subst (λ (k : ℕ). HasNoEntry k es) same h.0, h.1)
+      | inr o ↦ let o' : (life == e.life) ≡ false = grind (arith, nat_tests) in rw o (absent_note life e.life n es o' h.0, noted_once life n es h.1)
+    ]
+
 -- an acceptance
 accepted : (life at place : ℕ) (mark : Bool) (y y' : Option ReceiveRecord) (unread : List Item) (counts : List ReadCount) (given : List Given) (items : List Item) → 0 < length items
     → (mark ≡ false → (h : Given) × (last_of None given ≡ Some h) × (suc h.place ≡ place) × (h.life ≡ life)) → ReadSide life y unread counts given → IsOfLife life (given ++ given_rows life at mark place items) y'
@@ -102,6 +113,7 @@ accepted life at place mark y y' unread counts given items some joins h of_life 
     record {
       unread_is = rw (more, drop-append-le (read_in life counts) (given_in life given) (unread_items mark items) (h.within life)) (ap (λ us. us ++ unread_items mark items) h.unread_is);
       within = λ l. omega (arith, h.within l, ap (λ us. length us) (in_append l given rows), length-append (given_in l given) (given_in l rows));
+      one_entry = h.one_entry;
       lives = rw (lives_append given rows) (fall_append 0 life (lives_given given) (lives_given rows) h.lives (λ k le. lives_rows k life at mark place items le));
       joined = joined_append None given rows h.joined (joined_rows (last_of None given) life at mark place items joins);
       of_life = of_life;
@@ -122,6 +134,7 @@ read life y y' unread piece rest counts given split of_life h =
         | inl e ↦ let same : life ≡ l = nat_is life l e in subst (λ k. read_in k (note_read life (length piece) counts) ≤ length (given_in k given)) same (omega (arith, counted_note life (length piece) counts, h.within life))
         | inr o ↦ rw (counted_other life l (length piece) counts o) (h.within l)
       ];
+      one_entry = noted_once life (length piece) counts h.one_entry;
       lives = h.lives;
       joined = h.joined;
       of_life = of_life;
@@ -135,12 +148,13 @@ same_life life given (Some y) (Some y') e h = h
 
 -- the record goes, or a new life begins
 gone : (life : ℕ) (y : Option ReceiveRecord) (unread : List Item) (counts : List ReadCount) (given : List Given) → ReadSide life y unread counts given → ReadSide life None unread counts given
-gone life y unread counts given h = record { unread_is = h.unread_is; within = h.within; lives = h.lives; joined = h.joined; of_life = tt }
+gone life y unread counts given h = record { unread_is = h.unread_is; within = h.within; one_entry = h.one_entry; lives = h.lives; joined = h.joined; of_life = tt }
 
 reborn : (life : ℕ) (y : Option ReceiveRecord) (unread : List Item) (counts : List ReadCount) (given : List Given) → ReadSide life y unread counts given → ReadSide (life + 1) None [] counts given
 reborn life y unread counts given h = record {
   unread_is = rw (in_later 0 life (life + 1) given (omega arith) h.lives) (sym (drop_all (read_in (life + 1) counts) [] (omega arith)));
   within = h.within;
+  one_entry = h.one_entry;
   lives = fall_more 0 life (life + 1) (lives_given given) (omega arith) h.lives;
   joined = h.joined;
   of_life = tt;
@@ -149,17 +163,17 @@ reborn life y unread counts given h = record {
 abbrev pub ReadOf : FlowState → Type 0
 ReadOf s = ReadSide s.receiver_life s.receiver s.unread s.reads s.given
 
-pub read_kept : (c : Params) (s after : FlowState) (ins made : List Packet) → Step c s ins made after → Timed c s → AllFit c s ins → ReadOf s → ReadOf after
+pub read_kept : (c : Params) (s after : FlowState) (ins made : List Packet) → Step c s ins made after → Timed c s → AllFitTime c s ins → ReadOf s → ReadOf after
 read_kept c s after ins made (passes t d) f i h = h
-read_kept c s after ins made (sender_restarts t) f i h = h
+read_kept c s after ins made (sender_restarts t a) f i h = h
 read_kept c s after ins made (receiver_restarts t) f i h = reborn t.receiver_life t.receiver t.unread t.reads t.given h
 read_kept c s after ins made (makes t edge a b d) f i h = h
-read_kept c s after ins made (takes t x items a) f i h = h
+read_kept c s after ins made (takes t x items a b) f i h = h
 read_kept c s after ins made (gives_up t x g rest a b) f i h = h
 read_kept c s after ins made (releases t x a b d e) f i h = h
 read_kept c s after ins made (renews t x edge a b d e) f i h = h
 read_kept c s after ins made (resends t x pre post g a b d) f i h = h
-read_kept c s after ins made (sends t x cut rest a b d) f i h = h
+read_kept c s after ins made (sends t x cut rest a b d e g) f i h = h
 read_kept c s after ins made (meets t x a b d) f i h = h
 read_kept c s after ins made (is_acked t x p window gone rest edge a b d e g) f i h = h
 read_kept c s after ins made (accepts_first t p items due told a b d e g) f i h =
@@ -167,19 +181,16 @@ read_kept c s after ins made (accepts_first t p items due told a b d e g) f i h 
     (life_append 0 t.given (given_rows t.receiver_life t.now true p.place items) ∙ life_rows (life_from 0 t.given) t.receiver_life t.now true p.place items e)
 read_kept c s after ins made (accepts t y p drf mark items due a b d e g k) f i h =
     let fy : ReceiveSide c t.now t.receiver_zero t.receiver_until t.sender_life t.run t.taken t.given (Some y) = rw a at f.receive_side in
-    let v = fy.record_facts.receiving b in
-    let w = alive_present c t.now t.receiver_zero t.receiver_until t.sender_life t.run t.taken t.given t.receiver p f.receive_side i.0 g in
-    let same : v.0.base ≡ w.0.base = cc (v.1, w.1) in
     let l = last_there t.given fy.record_facts.accepted in
     let mine : life_from 0 t.given ≡ t.receiver_life = subst (λ z. IsOfLife t.receiver_life t.given z) a h.of_life in
     accepted t.receiver_life t.now p.place mark t.receiver _ t.unread t.reads t.given items e
-    (λ off. elim k [ inl equal ↦ (l.0, l.1, omega (arith, l.2, v.2.place, v.2.number, w.2.place, w.2.number, is_equal p.number y.expected equal.0), l.3 ∙ mine) | inr skip ↦ absurd (cc (skip.2)) ])
+    (λ off. elim k [ inl next ↦ (l.0, l.1, omega (arith, l.2, next.0), l.3 ∙ mine) | inr skip ↦ absurd (cc (skip.2)) ])
     h
     (life_append 0 t.given (given_rows t.receiver_life t.now mark p.place items) ∙ life_rows (life_from 0 t.given) t.receiver_life t.now mark p.place items e)
 read_kept c s after ins made (tells_number t p y window a b d) f i h =
-    record { unread_is = h.unread_is; within = h.within; lives = h.lives; joined = h.joined; of_life = same_life t.receiver_life t.given t.receiver y d h.of_life }
+    record { unread_is = h.unread_is; within = h.within; one_entry = h.one_entry; lives = h.lives; joined = h.joined; of_life = same_life t.receiver_life t.given t.receiver y d h.of_life }
 read_kept c s after ins made (tells_expected t y due told window a b) f i h =
     let mine : life_from 0 t.given ≡ t.receiver_life = subst (λ z. IsOfLife t.receiver_life t.given z) a h.of_life in
-    record { unread_is = h.unread_is; within = h.within; lives = h.lives; joined = h.joined; of_life = mine }
+    record { unread_is = h.unread_is; within = h.within; one_entry = h.one_entry; lives = h.lives; joined = h.joined; of_life = mine }
 read_kept c s after ins made (receiver_releases t y a b) f i h = gone t.receiver_life t.receiver t.unread t.reads t.given h
 read_kept c s after ins made (reads t y piece rest a b) f i h = read t.receiver_life t.receiver y t.unread piece rest t.reads t.given a (same_life t.receiver_life t.given t.receiver y b h.of_life) h

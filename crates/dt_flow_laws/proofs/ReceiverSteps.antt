@@ -2,14 +2,12 @@
 use Rattle.std.proofs.Common.{ℕ, suc, ◌+◌, ◌-◌, ◌<◌, ◌≤◌, ◌≡◌, ◌≢◌, ◌⊎◌, Bool, true, false, List, [], ◌∷◌, ◌++◌, length, Option, Some, None, refl, ap, ◌∙◌, subst, inl, inr, arith, get_or}
 use Rattle.std.proofs.Math.Nat.{add-zero}
 use Rattle.std.proofs.lemmas.List.{append-nil}
-use Rattle.std.specs.Prelude.{nat_lt, ◌==◌}
-use Rattle.std.proofs.lemmas.Bool.{cases_lt, cases_Bool}
-use Rattle.std.proofs.lemmas.Bool.Decides.{nat_tests}
-use Rattle.dt_flow_laws.proofs.Timed.{Timed, TimedKept}
-use Rattle.dt_flow_model.specs.Facts.{AllGivenFacts, Covers, DataFacts, Fits, IsGiven, KindFacts, ReceiveSide, ReceiverFacts, SendSide, accepted_before, births_end, firsts_end, free_from, open_rows}
+use Rattle.std.proofs.lemmas.Bool.{cases_lt}
+use Rattle.dt_flow_laws.proofs.Timed.{FitsTime, Timed, TimedKept}
+use Rattle.dt_flow_model.specs.Facts.{AllGivenFacts, Covers, DataFacts, IsGiven, KindFacts, ReceiveSide, ReceiverFacts, SendSide, accepted_before, births_end, firsts_end, free_from, open_rows}
 use Rattle.dt_flow_model.specs.Flow.{Ack, Data, FlowState, Kind, Meet, Packet, Run, leads_kind}
 use Rattle.dt_flow_model.specs.Ledger.{given_rows, is_open, item_of, last_at, no_item, plain, row_at, top, unread_items}
-use Rattle.dt_flow_model.specs.Numbering.{against_expected, number_after}
+use Rattle.dt_units.specs.Numbers.{number_after}
 use Rattle.dt_flow_model.specs.ReceiveRecord.{IsLive, ReceiveRecord}
 use Rattle.dt_flow_model.specs.SendRecord.{SendRecord, next_of}
 use Rattle.dt_flow_model.specs.Steps.{IsAlive, IsNextOrSkip, IsSameRecord}
@@ -20,27 +18,14 @@ use Rattle.dt_flow_model.specs.declared.rows.ReadCount.{ReadCount}
 use Rattle.dt_flow_model.specs.declared.rows.Taken.{Taken}
 use Rattle.dt_items.specs.declared.item.Item.{Item}
 use Rattle.dt_units.specs.Times.{receive_time}
-use Rattle.dt_units.specs.declared.order.Relation.TheVariants.{Above, Equal}
 use Rattle.dt_units.specs.declared.parameters.Params.{Params}
 use Rattle.dt_flow_laws.proofs.Ledger.{over_refl, past_at, row_left}
-use Rattle.dt_flow_laws.proofs.Frame.{packet_on, later_refl, dead, alive_present, made_now, given_left, given_right, given_here, given_ok_append, rising_append, rising_rows, moments_append, moments_rows, top_append, top_rows, last_append, last_rows, top_within, last_first}
+use Rattle.dt_flow_laws.proofs.Modular.{after_number}
+use Rattle.dt_flow_laws.proofs.Frame.{rest_with, packet_on, later_refl, dead, alive_present, made_now, given_left, given_right, given_here, given_ok_append, rising_append, rising_rows, moments_append, moments_rows, top_append, top_rows, last_append, last_rows, top_within, last_first}
 
 -- the record alone changes
 rest_y : (c : Params) (s : FlowState) (y : Option ReceiveRecord) → ReceiveSide c s.now s.receiver_zero s.receiver_until s.sender_life s.run s.taken s.given s.receiver → ReceiverFacts c s.now s.receiver_zero s.receiver_until s.run s.taken s.given y → ReceiveSide c s.now s.receiver_zero s.receiver_until s.sender_life s.run s.taken s.given y
-rest_y c s y f ok = record {
-  sent_now = f.sent_now;
-  began = f.began;
-  first_end = f.first_end;
-  firsts = f.firsts;
-  given_facts = f.given_facts;
-  moments = f.moments;
-  last_now = f.last_now;
-  last_before = f.last_before;
-  record_facts = ok;
-  rising = f.rising;
-  skipped = f.skipped;
-  acked = f.acked;
-}
+rest_y c s y f ok = rest_with c s.now s.receiver_zero s.receiver_until s.receiver_until s.sender_life s.run s.taken s.given s.receiver y f ok
 
 pub receiver_releases : (c : Params) (s : FlowState) (y : ReceiveRecord) → s.receiver ≡ Some y → y.touched + receive_time c ≤ s.now + s.receiver_zero → Timed c s → TimedKept c s (record s { receiver = None }) []
 receiver_releases c s y is late f =
@@ -65,7 +50,7 @@ lead_birth c run r (Data drf items) birth e h lt = rw e at lt
 lead_birth c run r (Ack window) birth e h lt = absurd cc
 lead_birth c run r Meet birth e h lt = rw e at lt
 
-lead_covers : (taken : List Taken) (given : List Given) (r : Run) (p : Packet) (kind : Kind) → leads_kind kind ≡ true → Covers taken given r p kind → (q : ℕ) → r.base ≤ q → q < p.place → (row_at taken q).fate ≢ Open
+pub lead_covers : (taken : List Taken) (given : List Given) (r : Run) (p : Packet) (kind : Kind) → leads_kind kind ≡ true → Covers taken given r p kind → (q : ℕ) → r.base ≤ q → q < p.place → (row_at taken q).fate ≢ Open
 lead_covers taken given r p (Data drf items) lead h = h lead
 lead_covers taken given r p (Ack window) lead h = absurd cc
 lead_covers taken given r p Meet lead h = h
@@ -84,7 +69,7 @@ tells_expected c pos s y due told window is live f =
       facts = record {
         send_side = f.send_side;
         receive_side = rest_y c s (Some (record y { due = due; told = told })) f.receive_side
-            (record { accepted = fy.record_facts.accepted; touched = fy.record_facts.touched; receiving = λ h. (q.0, q.1, record { offset = q.2.offset; place = q.2.place; number = q.2.number; covered = q.2.covered }) });
+            (record { accepted = fy.record_facts.accepted; touched = fy.record_facts.touched; receiving = λ h. (q.0, q.1, record { offset = q.2.offset; some = q.2.some; place = q.2.place; number = q.2.number; covered = q.2.covered }) });
       };
       packets = λ p h. h;
       made_fit = (
@@ -103,11 +88,11 @@ y_same c now z until run taken given (Some y) None same h = elim same [ ]
 y_same c now z until run taken given (Some y) (Some y') same h = record {
   accepted = h.accepted;
   touched = omega (arith, h.touched);
-  receiving = λ live. let q = h.receiving (omega arith) in (q.0, q.1, record { offset = q.2.offset; place = q.2.place; number = omega (arith, q.2.number); covered = q.2.covered });
+  receiving = λ live. let q = h.receiving (omega arith) in (q.0, q.1, record { offset = q.2.offset; some = q.2.some; place = q.2.place; number = same.0 ∙ q.2.number; covered = q.2.covered });
 }
 
 -- an acknowledgement of a packet's own number
-pub tells_number : (c : Params) → 0 < c.mpl → (s : FlowState) (p : Packet) (y : Option ReceiveRecord) (window : ℕ) → leads_kind p.kind ≡ true → IsAlive c s p → IsSameRecord s.receiver y → Timed c s → Fits c s p
+pub tells_number : (c : Params) → 0 < c.mpl → (s : FlowState) (p : Packet) (y : Option ReceiveRecord) (window : ℕ) → leads_kind p.kind ≡ true → IsAlive c s p → IsSameRecord s.receiver y → Timed c s → FitsTime c s p
     → TimedKept c s (record s { receiver = y }) ((record { kind = (Ack window); number = p.number; birth = s.now; place = p.place }) ∷ [])
 tells_number c pos s p y window lead live same f h =
     let q = alive_present c s.now s.receiver_zero s.receiver_until s.sender_life s.run s.taken s.given s.receiver p f.receive_side h live in
@@ -152,23 +137,8 @@ given_ok_rows taken life at mark first place (item ∷ items) le h =
       given_ok_rows taken life at false first (suc place) items le (λ q k e lt. h q (suc k) (omega arith) (omega arith)),
     )
 
--- what a comparison says
-pub is_equal : (n expected : ℕ) → against_expected n expected ≡ Equal → n ≡ expected
-is_equal n expected h =
-    elim (cases_Bool (nat_lt n expected)) [
-      | inl below ↦ absurd (let e = rw below at h in cc)
-      | inr ge ↦ elim (cases_Bool (n == expected)) [ inl same ↦ grind (arith, nat_tests) | inr other ↦ absurd (let e = rw (ge, other) at h in cc) ]
-    ]
-
-pub is_above : (n expected : ℕ) → against_expected n expected ≡ Above → expected < n
-is_above n expected h =
-    elim (cases_Bool (nat_lt n expected)) [
-      | inl below ↦ absurd (let e = rw below at h in cc)
-      | inr ge ↦ elim (cases_Bool (n == expected)) [ inl same ↦ absurd (let e = rw (ge, same) at h in cc) | inr other ↦ grind (arith, nat_tests) ]
-    ]
-
 -- what each acceptance owes
-module _ (c : Params) (s : FlowState) (p : Packet) (drf : Bool) (items : List Item) (f : Timed c s) (h : Fits c s p) (kind : p.kind ≡ Data drf items) (some : 0 < length items) (live : IsAlive c s p) where
+module _ (c : Params) (s : FlowState) (p : Packet) (drf : Bool) (items : List Item) (f : Timed c s) (h : FitsTime c s p) (kind : p.kind ≡ Data drf items) (some : 0 < length items) (live : IsAlive c s p) where
   data_ok : DataFacts c s.taken items p
   data_ok = subst (λ k. KindFacts c s.taken p k) kind h.kind_facts
 
@@ -235,8 +205,9 @@ module _ (c : Params) (s : FlowState) (p : Packet) (drf : Bool) (items : List It
                 w.1,
                 record {
                   offset = w.2.offset + length items;
+                  some = omega arith;
                   place = omega (arith, top_is, w.2.place);
-                  number = omega (arith, w.2.number);
+                  number = after_number c p.number w.2.offset (length items) w.2.number;
                   covered = λ q from to.
                       elim (cases_lt q p.place) [
                         | inl lt ↦ elim (done w.0 w.1 q from lt) [ inl g ↦ inl (given_left s.given rows q g) | inr d ↦ inr d ]
@@ -274,7 +245,7 @@ module _ (c : Params) (s : FlowState) (p : Packet) (drf : Bool) (items : List It
         | inr ge ↦ ge
       ]
 
-pub accepts_first : (c : Params) (s : FlowState) (p : Packet) (items : List Item) (due : Option ℕ) (told : ℕ) → s.receiver ≡ None → s.receiver_until ≤ s.now + s.receiver_zero → p.kind ≡ Data true items → 0 < length items → IsAlive c s p → Timed c s → Fits c s p
+pub accepts_first : (c : Params) (s : FlowState) (p : Packet) (items : List Item) (due : Option ℕ) (told : ℕ) → s.receiver ≡ None → s.receiver_until ≤ s.now + s.receiver_zero → p.kind ≡ Data true items → 0 < length items → IsAlive c s p → Timed c s → FitsTime c s p
     → TimedKept c s
     (record s {
       receiver = Some (record { expected = number_after p.number (length items); touched = s.now + s.receiver_zero; due = due; told = told });
@@ -288,7 +259,7 @@ accepts_first c s p items due told is awake kind some live f h =
     (λ r e q from to. let w = alive_present c s.now s.receiver_zero s.receiver_until s.sender_life s.run s.taken s.given s.receiver p f.receive_side h live in let same : w.0.base ≡ r.base = cc (w.1, e) in inr ((subst (λ k. Covers s.taken s.given w.0 p k) kind w.2.covers) refl q (omega arith) to))
 
 pub accepts : (c : Params) (s : FlowState) (y : ReceiveRecord) (p : Packet) (drf mark : Bool) (items : List Item) (due : Option ℕ) → s.receiver ≡ Some y → IsLive c (s.now + s.receiver_zero) y → p.kind ≡ Data drf items → 0 < length items → IsAlive c s p
-    → IsNextOrSkip y p drf mark → Timed c s → Fits c s p
+    → IsNextOrSkip s p drf mark → Timed c s → FitsTime c s p
     → TimedKept c s
     (record s {
       receiver = Some (record y { expected = number_after p.number (length items); touched = s.now + s.receiver_zero; due = due });
@@ -302,14 +273,12 @@ accepts c s y p drf mark items due is standing kind some live how f h =
     let w = alive_present c s.now s.receiver_zero s.receiver_until s.sender_life s.run s.taken s.given s.receiver p f.receive_side h live in
     let same : v.0.base ≡ w.0.base = cc (v.1, w.1) in
     elim how [
-      | inl equal ↦
-          let here : p.number ≡ y.expected = is_equal p.number y.expected equal.0 in
-          accepted c s p drf items f h kind some live due y.told mark _ (omega (arith, v.2.place, v.2.number, w.2.place, w.2.number, here))
-          (λ q from to. absurd (omega (arith, v.2.place, v.2.number, w.2.place, w.2.number, here)))
-          (λ r e q from to. let bases : v.0.base ≡ r.base = cc (v.1, e) in v.2.covered q (omega arith) (omega (arith, v.2.place, v.2.number, w.2.place, w.2.number, here)))
+      | inl next ↦
+          accepted c s p drf items f h kind some live due y.told mark _ (omega (arith, next.0))
+          (λ q from to. absurd (omega (arith, next.0)))
+          (λ r e q from to. let bases : v.0.base ≡ r.base = cc (v.1, e) in v.2.covered q (omega arith) (omega (arith, next.0)))
       | inr skip ↦
-          let there : y.expected < p.number = is_above p.number y.expected skip.1 in
-          accepted c s p drf items f h kind some live due y.told mark _ (omega (arith, v.2.place, v.2.number, w.2.place, w.2.number, there))
+          accepted c s p drf items f h kind some live due y.told mark _ (omega (arith, skip.1))
           (λ q from to. gap c s p drf items f h kind some live skip.0 q to)
           (λ r e q from to. let bases : w.0.base ≡ r.base = cc (w.1, e) in inr ((subst (λ k. Covers s.taken s.given w.0 p k) kind w.2.covers) skip.0 q (omega arith) to))
     ]

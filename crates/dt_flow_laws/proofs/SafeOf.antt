@@ -1,18 +1,19 @@
 -- The facts give the safe ledger.
-use Rattle.std.proofs.Common.{ℕ, zero, suc, ◌+◌, ◌<◌, ◌≤◌, ◌≡◌, ◌⊎◌, ◌==◌, Bool, true, false, List, [], ◌∷◌, length, Option, Some, None, refl, ◌∙◌, inl, inr, arith}
+use Rattle.dt_flow_model.specs.declared.rows.ReadCount.{ReadCount}
+use Rattle.std.proofs.Common.{ℕ, zero, suc, ◌+◌, ◌<◌, ◌≤◌, ◌≡◌, ◌⊎◌, ◌==◌, Bool, true, false, List, [], ◌∷◌, length, Option, Some, None, refl, ◌∙◌, inl, inr, arith, ◌≢◌, sym}
 use Rattle.std.specs.Prelude.{◌||◌}
 use Rattle.std.proofs.lemmas.List.{append-nil}
 use Rattle.std.proofs.lemmas.Bool.{cases_Bool}
 use Rattle.std.proofs.lemmas.Bool.Decides.{nat_tests}
 use Rattle.dt_flow_model.specs.Facts.{AllGivenFacts, Facts, IsGiven, Joined, JoinsTo, Rising}
 use Rattle.dt_flow_model.specs.Flow.{FlowState}
-use Rattle.dt_flow_model.specs.Ledger.{given_at, is_given, item_of, row_at, sent_item_of}
+use Rattle.dt_flow_model.specs.Ledger.{given_at, is_given, item_of, row_at, sent_item_of, HasNoEntry, OneEntryEach, read_count_at}
 use Rattle.dt_flow_model.specs.Safe.{Follows, Safe}
 use Rattle.dt_flow_model.specs.declared.rows.Fate.TheVariants.{Uncertain}
 use Rattle.dt_flow_model.specs.declared.rows.Given.{Given}
 use Rattle.dt_flow_model.specs.declared.rows.Taken.{Taken}
 use Rattle.dt_units.specs.declared.parameters.Params.{Params}
-use Rattle.dt_flow_laws.proofs.Ledger.{past_at}
+use Rattle.dt_flow_laws.proofs.Ledger.{past_at, first_within}
 
 -- a place that a row names is given, by the test
 or_true : (a b : Bool) → b ≡ true → (a || b) ≡ true
@@ -45,6 +46,12 @@ intact_at taken [] k h lt = absurd (omega arith)
 intact_at taken (g ∷ gs) zero h lt = h.0.item
 intact_at taken (g ∷ gs) (suc k) h lt = intact_at taken gs k h.1 (omega arith)
 
+-- a given row names a place of the ledger
+taken_at : (taken : List Taken) (given : List Given) (k : ℕ) → AllGivenFacts taken given → k < length given → (given_at given k).place < length taken
+taken_at taken [] k h lt = absurd (omega arith)
+taken_at taken (g ∷ gs) zero h lt = first_within taken g.place h.0.first h.0.first_is
+taken_at taken (g ∷ gs) (suc k) h lt = taken_at taken gs k h.1 (omega arith)
+
 -- runs are joined
 first_joined : (given : List Given) → Joined None given → 0 < length given → (given_at given 0).run ≡ true
 first_joined [] h lt = absurd (omega arith)
@@ -65,16 +72,30 @@ skipped_of given taken life p (inl g) off le = absurd (not_given given p off g)
 skipped_of given taken life p (inr (inl u)) off le = u
 skipped_of given taken life p (inr (inr l)) off le = absurd (omega arith)
 
+-- each life has one entry of what was read
+absent_at : (life : ℕ) (es : List ReadCount) (k : ℕ) → HasNoEntry life es → k < length es → (read_count_at es k).life ≢ life
+absent_at life [] k h lt = absurd (omega arith)
+absent_at life (e ∷ es) zero h lt = h.0
+absent_at life (e ∷ es) (suc k) h lt = absent_at life es k h.1 (omega arith)
+
+once_at : (es : List ReadCount) (j k : ℕ) → OneEntryEach es → j < k → k < length es → (read_count_at es j).life ≢ (read_count_at es k).life
+once_at [] j k h lt lt' = absurd (omega arith)
+once_at (e ∷ es) j zero h lt lt' = absurd (omega arith)
+once_at (e ∷ es) zero (suc k) h lt lt' = λ same. absent_at e.life es k h.0 (omega arith) (sym same)
+once_at (e ∷ es) (suc j) (suc k) h lt lt' = once_at es j k h.1 (omega arith) (omega arith)
+
 pub safe_of : (c : Params) (s : FlowState) → Facts c s → Safe s
 safe_of c s f = record {
   ledger = record {
     in_order = λ j k lt lt'. rising_at 0 s.given j k f.receive_side.rising lt lt';
+    in_ledger = λ k lt. taken_at s.taken s.given k f.receive_side.given_facts lt;
     intact = λ k lt. intact_at s.taken s.given k f.receive_side.given_facts lt;
     skips_reported = λ p lt off le. skipped_of s.given s.taken s.sender_life p (f.receive_side.skipped p lt) off le;
     acknowledged_given = λ p e. given_test s.given p (f.receive_side.acked p e);
     first_runs = λ lt. first_joined s.given f.read_side.joined lt;
     unbroken = λ k lt off. let e : k + 1 ≡ suc k = omega arith in rw e (joined_at None s.given k f.read_side.joined (omega arith) (rw e at off));
     read_within = f.read_side.within;
+    one_entry = λ j k lt lt'. once_at s.reads j k f.read_side.one_entry lt lt';
   };
   released_reported = λ e p mine h.
       let l : s.taken ≡ f.send_side.old = (rw e at f.send_side.ledger) ∙ append-nil f.send_side.old in

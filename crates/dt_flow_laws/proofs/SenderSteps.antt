@@ -3,21 +3,20 @@ use Rattle.std.proofs.Common.{ℕ, ◌+◌, ◌-◌, ◌<◌, ◌≤◌, ◌≡�
 use Rattle.std.proofs.lemmas.List.{length-map, map-append, append-nil}
 use Rattle.std.proofs.lemmas.Bool.{cases_lt}
 use Rattle.dt_flow_laws.proofs.Rows.{KeepsRows}
-use Rattle.dt_flow_laws.proofs.Timed.{Timed, TimedKept}
-use Rattle.dt_flow_model.specs.Facts.{AllPast, Chain, Covers, Fits, IsGiven, SendFacts, SendSide, SenderFacts, Sending, free_from, lives_of, open_rows, rows_out}
+use Rattle.dt_flow_laws.proofs.Timed.{FitsTime, Timed, TimedKept}
+use Rattle.dt_flow_model.specs.Facts.{AllPast, Chain, Covers, IsGiven, SendFacts, SendSide, SenderFacts, Sending, free_from, lives_of, open_rows, rows_out}
 use Rattle.dt_flow_model.specs.Flow.{Ack, FlowState, Packet, Run}
 use Rattle.dt_flow_model.specs.Ledger.{open_row, row_at, settle, take_rows}
-use Rattle.dt_flow_model.specs.Numbering.{number_of}
 use Rattle.dt_flow_model.specs.SendRecord.{Segment, SendRecord, end_of, items_in, next_from, next_of}
-use Rattle.dt_flow_model.specs.Steps.{IsAlive}
+use Rattle.dt_flow_model.specs.Steps.{IsAlive, IsTheirEnd}
 use Rattle.dt_flow_model.specs.declared.rows.Fate.{Fate}
 use Rattle.dt_flow_model.specs.declared.rows.Fate.TheVariants.{Acked, Open, Uncertain}
 use Rattle.dt_flow_model.specs.declared.rows.Taken.{Taken}
 use Rattle.dt_items.specs.declared.item.Item.{Item}
 use Rattle.dt_units.specs.Times.{quiet_time, send_time}
 use Rattle.dt_units.specs.declared.parameters.Params.{Params}
-use Rattle.dt_flow_laws.proofs.Ledger.{over_at, settle_length, settle_lives, take_lives, fall_more, all_at, all_new, over_settle, over_append, over_done, settled_out, settle_past, settle_gone, out_append, length_out, length_settled, past_out, past_append, past_at, chain_next, chain_rest, chain_front, next_append, row_left, row_right, out_open, settle_firsts, took_firsts, settle_acked, took_acked, past_later, past_open, over_refl, SameFirsts, none_open_acked}
-use Rattle.dt_flow_laws.proofs.Frame.{rest_moved, rest_later, packet_on, later_refl, dead, alive_present, run_now, rest_reborn}
+use Rattle.dt_flow_laws.proofs.Ledger.{items_append, over_at, settle_length, settle_lives, take_lives, fall_more, all_at, all_new, over_settle, over_append, over_done, settled_out, settle_past, settle_gone, out_append, length_out, length_settled, past_out, past_append, past_at, chain_next, chain_rest, chain_front, next_append, row_left, row_right, out_open, settle_firsts, took_firsts, settle_acked, took_acked, past_later, past_open, over_refl, SameFirsts, none_open_acked, firsts_rest}
+use Rattle.dt_flow_laws.proofs.Frame.{rest_with, rest_moved, rest_later, packet_on, later_refl, dead, alive_present, run_now, rest_reborn}
 
 -- the waiting items' rows
 abbrev wait_rows : ℕ → SendRecord → List Taken
@@ -78,7 +77,7 @@ module _ (c : Params) (now z until life : ℕ) (run : Option Run) (taken : List 
   next_same = rw (split, next_append x.left gone rest)
 
   settled_sending : (r : Run) → Sending z life r x f.old taken → (edge : ℕ)
-      → Sending z life r (record { left = next_from x.left gone; edge = edge; touched = x.touched; outstanding = rest; waiting = x.waiting }) (f.old ++ settled_out z life fate gone) (settle life fate (items_in gone) taken)
+      → Sending z life r (record { left = next_from x.left gone; edge = edge; touched = x.touched; crossed = x.crossed; outstanding = rest; waiting = x.waiting }) (f.old ++ settled_out z life fate gone) (settle life fate (items_in gone) taken)
   settled_sending r h edge =
       let chain : Chain x.left gone = chain_front x.left gone rest (rw split at f.record_facts.chain) in
       record {
@@ -95,7 +94,7 @@ module _ (c : Params) (now z until life : ℕ) (run : Option Run) (taken : List 
       }
 
   pub x_settled : (edge : ℕ) → 0 < next_of x
-      → SendSide c now z until life run (settle life fate (items_in gone) taken) (Some (record { left = next_from x.left gone; edge = edge; touched = x.touched; outstanding = rest; waiting = x.waiting }))
+      → SendSide c now z until life run (settle life fate (items_in gone) taken) (Some (record { left = next_from x.left gone; edge = edge; touched = x.touched; crossed = x.crossed; outstanding = rest; waiting = x.waiting }))
   x_settled edge some = record {
     old = f.old ++ settled_out z life fate gone;
     ledger = settled_ledger;
@@ -103,6 +102,7 @@ module _ (c : Params) (now z until life : ℕ) (run : Option Run) (taken : List 
     lives = rw (settle_lives life fate (items_in gone) taken) f.lives;
     record_facts = record {
       chain = chain_rest x.left gone rest (rw split at f.record_facts.chain);
+      firsts = firsts_rest z gone rest (rw split at f.record_facts.firsts);
       touched = f.record_facts.touched;
       edge = λ h. absurd (omega (arith, next_same));
       fresh = λ h. absurd (omega (arith, next_same));
@@ -140,10 +140,37 @@ gives_up c s x g rest is split f =
     (settle_firsts s.sender_life Uncertain (length g.items) s.taken)
     (λ p e. f.receive_side.acked p (settle_acked s.sender_life Uncertain (length g.items) s.taken (λ h. cc) p e))
 
+-- the rows before the open ones stand in the ledger
+module _ (c : Params) (now z until life : ℕ) (run : Option Run) (taken : List Taken) (x : SendRecord) (f : SendSide c now z until life run taken (Some x)) where
+  pub taken_length : length taken ≡ length f.old + items_in x.outstanding + length x.waiting
+  taken_length = omega (
+    arith,
+    ap (λ rows. length rows) f.ledger,
+    length-append f.old (open_rows z life (Some x)),
+    length-append (rows_out z life x.outstanding) (map (open_row life None) x.waiting),
+    length_out z life x.outstanding,
+    length-map x.waiting (open_row life None),
+  )
+
+  pub old_within : length f.old ≤ length taken
+  old_within = omega (arith, taken_length)
+
+  -- number n of the record stands at its place
+  pub next_is : next_of x ≡ x.left + items_in x.outstanding
+  next_is = chain_next x.left x.outstanding f.record_facts.chain
+
+-- the place of the end of the segments that an acknowledgement is of
+their_end : (s : FlowState) (x : SendRecord) (p : Packet) (gone rest : List Segment) (before : ℕ) → x.outstanding ≡ gone ++ rest → Chain x.left gone → Chain x.left x.outstanding → length s.taken ≡ before + items_in x.outstanding + length x.waiting
+    → IsTheirEnd s x p gone → 0 < items_in gone → p.place ≡ before + items_in gone
+their_end s x p [] rest before split chain all len ends some = absurd (omega arith)
+their_end s x p (g ∷ gs) rest before split chain all len ends some =
+    let count : items_in x.outstanding ≡ items_in (g ∷ gs) + items_in rest = rw split (items_append (g ∷ gs) rest) in
+    omega (arith, count, ends, chain_next x.left (g ∷ gs) chain, chain_next x.left x.outstanding all)
+
 pub is_acked : (c : Params) (s : FlowState) (x : SendRecord) (p : Packet) (window : ℕ) (gone rest : List Segment) (edge : ℕ) → s.sender ≡ Some x → p.kind ≡ Ack window → IsAlive c s p
-    → x.outstanding ≡ gone ++ rest → p.number ≡ number_of c (next_from x.left gone) → Timed c s → Fits c s p
+    → x.outstanding ≡ gone ++ rest → IsTheirEnd s x p gone → Timed c s → FitsTime c s p
     → TimedKept c s (record s { sender = Some (record x { left = next_from x.left gone; edge = edge; outstanding = rest }); taken = settle s.sender_life Acked (items_in gone) s.taken }) []
-is_acked c s x p window gone rest edge is kind live split number f h =
+is_acked c s x p window gone rest edge is kind live split ends f h =
     let fx : SendSide c s.now s.sender_zero s.sender_until s.sender_life s.run s.taken (Some x) = rw is at f.send_side in
     let closed : Acked ≢ Open = λ e. cc in
     let some : 0 < next_of x =
@@ -167,30 +194,11 @@ is_acked c s x p window gone rest edge is kind live split number f h =
       | inr ge ↦
           let was = was_open c s.now s.sender_zero s.sender_until s.sender_life s.run s.taken x gone rest Acked closed split fx k ge below in
           let bases : q.0.base ≡ r.0.base = ap (λ (z : Run). z.base) same in
-          elim (covers k (omega (arith, r.2.base, bases)) (omega (arith, r.2.base, q.2.place, q.2.number, bases, number, chain_next x.left gone chain))) [
+          elim (covers k (omega (arith, r.2.base, bases)) (omega (arith, their_end s x p gone rest (length fx.old) split chain fx.record_facts.chain (taken_length c s.now s.sender_zero s.sender_until s.sender_life s.run s.taken x fx) ends (omega arith)))) [
             | inl g ↦ g
             | inr d ↦ absurd (d was)
           ]
     ])
-
--- the rows before the open ones stand in the ledger
-module _ (c : Params) (now z until life : ℕ) (run : Option Run) (taken : List Taken) (x : SendRecord) (f : SendSide c now z until life run taken (Some x)) where
-  pub taken_length : length taken ≡ length f.old + items_in x.outstanding + length x.waiting
-  taken_length = omega (
-    arith,
-    ap (λ rows. length rows) f.ledger,
-    length-append f.old (open_rows z life (Some x)),
-    length-append (rows_out z life x.outstanding) (map (open_row life None) x.waiting),
-    length_out z life x.outstanding,
-    length-map x.waiting (open_row life None),
-  )
-
-  pub old_within : length f.old ≤ length taken
-  old_within = omega (arith, taken_length)
-
-  -- number n of the record stands at its place
-  pub next_is : next_of x ≡ x.left + items_in x.outstanding
-  next_is = chain_next x.left x.outstanding f.record_facts.chain
 
 pub sending_over : (z life : ℕ) (r : Run) (x x' : SendRecord) (old taken taken' : List Taken) → KeepsRows taken taken' → ((p : ℕ) → length taken ≤ p → p < length taken' → (row_at taken' p).life ≡ life) → length old ≤ length taken → x'.left ≡ x.left → x'.touched ≡ x.touched
     → Sending z life r x old taken → Sending z life r x' old taken'
@@ -220,6 +228,7 @@ takes c s x items is f =
       lives = take_lives s.sender_life items s.taken fx.lives;
       record_facts = record {
         chain = fx.record_facts.chain;
+        firsts = fx.record_facts.firsts;
         touched = fx.record_facts.touched;
         edge = fx.record_facts.edge;
         fresh = fx.record_facts.fresh;
@@ -231,7 +240,7 @@ takes c s x items is f =
     (λ p e. f.receive_side.acked p (took_acked s.sender_life items s.taken p e))
 
 pub makes : (c : Params) (s : FlowState) (edge : ℕ) → s.sender ≡ None → s.sender_until ≤ s.now + s.sender_zero → 0 < edge → Timed c s
-    → TimedKept c s (record s { sender = Some (record { left = 0; edge = edge; touched = s.now + s.sender_zero; outstanding = []; waiting = [] }) }) []
+    → TimedKept c s (record s { sender = Some (record { left = 0; edge = edge; touched = s.now + s.sender_zero; crossed = None; outstanding = []; waiting = [] }) }) []
 makes c s edge is awake pos f =
     let fx : SendSide c s.now s.sender_zero s.sender_until s.sender_life s.run s.taken None = rw is at f.send_side in
     record_alone c s f _
@@ -240,7 +249,7 @@ makes c s edge is awake pos f =
       ledger = fx.ledger;
       past = fx.past;
       lives = fx.lives;
-      record_facts = record { chain = tt; touched = omega arith; edge = λ h. pos; fresh = λ h. omega (arith, fx.record_facts); sending = λ h. absurd (omega arith) };
+      record_facts = record { chain = tt; firsts = tt; touched = omega arith; edge = λ h. pos; fresh = λ h. omega (arith, fx.record_facts); sending = λ h. absurd (omega arith) };
     })
 
 -- the time of the last transmission, at a record that has transmitted or not
@@ -264,7 +273,7 @@ releases c s x is out wait late f =
     })
 
 pub renews : (c : Params) (s : FlowState) (x : SendRecord) (edge : ℕ) → s.sender ≡ Some x → x.outstanding ≡ [] → x.touched + send_time c ≤ s.now + s.sender_zero → 0 < edge → Timed c s
-    → TimedKept c s (record s { sender = Some (record { left = 0; edge = edge; touched = s.now + s.sender_zero; outstanding = []; waiting = x.waiting }) }) []
+    → TimedKept c s (record s { sender = Some (record { left = 0; edge = edge; touched = s.now + s.sender_zero; crossed = None; outstanding = []; waiting = x.waiting }) }) []
 renews c s x edge is out late pos f =
     let fx : SendSide c s.now s.sender_zero s.sender_until s.sender_life s.run s.taken (Some x) = rw is at f.send_side in
     record_alone c s f _
@@ -273,7 +282,7 @@ renews c s x edge is out late pos f =
       ledger = rw out at fx.ledger;
       past = fx.past;
       lives = fx.lives;
-      record_facts = record { chain = tt; touched = omega arith; edge = λ h. pos; fresh = λ h. omega (arith, released_at c s.now s.sender_zero s.sender_life s.run fx.old s.taken x fx.record_facts late); sending = λ h. absurd (omega arith) };
+      record_facts = record { chain = tt; firsts = tt; touched = omega arith; edge = λ h. pos; fresh = λ h. omega (arith, released_at c s.now s.sender_zero s.sender_life s.run fx.old s.taken x fx.record_facts late); sending = λ h. absurd (omega arith) };
     })
 
 -- every row is of an earlier life than the one that begins
@@ -300,20 +309,7 @@ pub receiver_restarts : (c : Params) (s : FlowState) → Timed c s → TimedKept
 receiver_restarts c s f = record {
   facts = record {
     send_side = f.send_side;
-    receive_side = record {
-      sent_now = f.receive_side.sent_now;
-      began = f.receive_side.began;
-      first_end = f.receive_side.first_end;
-      firsts = f.receive_side.firsts;
-      given_facts = f.receive_side.given_facts;
-      moments = f.receive_side.moments;
-      last_now = f.receive_side.last_now;
-      last_before = f.receive_side.last_before;
-      record_facts = λ some. omega (arith, f.receive_side.last_now);
-      rising = f.receive_side.rising;
-      skipped = f.receive_side.skipped;
-      acked = f.receive_side.acked;
-    };
+    receive_side = rest_with c s.now s.receiver_zero s.receiver_until (s.now + s.receiver_zero + quiet_time c) s.sender_life s.run s.taken s.given s.receiver None f.receive_side (λ some. omega (arith, f.receive_side.last_now));
   };
   packets = λ p h. h;
   made_fit = tt;
@@ -321,7 +317,7 @@ receiver_restarts c s f = record {
 
 x_later : (c : Params) (now z until life d : ℕ) (run : Option Run) (old taken : List Taken) (x : Option SendRecord) → SenderFacts c now z until life run old taken x → SenderFacts c (now + d) z until life run old taken x
 x_later c now z until life d run old taken None h = omega arith
-x_later c now z until life d run old taken (Some x) h = record { chain = h.chain; touched = omega arith; edge = h.edge; fresh = h.fresh; sending = h.sending }
+x_later c now z until life d run old taken (Some x) h = record { chain = h.chain; firsts = h.firsts; touched = omega arith; edge = h.edge; fresh = h.fresh; sending = h.sending }
 
 pub passes : (c : Params) (s : FlowState) (d : ℕ) → Timed c s → TimedKept c s (record s { now = s.now + d }) []
 passes c s d f = record {

@@ -5,18 +5,18 @@ use Rattle.std.proofs.lemmas.Bool.{cases_lt}
 use Rattle.std.proofs.lemmas.Bool.Decides.{nat_tests}
 use Rattle.dt_flow_laws.proofs.Rows.{KeepsRows}
 use Rattle.dt_flow_laws.proofs.Timed.{Timed, TimedKept}
-use Rattle.dt_flow_model.specs.Facts.{Chain, PacketFacts, ReceiveSide, SendFacts, SendSide, Sending, firsts_end, free_from, open_rows, rows_out}
-use Rattle.dt_flow_model.specs.Flow.{Data, FlowState, Meet, Packet, Run, place_of, run_after}
+use Rattle.dt_flow_model.specs.Facts.{Chain, PacketFacts, ReceiveSide, SendFacts, SendSide, Sending, firsts_end, free_from, open_rows, rows_out, FirstsFrom}
+use Rattle.dt_flow_model.specs.Flow.{Data, FlowState, Meet, Packet, Run, crossings_after, place_of, run_after}
 use Rattle.dt_flow_model.specs.Ledger.{no_item, note_first, open_row, row_at}
 use Rattle.dt_flow_model.specs.Numbering.{number_of}
 use Rattle.dt_flow_model.specs.ReceiveRecord.{ReceiveRecord}
-use Rattle.dt_flow_model.specs.SendRecord.{Segment, SendRecord, items_in, leads, next_from, next_of}
+use Rattle.dt_flow_model.specs.SendRecord.{Segment, SendRecord, crossed_after, items_in, leads, next_from, next_of}
 use Rattle.dt_flow_model.specs.declared.rows.Fate.TheVariants.{Acked, Open}
 use Rattle.dt_flow_model.specs.declared.rows.Given.{Given}
 use Rattle.dt_flow_model.specs.declared.rows.Taken.{Taken}
 use Rattle.dt_items.specs.declared.item.Item.{Item}
 use Rattle.dt_units.specs.declared.parameters.Params.{Params}
-use Rattle.dt_flow_laws.proofs.Ledger.{all_at, all_open, note_length, note_lives, over_refl, over_done, over_length, over_note, note_past, noted_rows, out_append, length_out, chain_next, chain_rest, chain_front, chain_join, row_left, row_right, row_mapped, items_append, none_waiting}
+use Rattle.dt_flow_laws.proofs.Ledger.{all_at, all_open, note_length, note_lives, over_refl, over_done, over_length, over_note, note_past, noted_rows, out_append, length_out, chain_next, chain_rest, chain_front, chain_join, row_left, row_right, row_mapped, items_append, none_waiting, firsts_rest, firsts_front, firsts_join}
 use Rattle.dt_flow_laws.proofs.Frame.{Later, rest_on, rest_fresh, packet_on, packet_fresh, rest_noted, made_now}
 use Rattle.dt_flow_laws.proofs.SenderSteps.{taken_length, next_is, open_not_acked, sending_over}
 
@@ -43,7 +43,7 @@ ends_some : (run : Option Run) (r : Run) (n : ℕ) → run ≡ Some r → firsts
 ends_some None r n e h = absurd cc
 ends_some (Some q) r n e h = let same : r.sent ≡ q.sent = cc in omega arith
 
-sent_by : (c : Params) (s : FlowState) (x : SendRecord) (fx : SendSide c s.now s.sender_zero s.sender_until s.sender_life s.run s.taken (Some x)) → ReceiveSide c s.now s.receiver_zero s.receiver_until s.sender_life s.run s.taken s.given s.receiver
+pub sent_by : (c : Params) (s : FlowState) (x : SendRecord) (fx : SendSide c s.now s.sender_zero s.sender_until s.sender_life s.run s.taken (Some x)) → ReceiveSide c s.now s.receiver_zero s.receiver_until s.sender_life s.run s.taken s.given s.receiver
     → Transmitted c s.now s.run (run_after s.run (place_of s x 0) s.now (next_of x)) fx.old x
 sent_by c s x fx rest =
     let len = taken_length c s.now s.sender_zero s.sender_until s.sender_life s.run s.taken x fx in
@@ -105,10 +105,10 @@ module _ (c : Params) (s : FlowState) (x : SendRecord) (pos : 0 < c.mpl) (f : Ti
   after : Option Run
   after = run_after s.run (place_of s x 0) s.now (next_of x)
 
-  pub transmits : (x' : SendRecord) (p : Packet) → Chain x'.left x'.outstanding → x'.left ≡ x.left → x'.touched ≡ s.now + s.sender_zero → 0 < next_of x' → rows_out s.sender_zero s.sender_life x'.outstanding ≡ rows_out s.sender_zero s.sender_life x.outstanding → x'.waiting ≡ x.waiting
+  pub transmits : (x' : SendRecord) (p : Packet) → Chain x'.left x'.outstanding → FirstsFrom s.sender_zero x'.outstanding → x'.left ≡ x.left → x'.touched ≡ s.now + s.sender_zero → 0 < next_of x' → rows_out s.sender_zero s.sender_life x'.outstanding ≡ rows_out s.sender_zero s.sender_life x.outstanding → x'.waiting ≡ x.waiting
       → PacketFacts c (run_after s.run (place_of s x 0) s.now (next_of x)) s.taken s.given p
       → TimedKept c s (record s { sender = Some x'; run = run_after s.run (place_of s x 0) s.now (next_of x) }) (p ∷ [])
-  transmits x' p chain left touched some rows wait ok =
+  transmits x' p chain firsts left touched some rows wait ok =
       let t = sent_by c s x fx f.receive_side in
       let fresh : Sending s.sender_zero s.sender_life t.run x' fx.old s.taken = sending_sent c s.now s.sender_zero s.sender_life s.run _ fx.old s.taken x x' t fx.ledger fx.record_facts left touched in
       record {
@@ -120,6 +120,7 @@ module _ (c : Params) (s : FlowState) (x : SendRecord) (pos : 0 < c.mpl) (f : Ti
             lives = fx.lives;
             record_facts = record {
               chain = chain;
+              firsts = firsts;
               touched = omega arith;
               edge = λ h. absurd (omega arith);
               fresh = λ h. absurd (omega arith);
@@ -147,7 +148,7 @@ meets c s x pos is out edge f =
     let none : items_in x.outstanding ≡ 0 = rw out in
     let some : 0 < next_of x = elim (cases_lt 0 (next_of x)) [ inl lt ↦ lt | inr le ↦ omega (arith, fx.record_facts.edge (omega arith)) ] in
     let place : place_of s x x.left ≡ length fx.old = omega (arith, len, next) in
-    transmits c s x pos f fx (record x { touched = s.now + s.sender_zero }) _ fx.record_facts.chain refl refl some refl refl
+    transmits c s x pos f fx (record x { touched = s.now + s.sender_zero }) _ fx.record_facts.chain fx.record_facts.firsts refl refl some refl refl
     (made_now c s.now _ t.run s.taken s.given _ pos t.is t.began refl (omega (arith, len)) (rw (t.is) (omega (arith, t.sent))) tt
     (record { offset = x.left; place = omega (arith, t.base); number = refl; covers = λ q from to. covered c s.now s.sender_zero s.sender_life s.run _ fx.old s.taken x t fx.ledger fx.record_facts q from (omega arith) }))
 
@@ -171,7 +172,7 @@ module _ (c : Params) (now z until life : ℕ) (run : Option Run) (taken : List 
       ))
       ∙ sym (append_assoc fx.old (rows_out z life pre) (map (open_row life (Some (g.first - z))) g.items ++ (rows_out z life post ++ map (open_row life None) x.waiting)))
 
-  segment_row : (p k : ℕ) → p ≡ length fx.old + items_in pre + k → k < length g.items → row_at taken p ≡ open_row life (Some (g.first - z)) (get_or g.items k no_item)
+  pub segment_row : (p k : ℕ) → p ≡ length fx.old + items_in pre + k → k < length g.items → row_at taken p ≡ open_row life (Some (g.first - z)) (get_or g.items k no_item)
   segment_row p k at lt =
       rw (
         segment_ledger,
@@ -196,18 +197,22 @@ resends c s x pre post g pos is split within f =
     let front : Chain x.left pre = chain_front x.left pre (g ∷ post) chain in
     let rest : Chain (next_from x.left pre) (g ∷ post) = chain_rest x.left pre (g ∷ post) chain in
     let chain' : Chain x.left (pre ++ (record g { last = s.now + s.sender_zero }) ∷ post) = chain_join x.left pre ((record g { last = s.now + s.sender_zero }) ∷ post) front rest in
+    let firsts : FirstsFrom s.sender_zero (pre ++ g ∷ post) = rw split at fx.record_facts.firsts in
+    let firsts_g : FirstsFrom s.sender_zero (g ∷ post) = firsts_rest s.sender_zero pre (g ∷ post) firsts in
+    let firsts' : FirstsFrom s.sender_zero (pre ++ (record g { last = s.now + s.sender_zero }) ∷ post) = firsts_join s.sender_zero pre ((record g { last = s.now + s.sender_zero }) ∷ post) (firsts_front s.sender_zero pre (g ∷ post) firsts) (firsts_g.0, firsts_g.1) in
     let count : items_in x.outstanding ≡ items_in pre + (length g.items + items_in post) = rw split (items_append pre (g ∷ post)) in
     let number : g.offset ≡ x.left + items_in pre = omega (arith, rest.0, chain_next x.left pre front) in
     let place : place_of s x g.offset ≡ length fx.old + items_in pre = omega (arith, len, next) in
     let rows : (p k : ℕ) → p ≡ length fx.old + items_in pre + k → k < length g.items → row_at s.taken p ≡ open_row s.sender_life (Some (g.first - s.sender_zero)) (get_or g.items k no_item) =
     segment_row c s.now s.sender_zero s.sender_until s.sender_life s.run s.taken x pre post g split fx in
     let head : row_at s.taken (place_of s x g.offset) ≡ open_row s.sender_life (Some (g.first - s.sender_zero)) (get_or g.items 0 no_item) = rows (place_of s x g.offset) 0 (omega arith) rest.1 in
-    transmits c s x pos f fx (record x { touched = s.now + s.sender_zero; outstanding = pre ++ (record g { last = s.now + s.sender_zero }) ∷ post }) _ chain' refl refl
+    transmits c s x pos f fx (record x { touched = s.now + s.sender_zero; outstanding = pre ++ (record g { last = s.now + s.sender_zero }) ∷ post }) _ chain' firsts' refl refl
     (omega (arith, chain_next x.left (pre ++ (record g { last = s.now + s.sender_zero }) ∷ post) chain', items_append pre ((record g { last = s.now + s.sender_zero }) ∷ post), rest.1))
     (rw (split, out_append s.sender_zero s.sender_life pre (g ∷ post), out_append s.sender_zero s.sender_life pre ((record g { last = s.now + s.sender_zero }) ∷ post)))
     refl
     (made_now c s.now _ t.run s.taken s.given _ pos t.is t.began refl (omega (arith, len)) (rw (t.is) (omega (arith, t.sent)))
     (record {
+      some = rest.1;
       first = g.first - s.sender_zero;
       firsts = λ k lt. rw (rows (place_of s x g.offset + k) k (omega arith) lt);
       items_are = λ k lt. rw (rows (place_of s x g.offset + k) k (omega arith) lt);
@@ -246,7 +251,7 @@ module _ (c : Params) (now z until life : ℕ) (run : Option Run) (taken : List 
       let same : place ≡ length A = omega (arith, A_length) in
       rw (same, cut_ledger) (note_past life now cut A R)
 
-  cut_over : (place : ℕ) → place ≡ length fx.old + items_in x.outstanding → KeepsRows taken (note_first now place (length cut) taken)
+  pub cut_over : (place : ℕ) → place ≡ length fx.old + items_in x.outstanding → KeepsRows taken (note_first now place (length cut) taken)
   cut_over place e = rw (cut_noted place e) (rw cut_ledger (over_note life now cut A R))
 
   noted_at : (k F : ℕ) → (row_at (noted_rows life now cut ++ R) k).first ≡ Some F → F ≡ now
@@ -262,7 +267,7 @@ module _ (c : Params) (now z until life : ℕ) (run : Option Run) (taken : List 
             let g = rw e at h in absurd cc
       ]
 
-  cut_firsts : (place : ℕ) → place ≡ length fx.old + items_in x.outstanding → (p F : ℕ) → (row_at (note_first now place (length cut) taken) p).first ≡ Some F
+  pub cut_firsts : (place : ℕ) → place ≡ length fx.old + items_in x.outstanding → (p F : ℕ) → (row_at (note_first now place (length cut) taken) p).first ≡ Some F
       → ((row_at taken p).first ≡ Some F) × (p < place) ⊎ (F ≡ now) × (place ≤ p)
   cut_firsts place e p F h =
       let g = rw (cut_noted place e) at h in
@@ -273,6 +278,35 @@ module _ (c : Params) (now z until life : ℕ) (run : Option Run) (taken : List 
               lt,
             )
         | inr ge ↦ inr (noted_at (p - place) F (rw (row_right A (noted_rows life now cut ++ R) p (p - place) (omega (arith, A_length))) at g), ge)
+      ]
+
+  -- a place that has a first moment after the cut went out stands before its end
+  pub cut_end : (place : ℕ) → place ≡ length fx.old + items_in x.outstanding → (p F : ℕ) → (row_at (note_first now place (length cut) taken) p).first ≡ Some F → p < place + length cut
+  cut_end place e p F h =
+      elim (cases_lt p (place + length cut)) [
+        | inl lt ↦ lt
+        | inr ge ↦
+            let g = rw (cut_noted place e) at h in
+            let right : row_at (A ++ (noted_rows life now cut ++ R)) p ≡ row_at R (p - place - length cut) =
+            row_right A (noted_rows life now cut ++ R) p (p - place) (omega (arith, A_length)) ∙ row_right (noted_rows life now cut) R (p - place) (p - place - length cut) (omega (arith, length-map cut (open_row life (Some now)))) in
+            let none = none_waiting life rest (p - place - length cut) in
+            let f : None ≡ Some F = sym none ∙ ap (λ (r : Taken). r.first) (sym right) ∙ g in
+            absurd cc
+      ]
+
+  -- and one that had it before stands before the cut
+  pub cut_begin : (p F : ℕ) → (row_at taken p).first ≡ Some F → p < length fx.old + items_in x.outstanding
+  cut_begin p F h =
+      elim (cases_lt p (length fx.old + items_in x.outstanding)) [
+        | inl lt ↦ lt
+        | inr ge ↦
+            let k = p - (length fx.old + items_in x.outstanding) in
+            let right : row_at (A ++ (map (open_row life None) cut ++ R)) p ≡ row_at (map (open_row life None) cut ++ R) k = row_right A (map (open_row life None) cut ++ R) p k (omega (arith, A_length)) in
+            let joined : map (open_row life None) cut ++ R ≡ map (open_row life None) x.waiting = rw (split, map-append (open_row life None) cut rest) in
+            let none = none_waiting life x.waiting k in
+            let same : row_at taken p ≡ row_at (map (open_row life None) x.waiting) k = ap (λ (rows : List Taken). row_at rows p) cut_ledger ∙ right ∙ ap (λ (rows : List Taken). row_at rows k) joined in
+            let f : None ≡ Some F = sym none ∙ ap (λ (r : Taken). r.first) (sym same) ∙ h in
+            absurd cc
       ]
 
   cut_acked : (place : ℕ) → place ≡ length fx.old + items_in x.outstanding → (p : ℕ) → (row_at (note_first now place (length cut) taken) p).fate ≡ Acked → (row_at taken p).fate ≡ Acked
@@ -287,7 +321,7 @@ module _ (c : Params) (now z until life : ℕ) (run : Option Run) (taken : List 
             (rw one (rw (row_right A (noted_rows life now cut ++ R) p (p - place) (omega (arith, A_length))) at g)))
       ]
 
-  cut_row : (place p k : ℕ) → place ≡ length fx.old + items_in x.outstanding → p ≡ place + k → k < length cut → row_at (note_first now place (length cut) taken) p ≡ open_row life (Some now) (get_or cut k no_item)
+  pub cut_row : (place p k : ℕ) → place ≡ length fx.old + items_in x.outstanding → p ≡ place + k → k < length cut → row_at (note_first now place (length cut) taken) p ≡ open_row life (Some now) (get_or cut k no_item)
   cut_row place p k e at lt =
       rw (
         cut_noted place e,
@@ -311,9 +345,10 @@ module _ (c : Params) (now z until life : ℕ) (run : Option Run) (taken : List 
 pub sends : (c : Params) (s : FlowState) (x : SendRecord) (cut rest : List Item) → 0 < c.mpl → 0 < c.r → s.sender ≡ Some x → x.waiting ≡ cut ++ rest → 0 < length cut → Timed c s
     → TimedKept c s
     (record s {
-      sender = Some (record x { touched = s.now + s.sender_zero; outstanding = x.outstanding ++ (record { offset = next_of x; items = cut; first = s.now + s.sender_zero; last = s.now + s.sender_zero }) ∷ []; waiting = rest });
+      sender = Some (record x { touched = s.now + s.sender_zero; crossed = crossed_after c (s.now + s.sender_zero) x; outstanding = x.outstanding ++ (record { offset = next_of x; items = cut; first = s.now + s.sender_zero; last = s.now + s.sender_zero }) ∷ []; waiting = rest });
       taken = note_first s.now (place_of s x (next_of x)) (length cut) s.taken;
       run = run_after s.run (place_of s x 0) s.now (next_of x);
+      crossings = crossings_after c (next_of x) (place_of s x (next_of x)) s.now s.crossings;
     })
     ((record { kind = Data (leads x (next_of x)) cut; number = number_of c (next_of x); birth = s.now; place = place_of s x (next_of x) }) ∷ [])
 sends c s x cut rest pos pos_r is split some f =
@@ -325,7 +360,7 @@ sends c s x cut rest pos pos_r is split some f =
     let place : place_of s x (next_of x) ≡ length fx.old + items_in x.outstanding = omega (arith, len, next) in
     let over = cut_over c s.now s.sender_zero s.sender_until s.sender_life s.run s.taken x cut rest split fx (place_of s x (next_of x)) place in
     let chain : Chain x.left (x.outstanding ++ g ∷ []) = chain_join x.left x.outstanding (g ∷ []) fx.record_facts.chain (refl, some, tt) in
-    let x' : SendRecord = record x { touched = s.now + s.sender_zero; outstanding = x.outstanding ++ g ∷ []; waiting = rest } in
+    let x' : SendRecord = record x { touched = s.now + s.sender_zero; crossed = crossed_after c (s.now + s.sender_zero) x; outstanding = x.outstanding ++ g ∷ []; waiting = rest } in
     let more : 0 < next_of x' = omega (arith, chain_next x.left (x.outstanding ++ g ∷ []) chain, items_append x.outstanding (g ∷ [])) in
     let fresh : Sending s.sender_zero s.sender_life t.run x' fx.old s.taken = sending_sent c s.now s.sender_zero s.sender_life s.run _ fx.old s.taken x x' t fx.ledger fx.record_facts refl refl in
     let within : length fx.old ≤ length s.taken = omega (arith, len) in
@@ -339,6 +374,7 @@ sends c s x cut rest pos pos_r is split some f =
           lives = rw (note_lives s.now (place_of s x (next_of x)) (length cut) s.taken) fx.lives;
           record_facts = record {
             chain = chain;
+            firsts = firsts_join s.sender_zero x.outstanding (g ∷ []) fx.record_facts.firsts (omega arith, tt);
             touched = omega arith;
             edge = λ h. absurd (omega (arith, more));
             fresh = λ h. absurd (omega (arith, more));
@@ -354,6 +390,7 @@ sends c s x cut rest pos pos_r is split some f =
       made_fit = (
         made_now c s.now _ t.run _ s.given _ pos t.is t.began refl (omega (arith, len, over_length s.taken _ over)) (rw (t.is) (omega (arith, t.sent)))
             (record {
+              some = some;
               first = s.now;
               firsts = λ k lt. rw (cut_row c s.now s.sender_zero s.sender_until s.sender_life s.run s.taken x cut rest split fx (place_of s x (next_of x)) (place_of s x (next_of x) + k) k place (omega arith) lt);
               items_are = λ k lt. rw (cut_row c s.now s.sender_zero s.sender_until s.sender_life s.run s.taken x cut rest split fx (place_of s x (next_of x)) (place_of s x (next_of x) + k) k place (omega arith) lt);

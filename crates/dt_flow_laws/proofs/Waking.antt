@@ -1,10 +1,10 @@
 -- The moment at which a record is to be woken is the first at which an act is due; and the kind that is chosen is the first that is due.
-use Rattle.std.proofs.Common.{ℕ, ◌+◌, ◌<◌, ◌≤◌, ◌≡◌, Bool, true, false, List, [], ◌∷◌, ◌++◌, length, Option, Some, None, refl, ap, ◌∙◌, inl, inr, arith}
-use Rattle.std.specs.Prelude.{◌&&◌, nat_lt, nat_le, min}
+use Rattle.std.proofs.Common.{ℕ, ◌+◌, ◌<◌, ◌≤◌, ◌≡◌, Bool, true, false, List, [], ◌∷◌, ◌++◌, length, Option, Some, None, refl, ap, ◌∙◌, subst, inl, inr, arith}
+use Rattle.std.specs.Prelude.{◌&&◌, nat_lt, nat_le, min, max}
 use Rattle.std.proofs.lemmas.Bool.{cases_Bool, cases_lt}
 use Rattle.std.proofs.lemmas.Bool.Decides.{nat_tests}
-use Rattle.dt_flow_model.specs.ReceiveRecord.{ReceiveRecord, owing, recv_due_of, recv_wake_of}
-use Rattle.dt_flow_model.specs.SendActs.{Act, IsBefore, IsDue, IsFirst, act_if, act_of, better, can_send, could_meet, earlier, give_up, gives_up_from, giving_up, is_late, kind_of, meet, meeting, moment_if, most_segments, or_else, rank_of, release, release_or_renew, releases_from, releasing, renew, resend, resending, resends_from, send, sending, wake_of}
+use Rattle.dt_flow_model.specs.ReceiveRecord.{IsOwed, IsRecvDue, ReceiveRecord, owing, recv_due_of, recv_moment_if, recv_wake_of}
+use Rattle.dt_flow_model.specs.SendActs.{Act, IsBefore, IsDue, IsFirst, act_if, act_of, better, can_send, could_meet, earlier, give_up, gives_up_from, giving_up, is_late, kind_of, may_send_from, meet, meeting, moment_if, most_segments, or_else, rank_of, release, release_or_renew, releases_from, releasing, renew, resend, resending, resends_from, send, sending, wake_of}
 use Rattle.dt_flow_model.specs.SendRecord.{Segment, SendRecord, cut_of, cut_size, next_of, rest_of}
 use Rattle.dt_flow_model.specs.declared.acts.RecvKind.{RecvKind}
 use Rattle.dt_items.specs.declared.item.Item.{Item}
@@ -70,11 +70,6 @@ if_at false m k a e = absurd cc
 if_first : (c : Bool) (m : ℕ) (a : Act) → IsFirst Act (λ n. act_if (c && nat_le m n) a) (moment_if c m)
 if_first c m a = record { nothing_before = λ n h. if_before c m n a h; something_at = λ k e. if_at c m k a e }
 
--- due at any moment, or at none
-always_first : (c : Bool) (a : Act) → IsFirst Act (λ n. act_if c a) (moment_if c 0)
-always_first true a = record { nothing_before = λ n h. absurd (omega arith); something_at = λ k e. (a, refl) }
-always_first false a = record { nothing_before = λ n h. refl; something_at = λ k e. absurd cc }
-
 none_first : IsFirst Act (λ n. None) None
 none_first = record { nothing_before = λ n h. refl; something_at = λ k e. absurd cc }
 
@@ -86,8 +81,8 @@ release_first : (p : Params) (x : SendRecord) (gs : List Segment) → IsFirst Ac
 release_first p x [] = if_first true (x.touched + send_time p) (release_or_renew x.waiting)
 release_first p x (g ∷ gs) = none_first
 
-meet_first : (p : Params) (x : SendRecord) → IsFirst Act (λ n. meeting p n x) (moment_if (could_meet p x x.outstanding x.waiting) (x.touched + p.probe))
-meet_first p x = if_first (could_meet p x x.outstanding x.waiting) (x.touched + p.probe) meet
+meet_first : (p : Params) (x : SendRecord) → IsFirst Act (λ n. meeting p n x) (moment_if (could_meet x x.outstanding x.waiting) (x.touched + p.probe))
+meet_first p x = if_first (could_meet x x.outstanding x.waiting) (x.touched + p.probe) meet
 
 -- segments that go out again
 better_none : (g : Segment) (gs : List Segment) (b : Bool) (o : Option Act) → b ≡ false → o ≡ None → better g gs b o ≡ None
@@ -127,11 +122,21 @@ not_late late now until false e h =
 is_late_at : (late until : ℕ) → nat_lt late until ≡ true → (nat_le late late && nat_lt late until) ≡ true
 is_late_at late until h = both (nat_le late late) (nat_lt late until) (true_le late late (omega arith)) h
 
-resend_before : (p : Params) (n : ℕ) (gs : List Segment) → IsBefore n (resends_from p gs) → resending p n gs ≡ None
+-- whether a segment may go out again at all, from 0 on
+abbrev may : Params → Segment → Bool
+may p g = nat_lt (max 0 (g.last + p.rto)) (g.first + p.r)
+
+from_zero : (n : ℕ) → n ≡ max 0 n
+from_zero n = omega arith
+
+may_be : (p : Params) (g : Segment) → nat_lt (g.last + p.rto) (g.first + p.r) ≡ may p g
+may_be p g = ap (λ (n : ℕ). nat_lt n (g.first + p.r)) (from_zero (g.last + p.rto))
+
+resend_before : (p : Params) (n : ℕ) (gs : List Segment) → IsBefore n (resends_from p 0 gs) → resending p n gs ≡ None
 resend_before p n [] h = refl
 resend_before p n (g ∷ gs) h =
-    let parts = before_parts n (moment_if (nat_lt (g.last + p.rto) (g.first + p.r)) (g.last + p.rto)) (resends_from p gs) h in
-    better_none g gs (is_late p n g) (resending p n gs) (not_late (g.last + p.rto) n (g.first + p.r) (nat_lt (g.last + p.rto) (g.first + p.r)) refl parts.0) (resend_before p n gs parts.1)
+    let parts = before_parts n (moment_if (may p g) (g.last + p.rto)) (resends_from p 0 gs) h in
+    better_none g gs (is_late p n g) (resending p n gs) (not_late (g.last + p.rto) n (g.first + p.r) (may p g) (may_be p g) parts.0) (resend_before p n gs parts.1)
 
 -- the first of two moments, where the second is of the other segments
 resend_here : (p : Params) (g : Segment) (gs : List Segment) (m : ℕ) → nat_lt (g.last + p.rto) (g.first + p.r) ≡ true → g.last + p.rto ≡ m → (d : Act) × (resending p m (g ∷ gs) ≡ Some d)
@@ -140,9 +145,9 @@ resend_here p g gs m late same =
     let is : is_late p m g ≡ true = rw (← same) (is_late_at (g.last + p.rto) (g.first + p.r) late) in
     (e.0, rw is e.1)
 
-resend_at : (p : Params) (gs : List Segment) (m : ℕ) → resends_from p gs ≡ Some m → (d : Act) × (resending p m gs ≡ Some d)
+resend_at : (p : Params) (gs : List Segment) (m : ℕ) → resends_from p 0 gs ≡ Some m → (d : Act) × (resending p m gs ≡ Some d)
 resend_at p [] m e = absurd cc
-resend_at p (g ∷ gs) m e = go (nat_lt (g.last + p.rto) (g.first + p.r)) refl (resends_from p gs) (resend_at p gs) e
+resend_at p (g ∷ gs) m e = go (may p g) (may_be p g) (resends_from p 0 gs) (resend_at p gs) e
   where
     go : (b : Bool) → nat_lt (g.last + p.rto) (g.first + p.r) ≡ b → (f : Option ℕ) → ((m : ℕ) → f ≡ Some m → (d : Act) × (resending p m gs ≡ Some d)) → earlier (moment_if b (g.last + p.rto)) f ≡ Some m → (d : Act) × (resending p m (g ∷ gs) ≡ Some d)
     go false late f at e = let a = at m e in better_some p m g gs (is_late p m g) a.0 a.1
@@ -154,7 +159,7 @@ resend_at p (g ∷ gs) m e = go (nat_lt (g.last + p.rto) (g.first + p.r)) refl (
           | inr ge ↦ resend_here p g gs m late (omega arith)
         ]
 
-resend_first : (p : Params) (gs : List Segment) → IsFirst Act (λ n. resending p n gs) (resends_from p gs)
+resend_first : (p : Params) (gs : List Segment) → IsFirst Act (λ n. resending p n gs) (resends_from p 0 gs)
 resend_first p gs = record { nothing_before = λ n h. resend_before p n gs h; something_at = resend_at p gs }
 
 pub wake_first : (p : Params) (x : SendRecord) → IsFirst Act (λ now. act_of p now x) (wake_of p x)
@@ -162,7 +167,7 @@ wake_first p x =
     two_first _ _ _ _ (give_up_first p x.outstanding)
     (two_first _ _ _ _ (release_first p x x.outstanding)
     (two_first _ _ _ _ (resend_first p x.outstanding)
-    (two_first _ _ _ _ (always_first (can_send p x) (send (cut_of p x) (rest_of p x))) (meet_first p x))))
+    (two_first _ _ _ _ (if_first (can_send p x) (may_send_from p x) (send (cut_of p x) (rest_of p x))) (meet_first p x))))
 
 -- THE RECEIVER
 
@@ -204,6 +209,47 @@ pub recv_wake_first : (p : Params) (standing : Option ReceiveRecord) → IsFirst
 recv_wake_first p None = record { nothing_before = λ n h. refl; something_at = λ m e. absurd cc }
 recv_wake_first p (Some y) = record { nothing_before = λ n h. recv_wake_before p n y y.due refl h; something_at = λ m e. recv_wake_at p m y y.due refl e }
 
+-- what is chosen of the receiver is due, and Release comes first
+abbrev recv_pair : RecvKind → ℕ → RecvKind × ℕ
+recv_pair kind m = (kind, m)
+
+kind_in : (kind other : RecvKind) (m n : ℕ) → Some (recv_pair kind m) ≡ Some (recv_pair other n) → kind ≡ other
+kind_in kind other m n e = let pair : recv_pair kind m ≡ recv_pair other n = cc in ap (λ (q : RecvKind × ℕ). q.0) pair
+
+pub recv_chosen_due : (p : Params) (now : ℕ) (standing : Option ReceiveRecord) (kind : RecvKind) (m : ℕ) → recv_due_of p now standing ≡ Some (kind, m) → IsRecvDue p standing kind now
+recv_chosen_due p now None kind m e = absurd cc
+recv_chosen_due p now (Some y) kind m e =
+    elim (cases_Bool (nat_le (y.touched + receive_time p) now)) [
+      | inl late ↦ let f : Some (V.Release, y.touched + receive_time p) ≡ Some (kind, m) = rw late at e in let same : V.Release ≡ kind = kind_in V.Release kind (y.touched + receive_time p) m f in subst (λ (k : RecvKind). IsRecvDue p (Some y) k now) same (le_true _ _ late)
+      | inr live ↦ let f : owing now y.due ≡ Some (kind, m) = rw live at e in owed y.due refl f
+    ]
+  where
+    if_owed : (d : ℕ) (b : Bool) → nat_le d now ≡ b → y.due ≡ Some d → recv_moment_if b V.Ack d ≡ Some (kind, m) → IsRecvDue p (Some y) kind now
+    if_owed d true le is f = let same : V.Ack ≡ kind = kind_in V.Ack kind d m f in subst (λ (k : RecvKind). IsRecvDue p (Some y) k now) same (rw is (le_true _ _ le))
+    if_owed d false le is f = absurd cc
+
+    owed : (due : Option ℕ) → y.due ≡ due → owing now due ≡ Some (kind, m) → IsRecvDue p (Some y) kind now
+    owed None is f = absurd cc
+    owed (Some d) is f = if_owed d (nat_le d now) refl is f
+
+-- a kind that is due isn't passed over
+pub recv_release_due : (p : Params) (now : ℕ) (standing : Option ReceiveRecord) → IsRecvDue p standing V.Release now → (m : ℕ) × (recv_due_of p now standing ≡ Some (V.Release, m))
+recv_release_due p now None h = elim h [ ]
+recv_release_due p now (Some y) h = (y.touched + receive_time p, rw (true_le (y.touched + receive_time p) now h) refl)
+
+pub recv_some_due : (p : Params) (now : ℕ) (standing : Option ReceiveRecord) (kind : RecvKind) → IsRecvDue p standing kind now → (a : RecvKind × ℕ) × (recv_due_of p now standing ≡ Some a)
+recv_some_due p now None kind h = elim h [ ]
+recv_some_due p now (Some y) V.Release h = recv_late p now y h
+recv_some_due p now (Some y) V.Ack h = owed y.due refl h
+  where
+    owed : (due : Option ℕ) → y.due ≡ due → IsOwed now due → (a : RecvKind × ℕ) × (recv_due_of p now (Some y) ≡ Some a)
+    owed None is h = elim h [ ]
+    owed (Some d) is h =
+        elim (cases_Bool (nat_le (y.touched + receive_time p) now)) [
+          | inl late ↦ ((V.Release, y.touched + receive_time p), rw late)
+          | inr live ↦ ((V.Ack, d), rw (live, is, true_le d now h))
+        ]
+
 -- THE FIRST KIND
 
 -- what is chosen, and how late its kind comes
@@ -243,13 +289,13 @@ resend_rank_of p now gs meet rank le h = elim h [ ]
 
 -- the kinds before the third, and before the fourth
 module _ (p : Params) (now : ℕ) (x : SendRecord) where
-  from_second : (rank : ℕ) → 1 ≤ rank → Chosen (or_else (releasing p now x x.outstanding) (or_else (resending p now x.outstanding) (or_else (sending p x) (meeting p now x)))) rank → Chosen (act_of p now x) rank
+  from_second : (rank : ℕ) → 1 ≤ rank → Chosen (or_else (releasing p now x x.outstanding) (or_else (resending p now x.outstanding) (or_else (sending p now x) (meeting p now x)))) rank → Chosen (act_of p now x) rank
   from_second rank le h = choose_next (giving_up p now x.outstanding) _ rank (λ d e. give_up_rank p now x.outstanding d rank e) h
 
-  from_third : (rank : ℕ) → 2 ≤ rank → Chosen (or_else (resending p now x.outstanding) (or_else (sending p x) (meeting p now x))) rank → Chosen (act_of p now x) rank
+  from_third : (rank : ℕ) → 2 ≤ rank → Chosen (or_else (resending p now x.outstanding) (or_else (sending p now x) (meeting p now x))) rank → Chosen (act_of p now x) rank
   from_third rank le h = from_second rank (omega arith) (choose_next (releasing p now x x.outstanding) _ rank (λ d e. release_rank p now x x.outstanding d rank (omega arith) e) h)
 
-  from_fourth : (rank : ℕ) → 3 ≤ rank → Chosen (or_else (sending p x) (meeting p now x)) rank → Chosen (act_of p now x) rank
+  from_fourth : (rank : ℕ) → 3 ≤ rank → Chosen (or_else (sending p now x) (meeting p now x)) rank → Chosen (act_of p now x) rank
   from_fourth rank le h = from_third rank (omega arith) (choose_next (resending p now x.outstanding) _ rank (λ d e. resend_rank_of p now x.outstanding d rank (omega arith) (resend_may p now x.outstanding d e)) h)
 
 -- a kind that is due makes its act
@@ -268,10 +314,10 @@ resend_due p now (h ∷ before) g after le lt =
     let a = resend_due p now before g after le lt in
     better_some p now h (before ++ g ∷ after) (is_late p now h) a.0 a.1
 
-could_due : (p : Params) (x : SendRecord) (out : List Segment) (waiting : List Item) → out ≡ [] → 0 < length waiting → x.edge ≤ next_of x → next_of x < p.run_limit → could_meet p x out waiting ≡ true
-could_due p x (g ∷ gs) waiting none some le lt = absurd cc
-could_due p x [] [] none some le lt = absurd (omega arith)
-could_due p x [] (i ∷ is) none some le lt = both (nat_le x.edge (next_of x)) (nat_lt (next_of x) p.run_limit) (true_le x.edge (next_of x) le) (true_lt (next_of x) p.run_limit lt)
+could_due : (x : SendRecord) (out : List Segment) (waiting : List Item) → out ≡ [] → 0 < length waiting → x.edge ≤ next_of x → could_meet x out waiting ≡ true
+could_due x (g ∷ gs) waiting none some le = absurd cc
+could_due x [] [] none some le = absurd (omega arith)
+could_due x [] (i ∷ is) none some le = true_le x.edge (next_of x) le
 
 pub due_is_chosen : (p : Params) (now : ℕ) (x : SendRecord) (d : Act) → IsDue p now x d → Chosen (act_of p now x) (rank_of (kind_of d))
 due_is_chosen p now x (give_up g rest) h = choose_first (giving_up p now x.outstanding) _ 0 (give_up_due p now x g rest h.0 h.1)
@@ -284,8 +330,9 @@ due_is_chosen p now x (resend before g after) h =
 due_is_chosen p now x (send cut rest) h =
     let some : 0 < cut_size p x = omega (arith, h.2, ap (λ (is : List Item). length is) h.0, cut_count p x) in
     let can : can_send p x ≡ true = both (nat_lt 0 (cut_size p x)) (nat_lt (length x.outstanding) most_segments) (true_lt 0 (cut_size p x) some) (true_lt (length x.outstanding) most_segments h.3) in
-    from_fourth p now x 3 (omega arith) (choose_first (sending p x) (meeting p now x) 3 (send (cut_of p x) (rest_of p x), rw can, omega arith))
+    let may : (can_send p x && nat_le (may_send_from p x) now) ≡ true = both _ _ can (true_le (may_send_from p x) now h.4) in
+    from_fourth p now x 3 (omega arith) (choose_first (sending p now x) (meeting p now x) 3 (send (cut_of p x) (rest_of p x), rw may, omega arith))
 due_is_chosen p now x meet h =
-    let could : could_meet p x x.outstanding x.waiting ≡ true = could_due p x x.outstanding x.waiting h.0 h.1 h.2 h.3 in
-    let due : (could_meet p x x.outstanding x.waiting && nat_le (x.touched + p.probe) now) ≡ true = both _ _ could (true_le (x.touched + p.probe) now h.4) in
-    from_fourth p now x 4 (omega arith) (choose_next (sending p x) (meeting p now x) 4 (λ d e. if_rank (can_send p x) (send (cut_of p x) (rest_of p x)) d 4 (omega arith) e) (meet, rw due, omega arith))
+    let could : could_meet x x.outstanding x.waiting ≡ true = could_due x x.outstanding x.waiting h.0 h.1 h.2 in
+    let due : (could_meet x x.outstanding x.waiting && nat_le (x.touched + p.probe) now) ≡ true = both _ _ could (true_le (x.touched + p.probe) now h.3) in
+    from_fourth p now x 4 (omega arith) (choose_next (sending p now x) (meeting p now x) 4 (λ d e. if_rank (can_send p x && nat_le (may_send_from p x) now) (send (cut_of p x) (rest_of p x)) d 4 (omega arith) e) (meet, rw due, omega arith))

@@ -1,5 +1,6 @@
 -- The facts about time that each small step of a flow keeps. They are what makes the ledger safe.
--- Numbers that speak of a run are 0 where there is none, so that no fact needs a case for it.
+-- Numbers that speak of a run are 0 where there is none, so that no fact needs a case for it. A 0 is never weaker than the sentence: below 0 there is no moment and no place, and 0 moments are no wait where nothing was sent.
+-- Rows are read with a default (`row_at`), which has no first moment, isn't Open and isn't Acked. A fact whose premise is that a row has a first moment, is Open or is Acked speaks of rows that are there. Of the others each says beside it why its places are in the ledger.
 use Rattle.std.specs.Prelude.{ℕ, suc, ◌+◌, ◌-◌, ◌*◌, ◌^◌, ◌<◌, ◌≤◌, ◌≡◌, ◌≢◌, ◌⊎◌, max, true, false, List, [], ◌∷◌, ◌++◌, map, length, Option, Some, None}
 use Rattle.std.proofs.Math.ListN.{get_or, drop}
 use Rattle.dt_items.specs.declared.item.Item.{Item}
@@ -95,7 +96,7 @@ pub record Sending (clock life : ℕ) (run : Run) (x : SendRecord) (old taken : 
   pub base : run.base + x.left ≡ length old
   -- it was touched at the flow's last transmission
   pub sent : run.sent + clock ≡ x.touched
-  -- all places of the run before its open ones are settled
+  -- all places of the run before its open ones are settled. `old` is the front of the ledger, so they are in it
   pub settled : (place : ℕ) → run.base ≤ place → place < length old → (row_at taken place).fate ≢ Open
   -- all places from base on are of the present life
   pub of_life : (place : ℕ) → run.base ≤ place → place < length taken → (row_at taken place).life ≡ life
@@ -138,11 +139,11 @@ pub record Receiving (p : Params) (y : ReceiveRecord) (taken : List Taken) (give
   pub some : 0 < offset
   pub place : run.base + offset ≡ top given
   pub number : y.expected ≡ number_of p offset
-  -- each place of the run up to there is given or isn't Open
+  -- each place of the run up to there is given or isn't Open. It is in the ledger, since the last given one is (`GivenFacts.first_is`)
   pub covered : (place : ℕ) → run.base ≤ place → place < top given → IsGiven given place ⊎ ((row_at taken place).fate ≢ Open)
 
 pub record RecvFacts (p : Params) (now clock : ℕ) (run : Option Run) (taken : List Taken) (given : List Given) (y : ReceiveRecord) : Type 0 where
-  -- something was given, and the record was touched when the last of it was
+  -- something was given, so `top` and `last_at` are the last row's, and the record was touched when it was given
   pub accepted : 0 < top given
   pub touched : y.touched ≡ last_at given + clock
   -- a live record is of the present run
@@ -153,7 +154,7 @@ abbrev pub ReceiverFacts : Params → ℕ → ℕ → ℕ → Option Run → Lis
 ReceiverFacts p now clock until run taken given None = 0 < top given → last_at given + p.mpl + p.r + clock ≤ max (now + clock) until
 ReceiverFacts p now clock until run taken given (Some y) = RecvFacts p now clock run taken given y
 
--- a given row and its place: the place has a first moment, no later than the row's moment, and the octet and its marks are the place's
+-- a given row and its place: the place has a first moment, so it is in the ledger, no later than the row's moment, and the octet and its marks are the place's
 pub record GivenFacts (taken : List Taken) (row : Given) : Type 0 where
   pub first : ℕ
   pub first_is : (row_at taken row.place).first ≡ Some first
@@ -182,7 +183,7 @@ pub record ReceiveSide (p : Params) (now clock until sender_life : ℕ) (run : O
   pub record_facts : ReceiverFacts p now clock until run taken given receiver
   -- The places of given rows strictly increase.
   pub rising : Rising 0 given
-  -- Each place below the last given one is given, or uncertain, or of an earlier life of the sender.
+  -- Each place below the last given one is given, or uncertain, or of an earlier life of the sender. It is in the ledger, since the last given one is.
   pub skipped : (place : ℕ) → place < top given → IsGiven given place ⊎ ((row_at taken place).fate ≡ Uncertain) ⊎ ((row_at taken place).life < sender_life)
   -- Each acknowledged place is given.
   pub acked : (place : ℕ) → (row_at taken place).fate ≡ Acked → IsGiven given place
@@ -206,7 +207,7 @@ abbrev pub life_from : ℕ → List Given → ℕ
 life_from life [] = life
 life_from life (row ∷ rows) = life_from row.life rows
 
--- the last given row is of this life, where a record stands
+-- the last given row is of this life, where a record stands. There is one then (`RecvFacts.accepted`), so the default of `life_from` is read nowhere
 abbrev pub IsOfLife : ℕ → List Given → Option ReceiveRecord → Type 0
 IsOfLife life given None = Unit {0}
 IsOfLife life given (Some y) = life_from 0 given ≡ life
@@ -262,7 +263,7 @@ abbrev pub IsBelowNext : Params → List Crossing → ℕ → Type 0
 IsBelowNext p [] place = ⊥
 IsBelowNext p (c ∷ rest) place = place < c.place + quantum p
 
--- the place of the first of these crossings
+-- the place of the first of these crossings. Where there is none no place has a first moment (`reach`), so its default is read nowhere
 abbrev pub lowest : List Crossing → ℕ
 lowest [] = 0
 lowest (c ∷ []) = c.place
@@ -367,7 +368,7 @@ births_end p None (Ack window) = 0
 births_end p (Some run) (Ack window) = run.sent + p.mpl + receive_time p
 births_end p run Meet = firsts_end run
 
--- Settled below: before a packet that leads, nothing of the run is Open. Before an acknowledgement, each place of the run is given or isn't Open.
+-- Settled below: before a packet that leads, nothing of the run is Open. Before an acknowledgement, each place of the run is given or isn't Open. These places are in the ledger, since the packet's place stands at most at its end (`PacketFacts.in_ledger`).
 abbrev pub Covers : List Taken → List Given → Run → Packet → Kind → Type 0
 Covers taken given run q (Data drf items) = drf ≡ true → (place : ℕ) → run.base ≤ place → place < q.place → (row_at taken place).fate ≢ Open
 Covers taken given run q (Ack window) = (place : ℕ) → run.base ≤ place → place < q.place → IsGiven given place ⊎ ((row_at taken place).fate ≢ Open)
@@ -413,7 +414,7 @@ pub record IsNearOctet (p : Params) (taken : List Taken) (q : Packet) : Type 0 w
   pub first_is : (row_at taken place).first ≡ Some first
   pub in_time : q.birth + p.mpl < first + spacing_time p
 
--- Or no place of its run before its own is Open, and no place from its own on has a first moment `mpl` before its birth or earlier.
+-- Or no place of its run before its own is Open, and no place from its own on has a first moment `mpl` before its birth or earlier. Places before its own are in the ledger.
 pub record IsPastOpen (p : Params) (run : Option Run) (taken : List Taken) (q : Packet) : Type 0 where
   pub settled : (r : Run) → run ≡ Some r → IsPresent p r q.birth q.kind → (place : ℕ) → r.base ≤ place → place < q.place → (row_at taken place).fate ≢ Open
   pub later : (place first : ℕ) → q.place ≤ place → (row_at taken place).first ≡ Some first → q.birth < first + p.mpl

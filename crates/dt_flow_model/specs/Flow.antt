@@ -115,11 +115,11 @@ crossings_if false place now crossings = crossings
 abbrev pub crossings_after : Params → ℕ → ℕ → ℕ → List Crossing → List Crossing
 crossings_after p offset place now crossings = crossings_if (is_crossing p offset) place now crossings
 
--- the place of an offset of the send record: the count taken, less the count waiting, less how far the offset is before the next one
+-- the place of an offset of the send record: the count taken, less the count waiting, less how far the offset is before the next one. Of offsets up to the next one nothing is cut off at 0: a flow took all that its record did, which is a law
 abbrev pub place_of : FlowState → SendRecord → ℕ → ℕ
 place_of s x offset = length s.taken - length x.waiting - (next_of x - offset)
 
--- The tag of a data or rendezvous packet, told by its number: the count taken, less the count waiting, less how far the number is before the next one.
+-- The tag of a data or rendezvous packet, told by its number: the count taken, less the count waiting, less how far the number is before the next one. That it is the packet's place is a law.
 abbrev pub tag_of : Params → FlowState → SendRecord → ℕ → ℕ
 tag_of p s x number = length s.taken - length x.waiting - number_distance (number_of p (next_of x)) number
 

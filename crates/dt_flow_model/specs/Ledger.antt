@@ -1,6 +1,6 @@
 -- The ledger of one flow: a row for each octet that it took, a row for each octet that was given to its receiver, and how much was read.
 -- The place of an octet is its row's position in the list of taken rows, over all lives of the sending station.
-use Rattle.std.specs.Prelude.{ℕ, zero, suc, ◌+◌, ◌==◌, ◌≢◌, Bool, true, false, if◌then◌else◌, ◌&&◌, ◌||◌, List, [], ◌∷◌, ◌++◌, map, Option, Some, None}
+use Rattle.std.specs.Prelude.{ℕ, zero, suc, ◌+◌, ◌==◌, ◌≡◌, ◌≢◌, Bool, true, false, if◌then◌else◌, ◌&&◌, ◌||◌, List, [], ◌∷◌, ◌++◌, map, Option, Some, None}
 use Rattle.std.proofs.Math.ListN.{get_or}
 use Rattle.dt_items.specs.declared.item.Item.{Item}
 use Rattle.dt_flow_model.specs.declared.rows.Fate.{Fate}
@@ -41,13 +41,13 @@ take_rows life items rows = rows ++ map (open_row life None) items
 abbrev pub is_open_in : ℕ → Taken → Bool
 is_open_in life row = is_open row.fate && (row.life == life)
 
--- the leftmost `count` Open rows of this life get the fate
+-- the leftmost `count` Open rows of this life get the fate. There are as many: the ledger ends in the rows that the send record holds
 abbrev pub settle : ℕ → Fate → ℕ → List Taken → List Taken
 settle life fate zero rows = rows
 settle life fate (suc count) [] = []
 settle life fate (suc count) (row ∷ rows) = if is_open_in life row then (record row { fate = fate }) ∷ settle life fate count rows else row ∷ settle life fate (suc count) rows
 
--- `count` rows from the place on get their first moment
+-- `count` rows from the place on get their first moment. They are there: they are rows of octets that wait
 abbrev pub note_first : ℕ → ℕ → ℕ → List Taken → List Taken
 note_first at place count [] = []
 note_first at zero zero (row ∷ rows) = row ∷ rows
@@ -118,7 +118,7 @@ abbrev pub is_given : List Given → ℕ → Bool
 is_given [] place = false
 is_given (row ∷ rows) place = (row.place == place) || is_given rows place
 
--- the taken row at a place. Past the end of the rows stands a row that no promise speaks of: it isn't Open and isn't Acked, has no first moment, and is of no life above another. What is said of a row's octet is said of places of the ledger alone
+-- the taken row at a place. Past the end of the rows a default is read, which isn't Open, isn't Acked and has no first moment. So a premise of one of these says that the row is there; of other sentences Safe and Facts say why their places are in the ledger
 abbrev pub no_row : Taken
 no_row = record { life = 0; octet = 0; begin = false; end = false; first = None; fate = Uncertain }
 
@@ -128,6 +128,10 @@ no_item = item_of no_row
 abbrev pub row_at : List Taken → ℕ → Taken
 row_at rows place = get_or rows place no_row
 
+-- the row has a first moment; on a clock that is ahead by so much it is this reading
+abbrev pub HasFirst : ℕ → ℕ → Taken → Type 0
+HasFirst clock reading row = (first : ℕ) × (row.first ≡ Some first) × (first + clock ≡ reading)
+
 -- the given row at a position in its list, and the entry at one. What speaks of them bounds the position by the list's length, so that the default stands nowhere
 abbrev pub no_given : Given
 no_given = record { place = 0; octet = 0; begin = false; end = false; run = false; life = 0; at = 0 }
@@ -135,8 +139,8 @@ no_given = record { place = 0; octet = 0; begin = false; end = false; run = fals
 abbrev pub given_at : List Given → ℕ → Given
 given_at rows position = get_or rows position no_given
 
-abbrev pub no_entry : ReadCount
-no_entry = record { life = 0; count = 0 }
+abbrev pub no_read_count : ReadCount
+no_read_count = record { life = 0; count = 0 }
 
-abbrev pub entry_at : List ReadCount → ℕ → ReadCount
-entry_at entries position = get_or entries position no_entry
+abbrev pub read_count_at : List ReadCount → ℕ → ReadCount
+read_count_at entries position = get_or entries position no_read_count

@@ -34,7 +34,7 @@ pub record Receiver : Type 0 where
   -- the receive record, or none
   pub standing : Option ReceiveRecord
 
--- how many more octets the unread queue takes
+-- how many more octets the unread queue takes. It holds at most `rcap`, so nothing is cut off at 0
 abbrev pub free_of : Params → List Item → ℕ
 free_of p unread = p.rcap - length unread
 

@@ -227,8 +227,26 @@ abbrev pub wake_of : Params → SendRecord → Option ℕ
 wake_of p x = least_moment (send_moments p 0 x)
 
 -- an act of this kind is due
-abbrev pub IsKindDue : Params → ℕ → SendRecord → SendKind → Type 0
-IsKindDue p now x kind = (act : Act) × (kind_of act ≡ kind) × IsDue p now x act
+abbrev pub IsKindDue : Params → SendRecord → SendKind → ℕ → Type 0
+IsKindDue p x kind now = (act : Act) × (kind_of act ≡ kind) × IsDue p now x act
+
+-- a moment isn't past at now: there is none, or it comes at now or later
+abbrev pub IsAhead : ℕ → Option ℕ → Type 0
+IsAhead now None = Unit {0}
+IsAhead now (Some moment) = now ≤ moment
+
+-- The resend of a segment was missed: it was to go out again at the moment, and may do so no more.
+pub record IsMissed (p : Params) (now moment : ℕ) (g : Segment) : Type 0 where
+  pub late : g.last + p.rto ≡ moment
+  pub in_time : moment < g.first + p.r
+  pub over : g.first + p.r ≤ now
+
+pub record HoldsMissed (p : Params) (now moment : ℕ) (gs : List Segment) : Type 0 where
+  pub before : List Segment
+  pub missed : Segment
+  pub after : List Segment
+  pub split : gs ≡ before ++ missed ∷ after
+  pub is : IsMissed p now moment missed
 
 -- What the moment of a kind says, as it stands at now: where there is none the kind is never due from now on; else it isn't due from now on before the moment, and it is due at the later of the two.
 pub record IsMomentOf (due : ℕ → Type 0) (now : ℕ) (moment : Option ℕ) : Type 0 where

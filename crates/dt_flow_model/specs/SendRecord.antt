@@ -53,7 +53,7 @@ abbrev pub items_in : List Segment → ℕ
 items_in [] = 0
 items_in (g ∷ gs) = length g.items + items_in gs
 
--- how many octets the record holds, and how many more it takes
+-- how many octets the record holds, and how many more it takes. It holds at most `cap`
 abbrev pub held_of : SendRecord → ℕ
 held_of x = items_in x.outstanding + length x.waiting
 

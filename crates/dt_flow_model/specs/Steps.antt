@@ -1,4 +1,4 @@
--- The small steps of one flow. What an event does to the flow is a list of these.
+-- The small steps of one flow. What an event does to the flow is a list of these. A closing packet that comes is none: it changes nothing.
 use Rattle.std.specs.Prelude.{ℕ, ◌+◌, ◌<◌, ◌≤◌, ◌≡◌, ◌⊎◌, Bool, true, false, List, [], ◌∷◌, ◌++◌, length, Option, Some, None, All, Contains}
 use Rattle.dt_items.specs.declared.item.Item.{Item}
 use Rattle.dt_units.specs.declared.parameters.Params.{Params}

@@ -17,7 +17,7 @@ read_told flow run begin end octets = reports.Read flow run begin end record { r
 abbrev pub totals_told : Flow → Totals → Told
 totals_told flow t = reports.FlowTotals flow t.taken t.acked t.uncertain t.unsettled t.given t.read
 
--- what a report tells; only a piece that was read lends octets
+-- What a report tells. Only a piece that was read lends octets: another variant that does needs a row here.
 abbrev pub told : Report → Told
 told (reports.Read flow run begin end octets) = read_told flow run begin end octets.now
 told other = other

@@ -26,22 +26,14 @@ impl Totals {
     pub fn report(&self, flow: Flow) -> Report<'static>
         ensures { told result ≡ totals_told flow self.now }
     {
-        let Totals {
-            taken,
-            acked,
-            uncertain,
-            unsettled,
-            given,
-            read,
-        } = *self;
         Report::FlowTotals {
             flow,
-            taken,
-            acked,
-            uncertain,
-            unsettled,
-            given,
-            read,
+            taken: self.taken,
+            acked: self.acked,
+            uncertain: self.uncertain,
+            unsettled: self.unsettled,
+            given: self.given,
+            read: self.read,
         }
     }
 }

@@ -91,3 +91,11 @@ words-cut_some (x ∷ text) first more h =
           let found = onto_front-some x (cut 32 text) first more (sym (cut-cons_no 32 x text other) ∙ h) in
           slice_split-cons_no (λ y. y == 32) x text other ∙ ap (onto_first x) (words-cut_some text found.0 more found.1) ∙ ap (λ word. word ∷ words more) (sym found.2)
     ]
+
+words-some_by : (text : List ℕ) (found : Option (List ℕ × List ℕ)) → cut 32 text ≡ found → 0 < length (words text)
+words-some_by text None h = omega (arith, ap length (words-cut_none text h))
+words-some_by text (Some parts) h = omega (arith, ap length (words-cut_some text parts.0 parts.1 h))
+
+-- a line has a word at least
+pub words-some : (text : List ℕ) → 0 < length (words text)
+words-some text = words-some_by text (cut 32 text) refl

@@ -3,11 +3,12 @@ use Rattle.std.proofs.Common.{◌≡◌, ℕ, ◌<◌, ◌^◌, List, ◌∷◌,
 use Rattle.std.specs.Option.{option_and_then}
 use Rattle.std.specs.Fmt.{decimal}
 use Rattle.dt_units.specs.declared.endpoints.Flow.{Flow}
-use Rattle.dt_text.specs.Numerals.{number}
+use Rattle.dt_text.specs.Numerals.{numeral}
 use Rattle.dt_text.specs.Splitting.{cut}
-use Rattle.dt_text.specs.Endpoints.{endpoint, flow}
-use Rattle.dt_text.specs.Spelling.{endpoint_text, flow_text, IsFlow}
-use Rattle.dt_text.proofs.NumberLaws.{number-decimal, number-only}
+use Rattle.dt_text.specs.Endpoints.{endpoint_of, flow_of}
+use Rattle.dt_log.specs.Words.{endpoint_text, flow_text}
+use Rattle.dt_text.specs.WordKinds.{IsFlow}
+use Rattle.dt_text.proofs.NumberLaws.{numeral-decimal, numeral-only}
 use Rattle.dt_text.proofs.CutLaws.{IsFree-append, IsFree-cons, IsFree-decimal, cut-at, cut-found}
 
 -- what was found by two steps was found by each
@@ -15,25 +16,25 @@ pub both_found : {A B : Type 0} (read : Option A) (next : A → Option B) (y : B
 both_found None next y h = cc
 both_found (Some x) next y h = (x, refl, h)
 
-pub endpoint-text : (node port : ℕ) → node < 2 ^ 32 → port < 2 ^ 16 → endpoint (endpoint_text node port) ≡ Some (node, port)
-unfolding endpoint
+pub endpoint-text : (node port : ℕ) → node < 2 ^ 32 → port < 2 ^ 16 → endpoint_of (endpoint_text node port) ≡ Some (node, port)
+unfolding endpoint_of
 endpoint-text node port small small_port =
     let parts = cut-at 58 (decimal node) (decimal port) (IsFree-decimal 58 node (inr (omega arith)) (omega arith)) in
-    let node_read = number-decimal 4294967295 node (omega arith) (omega arith) in
-    let port_read = number-decimal 65535 port (omega arith) (omega arith) in
+    let node_read = numeral-decimal 4294967295 node (omega arith) (omega arith) in
+    let port_read = numeral-decimal 65535 port (omega arith) (omega arith) in
     rw (parts, node_read, port_read) refl
 
-pub endpoint-only : (word : List ℕ) (node port : ℕ) → endpoint word ≡ Some (node, port) → (word ≡ endpoint_text node port) × (node < 2 ^ 32) × (port < 2 ^ 16)
-unfolding endpoint
+pub endpoint-only : (word : List ℕ) (node port : ℕ) → endpoint_of word ≡ Some (node, port) → (word ≡ endpoint_text node port) × (node < 2 ^ 32) × (port < 2 ^ 16)
+unfolding endpoint_of
 endpoint-only word node port h =
     let parts = both_found (cut 58 word) _ (node, port) h in
-    let node_read = both_found (number 4294967295 parts.0.0) _ (node, port) parts.2 in
-    let port_read = both_found (number 65535 parts.0.1) _ (node, port) node_read.2 in
+    let node_read = both_found (numeral 4294967295 parts.0.0) _ (node, port) parts.2 in
+    let port_read = both_found (numeral 65535 parts.0.1) _ (node, port) node_read.2 in
     let pair : ◌≡◌ {A = ℕ × ℕ} (node_read.0, port_read.0) (node, port) = cc in
     let node_is : node_read.0 ≡ node = ap (λ (p : ℕ × ℕ). p.0) pair in
     let port_is : port_read.0 ≡ port = ap (λ (p : ℕ × ℕ). p.1) pair in
-    let node_text = number-only 4294967295 node_read.0 parts.0.0 (omega arith) node_read.1 in
-    let port_text = number-only 65535 port_read.0 parts.0.1 (omega arith) port_read.1 in (
+    let node_text = numeral-only 4294967295 node_read.0 parts.0.0 (omega arith) node_read.1 in
+    let port_text = numeral-only 65535 port_read.0 parts.0.1 (omega arith) port_read.1 in (
       cut-found 58 word parts.0.0 parts.0.1 parts.1
           ∙ ap (λ front. front ++ 58 ∷ parts.0.1) (node_text.0 ∙ ap decimal node_is)
           ∙ ap (λ after. decimal node ++ 58 ∷ after) (port_text.0 ∙ ap decimal port_is),
@@ -41,8 +42,8 @@ endpoint-only word node port h =
       omega arith,
     )
 
-pub flow-text : (f : Flow) → IsFlow f → flow (flow_text f) ≡ Some f
-unfolding flow flow_text
+pub flow-text : (f : Flow) → IsFlow f → flow_of (flow_text f) ≡ Some f
+unfolding flow_of flow_text
 flow-text f fits =
     let free = IsFree-append 62 (decimal f.from.0) (58 ∷ decimal f.from_port) (IsFree-decimal 62 f.from.0 (inr (omega arith)) (omega (arith, fits.from))) (IsFree-cons 62 58 (decimal f.from_port) refl (IsFree-decimal 62 f.from_port (inr (omega arith)) (omega (arith, fits.from_port)))) in
     let ends = cut-at 62 (endpoint_text f.from.0 f.from_port) (endpoint_text f.to.0 f.to_port) free in
@@ -50,12 +51,12 @@ flow-text f fits =
     let to = endpoint-text f.to.0 f.to_port fits.to fits.to_port in
     rw (ends, from, to) refl
 
-pub flow-only : (word : List ℕ) (f : Flow) → flow word ≡ Some f → (word ≡ flow_text f) × IsFlow f
-unfolding flow flow_text
+pub flow-only : (word : List ℕ) (f : Flow) → flow_of word ≡ Some f → (word ≡ flow_text f) × IsFlow f
+unfolding flow_of flow_text
 flow-only word f h =
     let ends = both_found (cut 62 word) _ f h in
-    let from = both_found (endpoint ends.0.0) _ f ends.2 in
-    let to = both_found (endpoint ends.0.1) _ f from.2 in
+    let from = both_found (endpoint_of ends.0.0) _ f ends.2 in
+    let to = both_found (endpoint_of ends.0.1) _ f from.2 in
     let made : Flow = record { from = record { 0 = from.0.0 }; from_port = from.0.1; to = record { 0 = to.0.0 }; to_port = to.0.1 } in
     let is : made ≡ f = cc in
     let from_text = endpoint-only ends.0.0 from.0.0 from.0.1 from.1 in

@@ -3,7 +3,7 @@ use Rattle.std.proofs.Common.{◌≡◌, ℕ, suc, zero, ◌+◌, ◌*◌, ◌<�
 use Rattle.std.proofs.Math.Numerals.{add-one}
 use Rattle.std.proofs.Math.Seq.{take-suc-set}
 use Rattle.std.specs.Char.{digit_value}
-use Rattle.dt_text.specs.Hexadecimal.{octets_of}
+use Rattle.dt_text.specs.Hexadecimal.{octets_of_hex}
 
 -- the octet of the pair that stands at a place
 abbrev pub octet_at : List ℕ → ℕ → ℕ
@@ -18,7 +18,7 @@ unfolding twice
 twice-is zero = refl
 twice-is (suc n) = let rest = twice-is n in omega arith
 
-next : (i : ℕ) (hex : List ℕ) → suc (twice i) < length hex → octets_of (take (suc (suc (twice i))) hex) ≡ octets_of (take (twice i) hex) ++ octet_at hex (twice i) ∷ []
+next : (i : ℕ) (hex : List ℕ) → suc (twice i) < length hex → octets_of_hex (take (suc (suc (twice i))) hex) ≡ octets_of_hex (take (twice i) hex) ++ octet_at hex (twice i) ∷ []
 unfolding twice
 next zero [] h = absurd (omega arith)
 next zero (high ∷ []) h = absurd (omega arith)
@@ -28,10 +28,10 @@ next (suc i) (high ∷ []) h = absurd (omega arith)
 next (suc i) (high ∷ low ∷ more) h = ap (λ rest. (16 * digit_value high + digit_value low) ∷ rest) (next i more (omega arith))
 
 -- one pair more gives one octet more
-pub octets_of-next : (i : ℕ) (hex octets : List ℕ) (high low : ℕ) → 2 * i + 1 < length hex → i < length octets
+pub octets_of_hex-next : (i : ℕ) (hex octets : List ℕ) (high low : ℕ) → 2 * i + 1 < length hex → i < length octets
     → high ≡ digit_value (get_or hex (2 * i) 0) → low ≡ digit_value (get_or hex (2 * i + 1) 0)
-    → take i octets ≡ octets_of (take (2 * i) hex) → take (i + 1) (set octets i (16 * high + low)) ≡ octets_of (take (2 * (i + 1)) hex)
-octets_of-next i hex octets high low inside room high-is low-is so_far =
+    → take i octets ≡ octets_of_hex (take (2 * i) hex) → take (i + 1) (set octets i (16 * high + low)) ≡ octets_of_hex (take (2 * (i + 1)) hex)
+octets_of_hex-next i hex octets high low inside room high-is low-is so_far =
     let place = twice-is i in
     let after : suc (suc (twice i)) ≡ 2 * (i + 1) = omega arith in
     let second : 2 * i + 1 ≡ suc (twice i) = omega arith in
@@ -39,7 +39,7 @@ octets_of-next i hex octets high low inside room high-is low-is so_far =
     ap (λ n. take n (set octets i (16 * high + low))) (add-one i)
     ∙ take-suc-set octets i (16 * high + low) room
     ∙ ap (λ front. front ++ (16 * high + low) ∷ []) so_far
-    ∙ ap (λ octet. octets_of (take (2 * i) hex) ++ octet ∷ []) octet
-    ∙ ap (λ n. octets_of (take n hex) ++ octet_at hex (twice i) ∷ []) (sym place)
+    ∙ ap (λ octet. octets_of_hex (take (2 * i) hex) ++ octet ∷ []) octet
+    ∙ ap (λ n. octets_of_hex (take n hex) ++ octet_at hex (twice i) ∷ []) (sym place)
     ∙ sym (next i hex (omega arith))
-    ∙ ap (λ n. octets_of (take n hex)) after
+    ∙ ap (λ n. octets_of_hex (take n hex)) after

@@ -1,3 +1,4 @@
+pub mod InputLineLaws
 pub mod NumeralLemmas
 pub mod CutLemmas
 pub mod KeptLemmas
@@ -6,9 +7,6 @@ pub mod NumberLaws
 pub mod CutLaws
 pub mod FlowLaws
 pub mod HexLaws
-pub mod OrderLaws
+pub mod WordLaws
+pub mod RowLaws
 pub mod LineLaws
-pub mod SpelledLaws
-pub mod Hexes
-pub mod Lengths
-pub mod Parts

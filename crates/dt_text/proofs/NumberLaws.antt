@@ -7,7 +7,7 @@ use Rattle.std.proofs.lemmas.Bool.{cases_lt, cases_eq, le-leb, leb-true}
 use Rattle.std.proofs.lemmas.Bool.Decides.{nat_tests}
 use Rattle.std.proofs.lemmas.Fmt.{decimal_is_IsNumeral, decimal_digit, first_decimal, decimal-digits_value}
 use Rattle.std.proofs.lemmas.Str.Parse.{IsNumeralModel, numerals_by_value, tells_all_ascii_digits}
-use Rattle.dt_text.specs.Numerals.{number, digits_number, begins_well}
+use Rattle.dt_text.specs.Numerals.{numeral, digits_number, begins_well}
 
 own : IsNumeralModel (λ ds. all_ascii_digits ds ≡ true) (digits_value 10)
 own = numerals_by_value (λ ds. all_ascii_digits ds ≡ true) tells_all_ascii_digits
@@ -38,9 +38,9 @@ decimal-begins_well n small =
       | inr more ↦ (omega (arith, (decimal_is_IsNumeral n small).0.0), λ is. absurd (omega (arith, first_decimal n (omega arith) small)))
     ]
 
-pub number-decimal : (most n : ℕ) → most < 2 ^ 64 → n ≤ most → number most (decimal n) ≡ Some n
-unfolding number digits_number
-number-decimal most n small within =
+pub numeral-decimal : (most n : ℕ) → most < 2 ^ 64 → n ≤ most → numeral most (decimal n) ≡ Some n
+unfolding numeral digits_number
+numeral-decimal most n small within =
     let numeral = decimal_is_IsNumeral n (omega arith) in
     let begins = begins_well-from (decimal n) (decimal-begins_well n (omega arith)) in
     let digits : all_ascii_digits (decimal n) ≡ true = own.from (decimal n) numeral.0.1 in
@@ -58,9 +58,9 @@ found : (b : Bool) (r : Option ℕ) (n : ℕ) → cond b r None ≡ Some n → (
 found true r n h = (refl, h)
 found false r n h = cc
 
-pub number-only : (most n : ℕ) (word : List ℕ) → most < 2 ^ 64 → number most word ≡ Some n → (word ≡ decimal n) × (n ≤ most)
-unfolding number digits_number BeginsWell
-number-only most n word small h =
+pub numeral-only : (most n : ℕ) (word : List ℕ) → most < 2 ^ 64 → numeral most word ≡ Some n → (word ≡ decimal n) × (n ≤ most)
+unfolding numeral digits_number BeginsWell
+numeral-only most n word small h =
     let outer = found (begins_well word) (digits_number most word) n h in
     let inner = found (all_ascii_digits word && nat_le (digits_value 10 word) most) (Some (digits_value 10 word)) n outer.1 in
     let tests = both (all_ascii_digits word) (nat_le (digits_value 10 word) most) inner.0 in

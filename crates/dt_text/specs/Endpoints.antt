@@ -1,8 +1,8 @@
 -- Flows and addresses as words.
 use Rattle.std.specs.Prelude.{ℕ, List, [], ◌∷◌, Option, Some, option_and_then}
 use Rattle.dt_units.specs.declared.endpoints.Flow.{Flow}
-use Rattle.dt_edges.specs.declared.addressing.Address.{Address}
-use Rattle.dt_text.specs.Numerals.{number}
+use Rattle.dt_edges.specs.declared.addresses.Address.{Address}
+use Rattle.dt_text.specs.Numerals.{numeral}
 use Rattle.dt_text.specs.Splitting.{cut}
 
 infixl 10 ◌>>=◌
@@ -10,37 +10,37 @@ abbrev pub ◌>>=◌ : {A B : Type 0} → Option A → (A → Option B) → Opti
 read >>= next = option_and_then next read
 
 -- `a:p` with a node's number and a port
-unfoldable pub endpoint : List ℕ → Option (ℕ × ℕ)
-endpoint word = do
+unfoldable pub endpoint_of : List ℕ → Option (ℕ × ℕ)
+endpoint_of word = do
   parts ← cut 58 word
-  node ← number 4294967295 parts.0
-  port ← number 65535 parts.1
+  node ← numeral 4294967295 parts.0
+  port ← numeral 65535 parts.1
   Some (node, port)
 
 -- `a:p>b:q`: octets go from the port p of the node a to the port q of the node b
-unfoldable pub flow : List ℕ → Option Flow
-flow word = do
+unfoldable pub flow_of : List ℕ → Option Flow
+flow_of word = do
   ends ← cut 62 word
-  from ← endpoint ends.0
-  to ← endpoint ends.1
+  from ← endpoint_of ends.0
+  to ← endpoint_of ends.1
   Some (record { from = record { 0 = from.0 }; from_port = from.1; to = record { 0 = to.0 }; to_port = to.1 })
 
 -- `w.x.y.z` with numbers from 0 to 255
-unfoldable pub ip : List ℕ → Option (List ℕ)
-ip word = do
+unfoldable pub ip_of : List ℕ → Option (List ℕ)
+ip_of word = do
   first ← cut 46 word
   second ← cut 46 first.1
   third ← cut 46 second.1
-  w ← number 255 first.0
-  x ← number 255 second.0
-  y ← number 255 third.0
-  z ← number 255 third.1
+  w ← numeral 255 first.0
+  x ← numeral 255 second.0
+  y ← numeral 255 third.0
+  z ← numeral 255 third.1
   Some (w ∷ x ∷ y ∷ z ∷ [])
 
 -- `w.x.y.z:p`: an IPv4 address and a port
-unfoldable pub address : List ℕ → Option Address
-address word = do
+unfoldable pub address_of : List ℕ → Option Address
+address_of word = do
   parts ← cut 58 word
-  ip ← ip parts.0
-  port ← number 65535 parts.1
+  ip ← ip_of parts.0
+  port ← numeral 65535 parts.1
   Some (record { ip = ip; port = port })

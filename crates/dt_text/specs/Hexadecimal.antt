@@ -12,7 +12,7 @@ abbrev pub is_hex : ℕ → List ℕ → Bool
 is_hex most word = nat_lt 0 (length word) && nat_le (length word) (2 * most) && are_pairs word
 
 -- the octets that pairs of hexadecimal digits spell: the high digit stands first
-abbrev pub octets_of : List ℕ → List ℕ
-octets_of (high ∷ low ∷ more) = (16 * digit_value high + digit_value low) ∷ octets_of more
-octets_of (_ ∷ []) = []
-octets_of [] = []
+abbrev pub octets_of_hex : List ℕ → List ℕ
+octets_of_hex (high ∷ low ∷ more) = (16 * digit_value high + digit_value low) ∷ octets_of_hex more
+octets_of_hex (_ ∷ []) = []
+octets_of_hex [] = []

@@ -1,11 +1,11 @@
+pub mod InputLines
 pub mod Numerals
 pub mod Splitting
 pub mod Endpoints
 pub mod Hexadecimal
 pub mod Said
-pub mod Fields
+pub mod WordKinds
+pub mod Rows
 pub mod Lines
 pub mod Stages
 pub mod Spelling
-pub mod Texts
-pub mod Wording

@@ -1,222 +1,57 @@
--- The lines of schedules and of scripts. Each kind has its first word, its number of words, and
--- what each of them may be; the words are tested from left to right.
-use Rattle.std.specs.Prelude.{ℕ, List, [], ◌∷◌, Result, Ok, Err, if◌then◌else◌, ◌==◌, length, nat_lt, slice_index, ◌||◌, codes}
+-- How a line is read by the rows. The first test that fails gives the fault: the words that choose the kind of line, the number of words, and
+-- then the words from left to right.
+use Rattle.std.specs.Prelude.{ℕ, ◌+◌, List, [], ◌∷◌, Result, Ok, Err, if◌then◌else◌, ◌==◌, length, nat_lt, slice_index, slice_index_or, ◌||◌, codes}
 use Rattle.std.specs.Str.{bytes_eq}
 use Rattle.dt_reports.specs.declared.faults.LineFault.{LineFault}
 use Rattle.dt_reports.specs.declared.faults.LineFault.TheVariants as faults
 use Rattle.dt_text.specs.declared.lines.Form.{Form}
 use Rattle.dt_text.specs.declared.lines.Form.TheVariants.{Schedule, Script}
 use Rattle.dt_text.specs.Splitting.{words, word}
-use Rattle.dt_text.specs.Said.{Said, Params, Station, Link, Route, Go, Pass, Send, Read, Tick, Arrive, Lose, Restart, Me, Local, Peer, AtSend, AtRead, AtStop, Blank}
-use Rattle.dt_text.specs.Fields.{◌>>=◌, has, number, link, day, max, flow, address, hex, marks, again}
+use Rattle.dt_text.specs.Said.{Said, Blank}
+use Rattle.dt_text.specs.WordKinds.{value_in}
+use Rattle.dt_text.specs.Rows.{Part, Fixed, Given, Makes, LineKind, of_schedules, of_scripts, behind_moments}
 
--- what a list of words says
-abbrev pub Reading : Type 0
-Reading = List (List ℕ) → Result Said LineFault
+infixl 10 ◌>>=◌
+abbrev pub ◌>>=◌ : {A B : Type 0} → Result A LineFault → (A → Result B LineFault) → Result B LineFault
+(Ok value) >>= next = next value
+(Err fault) >>= next = Err fault
 
--- `params MPL R A RTO PROBE SEG CAP RCAP WINDOW RUN_LIMIT`
-unfoldable pub params_line : Reading
-params_line line = do
-  _ ← has 11 line
-  mpl ← number (word 1 line)
-  r ← number (word 2 line)
-  a ← number (word 3 line)
-  rto ← number (word 4 line)
-  probe ← number (word 5 line)
-  seg ← number (word 6 line)
-  cap ← number (word 7 line)
-  rcap ← number (word 8 line)
-  window ← number (word 9 line)
-  run_limit ← number (word 10 line)
-  Ok (Params (record { mpl = mpl; r = r; a = a; rto = rto; probe = probe; seg = seg; cap = cap; rcap = rcap; window = window; run_limit = run_limit }))
+-- the words of a line from a place on; its fixed words have chosen the row
+abbrev pub said_by : (parts : List Part) → Makes parts → ℕ → List (List ℕ) → Result Said LineFault
+said_by [] said place line = Ok said
+said_by (Fixed text ∷ parts) makes place line = said_by parts makes (place + 1) line
+said_by (Given kind ∷ parts) makes place line = do
+  value ← value_in kind (word place line)
+  said_by parts (makes value) (place + 1) line
 
--- `station N ZERO`
-unfoldable pub station_line : Reading
-station_line line = do
-  _ ← has 3 line
-  n ← number (word 1 line)
-  zero ← number (word 2 line)
-  Ok (Station n zero)
+-- a line of the kind: the row that has its number of words says what it says
+unfoldable pub said_as : LineKind → List (List ℕ) → Result Said LineFault
+said_as [] line = Err faults.Count
+said_as (row ∷ rows) line = if length line == length row.words then said_by row.words row.says 0 line else said_as rows line
 
--- `link L FROM TO CHARGE PACE`
-unfoldable pub link_line : Reading
-link_line line = do
-  _ ← has 6 line
-  link ← link (word 1 line)
-  from ← number (word 2 line)
-  to ← number (word 3 line)
-  charge ← day (word 4 line)
-  pace ← day (word 5 line)
-  Ok (Link link from to charge pace)
+abbrev pub fixed_text : Part → List ℕ
+fixed_text (Fixed text) = text
+fixed_text (Given kind) = []
 
--- `route AT TO L`
-unfoldable pub route_line : Reading
-route_line line = do
-  _ ← has 4 line
-  at ← number (word 1 line)
-  to ← number (word 2 line)
-  link ← link (word 3 line)
-  Ok (Route at to link)
+-- the fixed word of a kind of line at a place
+abbrev pub name_at : ℕ → LineKind → List ℕ
+name_at place [] = []
+name_at place (row ∷ rows) = fixed_text (slice_index_or row.words place (Fixed []))
 
--- `go`
-unfoldable pub go_line : Reading
-go_line line = do
-  _ ← has 1 line
-  Ok Go
+-- a line of the kind that the word at a place names, or the fault Word where it names none
+abbrev pub said_by_name : ℕ → List LineKind → List (List ℕ) → Result Said LineFault
+said_by_name place [] line = Err faults.Word
+said_by_name place (kind ∷ kinds) line = if bytes_eq (word place line) (name_at place kind) then said_as kind line else said_by_name place kinds line
 
--- `pass D`
-unfoldable pub pass_line : Reading
-pass_line line = do
-  _ ← has 2 line
-  by ← number (word 1 line)
-  Ok (Pass by)
+-- behind `at T` the third word names the kind
+unfoldable pub said_at : List (List ℕ) → Result Said LineFault
+said_at line = if nat_lt (length line) 3 then Err faults.Count else said_by_name 2 behind_moments line
 
--- `send FLOW MARKS HEX`
-unfoldable pub send_line : Reading
-send_line line = do
-  _ ← has 4 line
-  flow ← flow (word 1 line)
-  marks ← marks (word 2 line)
-  hex ← hex (word 3 line)
-  Ok (Send flow marks.0 marks.1 hex)
+-- the words of a line that isn't blank
+abbrev pub said_in : Form → List (List ℕ) → Result Said LineFault
+said_in Schedule line = said_by_name 0 of_schedules line
+said_in Script line = if bytes_eq (word 0 line) (codes "at") then said_at line else said_by_name 0 of_scripts line
 
--- `read FLOW MAX`
-unfoldable pub reading_line : Reading
-reading_line line = do
-  _ ← has 3 line
-  flow ← flow (word 1 line)
-  max ← max (word 2 line)
-  Ok (Read flow max)
-
--- `tick N`
-unfoldable pub tick_line : Reading
-tick_line line = do
-  _ ← has 2 line
-  n ← number (word 1 line)
-  Ok (Tick n)
-
--- `arrive C`
-unfoldable pub arrive_line : Reading
-arrive_line line = do
-  _ ← has 2 line
-  copy ← number (word 1 line)
-  Ok (Arrive copy)
-
--- `lose C`
-unfoldable pub lose_line : Reading
-lose_line line = do
-  _ ← has 2 line
-  copy ← number (word 1 line)
-  Ok (Lose copy)
-
--- `restart N`
-unfoldable pub restart_line : Reading
-restart_line line = do
-  _ ← has 2 line
-  n ← number (word 1 line)
-  Ok (Restart n)
-
--- `me N first` or `me N again`
-unfoldable pub me_line : Reading
-me_line line = do
-  _ ← has 3 line
-  n ← number (word 1 line)
-  again ← again (word 2 line)
-  Ok (Me n again)
-
--- `local ADDRESS`
-unfoldable pub local_line : Reading
-local_line line = do
-  _ ← has 2 line
-  address ← address (word 1 line)
-  Ok (Local address)
-
--- `peer L ADDRESS CHARGE PACE`
-unfoldable pub peer_line : Reading
-peer_line line = do
-  _ ← has 5 line
-  link ← link (word 1 line)
-  address ← address (word 2 line)
-  charge ← day (word 3 line)
-  pace ← day (word 4 line)
-  Ok (Peer link address charge pace)
-
--- `route TO L`
-unfoldable pub own_route_line : Reading
-own_route_line line = do
-  _ ← has 3 line
-  to ← number (word 1 line)
-  link ← link (word 2 line)
-  Ok (Route 0 to link)
-
--- `at T send FLOW MARKS HEX`
-unfoldable pub at_send_line : Reading
-at_send_line line = do
-  _ ← has 6 line
-  at ← number (word 1 line)
-  flow ← flow (word 3 line)
-  marks ← marks (word 4 line)
-  hex ← hex (word 5 line)
-  Ok (AtSend at flow marks.0 marks.1 hex)
-
--- `at T read FLOW MAX`
-unfoldable pub at_read_line : Reading
-at_read_line line = do
-  _ ← has 5 line
-  at ← number (word 1 line)
-  flow ← flow (word 3 line)
-  max ← max (word 4 line)
-  Ok (AtRead at flow max)
-
--- `at T stop`
-unfoldable pub at_stop_line : Reading
-at_stop_line line = do
-  _ ← has 3 line
-  at ← number (word 1 line)
-  Ok (AtStop at)
-
--- the reading beside the name in a table, or the fault Word where no row has the name
-abbrev pub line_named : List (List ℕ × Reading) → List ℕ → Reading
-line_named [] name line = Err faults.Word
-line_named (row ∷ rows) name line = if bytes_eq name row.0 then row.1 line else line_named rows name line
-
--- the lines of a script behind `at T`, by their third word
-abbrev pub at_lines : List (List ℕ × Reading)
-at_lines =
-    (codes "send", at_send_line) ∷
-    (codes "read", at_read_line) ∷
-    (codes "stop", at_stop_line) ∷ []
-
-unfoldable pub at_line : Reading
-at_line line = if nat_lt (length line) 3 then Err faults.Count else line_named at_lines (word 2 line) line
-
--- the lines of a form, by their first word
-abbrev pub lines : Form → List (List ℕ × Reading)
-lines Schedule =
-    (codes "params", params_line) ∷
-    (codes "station", station_line) ∷
-    (codes "link", link_line) ∷
-    (codes "route", route_line) ∷
-    (codes "go", go_line) ∷
-    (codes "pass", pass_line) ∷
-    (codes "send", send_line) ∷
-    (codes "read", reading_line) ∷
-    (codes "tick", tick_line) ∷
-    (codes "arrive", arrive_line) ∷
-    (codes "lose", lose_line) ∷
-    (codes "restart", restart_line) ∷ []
-lines Script =
-    (codes "params", params_line) ∷
-    (codes "me", me_line) ∷
-    (codes "local", local_line) ∷
-    (codes "peer", peer_line) ∷
-    (codes "route", own_route_line) ∷
-    (codes "go", go_line) ∷
-    (codes "at", at_line) ∷ []
-
--- A line is blank where it is empty or begins with `#`. Every other line is words, and the first
--- of them says which line it is.
+-- A line is blank where it is empty or begins with `#`. Every other line is words.
 unfoldable pub line_of : Form → List ℕ → Result Said LineFault
-line_of form octets =
-    if length octets == 0 || slice_index octets 0 == 35 then Ok Blank else
-    line_named (lines form) (word 0 (words octets)) (words octets)
+line_of form octets = if length octets == 0 || slice_index octets 0 == 35 then Ok Blank else said_in form (words octets)

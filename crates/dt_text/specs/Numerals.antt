@@ -13,5 +13,5 @@ begins_well [] = false
 begins_well (first ∷ more) = not (first == 48) || (length more == 0)
 
 -- the number from 0 to most that a word is, if it is one
-unfoldable pub number : ℕ → List ℕ → Option ℕ
-number most word = if begins_well word then digits_number most word else None
+unfoldable pub numeral : ℕ → List ℕ → Option ℕ
+numeral most word = if begins_well word then digits_number most word else None

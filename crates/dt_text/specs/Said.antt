@@ -2,7 +2,7 @@
 use Rattle.std.specs.Prelude.{◌≡◌, ℕ, List, Bool, Result, Ok, Err}
 use Rattle.dt_units.specs.declared.endpoints.Flow.{Flow}
 use Rattle.dt_units.specs.declared.parameters.Params as units
-use Rattle.dt_edges.specs.declared.addressing.Address.{Address}
+use Rattle.dt_edges.specs.declared.addresses.Address.{Address}
 use Rattle.dt_reports.specs.declared.faults.LineFault.{LineFault}
 use Rattle.dt_text.specs.declared.lines.Line.{Line}
 use Rattle.dt_text.specs.declared.lines.Line.TheVariants as lines
@@ -51,6 +51,6 @@ said (lines.AtRead at flow max) = AtRead at flow max
 said (lines.AtStop at) = AtStop at
 
 -- what was read is what the definition says: this line, or this fault
-abbrev pub Reads : Result Line LineFault → Result Said LineFault → Type 0
-Reads (Ok line) line_of = line_of ≡ Ok (said line)
-Reads (Err fault) line_of = line_of ≡ Err fault
+abbrev pub ReadAs : Result Line LineFault → Result Said LineFault → Type 0
+ReadAs (Ok line) line_of = line_of ≡ Ok (said line)
+ReadAs (Err fault) line_of = line_of ≡ Err fault

@@ -1,140 +1,103 @@
--- How values and lines are written: numbers in decimal digits, octets in lower-case hexadecimal
--- digits, and lines in words.
-use Rattle.std.specs.Prelude.{◌≡◌, ℕ, ◌/◌, ◌%◌, ◌<◌, ◌≤◌, ◌^◌, Bool, true, false, List, [], ◌∷◌, ◌++◌, map, length, codes, IsTrue, ⊤}
-use Rattle.std.specs.Fmt.{decimal, digit_glyph}
-use Rattle.std.specs.List.{flat_map, join_with_byte, AllByRecursion}
-use Rattle.dt_units.specs.declared.endpoints.Flow.{Flow}
-use Rattle.dt_units.specs.declared.parameters.Params as units
-use Rattle.dt_edges.specs.declared.addressing.Address.{Address}
+-- How what a line says is written: in words, with one space between two of them.
+use Rattle.std.specs.Prelude.{◌≡◌, ◌⊎◌, ℕ, List, [], ◌∷◌, ◌++◌}
+use Rattle.std.specs.List.{join_with_byte}
 use Rattle.dt_text.specs.declared.lines.Form.{Form}
 use Rattle.dt_text.specs.declared.lines.Form.TheVariants.{Schedule, Script}
-use Rattle.dt_text.specs.Hexadecimal.{are_pairs}
 use Rattle.dt_text.specs.Said.{Said, Params, Station, Link, Route, Go, Pass, Send, Read, Tick, Arrive, Lose, Restart, Me, Local, Peer, AtSend, AtRead, AtStop, Blank}
+use Rattle.dt_text.specs.WordKinds.{Value, value_text, IsOfKind}
+use Rattle.dt_text.specs.Rows.{Part, Fixed, Given, Makes, LineRow, params_row, params_start_row, station_row, link_row, route_row, go_row, pass_row, send_row, read_row, tick_row, arrive_row, lose_row, restart_row, me_row, local_row, peer_row, own_route_row, at_send_row, at_read_row, at_stop_row}
 
--- `a:p`
-abbrev pub endpoint_text : ℕ → ℕ → List ℕ
-endpoint_text node port = decimal node ++ 58 ∷ decimal port
+-- the values of the words of a row, one after another
+abbrev pub Values : List Part → Type 0
+Values [] = Unit {0}
+Values (Fixed text ∷ parts) = Values parts
+Values (Given kind ∷ parts) = Value kind × Values parts
 
--- `a:p>b:q`
-unfoldable pub flow_text : Flow → List ℕ
-flow_text f = endpoint_text f.from.0 f.from_port ++ 62 ∷ endpoint_text f.to.0 f.to_port
+-- what the values make
+abbrev pub made : (parts : List Part) → Makes parts → Values parts → Said
+made [] said values = said
+made (Fixed text ∷ parts) makes values = made parts makes values
+made (Given kind ∷ parts) makes values = made parts (makes values.0) values.1
 
--- the two hexadecimal digits of an octet, the high one first, in lower case
-abbrev pub octet_text : ℕ → List ℕ
-octet_text octet = digit_glyph false (octet / 16) ∷ digit_glyph false (octet % 16) ∷ []
+-- the words that the values are written as
+abbrev pub texts : (parts : List Part) → Values parts → List (List ℕ)
+texts [] values = []
+texts (Fixed text ∷ parts) values = text ∷ texts parts values
+texts (Given kind ∷ parts) values = value_text kind values.0 ∷ texts parts values.1
 
-abbrev pub hex_text : List ℕ → List ℕ
-hex_text octets = flat_map octet_text octets
+-- each value is one of the kind of its word
+abbrev pub AreOfKinds : (parts : List Part) → Values parts → Type 0
+AreOfKinds [] values = Unit {0}
+AreOfKinds (Fixed text ∷ parts) values = AreOfKinds parts values
+AreOfKinds (Given kind ∷ parts) values = IsOfKind kind values.0 × AreOfKinds parts values.1
 
--- the numbers of a flow are of 32 bits, and its ports of 16
-pub record IsFlow (f : Flow) : Type 0 where
-  pub from : f.from.0 < 2 ^ 32
-  pub from_port : f.from_port < 2 ^ 16
-  pub to : f.to.0 < 2 ^ 32
-  pub to_port : f.to_port < 2 ^ 16
+-- a row with the values of its words
+pub record Way : Type 0 where
+  pub row : LineRow
+  pub values : Values row.words
 
--- `w.x.y.z:p`
-unfoldable pub address_text : Address → List ℕ
-address_text a = join_with_byte 46 (map decimal a.ip) ++ 58 ∷ decimal a.port
+abbrev pub by : (row : LineRow) → Values row.words → List Way
+by row values = (record { row = row; values = values }) ∷ []
 
--- `be`, `b`, `e` or `-`
-abbrev pub marks_text : Bool → Bool → List ℕ
-marks_text true true = codes "be"
-marks_text true false = codes "b"
-marks_text false true = codes "e"
-marks_text false false = codes "-"
+-- a line of schedules alone, or of scripts alone
+abbrev pub in_schedule : Form → List Way → List Way
+in_schedule Schedule ways = ways
+in_schedule Script ways = []
 
-abbrev pub again_text : Bool → List ℕ
-again_text false = codes "first"
-again_text true = codes "again"
+abbrev pub in_script : Form → List Way → List Way
+in_script Schedule ways = []
+in_script Script ways = ways
 
--- the words of a line; only the line `route` has other words in a script than in a schedule
-abbrev pub words_of : Form → Said → List (List ℕ)
-words_of form Blank = []
-words_of form (Params p) =
-    codes "params" ∷ decimal p.mpl ∷ decimal p.r ∷ decimal p.a ∷ decimal p.rto ∷ decimal p.probe ∷ decimal p.seg ∷ decimal p.cap ∷ decimal p.rcap
-    ∷ decimal p.window ∷ decimal p.run_limit ∷ []
-words_of form (Station n clock) = codes "station" ∷ decimal n ∷ decimal clock ∷ []
-words_of form (Link link from to charge pace) = codes "link" ∷ decimal link ∷ decimal from ∷ decimal to ∷ decimal charge ∷ decimal pace ∷ []
-words_of Schedule (Route at to link) = codes "route" ∷ decimal at ∷ decimal to ∷ decimal link ∷ []
-words_of Script (Route at to link) = codes "route" ∷ decimal to ∷ decimal link ∷ []
-words_of form Go = codes "go" ∷ []
-words_of form (Pass by) = codes "pass" ∷ decimal by ∷ []
-words_of form (Send flow begin end hex) = codes "send" ∷ flow_text flow ∷ marks_text begin end ∷ hex ∷ []
-words_of form (Read flow max) = codes "read" ∷ flow_text flow ∷ decimal max ∷ []
-words_of form (Tick n) = codes "tick" ∷ decimal n ∷ []
-words_of form (Arrive copy) = codes "arrive" ∷ decimal copy ∷ []
-words_of form (Lose copy) = codes "lose" ∷ decimal copy ∷ []
-words_of form (Restart n) = codes "restart" ∷ decimal n ∷ []
-words_of form (Me n again) = codes "me" ∷ decimal n ∷ again_text again ∷ []
-words_of form (Local address) = codes "local" ∷ address_text address ∷ []
-words_of form (Peer link address charge pace) = codes "peer" ∷ decimal link ∷ address_text address ∷ decimal charge ∷ decimal pace ∷ []
-words_of form (AtSend at flow begin end hex) = codes "at" ∷ decimal at ∷ codes "send" ∷ flow_text flow ∷ marks_text begin end ∷ hex ∷ []
-words_of form (AtRead at flow max) = codes "at" ∷ decimal at ∷ codes "read" ∷ flow_text flow ∷ decimal max ∷ []
-words_of form (AtStop at) = codes "at" ∷ decimal at ∷ codes "stop" ∷ []
+-- a blank line has no words
+abbrev pub blank_row : LineRow
+blank_row = record { words = []; says = Blank }
 
--- the words with one space between two of them
-unfoldable pub spelling : Form → Said → List ℕ
-spelling form line = join_with_byte 32 (words_of form line)
+-- The rows by which a line may be written, with the values of their words. Where a row leaves a part of the line out, it is a way to write the
+-- lines alone that it makes.
+abbrev pub ways : Form → Said → List Way
+ways form Blank = by blank_row tt
+ways form (Params p) =
+    by params_start_row (p.mpl, (p.r, (p.a, (p.rto, (p.probe, (p.seg, (p.cap, (p.rcap, (p.window, (p.run_limit, (p.start, tt)))))))))))
+    ++ by params_row (p.mpl, (p.r, (p.a, (p.rto, (p.probe, (p.seg, (p.cap, (p.rcap, (p.window, (p.run_limit, tt))))))))))
+ways form (Station n clock) = in_schedule form (by station_row (n, (clock, tt)))
+ways form (Link link from to charge pace) = in_schedule form (by link_row (link, (from, (to, (charge, (pace, tt))))))
+ways Schedule (Route at to link) = by route_row (at, (to, (link, tt)))
+ways Script (Route at to link) = by own_route_row (to, (link, tt))
+ways form Go = by go_row tt
+ways form (Pass by_ms) = in_schedule form (by pass_row (by_ms, tt))
+ways form (Send flow begin end hex) = in_schedule form (by send_row (flow, ((begin, end), (hex, tt))))
+ways form (Read flow max) = in_schedule form (by read_row (flow, (max, tt)))
+ways form (Tick n) = in_schedule form (by tick_row (n, tt))
+ways form (Arrive copy) = in_schedule form (by arrive_row (copy, tt))
+ways form (Lose copy) = in_schedule form (by lose_row (copy, tt))
+ways form (Restart n) = in_schedule form (by restart_row (n, tt))
+ways form (Me n again) = in_script form (by me_row (n, (again, tt)))
+ways form (Local address) = in_script form (by local_row (address, tt))
+ways form (Peer link address charge pace) = in_script form (by peer_row (link, (address, (charge, (pace, tt)))))
+ways form (AtSend at flow begin end hex) = in_script form (by at_send_row (at, (flow, ((begin, end), (hex, tt)))))
+ways form (AtRead at flow max) = in_script form (by at_read_row (at, (flow, (max, tt))))
+ways form (AtStop at) = in_script form (by at_stop_row (at, tt))
 
--- a number of 32 bits
-abbrev pub IsNumber : ℕ → Type 0
-IsNumber n = n ≤ 4294967295
+-- the row makes the line, with values of the kinds of its words
+abbrev pub IsWay : Said → Way → Type 0
+IsWay said way = (made way.row.words way.row.says way.values ≡ said) × AreOfKinds way.row.words way.values
 
--- a number of a link, and a charge or a pace
-abbrev pub IsLink : ℕ → Type 0
-IsLink link = link ≤ 255
+-- A line of the form, with its values in their ranges: the first of its ways writes it.
+abbrev pub IsLineBy : Said → List Way → Type 0
+IsLineBy said [] = ⊥
+IsLineBy said (way ∷ ways) = IsWay said way
 
-abbrev pub IsDay : ℕ → Type 0
-IsDay time = time ≤ 86400000
-
-abbrev pub IsMax : ℕ → Type 0
-IsMax max = (1 ≤ max) × (max ≤ 65536)
-
--- 1 to 65,536 pairs of hexadecimal digits
-pub record IsHex (hex : List ℕ) : Type 0 where
-  pub some : 0 < length hex
-  pub within : length hex ≤ 131072
-  pub pairs : IsTrue (are_pairs hex)
-
--- the numbers of an address, of which there are four
-pub record IsAddress (a : Address) : Type 0 where
-  pub four : length a.ip ≡ 4
-  pub octets : AllByRecursion (λ n. n ≤ 255) a.ip
-  pub port : a.port ≤ 65535
-
-pub record AreNumbers (p : units.Params) : Type 0 where
-  pub mpl : IsNumber p.mpl
-  pub r : IsNumber p.r
-  pub a : IsNumber p.a
-  pub rto : IsNumber p.rto
-  pub probe : IsNumber p.probe
-  pub seg : IsNumber p.seg
-  pub cap : IsNumber p.cap
-  pub rcap : IsNumber p.rcap
-  pub window : IsNumber p.window
-  pub run_limit : IsNumber p.run_limit
-
--- a line of the form, with its values in their ranges
 abbrev pub IsLine : Form → Said → Type 0
-IsLine form Blank = ⊤
-IsLine form (Params p) = AreNumbers p
-IsLine form Go = ⊤
-IsLine Schedule (Station n clock) = IsNumber n × IsNumber clock
-IsLine Schedule (Link link from to charge pace) = IsLink link × IsNumber from × IsNumber to × IsDay charge × IsDay pace
-IsLine Schedule (Route at to link) = IsNumber at × IsNumber to × IsLink link
-IsLine Schedule (Pass by) = IsNumber by
-IsLine Schedule (Send flow begin end hex) = IsFlow flow × IsHex hex
-IsLine Schedule (Read flow max) = IsFlow flow × IsMax max
-IsLine Schedule (Tick n) = IsNumber n
-IsLine Schedule (Arrive copy) = IsNumber copy
-IsLine Schedule (Lose copy) = IsNumber copy
-IsLine Schedule (Restart n) = IsNumber n
-IsLine Script (Me n again) = IsNumber n
-IsLine Script (Local address) = IsAddress address
-IsLine Script (Peer link address charge pace) = IsLink link × IsAddress address × IsDay charge × IsDay pace
-IsLine Script (Route at to link) = (at ≡ 0) × IsNumber to × IsLink link
-IsLine Script (AtSend at flow begin end hex) = IsNumber at × IsFlow flow × IsHex hex
-IsLine Script (AtRead at flow max) = IsNumber at × IsFlow flow × IsMax max
-IsLine Script (AtStop at) = IsNumber at
-IsLine _ _ = ⊥
+IsLine form said = IsLineBy said (ways form said)
+
+-- the words of a way with one space between two of them
+unfoldable pub way_text : Way → List ℕ
+way_text way = join_with_byte 32 (texts way.row.words way.values)
+
+abbrev pub IsSpelledBy : Said → List ℕ → List Way → Type 0
+IsSpelledBy said octets [] = ⊥
+IsSpelledBy said octets (way ∷ ways) = (IsWay said way × (octets ≡ way_text way)) ⊎ IsSpelledBy said octets ways
+
+-- The octets are a spelling of the line. A line has one spelling, but for parameters whose START is 0: it may be left out.
+abbrev pub IsSpelling : Form → Said → List ℕ → Type 0
+IsSpelling form said octets = IsSpelledBy said octets (ways form said)

@@ -7,9 +7,9 @@ use Rattle.dt_text.specs.declared.stages.Stage.TheVariants as stages
 use Rattle.dt_text.specs.Said.{Said, Params, Station, Link, Route, Go, Pass, Send, Read, Tick, Arrive, Lose, Restart, Me, Local, Peer, AtSend, AtRead, AtStop, Blank}
 
 -- at the start alone, and then in the next stage
-abbrev pub at_start : Stage → Stage → Option Stage
-at_start stages.Start next = Some next
-at_start _ next = None
+abbrev pub before_params : Stage → Stage → Option Stage
+before_params stages.Start next = Some next
+before_params _ next = None
 
 -- behind the parameters of a script alone
 abbrev pub behind_params : Stage → Stage → Option Stage
@@ -39,7 +39,7 @@ not_before _ moment next = None
 -- A schedule: the parameters, then stations, links and routes, then `go`, then what happens.
 abbrev pub schedule_after : Stage → Said → Option Stage
 schedule_after stage Blank = Some stage
-schedule_after stage (Params _) = at_start stage stages.Setup
+schedule_after stage (Params _) = before_params stage stages.Setup
 schedule_after stage (Station _ _) = in_setup stage stages.Setup
 schedule_after stage (Link _ _ _ _ _) = in_setup stage stages.Setup
 schedule_after stage (Route _ _ _) = in_setup stage stages.Setup
@@ -51,13 +51,18 @@ schedule_after stage (Tick _) = in_run stage
 schedule_after stage (Arrive _) = in_run stage
 schedule_after stage (Lose _) = in_run stage
 schedule_after stage (Restart _) = in_run stage
-schedule_after stage _ = None
+schedule_after stage (Me _ _) = None
+schedule_after stage (Local _) = None
+schedule_after stage (Peer _ _ _ _) = None
+schedule_after stage (AtSend _ _ _ _ _) = None
+schedule_after stage (AtRead _ _ _) = None
+schedule_after stage (AtStop _) = None
 
 -- A script: the parameters, the node's number, its address, then peers and routes, then `go`, then
 -- what happens at moments that never fall, and the stop last.
 abbrev pub script_after : Stage → Said → Option Stage
 script_after stage Blank = Some stage
-script_after stage (Params _) = at_start stage stages.Params
+script_after stage (Params _) = before_params stage stages.Params
 script_after stage (Me _ _) = behind_params stage stages.Me
 script_after stage (Local _) = behind_me stage stages.Setup
 script_after stage (Peer _ _ _ _) = in_setup stage stages.Setup
@@ -66,7 +71,15 @@ script_after stage Go = in_setup stage (stages.Run 0)
 script_after stage (AtSend at _ _ _ _) = not_before stage at (stages.Run at)
 script_after stage (AtRead at _ _) = not_before stage at (stages.Run at)
 script_after stage (AtStop at) = not_before stage at stages.Ended
-script_after stage _ = None
+script_after stage (Station _ _) = None
+script_after stage (Link _ _ _ _ _) = None
+script_after stage (Pass _) = None
+script_after stage (Send _ _ _ _) = None
+script_after stage (Read _ _) = None
+script_after stage (Tick _) = None
+script_after stage (Arrive _) = None
+script_after stage (Lose _) = None
+script_after stage (Restart _) = None
 
 -- the stage behind a line of the form, where the line is allowed
 abbrev pub stage_after : Form → Stage → Said → Option Stage

@@ -1,7 +1,7 @@
-ghost use Rattle.std.specs.Prelude.{◌≡◌, ◌<◌, ◌/◌, [], length, vec_len, IsTrue, OnOk, OnErr};
+ghost use Rattle.std.specs.Prelude.{◌≡◌, ◌<◌, ◌/◌, length, vec_len, vec_capacity, IsTrue, OnOk, OnErr};
 ghost use Rattle.std.specs.List.{list_all};
 ghost use Rattle.std.specs.Char.{digit_value, is_ascii_hexdigit};
-ghost use Rattle.dt_text.specs.Hexadecimal.{is_hex, are_pairs, octets_of};
+ghost use Rattle.dt_text.specs.Hexadecimal.{is_hex, are_pairs, octets_of_hex};
 
 use dt_items::NoMemory;
 
@@ -33,15 +33,15 @@ fn value_of(digit: u8) -> u8
     }
 }
 
-/// Puts the octets that pairs of hexadecimal digits spell in place of what was there. After
-/// `NoMemory` nothing is there. The cost is the digits; no memory is taken where there is room.
+/// Puts the octets that pairs of hexadecimal digits spell in place of what was there. `NoMemory`
+/// changes nothing, and comes only where there is no room for the octets. The cost is the digits.
 pub fn decode_hex(hex: &[u8], octets: &mut Vec<u8>) -> Result<(), NoMemory>
     requires { IsTrue (are_pairs hex.now) }
-    ensures ok { OnOk result (octets.new.items ≡ octets_of hex.now) }
+    ensures ok { OnOk result (octets.new.items ≡ octets_of_hex hex.now) }
     ensures len { OnOk result (vec_len octets.new ≡ length hex.now / 2) }
-    ensures err { OnErr result (octets.new.items ≡ []) }
+    ensures unchanged { OnErr result (octets.new.items ≡ octets.old.items) }
+    ensures no_room { OnErr result (vec_capacity octets.old < length hex.now / 2) }
 {
-    octets.clear();
     octets.resize(hex.len() / 2, 0)?;
     for i in 0..octets.len() {
         octets[i] = 16 * value_of(hex[2 * i]) + value_of(hex[2 * i + 1]);

@@ -1,28 +1,24 @@
-//! The texts of the program: lines of schedules and of scripts are read, and lines of the log are
-//! written.
+//! Lines of schedules and of scripts, read: an input is cut into lines, and each line says what its
+//! words say, or has the first fault.
 #![tactic(auto)]
 
 mod endpoints;
-mod faulting;
 mod fields;
 mod hexadecimal;
+mod input_lines;
 pub mod laws;
 mod lines;
-mod logging;
 mod numerals;
-mod putting;
 mod reading;
 mod splitting;
 mod stages;
-mod wording;
 
-pub use dt_reports::{Fault, LineFault, LogLine, Refusal, Report, SetupFault, StepFault};
+pub use dt_reports::LineFault;
 pub use endpoints::read_flow;
 pub use hexadecimal::{decode_hex, is_hex};
+pub use input_lines::split_line;
 pub use lines::{Form, Line};
-pub use logging::write_line;
 pub use numerals::read_number;
-pub use putting::{put_flow, put_hex, put_number};
 pub use reading::read_line;
 pub use stages::{Stage, follows};
 

@@ -16,7 +16,8 @@ pub enum Form {
 pub enum Line<'a> {
     /// An empty line, or one that begins with `#`.
     Blank,
-    /// The parameters of the protocol. Their ranges aren't tested yet.
+    /// The parameters of the protocol. Their ranges aren't tested yet. `start` is 0 where the line
+    /// leaves it out.
     Params(Params),
     /// A schedule: the node `n` stands in the world. Its clock reads `zero` ms more than the
     /// world's.

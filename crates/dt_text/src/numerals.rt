@@ -1,7 +1,7 @@
 ghost use Rattle.std.specs.Prelude.{◌≡◌, ◌+◌, ◌-◌, ◌*◌, ◌<◌, ◌≤◌, ◌^◌, IfSome, IsTrue};
 ghost use Rattle.std.specs.Char.{is_ascii_digit};
 ghost use Rattle.std.specs.Option.{SomeIff};
-ghost use Rattle.dt_text.specs.Numerals.{number, digits_number};
+ghost use Rattle.dt_text.specs.Numerals.{numeral, digits_number};
 
 /// The number with one more digit at its end, where it fits.
 fn with_digit(number: u64, digit: u8) -> Option<u64>
@@ -27,9 +27,9 @@ fn digits_number(digits: &[u8], most: u64) -> Option<u64>
 
 /// The number from 0 to `most` that a word is: decimal digits, without a leading zero unless the
 /// number is 0. It is `None` exactly where the word isn't one. The cost is at most 21 digits.
-#[tactic(auto, unfolding(crate::specs::Numerals::number))]
+#[tactic(auto, unfolding(crate::specs::Numerals::numeral))]
 pub fn read_number(word: &[u8], most: u64) -> Option<u64>
-    ensures value { result ≡ number most word.now }
+    ensures value { result ≡ numeral most word.now }
     ensures within { IfSome result (λ n. n ≤ most) }
 {
     let (first, more) = word.split_first()?;

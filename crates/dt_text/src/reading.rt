@@ -1,11 +1,12 @@
 //! Each kind of line by its words, and the lines of both forms.
-ghost use Rattle.std.specs.Prelude.{◌≡◌, ◌≢◌, ◌<◌, length, IfOk};
-ghost use Rattle.dt_text.specs.Said.{Reads, said};
+ghost use Rattle.std.specs.Prelude.{◌≡◌, ◌≢◌, ◌==◌, ◌⊎◌, ◌∷◌, [], ◌<◌, length, IfOk, IfErr, OnOk, if◌then◌else◌};
+ghost use Rattle.dt_text.specs.Said.{ReadAs, said};
 ghost use Rattle.dt_text.specs.Spelling.{IsLine};
-ghost use Rattle.dt_text.specs.Splitting.{word};
-ghost use Rattle.dt_text.specs.Lines.{line_of, line_named, lines};
+ghost use Rattle.dt_text.specs.Lines.{line_of, said_as, said_at, said_in};
 ghost use Rattle.dt_text.specs.declared.lines.Form.TheVariants.{Schedule, Script};
-ghost use Rattle.dt_text.specs.Lines as spelled;
+ghost use Rattle.dt_text.specs.Rows as rows;
+ghost use Rattle.dt_text.specs.Splitting.{word};
+ghost use Rattle.dt_text.specs.WordKinds.{value_in};
 
 use crate::fields::{address, again, day, flow, has, hex, link, marks, max, number};
 use crate::lines::{Form, Line};
@@ -13,12 +14,35 @@ use crate::splitting::{Words, is};
 use dt_reports::LineFault;
 use dt_units::Params;
 
-/// `params MPL R A RTO PROBE SEG CAP RCAP WINDOW RUN_LIMIT`
-#[tactic(auto, unfolding(crate::specs::Lines::params_line))]
-fn params_line<'a>(words: &Words<'a>) -> Result<Line<'a>, LineFault>
-    ensures { Reads result (spelled.params_line words.now) }
+/// Whether `params` has ten or eleven numbers.
+fn has_parameters(words: &Words<'_>) -> Result<(), LineFault>
+    ensures ok { OnOk result ((length words.now ≡ 11) ⊎ (length words.now ≡ 12)) }
+    ensures err { IfErr result (λ fault. (fault ≡ LineFault.Count) × (length words.now ≢ 11) × (length words.now ≢ 12)) }
 {
-    has(11, words)?;
+    if words.are(11) {
+        Ok(())
+    } else {
+        has(12, words)
+    }
+}
+
+/// The first sequence number: the eleventh number of `params`, or 0 where there are ten.
+fn start(words: &Words<'_>) -> Result<u32, LineFault>
+    ensures { result ≡ (if length words.now == 12 then value_in rows.any_number (word 11 words.now) else Ok 0) }
+{
+    if words.are(12) {
+        number(words.word(11))
+    } else {
+        Ok(0)
+    }
+}
+
+/// `params MPL R A RTO PROBE SEG CAP RCAP WINDOW RUN_LIMIT START`, or without START, which is 0 then
+#[tactic(auto, unfolding(crate::specs::Lines::said_as))]
+fn params_line<'a>(words: &Words<'a>) -> Result<Line<'a>, LineFault>
+    ensures { ReadAs result (said_as (rows.params_row ∷ rows.params_start_row ∷ []) words.now) }
+{
+    has_parameters(words)?;
     let mpl = number(words.word(1))?;
     let r = number(words.word(2))?;
     let a = number(words.word(3))?;
@@ -29,6 +53,7 @@ fn params_line<'a>(words: &Words<'a>) -> Result<Line<'a>, LineFault>
     let rcap = number(words.word(8))?;
     let window = number(words.word(9))?;
     let run_limit = number(words.word(10))?;
+    let start = start(words)?;
     Ok(Line::Params(Params {
         mpl,
         r,
@@ -40,13 +65,14 @@ fn params_line<'a>(words: &Words<'a>) -> Result<Line<'a>, LineFault>
         rcap,
         window,
         run_limit,
+        start,
     }))
 }
 
 /// `station N ZERO`
-#[tactic(auto, unfolding(crate::specs::Lines::station_line))]
+#[tactic(auto, unfolding(crate::specs::Lines::said_as))]
 fn station_line<'a>(words: &Words<'a>) -> Result<Line<'a>, LineFault>
-    ensures { Reads result (spelled.station_line words.now) }
+    ensures { ReadAs result (said_as (rows.station_row ∷ []) words.now) }
 {
     has(3, words)?;
     let n = number(words.word(1))?;
@@ -55,9 +81,9 @@ fn station_line<'a>(words: &Words<'a>) -> Result<Line<'a>, LineFault>
 }
 
 /// `link L FROM TO CHARGE PACE`
-#[tactic(auto, unfolding(crate::specs::Lines::link_line))]
+#[tactic(auto, unfolding(crate::specs::Lines::said_as))]
 fn link_line<'a>(words: &Words<'a>) -> Result<Line<'a>, LineFault>
-    ensures { Reads result (spelled.link_line words.now) }
+    ensures { ReadAs result (said_as (rows.link_row ∷ []) words.now) }
 {
     has(6, words)?;
     let link = link(words.word(1))?;
@@ -75,9 +101,9 @@ fn link_line<'a>(words: &Words<'a>) -> Result<Line<'a>, LineFault>
 }
 
 /// `route AT TO L`
-#[tactic(auto, unfolding(crate::specs::Lines::route_line))]
+#[tactic(auto, unfolding(crate::specs::Lines::said_as))]
 fn route_line<'a>(words: &Words<'a>) -> Result<Line<'a>, LineFault>
-    ensures { Reads result (spelled.route_line words.now) }
+    ensures { ReadAs result (said_as (rows.route_row ∷ []) words.now) }
 {
     has(4, words)?;
     let at = number(words.word(1))?;
@@ -87,18 +113,18 @@ fn route_line<'a>(words: &Words<'a>) -> Result<Line<'a>, LineFault>
 }
 
 /// `go`
-#[tactic(auto, unfolding(crate::specs::Lines::go_line))]
+#[tactic(auto, unfolding(crate::specs::Lines::said_as))]
 fn go_line<'a>(words: &Words<'_>) -> Result<Line<'a>, LineFault>
-    ensures { Reads result (spelled.go_line words.now) }
+    ensures { ReadAs result (said_as (rows.go_row ∷ []) words.now) }
 {
     has(1, words)?;
     Ok(Line::Go)
 }
 
 /// `pass D`
-#[tactic(auto, unfolding(crate::specs::Lines::pass_line))]
+#[tactic(auto, unfolding(crate::specs::Lines::said_as))]
 fn pass_line<'a>(words: &Words<'a>) -> Result<Line<'a>, LineFault>
-    ensures { Reads result (spelled.pass_line words.now) }
+    ensures { ReadAs result (said_as (rows.pass_row ∷ []) words.now) }
 {
     has(2, words)?;
     let by = number(words.word(1))?;
@@ -106,9 +132,9 @@ fn pass_line<'a>(words: &Words<'a>) -> Result<Line<'a>, LineFault>
 }
 
 /// `send FLOW MARKS HEX`
-#[tactic(auto, unfolding(crate::specs::Lines::send_line))]
+#[tactic(auto, unfolding(crate::specs::Lines::said_as))]
 fn send_line<'a>(words: &Words<'a>) -> Result<Line<'a>, LineFault>
-    ensures { Reads result (spelled.send_line words.now) }
+    ensures { ReadAs result (said_as (rows.send_row ∷ []) words.now) }
 {
     has(4, words)?;
     let flow = flow(words.word(1))?;
@@ -123,9 +149,9 @@ fn send_line<'a>(words: &Words<'a>) -> Result<Line<'a>, LineFault>
 }
 
 /// `read FLOW MAX`
-#[tactic(auto, unfolding(crate::specs::Lines::reading_line))]
+#[tactic(auto, unfolding(crate::specs::Lines::said_as))]
 fn reading_line<'a>(words: &Words<'a>) -> Result<Line<'a>, LineFault>
-    ensures { Reads result (spelled.reading_line words.now) }
+    ensures { ReadAs result (said_as (rows.read_row ∷ []) words.now) }
 {
     has(3, words)?;
     let flow = flow(words.word(1))?;
@@ -134,9 +160,9 @@ fn reading_line<'a>(words: &Words<'a>) -> Result<Line<'a>, LineFault>
 }
 
 /// `tick N`
-#[tactic(auto, unfolding(crate::specs::Lines::tick_line))]
+#[tactic(auto, unfolding(crate::specs::Lines::said_as))]
 fn tick_line<'a>(words: &Words<'a>) -> Result<Line<'a>, LineFault>
-    ensures { Reads result (spelled.tick_line words.now) }
+    ensures { ReadAs result (said_as (rows.tick_row ∷ []) words.now) }
 {
     has(2, words)?;
     let n = number(words.word(1))?;
@@ -144,9 +170,9 @@ fn tick_line<'a>(words: &Words<'a>) -> Result<Line<'a>, LineFault>
 }
 
 /// `arrive C`
-#[tactic(auto, unfolding(crate::specs::Lines::arrive_line))]
+#[tactic(auto, unfolding(crate::specs::Lines::said_as))]
 fn arrive_line<'a>(words: &Words<'a>) -> Result<Line<'a>, LineFault>
-    ensures { Reads result (spelled.arrive_line words.now) }
+    ensures { ReadAs result (said_as (rows.arrive_row ∷ []) words.now) }
 {
     has(2, words)?;
     let copy = number(words.word(1))?;
@@ -154,9 +180,9 @@ fn arrive_line<'a>(words: &Words<'a>) -> Result<Line<'a>, LineFault>
 }
 
 /// `lose C`
-#[tactic(auto, unfolding(crate::specs::Lines::lose_line))]
+#[tactic(auto, unfolding(crate::specs::Lines::said_as))]
 fn lose_line<'a>(words: &Words<'a>) -> Result<Line<'a>, LineFault>
-    ensures { Reads result (spelled.lose_line words.now) }
+    ensures { ReadAs result (said_as (rows.lose_row ∷ []) words.now) }
 {
     has(2, words)?;
     let copy = number(words.word(1))?;
@@ -164,9 +190,9 @@ fn lose_line<'a>(words: &Words<'a>) -> Result<Line<'a>, LineFault>
 }
 
 /// `restart N`
-#[tactic(auto, unfolding(crate::specs::Lines::restart_line))]
+#[tactic(auto, unfolding(crate::specs::Lines::said_as))]
 fn restart_line<'a>(words: &Words<'a>) -> Result<Line<'a>, LineFault>
-    ensures { Reads result (spelled.restart_line words.now) }
+    ensures { ReadAs result (said_as (rows.restart_row ∷ []) words.now) }
 {
     has(2, words)?;
     let n = number(words.word(1))?;
@@ -174,9 +200,9 @@ fn restart_line<'a>(words: &Words<'a>) -> Result<Line<'a>, LineFault>
 }
 
 /// `me N first` or `me N again`
-#[tactic(auto, unfolding(crate::specs::Lines::me_line))]
+#[tactic(auto, unfolding(crate::specs::Lines::said_as))]
 fn me_line<'a>(words: &Words<'a>) -> Result<Line<'a>, LineFault>
-    ensures { Reads result (spelled.me_line words.now) }
+    ensures { ReadAs result (said_as (rows.me_row ∷ []) words.now) }
 {
     has(3, words)?;
     let n = number(words.word(1))?;
@@ -185,9 +211,9 @@ fn me_line<'a>(words: &Words<'a>) -> Result<Line<'a>, LineFault>
 }
 
 /// `local ADDRESS`
-#[tactic(auto, unfolding(crate::specs::Lines::local_line))]
+#[tactic(auto, unfolding(crate::specs::Lines::said_as))]
 fn local_line<'a>(words: &Words<'a>) -> Result<Line<'a>, LineFault>
-    ensures { Reads result (spelled.local_line words.now) }
+    ensures { ReadAs result (said_as (rows.local_row ∷ []) words.now) }
 {
     has(2, words)?;
     let address = address(words.word(1))?;
@@ -195,9 +221,9 @@ fn local_line<'a>(words: &Words<'a>) -> Result<Line<'a>, LineFault>
 }
 
 /// `peer L ADDRESS CHARGE PACE`
-#[tactic(auto, unfolding(crate::specs::Lines::peer_line))]
+#[tactic(auto, unfolding(crate::specs::Lines::said_as))]
 fn peer_line<'a>(words: &Words<'a>) -> Result<Line<'a>, LineFault>
-    ensures { Reads result (spelled.peer_line words.now) }
+    ensures { ReadAs result (said_as (rows.peer_row ∷ []) words.now) }
 {
     has(5, words)?;
     let link = link(words.word(1))?;
@@ -213,9 +239,9 @@ fn peer_line<'a>(words: &Words<'a>) -> Result<Line<'a>, LineFault>
 }
 
 /// `route TO L`
-#[tactic(auto, unfolding(crate::specs::Lines::own_route_line))]
+#[tactic(auto, unfolding(crate::specs::Lines::said_as))]
 fn own_route_line<'a>(words: &Words<'a>) -> Result<Line<'a>, LineFault>
-    ensures { Reads result (spelled.own_route_line words.now) }
+    ensures { ReadAs result (said_as (rows.own_route_row ∷ []) words.now) }
 {
     has(3, words)?;
     let to = number(words.word(1))?;
@@ -224,9 +250,9 @@ fn own_route_line<'a>(words: &Words<'a>) -> Result<Line<'a>, LineFault>
 }
 
 /// `at T send FLOW MARKS HEX`
-#[tactic(auto, unfolding(crate::specs::Lines::at_send_line))]
+#[tactic(auto, unfolding(crate::specs::Lines::said_as))]
 fn at_send_line<'a>(words: &Words<'a>) -> Result<Line<'a>, LineFault>
-    ensures { Reads result (spelled.at_send_line words.now) }
+    ensures { ReadAs result (said_as (rows.at_send_row ∷ []) words.now) }
 {
     has(6, words)?;
     let at = number(words.word(1))?;
@@ -243,9 +269,9 @@ fn at_send_line<'a>(words: &Words<'a>) -> Result<Line<'a>, LineFault>
 }
 
 /// `at T read FLOW MAX`
-#[tactic(auto, unfolding(crate::specs::Lines::at_read_line))]
+#[tactic(auto, unfolding(crate::specs::Lines::said_as))]
 fn at_read_line<'a>(words: &Words<'a>) -> Result<Line<'a>, LineFault>
-    ensures { Reads result (spelled.at_read_line words.now) }
+    ensures { ReadAs result (said_as (rows.at_read_row ∷ []) words.now) }
 {
     has(5, words)?;
     let at = number(words.word(1))?;
@@ -255,9 +281,9 @@ fn at_read_line<'a>(words: &Words<'a>) -> Result<Line<'a>, LineFault>
 }
 
 /// `at T stop`
-#[tactic(auto, unfolding(crate::specs::Lines::at_stop_line))]
+#[tactic(auto, unfolding(crate::specs::Lines::said_as))]
 fn at_stop_line<'a>(words: &Words<'a>) -> Result<Line<'a>, LineFault>
-    ensures { Reads result (spelled.at_stop_line words.now) }
+    ensures { ReadAs result (said_as (rows.at_stop_row ∷ []) words.now) }
 {
     has(3, words)?;
     let at = number(words.word(1))?;
@@ -265,9 +291,9 @@ fn at_stop_line<'a>(words: &Words<'a>) -> Result<Line<'a>, LineFault>
 }
 
 /// A line of a script behind `at T`, which its third word chooses.
-#[tactic(auto, unfolding(crate::specs::Lines::at_line))]
+#[tactic(auto, unfolding(crate::specs::Lines::said_at))]
 fn at_line<'a>(words: &Words<'a>) -> Result<Line<'a>, LineFault>
-    ensures { Reads result (spelled.at_line words.now) }
+    ensures { ReadAs result (said_at words.now) }
 {
     if words.are_fewer(3) {
         return Err(LineFault::Count);
@@ -287,7 +313,7 @@ fn at_line<'a>(words: &Words<'a>) -> Result<Line<'a>, LineFault>
 /// A line of a schedule, by its first word.
 fn schedule_line<'a>(words: &Words<'a>) -> Result<Line<'a>, LineFault>
     requires { 0 < length words.now }
-    ensures { Reads result (line_named (lines Schedule) (word 0 words.now) words.now) }
+    ensures { ReadAs result (said_in Schedule words.now) }
 {
     let name = words.word(0);
     if is(name, "params") {
@@ -322,10 +348,12 @@ fn schedule_line<'a>(words: &Words<'a>) -> Result<Line<'a>, LineFault>
 /// A line of a script, by its first word.
 fn script_line<'a>(words: &Words<'a>) -> Result<Line<'a>, LineFault>
     requires { 0 < length words.now }
-    ensures { Reads result (line_named (lines Script) (word 0 words.now) words.now) }
+    ensures { ReadAs result (said_in Script words.now) }
 {
     let name = words.word(0);
-    if is(name, "params") {
+    if is(name, "at") {
+        at_line(words)
+    } else if is(name, "params") {
         params_line(words)
     } else if is(name, "me") {
         me_line(words)
@@ -337,8 +365,6 @@ fn script_line<'a>(words: &Words<'a>) -> Result<Line<'a>, LineFault>
         own_route_line(words)
     } else if is(name, "go") {
         go_line(words)
-    } else if is(name, "at") {
-        at_line(words)
     } else {
         Err(LineFault::Word)
     }
@@ -350,7 +376,7 @@ fn script_line<'a>(words: &Words<'a>) -> Result<Line<'a>, LineFault>
 /// line. The cost is the line, and no memory is taken.
 #[tactic(auto, unfolding(crate::specs::Lines::line_of))]
 pub fn read_line(form: Form, bytes: &[u8]) -> Result<Line<'_>, LineFault>
-    ensures exact { Reads result (line_of form bytes.now) }
+    ensures exact { ReadAs result (line_of form bytes.now) }
     ensures within { IfOk result (λ line. IsLine form (said line)) }
     ensures not_order { result ≢ Err LineFault.Order }
 {

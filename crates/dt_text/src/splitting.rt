@@ -4,7 +4,7 @@ ghost use Rattle.dt_text.specs.Splitting.{cut, words, word};
 
 use std::marker::Model;
 
-/// One more word than any line has that is tested word by word.
+/// The most words that a line has: `params` and eleven numbers.
 pub const MOST_WORDS: usize = 12;
 
 /// The place of the first of these octets.
@@ -31,7 +31,7 @@ pub fn is(word: &[u8], text: &str) -> bool
 }
 
 /// The words of a line: what stands between single spaces. A contract sees them as a list. Only the
-/// first [`MOST_WORDS`] of them are kept.
+/// first [`MOST_WORDS`] of them are kept, and no more are counted than one above that.
 #[derive(Drop)]
 pub struct Words<'a> {
     line: &'a [u8],
@@ -40,18 +40,20 @@ pub struct Words<'a> {
 }
 
 impl<'a> Model for Words<'a> {
-    ghost use Rattle.std.specs.Prelude.{◌≡◌, ◌<◌, ℕ, List, length, min, map};
+    ghost use Rattle.std.specs.Prelude.{◌≡◌, ◌<◌, ◌+◌, ℕ, List, length, min, map};
     ghost use Rattle.dt_text.specs.Splitting.{words, word};
+    ghost use Rattle.dt_text.specs.declared.splitting.TheConstants.{MOST_WORDS};
 
     ghost Value = { List (List ℕ) };
 
     ghost view = { λ w. words w.line.now };
 
-    ghost invariant = { λ w. (w.len ≡ min 12 (length (words w.line.now))) × ((k : ℕ) → k < w.len → word k (map (λ kept. kept.now) w.kept) ≡ word k (words w.line.now)) };
+    ghost invariant = { λ w. (w.len ≡ min (MOST_WORDS + 1) (length (words w.line.now))) × ((k : ℕ) → k < MOST_WORDS → k < w.len → word k (map (λ kept. kept.now) w.kept) ≡ word k (words w.line.now)) };
 }
 
 impl<'a> Words<'a> {
-    /// The words of a line. The cost is the line up to its 12th word.
+    /// The words of a line. The cost is the line up to the space behind the last word that is
+    /// kept.
     pub fn new(line: &'a [u8]) -> Self
         ensures { result ≡ words line.now }
     {
@@ -76,21 +78,21 @@ impl<'a> Words<'a> {
         Words {
             line,
             kept,
-            len: MOST_WORDS,
+            len: MOST_WORDS + 1,
         }
     }
 
-    /// Whether there are as many words as that, which are fewer than [`MOST_WORDS`].
+    /// Whether there are as many words as that, which are at most [`MOST_WORDS`].
     pub fn are(&self, count: usize) -> bool
-        requires { count < 12 }
+        requires { count ≤ MOST_WORDS }
         ensures { IsTrue result ↔ (length self.now ≡ count) }
     {
         self.len == count
     }
 
-    /// Whether there are fewer words than that, which is at most [`MOST_WORDS`].
+    /// Whether there are fewer words than that, which are at most [`MOST_WORDS`].
     pub fn are_fewer(&self, count: usize) -> bool
-        requires { count ≤ 12 }
+        requires { count ≤ MOST_WORDS }
         ensures { IsTrue result ↔ (length self.now < count) }
     {
         self.len < count
@@ -99,7 +101,7 @@ impl<'a> Words<'a> {
     /// The word at a place, counted from 0.
     pub fn word(&self, place: usize) -> &'a [u8]
         requires there { place < length self.now }
-        requires kept { place < 12 }
+        requires kept { place < MOST_WORDS }
         ensures { result.now ≡ word place self.now }
     {
         self.kept[place]

@@ -3,5 +3,5 @@ pub mod Segments
 pub mod Transmissions
 pub mod Sends
 pub mod Logging
-pub mod Lines
 pub mod Replays
+pub mod Spacings

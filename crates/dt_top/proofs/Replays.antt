@@ -1,17 +1,14 @@
 -- A replay line by line.
-use Rattle.std.proofs.Common.{◌≡◌, ℕ, suc, ◌+◌, ◌≤◌, List, [], ◌∷◌, length, Option, Result, Ok, Err, refl, ap, sym, ◌∙◌, arith, add-one}
+use Rattle.std.proofs.Common.{◌≡◌, ℕ, suc, ◌+◌, ◌≤◌, List, [], ◌∷◌, ◌++◌, length, Result, Ok, Err, refl, ap, sym, subst, ◌∙◌, arith, add-one}
 use Rattle.std.specs.Prelude.{IsOkAnd}
 use Rattle.std.proofs.lemmas.List.Concat.{flat_map-append}
-use Rattle.dt_edges.specs.Streams.{appended}
-use Rattle.dt_edges.proofs.Puts.{appended-appended}
+use Rattle.dt_edges.specs.Sinks.{SinkSight, Takes}
 use Rattle.dt_reports.specs.declared.faults.Fault.{Fault}
+use Rattle.dt_text.specs.InputLines.{lines_of}
+use Rattle.dt_log.specs.Logs.{entry_text, log_text}
 use Rattle.dt_top.specs.declared.path.state.Path.{Path}
-use Rattle.dt_top.specs.declared.path.stop.Stop.{Stop}
-use Rattle.dt_top.specs.Cutting.{lines_of}
-use Rattle.dt_top.specs.Logs.{Entry, entry_text, log_text}
 use Rattle.dt_top.specs.Replay.{Turned, Replay, turn, behind, refused_at, closing, replay_from, replay, at_start}
-use Rattle.dt_top.specs.Stopping.{Logs}
-use Rattle.dt_top.proofs.Logging.{stops_later}
+use Rattle.dt_top.proofs.Logging.{HasLeft, more_taken}
 
 pub replay_is : (octets : List ℕ) → replay octets ≡ replay_from 1 at_start (lines_of octets)
 unfolding replay
@@ -28,49 +25,43 @@ unfolding replay_from
 refused number path line lines fault h = rw (replay_from, h) refl
 
 -- the end of the input
-pub closes : (number : ℕ) (path : Path) → replay_from number path [] ≡ closing number path.stage path.sender
+closes : (number : ℕ) (path : Path) → replay_from number path [] ≡ closing number path.stage path.sender
 unfolding replay_from
 closes number path = refl
 
--- what a line that is served leads to, and its lines in the log
-abbrev pub Serves : Result Turned Fault → Path → Option (List ℕ) → Option (List ℕ) → Type 0 → Type 0
-Serves r path before after other = IsOkAnd r (λ t. (t.path ≡ path) × (after ≡ appended (log_text t.entries) before) × other)
+-- a line that is served leads to this path, and its lines of the log are taken
+abbrev pub Serves : Result Turned Fault → Path → SinkSight → SinkSight → Type 0
+Serves r path before after = IsOkAnd r (λ t. (t.path ≡ path) × Takes (log_text t.entries) before after)
 
-pub serves_steady : (r : Result Turned Fault) (path : Path) (before after : Option (List ℕ)) (other : Type 0) → Serves r path before after other → other
-serves_steady (Err fault) path before after other h = absurd h
-serves_steady (Ok t) path before after other h = h.2
+-- what the lines from here on log
+abbrev pub text_from : ℕ → Path → List (List ℕ) → List ℕ
+text_from number path lines = log_text (replay_from number path lines).entries
 
-went_text : (number : ℕ) (path path' : Path) (line : List ℕ) (lines : List (List ℕ)) (before after : Option (List ℕ)) (other : Type 0) (r : Result Turned Fault) → turn path line ≡ r → Serves r path' before after other
-    → appended (log_text (replay_from (suc number) path' lines).entries) after ≡ appended (log_text (replay_from number path (line ∷ lines)).entries) before
-went_text number path path' line lines before after other (Err fault) e h = absurd h
-went_text number path path' line lines before after other (Ok t) e h =
-    let tail : Path → List ℕ = λ p. log_text (replay_from (suc number) p lines).entries in
-    ap (λ p. appended (tail p) after) (sym h.0)
-    ∙ ap (appended (tail t.path)) h.1
-    ∙ appended-appended (log_text t.entries) (tail t.path) before
-    ∙ ap (λ xs. appended xs before) (sym (ap (λ (x : Replay). log_text x.entries) (served number path line lines t e) ∙ flat_map-append entry_text t.entries (replay_from (suc number) t.path lines).entries))
+went : {all : List ℕ} {start before after : SinkSight} (number : ℕ) (path path' : Path) (line : List ℕ) (lines : List (List ℕ)) (r : Result Turned Fault) → turn path line ≡ r → Serves r path' before after
+    → HasLeft (text_from number path (line ∷ lines)) all start before → HasLeft (text_from (suc number) path' lines) all start after
+went number path path' line lines (Err fault) e s h = absurd s
+went {all} {start} {before} {after} number path path' line lines (Ok t) e s h =
+    more_taken h (log_text t.entries) (text_from (suc number) path' lines) after
+    (ap (λ p. log_text t.entries ++ text_from (suc number) p lines) (sym s.0)
+    ∙ sym (ap (λ (x : Replay). log_text x.entries) (served number path line lines t e) ∙ flat_map-append entry_text t.entries (replay_from (suc number) t.path lines).entries))
+    s.1
 
-went_accepted : (number : ℕ) (path path' : Path) (line : List ℕ) (lines : List (List ℕ)) (before after : Option (List ℕ)) (other : Type 0) (r : Result Turned Fault) → turn path line ≡ r → Serves r path' before after other
+went_accepted : (before after : SinkSight) (number : ℕ) (path path' : Path) (line : List ℕ) (lines : List (List ℕ)) (r : Result Turned Fault) → turn path line ≡ r → Serves r path' before after
     → (replay_from (suc number) path' lines).accepted ≡ (replay_from number path (line ∷ lines)).accepted
-went_accepted number path path' line lines before after other (Err fault) e h = absurd h
-went_accepted number path path' line lines before after other (Ok t) e h =
-    ap (λ p. (replay_from (suc number) p lines).accepted) (sym h.0) ∙ sym (ap (λ (x : Replay). x.accepted) (served number path line lines t e))
+went_accepted before after number path path' line lines (Err fault) e s = absurd s
+went_accepted before after number path path' line lines (Ok t) e s =
+    ap (λ p. (replay_from (suc number) p lines).accepted) (sym s.0) ∙ sym (ap (λ (x : Replay). x.accepted) (served number path line lines t e))
 
 -- the same, for the first line of a rest
-pub text_goes_on : (number : ℕ) (path path' : Path) (line rest more : List ℕ) (before after : Option (List ℕ)) (other : Type 0) → lines_of rest ≡ line ∷ lines_of more → Serves (turn path line) path' before after other
-    → appended (log_text (replay_from (number + 1) path' (lines_of more)).entries) after ≡ appended (log_text (replay_from number path (lines_of rest)).entries) before
-text_goes_on number path path' line rest more before after other l h =
-    rw (add-one number) (went_text number path path' line (lines_of more) before after other (turn path line) refl h ∙ ap (λ ls. appended (log_text (replay_from number path ls).entries) before) (sym l))
+pub text_goes_on : {all : List ℕ} {start before after : SinkSight} (number : ℕ) (path path' : Path) (line rest more : List ℕ) → lines_of rest ≡ line ∷ lines_of more → Serves (turn path line) path' before after
+    → HasLeft (text_from number path (lines_of rest)) all start before → HasLeft (text_from (number + 1) path' (lines_of more)) all start after
+text_goes_on {all} {start} {before} {after} number path path' line rest more l s h =
+    rw (add-one number) (went number path path' line (lines_of more) (turn path line) refl s (subst (λ ls. HasLeft (text_from number path ls) all start before) l h))
 
-pub accepted_goes_on : (number : ℕ) (path path' : Path) (line rest more : List ℕ) (before after : Option (List ℕ)) (other : Type 0) → lines_of rest ≡ line ∷ lines_of more → Serves (turn path line) path' before after other
+pub accepted_goes_on : (before after : SinkSight) (number : ℕ) (path path' : Path) (line rest more : List ℕ) → lines_of rest ≡ line ∷ lines_of more → Serves (turn path line) path' before after
     → (replay_from (number + 1) path' (lines_of more)).accepted ≡ (replay_from number path (lines_of rest)).accepted
-accepted_goes_on number path path' line rest more before after other l h =
-    rw (add-one number) (went_accepted number path path' line (lines_of more) before after other (turn path line) refl h ∙ ap (λ ls. (replay_from number path ls).accepted) (sym l))
-
--- a call that logs the rest of the log, behind what was logged
-pub logs_all : {S T : Type 0} (held : S → Option (List ℕ)) (faults : S → ℕ) (rest all : List Entry) (r : Result T Stop) (old between new : S) → appended (log_text rest) (held between) ≡ appended (log_text all) (held old) → faults between ≡ faults old → Logs held faults rest r between new → Logs held faults all r old new
-logs_all held faults rest all (Ok _) old between new h f l = (l.0 ∙ h, l.1 ∙ f)
-logs_all held faults rest all (Err stop) old between new h f l = stops_later stop (faults old) (faults between) (faults new) f l
+accepted_goes_on before after number path path' line rest more l s =
+    rw (add-one number) (went_accepted before after number path path' line (lines_of more) (turn path line) refl s ∙ ap (λ ls. (replay_from number path ls).accepted) (sym l))
 
 empty_is : (xs : List ℕ) → length xs ≤ 0 → xs ≡ []
 empty_is [] h = refl

@@ -1,24 +1,17 @@
 -- Transmissions one by one.
-use Rattle.std.proofs.Common.{◌≡◌, ℕ, zero, suc, ◌+◌, ◌-◌, ◌<◌, true, false, List, [], ◌++◌, Option, refl, ap, sym, ◌∙◌, append_assoc, arith}
-use Rattle.dt_edges.specs.Streams.{appended}
-use Rattle.dt_edges.proofs.Puts.{appended-appended, appended-nothing}
-use Rattle.dt_flow_model.specs.SendActs.{can_send}
+use Rattle.std.proofs.Common.{◌≡◌, ℕ, zero, suc, ◌+◌, ◌-◌, ◌<◌, true, false, [], ◌++◌, refl, ap, sym, ◌∙◌, append_assoc, arith}
+use Rattle.dt_log.specs.Logs.{entry_text, log_text}
 use Rattle.dt_top.specs.declared.path.state.Sender.{Sender}
-use Rattle.dt_top.specs.Sending.{next_cut}
-use Rattle.dt_top.specs.Logs.{entry_text, log_text}
-use Rattle.dt_top.specs.Transmitting.{sent_entry, put_entry, after_transmission, transmissions, after_transmissions}
+use Rattle.dt_top.specs.Sending.{goes_out, next_cut}
+use Rattle.dt_top.specs.Transmitting.{sent_entry, put_entry, departure, after_transmission, transmissions, after_transmissions}
 
--- the lines of the next transmission
-abbrev pub departure : Sender → List ℕ
-departure s = entry_text (sent_entry (next_cut s.rules s.send_record)) ++ entry_text (put_entry s.rules s.copies)
-
--- where the record can't send, nothing more goes out
-pub none_after : (more : ℕ) (s : Sender) → can_send s.rules s.send_record ≡ false → after_transmissions more s ≡ s
+-- where nothing can go out, nothing more does
+pub none_after : (more : ℕ) (s : Sender) → goes_out s.rules s.send_record ≡ false → after_transmissions more s ≡ s
 unfolding after_transmissions
 none_after zero s h = refl
 none_after (suc more) s h = rw h refl
 
-pub none_told : (more : ℕ) (s : Sender) → can_send s.rules s.send_record ≡ false → transmissions more s ≡ []
+pub none_told : (more : ℕ) (s : Sender) → goes_out s.rules s.send_record ≡ false → transmissions more s ≡ []
 unfolding transmissions
 none_told zero s h = refl
 none_told (suc more) s h = rw h refl
@@ -31,29 +24,22 @@ pub none_left_told : (s : Sender) → transmissions 0 s ≡ []
 unfolding transmissions
 none_left_told s = refl
 
--- where it can, the next cut goes out first
-one_after : (more : ℕ) (s : Sender) → can_send s.rules s.send_record ≡ true → after_transmissions (suc more) s ≡ after_transmissions more (after_transmission s)
+-- where something can, the next cut goes out first
+one_after : (more : ℕ) (s : Sender) → goes_out s.rules s.send_record ≡ true → after_transmissions (suc more) s ≡ after_transmissions more (after_transmission s)
 unfolding after_transmissions
 one_after more s h = rw h refl
 
-one_told : (more : ℕ) (s : Sender) → can_send s.rules s.send_record ≡ true → log_text (transmissions (suc more) s) ≡ departure s ++ log_text (transmissions more (after_transmission s))
+one_told : (more : ℕ) (s : Sender) → goes_out s.rules s.send_record ≡ true → log_text (transmissions (suc more) s) ≡ departure s ++ log_text (transmissions more (after_transmission s))
 unfolding transmissions
 one_told more s h = rw h (sym (append_assoc (entry_text (sent_entry (next_cut s.rules s.send_record))) (entry_text (put_entry s.rules s.copies)) (log_text (transmissions more (after_transmission s)))))
 
 -- a turn of the loop in which one went out
-pub went_after : (n i : ℕ) (s gone : Sender) → i < n → can_send s.rules s.send_record ≡ true → gone ≡ after_transmission s → after_transmissions (n - (i + 1)) gone ≡ after_transmissions (n - i) s
+pub went_after : (n i : ℕ) (s gone : Sender) → i < n → goes_out s.rules s.send_record ≡ true → gone ≡ after_transmission s → after_transmissions (n - (i + 1)) gone ≡ after_transmissions (n - i) s
 went_after n i s gone lt can g =
     let one : n - i ≡ suc (n - (i + 1)) = omega arith in
     rw one (ap (after_transmissions (n - (i + 1))) g ∙ sym (one_after (n - (i + 1)) s can))
 
-pub went_told : (n i : ℕ) (s gone : Sender) (before after : Option (List ℕ)) → i < n → can_send s.rules s.send_record ≡ true → gone ≡ after_transmission s → after ≡ appended (departure s) before → appended (log_text (transmissions (n - (i + 1)) gone)) after ≡ appended (log_text (transmissions (n - i) s)) before
-went_told n i s gone before after lt can g a =
+pub went_told : (n i : ℕ) (s gone : Sender) → i < n → goes_out s.rules s.send_record ≡ true → gone ≡ after_transmission s → departure s ++ log_text (transmissions (n - (i + 1)) gone) ≡ log_text (transmissions (n - i) s)
+went_told n i s gone lt can g =
     let one : n - i ≡ suc (n - (i + 1)) = omega arith in
-    ap (λ t. appended (log_text (transmissions (n - (i + 1)) t)) after) g
-    ∙ ap (appended (log_text (transmissions (n - (i + 1)) (after_transmission s)))) a
-    ∙ appended-appended (departure s) (log_text (transmissions (n - (i + 1)) (after_transmission s))) before
-    ∙ ap (λ xs. appended xs before) (sym (ap (λ m. log_text (transmissions m s)) one ∙ one_told (n - (i + 1)) s can))
-
--- the end of the loop: nothing more goes out
-pub ended : (more : ℕ) (s : Sender) (before after : Option (List ℕ)) → transmissions more s ≡ [] → after ≡ before → after ≡ appended (log_text (transmissions more s)) before
-ended more s before after e a = a ∙ sym (ap (λ es. appended (log_text es) before) e ∙ appended-nothing before)
+    ap (λ t. departure s ++ log_text (transmissions (n - (i + 1)) t)) g ∙ sym (ap (λ m. log_text (transmissions m s)) one ∙ one_told (n - (i + 1)) s can)

@@ -13,12 +13,13 @@ use Rattle.dt_reports.specs.declared.faults.Fault.TheVariants as faults
 use Rattle.dt_reports.specs.declared.faults.LineFault.{LineFault}
 use Rattle.dt_reports.specs.declared.faults.LineFault.TheVariants.{Order}
 use Rattle.dt_reports.specs.declared.faults.Refusal.TheVariants.{Full}
-use Rattle.dt_reports.specs.Told as told
+use Rattle.dt_reports.specs.declared.reports.Report.TheVariants as reports
+use Rattle.dt_reports.specs.Entries.{Entry}
 use Rattle.dt_text.specs.declared.lines.Form.TheVariants.{Schedule}
 use Rattle.dt_text.specs.declared.stages.Stage.{Stage}
 use Rattle.dt_text.specs.declared.stages.Stage.TheVariants as stages
 use Rattle.dt_text.specs.Said.{Said, Params as ParamsLine, Send, Blank}
-use Rattle.dt_text.specs.Hexadecimal.{octets_of}
+use Rattle.dt_text.specs.Hexadecimal.{octets_of_hex}
 use Rattle.dt_text.specs.Lines.{line_of}
 use Rattle.dt_text.specs.Stages.{stage_after}
 use Rattle.dt_flow_model.specs.SendRecord.{new_record, room_of, put}
@@ -26,8 +27,8 @@ use Rattle.dt_flow_model.specs.SendActs.{most_segments}
 use Rattle.dt_top.specs.declared.path.state.Sender.{Sender}
 use Rattle.dt_top.specs.declared.path.state.Path.{Path}
 use Rattle.dt_top.specs.Transmitting.{the_flow, is_the_flow, by_sender, by_world, transmissions, after_transmissions}
-use Rattle.dt_top.specs.Cutting.{lines_of}
-use Rattle.dt_top.specs.Logs.{Entry, log_text}
+use Rattle.dt_text.specs.InputLines.{lines_of}
+use Rattle.dt_log.specs.Logs.{log_text}
 
 -- The setup that is served, behind its parameters: two stations, a link each way that charges 50 ms, and a route each way.
 abbrev pub setup_lines : List (List ℕ)
@@ -48,12 +49,12 @@ abbrev pub holding : Sender → List Item → ℕ → Sender
 holding s items count = record { rules = s.rules; send_record = put items s.send_record; copies = s.copies; taken = s.taken + count }
 
 abbrev pub taking : ℕ → Sender → SenderTurned
-taking count s = record { sender = after_transmissions most_segments s; entries = by_sender (told.Took the_flow count) ∷ transmissions most_segments s }
+taking count s = record { sender = after_transmissions most_segments s; entries = by_sender (reports.Took the_flow count) ∷ transmissions most_segments s }
 
 abbrev pub sends : Sender → Bool → Bool → List ℕ → SenderTurned
 sends s begin end octets =
     if nat_lt (room_of s.rules s.send_record) (length octets)
-    then record { sender = s; entries = by_sender (told.Refused the_flow (Full (room_of s.rules s.send_record))) ∷ [] }
+    then record { sender = s; entries = by_sender (reports.Refused the_flow (Full (room_of s.rules s.send_record))) ∷ [] }
     else taking (length octets) (holding s (marked octets begin end false) (length octets))
 
 -- the path with its sender after a send
@@ -83,7 +84,7 @@ setup_turn path line (Some next) =
 abbrev pub line_turn : Path → List ℕ → Said → Result Turned Fault
 line_turn path line Blank = Ok (record { path = path; entries = [] })
 line_turn path line (ParamsLine p) = params_turn path p (first_out_of_range p)
-line_turn path line (Send flow begin end hex) = send_turn path flow begin end (octets_of hex) path.sender
+line_turn path line (Send flow begin end hex) = send_turn path flow begin end (octets_of_hex hex) path.sender
 line_turn path line _ = setup_turn path line (slice_get setup_lines path.passed)
 
 -- a line that is read, where it is allowed
@@ -109,15 +110,15 @@ pub record Replay : Type 0 where
 abbrev pub totals : ℕ → List Entry
 totals taken =
     if nat_lt 0 taken
-    then by_world (told.FlowTotals the_flow taken 0 0 taken 0 0) ∷ by_world told.End ∷ []
-    else by_world told.End ∷ []
+    then by_world (reports.FlowTotals the_flow taken 0 0 taken 0 0) ∷ by_world reports.End ∷ []
+    else by_world reports.End ∷ []
 
 abbrev pub taken_by : Option Sender → ℕ
 taken_by None = 0
 taken_by (Some s) = s.taken
 
 abbrev pub refused_at : ℕ → Fault → Replay
-refused_at number fault = record { entries = by_world (told.Refuses number fault) ∷ []; accepted = false }
+refused_at number fault = record { entries = by_world (reports.Fault number fault) ∷ []; accepted = false }
 
 -- Behind the last line: a schedule has come to its end where it was running, and else a line is missing.
 abbrev pub closing : ℕ → Stage → Option Sender → Replay

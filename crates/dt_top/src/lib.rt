@@ -4,7 +4,7 @@
 
 ghost use Rattle.std.specs.Prelude.{◌≡◌, ◌≤◌, ◌<◌, ◌↔◌, ◌⊎◌, ℕ, IfSome, IfOk, IfErr, OnOk, false, true, length, MatchResult};
 ghost use Rattle.dt_edges.specs.Counts.{HasRisen};
-ghost use Rattle.dt_edges.specs.Streams.{appended};
+ghost use Rattle.std.specs.Io.KnownBytes.{Appends, append_known};
 ghost use Rattle.dt_top.specs.Inputs.{limit};
 ghost use Rattle.dt_top.specs.Replay.{replay_text, is_accepted};
 ghost use Rattle.dt_top.specs.Stopping.{StopsFor};
@@ -42,9 +42,9 @@ fn replay_buffered<K: Sink>(
 ) -> Result<bool, Stop>
     requires { length bytes.now ≤ limit }
     ensures accepted { IfOk result (λ accepted. accepted ≡ is_accepted bytes.now) }
-    ensures text { OnOk result (appended buffer.new (K.held out.new) ≡ appended (replay_text bytes.now) (appended buffer.old (K.held out.old))) }
-    ensures steady { OnOk result (K.faults out.new ≡ K.faults out.old) }
-    ensures stops { IfErr result (λ stop. StopsFor stop (K.faults out.old) (K.faults out.new)) }
+    ensures text { OnOk result (Appends (append_known (K.sight out.old).held buffer.old) (append_known (K.sight out.new).held buffer.new) (replay_text bytes.now)) }
+    ensures steady { OnOk result ((K.sight out.new).faults ≡ (K.sight out.old).faults) }
+    ensures stops { IfErr result (λ stop. StopsFor stop (K.sight out.old).faults (K.sight out.new).faults) }
 {
     let mut log = Buffered { out, buffer };
     replay_lines(alloc, bytes, &mut log)
@@ -54,9 +54,9 @@ fn replay_buffered<K: Sink>(
 fn replay_all<K: Sink>(alloc: Global, bytes: &[u8], out: &mut K) -> Result<bool, Stop>
     requires { length bytes.now ≤ limit }
     ensures accepted { IfOk result (λ accepted. accepted ≡ is_accepted bytes.now) }
-    ensures text { OnOk result (K.held out.new ≡ appended (replay_text bytes.now) (K.held out.old)) }
-    ensures steady { OnOk result (K.faults out.new ≡ K.faults out.old) }
-    ensures stops { IfErr result (λ stop. StopsFor stop (K.faults out.old) (K.faults out.new)) }
+    ensures text { OnOk result (Appends (K.sight out.old).held (K.sight out.new).held (replay_text bytes.now)) }
+    ensures steady { OnOk result ((K.sight out.new).faults ≡ (K.sight out.old).faults) }
+    ensures stops { IfErr result (λ stop. StopsFor stop (K.sight out.old).faults (K.sight out.new).faults) }
 {
     let mut buffer = Buffer::new(alloc)?;
     let accepted = replay_buffered(alloc, bytes, &mut buffer, out)?;
@@ -79,7 +79,7 @@ fn ending_of(replayed: Result<bool, Stop>) -> Ending
 /// Replays a schedule.
 fn replay<K: Sink>(alloc: Global, bytes: &[u8], out: &mut K) -> Ending
     requires { length bytes.now ≤ limit }
-    ensures { Replays result bytes.now (K.held out.old) (K.held out.new) (K.faults out.old) (K.faults out.new) }
+    ensures { Replays result bytes.now (K.sight out.old) (K.sight out.new) }
 {
     ending_of(replay_all(alloc, bytes, out))
 }
@@ -87,13 +87,10 @@ fn replay<K: Sink>(alloc: Global, bytes: &[u8], out: &mut K) -> Ending
 /// Serves the command that the words name.
 fn serve<S: Source, K: Sink>(alloc: Global, words: &[String], source: &mut S, out: &mut K) -> Ending
     ensures { Ends result (is_replay words.now) (record {
-      left = S.left source.old;
-      source_before = S.faults source.old;
-      source_after = S.faults source.new;
-      held_before = K.held out.old;
-      held_after = K.held out.new;
-      out_before = K.faults out.old;
-      out_after = K.faults out.new;
+      source_before = S.sight source.old;
+      source_after = S.sight source.new;
+      out_before = K.sight out.old;
+      out_after = K.sight out.new;
     }) }
 {
     if !is_replay(words) {
@@ -129,24 +126,21 @@ pub fn run<S: Source, K: Sink, E: Sink, W: Wire, C: Clock>(
     clock: &mut C,
 ) -> u8
     // The log of an accepted schedule, whole.
-    ensures done { result ≡ 0 → IfSome (S.left source.old) (λ octets. (is_accepted octets ≡ true) × (K.held out.new ≡ appended (replay_text octets) (K.held out.old))) }
+    ensures done { result ≡ 0 → IfSome (S.sight source.old).left (λ octets. (is_accepted octets ≡ true) × Appends (K.sight out.old).held (K.sight out.new).held (replay_text octets)) }
     ensures usage { (result ≡ 2) ↔ (is_replay words.now ≡ false) }
     // What is refused is too long, or has a refused line, which ends the log.
-    ensures refused { result ≡ 3 → IfSome (S.left source.old) (λ octets.
-        ((limit < length octets) × (K.held out.new ≡ K.held out.old))
-        ⊎ ((length octets ≤ limit) × (is_accepted octets ≡ false) × (K.held out.new ≡ appended (replay_text octets) (K.held out.old)))) }
-    ensures read_failed { result ≡ 7 → HasRisen (S.faults source.old) (S.faults source.new) × (K.held out.new ≡ K.held out.old) }
-    ensures write_failed { result ≡ 8 → HasRisen (K.faults out.old) (K.faults out.new) }
+    ensures refused { result ≡ 3 → IfSome (S.sight source.old).left (λ octets.
+        ((limit < length octets) × (K.sight out.new ≡ K.sight out.old))
+        ⊎ ((length octets ≤ limit) × (is_accepted octets ≡ false) × Appends (K.sight out.old).held (K.sight out.new).held (replay_text octets))) }
+    ensures read_failed { result ≡ 7 → HasRisen (S.sight source.old).faults (S.sight source.new).faults × (K.sight out.new ≡ K.sight out.old) }
+    ensures write_failed { result ≡ 8 → HasRisen (K.sight out.old).faults (K.sight out.new).faults }
     // No other status is answered, and standard error has the text of the one that is.
     ensures ends { (ending : Ending) × (result ≡ status_of ending) × Ends ending (is_replay words.now) (record {
-      left = S.left source.old;
-      source_before = S.faults source.old;
-      source_after = S.faults source.new;
-      held_before = K.held out.old;
-      held_after = K.held out.new;
-      out_before = K.faults out.old;
-      out_after = K.faults out.new;
-    }) × Says (text_of ending) (E.held err.old) (E.held err.new) (E.faults err.old) (E.faults err.new) }
+      source_before = S.sight source.old;
+      source_after = S.sight source.new;
+      out_before = K.sight out.old;
+      out_after = K.sight out.new;
+    }) × Says (text_of ending) (E.sight err.old) (E.sight err.new) }
     ensures same_wire { wire.new ≡ wire.old }
     ensures same_clock { clock.new ≡ clock.old }
 {

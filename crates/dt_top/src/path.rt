@@ -5,25 +5,24 @@ ghost use Rattle.dt_units.specs.Limits.{first_out_of_range};
 ghost use Rattle.dt_text.specs.Said as Said;
 ghost use Rattle.dt_text.specs.declared.lines.Form.TheVariants.{Schedule};
 ghost use Rattle.dt_text.specs.Spelling.{IsLine};
-ghost use Rattle.dt_reports.specs.Told as Told;
+ghost use Rattle.dt_reports.specs.declared.reports.Report.TheVariants as reports;
 ghost use Rattle.dt_top.specs.Transmitting.{by_world};
 ghost use Rattle.dt_top.specs.Replay.{at_start, setup_lines, params_turn, setup_turn, line_turn, turn, taken_by, totals, refused_at, closing, replay, is_accepted};
 ghost use Rattle.dt_top.specs.Stopping.{StopsFor, Logs, Turns, copies_by};
 
-pub mod lines;
 pub mod segments;
 pub mod sender;
 pub mod sending;
 pub mod state;
 pub mod stop;
 
-use crate::path::lines::split_line;
 use crate::path::sender::{FLOW, tell};
 use crate::path::sending::SendRecord;
 use crate::path::state::{Path, Sender};
 use crate::path::stop::Stop;
 use dt_edges::Sink;
-use dt_text::{Fault, Form, Line, LineFault, Report, Stage, follows, read_line};
+use dt_reports::{Fault, LineFault, Report};
+use dt_text::{Form, Line, Stage, follows, read_line, split_line};
 use dt_units::Params;
 use std::alloc::Global;
 
@@ -61,7 +60,7 @@ impl Path {
     {
         match params.check() {
             Ok(rules) => {
-                let send_record = SendRecord::new(alloc, &rules, 0);
+                let send_record = SendRecord::new(alloc, &rules);
                 self.sender = Some(Sender {
                     rules,
                     send_record,
@@ -99,10 +98,9 @@ impl Path {
         requires in_form { IsLine Schedule (Said.said said.now) }
         requires few_copies { copies_by self.old.sender < 2 ^ 62 }
         requires few_octets { taken_by self.old.sender < 2 ^ 62 }
-        ensures turns { Turns K.held K.faults (line_turn self.old line.now (Said.said said.now)) result self.new out.old out.new }
+        ensures turns { Turns K.sight (line_turn self.old line.now (Said.said said.now)) result self.new out.old out.new }
         ensures copies { IfOk result (λ fault. IfNone fault (copies_by self.new.sender ≤ copies_by self.old.sender + 64)) }
         ensures taken { IfOk result (λ fault. IfNone fault (taken_by self.new.sender ≤ taken_by self.old.sender + 65536)) }
-        ensures same_sink { K.identity out.new ≡ K.identity out.old }
     {
         match said {
             Line::Blank => Ok(None),
@@ -134,10 +132,9 @@ impl Path {
     ) -> Result<Option<Fault>, Stop>
         requires few_copies { copies_by self.old.sender < 2 ^ 62 }
         requires few_octets { taken_by self.old.sender < 2 ^ 62 }
-        ensures turns { Turns K.held K.faults (turn self.old line.now) result self.new out.old out.new }
+        ensures turns { Turns K.sight (turn self.old line.now) result self.new out.old out.new }
         ensures copies { IfOk result (λ fault. IfNone fault (copies_by self.new.sender ≤ copies_by self.old.sender + 64)) }
         ensures taken { IfOk result (λ fault. IfNone fault (taken_by self.new.sender ≤ taken_by self.old.sender + 65536)) }
-        ensures same_sink { K.identity out.new ≡ K.identity out.old }
     {
         match read_line(Form::Schedule, line) {
             Err(fault) => Ok(Some(Fault::Line(fault))),
@@ -164,8 +161,7 @@ impl Path {
     /// Logs the totals of the flow, if it took something, and the end.
     #[tactic(auto, using(crate::proofs::Logging::logs_then))]
     fn tell_totals<K: Sink>(&self, out: &mut K) -> Result<(), Stop>
-        ensures logs { Logs K.held K.faults (totals (taken_by self.now.sender)) result out.old out.new }
-        ensures same_sink { K.identity out.new ≡ K.identity out.old }
+        ensures { Logs K.sight (totals (taken_by self.now.sender)) result out.old out.new }
     {
         let taken = self.taken();
         if taken > 0 {
@@ -187,8 +183,7 @@ impl Path {
 
 /// Logs the end.
 fn tell_end<K: Sink>(out: &mut K) -> Result<(), Stop>
-    ensures logs { Logs K.held K.faults (by_world Told.End ∷ []) result out.old out.new }
-    ensures same_sink { K.identity out.new ≡ K.identity out.old }
+    ensures { Logs K.sight (by_world reports.End ∷ []) result out.old out.new }
 {
     tell(None, Report::End, out)?;
     Ok(())
@@ -196,8 +191,7 @@ fn tell_end<K: Sink>(out: &mut K) -> Result<(), Stop>
 
 /// Logs the fault of the line with this number.
 fn refuse<K: Sink>(line: u64, fault: Fault, out: &mut K) -> Result<(), Stop>
-    ensures logs { Logs K.held K.faults (refused_at line fault).entries result out.old out.new }
-    ensures same_sink { K.identity out.new ≡ K.identity out.old }
+    ensures { Logs K.sight (refused_at line fault).entries result out.old out.new }
 {
     tell(None, Report::Fault { line, fault }, out)?;
     Ok(())
@@ -206,9 +200,8 @@ fn refuse<K: Sink>(line: u64, fault: Fault, out: &mut K) -> Result<(), Stop>
 /// Logs what stands behind the last line, and says whether the schedule is accepted. `number` is that
 /// of the line that doesn't come any more.
 fn close<K: Sink>(path: &Path, number: u64, out: &mut K) -> Result<bool, Stop>
-    ensures logs { Logs K.held K.faults (closing number path.now.stage path.now.sender).entries result out.old out.new }
+    ensures logs { Logs K.sight (closing number path.now.stage path.now.sender).entries result out.old out.new }
     ensures accepted { IfOk result (λ accepted. accepted ≡ (closing number path.now.stage path.now.sender).accepted) }
-    ensures same_sink { K.identity out.new ≡ K.identity out.old }
 {
     if let Stage::Run { .. } = path.stage {
         path.tell_totals(out)?;
@@ -222,9 +215,8 @@ fn close<K: Sink>(path: &Path, number: u64, out: &mut K) -> Result<bool, Stop>
 /// whether it is accepted.
 pub fn replay_lines<K: Sink>(alloc: Global, bytes: &[u8], out: &mut K) -> Result<bool, Stop>
     requires { length bytes.now ≤ 16777216 }
-    ensures logs { Logs K.held K.faults (replay bytes.now).entries result out.old out.new }
+    ensures logs { Logs K.sight (replay bytes.now).entries result out.old out.new }
     ensures accepted { IfOk result (λ accepted. accepted ≡ is_accepted bytes.now) }
-    ensures same_sink { K.identity out.new ≡ K.identity out.old }
 {
     let mut path = Path::new();
     let mut octets = Vec::new(alloc);

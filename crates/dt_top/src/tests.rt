@@ -104,6 +104,24 @@ flow 1:10>2:20 taken 8 acked 0 uncertain 0 open 8 given 0 read 0
 end 0
 ";
 
+const ROUND_LOG: &str = "0 1 took 1:10>2:20 10
+0 1 sent 1:10>2:20 4294967292 4 db
+0 1 put 1 999 as 0
+0 1 sent 1:10>2:20 0 4 -
+0 1 put 1 999 as 1
+0 1 sent 1:10>2:20 4 2 e
+0 1 put 1 999 as 2
+flow 1:10>2:20 taken 10 acked 0 uncertain 0 open 10 given 0 read 0
+end 0
+";
+
+const QUANTUM_LOG: &str = "0 1 took 1:10>2:20 10
+0 1 sent 1:10>2:20 0 8 db
+0 1 put 1 999 as 0
+flow 1:10>2:20 taken 10 acked 0 uncertain 0 open 10 given 0 read 0
+end 0
+";
+
 #[test]
 fn worked_schedules(rt: HostRuntime) -> Result<(), Fail> {
     let long = long_send(rt.alloc())?;
@@ -120,9 +138,27 @@ fn worked_schedules(rt: HostRuntime) -> Result<(), Fail> {
             0,
         ),
         (
+            "params 1000 3000 200 500 800 4 4096 4096 512 2147483648 4294967292\n",
+            "send 1:10>2:20 be 61616161616161616161\n",
+            ROUND_LOG,
+            0,
+        ),
+        (
+            "params 1000 3000 200 500 800 100 4096 4096 512 8\n",
+            "send 1:10>2:20 be 61616161616161616161\n",
+            QUANTUM_LOG,
+            0,
+        ),
+        (
             "params 1 3000 200 500 800 100 4096 4096 512 2147483648\n",
             "",
             "line 1: param mpl 1\n",
+            3,
+        ),
+        (
+            "params 1000 3000 200 500 800 100 4096 4096 512 2147483648 0 0\n",
+            "",
+            "line 1: count\n",
             3,
         ),
         (

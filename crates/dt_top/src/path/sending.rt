@@ -1,14 +1,16 @@
-//! The send record, kept as lists.
-ghost use Rattle.std.specs.Prelude.{◌≡◌, ◌==◌, ◌||◌, ◌&&◌, not, ◌≤◌, ◌<◌, ◌^◌, ◌+◌, [], length, true, false, take, drop, vec_len, IfOk, IfSome, IfNone, OnOk, OnErr};
+//! The send record at moment 0, kept as lists.
+ghost use Rattle.std.specs.Prelude.{◌≡◌, ◌==◌, ◌||◌, ◌&&◌, not, ◌≤◌, ◌<◌, ◌^◌, ◌+◌, ◌++◌, [], length, true, false, take, drop, vec_len, slice_index, IfOk, IfSome, IfNone, OnOk, OnErr, nat_le};
 ghost use Rattle.std.specs.List.{list_any};
 ghost use Rattle.dt_items.specs.Unread.{marked};
+ghost use Rattle.dt_units.specs.Limits.{IsWithinLimits};
+ghost use Rattle.dt_flow_model.specs.Numbering.{is_crossing, up_to_crossing};
+ghost use Rattle.dt_flow_model.specs.SendActs.{may_send_from};
 ghost use Rattle.dt_flow_model.specs.SendRecord.{begins, new_record, held_of, room_of, next_of, put, cut_length, cut_size};
-ghost use Rattle.dt_flow_model.specs.SendActs.{can_send, most_segments};
-ghost use Rattle.dt_top.specs.Sending.{after_cut, next_cut};
+ghost use Rattle.dt_top.specs.Sending.{goes_out, after_cut, next_cut};
 
 use crate::path::segments::Segment;
 use dt_flow_model::Cut;
-use dt_items::{Item, NoMemory, append_marked};
+use dt_items::{Item, NoMemory};
 use dt_units::Rules;
 use std::alloc::Global;
 use std::marker::Model;
@@ -17,12 +19,16 @@ use std::mem;
 /// How many segments may be outstanding.
 pub const MOST_SEGMENTS: usize = 64;
 
-/// What a sender holds of one flow. Offsets count octets from 0.
+/// The greatest quantum, in octets.
+const MOST_QUANTUM: u32 = 536_870_912;
+
+/// What a sender holds of one flow at moment 0: all octets that it took, since nothing was
+/// acknowledged or given up. Offsets count octets since the record began.
 #[derive(Drop)]
 pub struct SendRecord {
-    left: u32,
     edge: u32,
-    touched: u64,
+    /// Whether an octet went out whose offset is a multiple of the quantum.
+    crossed: bool,
     outstanding: Vec<Segment>,
     waiting: Vec<Item>,
     /// The offset of the next octet that goes out.
@@ -37,11 +43,47 @@ impl Model for SendRecord {
 
     ghost Value = { model.SendRecord };
 
-    ghost use Rattle.dt_top.specs.Shown.{segments};
+    ghost use Rattle.dt_top.specs.Shown.{segments, crossed_at_0};
 
-    ghost view = { λ x. record { left = x.left; edge = x.edge; touched = x.touched; outstanding = segments x.outstanding.items; waiting = x.waiting.items } };
+    ghost view = { λ x. record { left = 0; edge = x.edge; touched = 0; crossed = crossed_at_0 x.crossed; outstanding = segments x.outstanding.items; waiting = x.waiting.items } };
 
-    ghost invariant = { λ x. (x.next ≡ model.next_from x.left (segments x.outstanding.items)) × (x.held ≡ model.items_in (segments x.outstanding.items) + length x.waiting.items) };
+    ghost invariant = { λ x. (x.next ≡ model.next_from 0 (segments x.outstanding.items)) × (x.held ≡ model.items_in (segments x.outstanding.items) + length x.waiting.items) × (x.held ≡ x.next + length x.waiting.items) };
+}
+
+/// The item of an octet among octets that come together.
+fn item_at(octets: &[u8], i: usize, begin: bool, end: bool) -> Item
+    requires { i < length octets.now }
+    ensures { let count = length octets.now in result ≡ record {
+      octet = slice_index octets.now i;
+      begin = begin && (i == 0);
+      end = end && (i + 1 == count);
+      run = false;
+    } }
+{
+    Item {
+        octet: octets[i],
+        begin: begin && i == 0,
+        end: end && i + 1 == octets.len(),
+        run: false,
+    }
+}
+
+/// Appends octets that come together: the first item gets the begin mark, the last the end mark.
+/// `NoMemory` changes nothing.
+fn append_marked(
+    items: &mut Vec<Item>,
+    octets: &[u8],
+    begin: bool,
+    end: bool,
+) -> Result<(), NoMemory>
+    ensures ok { OnOk result (items.new.items ≡ items.old.items ++ marked octets.now begin end false) }
+    ensures err { OnErr result (items.new.items ≡ items.old.items) }
+{
+    items.reserve(octets.len())?;
+    for i in 0..octets.len() {
+        items.push_reserved(item_at(octets, i, begin, end));
+    }
+    Ok(())
 }
 
 /// Whether the item at this place isn't of the segment: the segment is full, or the item begins a
@@ -99,15 +141,30 @@ fn ends(items: &[Item]) -> bool
     items.iter().any(|item| item.end)
 }
 
+/// How many octets there are from an offset up to the next multiple of the quantum above it.
+fn up_to_crossing(rules: &Rules, offset: u32) -> u32
+    ensures value { result ≡ up_to_crossing rules.now offset }
+{
+    let quantum = rules.params().run_limit.min(MOST_QUANTUM);
+    quantum - offset % quantum
+}
+
+/// Whether an offset is a multiple of the quantum.
+fn is_crossing(rules: &Rules, offset: u32) -> bool
+    ensures value { result ≡ is_crossing rules.now offset }
+    ensures within { IsWithinLimits rules.now }
+{
+    offset % rules.params().run_limit.min(MOST_QUANTUM) == 0
+}
+
 impl SendRecord {
-    /// A record that begins at `now`, in which nothing waits.
-    pub fn new(alloc: Global, rules: &Rules, now: u64) -> Self
-        ensures { result ≡ new_record rules.now now [] }
+    /// A record in which nothing waits.
+    pub fn new(alloc: Global, rules: &Rules) -> Self
+        ensures { result ≡ new_record rules.now 0 [] }
     {
         SendRecord {
-            left: 0,
             edge: rules.params().window,
-            touched: now,
+            crossed: false,
             outstanding: Vec::new(alloc),
             waiting: Vec::new(alloc),
             next: 0,
@@ -129,57 +186,60 @@ impl SendRecord {
         ensures ok { OnOk result (self.new ≡ put (marked octets.now begin end false) self.old) }
         ensures err { OnErr result (self.new ≡ self.old) }
     {
-        append_marked(&mut self.waiting, octets, begin, end, false)?;
+        append_marked(&mut self.waiting, octets, begin, end)?;
         self.held += octets.len() as u32;
         Ok(())
     }
 
-    /// How many octets go out next: none where no cut can be made or too many segments are outstanding.
+    /// How many octets the next cut has: none where no cut can be made.
     fn next_length(&self, rules: &Rules) -> usize
-        ensures sends { 0 < result → can_send rules.now self.now ≡ true }
-        ensures length { 0 < result → result ≡ cut_size rules.now self.now }
+        ensures length { result ≡ cut_size rules.now self.now }
         ensures within { result ≤ length self.now.waiting }
-        ensures limit { 0 < result → next_of self.now + result ≤ 2147483648 }
-        ensures none { result ≡ 0 → can_send rules.now self.now ≡ false }
     {
-        let params = rules.params();
-        if self.outstanding.len() >= MOST_SEGMENTS {
-            return 0;
-        }
         let window = self.edge.saturating_sub(self.next);
-        let numbers = params.run_limit.saturating_sub(self.next);
-        cut_length(&self.waiting, params.seg.min(window).min(numbers) as usize)
+        let most = rules
+            .params()
+            .seg
+            .min(window)
+            .min(up_to_crossing(rules, self.next));
+        cut_length(&self.waiting, most as usize)
     }
 
-    /// Sends the next cut at `now`, if one can be made and fewer than 64 segments are outstanding, and
-    /// tells what went out. `NoMemory` changes nothing.
+    /// Whether the spacing from one multiple of the quantum to the next lets octets go out.
+    #[tactic(auto, using(crate::proofs::Spacings::spaced))]
+    fn is_spaced(&self, rules: &Rules) -> bool
+        ensures { result ≡ nat_le (may_send_from rules.now self.now) 0 }
+    {
+        !(self.crossed && is_crossing(rules, self.next))
+    }
+
+    /// Sends the next cut, if one can be made, fewer than 64 segments are outstanding and the spacing
+    /// lets it go out, and tells what went out. `NoMemory` changes nothing.
     #[tactic(auto, using(crate::proofs::Cuts::ends_any))]
-    pub fn send(&mut self, rules: &Rules, now: u64) -> Result<Option<Cut>, NoMemory>
-        ensures some { IfOk result (λ cut. IfSome cut (λ cut. (can_send rules.now self.old ≡ true) × (cut ≡ next_cut rules.now self.old) × (self.new ≡ after_cut rules.now now self.old))) }
-        ensures none { IfOk result (λ cut. IfNone cut ((can_send rules.now self.old ≡ false) × (self.new ≡ self.old))) }
+    pub fn send(&mut self, rules: &Rules) -> Result<Option<Cut>, NoMemory>
+        ensures some { IfOk result (λ cut. IfSome cut (λ cut. (goes_out rules.now self.old ≡ true) × (cut ≡ next_cut rules.now self.old) × (self.new ≡ after_cut rules.now self.old))) }
+        ensures none { IfOk result (λ cut. IfNone cut ((goes_out rules.now self.old ≡ false) × (self.new ≡ self.old))) }
         ensures err { OnErr result (self.new ≡ self.old) }
     {
         let length = self.next_length(rules);
-        if length == 0 {
+        if length == 0 || self.outstanding.len() >= MOST_SEGMENTS || !self.is_spaced(rules) {
             return Ok(None);
         }
         self.outstanding.reserve(1)?;
         let items = take_front(&mut self.waiting, length)?;
         let cut = Cut {
-            number: self.next,
+            number: rules.params().start.wrapping_add(self.next),
             length: length as u32,
-            drf: self.next == self.left,
+            drf: self.next == 0,
             begin: begins(&items),
             end: ends(&items),
         };
         self.outstanding.push_reserved(Segment {
             offset: self.next,
             items,
-            first: now,
-            last: now,
         });
+        self.crossed = self.crossed || is_crossing(rules, self.next);
         self.next += length as u32;
-        self.touched = now;
         Ok(Some(cut))
     }
 }

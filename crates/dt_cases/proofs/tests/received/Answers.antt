@@ -6,4 +6,4 @@ use Rattle.dt_cases.proofs.tests.received.Goals as goal
 
 pub pick-requires : goal.pick-requires
 unfolding is_covered
-pick-requires c = (lit< tt, each_from_covered RECEIVE 24 refl c.args.key c.requires)
+pick-requires c = (lit< tt, each_from_covered RECEIVE 32 refl c.args.key c.requires)

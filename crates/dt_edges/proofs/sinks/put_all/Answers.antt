@@ -1,4 +1,4 @@
-use Rattle.std.proofs.Common.{◌≡◌, ◌+◌, length, arith, length-drop, ap, ◌∙◌}
+use Rattle.std.proofs.Common.{◌≡◌, ◌+◌, length, arith, length-drop, ap}
 use Rattle.dt_edges.proofs.Puts.{takes_further, rest_cut}
 use Rattle.dt_edges.proofs.sinks.put_all.Goals as goal
 
@@ -10,5 +10,5 @@ loop-rest-preserved g c =
       omega (arith, i.1, c.in_ok-taken.ensures.within),
       rest_cut c.args.bytes.now c.loop-rest.rest.now i.0 c.in_ok-taken.taken i.2,
       takes_further c.args.bytes.now c.loop-rest.rest.now i.0 c.in_ok-taken.taken _ _ _ i.2 i.3
-      (record { held = c.in_ok-taken.ensures.taken; faults = c.in_ok-taken.ensures.counted; identity = c.put.ensures.same_sink }),
+          (record { held = c.in_ok-taken.ensures.taken; faults = c.in_ok-taken.ensures.counted; identity = c.put.ensures.same_sink }),
     )

@@ -1,5 +1,5 @@
 use Rattle.std.proofs.Common.{◌∙◌, ◌+◌, ◌*◌, ◌<◌, length, length-set, arith}
-use Rattle.dt_text.proofs.HexLemmas.{octets_of-next}
+use Rattle.dt_text.proofs.HexLemmas.{octets_of_hex-next}
 use Rattle.dt_text.proofs.hexadecimal.decode_hex.Goals as goal
 
 pub loop-i-preserved : goal.loop-i-preserved
@@ -10,5 +10,5 @@ loop-i-preserved c =
     let inside : 2 * c.loop-i.i + 1 < length hex = omega (arith, c.in_ok-resize.ensures.len) in
     let room : c.loop-i.i < length c.loop-i.octets.items = omega (arith, c.in_ok-resize.ensures.len) in (
       length-set c.loop-i.octets.items c.loop-i.i (16 * high + low) ∙ c.loop-i.invariant.0,
-      octets_of-next c.loop-i.i hex c.loop-i.octets.items high low inside room c.value_of.ensures.value c.value_of-in-loop-i.ensures.value c.loop-i.invariant.1,
+      octets_of_hex-next c.loop-i.i hex c.loop-i.octets.items high low inside room c.value_of.ensures.value c.value_of-in-loop-i.ensures.value c.loop-i.invariant.1,
     )

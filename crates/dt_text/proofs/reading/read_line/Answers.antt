@@ -2,8 +2,7 @@ use Rattle.std.proofs.Common.{IfOk, subst, sym}
 use Rattle.dt_text.specs.Said.{said}
 use Rattle.dt_text.specs.Spelling.{IsLine}
 use Rattle.dt_text.specs.declared.lines.Form.TheVariants.{Schedule, Script}
-use Rattle.dt_text.proofs.LineLaws.{reads-within}
-use Rattle.dt_text.proofs.OrderLaws.{form-told, reads-told}
+use Rattle.dt_text.proofs.LineLaws.{reads-within, reads-not_order}
 use Rattle.dt_text.proofs.reading.read_line.Goals as goal
 
 pub returns-in-Schedule-clause-within : goal.returns-in-Schedule-clause-within
@@ -13,7 +12,7 @@ pub returns-in-Script-clause-within : goal.returns-in-Script-clause-within
 returns-in-Script-clause-within c = subst (λ form. IfOk c.script_line.result (λ line. IsLine form (said line))) (sym c.in-Script.is) (reads-within Script c.new-words.result c.script_line.result c.script_line.ensures)
 
 pub returns-in-Schedule-clause-not_order : goal.returns-in-Schedule-clause-not_order
-returns-in-Schedule-clause-not_order c = reads-told _ _ c.schedule_line.ensures (form-told Schedule c.new-words.result)
+returns-in-Schedule-clause-not_order c = reads-not_order Schedule c.new-words.result c.schedule_line.result c.schedule_line.ensures
 
 pub returns-in-Script-clause-not_order : goal.returns-in-Script-clause-not_order
-returns-in-Script-clause-not_order c = reads-told _ _ c.script_line.ensures (form-told Script c.new-words.result)
+returns-in-Script-clause-not_order c = reads-not_order Script c.new-words.result c.script_line.result c.script_line.ensures

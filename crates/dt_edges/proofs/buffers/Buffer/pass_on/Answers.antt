@@ -11,7 +11,7 @@ loop-self-preserved g c =
       i.0 + k,
       sym (drop-drop k c.loop-self.self-inside.passed c.loop-self.self-inside.octets.items) ∙ ap (drop k) i.1 ∙ drop-drop k i.0 waiting,
       takes_further waiting _ i.0 k _ _ _ (drop_cut _ _ _ c.deref.ensures.value ∙ i.1) i.2
-      (record { held = c.in_ok-taken.ensures.taken; faults = c.in_ok-taken.ensures.counted; identity = c.put.ensures.same_sink }),
+          (record { held = c.in_ok-taken.ensures.taken; faults = c.in_ok-taken.ensures.counted; identity = c.put.ensures.same_sink }),
       omega (arith, c.in_ok-taken.ensures.within, c.deref.ensures.len, i.3),
       i.4,
       i.5,

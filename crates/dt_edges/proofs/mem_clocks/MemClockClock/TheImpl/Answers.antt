@@ -6,4 +6,4 @@ use Rattle.dt_edges.proofs.mem_clocks.MemClockClock.TheImpl.Goals as goal
 pub now-tells : goal.now-tells
 now-tells c =
     subst (λ (clock : ClockInMemory). ReadsOne c.result (clock_in_memory c.args.self.now) (clock_in_memory clock)) (sym c.ensures.after)
-    (reads_one c.args.self.now c.result c.ensures.planned)
+    (reads_one c.args.self.now c.result c.ensures.some c.ensures.planned)

@@ -1,7 +1,7 @@
 use Rattle.std.proofs.Common.{◌≡◌, true, false, nat_lt, sym, ap, subst, ◌∙◌, length, arith, lt-ltb, le-ltb}
 use Rattle.std.proofs.lemmas.Result.{on_ok_weaker}
-use Rattle.dt_edges.specs.Streams.{appended}
-use Rattle.dt_text.specs.Hexadecimal.{octets_of}
+use Rattle.dt_edges.proofs.Puts.{takes_as}
+use Rattle.dt_text.specs.Hexadecimal.{octets_of_hex}
 use Rattle.dt_flow_model.specs.SendRecord.{room_of}
 use Rattle.dt_top.specs.Stopping.{Logs}
 use Rattle.dt_top.specs.Replay.{SenderTurned}
@@ -12,14 +12,13 @@ pub returns-then-free-count-clause-ok : goal.returns-then-free-count-clause-ok
 returns-then-free-count-clause-ok g c =
     let hex = hex_is c.args.hex.now c.requires.pairs in
     let full = lt-ltb _ _ (omega (arith, c.free-free.ensures.value, hex)) in
-    sym (ap (λ t. t.sender) (refuses c.args.self.now c.args.begin c.args.end (octets_of c.args.hex.now) full))
+    sym (ap (λ t. t.sender) (refuses c.args.self.now c.args.begin c.args.end (octets_of_hex c.args.hex.now) full))
 
 pub returns-then-free-count-clause-logs : goal.returns-then-free-count-clause-logs
 returns-then-free-count-clause-logs g c =
     let hex = hex_is c.args.hex.now c.requires.pairs in
-    let full : nat_lt (room_of c.args.self.now.rules c.args.self.now.send_record) (length (octets_of c.args.hex.now)) ≡ true = lt-ltb _ _ (omega (arith, c.free-free.ensures.value, hex)) in
-    let told = c.in_ok-tell.ensures.puts in
-    (told.0 ∙ ap (λ xs. appended xs (g.K.Sink.held c.args.out.now)) (refused_text c.args.self.now c.args.begin c.args.end (octets_of c.args.hex.now) c.free-free.result full c.free-free.ensures.value), told.1)
+    let full : nat_lt (room_of c.args.self.now.rules c.args.self.now.send_record) (length (octets_of_hex c.args.hex.now)) ≡ true = lt-ltb _ _ (omega (arith, c.free-free.ensures.value, hex)) in
+    takes_as _ _ _ _ (refused_text c.args.self.now c.args.begin c.args.end (octets_of_hex c.args.hex.now) c.free-free.result full c.free-free.ensures.value) c.in_ok-tell.ensures
 
 pub take-requires-clause-room : goal.take-requires-clause-room
 take-requires-clause-room g c =
@@ -30,8 +29,8 @@ pub returns-clause-ok : goal.returns-clause-ok
 returns-clause-ok g c =
     let hex = hex_is c.args.hex.now c.requires.pairs in
     let same = c.deref.ensures.value ∙ c.in_ok-decode_hex.ensures.ok in
-    let fits : nat_lt (room_of c.args.self.now.rules c.args.self.now.send_record) (length (octets_of c.args.hex.now)) ≡ false = le-ltb _ _ (omega (arith, c.free-free.ensures.value, hex)) in
-    let all = takes c.args.self.now c.args.begin c.args.end (octets_of c.args.hex.now) c.deref.result.now same fits in
+    let fits : nat_lt (room_of c.args.self.now.rules c.args.self.now.send_record) (length (octets_of_hex c.args.hex.now)) ≡ false = le-ltb _ _ (omega (arith, c.free-free.ensures.value, hex)) in
+    let all = takes c.args.self.now c.args.begin c.args.end (octets_of_hex c.args.hex.now) c.deref.result.now same fits in
     on_ok_weaker c.take.result (λ h. h ∙ sym (ap (λ t. t.sender) all)) c.take.ensures.ok
 
 pub returns-clause-taken : goal.returns-clause-taken
@@ -44,6 +43,6 @@ pub returns-clause-logs : goal.returns-clause-logs
 returns-clause-logs g c =
     let hex = hex_is c.args.hex.now c.requires.pairs in
     let same = c.deref.ensures.value ∙ c.in_ok-decode_hex.ensures.ok in
-    let fits : nat_lt (room_of c.args.self.now.rules c.args.self.now.send_record) (length (octets_of c.args.hex.now)) ≡ false = le-ltb _ _ (omega (arith, c.free-free.ensures.value, hex)) in
-    let all = takes c.args.self.now c.args.begin c.args.end (octets_of c.args.hex.now) c.deref.result.now same fits in
-    subst (λ (t : SenderTurned). Logs g.K.Sink.held g.K.Sink.faults t.entries c.take.result c.args.out.now c.take.new.out) (sym all) c.take.ensures.logs
+    let fits : nat_lt (room_of c.args.self.now.rules c.args.self.now.send_record) (length (octets_of_hex c.args.hex.now)) ≡ false = le-ltb _ _ (omega (arith, c.free-free.ensures.value, hex)) in
+    let all = takes c.args.self.now c.args.begin c.args.end (octets_of_hex c.args.hex.now) c.deref.result.now same fits in
+    subst (λ (t : SenderTurned). Logs g.K.Sink.sight t.entries c.take.result c.args.out.now c.take.new.out) (sym all) c.take.ensures.logs

@@ -1,0 +1,7 @@
+/// Where the octets of a datagram stand among those of others, and its link.
+#[derive(Clone, Copy, Debug, PartialEq, Eq)]
+pub struct Span {
+    pub(crate) link: u16,
+    pub(crate) start: usize,
+    pub(crate) end: usize,
+}

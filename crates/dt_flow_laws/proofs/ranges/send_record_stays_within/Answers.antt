@@ -1,0 +1,5 @@
+use Rattle.dt_flow_laws.proofs.Records.{acked_kept}
+use Rattle.dt_flow_laws.proofs.ranges.send_record_stays_within.Goals as goal
+
+pub returns-clause-acked : goal.returns-clause-acked
+returns-clause-acked c = λ p x gone rest w h split le. acked_kept p x gone rest w h split le

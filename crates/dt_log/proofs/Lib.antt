@@ -1,0 +1,5 @@
+pub mod Hexes
+pub mod Lengths
+pub mod Parts
+pub mod WordLaws
+pub mod LogTexts

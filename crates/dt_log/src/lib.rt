@@ -1,0 +1,19 @@
+//! What is written: numbers, flows, octets, and the lines of the log with their faults. Nothing here
+//! takes memory.
+#![tactic(auto)]
+
+mod digits;
+mod fault_lines;
+mod flows;
+pub mod laws;
+mod log_lines;
+mod numbers;
+mod words;
+
+pub use digits::put_hex;
+pub use flows::put_flow;
+pub use log_lines::write_line;
+pub use numbers::put_number;
+
+#[cfg(test)]
+mod tests;

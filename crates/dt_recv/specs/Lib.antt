@@ -1,0 +1,3 @@
+pub mod Keys
+pub mod Receivers
+pub mod Records

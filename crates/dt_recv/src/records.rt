@@ -1,0 +1,198 @@
+//! What becomes of a receive record. Moments are readings of the receiving station's clock, in
+//! milliseconds.
+ghost use Rattle.std.specs.Prelude.{◌≡◌, ◌≤◌, ◌+◌, ◌^◌, Some};
+ghost use Rattle.dt_units.specs.Numbers.{number_after};
+ghost use Rattle.dt_flow_model.specs.SendActs.{earlier};
+ghost use Rattle.dt_units.specs.Times.{receive_time};
+ghost use Rattle.dt_flow_model.specs.ReceiveRecord.{due_in, expected_of, owed_after, opens_window, owing, recv_due_of, recv_moments, recv_wake_of, record_read, standing_told, told_in, window_told};
+ghost use Rattle.dt_recv.specs.Receivers.{IsTouched};
+ghost use Rattle.dt_recv.specs.Records.{receive_record_of, standing_of};
+
+use dt_flow_model::{RecvKind, RecvMoments};
+use dt_units::{Rules, later};
+
+/// A receive record.
+#[derive(Clone, Copy)]
+pub struct Record {
+    /// The number of the octet that comes next.
+    pub expected: u32,
+    /// The moment of the last acceptance.
+    pub touched: u64,
+    /// The moment at which an acknowledgement that is owed goes out, or none.
+    pub due: Option<u64>,
+    /// The window that was told last, in octets.
+    pub told: u32,
+}
+
+/// When the acknowledgement of a packet goes out that is accepted at `now`, by what was owed before.
+fn owed_after(rules: &Rules, now: u64, due: Option<u64>, message_ends: bool) -> Option<u64>
+    requires { now ≤ 2 ^ 62 }
+    ensures { result ≡ owed_after rules.now now due message_ends }
+{
+    if due.is_some() || message_ends {
+        Some(now)
+    } else {
+        Some(now + u64::from(rules.params().a))
+    }
+}
+
+/// What a record expects, or none.
+pub fn expected(standing: Option<Record>) -> Option<u32>
+    ensures { result ≡ expected_of (standing_of standing) }
+{
+    Some(standing?.expected)
+}
+
+/// The record after octets were accepted at `now`: so many from this number on, in which a message ends
+/// or doesn't.
+pub fn accepted(
+    standing: Option<Record>,
+    rules: &Rules,
+    now: u64,
+    number: u32,
+    count: u32,
+    message_ends: bool,
+) -> Record
+    requires moment { now ≤ 2 ^ 62 }
+    requires few { count ≤ 65536 }
+    ensures { receive_record_of result ≡ record {
+      expected = number_after number count;
+      touched = now;
+      due = owed_after rules.now now (due_in (standing_of standing)) message_ends;
+      told = told_in rules.now (standing_of standing);
+    } }
+{
+    let (due, told) = match standing {
+        None => (None, rules.params().rcap),
+        Some(record) => (record.due, record.told),
+    };
+    Record {
+        expected: later(number, count),
+        touched: now,
+        due: owed_after(rules, now, due, message_ends),
+        told,
+    }
+}
+
+/// The record after an acknowledgement with what it expects and this window: what was owed is paid.
+pub fn paid(standing: Option<Record>, window: u32) -> Option<Record>
+    ensures { standing_of result ≡ standing_told (standing_of standing) window }
+{
+    Some(Record {
+        due: None,
+        told: window,
+        ..standing?
+    })
+}
+
+/// The record after an acknowledgement with another number and this window.
+pub fn told(standing: Option<Record>, window: u32) -> Option<Record>
+    ensures { standing_of result ≡ window_told (standing_of standing) window }
+{
+    Some(Record {
+        told: window,
+        ..standing?
+    })
+}
+
+/// The record after a read at `now` that raised the free room of the queue.
+pub fn read(
+    standing: Option<Record>,
+    rules: &Rules,
+    now: u64,
+    before: u32,
+    after: u32,
+) -> Option<Record>
+    ensures { standing_of result ≡ record_read rules.now now before after (standing_of standing) }
+{
+    let record = standing?;
+    if record.is_opened(rules, before, after) {
+        Some(Record {
+            due: Some(now),
+            ..record
+        })
+    } else {
+        Some(record)
+    }
+}
+
+impl Record {
+    /// Whether a read that raised the free room so opened the window far enough that it is worth telling.
+    fn is_opened(&self, rules: &Rules, before: u32, after: u32) -> bool
+        ensures { result ≡ opens_window rules.now before after (receive_record_of self.now) }
+    {
+        let worth_telling = rules.params().seg.min(rules.params().rcap);
+        before < worth_telling && worth_telling <= after && self.told < worth_telling
+    }
+
+    /// The moment at which it is due for release.
+    fn release(&self, rules: &Rules) -> u64
+        requires { self.now.touched ≤ 2 ^ 62 }
+        ensures { result ≡ self.now.touched + receive_time rules.now }
+    {
+        self.touched + rules.times().receive
+    }
+}
+
+/// The acknowledgement that is due at `now`, with the moment from which it is.
+fn owing(now: u64, due: Option<u64>) -> Option<(RecvKind, u64)>
+    ensures { result ≡ owing now due }
+{
+    let due = due?;
+    if due <= now {
+        Some((RecvKind::Ack, due))
+    } else {
+        None
+    }
+}
+
+/// The first kind of act that is due at `now`, with the moment from which it is.
+pub fn due(standing: Option<Record>, rules: &Rules, now: u64) -> Option<(RecvKind, u64)>
+    requires { IsTouched (standing_of standing) }
+    ensures { result ≡ recv_due_of rules.now now (standing_of standing) }
+{
+    let record = standing?;
+    let release = record.release(rules);
+    if release <= now {
+        Some((RecvKind::Release, release))
+    } else {
+        owing(now, record.due)
+    }
+}
+
+/// From when on each kind of act is due.
+pub fn moments(standing: Option<Record>, rules: &Rules) -> RecvMoments
+    requires { IsTouched (standing_of standing) }
+    ensures { result ≡ recv_moments rules.now (standing_of standing) }
+{
+    match standing {
+        None => RecvMoments {
+            release: None,
+            ack: None,
+        },
+        Some(record) => RecvMoments {
+            release: Some(record.release(rules)),
+            ack: record.due,
+        },
+    }
+}
+
+/// The earlier of two moments, each of which may be none.
+fn earlier(a: Option<u64>, b: Option<u64>) -> Option<u64>
+    ensures { result ≡ earlier a b }
+{
+    match (a, b) {
+        (None, b) => b,
+        (a, None) => a,
+        (Some(a), Some(b)) => Some(a.min(b)),
+    }
+}
+
+/// The least moment at which an act is due.
+pub fn wake(standing: Option<Record>, rules: &Rules) -> Option<u64>
+    requires { IsTouched (standing_of standing) }
+    ensures { result ≡ recv_wake_of rules.now (standing_of standing) }
+{
+    let moments = moments(standing, rules);
+    earlier(moments.release, moments.ack)
+}

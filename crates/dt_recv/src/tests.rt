@@ -1,0 +1,374 @@
+ghost use Rattle.std.specs.Prelude.{◌≡◌, ◌<◌};
+
+use crate::Receiver;
+use crate::cases::{action, action_at};
+use dt_flow_model::{Action, Arrived, RecvAct, RecvKind, RecvMoments};
+use dt_items::Piece;
+use dt_layout::Frame;
+use dt_units::{Flow, NodeId, Params, Steps};
+use std::alloc::Global;
+use std::marker::Brand;
+use std::process::Abort;
+use std::sync::ledger::{Blank, Ledger};
+use std::test::Fail;
+
+const STANDARD: Params = Params {
+    mpl: 1000,
+    r: 3000,
+    a: 200,
+    rto: 500,
+    probe: 800,
+    seg: 100,
+    cap: 4096,
+    rcap: 4096,
+    window: 512,
+    run_limit: 2_147_483_648,
+    start: 0,
+};
+
+const FLOW: Flow = Flow {
+    from: NodeId(1),
+    from_port: 10,
+    to: NodeId(2),
+    to_port: 20,
+};
+
+// What a packet is answered: accepted as a new run or following the octets before, replied to with a
+// number and a window, closing with a number, or dropped.
+#[derive(Clone, Copy)]
+enum Answer {
+    Run(u32),
+    On(u32),
+    Told(u32, u32),
+    Closing(u32),
+    Dropped,
+}
+
+// What happens to a receiver, and what comes of it. Letters of a packet are `d` for the data-run flag,
+// `b` and `e` for its marks, and those of a piece `r`, `b` and `e`.
+enum Event {
+    // a data packet: number, letters, octets
+    Data(u32, &'static [u8], &'static [u8], Answer),
+    Meet(u32, Answer),
+    Close(u32, Answer),
+    // nothing is due, or this kind since a moment
+    Idle,
+    Due(RecvKind, u64),
+    // the act that is due is done: an acknowledgement with a number and a window, or the release
+    Acked(u32, u32),
+    Released,
+    // at most so many octets are read: letters, octets
+    Read(usize, &'static [u8], &'static [u8]),
+    // what is expected, and the free room
+    Stands(Option<u32>, u32),
+    // when release and an acknowledgement are due, and the wake
+    Moments(Option<u64>, Option<u64>, Option<u64>),
+}
+
+impl Answer {
+    fn arrived(self) -> Arrived {
+        match self {
+            Answer::Run(count) => Arrived::Accepted { run: true, count },
+            Answer::On(count) => Arrived::Accepted { run: false, count },
+            Answer::Told(number, window) => Arrived::Replied { number, window },
+            Answer::Closing(number) => Arrived::Closing { number },
+            Answer::Dropped => Arrived::Dropped,
+        }
+    }
+
+    fn told(self) -> Option<(u32, u32)> {
+        match self {
+            Answer::Told(number, window) => Some((number, window)),
+            Answer::Run(_) | Answer::On(_) | Answer::Closing(_) | Answer::Dropped => None,
+        }
+    }
+}
+
+fn has(letters: &[u8], letter: u8) -> bool {
+    letters.contains(&letter)
+}
+
+// An acknowledgement of the flow in octets: from node 2 to node 1, with a life of 1000.
+fn spelling(number: u32, window: u32) -> [u8; 30] {
+    let mut octets =
+        *b"\x01\x01\x00\x0e\x00\x00\x03\xe8\x00\x00\x00\x02\x00\x00\x00\x01\x02\x00\x00\x14\x00\x0a\x00\x00\x00\x00\x00\x00\x00\x00";
+    octets[22..26].copy_from_slice(&number.to_be_bytes());
+    octets[26..].copy_from_slice(&window.to_be_bytes());
+    octets
+}
+
+// The frame that an answer leaves: its acknowledgement, or the empty frame that was there.
+fn check_frame(rt: &impl Abort, frame: &Frame, told: Option<(u32, u32)>) {
+    match told {
+        None => assert!(rt; frame.as_slice().is_empty()),
+        Some((number, window)) => assert_eq!(rt; frame.as_slice(), &spelling(number, window)[..]),
+    }
+}
+
+fn check_answer(rt: &impl Abort, frame: &Frame, answer: Arrived, wanted: Answer) {
+    assert_eq!(rt; answer, wanted.arrived());
+    check_frame(rt, frame, wanted.told());
+}
+
+fn check_read<L: Ledger>(
+    rt: &impl Abort,
+    receiver: &mut Receiver,
+    now: u64,
+    most: usize,
+    letters: &[u8],
+    octets: &[u8],
+    steps: &mut Steps<L>,
+) {
+    let mut buf = [b'.'; 300];
+    assert!(rt; 0 < most && most <= 300);
+    let wanted = Piece {
+        len: octets.len(),
+        begin: has(letters, b'b'),
+        end: has(letters, b'e'),
+        run: has(letters, b'r'),
+    };
+    assert_eq!(rt; receiver.read(&mut buf[..most], now, steps), Some(wanted));
+    assert!(rt; buf.starts_with(octets));
+}
+
+fn check_act<L: Ledger>(
+    rt: &impl Abort,
+    receiver: &mut Receiver,
+    now: u64,
+    wanted: RecvAct,
+    told: Option<(u32, u32)>,
+    steps: &mut Steps<L>,
+) {
+    let mut frame = Frame::new();
+    assert!(rt; receiver.due(now, steps).is_some());
+    assert_eq!(rt; receiver.act(now, &mut frame, steps), wanted);
+    check_frame(rt, &frame, told);
+}
+
+fn happens<L: Ledger>(
+    rt: &impl Abort,
+    receiver: &mut Receiver,
+    now: u64,
+    event: &Event,
+    steps: &mut Steps<L>,
+) {
+    let mut frame = Frame::new();
+    match event {
+        Event::Data(number, letters, octets, wanted) => {
+            assert!(rt; !octets.is_empty() && octets.len() <= 8192 && now <= 1 << 62);
+            let answer = receiver.on_data(
+                *number,
+                has(letters, b'd'),
+                has(letters, b'b'),
+                has(letters, b'e'),
+                octets,
+                now,
+                &mut frame,
+                steps,
+            );
+            check_answer(rt, &frame, answer, *wanted);
+        }
+        Event::Meet(number, wanted) => {
+            let answer = receiver.on_meet(*number, now, &mut frame, steps);
+            check_answer(rt, &frame, answer, *wanted);
+        }
+        Event::Close(number, wanted) => {
+            let answer = receiver.on_close(*number, steps);
+            check_answer(rt, &frame, answer, *wanted);
+        }
+        Event::Idle => assert_eq!(rt; receiver.due(now, steps), None),
+        Event::Due(kind, moment) => {
+            assert_eq!(rt; receiver.due(now, steps), Some((*kind, *moment)));
+        }
+        Event::Acked(number, window) => {
+            let wanted = RecvAct::Acked {
+                number: *number,
+                window: *window,
+            };
+            check_act(rt, receiver, now, wanted, Some((*number, *window)), steps);
+        }
+        Event::Released => check_act(rt, receiver, now, RecvAct::Released, None, steps),
+        Event::Read(most, letters, octets) => {
+            check_read(rt, receiver, now, *most, letters, octets, steps);
+        }
+        Event::Stands(expected, free) => {
+            assert_eq!(rt; receiver.expected(), *expected);
+            assert_eq!(rt; receiver.free(), *free);
+        }
+        Event::Moments(release, ack, wake) => {
+            let wanted = RecvMoments {
+                release: *release,
+                ack: *ack,
+            };
+            assert_eq!(rt; receiver.moments(steps), wanted);
+            assert_eq!(rt; receiver.wake(steps), *wake);
+        }
+    }
+}
+
+// A new receiver meets these events, each at its moment.
+fn play<L: Ledger>(
+    rt: &impl Abort,
+    alloc: Global,
+    ledger: Blank,
+    params: Params,
+    events: &[(u64, Event)],
+) -> Result<(), Fail>
+    requires name { ledger.name ≡ L.name }
+    requires parts { ledger.parts ≡ L.parts }
+    requires some { 0 < ledger.parts }
+{
+    let mut steps = Steps::<L>::new(ledger);
+    let rules = match params.check() {
+        Ok(rules) => rules,
+        Err(_) => {
+            assert!(rt; false, "the parameters are refused");
+            return Ok(());
+        }
+    };
+    let mut receiver = Receiver::new(alloc, &rules, FLOW)?;
+    assert!(rt; receiver.is_idle());
+    for (now, event) in events {
+        happens(rt, &mut receiver, *now, event, &mut steps);
+    }
+    Ok(())
+}
+
+// Duplicates, closing packets and the receive timer.
+const ONE_MESSAGE: [(u64, Event); 17] = [
+    (0, Event::Stands(None, 4096)),
+    (0, Event::Moments(None, None, None)),
+    (0, Event::Close(5, Answer::Dropped)),
+    (0, Event::Data(0, b"dbe", b"hello", Answer::Run(5))),
+    (0, Event::Moments(Some(4200), Some(0), Some(0))),
+    (0, Event::Due(RecvKind::Ack, 0)),
+    (0, Event::Acked(5, 4091)),
+    (0, Event::Data(0, b"dbe", b"hello", Answer::Told(5, 4091))),
+    (0, Event::Data(0, b"dbe", b"hello", Answer::Told(5, 4091))),
+    (20, Event::Close(5, Answer::Closing(5))),
+    (20, Event::Close(6, Answer::Dropped)),
+    (20, Event::Moments(Some(4200), None, Some(4200))),
+    (4199, Event::Idle),
+    (4200, Event::Due(RecvKind::Release, 4200)),
+    (4200, Event::Released),
+    (4200, Event::Stands(None, 4091)),
+    (4200, Event::Read(300, b"rbe", b"hello")),
+];
+
+// Segments that come out of order.
+const REORDERED: [(u64, Event); 10] = [
+    (0, Event::Data(200, b"e", &[b'a'; 50], Answer::Dropped)),
+    (0, Event::Data(0, b"db", &[b'a'; 100], Answer::Run(100))),
+    (
+        0,
+        Event::Data(200, b"e", &[b'a'; 50], Answer::Told(100, 3996)),
+    ),
+    (0, Event::Data(100, b"", &[b'a'; 100], Answer::On(100))),
+    (199, Event::Idle),
+    (200, Event::Acked(200, 3896)),
+    (500, Event::Data(200, b"de", &[b'a'; 50], Answer::On(50))),
+    (500, Event::Acked(250, 3846)),
+    (500, Event::Read(300, b"rbe", &[b'a'; 250])),
+    (500, Event::Stands(Some(250), 4096)),
+];
+
+// Windows that open, with `rcap` 4.
+const WINDOWS: [(u64, Event); 10] = [
+    (0, Event::Data(0, b"db", b"abcd", Answer::Run(4))),
+    (200, Event::Acked(4, 0)),
+    (800, Event::Meet(4, Answer::Told(4, 0))),
+    (800, Event::Idle),
+    (800, Event::Read(10, b"rb", b"abcd")),
+    (800, Event::Acked(4, 4)),
+    (1600, Event::Meet(4, Answer::Told(4, 4))),
+    (1600, Event::Data(4, b"de", b"ef", Answer::On(2))),
+    (1600, Event::Acked(6, 2)),
+    (1600, Event::Stands(Some(6), 2)),
+];
+
+// Numbers that go round.
+const WRAPPED: [(u64, Event); 6] = [
+    (
+        0,
+        Event::Data(4_294_967_292, b"db", b"aaaa", Answer::Run(4)),
+    ),
+    (
+        0,
+        Event::Data(4_294_967_292, b"db", b"aaaa", Answer::Told(0, 4092)),
+    ),
+    (0, Event::Data(4, b"e", b"aa", Answer::Told(0, 4092))),
+    (0, Event::Data(0, b"", b"aaaa", Answer::On(4))),
+    (0, Event::Data(4, b"e", b"aa", Answer::On(2))),
+    (0, Event::Acked(6, 4086)),
+];
+
+#[test]
+fn the_receiver_answers_as_the_rows_say(rt: HostRuntime) -> Result<(), Fail> {
+    let narrow = Params {
+        rcap: 4,
+        window: 4,
+        ..STANDARD
+    };
+    play::<Brand>(&rt, rt.alloc(), Blank::new(1), STANDARD, &ONE_MESSAGE)?;
+    play::<Brand>(&rt, rt.alloc(), Blank::new(2), STANDARD, &REORDERED)?;
+    play::<Brand>(&rt, rt.alloc(), Blank::new(3), narrow, &WINDOWS)?;
+    play::<Brand>(&rt, rt.alloc(), Blank::new(4), STANDARD, &WRAPPED)
+}
+
+// The action at each key, by hand: in a line the four keys of `fits` and the data-run flag, and the
+// lines by the record and the relation.
+const ACTIONS: [Action; 32] = [
+    Action::Drop,
+    Action::Drop,
+    Action::TellNumber,
+    Action::Make,
+    Action::TellExpected,
+    Action::TellExpected,
+    Action::TellExpected,
+    Action::TellExpected,
+    Action::Drop,
+    Action::Drop,
+    Action::TellNumber,
+    Action::Make,
+    Action::TellExpected,
+    Action::Accept,
+    Action::TellExpected,
+    Action::Accept,
+    Action::Drop,
+    Action::Drop,
+    Action::TellNumber,
+    Action::Make,
+    Action::TellExpected,
+    Action::TellExpected,
+    Action::TellNumber,
+    Action::Skip,
+    Action::Drop,
+    Action::Drop,
+    Action::TellNumber,
+    Action::Make,
+    Action::Drop,
+    Action::Close,
+    Action::Drop,
+    Action::Close,
+];
+
+#[test]
+fn each_key_has_its_action(rt: HostRuntime) {
+    for key in 0..32 {
+        assert_eq!(rt; action_at(key), ACTIONS[usize::from(key)], "at {key}");
+    }
+    // numbers go round
+    assert_eq!(rt;
+        action(Some(2), true, 4_294_967_290, 8, 100),
+        Action::TellExpected
+    );
+    assert_eq!(rt;
+        action(Some(4_294_967_290), true, 2, 100, 100),
+        Action::Skip
+    );
+    assert_eq!(rt;
+        action(Some(4_294_967_290), true, 2, 101, 100),
+        Action::TellNumber
+    );
+    assert_eq!(rt; action(None, true, 4_294_967_290, 100, 100), Action::Make);
+}

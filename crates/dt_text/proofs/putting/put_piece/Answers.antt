@@ -1,7 +1,0 @@
-use Rattle.std.proofs.Common.{sym, ◌∙◌}
-use Rattle.dt_text.proofs.Hexes.{encode_lower_is}
-use Rattle.dt_text.proofs.Parts.{puts_as}
-use Rattle.dt_text.proofs.putting.put_piece.Goals as goal
-
-pub returns-clause-puts : goal.returns-clause-puts
-returns-clause-puts g c = puts_as _ _ _ _ _ _ _ (sym (c.in-Ok.ensures.written ∙ encode_lower_is c.args.octets.now c.type_inv.octets)) c.put_all.ensures.puts

@@ -1,0 +1,170 @@
+-- The lines of schedules and of scripts, a row each: which words a line has, and what it says.
+use Rattle.std.specs.Prelude.{ℕ, List, [], ◌∷◌, codes, replicate}
+use Rattle.dt_units.specs.Limits.{day}
+use Rattle.dt_text.specs.Said.{Said, Params, Station, Link, Route, Go, Pass, Send, Read, Tick, Arrive, Lose, Restart, Me, Local, Peer, AtSend, AtRead, AtStop}
+use Rattle.dt_text.specs.WordKinds.{WordKind, NumberWord, FlowWord, AddressWord, HexWord, MarksWord, AgainWord, Value}
+
+-- A word of a line is fixed, or it is one of a kind and gives the line a value.
+pub data Part : Type 0 where
+  Fixed : (text : List ℕ) → Part
+  Given : (kind : WordKind) → Part
+
+-- what the values of the words make, one after another
+abbrev pub Makes : List Part → Type 0
+Makes [] = Said
+Makes (Fixed text ∷ parts) = Makes parts
+Makes (Given kind ∷ parts) = Value kind → Makes parts
+
+-- the words of a line, and what the line says where its words have these values
+pub record LineRow : Type 0 where
+  pub words : List Part
+  pub says : Makes words
+
+-- The ranges of numbers: of 32 bits, the number of a link, a charge or a pace in milliseconds, and how many octets are read at most.
+abbrev pub any_number : WordKind
+any_number = NumberWord 0 4294967295
+
+abbrev pub link_number : WordKind
+link_number = NumberWord 0 255
+
+abbrev pub link_time : WordKind
+link_time = NumberWord 0 day
+
+abbrev pub read_count : WordKind
+read_count = NumberWord 1 65536
+
+abbrev pub number_word : Part
+number_word = Given any_number
+
+abbrev pub link_word : Part
+link_word = Given link_number
+
+abbrev pub time_word : Part
+time_word = Given link_time
+
+abbrev pub count_word : Part
+count_word = Given read_count
+
+abbrev pub flow_word : Part
+flow_word = Given FlowWord
+
+abbrev pub address_word : Part
+address_word = Given AddressWord
+
+abbrev pub hex_word : Part
+hex_word = Given HexWord
+
+abbrev pub marks_word : Part
+marks_word = Given MarksWord
+
+abbrev pub again_word : Part
+again_word = Given AgainWord
+
+-- what the ten numbers of `params` say, with this START
+abbrev pub parameters : ℕ → Makes (replicate 10 number_word)
+parameters start = λ mpl r a rto probe seg cap rcap window run_limit.
+    Params (record { mpl = mpl; r = r; a = a; rto = rto; probe = probe; seg = seg; cap = cap; rcap = rcap; window = window; run_limit = run_limit; start = start })
+
+-- `params MPL R A RTO PROBE SEG CAP RCAP WINDOW RUN_LIMIT`: START is 0
+abbrev pub params_row : LineRow
+params_row = record { words = Fixed (codes "params") ∷ replicate 10 number_word; says = parameters 0 }
+
+-- `params MPL R A RTO PROBE SEG CAP RCAP WINDOW RUN_LIMIT START`
+abbrev pub params_start_row : LineRow
+params_start_row = record {
+  words = Fixed (codes "params") ∷ replicate 11 number_word;
+  says = λ mpl r a rto probe seg cap rcap window run_limit start. parameters start mpl r a rto probe seg cap rcap window run_limit;
+}
+
+-- `station N ZERO`
+abbrev pub station_row : LineRow
+station_row = record { words = Fixed (codes "station") ∷ number_word ∷ number_word ∷ []; says = Station }
+
+-- `link L FROM TO CHARGE PACE`
+abbrev pub link_row : LineRow
+link_row = record { words = Fixed (codes "link") ∷ link_word ∷ number_word ∷ number_word ∷ time_word ∷ time_word ∷ []; says = Link }
+
+-- `route AT TO L`
+abbrev pub route_row : LineRow
+route_row = record { words = Fixed (codes "route") ∷ number_word ∷ number_word ∷ link_word ∷ []; says = Route }
+
+-- `go`
+abbrev pub go_row : LineRow
+go_row = record { words = Fixed (codes "go") ∷ []; says = Go }
+
+-- `pass D`
+abbrev pub pass_row : LineRow
+pass_row = record { words = Fixed (codes "pass") ∷ number_word ∷ []; says = Pass }
+
+-- `send FLOW MARKS HEX`
+abbrev pub send_row : LineRow
+send_row = record { words = Fixed (codes "send") ∷ flow_word ∷ marks_word ∷ hex_word ∷ []; says = λ flow marks hex. Send flow marks.0 marks.1 hex }
+
+-- `read FLOW MAX`
+abbrev pub read_row : LineRow
+read_row = record { words = Fixed (codes "read") ∷ flow_word ∷ count_word ∷ []; says = Read }
+
+-- `tick N`
+abbrev pub tick_row : LineRow
+tick_row = record { words = Fixed (codes "tick") ∷ number_word ∷ []; says = Tick }
+
+-- `arrive C`
+abbrev pub arrive_row : LineRow
+arrive_row = record { words = Fixed (codes "arrive") ∷ number_word ∷ []; says = Arrive }
+
+-- `lose C`
+abbrev pub lose_row : LineRow
+lose_row = record { words = Fixed (codes "lose") ∷ number_word ∷ []; says = Lose }
+
+-- `restart N`
+abbrev pub restart_row : LineRow
+restart_row = record { words = Fixed (codes "restart") ∷ number_word ∷ []; says = Restart }
+
+-- `me N first` or `me N again`
+abbrev pub me_row : LineRow
+me_row = record { words = Fixed (codes "me") ∷ number_word ∷ again_word ∷ []; says = Me }
+
+-- `local ADDRESS`
+abbrev pub local_row : LineRow
+local_row = record { words = Fixed (codes "local") ∷ address_word ∷ []; says = Local }
+
+-- `peer L ADDRESS CHARGE PACE`
+abbrev pub peer_row : LineRow
+peer_row = record { words = Fixed (codes "peer") ∷ link_word ∷ address_word ∷ time_word ∷ time_word ∷ []; says = Peer }
+
+-- `route TO L`: at the node itself
+abbrev pub own_route_row : LineRow
+own_route_row = record { words = Fixed (codes "route") ∷ number_word ∷ link_word ∷ []; says = Route 0 }
+
+-- `at T send FLOW MARKS HEX`
+abbrev pub at_send_row : LineRow
+at_send_row = record {
+  words = Fixed (codes "at") ∷ number_word ∷ Fixed (codes "send") ∷ flow_word ∷ marks_word ∷ hex_word ∷ [];
+  says = λ at flow marks hex. AtSend at flow marks.0 marks.1 hex;
+}
+
+-- `at T read FLOW MAX`
+abbrev pub at_read_row : LineRow
+at_read_row = record { words = Fixed (codes "at") ∷ number_word ∷ Fixed (codes "read") ∷ flow_word ∷ count_word ∷ []; says = AtRead }
+
+-- `at T stop`
+abbrev pub at_stop_row : LineRow
+at_stop_row = record { words = Fixed (codes "at") ∷ number_word ∷ Fixed (codes "stop") ∷ []; says = AtStop }
+
+-- the rows of one kind of line: they have the same fixed words, and differ in how many words there are
+abbrev pub LineKind : Type 0
+LineKind = List LineRow
+
+-- the kinds of lines of a schedule
+abbrev pub of_schedules : List LineKind
+of_schedules =
+    (params_row ∷ params_start_row ∷ []) ∷ (station_row ∷ []) ∷ (link_row ∷ []) ∷ (route_row ∷ []) ∷ (go_row ∷ [])
+    ∷ (pass_row ∷ []) ∷ (send_row ∷ []) ∷ (read_row ∷ []) ∷ (tick_row ∷ []) ∷ (arrive_row ∷ []) ∷ (lose_row ∷ []) ∷ (restart_row ∷ []) ∷ []
+
+-- the kinds of lines of a script, but for those behind `at T`
+abbrev pub of_scripts : List LineKind
+of_scripts = (params_row ∷ params_start_row ∷ []) ∷ (me_row ∷ []) ∷ (local_row ∷ []) ∷ (peer_row ∷ []) ∷ (own_route_row ∷ []) ∷ (go_row ∷ []) ∷ []
+
+-- the kinds of lines of a script behind `at T`
+abbrev pub behind_moments : List LineKind
+behind_moments = (at_send_row ∷ []) ∷ (at_read_row ∷ []) ∷ (at_stop_row ∷ []) ∷ []

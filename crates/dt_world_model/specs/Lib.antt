@@ -1,0 +1,12 @@
+pub mod Tables
+pub mod Host
+pub mod Relay
+pub mod Script
+pub mod Station
+pub mod Ledgers
+pub mod World
+pub mod WorldStep
+pub mod Setup
+pub mod WorldFacts
+pub mod Tags
+pub mod Worked
