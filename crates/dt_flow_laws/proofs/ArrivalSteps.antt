@@ -25,9 +25,9 @@ use Rattle.dt_units.specs.declared.order.Relation.TheVariants.{Above, Below, Equ
 use Rattle.dt_units.specs.declared.parameters.Params.{Params}
 use Rattle.dt_flow_model.specs.Steps as F
 use Rattle.dt_flow_model.specs.declared.acts.RecvKind.TheVariants as K
-use Rattle.dt_flow_laws.proofs.ActSteps.{le_true}
 use Rattle.dt_flow_laws.proofs.Modular.{is_above, is_equal}
 use Rattle.dt_flow_laws.proofs.Ordering.{above_differs, ack_end, data_order}
+use Rattle.dt_flow_model.proofs.Chosen.{le_true}
 
 at_least : (n m : ℕ) → nat_lt n m ≡ false → m ≤ n
 at_least n m h = grind (arith, nat_tests)

@@ -11,10 +11,10 @@ use Rattle.dt_flow_model.specs.Steps.{HasTransmitted}
 use Rattle.dt_items.specs.declared.item.Item.{Item}
 use Rattle.dt_units.specs.Limits.{IsWithinLimits}
 use Rattle.dt_units.specs.declared.parameters.Params.{Params}
-use Rattle.dt_flow_laws.proofs.ActSteps.{cut_count}
 use Rattle.dt_flow_laws.proofs.Crossings.{some_quantum}
-use Rattle.dt_flow_laws.proofs.Ledger.{chain_next}
 use Rattle.dt_flow_laws.proofs.Waking.{due_is_chosen}
+use Rattle.dt_flow_model.proofs.Chains.{chain_next}
+use Rattle.dt_flow_model.proofs.Chosen.{cut_count}
 
 first_cut : (most : ℕ) (items : List Item) → 0 < most → 0 < length items → 0 < cut_length most true items
 first_cut zero items pos some = absurd (omega arith)

@@ -25,7 +25,6 @@ pub mod SafeOf
 pub mod Reached
 pub mod Props
 pub mod Laws
-pub mod Pieces
 pub mod Records
 pub mod Closing
 pub mod Sums

@@ -14,9 +14,9 @@ use Rattle.dt_flow_model.specs.declared.acts.SendKind.TheVariants.{GiveUp, Meet,
 use Rattle.dt_items.specs.declared.item.Item.{Item}
 use Rattle.dt_units.specs.Times.{give_time, receive_time, send_time}
 use Rattle.dt_units.specs.declared.parameters.Params.{Params}
-use Rattle.dt_flow_laws.proofs.ActSteps.{act_is_due, both, cut_count, either, le_true, lt_true, release_may, true_le, true_lt}
 use Rattle.std.proofs.lemmas.Bool.{and_parts}
 use Rattle.dt_flow_laws.proofs.Resends.{resend_is_first}
+use Rattle.dt_flow_model.proofs.Chosen.{act_is_due, both, cut_count, either, le_true, lt_true, release_may, true_le, true_lt}
 
 -- what is due, by its kind
 give_inv : (p : Params) (t : ℕ) (x : SendRecord) (act : Act) → kind_of act ≡ GiveUp → IsDue p t x act → (g : Segment) × (rest : List Segment) × (x.outstanding ≡ g ∷ rest) × (g.first + give_time p ≤ t)

@@ -19,12 +19,13 @@ use Rattle.dt_items.specs.declared.item.Item.{Item}
 use Rattle.dt_units.specs.Limits.{IsWithinLimits}
 use Rattle.dt_units.specs.Times.{give_time, spacing_time}
 use Rattle.dt_units.specs.declared.parameters.Params.{Params}
-use Rattle.dt_flow_laws.proofs.Ledger.{chain_front, chain_next, items_append, out_open, row_left, row_mapped, row_right}
+use Rattle.dt_flow_laws.proofs.Ledger.{out_open, row_left, row_mapped, row_right}
 use Rattle.dt_flow_laws.proofs.Frame.{alive_present}
 use Rattle.dt_flow_laws.proofs.Modular.{order_places, relation_is, same_offset}
 use Rattle.dt_flow_laws.proofs.Nearness.{last_in_time}
 use Rattle.dt_flow_laws.proofs.SenderSteps.{next_is, taken_length}
 use Rattle.dt_flow_laws.proofs.Waking.{due_is_chosen}
+use Rattle.dt_flow_model.proofs.Chains.{chain_front, chain_next, items_append}
 
 -- two places with first moments, of which each may be the later one: neither is more than `spacing` before now
 near_both : (p : Params) (s : FlowState) → Facts p s → (a b first next : ℕ) → (row_at s.taken a).first ≡ Some first → (row_at s.taken b).first ≡ Some next → s.now ≤ first + spacing_time p → s.now ≤ next + spacing_time p → (a < b + 2147483648) × (b < a + 2147483648)

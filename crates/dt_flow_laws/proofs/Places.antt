@@ -17,10 +17,11 @@ use Rattle.dt_flow_model.specs.Numbering.{number_of}
 use Rattle.dt_units.specs.Numbers.{number_distance}
 use Rattle.dt_units.specs.Limits.{IsWithinLimits}
 use Rattle.dt_units.specs.declared.parameters.Params.{Params}
-use Rattle.dt_flow_laws.proofs.ActSteps.{act_is_due, cut_whole}
 use Rattle.dt_flow_laws.proofs.Modular.{distance_from}
-use Rattle.dt_flow_laws.proofs.Ledger.{chain_front, chain_next, chain_rest, items_append, next_append, note_length, not_open, open_here}
+use Rattle.dt_flow_laws.proofs.Ledger.{note_length, not_open, open_here}
 use Rattle.dt_flow_laws.proofs.SenderSteps.{taken_length}
+use Rattle.dt_flow_model.proofs.Chains.{chain_front, chain_next, chain_rest, items_append, next_append}
+use Rattle.dt_flow_model.proofs.Chosen.{act_is_due, cut_whole}
 
 -- the first Open place of the present life without a first moment
 past_old : (life : ℕ) (old rows : List Taken) → AllPast life old → first_unsent life (old ++ rows) ≡ length old + first_unsent life rows

@@ -15,8 +15,9 @@ use Rattle.dt_flow_model.specs.declared.rows.Taken.{Taken}
 use Rattle.dt_items.specs.declared.item.Item.{Item}
 use Rattle.dt_units.specs.Times.{quiet_time, send_time}
 use Rattle.dt_units.specs.declared.parameters.Params.{Params}
-use Rattle.dt_flow_laws.proofs.Ledger.{items_append, over_at, settle_length, settle_lives, take_lives, fall_more, all_at, all_new, over_settle, over_append, over_done, settled_out, settle_past, settle_gone, out_append, length_out, length_settled, past_out, past_append, past_at, chain_next, chain_rest, chain_front, next_append, row_left, row_right, out_open, settle_firsts, took_firsts, settle_acked, took_acked, past_later, past_open, over_refl, SameFirsts, none_open_acked, firsts_rest}
+use Rattle.dt_flow_laws.proofs.Ledger.{all_at, over_at, settle_length, settle_lives, take_lives, fall_more, all_new, over_settle, over_append, over_done, settled_out, settle_past, settle_gone, out_append, length_out, length_settled, past_out, past_append, past_at, row_left, row_right, out_open, settle_firsts, took_firsts, settle_acked, took_acked, past_later, past_open, over_refl, SameFirsts, none_open_acked, firsts_rest}
 use Rattle.dt_flow_laws.proofs.Frame.{rest_with, rest_moved, rest_later, packet_on, later_refl, dead, alive_present, run_now, rest_reborn}
+use Rattle.dt_flow_model.proofs.Chains.{chain_front, chain_next, chain_rest, items_append, next_append}
 
 -- the waiting items' rows
 abbrev wait_rows : ℕ → SendRecord → List Taken

@@ -12,7 +12,7 @@ use Rattle.dt_flow_model.specs.Numbering.{is_crossing}
 use Rattle.dt_flow_model.specs.ReceiveRecord.{ReceiveRecord}
 use Rattle.dt_flow_model.specs.SendActs.{may_send_from, spaced_from}
 use Rattle.dt_flow_model.specs.SendRecord.{Segment, SendRecord, end_of, next_from, next_of}
-use Rattle.dt_flow_laws.proofs.Ledger.{chain_next}
+use Rattle.dt_flow_model.proofs.Chains.{chain_next}
 
 module _ (p : Params) (limits : IsWithinLimits p) (now : ℕ) (by : now ≤ most_moment) where
   -- each time bound is at most nine days

@@ -11,13 +11,14 @@ use Rattle.dt_flow_model.specs.Flow.{FlowState, Run, base_in, begins_run, crossi
 use Rattle.dt_flow_model.specs.Facts.{Chain, Facts, SendSide, firsts_end, free_from, rows_out, FirstsFrom}
 use Rattle.dt_flow_model.specs.SendRecord.{Segment, SendRecord, next_of, items_in, next_from}
 use Rattle.dt_flow_model.specs.SendActs.{Act, IsDue, act_of, give_up, kind_of, rank_of, renew, send}
-use Rattle.dt_flow_laws.proofs.ActSteps.{act_is_due, cut_whole, le_true, true_le}
 use Rattle.dt_flow_laws.proofs.Waking.{due_is_chosen}
 use Rattle.std.proofs.lemmas.Bool.{cases_Bool}
 use Rattle.std.proofs.lemmas.Bool.Decides.{nat_tests}
-use Rattle.dt_flow_laws.proofs.Ledger.{row_right, chain_front, chain_next, chain_rest, firsts_rest, items_append}
+use Rattle.dt_flow_laws.proofs.Ledger.{row_right, firsts_rest}
 use Rattle.dt_flow_laws.proofs.Places.{unsent_is_place}
 use Rattle.dt_flow_laws.proofs.SenderSteps.{next_is, taken_length}
+use Rattle.dt_flow_model.proofs.Chains.{chain_front, chain_next, chain_rest, items_append}
+use Rattle.dt_flow_model.proofs.Chosen.{act_is_due, cut_whole, le_true, true_le}
 
 -- A FIRST TRANSMISSION BEGINS A RUN exactly where `send` has passed since the last one
 

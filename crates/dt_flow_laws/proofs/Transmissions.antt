@@ -16,9 +16,10 @@ use Rattle.dt_flow_model.specs.declared.rows.Given.{Given}
 use Rattle.dt_flow_model.specs.declared.rows.Taken.{Taken}
 use Rattle.dt_items.specs.declared.item.Item.{Item}
 use Rattle.dt_units.specs.declared.parameters.Params.{Params}
-use Rattle.dt_flow_laws.proofs.Ledger.{all_at, all_open, note_length, note_lives, over_refl, over_done, over_length, over_note, note_past, noted_rows, out_append, length_out, chain_next, chain_rest, chain_front, chain_join, row_left, row_right, row_mapped, items_append, none_waiting, firsts_rest, firsts_front, firsts_join}
+use Rattle.dt_flow_laws.proofs.Ledger.{all_at, all_open, note_length, note_lives, over_refl, over_done, over_length, over_note, note_past, noted_rows, out_append, length_out, row_left, row_right, row_mapped, none_waiting, firsts_rest, firsts_front, firsts_join}
 use Rattle.dt_flow_laws.proofs.Frame.{Later, rest_on, rest_fresh, packet_on, packet_fresh, rest_noted, made_now}
 use Rattle.dt_flow_laws.proofs.SenderSteps.{taken_length, next_is, open_not_acked, sending_over}
+use Rattle.dt_flow_model.proofs.Chains.{chain_front, chain_join, chain_next, chain_rest, items_append}
 
 -- the run after a transmission: the same one, or a new one that begins at number 0
 run_goes : (run : Option Run) (r : Run) (base now n : ℕ) → run ≡ Some r → 0 < n → run_after run base now n ≡ Some (record { base = r.base; began = r.began; sent = now })

@@ -10,8 +10,8 @@ use Rattle.dt_flow_model.specs.declared.acts.RecvKind.{RecvKind}
 use Rattle.dt_items.specs.declared.item.Item.{Item}
 use Rattle.dt_units.specs.Times.{give_time, receive_time, send_time}
 use Rattle.dt_units.specs.declared.parameters.Params.{Params}
-use Rattle.dt_flow_laws.proofs.ActSteps.{DueOf, le_true, true_le, true_lt, both, resend_may, cut_count}
 use Rattle.dt_flow_model.specs.declared.acts.RecvKind.TheVariants as V
+use Rattle.dt_flow_model.proofs.Chosen.{DueOf, both, cut_count, le_true, resend_may, true_le, true_lt}
 
 before_le : (m n : ℕ) → n < m → nat_le m n ≡ false
 before_le m n h = grind (arith, nat_tests)

@@ -19,7 +19,7 @@ pub fn cut_is_the_longest()
 {}
 
 /// The act that is chosen is due, as the table of acts has it.
-#[tactic(auto, using(crate::proofs::ActSteps::act_is_due))]
+#[tactic(auto, using(dt_flow_model::proofs::Chosen::act_is_due))]
 pub fn chosen_act_is_due()
     ensures { (p : Params) (now : ℕ) (x : SendRecord) (act : Act) → act_of p now x ≡ Some act → IsDue p now x act }
 {}

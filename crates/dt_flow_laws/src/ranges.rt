@@ -18,7 +18,7 @@ ghost use Rattle.dt_flow_model.specs.SendRecord.{Segment, SendRecord, held_of, n
 
 /// What a send record keeps stays: it holds at most its capacity, in segments that follow each other,
 /// at most 64, each one piece of at most `seg` octets; the window ends at most 65,536 octets from left.
-#[tactic(auto, using(crate::proofs::Records::act_kept, crate::proofs::Records::new_kept, crate::proofs::Records::put_kept))]
+#[tactic(auto, using(dt_flow_model::proofs::Records::act_kept, dt_flow_model::proofs::Records::new_kept, dt_flow_model::proofs::Records::put_kept))]
 pub fn send_record_stays_within()
     ensures begins { (p : Params) (now : ℕ) → IsWithinLimits p → IsSendRecord p (new_record p now []) }
     ensures takes { (p : Params) (x : SendRecord) (items : List Item) → IsSendRecord p x → All HasNoRun items → held_of x + length items ≤ p.cap → IsSendRecord p (put items x) }
@@ -66,7 +66,7 @@ pub fn segments_keep_the_first_moments_of_the_ledger()
 /// The octets that a send record has taken since it began end at an offset that no act moves on, that
 /// an acknowledgement leaves and that taking moves on by what is taken. It is at most the count of
 /// octets that the flow took, so whoever bounds that count bounds each offset.
-#[tactic(auto, using(crate::proofs::Records::act_counts, crate::proofs::Records::put_counts))]
+#[tactic(auto, using(dt_flow_model::proofs::Records::act_counts, dt_flow_model::proofs::Records::put_counts))]
 pub fn offsets_end_within_what_was_taken()
     ensures acts { (p : Params) (now : ℕ) (x : SendRecord) (act : Act) (after : SendRecord) → IsDue p now x act → record_after p now x act ≡ Some after → taken_by after ≤ taken_by x }
     ensures acked { (x : SendRecord) (gone rest : List Segment) (w : ℕ) → x.outstanding ≡ gone ++ rest → taken_by (record_acked x gone rest w) ≡ taken_by x }
@@ -84,7 +84,7 @@ pub fn sums_of_records_fit()
 {}
 
 /// The packets of a flow keep the rules of the layout.
-#[tactic(auto, using(crate::proofs::Records::data_rules, crate::proofs::Records::meet_rules, crate::proofs::Records::ack_rules))]
+#[tactic(auto, using(dt_flow_model::proofs::Records::data_rules, dt_flow_model::proofs::Records::meet_rules, crate::proofs::Records::ack_rules))]
 pub fn packets_keep_the_rules()
     ensures segment { (p : Params) (f : Flow) (g : Segment) (drf : Bool) → IsWithinLimits p → IsSegment p g → KeepsRules (data_packet f (number_of p g.offset) drf g.items) }
     ensures rendezvous { (p : Params) (f : Flow) (offset : ℕ) → KeepsRules (meet_packet f (number_of p offset)) }

@@ -1,9 +1,8 @@
 //! The lines of the log.
-ghost use Rattle.std.specs.Prelude.{◌≡◌, [], ◌∷◌, map, codes, decimal, IsTrue};
+ghost use Rattle.std.specs.Prelude.{◌≡◌, map};
 ghost use Rattle.dt_edges.specs.Sinks.{Puts};
-ghost use Rattle.dt_reports.specs.Told.{told};
 ghost use Rattle.dt_reports.specs.Entries.{entry_of};
-ghost use Rattle.dt_log.specs.Words.{flow_text, row_text, sent_letters, read_letters, record_text, run_text};
+ghost use Rattle.dt_log.specs.Words.{row_text, sent_letters, read_letters, record_text, run_text};
 ghost use Rattle.dt_log.specs.LogLines.{at_node, totals_words};
 ghost use Rattle.dt_log.specs.Logs.{entry_text};
 ghost use Rattle.dt_log.specs.Wording.{word_text};
