@@ -4,7 +4,6 @@ use Rattle.std.specs.Prelude.{ℕ, ◌+◌, ◌^◌, ◌<◌, ◌≤◌, ◌≡�
 use Rattle.dt_items.specs.declared.item.Item.{Item}
 use Rattle.dt_items.specs.Unread.{marked, octets_of}
 use Rattle.dt_units.specs.declared.parameters.Params.{Params}
-use Rattle.dt_units.specs.declared.endpoints.Flow.{Flow}
 use Rattle.dt_units.specs.Times.{give_time, receive_time, send_time}
 use Rattle.dt_flow_model.specs.SendRecord.{Segment, SendRecord, begins, end_of, ends, held_of, next_of}
 use Rattle.dt_flow_model.specs.SendActs.{may_send_from, most_segments}
@@ -12,13 +11,6 @@ use Rattle.dt_flow_model.specs.ReceiveRecord.{ReceiveRecord, Receiver}
 use Rattle.dt_flow_model.specs.Facts.{Chain}
 
 -- FLOWS AND SEGMENTS
-
--- the numbers of a flow are of 32 bits, and its ports of 16
-pub record IsFlow (f : Flow) : Type 0 where
-  pub from : f.from.0 < 2 ^ 32
-  pub from_port : f.from_port < 2 ^ 16
-  pub to : f.to.0 < 2 ^ 32
-  pub to_port : f.to_port < 2 ^ 16
 
 -- items of one packet: the octets with a begin mark on the first and an end mark on the last, or without, and no run mark
 abbrev pub IsPieceSent : List Item → Type 0

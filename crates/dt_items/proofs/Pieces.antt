@@ -2,7 +2,7 @@
 use Rattle.std.proofs.Common.{◌≡◌, ℕ, zero, suc, ◌+◌, ◌-◌, ◌<◌, ◌≤◌, true, false, cond, List, [], ◌∷◌, ◌++◌, length, get_or, set, take, drop, subst, append_assoc, Some, None, refl, sym, ap, ◌∙◌, arith}
 use Rattle.std.proofs.lemmas.List.{append-nil, length-append, length-map, drop_more, map_push, set_at}
 use Rattle.dt_items.specs.declared.item.Item.{Item}
-use Rattle.dt_items.specs.Unread.{goes_on, following, first_piece, last_item, piece_told, octets_of, Follows, TakesPiece}
+use Rattle.dt_items.specs.Unread.{goes_on, following, first_piece, last_item, piece_told, octets_of, TakesNext, TakesPiece}
 
 -- What a read of at most n octets has done so far: it took the first item and more behind it, of
 -- which `last` is the last, and their octets stand in the buffer. What it takes yet follows that one.
@@ -86,7 +86,7 @@ taken_full {n} {items} {was} {first} {last} {len} {rest} {buf} t p =
     let e : n - len ≡ 0 = omega arith in
     taken_all t (ap (λ k. following k last rest) e ∙ following_none last rest)
 
-pub taken_to_the_end : {n : ℕ} {items : List Item} {was : List ℕ} {first last : Item} {len : ℕ} {rest after : List Item} {buf : List ℕ} → HasTaken n items was first last len rest buf → Follows last rest None after → TakesPiece n items was (record { len = len; begin = first.begin; end = last.end; run = first.run }) after buf
+pub taken_to_the_end : {n : ℕ} {items : List Item} {was : List ℕ} {first last : Item} {len : ℕ} {rest after : List Item} {buf : List ℕ} → HasTaken n items was first last len rest buf → TakesNext last rest None after → TakesPiece n items was (record { len = len; begin = first.begin; end = last.end; run = first.run }) after buf
 taken_to_the_end {n} {items} {was} {first} {last} {len} {rest} {after} {buf} t f =
     subst (λ r. TakesPiece n items was (record { len = len; begin = first.begin; end = last.end; run = first.run }) r buf) (sym f.0) (taken_all t (following_no (n - len) last rest f.1))
 

@@ -32,9 +32,9 @@ following (suc n) before (item ∷ items) = if goes_on before item then item ∷
 
 -- The next of these items is taken where it goes on the piece of the item before it; else nothing
 -- is, and the items stay.
-abbrev pub Follows : Item → List Item → Option Item → List Item → Type 0
-Follows before items (Some next) rest = (items ≡ next ∷ rest) × (goes_on before next ≡ true)
-Follows before items None rest = (rest ≡ items) × ((next : Item) (more : List Item) → items ≡ next ∷ more → goes_on before next ≡ false)
+abbrev pub TakesNext : Item → List Item → Option Item → List Item → Type 0
+TakesNext before items (Some next) rest = (items ≡ next ∷ rest) × (goes_on before next ≡ true)
+TakesNext before items None rest = (rest ≡ items) × ((next : Item) (more : List Item) → items ≡ next ∷ more → goes_on before next ≡ false)
 
 -- What a read of n octets takes: the longest prefix of at most n items in which an end mark stands
 -- only on the last and a begin or run mark only on the first.

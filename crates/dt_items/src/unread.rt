@@ -1,6 +1,6 @@
 ghost use Rattle.std.specs.Prelude.{◌≡◌, ◌+◌, ◌^◌, ◌<◌, ◌≤◌, ◌↔◌, [], ◌∷◌, ◌++◌, drop, length, slice_get, slice_index, ◌==◌, ◌&&◌, IfOk, IfSome, IfNone, IsNone, IsSome};
 ghost use Rattle.circular_buffer.specs.Buffer.{buffer};
-ghost use Rattle.dt_items.specs.Unread.{Backlog, marked, octets_of, goes_on, first_piece, piece_told, IsLongestPiece, Follows, TakesPiece};
+ghost use Rattle.dt_items.specs.Unread.{Backlog, marked, octets_of, goes_on, first_piece, piece_told, IsLongestPiece, TakesNext, TakesPiece};
 
 use crate::item::Item;
 use crate::memory::NoMemory;
@@ -34,7 +34,7 @@ fn goes_on(before: &Item, item: &Item) -> bool
 
 /// Takes the next item, where it goes on the piece of the item before it.
 fn take_following(before: &Item, ring: &mut HeapCircularBuffer<Item>) -> Option<Item>
-    ensures follows { Follows before.now ring.old.items result ring.new.items }
+    ensures follows { TakesNext before.now ring.old.items result ring.new.items }
     ensures capacity { ring.new.capacity ≡ ring.old.capacity }
 {
     let next = *ring.front()?;

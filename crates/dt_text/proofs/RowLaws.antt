@@ -4,7 +4,7 @@ use Rattle.std.proofs.Math.Numerals.{add-one}
 use Rattle.dt_reports.specs.declared.faults.LineFault.{LineFault}
 use Rattle.dt_text.specs.Splitting.{word}
 use Rattle.dt_text.specs.Said.{Said}
-use Rattle.dt_text.specs.WordKinds.{value_in}
+use Rattle.dt_text.specs.WordKinds.{value_read}
 use Rattle.dt_text.specs.Rows.{Part, Fixed, Given, Makes}
 use Rattle.dt_text.specs.Lines.{◌>>=◌, said_by}
 use Rattle.dt_text.specs.Spelling.{Values, made, texts, AreOfKinds}
@@ -70,8 +70,8 @@ parts-read [] makes place line values sound kinds stand = refl
 parts-read (Fixed text ∷ parts) makes place line values sound kinds stand = parts-read parts makes (place + 1) line values (both (is_free text) (are_sound parts) sound).1 kinds stand.1
 parts-read (Given kind ∷ parts) makes place line values sound kinds stand =
     let tests = both (is_small kind) (are_sound parts) sound in
-    step (value_in kind (word place line)) (λ value. said_by parts (makes value) (place + 1) line) values.0 _
-    (ap (value_in kind) stand.0 ∙ value-text kind values.0 tests.0 kinds.0)
+    step (value_read kind (word place line)) (λ value. said_by parts (makes value) (place + 1) line) values.0 _
+    (ap (value_read kind) stand.0 ∙ value-text kind values.0 tests.0 kinds.0)
     (parts-read parts (makes values.0) (place + 1) line values.1 tests.1 kinds.1 stand.1)
 
 pub row-read : (parts : List Part) (makes : Makes parts) (values : Values parts) → are_sound parts ≡ true → AreOfKinds parts values → said_by parts makes 0 (texts parts values) ≡ Ok (made parts makes values)
@@ -94,7 +94,7 @@ parts-only (Fixed text ∷ parts) makes place line said sound stand h =
     (rest.0, rest.1, rest.2, (stand.0, rest.3))
 parts-only (Given kind ∷ parts) makes place line said sound stand h =
     let tests = both (is_small kind) (are_sound parts) sound in
-    let first = found (value_in kind (word place line)) (λ value. said_by parts (makes value) (place + 1) line) said h in
+    let first = found (value_read kind (word place line)) (λ value. said_by parts (makes value) (place + 1) line) said h in
     let written = value-only kind (word place line) first.0 tests.0 first.1 in
     let rest = parts-only parts (makes first.0) (place + 1) line said tests.1 stand first.2 in
     ((first.0, rest.0), rest.1, (written.1, rest.2), (written.0, rest.3))
@@ -131,4 +131,4 @@ then (Err fault) next told rest = told
 pub row-told : (parts : List Part) (makes : Makes parts) (place : ℕ) (line : List (List ℕ)) → IsTold (said_by parts makes place line)
 row-told [] makes place line = told-ok makes
 row-told (Fixed text ∷ parts) makes place line = row-told parts makes (place + 1) line
-row-told (Given kind ∷ parts) makes place line = then (value_in kind (word place line)) _ (value-told kind (word place line)) (λ value. row-told parts (makes value) (place + 1) line)
+row-told (Given kind ∷ parts) makes place line = then (value_read kind (word place line)) _ (value-told kind (word place line)) (λ value. row-told parts (makes value) (place + 1) line)

@@ -13,11 +13,12 @@ use Rattle.dt_edges.specs.declared.addresses.Address.{Address}
 use Rattle.dt_reports.specs.declared.faults.LineFault.{LineFault}
 use Rattle.dt_reports.specs.declared.faults.LineFault.TheVariants as faults
 use Rattle.dt_text.specs.Numerals.{numeral}
-use Rattle.dt_text.specs.Endpoints.{flow_of, ip_of, address_of}
+use Rattle.dt_text.specs.Endpoints.{flow_read, ip_read, address_read}
 use Rattle.dt_text.specs.Hexadecimal.{is_hex, are_pairs}
 use Rattle.dt_text.specs.Splitting.{cut}
 use Rattle.dt_log.specs.Words.{endpoint_text, flow_text}
-use Rattle.dt_text.specs.WordKinds.{WordKind, NumberWord, FlowWord, AddressWord, HexWord, MarksWord, AgainWord, Value, value_in, value_text, number_from, marks_of, again_of, address_text, marks_text, again_text, IsFlow, IsAddress, IsHex, IsOfKind}
+use Rattle.dt_units.specs.Flows.{IsFlow}
+use Rattle.dt_text.specs.WordKinds.{WordKind, NumberWord, FlowWord, AddressWord, HexWord, MarksWord, AgainWord, Value, value_read, value_text, number_from, marks_of, again_of, address_text, marks_text, again_text, IsAddress, IsHex, IsOfKind}
 use Rattle.dt_text.proofs.NumberLaws.{numeral-decimal, numeral-only}
 use Rattle.dt_text.proofs.CutLaws.{IsFree, IsFree-append, IsFree-cons, IsFree-decimal, cut-at, cut-found}
 use Rattle.dt_text.proofs.FlowLaws.{both_found, flow-text, flow-only}
@@ -58,8 +59,8 @@ is_text word text h = (bytes_eq-Decides word text).0 h
 abbrev IpIs : List ℕ → List ℕ → Type 0
 IpIs word ip = (word ≡ join_with_byte 46 (map decimal ip)) × (length ip ≡ 4) × AllByRecursion (λ n. n ≤ 255) ip
 
-ip-only : (word ip : List ℕ) → ip_of word ≡ Some ip → IpIs word ip
-unfolding ip_of
+ip-only : (word ip : List ℕ) → ip_read word ≡ Some ip → IpIs word ip
+unfolding ip_read
 ip-only word ip h =
     let first = both_found (cut 46 word) _ ip h in
     let second = both_found (cut 46 first.0.1) _ ip first.2 in
@@ -88,11 +89,11 @@ ip-only word ip h =
 abbrev AddressIs : List ℕ → Address → Type 0
 AddressIs word a = (word ≡ address_text a) × IsAddress a
 
-address-only : (word : List ℕ) (a : Address) → address_of word ≡ Some a → AddressIs word a
-unfolding address_of address_text
+address-only : (word : List ℕ) (a : Address) → address_read word ≡ Some a → AddressIs word a
+unfolding address_read address_text
 address-only word a h =
     let parts = both_found (cut 58 word) _ a h in
-    let ip = both_found (ip_of parts.0.0) _ a parts.2 in
+    let ip = both_found (ip_read parts.0.0) _ a parts.2 in
     let port = both_found (numeral 65535 parts.0.1) _ a ip.2 in
     let made : Address = record { ip = ip.0; port = port.0 } in
     let is : made ≡ a = some-same _ _ port.2 in
@@ -113,8 +114,8 @@ free-join octet outside dot (x ∷ y ∷ ip) h =
     IsFree-append octet (decimal x) (46 ∷ join_with_byte 46 (map decimal (y ∷ ip))) (IsFree-decimal octet x outside (omega (arith, h.0))) (
     IsFree-cons octet 46 (join_with_byte 46 (map decimal (y ∷ ip))) dot (free-join octet outside dot (y ∷ ip) h.1))
 
-ip-text : (ip : List ℕ) → length ip ≡ 4 → AllByRecursion (λ n. n ≤ 255) ip → ip_of (join_with_byte 46 (map decimal ip)) ≡ Some ip
-unfolding ip_of
+ip-text : (ip : List ℕ) → length ip ≡ 4 → AllByRecursion (λ n. n ≤ 255) ip → ip_read (join_with_byte 46 (map decimal ip)) ≡ Some ip
+unfolding ip_read
 ip-text (w ∷ x ∷ y ∷ z ∷ []) four h =
     let dotless : (n : ℕ) → n ≤ 255 → IsFree 46 (decimal n) = λ n small. IsFree-decimal 46 n (inl (omega arith)) (omega arith) in
     let first = cut-at 46 (decimal w) (decimal x ++ 46 ∷ (decimal y ++ 46 ∷ decimal z)) (dotless w h.0) in
@@ -131,8 +132,8 @@ ip-text (w ∷ x ∷ []) four h = absurd (omega arith)
 ip-text (w ∷ x ∷ y ∷ []) four h = absurd (omega arith)
 ip-text (w ∷ x ∷ y ∷ z ∷ v ∷ more) four h = absurd (omega arith)
 
-address-text : (a : Address) → IsAddress a → address_of (address_text a) ≡ Some a
-unfolding address_of address_text
+address-text : (a : Address) → IsAddress a → address_read (address_text a) ≡ Some a
+unfolding address_read address_text
 address-text a h =
     let parts = cut-at 58 (join_with_byte 46 (map decimal a.ip)) (decimal a.port) (free-join 58 (inr (omega arith)) refl a.ip h.octets) in
     let ip = ip-text a.ip h.four h.octets in
@@ -176,7 +177,7 @@ again-text : (again : Bool) → again_of (again_text again) ≡ Ok again
 again-text true = refl
 again-text false = refl
 
-pub value-text : (kind : WordKind) (value : Value kind) → is_small kind ≡ true → IsOfKind kind value → value_in kind (value_text kind value) ≡ Ok value
+pub value-text : (kind : WordKind) (value : Value kind) → is_small kind ≡ true → IsOfKind kind value → value_read kind (value_text kind value) ≡ Ok value
 value-text (NumberWord least most) n bits h = number-text least most n (small most bits) h.0 h.1
 value-text FlowWord flow bits h = ap (λ (r : Option Flow). ok_or r faults.Flow) (flow-text flow h)
 value-text AddressWord address bits h = ap (λ (r : Option Address). ok_or r faults.Number) (address-text address h)
@@ -228,17 +229,17 @@ again-only word again h =
       ]
     ]
 
-hex-only : (word hex : List ℕ) → value_in HexWord word ≡ Ok hex → IsWritten HexWord word hex
+hex-only : (word hex : List ℕ) → value_read HexWord word ≡ Ok hex → IsWritten HexWord word hex
 hex-only word hex h =
     elim (chosen (is_hex 65536 word) (Ok word) (Err faults.Hex) hex h) [
       | inl p ↦ let same : word ≡ hex = cc in (same, subst IsHex same (is_hex-means word p.0))
       | inr h ↦ cc
     ]
 
-pub value-only : (kind : WordKind) (word : List ℕ) (value : Value kind) → is_small kind ≡ true → value_in kind word ≡ Ok value → IsWritten kind word value
+pub value-only : (kind : WordKind) (word : List ℕ) (value : Value kind) → is_small kind ≡ true → value_read kind word ≡ Ok value → IsWritten kind word value
 value-only (NumberWord least most) word n bits h = number-only least most word n (numeral most word) (small most bits) refl h
-value-only FlowWord word flow bits h = flow-only word flow (found (flow_of word) faults.Flow flow h)
-value-only AddressWord word address bits h = address-only word address (found (address_of word) faults.Number address h)
+value-only FlowWord word flow bits h = flow-only word flow (found (flow_read word) faults.Flow flow h)
+value-only AddressWord word address bits h = address-only word address (found (address_read word) faults.Number address h)
 value-only HexWord word hex bits h = hex-only word hex h
 value-only MarksWord word marks bits h = marks-only word marks h
 value-only AgainWord word again bits h = again-only word again h
@@ -326,10 +327,10 @@ told-number : (least : ℕ) (n : Option ℕ) → IsTold (number_from least n)
 told-number least None = told-err _ faults.Number (λ h. cc)
 told-number least (Some n) = told-choice _ (Ok n) (Err faults.Number) (told-ok n) (told-err _ faults.Number (λ h. cc))
 
-pub value-told : (kind : WordKind) (word : List ℕ) → IsTold (value_in kind word)
+pub value-told : (kind : WordKind) (word : List ℕ) → IsTold (value_read kind word)
 value-told (NumberWord least most) word = told-number least (numeral most word)
-value-told FlowWord word = told-found (flow_of word) faults.Flow (λ h. cc)
-value-told AddressWord word = told-found (address_of word) faults.Number (λ h. cc)
+value-told FlowWord word = told-found (flow_read word) faults.Flow (λ h. cc)
+value-told AddressWord word = told-found (address_read word) faults.Number (λ h. cc)
 value-told HexWord word = told-choice (is_hex 65536 word) (Ok word) (Err faults.Hex) (told-ok word) (told-err _ faults.Hex (λ h. cc))
 value-told MarksWord word =
     told-choice (bytes_eq word (codes "be")) _ _ (told-ok _) (

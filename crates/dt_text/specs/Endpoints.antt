@@ -10,24 +10,24 @@ abbrev pub ◌>>=◌ : {A B : Type 0} → Option A → (A → Option B) → Opti
 read >>= next = option_and_then next read
 
 -- `a:p` with a node's number and a port
-unfoldable pub endpoint_of : List ℕ → Option (ℕ × ℕ)
-endpoint_of word = do
+unfoldable pub endpoint_read : List ℕ → Option (ℕ × ℕ)
+endpoint_read word = do
   parts ← cut 58 word
   node ← numeral 4294967295 parts.0
   port ← numeral 65535 parts.1
   Some (node, port)
 
 -- `a:p>b:q`: octets go from the port p of the node a to the port q of the node b
-unfoldable pub flow_of : List ℕ → Option Flow
-flow_of word = do
+unfoldable pub flow_read : List ℕ → Option Flow
+flow_read word = do
   ends ← cut 62 word
-  from ← endpoint_of ends.0
-  to ← endpoint_of ends.1
+  from ← endpoint_read ends.0
+  to ← endpoint_read ends.1
   Some (record { from = record { 0 = from.0 }; from_port = from.1; to = record { 0 = to.0 }; to_port = to.1 })
 
 -- `w.x.y.z` with numbers from 0 to 255
-unfoldable pub ip_of : List ℕ → Option (List ℕ)
-ip_of word = do
+unfoldable pub ip_read : List ℕ → Option (List ℕ)
+ip_read word = do
   first ← cut 46 word
   second ← cut 46 first.1
   third ← cut 46 second.1
@@ -38,9 +38,9 @@ ip_of word = do
   Some (w ∷ x ∷ y ∷ z ∷ [])
 
 -- `w.x.y.z:p`: an IPv4 address and a port
-unfoldable pub address_of : List ℕ → Option Address
-address_of word = do
+unfoldable pub address_read : List ℕ → Option Address
+address_read word = do
   parts ← cut 58 word
-  ip ← ip_of parts.0
+  ip ← ip_read parts.0
   port ← numeral 65535 parts.1
   Some (record { ip = ip; port = port })

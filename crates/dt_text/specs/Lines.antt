@@ -8,7 +8,7 @@ use Rattle.dt_text.specs.declared.lines.Form.{Form}
 use Rattle.dt_text.specs.declared.lines.Form.TheVariants.{Schedule, Script}
 use Rattle.dt_text.specs.Splitting.{words, word}
 use Rattle.dt_text.specs.Said.{Said, Blank}
-use Rattle.dt_text.specs.WordKinds.{value_in}
+use Rattle.dt_text.specs.WordKinds.{value_read}
 use Rattle.dt_text.specs.Rows.{Part, Fixed, Given, Makes, LineKind, of_schedules, of_scripts, behind_moments}
 
 infixl 10 ◌>>=◌
@@ -21,7 +21,7 @@ abbrev pub said_by : (parts : List Part) → Makes parts → ℕ → List (List 
 said_by [] said place line = Ok said
 said_by (Fixed text ∷ parts) makes place line = said_by parts makes (place + 1) line
 said_by (Given kind ∷ parts) makes place line = do
-  value ← value_in kind (word place line)
+  value ← value_read kind (word place line)
   said_by parts (makes value) (place + 1) line
 
 -- a line of the kind: the row that has its number of words says what it says

@@ -6,11 +6,12 @@ use Rattle.std.specs.Fmt.{decimal}
 use Rattle.std.specs.Str.{bytes_eq}
 use Rattle.std.specs.List.{join_with_byte, AllByRecursion}
 use Rattle.dt_units.specs.declared.endpoints.Flow.{Flow}
+use Rattle.dt_units.specs.Flows.{IsFlow}
 use Rattle.dt_edges.specs.declared.addresses.Address.{Address}
 use Rattle.dt_reports.specs.declared.faults.LineFault.{LineFault}
 use Rattle.dt_reports.specs.declared.faults.LineFault.TheVariants as faults
 use Rattle.dt_text.specs.Numerals.{numeral}
-use Rattle.dt_text.specs.Endpoints.{flow_of, address_of}
+use Rattle.dt_text.specs.Endpoints.{flow_read, address_read}
 use Rattle.dt_text.specs.Hexadecimal.{is_hex, are_pairs}
 use Rattle.dt_log.specs.Words.{flow_text}
 
@@ -52,13 +53,13 @@ again_of word =
     if bytes_eq word (codes "again") then Ok true else Err faults.Word)
 
 -- the value that a word has, or the fault where it isn't of the kind
-abbrev pub value_in : (kind : WordKind) → List ℕ → Result (Value kind) LineFault
-value_in (NumberWord least most) word = number_from least (numeral most word)
-value_in FlowWord word = ok_or (flow_of word) faults.Flow
-value_in AddressWord word = ok_or (address_of word) faults.Number
-value_in HexWord word = if is_hex 65536 word then Ok word else Err faults.Hex
-value_in MarksWord word = marks_of word
-value_in AgainWord word = again_of word
+abbrev pub value_read : (kind : WordKind) → List ℕ → Result (Value kind) LineFault
+value_read (NumberWord least most) word = number_from least (numeral most word)
+value_read FlowWord word = ok_or (flow_read word) faults.Flow
+value_read AddressWord word = ok_or (address_read word) faults.Number
+value_read HexWord word = if is_hex 65536 word then Ok word else Err faults.Hex
+value_read MarksWord word = marks_of word
+value_read AgainWord word = again_of word
 
 -- `w.x.y.z:p`
 unfoldable pub address_text : Address → List ℕ
@@ -78,13 +79,6 @@ value_text AddressWord address = address_text address
 value_text HexWord hex = hex
 value_text MarksWord marks = marks_text marks
 value_text AgainWord again = again_text again
-
--- the numbers of a flow are of 32 bits, and its ports of 16
-pub record IsFlow (f : Flow) : Type 0 where
-  pub from : f.from.0 < 2 ^ 32
-  pub from_port : f.from_port < 2 ^ 16
-  pub to : f.to.0 < 2 ^ 32
-  pub to_port : f.to_port < 2 ^ 16
 
 -- the numbers of an address, of which there are four
 pub record IsAddress (a : Address) : Type 0 where

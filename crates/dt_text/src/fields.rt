@@ -1,6 +1,6 @@
 //! The words behind the first word of a line: what each may be, and its fault where it isn't that.
 ghost use Rattle.std.specs.Prelude.{◌≡◌, ◌==◌, ◌<◌, ◌≤◌, length, IfOk, OnOk, MatchResult, if◌then◌else◌};
-ghost use Rattle.dt_text.specs.WordKinds.{value_in, NumberWord, FlowWord, AddressWord, HexWord, MarksWord, AgainWord};
+ghost use Rattle.dt_text.specs.WordKinds.{value_read, NumberWord, FlowWord, AddressWord, HexWord, MarksWord, AgainWord};
 ghost use Rattle.dt_text.specs.Rows.{any_number, link_number, link_time, read_count};
 
 use crate::endpoints::{read_address, read_flow};
@@ -35,7 +35,7 @@ pub fn has(count: usize, words: &Words<'_>) -> Result<(), LineFault>
 
 /// A number from `least` to `most`.
 fn number_from(least: u32, most: u32, word: &[u8]) -> Result<u32, LineFault>
-    ensures value { result ≡ value_in (NumberWord least most) word.now }
+    ensures value { result ≡ value_read (NumberWord least most) word.now }
     ensures within { IfOk result (λ n. n ≤ most) }
 {
     match read_number(word, u64::from(most)) {
@@ -46,14 +46,14 @@ fn number_from(least: u32, most: u32, word: &[u8]) -> Result<u32, LineFault>
 
 /// A number of 32 bits.
 pub fn number(word: &[u8]) -> Result<u32, LineFault>
-    ensures { result ≡ value_in any_number word.now }
+    ensures { result ≡ value_read any_number word.now }
 {
     number_from(0, u32::MAX, word)
 }
 
 /// The number of a link, 0 to 255.
 pub fn link(word: &[u8]) -> Result<u16, LineFault>
-    ensures { result ≡ value_in link_number word.now }
+    ensures { result ≡ value_read link_number word.now }
 {
     match number_from(0, MOST_LINK, word) {
         Ok(link) => Ok(link as u16),
@@ -63,35 +63,35 @@ pub fn link(word: &[u8]) -> Result<u16, LineFault>
 
 /// A charge or a pace, 0 to 86,400,000 ms.
 pub fn day(word: &[u8]) -> Result<u32, LineFault>
-    ensures { result ≡ value_in link_time word.now }
+    ensures { result ≡ value_read link_time word.now }
 {
     number_from(0, DAY, word)
 }
 
 /// How many octets are read at most, 1 to 65,536.
 pub fn max(word: &[u8]) -> Result<u32, LineFault>
-    ensures { result ≡ value_in read_count word.now }
+    ensures { result ≡ value_read read_count word.now }
 {
     number_from(1, MOST_OCTETS, word)
 }
 
 /// A flow.
 pub fn flow(word: &[u8]) -> Result<Flow, LineFault>
-    ensures { result ≡ value_in FlowWord word.now }
+    ensures { result ≡ value_read FlowWord word.now }
 {
     read_flow(word).ok_or(LineFault::Flow)
 }
 
 /// An IPv4 address and a port.
 pub fn address(word: &[u8]) -> Result<Address, LineFault>
-    ensures { result ≡ value_in AddressWord word.now }
+    ensures { result ≡ value_read AddressWord word.now }
 {
     read_address(word).ok_or(LineFault::Number)
 }
 
 /// 1 to 65,536 pairs of hexadecimal digits, as they are written.
 pub fn hex(word: &[u8]) -> Result<&[u8], LineFault>
-    ensures { MatchResult result (λ hex. value_in HexWord word.now ≡ Ok hex.now) (λ fault. value_in HexWord word.now ≡ Err fault) }
+    ensures { MatchResult result (λ hex. value_read HexWord word.now ≡ Ok hex.now) (λ fault. value_read HexWord word.now ≡ Err fault) }
 {
     if is_hex(word, MOST_OCTETS) {
         Ok(word)
@@ -102,7 +102,7 @@ pub fn hex(word: &[u8]) -> Result<&[u8], LineFault>
 
 /// Whether a message begins with the octets, and whether it ends with them: `be`, `b`, `e`, `-`.
 pub fn marks(word: &[u8]) -> Result<(bool, bool), LineFault>
-    ensures { result ≡ value_in MarksWord word.now }
+    ensures { result ≡ value_read MarksWord word.now }
 {
     if is(word, "be") {
         Ok((true, true))
@@ -119,7 +119,7 @@ pub fn marks(word: &[u8]) -> Result<(bool, bool), LineFault>
 
 /// Whether a node begins again after an earlier life: `first` or `again`.
 pub fn again(word: &[u8]) -> Result<bool, LineFault>
-    ensures { result ≡ value_in AgainWord word.now }
+    ensures { result ≡ value_read AgainWord word.now }
 {
     if is(word, "first") {
         Ok(false)

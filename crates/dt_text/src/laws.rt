@@ -5,10 +5,10 @@ ghost use Rattle.std.specs.List.{AllByRecursion};
 ghost use Rattle.std.specs.Str.{str_to_ascii_lowercase};
 ghost use Rattle.std.specs.Fmt.{decimal};
 ghost use Rattle.dt_units.specs.declared.endpoints.Flow.{Flow};
-ghost use Rattle.dt_text.specs.Endpoints.{flow_of};
+ghost use Rattle.dt_text.specs.Endpoints.{flow_read};
 ghost use Rattle.dt_text.specs.Hexadecimal.{is_hex, are_pairs, octets_of_hex};
 ghost use Rattle.dt_log.specs.Words.{flow_text, hex_text};
-ghost use Rattle.dt_text.specs.WordKinds.{IsFlow};
+ghost use Rattle.dt_units.specs.Flows.{IsFlow};
 ghost use Rattle.dt_text.specs.Spelling.{IsLine, IsSpelling};
 ghost use Rattle.dt_text.specs.Said as said;
 ghost use Rattle.dt_text.specs.Said.{Said};
@@ -24,8 +24,8 @@ pub fn numbers_have_one_spelling()
 
 /// A flow has one spelling: `a:p>b:q` with each number in its one spelling.
 pub fn flows_have_one_spelling()
-    ensures read { (f : Flow) → IsFlow f → flow_of (flow_text f) ≡ Some f }
-    ensures only { (word : List ℕ) (f : Flow) → flow_of word ≡ Some f → (word ≡ flow_text f) × IsFlow f }
+    ensures read { (f : Flow) → IsFlow f → flow_read (flow_text f) ≡ Some f }
+    ensures only { (word : List ℕ) (f : Flow) → flow_read word ≡ Some f → (word ≡ flow_text f) × IsFlow f }
 {}
 
 /// Octets are spelled by the hexadecimal digits of each, and what spells them is that up to the

@@ -6,7 +6,7 @@ ghost use Rattle.dt_text.specs.Lines.{line_of, said_as, said_at, said_in};
 ghost use Rattle.dt_text.specs.declared.lines.Form.TheVariants.{Schedule, Script};
 ghost use Rattle.dt_text.specs.Rows as rows;
 ghost use Rattle.dt_text.specs.Splitting.{word};
-ghost use Rattle.dt_text.specs.WordKinds.{value_in};
+ghost use Rattle.dt_text.specs.WordKinds.{value_read};
 
 use crate::fields::{address, again, day, flow, has, hex, link, marks, max, number};
 use crate::lines::{Form, Line};
@@ -28,7 +28,7 @@ fn has_parameters(words: &Words<'_>) -> Result<(), LineFault>
 
 /// The first sequence number: the eleventh number of `params`, or 0 where there are ten.
 fn start(words: &Words<'_>) -> Result<u32, LineFault>
-    ensures { result ≡ (if length words.now == 12 then value_in rows.any_number (word 11 words.now) else Ok 0) }
+    ensures { result ≡ (if length words.now == 12 then value_read rows.any_number (word 11 words.now) else Ok 0) }
 {
     if words.are(12) {
         number(words.word(11))

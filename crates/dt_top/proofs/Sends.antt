@@ -10,7 +10,7 @@ use Rattle.dt_log.specs.Logs.{entry_text, log_text}
 use Rattle.dt_flow_model.specs.SendRecord.{room_of}
 use Rattle.dt_top.specs.declared.path.state.Sender.{Sender}
 use Rattle.dt_top.specs.Transmitting.{the_flow, by_sender}
-use Rattle.dt_top.specs.Replay.{SenderTurned, sends, taking, holding}
+use Rattle.dt_top.specs.Replay.{SenderTurned, sends, after_taking, holding}
 
 -- two digits an octet
 pub two_digits : (hex : List ℕ) → length hex % 2 ≡ 0 → 2 * length (octets_of_hex hex) ≡ length hex
@@ -34,8 +34,8 @@ pub refuses : (s : Sender) (begin end : Bool) (octets : List ℕ) → nat_lt (ro
 refuses s begin end octets h = rw h refl
 
 pub takes : (s : Sender) (begin end : Bool) (octets os : List ℕ) → os ≡ octets → nat_lt (room_of s.rules s.send_record) (length octets) ≡ false
-    → sends s begin end octets ≡ taking (length os) (holding s (marked os begin end false) (length os))
-takes s begin end octets os e h = subst (λ xs. sends s begin end octets ≡ taking (length xs) (holding s (marked xs begin end false) (length xs))) (sym e) (rw h refl)
+    → sends s begin end octets ≡ after_taking (length os) (holding s (marked os begin end false) (length os))
+takes s begin end octets os e h = subst (λ xs. sends s begin end octets ≡ after_taking (length xs) (holding s (marked xs begin end false) (length xs))) (sym e) (rw h refl)
 
 -- the line of a send that is refused
 pub refused_text : (s : Sender) (begin end : Bool) (octets : List ℕ) (free : ℕ) → nat_lt (room_of s.rules s.send_record) (length octets) ≡ true → free ≡ room_of s.rules s.send_record

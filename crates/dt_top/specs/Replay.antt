@@ -48,14 +48,14 @@ pub record SenderTurned : Type 0 where
 abbrev pub holding : Sender → List Item → ℕ → Sender
 holding s items count = record { rules = s.rules; send_record = put items s.send_record; copies = s.copies; taken = s.taken + count }
 
-abbrev pub taking : ℕ → Sender → SenderTurned
-taking count s = record { sender = after_transmissions most_segments s; entries = by_sender (reports.Took the_flow count) ∷ transmissions most_segments s }
+abbrev pub after_taking : ℕ → Sender → SenderTurned
+after_taking count s = record { sender = after_transmissions most_segments s; entries = by_sender (reports.Took the_flow count) ∷ transmissions most_segments s }
 
 abbrev pub sends : Sender → Bool → Bool → List ℕ → SenderTurned
 sends s begin end octets =
     if nat_lt (room_of s.rules s.send_record) (length octets)
     then record { sender = s; entries = by_sender (reports.Refused the_flow (Full (room_of s.rules s.send_record))) ∷ [] }
-    else taking (length octets) (holding s (marked octets begin end false) (length octets))
+    else after_taking (length octets) (holding s (marked octets begin end false) (length octets))
 
 -- the path with its sender after a send
 abbrev pub with_sender : Path → SenderTurned → Turned
@@ -113,16 +113,16 @@ totals taken =
     then by_world (reports.FlowTotals the_flow taken 0 0 taken 0 0) ∷ by_world reports.End ∷ []
     else by_world reports.End ∷ []
 
-abbrev pub taken_by : Option Sender → ℕ
-taken_by None = 0
-taken_by (Some s) = s.taken
+abbrev pub taken_so_far : Option Sender → ℕ
+taken_so_far None = 0
+taken_so_far (Some s) = s.taken
 
 abbrev pub refused_at : ℕ → Fault → Replay
 refused_at number fault = record { entries = by_world (reports.Fault number fault) ∷ []; accepted = false }
 
 -- Behind the last line: a schedule has come to its end where it was running, and else a line is missing.
 abbrev pub closing : ℕ → Stage → Option Sender → Replay
-closing number (stages.Run last) sender = record { entries = totals (taken_by sender); accepted = true }
+closing number (stages.Run last) sender = record { entries = totals (taken_so_far sender); accepted = true }
 closing number _ sender = refused_at number (faults.Line Order)
 
 abbrev pub behind : List Entry → Replay → Replay

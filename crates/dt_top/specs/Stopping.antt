@@ -9,7 +9,7 @@ use Rattle.dt_top.specs.declared.path.stop.Stop.{Stop}
 use Rattle.dt_top.specs.declared.path.stop.Stop.TheVariants as stops
 use Rattle.dt_top.specs.declared.path.state.Sender.{Sender}
 use Rattle.dt_top.specs.declared.path.state.Path.{Path}
-use Rattle.dt_top.specs.Replay.{Turned, taken_by}
+use Rattle.dt_top.specs.Replay.{Turned, taken_so_far}
 
 -- A call that stops says why: memory was wanted, or a put failed and the sink's count of faults rose.
 abbrev pub StopsFor : Stop → ℕ → ℕ → Type 0
@@ -38,4 +38,4 @@ copies_by (Some s) = s.copies
 
 -- After so many lines no count is great: a send takes at most 65,536 octets, and at most 64 copies leave for it.
 abbrev pub IsEarly : ℕ → Option Sender → Type 0
-IsEarly lines sender = (copies_by sender ≤ 64 * lines) × (taken_by sender ≤ 65536 * lines)
+IsEarly lines sender = (copies_by sender ≤ 64 * lines) × (taken_so_far sender ≤ 65536 * lines)

@@ -7,7 +7,7 @@ ghost use Rattle.dt_text.specs.declared.lines.Form.TheVariants.{Schedule};
 ghost use Rattle.dt_text.specs.Spelling.{IsLine};
 ghost use Rattle.dt_reports.specs.declared.reports.Report.TheVariants as reports;
 ghost use Rattle.dt_top.specs.Transmitting.{by_world};
-ghost use Rattle.dt_top.specs.Replay.{at_start, setup_lines, params_turn, setup_turn, line_turn, turn, taken_by, totals, refused_at, closing, replay, is_accepted};
+ghost use Rattle.dt_top.specs.Replay.{at_start, setup_lines, params_turn, setup_turn, line_turn, turn, taken_so_far, totals, refused_at, closing, replay, is_accepted};
 ghost use Rattle.dt_top.specs.Stopping.{StopsFor, Logs, Turns, copies_by};
 
 pub mod segments;
@@ -97,10 +97,10 @@ impl Path {
     ) -> Result<Option<Fault>, Stop>
         requires in_form { IsLine Schedule (Said.said said.now) }
         requires few_copies { copies_by self.old.sender < 2 ^ 62 }
-        requires few_octets { taken_by self.old.sender < 2 ^ 62 }
+        requires few_octets { taken_so_far self.old.sender < 2 ^ 62 }
         ensures turns { Turns K.sight (line_turn self.old line.now (Said.said said.now)) result self.new out.old out.new }
         ensures copies { IfOk result (λ fault. IfNone fault (copies_by self.new.sender ≤ copies_by self.old.sender + 64)) }
-        ensures taken { IfOk result (λ fault. IfNone fault (taken_by self.new.sender ≤ taken_by self.old.sender + 65536)) }
+        ensures taken { IfOk result (λ fault. IfNone fault (taken_so_far self.new.sender ≤ taken_so_far self.old.sender + 65536)) }
     {
         match said {
             Line::Blank => Ok(None),
@@ -131,10 +131,10 @@ impl Path {
         out: &mut K,
     ) -> Result<Option<Fault>, Stop>
         requires few_copies { copies_by self.old.sender < 2 ^ 62 }
-        requires few_octets { taken_by self.old.sender < 2 ^ 62 }
+        requires few_octets { taken_so_far self.old.sender < 2 ^ 62 }
         ensures turns { Turns K.sight (turn self.old line.now) result self.new out.old out.new }
         ensures copies { IfOk result (λ fault. IfNone fault (copies_by self.new.sender ≤ copies_by self.old.sender + 64)) }
-        ensures taken { IfOk result (λ fault. IfNone fault (taken_by self.new.sender ≤ taken_by self.old.sender + 65536)) }
+        ensures taken { IfOk result (λ fault. IfNone fault (taken_so_far self.new.sender ≤ taken_so_far self.old.sender + 65536)) }
     {
         match read_line(Form::Schedule, line) {
             Err(fault) => Ok(Some(Fault::Line(fault))),
@@ -150,7 +150,7 @@ impl Path {
 
     /// How many octets were taken.
     fn taken(&self) -> u64
-        ensures { result ≡ taken_by self.now.sender }
+        ensures { result ≡ taken_so_far self.now.sender }
     {
         match &self.sender {
             Some(sender) => sender.taken,
@@ -161,7 +161,7 @@ impl Path {
     /// Logs the totals of the flow, if it took something, and the end.
     #[tactic(auto, using(crate::proofs::Logging::logs_then))]
     fn tell_totals<K: Sink>(&self, out: &mut K) -> Result<(), Stop>
-        ensures { Logs K.sight (totals (taken_by self.now.sender)) result out.old out.new }
+        ensures { Logs K.sight (totals (taken_so_far self.now.sender)) result out.old out.new }
     {
         let taken = self.taken();
         if taken > 0 {

@@ -12,7 +12,7 @@ use Rattle.dt_flow_model.specs.Safe.{Safe, SafeLedger}
 use Rattle.dt_flow_model.specs.Flow.{FlowState}
 use Rattle.dt_flow_model.specs.Steps.{HasTransmitted}
 use Rattle.dt_flow_model.specs.Frames.{Mark, marked_packet, value_in, flow_in}
-use Rattle.dt_flow_model.specs.Keeping.{IsFlow}
+use Rattle.dt_units.specs.Flows.{IsFlow}
 use Rattle.dt_world_model.specs.Tables.{AllEntries, look}
 use Rattle.dt_world_model.specs.Host.{IsHost}
 use Rattle.dt_world_model.specs.Relay.{Parcel, Waiting, Out, charge_of}

@@ -12,7 +12,7 @@ ghost use Rattle.dt_flow_model.specs.SendRecord.{held_of};
 ghost use Rattle.dt_flow_model.specs.SendActs.{most_segments};
 ghost use Rattle.dt_top.specs.Sending.{goes_out, next_cut};
 ghost use Rattle.dt_top.specs.Transmitting.{sent_entry, put_entry, after_transmission, transmissions, after_transmissions, departure};
-ghost use Rattle.dt_top.specs.Replay.{sends, taking, holding};
+ghost use Rattle.dt_top.specs.Replay.{sends, after_taking, holding};
 ghost use Rattle.dt_top.specs.Stopping.{Stops, Logs};
 
 use crate::path::sending::MOST_SEGMENTS;
@@ -119,10 +119,10 @@ impl Sender {
         requires room { held_of self.old.send_record + length octets.now < 2 ^ 32 }
         requires few_copies { self.old.copies < 2 ^ 62 }
         requires few_octets { self.old.taken < 2 ^ 62 }
-        ensures ok { OnOk result (self.new ≡ (taking (length octets.now) (holding self.old (marked octets.now begin end false) (length octets.now))).sender) }
+        ensures ok { OnOk result (self.new ≡ (after_taking (length octets.now) (holding self.old (marked octets.now begin end false) (length octets.now))).sender) }
         ensures copies { OnOk result (self.new.copies ≤ self.old.copies + 64) }
         ensures taken { OnOk result (self.new.taken ≡ self.old.taken + length octets.now) }
-        ensures logs { Logs K.sight (taking (length octets.now) (holding self.old (marked octets.now begin end false) (length octets.now))).entries result out.old out.new }
+        ensures logs { Logs K.sight (after_taking (length octets.now) (holding self.old (marked octets.now begin end false) (length octets.now))).entries result out.old out.new }
     {
         self.send_record.put(octets, begin, end)?;
         let count = octets.len() as u32;

@@ -6,7 +6,7 @@ use Rattle.dt_text.specs.InputLines.{lines_of}
 use Rattle.dt_log.specs.Logs.{log_text}
 use Rattle.dt_top.specs.Replay.{Replay, replay, replay_from, refused_at}
 use Rattle.dt_top.specs.Stopping.{copies_by}
-use Rattle.dt_top.specs.Replay.{taken_by}
+use Rattle.dt_top.specs.Replay.{taken_so_far}
 use Rattle.dt_top.proofs.Logging.{HasLeft, nothing_taken, all_taken, logs_rest}
 use Rattle.dt_top.proofs.Replays.{replay_is, refused, closed, text_goes_on, accepted_goes_on}
 use Rattle.dt_top.proofs.path.replay_lines.Goals as goal
@@ -17,7 +17,7 @@ loop-rest-init g c =
     record {
       left = subst (λ (r : Replay). HasLeft (log_text r.entries) (log_text (replay c.args.bytes.now).entries) (g.K.Sink.sight c.args.out.now) (g.K.Sink.sight c.args.out.now)) (sym all) (nothing_taken _ _);
       accepted = ap (λ (r : Replay). r.accepted) all;
-      early = (omega (arith, ap (λ p. copies_by p.sender) c.new-path.ensures), omega (arith, ap (λ p. taken_by p.sender) c.new-path.ensures));
+      early = (omega (arith, ap (λ p. copies_by p.sender) c.new-path.ensures), omega (arith, ap (λ p. taken_so_far p.sender) c.new-path.ensures));
       few = omega arith;
     }
 
