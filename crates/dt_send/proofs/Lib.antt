@@ -1,0 +1,12 @@
+pub mod StretchLemmas
+pub mod RingLemmas
+pub mod Cuts
+pub mod Scans
+pub mod DueLemmas
+pub mod ActLemmas
+pub mod StepLemmas
+pub mod MomentLemmas
+pub mod TransmitLemmas
+pub mod SendLemmas
+pub mod Choices
+pub mod SenderLemmas

@@ -1,0 +1,31 @@
+-- What is told and written of a segment that goes out.
+use Rattle.std.proofs.Common.{ℕ, ◌+◌, ◌<◌, ◌≡◌, Bool, true, false, List, [], ◌∷◌, length, take, drop, get_or, Some, refl, sym, ap, ◌∙◌, arith, eqb}
+use Rattle.std.specs.Prelude.{◌&&◌}
+use Rattle.std.specs.List.{slice_get}
+use Rattle.std.proofs.lemmas.List.{get_or-drop, get_or-take, length-map}
+use Rattle.std.proofs.lemmas.Option.{get_or_from_slice_get}
+use Rattle.std.proofs.lemmas.Bool.Decides.{nat_tests}
+use Rattle.dt_items.specs.declared.item.Item.{Item}
+use Rattle.dt_items.specs.Unread.{octets_of}
+use Rattle.dt_items.proofs.Marks.{blank, marked-at}
+use Rattle.dt_flow_model.specs.Keeping.{IsPieceSent}
+use Rattle.dt_flow_model.specs.SendRecord.{begins, ends}
+
+-- an item of a stretch
+pub item_within : (all : List Item) (from n i place : ℕ) (x : Item) → place ≡ from + i → i < n → slice_get all place ≡ Some x → get_or (take n (drop from all)) i blank ≡ x
+item_within all from n i place x e lt h = get_or-take n (drop from all) i blank lt ∙ get_or-drop from all i blank ∙ ap (λ (k : ℕ). get_or all k blank) (sym e) ∙ get_or_from_slice_get all place x blank h
+
+pub begins-first : (items : List Item) (x : Item) → 0 < length items → get_or items 0 blank ≡ x → begins items ≡ x.begin
+begins-first [] x lt h = absurd (omega arith)
+begins-first (i ∷ is) x lt h = ap (λ (j : Item). j.begin) h
+
+and_true : (b c : Bool) → c ≡ true → (b && c) ≡ b
+and_true true c h = h
+and_true false c h = refl
+
+pub ends-last : (items : List Item) (i : ℕ) (x : Item) → IsPieceSent items → i + 1 ≡ length items → get_or items i blank ≡ x → ends items ≡ x.end
+ends-last items i x piece e h =
+    let n : length (octets_of items) ≡ length items = length-map items (λ (j : Item). j.octet) in
+    let at = marked-at (octets_of items) i (begins items) (ends items) false blank (omega arith) in
+    let last : eqb (i + 1) (length (octets_of items)) ≡ true = grind (arith, nat_tests) in
+    sym (ap (λ (j : Item). j.end) (sym h ∙ ap (λ (is : List Item). get_or is i blank) piece ∙ at) ∙ and_true (ends items) (eqb (i + 1) (length (octets_of items))) last)

@@ -1,0 +1,4 @@
+pub mod Stretches
+pub mod Rings
+pub mod Senders
+pub mod Items

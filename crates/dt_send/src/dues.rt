@@ -1,0 +1,47 @@
+//! Which kind of act is due, told by the moments of all kinds.
+ghost use Rattle.std.specs.Prelude.{◌≡◌};
+ghost use Rattle.dt_flow_model.specs.SendActs.{earlier, least_moment};
+ghost use Rattle.dt_send.specs.Senders.{due_if, first_due};
+
+use dt_flow_model::{SendKind, SendMoments};
+
+/// A kind whose moment has come, with the moment.
+fn due_by(now: u64, kind: SendKind, moment: Option<u64>) -> Option<(SendKind, u64)>
+    ensures { result ≡ due_if now kind moment }
+{
+    match moment {
+        Some(moment) if moment <= now => Some((kind, moment)),
+        Some(_) | None => None,
+    }
+}
+
+/// The first kind whose moment has come, with the moment.
+pub fn due_first(now: u64, moments: &SendMoments) -> Option<(SendKind, u64)>
+    ensures { result ≡ first_due now moments.now }
+{
+    due_by(now, SendKind::GiveUp, moments.give_up)
+        .or(due_by(now, SendKind::Release, moments.release))
+        .or(due_by(now, SendKind::Resend, moments.resend))
+        .or(due_by(now, SendKind::Send, moments.send))
+        .or(due_by(now, SendKind::Meet, moments.meet))
+}
+
+/// The lesser of two moments, of which each may be none.
+pub fn lesser(moment: Option<u64>, other: Option<u64>) -> Option<u64>
+    ensures { result ≡ earlier moment other }
+{
+    match (moment, other) {
+        (Some(moment), Some(other)) => Some(moment.min(other)),
+        (Some(moment), None) => Some(moment),
+        (None, other) => other,
+    }
+}
+
+/// The least of the moments.
+pub fn least(moments: &SendMoments) -> Option<u64>
+    ensures { result ≡ least_moment moments.now }
+{
+    let later = lesser(moments.send, moments.meet);
+    let later = lesser(moments.resend, later);
+    lesser(moments.give_up, lesser(moments.release, later))
+}

@@ -1,0 +1,15 @@
+//! The send record of a flow: what its sender holds, when each of its acts is due, and the acts.
+#![tactic(auto)]
+
+mod dues;
+mod numbering;
+mod octets;
+mod rings;
+mod senders;
+mod stretches;
+
+pub use dt_flow_model::{Cut, PutFault, SendAct, SendKind, SendMoments};
+pub use senders::Sender;
+
+#[cfg(test)]
+mod tests;
