@@ -1,5 +1,5 @@
 -- What a send record's two rings mean: the record of the model.
-use Rattle.std.specs.Prelude.{ℕ, ◌+◌, ◌<◌, ◌≤◌, ◌≡◌, ◌^◌, All, List, length, drop, take, Some, unwrap_or, IfSome}
+use Rattle.std.specs.Prelude.{ℕ, ◌+◌, ◌<◌, ◌≤◌, ◌≡◌, All, List, length, drop, take, Some, unwrap_or, IfSome}
 use Rattle.dt_units.specs.declared.parameters.Params.{Params}
 use Rattle.dt_units.specs.declared.endpoints.Flow.{Flow}
 use Rattle.dt_units.specs.Limits.{IsWithinLimits}
@@ -8,7 +8,7 @@ use Rattle.dt_flow_model.specs.declared.acts.SendAct.{SendAct}
 use Rattle.dt_flow_model.specs.SendRecord.{SendRecord, next_of}
 use Rattle.dt_flow_model.specs.SendActs.{Act, act_of, kind_of, most_segments, told_of, record_after}
 use Rattle.dt_flow_model.specs.Frames.{frame_of_act}
-use Rattle.dt_flow_model.specs.Keeping.{IsSendRecord, IsBy, taken_by}
+use Rattle.dt_flow_model.specs.Keeping.{IsBy, IsSendRecord, most_moment, octets_below, taken_by}
 use Rattle.dt_send.specs.declared.rings.Rings.{Rings}
 use Rattle.dt_send.specs.Stretches.{segments_of, octets_in}
 
@@ -24,10 +24,6 @@ record_of k =
       waiting = drop (octets_in k.stretches.items) k.items.items;
     }
 
--- the greatest moment
-abbrev pub most_moment : ℕ
-most_moment = 2 ^ 62
-
 -- each moment that a record notes is at most this one
 pub record IsTimedBy (moment : ℕ) (x : SendRecord) : Type 0 where
   pub touched : x.touched ≤ moment
@@ -38,7 +34,7 @@ pub record IsTimedBy (moment : ℕ) (x : SendRecord) : Type 0 where
 pub record IsWithin (p : Params) (x : SendRecord) : Type 0 where
   pub kept : IsSendRecord p x
   -- fewer than 2^62 octets were taken since it began
-  pub counted : taken_by x < 2 ^ 62
+  pub counted : taken_by x < octets_below
   pub timed : IsTimedBy most_moment x
 
 -- what the rings keep

@@ -1,10 +1,10 @@
-ghost use Rattle.std.specs.Prelude.{◌≡◌, ◌≢◌, ◌+◌, ◌^◌, ◌<◌, ◌≤◌, [], ◌++◌, false, length, Some, None, IfNone, IfOk, IfSome, IsSome, unwrap_or};
+ghost use Rattle.std.specs.Prelude.{◌≡◌, ◌+◌, ◌<◌, ◌≤◌, [], ◌++◌, false, length, Some, None, IfNone, IfOk, IfSome, IsSome, unwrap_or};
 ghost use Rattle.std.specs.Option.{option_map};
 ghost use Rattle.std.specs.Result.{result_err};
 ghost use Rattle.circular_buffer.specs.Buffer.{buffer};
 ghost use Rattle.dt_items.specs.Unread.{marked};
 ghost use Rattle.dt_flow_model.specs.Frames.{frame_of_act};
-ghost use Rattle.dt_flow_model.specs.Keeping.{IsSendRecord, taken_by};
+ghost use Rattle.dt_flow_model.specs.Keeping.{IsSendRecord, most_moment, octets_below, taken_by};
 ghost use Rattle.dt_flow_model.specs.Numbering.{number_of};
 ghost use Rattle.dt_flow_model.specs.SendActs.{act_of, due_of, record_after, send_moments, told_of, wake_of};
 ghost use Rattle.dt_flow_model.specs.SendRecord.{after_put, held_of, new_record, next_of, on_ack, put_fault};
@@ -54,7 +54,7 @@ impl Sender {
     /// A send record that begins at now, with nothing in it and the window of the parameters. Takes
     /// the memory for `cap` octets with their marks, for 64 segments and for the octets of one.
     pub fn new(alloc: Global, rules: &Rules, flow: Flow, now: u64) -> Result<Sender, NoMemory>
-        requires { now ≤ 2 ^ 62 }
+        requires { now ≤ most_moment }
         ensures { IfOk result (λ sender. sender ≡ record { rules = rules.now; flow = flow; state = new_record rules.now now [] }) }
     {
         let rings = Rings::new(alloc, rules, now)?;
@@ -78,7 +78,7 @@ impl Sender {
         end: bool,
         steps: &mut Steps<L>,
     ) -> Result<(), PutFault>
-        requires { taken_by self.old.state + length octets.now < 2 ^ 62 }
+        requires { taken_by self.old.state + length octets.now < octets_below }
         ensures fault { result_err result ≡ put_fault self.old.rules self.old.state (length octets.now) }
         ensures after { let items = marked octets.now begin end false in
             self.new ≡ record self.old { state = after_put self.old.rules items self.old.state } }
@@ -130,7 +130,7 @@ impl Sender {
     /// outstanding segments and of the octets that go out.
     pub fn act<L: Ledger>(&mut self, now: u64, frame: &mut Frame, steps: &mut Steps<L>) -> SendAct
         requires due { IsSome (due_of self.old.rules now self.old.state) }
-        requires moment { now ≤ 2 ^ 62 }
+        requires moment { now ≤ most_moment }
         ensures told { let x = self.old.state in
             IfSome (act_of self.old.rules now x) (λ act. result ≡ told_of self.old.rules x act) }
         ensures frame { let x = self.old.state in
