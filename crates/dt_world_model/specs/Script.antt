@@ -59,3 +59,11 @@ Along handler fact (Done a) s = fact s
 Along handler fact (Tell r script) s = fact s × Along handler fact script (handler.tell r s)
 Along handler fact (Ask host octets script) s = fact s × Along handler fact (script (handler.tag host octets s)) s
 Along handler fact (Hand link parcel script) s = fact s × Along handler fact script (handler.hand link parcel s)
+
+-- WHATEVER TAGS ARE ANSWERED, this holds of the answer.
+module _ {T A : Type 0} (fact : A → Type 0) where
+  abbrev pub Answers : Script T A → Type 0
+  Answers (Done a) = fact a
+  Answers (Tell r script) = Answers script
+  Answers (Ask host octets script) = (t : T) → Answers (script t)
+  Answers (Hand link parcel script) = Answers script

@@ -16,7 +16,7 @@ use Rattle.dt_world_model.specs.Relay.{Parcel, Out, Left, Goes, Expired, admit_f
 use Rattle.dt_world_model.specs.Script.{Script, Done, Tell, Ask, Hand}
 use Rattle.dt_world_model.specs.Station.{Event, Arrive, Station, station_event, station_with}
 use Rattle.dt_world_model.specs.World.{World, last_lines}
-use Rattle.dt_world_model.specs.WorldStep.{WorldEvent, Outcome, Refused, Stepped, world_step}
+use Rattle.dt_world_model.specs.WorldStep.{WorldEvent, run}
 use Rattle.dt_world_model.specs.Setup.{Setup, SetupCall, AddLink, AddRoute, AddStation, new_setup, new_world, setup_by}
 
 -- receive 4200, give 5200, send and quiet 6200
@@ -154,19 +154,7 @@ world_of (Err fault) = new_world (new_setup standard)
 abbrev pub world_two : ℕ → ℕ → World
 world_two ahead pace = world_of (setup_with (two_stations ahead pace))
 
--- the lines of the events, and the world after them. A refused event gives no line
-abbrev pub then_run : List Entry → World → Outcome → List Entry × World
-then_run lines w (Refused fault) = (lines, w)
-then_run lines w (Stepped more after) = (lines ++ more, after)
-
-abbrev pub run_from : List WorldEvent → List Entry × World → List Entry × World
-run_from [] r = r
-run_from (e ∷ es) r = run_from es (then_run r.0 r.1 (world_step r.1 e))
-
-abbrev pub run : List WorldEvent → World → List Entry × World
-run es w = run_from es ([], w)
-
--- with the last lines
+-- the lines of the events with the last lines
 abbrev pub whole_run : List WorldEvent → World → List Entry
 whole_run es w = (run es w).0 ++ last_lines (run es w).1
 

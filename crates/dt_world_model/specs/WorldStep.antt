@@ -1,5 +1,5 @@
 -- The step of the world: an event is refused and changes nothing, or gives lines and the world after it.
-use Rattle.std.specs.Prelude.{ℕ, ◌+◌, ◌-◌, ◌==◌, Bool, true, false, not, if◌then◌else◌, nat_lt, List, [], ◌∷◌, get_or, length, map, set, Option, Some, None, unwrap_or}
+use Rattle.std.specs.Prelude.{ℕ, ◌+◌, ◌-◌, ◌==◌, Bool, true, false, not, if◌then◌else◌, nat_lt, List, [], ◌∷◌, ◌++◌, get_or, length, map, set, Option, Some, None, unwrap_or}
 use Rattle.dt_items.specs.Unread.{marked}
 use Rattle.dt_units.specs.declared.parameters.Params.{Params}
 use Rattle.dt_units.specs.declared.endpoints.Flow.{Flow}
@@ -142,3 +142,18 @@ step_unless (Some fault) r = Refused fault
 
 abbrev pub world_step : World → WorldEvent → Outcome
 world_step w e = step_unless (first_refusal (refusals w e)) (after_event w e)
+
+-- A RUN: the lines of the events in order, and the world after them. An event that is refused gives no line and changes nothing.
+abbrev pub then_step : List Entry × World → Outcome → List Entry × World
+then_step r (Refused fault) = r
+then_step r (Stepped lines after) = (r.0 ++ lines, after)
+
+abbrev pub run_from : List WorldEvent → List Entry × World → List Entry × World
+run_from [] r = r
+run_from (e ∷ es) r = run_from es (then_step r (world_step r.1 e))
+
+abbrev pub run : List WorldEvent → World → List Entry × World
+run es w = run_from es ([], w)
+
+abbrev pub world_after : World → List WorldEvent → World
+world_after w es = (run es w).1

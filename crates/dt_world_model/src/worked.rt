@@ -15,8 +15,8 @@ ghost use Rattle.dt_world_model.specs.Relay.{enter, leave, new_relay, out_wake, 
 ghost use Rattle.dt_world_model.specs.Setup.{AddStation};
 ghost use Rattle.dt_world_model.specs.Station.{Arrive, Send};
 ghost use Rattle.dt_world_model.specs.World.{last_lines};
-ghost use Rattle.dt_world_model.specs.WorldStep.{Arrives, Loses, Passes, Reads, Refused, Restarts, Sends, Ticks, world_step};
-ghost use Rattle.dt_world_model.specs.Worked.{bare_line, charged_and_passed, filled, hello, host_seven, host_two, life_left, line, link_call, main_flow, other_flow, parcel_of, port_flow, route_call, run, setup_with, short_lived, standard, station_greeted, station_of, told_at, turns, two_stations, whole_run, world_two};
+ghost use Rattle.dt_world_model.specs.WorldStep.{Arrives, Loses, Passes, Reads, Refused, Restarts, Sends, Ticks, run, world_step};
+ghost use Rattle.dt_world_model.specs.Worked.{bare_line, charged_and_passed, filled, hello, host_seven, host_two, life_left, line, link_call, main_flow, other_flow, parcel_of, port_flow, route_call, setup_with, short_lived, standard, station_greeted, station_of, told_at, turns, two_stations, whole_run, world_two};
 
 /// Two octets that went out at 0 and at 1 on two flows are given up at 5200 and at 5201. Then nothing
 /// is due before 6200, when the first record is released. Of octets that both went out at 0 the one of

@@ -1,0 +1,33 @@
+//! A station comes to an end with its acts, and then sleeps until its wake.
+ghost use Rattle.std.specs.Prelude.{ℕ, ◌≡◌, ◌<◌, ◌++◌, ◌∷◌, List, Some};
+ghost use Rattle.dt_units.specs.declared.parameters.Params.{Params};
+ghost use Rattle.dt_units.specs.Limits.{IsWithinLimits};
+ghost use Rattle.dt_flow_model.specs.SendActs.{IsBefore, IsFirst};
+ghost use Rattle.dt_world_model.specs.Host.{Host, IsCurrentHost, IsHost, Turn, host_wake, next_turn, work};
+ghost use Rattle.dt_world_model.specs.Relay.{Left, Out, leave, out_wake, relay_wake};
+ghost use Rattle.dt_world_model.specs.Script.{Answers, Done};
+ghost use Rattle.dt_world_model.specs.Station.{Station, Tick, settle_station, station_event, station_wake};
+
+/// Each act of a host lowers the work that is left at its moment and keeps what a host keeps, so a host
+/// comes to an end with its acts.
+#[tactic(auto, using(crate::proofs::Work::work_falls, crate::proofs::Hosts::turn_keeps))]
+pub fn acts_come_to_an_end()
+    ensures falls { (p : Params) (now : ℕ) (host : Host) (turn : Turn) → IsWithinLimits p → IsHost p host → next_turn p now host ≡ Some turn → work p now turn.host < work p now host }
+    ensures kept { (p : Params) (now : ℕ) (host : Host) (turn : Turn) → IsWithinLimits p → IsHost p host → next_turn p now host ≡ Some turn → IsHost p turn.host }
+{}
+
+/// The work that is left is enough for all acts that are due: after a station has settled none is,
+/// whatever tags were answered.
+pub fn settled_station_has_no_act_due<T>()
+    ensures { (p : Params) (now : ℕ) (station : Station T) → IsWithinLimits p → IsHost p station.host → Answers (λ (after : Station T). IsHost p after.host × IsCurrentHost p now after.host) (settle_station p now station) }
+{}
+
+/// The wake is the first moment at which something is due: a tick before it tells nothing, hands out
+/// nothing and leaves the station as it was. At the wake of the host an act is due, and at the wake of
+/// the relay a packet leaves.
+pub fn station_sleeps_until_its_wake<T>()
+    ensures tick { (p : Params) (now : ℕ) (station : Station T) → IsBefore now (station_wake p station) → station_event p now Tick station ≡ Done station }
+    ensures host { (p : Params) (host : Host) → IsFirst Turn (λ now. next_turn p now host) (host_wake p host) }
+    ensures link { (out : Out T) → IsFirst (Left T) (λ now. (leave now out).0) (out_wake out out.waits) }
+    ensures relay { (outs : List (Out T)) (moment : ℕ) → relay_wake outs ≡ Some moment → (before after : List (Out T)) × (out : Out T) × (left : Left T) × (outs ≡ before ++ out ∷ after) × ((leave moment out).0 ≡ Some left) }
+{}
