@@ -16,7 +16,7 @@ use Rattle.dt_world_model.specs.declared.links.Entered.{Entered}
 use Rattle.dt_world_model.specs.declared.links.Entered.TheVariants.{Queued, NoRoute, Full}
 use Rattle.dt_world_model.specs.Tables.{look}
 use Rattle.dt_flow_model.specs.Frames.{Mark}
-use Rattle.dt_world_model.specs.Host.{Host, Turn, next_turn, work}
+use Rattle.dt_world_model.specs.Host.{Host, Turn, next_turn, work, IsCurrentHost, offers}
 use Rattle.dt_world_model.specs.Relay.{Parcel, Waiting, Out, Relay, admit, enter, leave_first, may_leave_from, time_charge, with_outs}
 use Rattle.dt_world_model.specs.Script.{Script, Done, Tell, Ask, Hand, ◌>>=◌, play, Along}
 use Rattle.dt_world_model.specs.Station.{Station, Event, Send, Read, Tick, Arrive, come, come_in, deliver, do_turns, flush, flush_at, flush_entered, flush_links, flush_on, flush_turns, go_on, happen, pass_on, send_off, settle_station, station_event, station_with}
@@ -31,8 +31,9 @@ use Rattle.dt_world_laws.proofs.Views.{views}
 use Rattle.dt_world_laws.proofs.Good.{Good, reading, relay_leads, stage}
 use Rattle.dt_world_laws.proofs.Flushing.{flush_links_keeps}
 use Rattle.dt_world_laws.proofs.Turns.{settle_leads, turn_leads}
+use Rattle.dt_world_laws.proofs.Settles.{no_offer}
 use Rattle.dt_world_laws.proofs.Settled.{settle_done}
-use Rattle.dt_world_laws.proofs.Events.{Possible, happens, possible_then}
+use Rattle.dt_world_laws.proofs.Events.{Possible, event_done, happens, possible_then}
 use Rattle.dt_world_laws.proofs.Worlds.{possible_here, starts}
 
 -- what changes no ledger: a packet that leaves, or what is no flow's
@@ -214,3 +215,12 @@ module _ (w : World) (n : ℕ) (limits : IsWithinLimits w.params) where
 pub ledger_safe_along : (w : World) (n : ℕ) (at : Placed) (e : Event Mark) → IsWithinLimits w.params → WorldFacts w → look ◌==◌ n w.stations ≡ Some at → IsPossible w n e
     → Along (world_handler (occasion w n e)) (λ d. SafeLedgers w d.ledgers) (station_event w.params (w.now + (placed w n).zero) e (placed w n).station) (noted_at w)
 ledger_safe_along w n at e limits facts there can = subst (λ (o : Occasion). Along (world_handler o) (λ d. SafeLedgers w d.ledgers) (station_event w.params (w.now + (placed w n).zero) e (placed w n).station) (noted_at w)) (sym (occasion_is w n e)) (event_along w n limits e (placed w n).station (noted_at w) (starts w n at there facts (cause_of e)) (possible_here w n at there facts e can))
+
+-- AND NO ACT IS DUE WHEN IT ENDS
+pub current_after : (w : World) (n : ℕ) (at : Placed) (e : Event Mark) → IsWithinLimits w.params → WorldFacts w → look ◌==◌ n w.stations ≡ Some at → IsPossible w n e
+    → IsCurrentHost w.params (w.now + (placed w n).zero) (play (world_handler (occasion w n e)) (station_event w.params (w.now + (placed w n).zero) e (placed w n).station) (noted_at w)).1.host
+current_after w n at e limits facts there can =
+    let now = w.now + (placed w n).zero in
+    let ended : (o : Occasion) → Noted × Station Mark = λ o. play (world_handler o) (station_event w.params now e (placed w n).station) (noted_at w) in
+    let done = event_done w n limits e (placed w n).station (noted_at w) (starts w n at there facts (cause_of e)) (possible_here w n at there facts e can) in
+    no_offer w.params now (ended (occasion w n e)).1.host (offers w.params now (ended (occasion w n e)).1.host) (subst (λ (o : Occasion). next_turn w.params now (ended o).1.host ≡ None) (sym (occasion_is w n e)) done)

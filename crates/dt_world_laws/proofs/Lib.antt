@@ -30,3 +30,4 @@ pub mod Meets
 pub mod Lifting
 pub mod Reported
 pub mod Adding
+pub mod Counted

@@ -30,7 +30,7 @@ abbrev ahead_of : List (ℕ × ℕ) → ℕ → ℕ
 ahead_of [] n = 0
 ahead_of (s ∷ ss) n = if s.0 == n then s.1 else ahead_of ss n
 
-new_sender : (setup : Setup) (ss : List (ℕ × ℕ)) (n : ℕ) (f : Flow) → sender_side (unwrap_or (look ◌==◌ n (placed_of setup ss)) (no_placed n)) f ≡ record { zero = ahead_of ss n; life = 0; until = 0; sender = None }
+pub new_sender : (setup : Setup) (ss : List (ℕ × ℕ)) (n : ℕ) (f : Flow) → sender_side (unwrap_or (look ◌==◌ n (placed_of setup ss)) (no_placed n)) f ≡ record { zero = ahead_of ss n; life = 0; until = 0; sender = None }
 new_sender setup [] n f = refl
 new_sender setup (s ∷ ss) n f = elim (cases_Bool (s.0 == n)) [ inl y ↦ rw y refl | inr o ↦ rw o (new_sender setup ss n f) ]
 

@@ -18,7 +18,8 @@ ghost use Rattle.dt_units.specs.Limits.{IsWithinLimits};
 ghost use Rattle.dt_world_laws.specs.Lift.{IsLifted};
 ghost use Rattle.dt_world_model.specs.Tags.{Alike, bare_event, bare_station};
 ghost use Rattle.dt_flow_model.specs.Frames.{Mark};
-ghost use Rattle.dt_world_model.specs.Script.{Along};
+ghost use Rattle.dt_world_model.specs.Host.{IsCurrentHost};
+ghost use Rattle.dt_world_model.specs.Script.{Along, play};
 ghost use Rattle.dt_world_model.specs.Station.{Arrive, Event, Station, station_event};
 ghost use Rattle.dt_world_model.specs.Tables.{look};
 ghost use Rattle.dt_world_model.specs.World.{Placed, World, world_handler, placed, view};
@@ -38,7 +39,7 @@ pub use schedule::promise_of_a_whole_schedule;
 pub use settling::{
     acts_come_to_an_end, settled_station_has_no_act_due, station_sleeps_until_its_wake,
 };
-pub use totals::totals_add_up;
+pub use totals::{lives_are_counted_by_restarts, totals_add_up};
 
 /// Each step of the world that isn't refused keeps its facts; and for each flow it is a list of small
 /// steps of that flow, or nothing. So it leaves each fate that isn't open as it was.
@@ -76,4 +77,10 @@ pub fn copy_that_comes_was_in_time()
 /// stops for want of memory.
 pub fn ledger_is_safe_all_along()
     ensures { (w : World) (n : ℕ) (at : Placed) (e : Event Mark) → IsWithinLimits w.params → WorldFacts w → look ◌==◌ n w.stations ≡ Some at → IsPossible w n e → Along (world_handler (occasion w n e)) (λ d. SafeLedgers w d.ledgers) (station_event w.params (w.now + (placed w n).zero) e (placed w n).station) (noted_at w) }
+{}
+
+/// When a station's event has ended, no act of its host is due at its reading.
+#[tactic(auto, using(crate::proofs::Alongside::current_after))]
+pub fn no_act_is_due_after_an_event()
+    ensures { (w : World) (n : ℕ) (at : Placed) (e : Event Mark) → IsWithinLimits w.params → WorldFacts w → look ◌==◌ n w.stations ≡ Some at → IsPossible w n e → IsCurrentHost w.params (w.now + (placed w n).zero) (play (world_handler (occasion w n e)) (station_event w.params (w.now + (placed w n).zero) e (placed w n).station) (noted_at w)).1.host }
 {}

@@ -22,3 +22,8 @@ returns-clause-places c = refl
 pub returns-clause-octets : goal.returns-clause-octets
 unfolding gram_spelling packet_spelling gram_in packet_in packet_fault gram_fault life_of to_of lowered
 returns-clause-octets c = refl
+
+-- src/schedule.rt
+pub returns-clause-lives : goal.returns-clause-lives
+unfolding gram_spelling packet_spelling gram_in packet_in packet_fault gram_fault life_of to_of lowered
+returns-clause-lives c = (refl, refl)
