@@ -1,4 +1,5 @@
 ghost use Rattle.std.specs.Prelude.{◌≡◌, ◌≤◌};
+ghost use Rattle.dt_layout.specs.Carried.{IsGram};
 ghost use Rattle.dt_flow_model.specs.declared.acts.RecvAct.TheVariants.{Acked};
 ghost use Rattle.dt_flow_model.specs.declared.arrivals.Arrived.TheVariants.{Replied};
 ghost use Rattle.dt_flow_model.specs.Frames.{ack_packet, back};
@@ -20,7 +21,8 @@ impl Acknowledgement {
     /// Makes the frame hold it, on the way back of its flow, with the life `mpl`.
     pub fn write(&self, rules: &Rules, flow: &Flow, frame: &mut Frame)
         requires { self.now.window ≤ rules.now.rcap }
-        ensures { frame.new ≡ back rules.now flow.now (ack_packet flow.now self.now.number self.now.window) }
+        ensures spelled { frame.new ≡ back rules.now flow.now (ack_packet flow.now self.now.number self.now.window) }
+        ensures gram { IsGram frame.new }
     {
         let packet = Packet::Ack {
             from_port: flow.to_port,

@@ -1,6 +1,7 @@
-ghost use Rattle.std.specs.Prelude.{ℕ, Bool, ◌≡◌, ◌≤◌, ◌<◌, ◌+◌, ◌^◌, ◌↔◌, [], ◌++◌, drop, length, unwrap_or, false, true, IfOk, IsTrue, IsNone, IsSome, Some, None};
+ghost use Rattle.std.specs.Prelude.{ℕ, Bool, ◌≡◌, ◌≤◌, ◌<◌, ◌+◌, ◌^◌, ◌↔◌, [], ◌++◌, drop, length, unwrap_or, false, true, IfOk, IsTrue, IfSome, IsNone, IsSome, Some, None};
 ghost use Rattle.circular_buffer.specs.Buffer.{buffer};
 ghost use Rattle.dt_items.specs.Unread.{IsLongestPiece, first_piece, marked, octets_of, piece_told};
+ghost use Rattle.dt_layout.specs.Carried.{IsGram};
 ghost use Rattle.dt_flow_model.specs.declared.arrivals.Arrived.TheVariants.{Accepted, Replied};
 ghost use Rattle.dt_flow_model.specs.declared.acts.RecvKind.{RecvKind};
 ghost use Rattle.dt_flow_model.specs.declared.acts.RecvKind.TheVariants.{Ack};
@@ -132,6 +133,7 @@ impl Receiver {
         ensures answer { let items = marked octets.now begin end false in
             result ≡ answer_to_data self.old.rules self.old.state drf number items }
         ensures reply { reply.new ≡ unwrap_or (reply_frame self.old.rules self.old.flow result) reply.old }
+        ensures gram { IfSome (reply_frame self.old.rules self.old.flow result) (λ octets. IsGram octets) }
         ensures looks { steps.new ≡ steps.old + 1 }
     {
         steps.tick();
@@ -158,6 +160,7 @@ impl Receiver {
         ensures after { self.new ≡ record self.old { state = after_meet self.old.rules self.old.state } }
         ensures answer { result ≡ answer_to_meet self.old.rules self.old.state number }
         ensures reply { reply.new ≡ unwrap_or (reply_frame self.old.rules self.old.flow result) reply.old }
+        ensures gram { IfSome (reply_frame self.old.rules self.old.flow result) (λ octets. IsGram octets) }
         ensures looks { steps.new ≡ steps.old + 1 }
     {
         steps.tick();
@@ -237,6 +240,7 @@ impl Receiver {
         ensures told { (kind : RecvKind) (moment : ℕ) (y : ReceiveRecord) → recv_due_of self.old.rules now self.old.state.standing ≡ Some (kind, moment)
             → self.old.state.standing ≡ Some y → result ≡ recv_told_of self.old.rules self.old.state.unread y kind }
         ensures frame { frame.new ≡ unwrap_or (recv_frame self.old.rules self.old.flow result) frame.old }
+        ensures gram { IfSome (recv_frame self.old.rules self.old.flow result) (λ octets. IsGram octets) }
         ensures looks { steps.new ≡ steps.old + 1 }
     {
         let Some(standing) = self.standing else {
@@ -337,6 +341,7 @@ impl Receiver {
         ensures after { self.new ≡ record self.old { state = after_meet self.old.rules self.old.state } }
         ensures answer { result ≡ answer_to_meet self.old.rules self.old.state number }
         ensures reply { reply.new ≡ unwrap_or (reply_frame self.old.rules self.old.flow result) reply.old }
+        ensures gram { IfSome (reply_frame self.old.rules self.old.flow result) (λ octets. IsGram octets) }
     {
         let told = self.acknowledgement(self.expected().unwrap_or(number));
         self.standing = records::paid(self.standing, told.window);
@@ -350,6 +355,7 @@ impl Receiver {
             self.new ≡ record self.old { state = record self.old.state { standing = window_told self.old.state.standing window } } }
         ensures answer { result ≡ Replied number (free_of self.old.rules self.old.state.unread) }
         ensures reply { reply.new ≡ unwrap_or (reply_frame self.old.rules self.old.flow result) reply.old }
+        ensures gram { IfSome (reply_frame self.old.rules self.old.flow result) (λ octets. IsGram octets) }
     {
         let told = self.acknowledgement(number);
         self.standing = records::told(self.standing, told.window);
@@ -363,6 +369,7 @@ impl Receiver {
         ensures after { self.new ≡ record self.old { state = after_recv_act self.old.rules self.old.state Ack } }
         ensures told { result ≡ recv_told_of self.old.rules self.old.state.unread (receive_record_of standing) Ack }
         ensures frame { frame.new ≡ unwrap_or (recv_frame self.old.rules self.old.flow result) frame.old }
+        ensures gram { IfSome (recv_frame self.old.rules self.old.flow result) (λ octets. IsGram octets) }
     {
         let told = self.acknowledgement(standing.expected);
         self.standing = records::paid(self.standing, told.window);

@@ -10,3 +10,4 @@ pub mod TransmitLemmas
 pub mod SendLemmas
 pub mod Choices
 pub mod SenderLemmas
+pub mod GramLemmas

@@ -3,6 +3,7 @@ ghost use Rattle.std.specs.Option.{option_map};
 ghost use Rattle.std.specs.Result.{result_err};
 ghost use Rattle.circular_buffer.specs.Buffer.{buffer};
 ghost use Rattle.dt_items.specs.Unread.{marked};
+ghost use Rattle.dt_layout.specs.Carried.{IsGram};
 ghost use Rattle.dt_flow_model.specs.Frames.{frame_of_act};
 ghost use Rattle.dt_flow_model.specs.Keeping.{IsSendRecord, most_moment, octets_below, taken_by};
 ghost use Rattle.dt_flow_model.specs.Numbering.{number_of};
@@ -135,6 +136,8 @@ impl Sender {
             IfSome (act_of self.old.rules now x) (λ act. result ≡ told_of self.old.rules x act) }
         ensures frame { let x = self.old.state in
             IfSome (act_of self.old.rules now x) (λ act. frame.new ≡ unwrap_or (frame_of_act self.old.rules self.old.flow x act) frame.old) }
+        ensures gram { let x = self.old.state in
+            IfSome (act_of self.old.rules now x) (λ act. IfSome (frame_of_act self.old.rules self.old.flow x act) (λ octets. IsGram octets)) }
         ensures after { let x = self.old.state in
             IfSome (act_of self.old.rules now x) (λ act. self.new ≡ record self.old { state = unwrap_or (record_after self.old.rules now x act) x }) }
         ensures counted { taken_by self.new.state ≤ taken_by self.old.state }

@@ -26,7 +26,7 @@ use Rattle.dt_world_laws.proofs.Plays.{do_turn, link_of}
 use Rattle.dt_world_model.specs.World.{World, Placed, Noted, note_copy, world_handler, note_told, placed, view}
 use Rattle.dt_world_model.specs.WorldStep.{noted_at, occasion}
 use Rattle.dt_world_model.specs.WorldFacts.{IsPossible, SafeLedgers, WorldFacts}
-use Rattle.dt_world_laws.proofs.Tables.{nat_is}
+use Rattle.dt_world_model.proofs.Tables.{nat_is}
 use Rattle.dt_world_laws.proofs.Views.{views}
 use Rattle.dt_world_laws.proofs.Good.{Good, reading, relay_leads, stage}
 use Rattle.dt_world_laws.proofs.Flushing.{flush_links_keeps}

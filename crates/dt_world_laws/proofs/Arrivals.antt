@@ -33,7 +33,7 @@ use Rattle.dt_world_model.specs.Script.{play, Tell}
 use Rattle.dt_world_model.specs.Station.{Station, send_off, station_with}
 use Rattle.dt_world_laws.proofs.Books.{Brought, book_after, book_of}
 use Rattle.dt_world_model.specs.World.{World, Noted, world_handler, note_told, placed}
-use Rattle.dt_world_laws.proofs.Tables.{nat_self}
+use Rattle.dt_world_model.proofs.Tables.{nat_self}
 use Rattle.dt_world_laws.proofs.Views.{IsAbout, receiver_set, views}
 use Rattle.dt_world_laws.proofs.Follows.{book_in}
 use Rattle.dt_world_laws.proofs.Received.{follows_data, follows_meet, receiver_moves}

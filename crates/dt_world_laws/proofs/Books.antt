@@ -1,5 +1,5 @@
 -- The ledger and the run of one flow together, and what is reported of it.
-use Rattle.std.proofs.Common.{ℕ, ◌≡◌, false, List, [], Option, None, refl}
+use Rattle.std.proofs.Common.{ℕ, ◌≡◌, false, List, [], Option, refl}
 use Rattle.dt_items.specs.Unread.{marked}
 use Rattle.dt_flow_model.specs.Frames.{Mark, marked_packet, value_in}
 use Rattle.dt_items.specs.declared.item.Item.{Item}
@@ -10,7 +10,6 @@ use Rattle.dt_flow_model.specs.declared.rows.Taken.{Taken}
 use Rattle.dt_flow_model.specs.declared.rows.Given.{Given}
 use Rattle.dt_flow_model.specs.declared.rows.ReadCount.{ReadCount}
 use Rattle.dt_flow_model.specs.Flow.{Crossing, FlowState, Packet, Run}
-use Rattle.dt_flow_model.specs.ReceiveRecord.{Receiver}
 use Rattle.dt_flow_model.specs.SendRecord.{SendRecord}
 use Rattle.dt_layout.specs.Spelling.{PacketValue}
 use Rattle.dt_world_model.specs.Host.{Host, first_host}
@@ -66,9 +65,6 @@ book_after p now life cause told b = book_by (at_life p now life cause) (effect_
 
 abbrev pub books_after : Params → ℕ → ℕ → Cause → Told → Ledgers → Ledgers
 books_after p now life cause told all = ledgers_after (at_life p now life cause) told all
-
-abbrev pub no_receiver : Receiver
-no_receiver = record { unread = []; standing = None }
 
 -- what stands for a station that isn't there
 abbrev pub no_placed : ℕ → Placed

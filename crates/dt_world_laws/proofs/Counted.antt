@@ -15,7 +15,7 @@ use Rattle.dt_world_model.specs.WorldStep.{WorldEvent, Passes, Sends, Reads, Tic
 use Rattle.dt_world_laws.specs.Lives.{restart_in, restarts_in}
 use Rattle.dt_world_laws.proofs.Books.{no_placed}
 use Rattle.dt_world_laws.proofs.Starts.{new_sender}
-use Rattle.dt_world_laws.proofs.Tables.{look_write, look_write_other, nat_is, nat_self}
+use Rattle.dt_world_model.proofs.Tables.{look_write, look_write_other, nat_is, nat_self}
 
 abbrev life_in : ℕ → Option Placed → ℕ
 life_in n o = (unwrap_or o (no_placed n)).life

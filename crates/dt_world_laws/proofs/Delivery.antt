@@ -33,7 +33,7 @@ use Rattle.dt_world_model.specs.Station.{Station, Arrive, come, deliver, happen,
 use Rattle.dt_world_laws.proofs.Books.{Brings, Brought, Cause}
 use Rattle.dt_world_model.specs.World.{World, Noted, world_handler, note_told, placed}
 use Rattle.dt_world_model.specs.WorldFacts.{IsPacket, IsWaiting, carried_of}
-use Rattle.dt_world_laws.proofs.Tables.{nat_is}
+use Rattle.dt_world_model.proofs.Tables.{nat_is}
 use Rattle.dt_world_laws.proofs.Views.{views}
 use Rattle.dt_world_laws.proofs.Flushing.{lowered_packet}
 use Rattle.dt_world_laws.proofs.Good.{Good, Kept, Leads, Moves, good_moves, moves_lifts, moves_on, pass_on_leads, reading, stage}

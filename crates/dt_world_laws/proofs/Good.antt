@@ -22,7 +22,7 @@ use Rattle.dt_world_model.specs.World.{World, Copy, Noted, placed, world_handler
 use Rattle.dt_world_model.specs.WorldFacts.{IsPacket, IsWaiting, IsCopy, AllOuts}
 use Rattle.dt_world_laws.specs.Lift.{IsLifted}
 use Rattle.dt_world_laws.proofs.Lifting.{lift_then, many_lift, no_lift, step_lift}
-use Rattle.dt_world_laws.proofs.Tables.{flow_is}
+use Rattle.dt_world_model.proofs.Tables.{flow_is}
 use Rattle.dt_world_laws.proofs.Views.{views}
 use Rattle.dt_world_laws.proofs.Plays.{play_then}
 use Rattle.dt_world_laws.proofs.Flushing.{Copies, Outs, pass_on_keeps}

@@ -27,15 +27,15 @@ use Rattle.dt_flow_laws.proofs.Records.{none_kept, read_kept}
 use Rattle.dt_flow_laws.proofs.Laws.{taking_is_steps}
 use Rattle.dt_world_model.specs.Tables.{same_flow, look}
 use Rattle.dt_flow_model.specs.Frames.{Mark}
-use Rattle.dt_world_model.specs.Host.{IsHost, IsReceiver, IsSender, read_piece, receiver_at, send_octets, sender_at, host_with_receiver, host_with_sender}
+use Rattle.dt_world_model.specs.Host.{IsHost, IsReceiver, IsSender, read_piece, receiver_at, send_octets, sender_at, host_with_receiver, host_with_sender, no_receiver}
 use Rattle.dt_units.specs.Flows.{IsFlow}
 use Rattle.dt_flow_model.specs.Keeping.{HasNoRun}
 use Rattle.dt_world_model.specs.Script.{play}
 use Rattle.dt_world_model.specs.Station.{Station, Send, Read, station_with, happen, told_piece, told_sent}
-use Rattle.dt_world_laws.proofs.Books.{Book, Cause, Octets, book_of, books_after, flow_state, no_receiver}
+use Rattle.dt_world_laws.proofs.Books.{Book, Cause, Octets, book_of, books_after, flow_state}
 use Rattle.dt_world_model.specs.Ledgers.{Ledgers, Neither, effect_of}
 use Rattle.dt_world_model.specs.World.{World, Noted, world_handler, note_told, placed}
-use Rattle.dt_world_laws.proofs.Tables.{all_look, all_set, distinct_set, flow_is, flow_self, nat_self}
+use Rattle.dt_world_model.proofs.Tables.{all_look, all_set, distinct_set, flow_is, flow_self, nat_self}
 use Rattle.dt_world_laws.proofs.Views.{begins_here, book_told, book_told_other, flow_by, near_sender, near_or_receiver, sender_set, sender_set_other, views}
 use Rattle.dt_world_laws.proofs.Received.{follows_reading, follows_taking}
 use Rattle.dt_world_laws.proofs.Good.{Good, Kept, Leads, Moves, good_moves, moves_lifts, moves_on, step_keeps, steps_keep, reading, stage}

@@ -10,12 +10,11 @@ use Rattle.dt_flow_model.specs.ReceiveRecord.{ReceiveRecord, Receiver, after_rec
 use Rattle.dt_flow_model.specs.SendActs.{record_after}
 use Rattle.dt_flow_model.specs.SendRecord.{SendRecord}
 use Rattle.dt_flow_laws.proofs.Records.{recv_act_kept}
-use Rattle.dt_world_model.specs.Host.{Host, HostAct, IsHost, IsReceiver, IsSender, Turn, host_with_receiver, host_with_sender, kept_if, next_turn, receiver_at, recv_act, send_act, turn_of}
+use Rattle.dt_world_model.specs.Host.{Host, HostAct, IsHost, IsReceiver, IsSender, Turn, host_with_receiver, host_with_sender, kept_if, next_turn, receiver_at, recv_act, send_act, turn_of, no_receiver}
 use Rattle.dt_world_model.specs.Tables.{AllEntries, look, same_flow}
-use Rattle.dt_world_laws.proofs.Books.{no_receiver}
-use Rattle.dt_world_laws.proofs.Offers.{IsOf, next_turn_is}
+use Rattle.dt_world_model.proofs.Offers.{IsOf, next_turn_is}
 use Rattle.dt_world_laws.proofs.Spelled.{record_kept}
-use Rattle.dt_world_laws.proofs.Tables.{all_look, all_set, distinct_set, flow_is, flow_self}
+use Rattle.dt_world_model.proofs.Tables.{all_look, all_set, distinct_set, flow_is, flow_self}
 
 pub sender_written : (p : Params) (host : Host) (f : Flow) (after : Option SendRecord) → IsHost p host → ((y : SendRecord) → after ≡ Some y → IsSender p host.me f y) → IsHost p (host_with_sender host f after)
 sender_written p host f after h is =

@@ -1,16 +1,13 @@
 pub mod Books
 pub mod Follows
 pub mod Received
-pub mod Tables
 pub mod Plays
 pub mod Flushing
 pub mod Views
 pub mod Frames
-pub mod Offers
 pub mod Spelled
 pub mod Good
 pub mod Turns
-pub mod Work
 pub mod Settled
 pub mod Happens
 pub mod Arrivals

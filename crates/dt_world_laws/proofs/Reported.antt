@@ -37,7 +37,7 @@ use Rattle.dt_world_laws.proofs.Follows.{book_in, follows_act}
 use Rattle.dt_world_laws.proofs.Frames.{CanBeSpelled, spelled_reads}
 use Rattle.dt_world_laws.proofs.Received.{follows_data, follows_meet, follows_reading}
 use Rattle.dt_world_laws.proofs.Spelled.{ack_spelled, cut_segment, data_spelled, meet_spelled}
-use Rattle.dt_world_laws.proofs.Tables.{flow_is, flow_self, look_write, look_write_other}
+use Rattle.dt_world_model.proofs.Tables.{flow_is, flow_self, look_write, look_write_other}
 
 -- ONE FLOW'S ENTRY CHANGES, the others stay
 module _ (o : Occasion) (told : Told) (all : Ledgers) (f : Flow) where

@@ -13,9 +13,8 @@ use Rattle.dt_flow_model.specs.SendRecord.{SendRecord}
 use Rattle.dt_flow_model.specs.ReceiveRecord.{IsCurrent, ReceiveRecord, Receiver, recv_due_of}
 use Rattle.dt_world_model.specs.Tables.{same_flow, look}
 use Rattle.dt_flow_model.specs.Frames.{Mark}
-use Rattle.dt_world_model.specs.Host.{Host, next_turn, offers, receiver_at, recv_offer, recv_offers, send_offer, send_offers}
+use Rattle.dt_world_model.specs.Host.{Host, next_turn, offers, receiver_at, recv_offer, recv_offers, send_offer, send_offers, no_receiver}
 use Rattle.std.specs.Prelude.{unwrap_or}
-use Rattle.dt_world_laws.proofs.Books.{no_receiver}
 use Rattle.dt_world_laws.proofs.Lifting.{left_nil, right_nil}
 use Rattle.dt_world_laws.proofs.Settles.{Settled, answers_play, no_offer, settle_ends}
 use Rattle.dt_world_model.specs.Script.{play}

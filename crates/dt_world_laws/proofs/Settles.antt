@@ -7,9 +7,9 @@ use Rattle.dt_world_model.specs.Relay.{Relay, with_outs}
 use Rattle.dt_world_model.specs.Script.{Script, Done, Tell, Ask, Hand, ◌>>=◌, Answers, Handler, play}
 use Rattle.dt_world_model.specs.Station.{Station, do_turns, flush_links, go_on, pass_on, send_off, settle_station, station_with}
 use Rattle.dt_world_laws.proofs.Hosts.{turn_keeps}
-use Rattle.dt_world_laws.proofs.Offers.{turn_if}
+use Rattle.dt_world_model.proofs.Offers.{turn_if}
 use Rattle.dt_world_laws.proofs.Plays.{do_turn, link_of}
-use Rattle.dt_world_laws.proofs.Work.{work_falls}
+use Rattle.dt_world_model.proofs.Work.{work_falls}
 
 pub no_offer : (p : Params) (now : ℕ) (host : Host) (os : List Offer) → turn_if p now host (least os) ≡ None → os ≡ []
 no_offer p now host [] e = refl

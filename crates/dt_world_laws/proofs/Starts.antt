@@ -12,10 +12,11 @@ use Rattle.dt_world_model.specs.declared.links.OutLink.{OutLink}
 use Rattle.dt_world_model.specs.Tables.{AllEntries, look}
 use Rattle.dt_flow_model.specs.Frames.{Mark}
 use Rattle.dt_world_model.specs.Relay.{Out, Waiting, charge_of, empty_out}
-use Rattle.dt_world_laws.proofs.Books.{Book, flow_state, no_placed, no_receiver}
+use Rattle.dt_world_laws.proofs.Books.{Book, flow_state, no_placed}
+use Rattle.dt_world_model.specs.Host.{no_receiver}
 use Rattle.dt_world_model.specs.World.{Placed, ReceiverSide, SenderSide, placed, receiver_side, sender_side, view}
 use Rattle.dt_world_model.specs.WorldStep.{link_in}
-use Rattle.dt_world_laws.proofs.Tables.{nat_is, nat_self}
+use Rattle.dt_world_model.proofs.Tables.{nat_is, nat_self}
 use Rattle.dt_world_model.specs.Setup.{Setup, ins_of, new_world, outs_of, placed_first}
 use Rattle.dt_world_model.specs.WorldFacts.{AllOuts, IsCopy, IsPlaced, IsWaiting, WorldFacts}
 

@@ -33,7 +33,7 @@ use Rattle.dt_world_laws.proofs.Books.{Book, Cause, book_after, book_of, books_a
 use Rattle.dt_world_model.specs.World.{World, Noted, world_handler, note_told, placed}
 use Rattle.dt_world_model.specs.WorldFacts.{IsWaiting}
 use Rattle.dt_world_laws.proofs.Hosts.{receiver_written, sender_written, standing_is}
-use Rattle.dt_world_laws.proofs.Tables.{all_look, flow_is, flow_self, nat_self}
+use Rattle.dt_world_model.proofs.Tables.{all_look, flow_is, flow_self, nat_self}
 use Rattle.dt_world_laws.proofs.Views.{IsAbout, begins_here, book_told, book_told_other, ends_here, flow_by, near_receiver, near_sender, near_or_receiver, receiver_set, receiver_set_other, near_or_sender, sender_set, sender_set_other, views}
 use Rattle.dt_flow_model.specs.Numbering.{number_of}
 use Rattle.dt_world_laws.proofs.Follows.{book_in, follows_act, sender_moves}
@@ -42,7 +42,7 @@ use Rattle.dt_world_laws.proofs.Frames.{CanBeSpelled, made_packet, spelled_reads
 use Rattle.dt_world_laws.proofs.Spelled.{ack_spelled, data_spelled, meet_spelled, record_kept, cut_segment}
 use Rattle.dt_flow_model.proofs.Chains.{all_at}
 use Rattle.dt_flow_laws.proofs.Records.{recv_act_kept}
-use Rattle.dt_world_laws.proofs.Offers.{IsOf, next_turn_is}
+use Rattle.dt_world_model.proofs.Offers.{IsOf, next_turn_is}
 use Rattle.dt_world_laws.proofs.Good.{CanGo, Good, Kept, Leads, Moves, good_moves, leads_then, moves_lifts, moves_on, step_keeps, reading, relay_leads, send_off_leads, stage, stays}
 use Rattle.dt_world_laws.proofs.Flushing.{flush_links_keeps}
 use Rattle.dt_world_laws.proofs.Plays.{do_turn, link_of, play_then}

@@ -11,13 +11,13 @@ use Rattle.dt_flow_model.specs.SendRecord.{SendRecord}
 use Rattle.dt_flow_model.specs.ReceiveRecord.{ReceiveRecord, Receiver}
 use Rattle.dt_world_model.specs.Tables.{same_flow, look, Distinct}
 use Rattle.dt_flow_model.specs.Frames.{Mark}
-use Rattle.dt_world_model.specs.Host.{Host, kept_if, sender_at, receiver_at, host_with_sender, host_with_receiver}
+use Rattle.dt_world_model.specs.Host.{Host, kept_if, sender_at, receiver_at, host_with_sender, host_with_receiver, no_receiver}
 use Rattle.dt_world_model.specs.Station.{Station}
-use Rattle.dt_world_laws.proofs.Books.{Book, Cause, at_life, book_after, book_by, book_of, book_with, books_after, flow_state, no_receiver}
+use Rattle.dt_world_laws.proofs.Books.{Book, Cause, at_life, book_after, book_by, book_of, book_with, books_after, flow_state}
 use Rattle.dt_world_model.specs.Ledgers.{Change, Changes, FlowLedger, FlowRun, Ledgers, Neither, effect_of, ledger_after, ledger_of, ledgers_by, run_of, run_with}
 use Rattle.dt_world_model.specs.World.{World, Placed, Noted, SenderSide, ReceiverSide, sender_side, receiver_side, placed, view}
 use Rattle.dt_world_model.specs.WorldStep.{world_with}
-use Rattle.dt_world_laws.proofs.Tables.{look_write, look_write_other, look_set, look_set_other, nat_self, nat_is, flow_self, flow_is}
+use Rattle.dt_world_model.proofs.Tables.{look_write, look_write_other, look_set, look_set_other, nat_self, nat_is, flow_self, flow_is}
 
 module _ (w : World) (n : ℕ) where
   -- the station with another state

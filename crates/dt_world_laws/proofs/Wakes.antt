@@ -15,7 +15,7 @@ use Rattle.dt_world_model.specs.Host.{Host, Offer, Turn, host_wake, least, next_
 use Rattle.dt_world_model.specs.Relay.{Left, Out, Waiting, leave, leave_first, left_of, may_leave_from, out_wake, relay_wake, with_outs}
 use Rattle.dt_world_model.specs.Script.{Script, Done, ◌>>=◌}
 use Rattle.dt_world_model.specs.Station.{Station, Tick, do_turns, flush_at, flush_links, flush_on, flush_turns, go_on, happen, settle_station, station_event, station_wake, station_with}
-use Rattle.dt_world_laws.proofs.Offers.{turn_if}
+use Rattle.dt_world_model.proofs.Offers.{turn_if}
 use Rattle.dt_world_laws.proofs.Plays.{link_of}
 
 -- MOMENTS

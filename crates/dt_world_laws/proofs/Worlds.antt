@@ -22,11 +22,11 @@ use Rattle.dt_world_laws.specs.Lift.{IsLifted}
 use Rattle.dt_world_laws.proofs.Lifting.{no_lift}
 use Rattle.dt_world_model.specs.Tables.{AllEntries, look, same_flow, write}
 use Rattle.dt_flow_model.specs.Frames.{Mark}
-use Rattle.dt_world_model.specs.Host.{IsSender, next_turn, receiver_at, sender_at}
+use Rattle.dt_world_model.specs.Host.{IsSender, next_turn, receiver_at, sender_at, no_receiver}
 use Rattle.dt_world_model.specs.Relay.{Waiting, Out, charge_of, empty_out}
 use Rattle.dt_world_model.specs.Script.{play}
 use Rattle.dt_world_model.specs.Station.{Station, Event, Send, Read, Tick, Arrive, station_event}
-use Rattle.dt_world_laws.proofs.Books.{Cause, book_of, cause_of, flow_state, no_placed, no_receiver, occasion_is}
+use Rattle.dt_world_laws.proofs.Books.{Cause, book_of, cause_of, flow_state, no_placed, occasion_is}
 use Rattle.dt_world_model.specs.Ledgers.{Occasion}
 use Rattle.dt_reports.specs.Entries.{Entry}
 use Rattle.dt_reports.specs.declared.faults.StepFault.{StepFault}
@@ -34,7 +34,7 @@ use Rattle.std.specs.Prelude.{map, not, set, unwrap_or}
 use Rattle.dt_world_model.specs.World.{World, Copy, Noted, Placed, ReceiverSide, SenderSide, world_handler, placed, receiver_side, sender_side, view}
 use Rattle.dt_world_model.specs.WorldStep.{WorldEvent, Passes, Sends, Reads, Ticks, Arrives, Loses, Restarts, Stepped, copy_at, after_event, event_at, first_refusal, is_late_copy, is_lost, lacks_copy, link_for, link_in, loss, noted_at, occasion, played, refusals, restart_at, restarted, step_unless, world_step, world_with}
 use Rattle.dt_world_model.specs.WorldFacts.{AllOuts, CanCome, CanHappen, IsCopy, IsPossible, IsPlaced, IsWaiting, WorldFacts, carried_of}
-use Rattle.dt_world_laws.proofs.Tables.{all_found, all_look, all_write, flow_is, flow_self, look_write, look_write_other, nat_is, nat_self}
+use Rattle.dt_world_model.proofs.Tables.{all_found, all_look, all_write, flow_is, flow_self, look_write, look_write_other, nat_is, nat_self}
 use Rattle.dt_world_laws.proofs.Views.{begins_here, near_receiver, near_sender, near_or_receiver, set_station, views, world_view}
 use Rattle.dt_world_laws.proofs.Good.{Good, Kept, Leads, Onward, reading, step_keeps, steps_keep, all_outs_weaker, copy_on, packet_on, waiting_on}
 use Rattle.dt_world_laws.proofs.Settled.{sender_idle}

@@ -10,7 +10,7 @@ ghost use Rattle.dt_world_model.specs.Station.{Station, Tick, settle_station, st
 
 /// Each act of a host lowers the work that is left at its moment and keeps what a host keeps, so a host
 /// comes to an end with its acts.
-#[tactic(auto, using(crate::proofs::Work::work_falls, crate::proofs::Hosts::turn_keeps))]
+#[tactic(auto, using(dt_world_model::proofs::Work::work_falls, crate::proofs::Hosts::turn_keeps))]
 pub fn acts_come_to_an_end()
     ensures falls { (p : Params) (now : ℕ) (host : Host) (turn : Turn) → IsWithinLimits p → IsHost p host → next_turn p now host ≡ Some turn → work p now turn.host < work p now host }
     ensures kept { (p : Params) (now : ℕ) (host : Host) (turn : Turn) → IsWithinLimits p → IsHost p host → next_turn p now host ≡ Some turn → IsHost p turn.host }

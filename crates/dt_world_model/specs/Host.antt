@@ -48,8 +48,12 @@ restarted_host p me now = record { me = me; until = now + quiet_time p; senders 
 abbrev pub sender_at : Host → Flow → Option SendRecord
 sender_at host f = look same_flow f host.senders
 
+-- what stands for the receiver of a flow that has none
+abbrev pub no_receiver : Receiver
+no_receiver = record { unread = []; standing = None }
+
 abbrev pub receiver_at : Host → Flow → Receiver
-receiver_at host f = unwrap_or (look same_flow f host.receivers) (record { unread = []; standing = None })
+receiver_at host f = unwrap_or (look same_flow f host.receivers) no_receiver
 
 -- a receiver without a record and without unread octets isn't kept
 abbrev pub kept_if : List Item → Option ReceiveRecord → Option Receiver

@@ -1,7 +1,7 @@
 -- Each act lowers the work that is left at its moment, so a settled host has no act due.
 use Rattle.std.proofs.Common.{ℕ, ◌+◌, ◌<◌, ◌≤◌, ◌≡◌, Bool, true, false, List, [], ◌∷◌, ◌++◌, length, Option, Some, None, refl, ap, subst, inl, inr, ◌∙◌, arith, length-append}
 use Rattle.std.specs.Prelude.{is_some, nat_le, if◌then◌else◌, unwrap_or}
-use Rattle.dt_world_laws.proofs.Books.{no_receiver}
+use Rattle.dt_world_model.specs.Host.{no_receiver, Host, HostAct, send_act, recv_act, IsHost, Turn, kept_if, next_turn, one_if, record_work, segment_work, standing_work, turn_of, work}
 use Rattle.std.proofs.lemmas.Bool.{cases_Bool}
 use Rattle.std.proofs.lemmas.Bool.Decides.{nat_tests}
 use Rattle.dt_items.specs.declared.item.Item.{Item}
@@ -17,8 +17,7 @@ use Rattle.dt_flow_model.specs.ReceiveRecord.{ReceiveRecord, Receiver, after_rec
 use Rattle.dt_units.specs.Times.{receive_time}
 use Rattle.dt_flow_model.proofs.Chosen.{act_is_due, cut_whole, true_le}
 use Rattle.dt_world_model.specs.Tables.{same_flow, look, total, write_or_erase}
-use Rattle.dt_world_model.specs.Host.{Host, HostAct, send_act, recv_act, IsHost, Turn, kept_if, next_turn, one_if, record_work, segment_work, standing_work, turn_of, work}
-use Rattle.dt_world_laws.proofs.Offers.{IsOf, next_turn_is}
+use Rattle.dt_world_model.proofs.Offers.{IsOf, next_turn_is}
 
 not_yet : (now k : ℕ) → 0 < k → nat_le (now + k) now ≡ false
 not_yet now k h = grind (arith, nat_tests)
@@ -141,7 +140,8 @@ module _ (p : Params) (limits : IsWithinLimits p) (now : ℕ) where
       owes None true m moment e = absurd (omega (arith, ap rank_in e))
       owes None false m moment e = absurd cc
 
-  turn_falls : (host : Host) (a : HostAct) → IsOf p now host a → work p now (turn_of p now host a).host < work p now host
+  -- an act of a record that is due lowers the work
+  pub turn_falls : (host : Host) (a : HostAct) → IsOf p now host a → work p now (turn_of p now host a).host < work p now host
   turn_falls host (send_act f x act) is =
       let s = senders_set p now f x (record_after p now x act) host.senders is.0 in
       let k = record_falls x act (act_is_due p now x act is.1) in

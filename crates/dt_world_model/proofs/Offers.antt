@@ -10,10 +10,9 @@ use Rattle.dt_flow_model.specs.SendActs.{Act, act_of}
 use Rattle.dt_flow_model.specs.SendRecord.{SendRecord}
 use Rattle.dt_flow_model.specs.ReceiveRecord.{ReceiveRecord, Receiver, recv_due_of}
 use Rattle.dt_world_model.specs.Tables.{same_flow, look, Distinct, Lacks}
-use Rattle.dt_world_model.specs.Host.{Host, HostAct, send_act, recv_act, Offer, Turn, send_offer, recv_offer, send_offers, recv_offers, offers, goes_before, least, turn_of, next_turn, IsHost}
+use Rattle.dt_world_model.specs.Host.{Host, HostAct, send_act, recv_act, Offer, Turn, send_offer, recv_offer, send_offers, recv_offers, offers, goes_before, least, turn_of, next_turn, IsHost, no_receiver}
 use Rattle.std.specs.Prelude.{fold, if◌then◌else◌, option_map, unwrap_or}
-use Rattle.dt_world_laws.proofs.Books.{no_receiver}
-use Rattle.dt_world_laws.proofs.Tables.{flow_self, flow_is}
+use Rattle.dt_world_model.proofs.Tables.{flow_self, flow_is}
 
 -- an act of an entry
 abbrev pub IsOfSender : Params → ℕ → List (Flow × SendRecord) → HostAct → Type 0
@@ -102,11 +101,12 @@ by_receiver : (p : Params) (now : ℕ) (host : Host) (a : HostAct) → IsOfRecei
 by_receiver p now host (send_act f x act) h = elim h [ ]
 by_receiver p now host (recv_act f y kind) h = h
 
-pub offers_are : (p : Params) (now : ℕ) (host : Host) → IsHost p host → All (OfH p now host) (offers p now host)
-offers_are p now host h =
+-- each offer stands for a record, where each flow has one of a kind
+pub offers_are_of : (p : Params) (now : ℕ) (host : Host) → Distinct same_flow host.senders → Distinct same_flow host.receivers → All (OfH p now host) (offers p now host)
+offers_are_of p now host one_sender one_receiver =
     All-append (OfH p now host) (send_offers p now host.senders) (recv_offers p now host.receivers)
-    (All-weaker (OfS p now host.senders) (OfH p now host) (λ o k. by_sender p now host o.act k) (send_offers p now host.senders) (send_offers_are p now host.senders h.one_sender))
-    (All-weaker (OfR p now host.receivers) (OfH p now host) (λ o k. by_receiver p now host o.act k) (recv_offers p now host.receivers) (recv_offers_are p now host.receivers h.one_receiver))
+    (All-weaker (OfS p now host.senders) (OfH p now host) (λ o k. by_sender p now host o.act k) (send_offers p now host.senders) (send_offers_are p now host.senders one_sender))
+    (All-weaker (OfR p now host.receivers) (OfH p now host) (λ o k. by_receiver p now host o.act k) (recv_offers p now host.receivers) (recv_offers_are p now host.receivers one_receiver))
 
 abbrev least_from : Offer → List Offer → Offer
 least_from o rest = fold (λ best other. if goes_before other best then other else best) o rest
@@ -122,12 +122,21 @@ least_from_is P o (other ∷ rest) h all =
       | inr n ↦ rw n (least_from_is P o rest h (All-tail P other rest all))
     ]
 
-turn_is : (p : Params) (now : ℕ) (host : Host) (os : List Offer) (turn : Turn) → All (OfH p now host) os → turn_if p now host (least os) ≡ Some turn → (a : HostAct) × IsOf p now host a × (turn_of p now host a ≡ turn)
-turn_is p now host [] turn all e = absurd cc
-turn_is p now host (o ∷ rest) turn all e =
-    let best = least_from o rest in
-    (best.act, least_from_is (OfH p now host) o rest (All-head (OfH p now host) o rest all) (All-tail (OfH p now host) o rest all), cc)
+-- what holds of all offers holds of the least, and only no offers have none
+pub least_has : (P : Offer → Type 0) (os : List Offer) (o : Offer) → All P os → least os ≡ Some o → P o
+least_has P [] o all e = absurd cc
+least_has P (k ∷ rest) o all e =
+    let same : least_from k rest ≡ o = cc in
+    subst (λ (m : Offer). P m) same (least_from_is P k rest (All-head P k rest all) (All-tail P k rest all))
+
+pub none_is_least : (os : List Offer) → least os ≡ None → os ≡ []
+none_is_least [] e = refl
+none_is_least (o ∷ rest) e = absurd cc
+
+turn_is : (p : Params) (now : ℕ) (host : Host) (turn : Turn) → All (OfH p now host) (offers p now host) → (o : Option Offer) → least (offers p now host) ≡ o → turn_if p now host o ≡ Some turn → (a : HostAct) × IsOf p now host a × (turn_of p now host a ≡ turn)
+turn_is p now host turn all None is e = absurd cc
+turn_is p now host turn all (Some o) is e = (o.act, least_has (OfH p now host) (offers p now host) o all is, cc)
 
 -- a host's turn is an act of one of its records
 pub next_turn_is : (p : Params) (now : ℕ) (host : Host) (turn : Turn) → IsHost p host → next_turn p now host ≡ Some turn → (a : HostAct) × IsOf p now host a × (turn_of p now host a ≡ turn)
-next_turn_is p now host turn h e = turn_is p now host (offers p now host) turn (offers_are p now host h) e
+next_turn_is p now host turn h e = turn_is p now host turn (offers_are_of p now host h.one_sender h.one_receiver) (least (offers p now host)) refl e
