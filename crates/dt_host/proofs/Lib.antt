@@ -1,0 +1,11 @@
+pub mod Arrivals
+pub mod Entries
+pub mod Flows
+pub mod HostParts
+pub mod NextTurns
+pub mod RecvTurns
+pub mod SendTurns
+pub mod SenderTables
+pub mod Turns
+pub mod Wakes
+pub mod Walks

@@ -1,0 +1,20 @@
+use Rattle.std.proofs.Common.{◌≡◌, ◌++◌, drop, length, subst}
+use Rattle.dt_items.specs.Unread.{octets_of, piece_told}
+use Rattle.dt_world_model.specs.Host.{read_octets}
+use Rattle.dt_host.specs.Hosts.{HostValue}
+use Rattle.dt_host.proofs.HostParts.{host_in}
+use Rattle.dt_host.proofs.hosts.Host.read.Goals as goal
+
+pub returns-clause-piece : goal.returns-clause-piece
+returns-clause-piece g c =
+    let h = c.self.inside in
+    let a = c.args in
+    subst (λ (v : HostValue). c.read.result ≡ piece_told (read_octets v.rules a.now a.flow.now (length a.buf.now) v.state).0) c.self.view_is
+    (c.read.ensures.piece (host_in h.me.0 h.until h.senders.entries h.receivers.entries))
+
+pub returns-clause-octets : goal.returns-clause-octets
+returns-clause-octets g c =
+    let h = c.self.inside in
+    let a = c.args in
+    subst (λ (v : HostValue). let taken = read_octets v.rules a.now a.flow.now (length a.buf.now) v.state in c.read.new.buf ≡ octets_of taken.0 ++ drop (length taken.0) a.buf.now) c.self.view_is
+    (c.read.ensures.octets (host_in h.me.0 h.until h.senders.entries h.receivers.entries))

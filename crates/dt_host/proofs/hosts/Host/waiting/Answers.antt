@@ -1,0 +1,23 @@
+use Rattle.std.proofs.Common.{◌≡◌, length, sym, ap, subst, ◌∙◌}
+use Rattle.std.specs.Prelude.{Option, option_map, unwrap_or}
+use Rattle.dt_flow_model.specs.SendRecord.{SendRecord}
+use Rattle.dt_world_model.specs.Host.{sender_at}
+use Rattle.dt_host.specs.Hosts.{HostValue}
+use Rattle.dt_host.proofs.SenderTables.{look_is, none_is}
+use Rattle.dt_host.proofs.hosts.Host.waiting.Goals as goal
+
+pub returns-in-Some : goal.returns-in-Some
+returns-in-Some c =
+    let h = c.self.inside in
+    let f = c.args.flow.now in
+    let here = look_is h.rules f h.senders.entries c.self.invariant.0 c.in-Some.sender.now (sym c.in-Some.ensures.value) in
+    subst (λ (v : HostValue). c.waiting.result ≡ unwrap_or (option_map (λ (x : SendRecord). length x.waiting) (sender_at v.state f)) 0) c.self.view_is
+    (c.waiting.ensures ∙ sym (ap (λ (o : Option SendRecord). unwrap_or (option_map (λ (x : SendRecord). length x.waiting) o) 0) here))
+
+pub returns-in-None : goal.returns-in-None
+returns-in-None c =
+    let h = c.self.inside in
+    let f = c.args.flow.now in
+    let none = none_is h.rules f h.senders.entries c.self.invariant.0 (sym c.in-None.ensures.value) in
+    subst (λ (v : HostValue). 0 ≡ unwrap_or (option_map (λ (x : SendRecord). length x.waiting) (sender_at v.state f)) 0) c.self.view_is
+    (sym (ap (λ (o : Option SendRecord). unwrap_or (option_map (λ (x : SendRecord). length x.waiting) o) 0) none))

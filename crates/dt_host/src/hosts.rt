@@ -1,0 +1,413 @@
+ghost use Rattle.std.specs.Prelude.{◌≡◌, ◌≢◌, ◌+◌, ◌<◌, ◌≤◌, ◌↔◌, [], ◌++◌, drop, false, length, IfErr, IfOk, IfSome, IsErr, IsTrue, Some, None, option_map, unwrap_or};
+ghost use Rattle.dt_items.specs.Unread.{marked, octets_of, piece_told};
+ghost use Rattle.dt_layout.specs.Carried.{IsGram};
+ghost use Rattle.dt_layout.specs.Spelling.{KeepsRules, packet_of};
+ghost use Rattle.dt_flow_model.specs.Acting.{record_for};
+ghost use Rattle.dt_flow_model.specs.Frames.{flow_of};
+ghost use Rattle.dt_flow_model.specs.Keeping.{most_moment, octets_below, taken_by};
+ghost use Rattle.dt_flow_model.specs.Numbering.{number_of};
+ghost use Rattle.dt_flow_model.specs.ReceiveRecord.{expected_of};
+ghost use Rattle.dt_flow_model.specs.SendRecord.{next_of};
+ghost use Rattle.dt_world_model.specs.Host.{IsCurrentHost, arrive, first_host, host_wake, next_turn, read_octets, receiver_at, restarted_host, send_octets, sender_at, work};
+ghost use Rattle.dt_host.specs.Answers.{IsAnswerTo, IsMade, frame_made, host_after, or_stays, replied, told_done};
+ghost use Rattle.dt_host.specs.Dues.{IsNext};
+ghost use Rattle.dt_host.specs.declared.faults.SendFault.TheVariants as send_fault;
+
+use crate::acts::{Act, Done};
+use crate::dues::{DueAct, DueKind};
+use crate::faults::SendFault;
+use crate::receiving::{Receivers, Segment};
+use crate::sending::{Octets, Senders};
+use crate::{receiving, sending};
+use dt_flow_model::Arrived;
+use dt_items::{NoMemory, Piece};
+use dt_layout::{Frame, Packet};
+use dt_units::{Flow, NodeId, Rules, Steps};
+use indexmap::IndexMap;
+use std::alloc::Global;
+use std::marker::{Brand, Model};
+use std::sync::ledger::{Blank, Ledger};
+
+/// All records of one node: its senders and its receivers, each in the order of their making. A sender
+/// goes when it is released, and a receiver when it has neither a record nor unread octets.
+///
+/// Moments are readings of the host's clock in milliseconds, at most 2^62, and sizes are octets. Each
+/// moment that a call by `&mut self` is given is at least that of the one before, and a refused call
+/// raises it too.
+#[derive(Drop)]
+pub struct Host {
+    rules: Rules,
+    me: NodeId,
+    /// It is silent before this moment.
+    until: u64,
+    /// The greatest moment that it was given.
+    latest: u64,
+    senders: Senders,
+    receivers: Receivers,
+}
+
+impl Model for Host {
+    ghost use Rattle.dt_host.specs.Hosts.{AreReceiveEntries, AreSendEntries, HostValue, receivers_of, send_records};
+
+    ghost Value = { HostValue };
+
+    ghost view = { λ h. record { rules = h.rules; latest = h.latest; state = record { me = h.me.0; until = h.until; senders = send_records h.senders.entries; receivers = receivers_of h.receivers.entries } } };
+
+    ghost invariant = { λ h. AreSendEntries h.rules h.senders.entries × AreReceiveEntries h.rules h.receivers.entries };
+}
+
+impl Host {
+    /// The host of a node that starts for the first time: no records, and it isn't silent. What later
+    /// calls take is taken of `alloc`. `NoMemory` where there is none.
+    pub fn first(alloc: Global, rules: &Rules, me: NodeId) -> Result<Host, NoMemory>
+        ensures { IfOk result (λ host. host ≡ record { rules = rules.now; latest = 0; state = first_host me.0 }) }
+    {
+        Ok(Host {
+            rules: *rules,
+            me,
+            until: 0,
+            latest: 0,
+            senders: IndexMap::new(alloc),
+            receivers: IndexMap::new(alloc),
+        })
+    }
+
+    /// The host of a node that starts again at `now`: no records, and it is silent until `quiet` after
+    /// now, by when the packets and records of its former lives are gone. `NoMemory` where there is
+    /// none.
+    pub fn restarted(alloc: Global, rules: &Rules, me: NodeId, now: u64) -> Result<Host, NoMemory>
+        requires moment { now ≤ most_moment }
+        ensures { IfOk result (λ host. host ≡ record { rules = rules.now; latest = now; state = restarted_host rules.now me.0 now }) }
+    {
+        Ok(Host {
+            until: now + rules.times().quiet,
+            latest: now,
+            ..Host::first(alloc, rules, me)?
+        })
+    }
+
+    /// Whether no act is due at `now`. It takes no memory, and its cost is that of a look at every
+    /// record.
+    pub fn is_current<L: Ledger>(&self, now: u64, steps: &mut Steps<L>) -> bool
+        requires moment { now ≤ most_moment }
+        requires past { self.now.latest ≤ now }
+        ensures { IsTrue result ↔ IsCurrentHost self.now.rules now self.now.state }
+    {
+        self.soonest(now, steps).is_none()
+    }
+
+    /// Octets are sent at `now` on a flow from this node to another: 1 or more, where the host is
+    /// current. The first begins a message and the last ends one, where that is asked for.
+    ///
+    /// - `Quiet`: the host is silent, until the moment that is told.
+    /// - `Full`: the octets don't fit into the flow's sender, of whose capacity so much is free. That is
+    ///   all of it where the flow has no sender.
+    /// - `NoMemory`: there was none for the sender, which the flow doesn't have yet.
+    ///
+    /// They are tested in this order, and after each the records are as they were. Else the octets go to
+    /// the flow's sender, which is made where there is none and comes last in the order of making. It
+    /// takes memory for a new sender alone. The cost is that of the octets, and of the sender's room
+    /// where it is made.
+    pub fn send<L: Ledger>(
+        &mut self,
+        flow: &Flow,
+        octets: &[u8],
+        begin: bool,
+        end: bool,
+        now: u64,
+        steps: &mut Steps<L>,
+    ) -> Result<(), SendFault>
+        requires from { flow.now.from.0 ≡ self.old.state.me }
+        requires to { flow.now.to.0 ≢ self.old.state.me }
+        requires some { 1 ≤ length octets.now }
+        requires counted { taken_by (record_for self.old.rules now (sender_at self.old.state flow.now)) + length octets.now < octets_below }
+        requires moment { now ≤ most_moment }
+        requires past { self.old.latest ≤ now }
+        requires current { IsCurrentHost self.old.rules now self.old.state }
+        ensures answer { let asked = send_octets self.old.rules now flow.now (marked octets.now begin end false) self.old.state in IsAnswerTo asked.0 result }
+        ensures after { let asked = send_octets self.old.rules now flow.now (marked octets.now begin end false) self.old.state in
+            self.new ≡ record self.old { latest = now; state = or_stays result asked.1 self.old.state } }
+        ensures memory { IfErr result (λ fault. fault ≡ send_fault.NoMemory → sender_at self.old.state flow.now ≡ None) }
+        ensures looks { steps.new ≤ steps.old + 4 }
+    {
+        self.latest = now;
+        if now < self.until {
+            return Err(SendFault::Quiet { until: self.until });
+        }
+        let asked = Octets { octets, begin, end };
+        sending::put(&mut self.senders, &self.rules, flow, &asked, now, steps)
+    }
+
+    /// Unread octets of a flow are read at `now` into the buffer, which isn't empty, where the host is
+    /// current: the most that fit, such that an end mark stands only on the last and a begin or run mark
+    /// only on the first. They are written to the buffer's front, and its rest stays. None comes exactly
+    /// where the flow has nothing unread, and then nothing changes.
+    ///
+    /// A host that is silent lets read. A receiver without a record from which all is read goes, and the
+    /// receivers made after it move up by one place: that is the cost beside that of the octets. It
+    /// takes no memory.
+    pub fn read<L: Ledger>(
+        &mut self,
+        flow: &Flow,
+        buf: &mut [u8],
+        now: u64,
+        steps: &mut Steps<L>,
+    ) -> Option<Piece>
+        requires room { 0 < length buf.old }
+        requires moment { now ≤ most_moment }
+        requires past { self.old.latest ≤ now }
+        requires current { IsCurrentHost self.old.rules now self.old.state }
+        ensures piece { let taken = read_octets self.old.rules now flow.now (length buf.old) self.old.state in
+            result ≡ piece_told taken.0 }
+        ensures octets { let taken = read_octets self.old.rules now flow.now (length buf.old) self.old.state in
+            buf.new ≡ octets_of taken.0 ++ drop (length taken.0) buf.old }
+        ensures after { let taken = read_octets self.old.rules now flow.now (length buf.old) self.old.state in
+            self.new ≡ record self.old { latest = now; state = taken.1 } }
+        ensures looks { steps.new ≤ steps.old + 4 }
+    {
+        self.latest = now;
+        receiving::read(&mut self.receivers, &self.rules, flow, buf, now, steps)
+    }
+
+    /// A packet came from a node at `now`, where the host is current. A silent host answers `Quiet` to
+    /// any.
+    ///
+    /// - Data, a rendezvous and a closing packet are of the flow from that node and the packet's first
+    ///   port to this node and its second, and go to its receiver. Without one, data is accepted where
+    ///   the table of cases makes a record, and the flow's receiver is made, last in the order of making;
+    ///   data that doesn't fit and a rendezvous are replied to with their own number and the room of a
+    ///   whole queue; and anything else is dropped.
+    /// - An acknowledgement is of the flow the other way, and goes to its sender. It is dropped where
+    ///   there is none, or where its number isn't one that the sender waits for.
+    ///
+    /// Where the answer is `Replied` the acknowledgement is in the frame, a Deltagram of life `mpl`, and
+    /// else the frame is as it was. `NoMemory` comes only where a receiver was to be made, and leaves all
+    /// as it was. It takes memory for a new receiver alone. The cost is that of the octets, and of the
+    /// receiver's queue where it is made.
+    pub fn arrive<L: Ledger>(
+        &mut self,
+        from: NodeId,
+        packet: &Packet<'_>,
+        now: u64,
+        reply: &mut Frame,
+        steps: &mut Steps<L>,
+    ) -> Result<Arrived, NoMemory>
+        requires rules { KeepsRules (packet_of packet.now) }
+        requires moment { now ≤ most_moment }
+        requires past { self.old.latest ≤ now }
+        requires current { IsCurrentHost self.old.rules now self.old.state }
+        ensures answer { let answered = arrive self.old.rules now from.0 (packet_of packet.now) self.old.state in
+            IfOk result (λ answer. answer ≡ answered.0) }
+        ensures after { let answered = arrive self.old.rules now from.0 (packet_of packet.now) self.old.state in
+            self.new ≡ record self.old { latest = now; state = or_stays result answered.1 self.old.state } }
+        ensures reply { let flow = flow_of from.0 self.old.state.me (packet_of packet.now) in
+            reply.new ≡ unwrap_or (replied self.old.rules flow result) reply.old }
+        ensures gram { let flow = flow_of from.0 self.old.state.me (packet_of packet.now) in
+            IfSome (replied self.old.rules flow result) (λ octets. IsGram octets) }
+        ensures memory { let flow = flow_of from.0 self.old.state.me (packet_of packet.now) in
+            IsErr result → IsMade self.old.rules flow (packet_of packet.now) self.old.state }
+        ensures looks { steps.new ≤ steps.old + 4 }
+    {
+        self.latest = now;
+        if now < self.until {
+            return Ok(Arrived::Quiet { until: self.until });
+        }
+        let flow = flow_of_packet(from, self.me, packet);
+        match *packet {
+            Packet::Data {
+                number,
+                drf,
+                begin,
+                end,
+                octets,
+                ..
+            } => {
+                let segment = Segment {
+                    number,
+                    drf,
+                    begin,
+                    end,
+                    octets,
+                };
+                let receivers = &mut self.receivers;
+                receiving::take(receivers, &self.rules, &flow, &segment, now, reply, steps)
+            }
+            Packet::Ack { number, window, .. } => {
+                let senders = &mut self.senders;
+                Ok(sending::acknowledge(senders, &self.rules, &flow, number, window, steps))
+            }
+            Packet::Meet { number, .. } => {
+                let receivers = &mut self.receivers;
+                Ok(receiving::meet(receivers, &self.rules, &flow, number, now, reply, steps))
+            }
+            Packet::Close { number, .. } => {
+                Ok(receiving::close(&self.receivers, &flow, number, steps))
+            }
+        }
+    }
+
+    /// Does the act that comes next at `now`, and tells whose it was. None comes exactly where no act is
+    /// due, and then nothing changes.
+    ///
+    /// The classes of acts come in this order: a segment is given up; a sender is released or renewed; a
+    /// receive record is released; an acknowledgement that is owed goes out; a segment goes out again; a
+    /// segment goes out for the first time; a rendezvous goes out. In a class the act comes first that is
+    /// due since the earliest moment, and of equals that of the record that was made first.
+    ///
+    /// What goes out is in the frame, a Deltagram of life `mpl`, and else the frame is as it was. Each
+    /// act lowers the work that is left at `now`, so that calls at one moment come to an end.
+    ///
+    /// It takes no memory. Its cost is that of a look at every record. A sender that is released and a
+    /// receiver that is idle go from their table, and the records made after them move up by one place.
+    pub fn next<L: Ledger>(
+        &mut self,
+        now: u64,
+        frame: &mut Frame,
+        steps: &mut Steps<L>,
+    ) -> Option<Done>
+        requires moment { now ≤ most_moment }
+        requires past { self.old.latest ≤ now }
+        ensures turn { let turn = next_turn self.old.rules now self.old.state in
+            option_map told_done result ≡ option_map (λ done. done.told) turn }
+        ensures frame { let turn = next_turn self.old.rules now self.old.state in
+            frame.new ≡ unwrap_or (frame_made turn) frame.old }
+        ensures after { let turn = next_turn self.old.rules now self.old.state in
+            self.new ≡ record self.old { latest = now; state = host_after self.old.state turn } }
+        ensures gram { let turn = next_turn self.old.rules now self.old.state in
+            IfSome (frame_made turn) (λ octets. IsGram octets) }
+        ensures falls { IfSome result (λ done. work self.old.rules now self.new.state < work self.old.rules now self.old.state) }
+    {
+        self.latest = now;
+        let DueAct { kind, flow, .. } = self.soonest(now, steps)?;
+        let act = match kind {
+            DueKind::Send(_) => {
+                Act::Send(sending::act(&mut self.senders, &self.rules, &flow, now, frame, steps))
+            }
+            DueKind::Recv(_) => {
+                Act::Recv(receiving::act(
+                    &mut self.receivers,
+                    &self.rules,
+                    &flow,
+                    now,
+                    frame,
+                    steps,
+                ))
+            }
+        };
+        Some(Done { flow, act })
+    }
+
+    /// The act that comes first of those that are due at `now`.
+    fn soonest<L: Ledger>(&self, now: u64, steps: &mut Steps<L>) -> Option<DueAct>
+        ensures { IsNext self.now.rules now self.now.state result }
+    {
+        let best = sending::soonest(&self.senders, now, None, steps);
+        receiving::soonest(&self.receivers, now, best, steps)
+    }
+
+    /// The least moment at which an act of any record is due, or none where there is no record that has
+    /// one. It takes no memory, and its cost is that of a look at every record.
+    pub fn wake(&self) -> Option<u64>
+        ensures { result ≡ host_wake self.now.rules self.now.state }
+    {
+        self.wake_on::<Brand>(Blank::new(1))
+    }
+
+    /// The same, with a count of its own of the looks that are taken.
+    fn wake_on<L: Ledger>(&self, ledger: Blank) -> Option<u64>
+        requires name { ledger.name ≡ L.name }
+        requires parts { ledger.parts ≡ L.parts }
+        requires some { 0 < ledger.parts }
+        ensures { result ≡ host_wake self.now.rules self.now.state }
+    {
+        let mut steps = Steps::<L>::new(ledger);
+        let senders = sending::wake(&self.senders, &self.rules, &mut steps);
+        let receivers = receiving::wake(&self.receivers, &self.rules, &mut steps);
+        sending::lesser(senders, receivers)
+    }
+
+    /// The node that it is the host of.
+    pub fn me(&self) -> NodeId
+        ensures { result.0 ≡ self.now.state.me }
+    {
+        self.me
+    }
+
+    /// The parameters of its records.
+    pub fn rules(&self) -> &Rules
+        ensures { result.now ≡ self.now.rules }
+    {
+        &self.rules
+    }
+
+    /// How many octets of the flow wait for their first transmission: 0 where it has no sender.
+    pub fn waiting(&self, flow: &Flow) -> u32
+        ensures { result ≡ unwrap_or (option_map (λ x. length x.waiting) (sender_at self.now.state flow.now)) 0 }
+    {
+        match self.senders.get(flow) {
+            Some(sender) => sender.waiting(),
+            None => 0,
+        }
+    }
+
+    /// The number of the flow's next octet that goes out, or none where it has no sender.
+    pub fn next_number(&self, flow: &Flow) -> Option<u32>
+        ensures { result ≡ option_map (λ x. number_of self.now.rules (next_of x)) (sender_at self.now.state flow.now) }
+    {
+        Some(self.senders.get(flow)?.next_number())
+    }
+
+    /// The number of the flow's leftmost octet that is neither acknowledged nor given up, or none where
+    /// it has no sender.
+    pub fn left(&self, flow: &Flow) -> Option<u32>
+        ensures { result ≡ option_map (λ x. number_of self.now.rules x.left) (sender_at self.now.state flow.now) }
+    {
+        Some(self.senders.get(flow)?.left())
+    }
+
+    /// The number that the flow's receiver expects next, or none where no receive record stands.
+    pub fn expected(&self, flow: &Flow) -> Option<u32>
+        ensures { result ≡ expected_of (receiver_at self.now.state flow.now).standing }
+    {
+        self.receivers.get(flow)?.expected()
+    }
+}
+
+/// The flow that a packet from a node to a host's node is of: an acknowledgement goes the other way
+/// than its flow.
+pub fn flow_of_packet(from: NodeId, me: NodeId, packet: &Packet<'_>) -> Flow
+    ensures { result ≡ flow_of from.0 me.0 (packet_of packet.now) }
+{
+    match *packet {
+        Packet::Data {
+            from_port,
+            to_port,
+            ..
+        }
+        | Packet::Meet {
+            from_port,
+            to_port,
+            ..
+        }
+        | Packet::Close {
+            from_port,
+            to_port,
+            ..
+        } => Flow {
+            from,
+            from_port,
+            to: me,
+            to_port,
+        },
+        Packet::Ack {
+            from_port,
+            to_port,
+            ..
+        } => Flow {
+            from: me,
+            from_port: to_port,
+            to: from,
+            to_port: from_port,
+        },
+    }
+}

@@ -1,0 +1,17 @@
+//! The host: all records of one node, and the order of their acts.
+#![tactic(auto)]
+
+mod acts;
+mod dues;
+mod faults;
+mod hosts;
+mod receiving;
+mod sending;
+
+pub use acts::{Act, Done};
+pub use dt_flow_model::{Arrived, Cut, RecvAct, SendAct};
+pub use faults::SendFault;
+pub use hosts::{Host, flow_of_packet};
+
+#[cfg(test)]
+mod tests;
