@@ -1,0 +1,5 @@
+pub mod Causes
+pub mod Links
+pub mod Lookups
+pub mod Past
+pub mod Queueing

@@ -1,0 +1,57 @@
+use Rattle.std.proofs.Common.{◌≡◌, All, List, ap, sym, subst, refl, ◌∙◌}
+use Rattle.dt_world_model.specs.declared.links.Entered.TheVariants.{NoRoute}
+use Rattle.dt_world_model.specs.Relay.{IsOutUpTo, Out}
+use Rattle.dt_relay.specs.Carrying.{parcel_seen}
+use Rattle.dt_relay.specs.Places.{link_of}
+use Rattle.dt_relay.proofs.Causes.{enter_cause}
+use Rattle.dt_relay.proofs.Links.{enter_there, enter_nowhere}
+use Rattle.dt_relay.proofs.Lookups.{tells_set}
+use Rattle.dt_relay.proofs.Past.{enter_past, push_link}
+use Rattle.dt_relay.proofs.relays.Relay.enter.Goals as goal
+
+pub returns-in-None-place-clause-answer : goal.returns-in-None-place-clause-answer
+returns-in-None-place-clause-answer g c =
+    ap NoRoute c.to-to.ensures ∙ ap (λ r. r.0) (sym (enter_nowhere (parcel_seen g.P.Carry.octets g.P.Carry.label c.args.packet) c.to-to.result c.args.now c.in-Some.link c.args.self.now c.to-to.ensures c.in-Some.ensures c.in-None-place.ensures.place))
+
+pub returns-in-None-place-clause-after : goal.returns-in-None-place-clause-after
+returns-in-None-place-clause-after g c =
+    ap (λ r. r.1) (sym (enter_nowhere (parcel_seen g.P.Carry.octets g.P.Carry.label c.args.packet) c.to-to.result c.args.now c.in-Some.link c.args.self.now c.to-to.ensures c.in-Some.ensures c.in-None-place.ensures.place))
+
+pub returns-in-Some-place-clause-answer : goal.returns-in-Some-place-clause-answer
+returns-in-Some-place-clause-answer g c =
+    let same : c.self.inside.outs.items ≡ c.args.self.now.outs = ap (λ w. w.outs) c.self.view_is in
+    c.enter.ensures.answer ∙ ap (λ r. r.0) (sym (enter_there (parcel_seen g.P.Carry.octets g.P.Carry.label c.args.packet) c.to-to.result c.args.now c.in-Some.link c.in-Some-place.i c.args.self.now c.index_mut-queue.result.now
+    c.to-to.ensures c.in-Some.ensures c.in-Some-place.ensures.place c.in-Some-place.ensures.within (rw (← same) c.index_mut-queue.ensures.value)))
+
+pub returns-in-Some-place-clause-after : goal.returns-in-Some-place-clause-after
+returns-in-Some-place-clause-after g c =
+    let same : c.self.inside.outs.items ≡ c.args.self.now.outs = ap (λ w. w.outs) c.self.view_is in
+    let ins : c.self.inside.ins.items ≡ c.args.self.now.ins = ap (λ w. w.ins) c.self.view_is in
+    let routes : c.self.inside.routes.items ≡ c.args.self.now.routes = ap (λ w. w.routes) c.self.view_is in
+    rw (
+      enter_there (parcel_seen g.P.Carry.octets g.P.Carry.label c.args.packet) c.to-to.result c.args.now c.in-Some.link c.in-Some-place.i c.args.self.now c.index_mut-queue.result.now
+          c.to-to.ensures c.in-Some.ensures c.in-Some-place.ensures.place c.in-Some-place.ensures.within (rw (← same) c.index_mut-queue.ensures.value),
+      same,
+      ins,
+      routes,
+      c.enter.ensures.queue,
+    ) refl
+
+pub invariant_of-self : goal.invariant_of-self
+invariant_of-self g c = record {
+  by_out_link = tells_set link_of c.in-Some-place.i c.self.inside.outs.items c.index_mut-queue.result.now c.enter.new.self c.self.inside.out_places c.index_mut-queue.ensures.value
+      (ap link_of c.enter.ensures.queue ∙ push_link (parcel_seen g.P.Carry.octets g.P.Carry.label c.args.packet) c.args.now c.index_mut-queue.result.now) c.self.invariant.by_out_link;
+  by_in_link = c.self.invariant.by_in_link;
+  by_node = c.self.invariant.by_node;
+}
+
+pub returns-in-None-place-clause-cause : goal.returns-in-None-place-clause-cause
+returns-in-None-place-clause-cause g c = returns-in-None-place-clause-answer g c ∙ enter_cause (parcel_seen g.P.Carry.octets g.P.Carry.label c.args.packet) c.args.now c.args.self.now
+
+pub returns-in-Some-place-clause-cause : goal.returns-in-Some-place-clause-cause
+returns-in-Some-place-clause-cause g c = returns-in-Some-place-clause-answer g c ∙ enter_cause (parcel_seen g.P.Carry.octets g.P.Carry.label c.args.packet) c.args.now c.args.self.now
+
+pub returns-in-Some-place-clause-past : goal.returns-in-Some-place-clause-past
+returns-in-Some-place-clause-past g c = λ past.
+    subst (λ (outs : List (Out _)). All (IsOutUpTo c.args.now) outs) (sym (ap (λ w. w.outs) (returns-in-Some-place-clause-after g c)))
+    (enter_past c.args.now (parcel_seen g.P.Carry.octets g.P.Carry.label c.args.packet) c.args.self.now past)

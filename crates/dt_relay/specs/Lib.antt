@@ -1,0 +1,4 @@
+pub mod Carrying
+pub mod Places
+pub mod Queues
+pub mod Ways

@@ -1,0 +1,15 @@
+//! Packets that wait for their link, and what they pay with their life.
+#![tactic(auto)]
+
+mod carrying;
+mod places;
+mod queues;
+mod relays;
+
+pub use carrying::Carry;
+pub use dt_world_model::{Entered, InLink, OutLink, Route};
+pub use queues::Left;
+pub use relays::{Relay, earlier};
+
+#[cfg(test)]
+mod tests;

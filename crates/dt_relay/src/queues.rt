@@ -1,0 +1,128 @@
+ghost use Rattle.std.specs.Prelude.{◌≡◌, ◌≤◌, IfOk, IfSome};
+ghost use Rattle.dt_layout.specs.Carried.{IsGram};
+ghost use Rattle.dt_flow_model.specs.Keeping.{most_moment};
+ghost use Rattle.dt_world_model.specs.Relay.{IsOutUpTo, empty_out, leave, may_leave_from, out_wake, push};
+ghost use Rattle.dt_relay.specs.Carrying.{IfOut, left_seen, parcel_seen};
+
+use crate::carrying::Carry;
+use circular_buffer::HeapCircularBuffer;
+use dt_items::NoMemory;
+use dt_world_model::Entered;
+use std::alloc::Global;
+use std::marker::Model;
+
+// How many packets may wait on a link.
+const MOST_ON_LINK: usize = 64;
+
+/// What became of the first packet that waited on a link.
+#[derive(Debug, Drop)]
+pub enum Left<P> {
+    /// It leaves, with its life less by the charge for its time in the queue.
+    Out(P),
+    /// It hadn't the life for that charge, and is gone.
+    Expired,
+}
+
+/// A packet that waits since a moment.
+#[derive(Drop)]
+pub(crate) struct Waiting<P> {
+    packet: P,
+    since: u64,
+}
+
+/// The packets that wait for one link, the first to leave in front.
+#[derive(Drop)]
+pub(crate) struct Queue<P: Carry> {
+    link: u16,
+    pace: u32,
+    ring: HeapCircularBuffer<Waiting<P>>,
+    last: Option<u64>,
+}
+
+impl<P: Carry> Model for Queue<P> {
+    ghost use Rattle.std.specs.Prelude.{map};
+    ghost use Rattle.dt_world_model.specs.Relay.{Out};
+    ghost use Rattle.dt_relay.specs.Carrying.{waiting_seen};
+    ghost use Rattle.dt_relay.specs.Queues.{IsQueue};
+
+    ghost Value = { Out P.Tag };
+
+    ghost view = { λ q. record { link = q.link; pace = q.pace; waits = map (waiting_seen P.octets P.label) q.ring.items; last = q.last } };
+
+    ghost invariant = { λ q. IsQueue P.octets q.ring q.last };
+}
+
+impl<P: Carry> Queue<P> {
+    /// Nothing waits, and nothing has left. Takes the room for 64 packets.
+    pub(crate) fn new(alloc: Global, link: u16, pace: u32) -> Result<Queue<P>, NoMemory>
+        ensures { IfOk result (λ queue. queue ≡ empty_out link pace) }
+    {
+        let ring = HeapCircularBuffer::with_capacity(alloc, MOST_ON_LINK)?;
+        Ok(Queue {
+            link,
+            pace,
+            ring,
+            last: None,
+        })
+    }
+
+    pub(crate) fn link(&self) -> u16
+        ensures { result ≡ self.now.link }
+    {
+        self.link
+    }
+
+    /// Puts a packet at the end, where there is room. Else it is dropped.
+    pub(crate) fn enter(&mut self, packet: P, now: u64) -> Entered
+        requires { IsGram (P.octets packet) }
+        ensures answer { result ≡ (push (parcel_seen P.octets P.label packet) now self.old).0 }
+        ensures queue { self.new ≡ (push (parcel_seen P.octets P.label packet) now self.old).1 }
+    {
+        let waiting = Waiting { packet, since: now };
+        match self.ring.try_push_back(waiting) {
+            Ok(()) => Entered::Queued { link: self.link },
+            Err(_) => Entered::Full { link: self.link },
+        }
+    }
+
+    /// Takes the first that waits, unless the link keeps its pace.
+    pub(crate) fn leave(&mut self, now: u64) -> Option<Left<P>>
+        requires past { IsOutUpTo now self.old }
+        requires moment { now ≤ most_moment }
+        ensures left { left_seen P.octets P.label result ≡ (leave now self.old).0 }
+        ensures queue { self.new ≡ (leave now self.old).1 }
+        ensures gram { IfOut result (λ packet. IsGram (P.octets packet)) }
+    {
+        if now < self.may_leave_from() {
+            return None;
+        }
+        let Waiting { mut packet, since } = self.ring.pop_front()?;
+        let charge = now - since + 1;
+        if u64::from(packet.life()) <= charge {
+            return Some(Left::Expired);
+        }
+        packet.lower(charge as u32);
+        self.last = Some(now);
+        Some(Left::Out(packet))
+    }
+
+    /// The moment from which on the next may leave.
+    fn may_leave_from(&self) -> u64
+        ensures { result ≡ may_leave_from self.now.pace self.now.last }
+    {
+        match self.last {
+            None => 0,
+            Some(last) => last + u64::from(self.pace),
+        }
+    }
+
+    /// The moment from which on the first that waits may leave.
+    pub(crate) fn wake(&self) -> Option<u64>
+        ensures { result ≡ out_wake self.now self.now.waits }
+    {
+        if self.ring.is_empty() {
+            return None;
+        }
+        Some(self.may_leave_from())
+    }
+}

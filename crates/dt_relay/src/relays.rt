@@ -1,0 +1,220 @@
+ghost use Rattle.std.specs.Prelude.{ℕ, ◌≡◌, ◌≤◌, ◌<◌, All, IfOk, IfSome, length, map, option_map, slice_index};
+ghost use Rattle.dt_layout.specs.Carried.{IsGram, to_of};
+ghost use Rattle.dt_flow_model.specs.Keeping.{most_moment};
+ghost use Rattle.dt_flow_model.specs.SendActs.{earlier};
+ghost use Rattle.dt_world_model.specs.Relay.{IsOutUpTo, admit, charge_of, empty_out, enter, leave, new_relay, on_link, relay_wake, route_to, with_outs};
+ghost use Rattle.dt_relay.specs.Carrying.{IfOut, left_seen, parcel_seen};
+ghost use Rattle.dt_relay.specs.Places.{link_of, place_of};
+ghost use Rattle.dt_relay.specs.Ways.{StaysUnlessQueued, entered_by, way_to};
+
+use crate::carrying::Carry;
+use crate::places::{Places, place_in, places_in};
+use crate::queues::{Left, Queue};
+use dt_items::NoMemory;
+use dt_world_model::{Entered, InLink, OutLink, Route};
+use std::alloc::Global;
+use std::marker::Model;
+
+/// A station's relay: a queue for each link on which packets leave, what a packet pays for each link
+/// on which they come, and routes.
+///
+/// Moments are readings of the station's clock in milliseconds, at most 2^62, and lives, charges and
+/// paces are milliseconds. The memory is taken by [`Relay::new`], and no other call takes any.
+#[derive(Drop)]
+pub struct Relay<P: Carry> {
+    outs: Vec<Queue<P>>,
+    ins: Vec<InLink>,
+    routes: Vec<Route>,
+    /// Where the first stands, by the link's number or by the node.
+    out_places: Places,
+    in_places: Places,
+    route_places: Places,
+}
+
+impl<P: Carry> Model for Relay<P> {
+    ghost use Rattle.dt_world_model.specs.Relay.{Relay as RelayValue};
+    ghost use Rattle.dt_relay.specs.Places.{ArePlaces};
+
+    ghost Value = { RelayValue P.Tag };
+
+    ghost view = { λ r. record { outs = r.outs.items; ins = r.ins.items; routes = r.routes.items } };
+
+    ghost invariant = { λ r. ArePlaces r.outs.items r.ins.items r.routes.items r.out_places r.in_places r.route_places };
+}
+
+impl<P: Carry> Relay<P> {
+    /// A relay on which nothing waits, and which nothing has left. Takes the room for 64 packets for
+    /// each out link at once; `NoMemory` where there is none.
+    ///
+    /// Links of a list differ, and so do the nodes of routes, and each route's link is among `outs`.
+    /// Of entries that don't differ the first counts, and a route to a link that isn't there counts as
+    /// none.
+    pub fn new(
+        alloc: Global,
+        outs: &[OutLink],
+        ins: &[InLink],
+        routes: &[Route],
+    ) -> Result<Relay<P>, NoMemory>
+        ensures made { IfOk result (λ relay. relay ≡ new_relay outs.now ins.now routes.now) }
+        // Nothing that it keeps is past.
+        ensures past { (now : ℕ) → IfOk result (λ relay. All (IsOutUpTo now) relay.outs) }
+    {
+        Ok(Relay {
+            outs: empty_queues(alloc, outs)?,
+            ins: Vec::from_slice(alloc, ins)?,
+            routes: Vec::from_slice(alloc, routes)?,
+            out_places: places_in(alloc, outs)?,
+            in_places: places_in(alloc, ins)?,
+            route_places: places_in(alloc, routes)?,
+        })
+    }
+
+    /// A packet came on an in link. None comes exactly where its life isn't above the link's charge: it
+    /// is gone. Else it comes back with its life less by the charge. A link that isn't there charges
+    /// nothing. The packet must read as a Deltagram.
+    pub fn admit(&self, link: u16, packet: P) -> Option<P>
+        requires { IsGram (P.octets packet) }
+        ensures admitted { let parcel = parcel_seen P.octets P.label in
+            option_map parcel result ≡ admit link (parcel packet) self.now }
+        ensures gram { IfSome result (λ admitted. IsGram (P.octets admitted)) }
+    {
+        let charge = self.charge(link);
+        if packet.life() <= charge {
+            return None;
+        }
+        let mut admitted = packet;
+        admitted.lower(charge);
+        Some(admitted)
+    }
+
+    /// A packet, which must read as a Deltagram, is to wait from `now` on:
+    ///
+    /// - `NoRoute`: no route names its node, or the route's link isn't among the out links. The packet
+    ///   is dropped, and nothing changes.
+    /// - `Full`: 64 packets wait on the link that the route names. The packet is dropped, and nothing
+    ///   changes.
+    /// - `Queued`: it waits at the end of that link's queue.
+    ///
+    /// Its cost is that of two look-ups and of moving the packet, which isn't cloned.
+    pub fn enter(&mut self, packet: P, now: u64) -> Entered
+        requires { IsGram (P.octets packet) }
+        ensures answer { result ≡ (enter (parcel_seen P.octets P.label packet) now self.old).0 }
+        ensures after { self.new ≡ (enter (parcel_seen P.octets P.label packet) now self.old).1 }
+        // Which answer comes, and where: each cause exactly.
+        ensures cause { let to = to_of (P.octets packet) in result ≡ entered_by to (way_to to self.old) }
+        ensures stays { StaysUnlessQueued result self.old self.new }
+        ensures past { All (IsOutUpTo now) self.old.outs → All (IsOutUpTo now) self.new.outs }
+    {
+        let to = packet.to();
+        match self.route(to) {
+            None => Entered::NoRoute { to },
+            Some(link) => match self.place(link) {
+                None => Entered::NoRoute { to },
+                Some(i) => {
+                    let queue = &mut self.outs[i];
+                    queue.enter(packet, now)
+                }
+            },
+        }
+    }
+
+    /// The first that waits on the link is taken at `now`, which is at most 2^62, and no moment that the
+    /// relay keeps is after it.
+    ///
+    /// - None: nothing waits, or a packet has left the link before and that was less than `pace` ago.
+    ///   Nothing changes. So it is for a link that isn't there.
+    /// - `Expired`: its life isn't above its charge, which is the time that it waited and one
+    ///   millisecond more. It is gone, and the last moment out stays.
+    /// - `Out`: it is handed over with its life less by the charge, and the last moment out is `now`.
+    pub fn leave(&mut self, link: u16, now: u64) -> Option<Left<P>>
+        requires past { All (IsOutUpTo now) self.old.outs }
+        requires moment { now ≤ most_moment }
+        ensures left { left_seen P.octets P.label result ≡ (on_link link None (leave now) self.old.outs).0 }
+        ensures after { self.new ≡ with_outs self.old (on_link link None (leave now) self.old.outs).1 }
+        ensures past { All (IsOutUpTo now) self.new.outs }
+        ensures gram { IfOut result (λ packet. IsGram (P.octets packet)) }
+    {
+        match self.place(link) {
+            None => None,
+            Some(i) => {
+                let queue = &mut self.outs[i];
+                queue.leave(now)
+            }
+        }
+    }
+
+    /// The least moment at which a link's `leave` isn't none, or none where nothing waits: for a link
+    /// on which something waits `pace` after the last moment out, or 0 where nothing has left yet. It
+    /// goes over the out links.
+    pub fn wake(&self) -> Option<u64>
+        ensures { result ≡ relay_wake self.now.outs }
+    {
+        let mut least = None;
+        for queue in &self.outs {
+            least = earlier(least, queue.wake());
+        }
+        least
+    }
+
+    /// How many out links there are.
+    pub fn links(&self) -> usize
+        ensures { result ≡ length self.now.outs }
+    {
+        self.outs.len()
+    }
+
+    /// The number of the out link at this place, counted from 0 in the order of `outs`.
+    pub fn link_at(&self, place: usize) -> u16
+        requires { place < length self.now.outs }
+        ensures { result ≡ slice_index (map (λ out. out.link) self.now.outs) place }
+    {
+        self.outs[place].link()
+    }
+
+    fn charge(&self, link: u16) -> u32
+        ensures { result ≡ charge_of link self.now.ins }
+    {
+        match place_in(&self.in_places, u32::from(link)) {
+            None => 0,
+            Some(place) => self.ins[place].charge,
+        }
+    }
+
+    fn route(&self, to: u32) -> Option<u16>
+        ensures { result ≡ route_to to self.now.routes }
+    {
+        match place_in(&self.route_places, to) {
+            None => None,
+            Some(place) => Some(self.routes[place].link),
+        }
+    }
+
+    fn place(&self, link: u16) -> Option<usize>
+        ensures place { result ≡ place_of link_of link self.now.outs }
+        ensures within { IfSome result (λ i. i < length self.now.outs) }
+    {
+        place_in(&self.out_places, u32::from(link))
+    }
+}
+
+// A queue on which nothing waits for each out link.
+fn empty_queues<P: Carry>(alloc: Global, outs: &[OutLink]) -> Result<Vec<Queue<P>>, NoMemory>
+    ensures { IfOk result (λ queues. queues.items ≡ map (λ o. empty_out o.link o.pace) outs.now) }
+{
+    let mut queues = Vec::with_capacity(alloc, outs.len())?;
+    for out in outs {
+        queues.push(Queue::new(alloc, out.link, out.pace)?)?;
+    }
+    Ok(queues)
+}
+
+/// The earlier of two moments, each of which may be none.
+pub fn earlier(a: Option<u64>, b: Option<u64>) -> Option<u64>
+    ensures { result ≡ earlier a b }
+{
+    match (a, b) {
+        (None, b) => b,
+        (a, None) => a,
+        (Some(a), Some(b)) => Some(a.min(b)),
+    }
+}
