@@ -1,0 +1,71 @@
+-- A packet that came, and its reply; octets that were sent.
+use Rattle.std.proofs.Common.{◌≡◌, ℕ, ◌+◌, ◌<◌, ◌≤◌, ◌==◌, Bool, true, false, cond, List, Option, Some, None, Result, Ok, Err, refl, sym, subst, length, nat_lt, nat_le, arith}
+use Rattle.std.proofs.lemmas.Bool.Decides.{nat_tests}
+use Rattle.dt_items.specs.declared.item.Item.{Item}
+use Rattle.dt_units.specs.declared.parameters.Params.{Params}
+use Rattle.dt_units.specs.declared.endpoints.Flow.{Flow}
+use Rattle.dt_layout.specs.Spelling.{PacketValue}
+use Rattle.dt_reports.specs.Told.{Told}
+use Rattle.dt_flow_model.specs.declared.arrivals.Arrived.{Arrived}
+use Rattle.dt_flow_model.specs.declared.arrivals.Arrived.TheVariants as arrived
+use Rattle.dt_flow_model.specs.declared.faults.PutFault.{PutFault}
+use Rattle.dt_flow_model.specs.declared.faults.PutFault.TheVariants.{Full}
+use Rattle.dt_flow_model.specs.Acting.{record_for}
+use Rattle.dt_flow_model.specs.Frames.{flow_of, reply_frame}
+use Rattle.dt_flow_model.specs.SendRecord.{SendRecord, fits, held_of, put_fault, room_of}
+use Rattle.dt_reports.specs.declared.faults.Refusal.{Refusal}
+use Rattle.dt_reports.specs.declared.faults.Refusal.TheVariants as refusal
+use Rattle.dt_world_model.specs.Host.{Host, arrive, send_into, send_octets, sender_at, told_arrival}
+use Rattle.dt_world_model.specs.Relay.{Parcel, Relay}
+use Rattle.dt_world_model.specs.Script.{Concludes, Plays, Tell}
+use Rattle.dt_world_model.specs.Station.{come, deliver, pass_on, send_off, station_with}
+use Rattle.dt_station.proofs.Playing.{ends_with}
+
+pub no_reply : (p : Params) (f : Flow) (a : Arrived) → ((number window : ℕ) → a ≡ arrived.Replied number window → ⊥) → reply_frame p f a ≡ None
+no_reply p f (arrived.Quiet until) h = refl
+no_reply p f (arrived.Accepted run count) h = refl
+no_reply p f (arrived.Replied number window) h = absurd (h number window refl)
+no_reply p f arrived.Dropped h = refl
+no_reply p f (arrived.Acked count) h = refl
+no_reply p f (arrived.Closing number) h = refl
+
+module _ {V T : Type 0} (tells : V → Told → V → Type 0) (tags : V → Host → List ℕ → T → V → Type 0) (hands : V → ℕ → Parcel T → V → Type 0) (fails : V → V → Type 0) where
+  unreplied : (p : Params) (now : ℕ) (v : PacketValue) (relay : Relay T) (f flow : Flow) (r : Arrived × Host) (answer : Arrived) (new : Host) (vis m : V) → answer ≡ r.0 → flow ≡ f → new ≡ r.1 →
+      reply_frame p flow answer ≡ None → tells vis (told_arrival flow v answer) m →
+      Plays tells tags hands (Tell (told_arrival f v r.0) (send_off now r.1 (reply_frame p f r.0) relay)) vis m (station_with new relay)
+  unreplied p now v relay f flow r answer new vis m ea ef eh none told =
+      subst (λ (g : Flow). Plays tells tags hands (Tell (told_arrival g v r.0) (send_off now r.1 (reply_frame p g r.0) relay)) vis m (station_with new relay)) ef
+      (subst (λ (a : Arrived). Plays tells tags hands (Tell (told_arrival flow v a) (send_off now r.1 (reply_frame p flow a) relay)) vis m (station_with new relay)) ea
+      (subst (λ (h : Host). Plays tells tags hands (Tell (told_arrival flow v answer) (send_off now h (reply_frame p flow answer) relay)) vis m (station_with new relay)) eh
+      (m, told, subst (λ (o : Option (List ℕ)). Plays tells tags hands (send_off now new o relay) m m (station_with new relay)) (sym none) (refl, refl))))
+
+  -- an answer that is no reply is told, and that is all
+  pub plays_unreplied : (p : Params) (now from : ℕ) (v : PacketValue) (host new : Host) (relay : Relay T) (flow : Flow) (answer : Arrived) (vis m : V) → answer ≡ (arrive p now from v host).0 → flow ≡ flow_of from host.me v →
+      new ≡ (arrive p now from v host).1 → reply_frame p flow answer ≡ None → tells vis (told_arrival flow v answer) m →
+      Plays tells tags hands (deliver p now from (Ok v) (station_with host relay)) vis m (station_with new relay)
+  plays_unreplied p now from v host new relay flow answer vis m ea ef eh none told =
+      unreplied p now v relay (flow_of from host.me v) flow (arrive p now from v host) answer new vis m ea ef eh none told
+
+  -- a packet for another node is passed on
+  pub ends_come : {U E : Type 0} (p : Params) (now : ℕ) (mine : Bool) (parcel : Parcel T) (host : Host) (relay new : Relay T) (v w : V) (result : Result U E) → mine ≡ false →
+      Concludes tells tags hands fails result (pass_on parcel now relay) v w new → Concludes tells tags hands fails result (come p now mine parcel (station_with host relay)) v w (station_with host new)
+  ends_come p now true parcel host relay new v w result e h = absurd (cc)
+  ends_come p now false parcel host relay new v w result e h = ends_with tells tags hands fails (pass_on parcel now relay) (station_with host) v w new (station_with host new) result h refl
+
+-- what a sender took is within its capacity
+within_put : (b : Bool) (p : Params) (x : SendRecord) (count : ℕ) → nat_le (held_of x + count) p.cap ≡ b → cond b None (Some (Full (room_of p x))) ≡ None → count ≤ p.cap
+within_put true p x count e h = let k : held_of x + count ≤ p.cap = grind (arith, nat_tests) in omega arith
+within_put false p x count e h = absurd (cc)
+
+within_into : (fault : Option PutFault) (f : Flow) (items : List Item) (x : SendRecord) (host : Host) → (send_into f items x host fault).0 ≡ None → fault ≡ None
+within_into None f items x host h = refl
+within_into (Some (Full free)) f items x host h = absurd (cc)
+
+within_send : (b : Bool) (p : Params) (f : Flow) (items : List Item) (x : SendRecord) (host : Host) (quiet : Option Refusal × Host) → (r : Refusal) → quiet.0 ≡ Some r →
+    (cond b quiet (send_into f items x host (put_fault p x (length items)))).0 ≡ None → length items ≤ p.cap
+within_send true p f items x host quiet r q h = absurd (cc)
+within_send false p f items x host quiet r q h = within_put (fits p x (length items)) p x (length items) refl (within_into (put_fault p x (length items)) f items x host h)
+
+pub taken_fits : (p : Params) (now : ℕ) (f : Flow) (items : List Item) (host : Host) → (send_octets p now f items host).0 ≡ None → length items ≤ p.cap
+taken_fits p now f items host h =
+    within_send (nat_lt now host.until) p f items (record_for p now (sender_at host f)) host (Some (refusal.Quiet host.until), host) (refusal.Quiet host.until) refl h

@@ -1,0 +1,61 @@
+-- A station's event, put together from its parts.
+use Rattle.std.proofs.Common.{◌≡◌, ℕ, ◌+◌, ◌<◌, List, map, length, Result, refl, subst, sym, ◌∙◌}
+use Rattle.dt_units.specs.declared.parameters.Params.{Params}
+use Rattle.dt_reports.specs.Told.{Told}
+use Rattle.dt_flow_model.specs.Acting.{record_for}
+use Rattle.dt_flow_model.specs.Keeping.{octets_below, taken_by}
+use Rattle.dt_relay.specs.Places.{link_of}
+use Rattle.dt_world_model.specs.Host.{Host, sender_at, work}
+use Rattle.dt_world_model.specs.Relay.{Out, Parcel, Relay, with_outs}
+use Rattle.dt_world_model.specs.Script.{Concludes, Plays, Stops, ◌>>=◌}
+use Rattle.dt_world_model.specs.Station.{Event, Station, do_turns, flush_links, happen, settle_station, station_event, station_with}
+use Rattle.dt_station.specs.declared.events.StationEvent.{StationEvent}
+use Rattle.dt_station.specs.declared.events.StationEvent.TheVariants as given
+use Rattle.dt_station.specs.Events.{MayHappen, MayHappenNow, MaySend, MaySendNow}
+use Rattle.dt_station.proofs.Playing.{answers_hold, ends_after, stops_after, stops_within}
+
+module _ {V T : Type 0} (tells : V → Told → V → Type 0) (tags : V → Host → List ℕ → T → V → Type 0) (hands : V → ℕ → Parcel T → V → Type 0) (fails : V → V → Type 0) where
+  pub ends_settle : {U E : Type 0} (p : Params) (now : ℕ) (host : Host) (relay flushed : Relay T) (v m w : V) (b : Station T) (result : Result U E) →
+      Plays tells tags hands (flush_links now (map link_of relay.outs) relay.outs) v m flushed.outs → flushed ≡ with_outs relay flushed.outs →
+      Concludes tells tags hands fails result (do_turns (work p now host) p now (station_with host flushed)) m w b → Concludes tells tags hands fails result (settle_station p now (station_with host relay)) v w b
+  ends_settle p now host relay flushed v m w b result played same h =
+      ends_after tells tags hands fails (flush_links now (map link_of relay.outs) relay.outs) (λ outs. do_turns (work p now host) p now (station_with host (with_outs relay outs))) v m w flushed.outs b result played
+      (subst (λ (x : Relay T). Concludes tells tags hands fails result (do_turns (work p now host) p now (station_with host x)) m w b) same h)
+
+  pub stops_settle : (p : Params) (now : ℕ) (host : Host) (relay : Relay T) (v w : V) → Stops tells tags hands fails (flush_links now (map link_of relay.outs) relay.outs) v w → Stops tells tags hands fails (settle_station p now (station_with host relay)) v w
+  stops_settle p now host relay v w h =
+      stops_within tells tags hands fails (flush_links now (map link_of relay.outs) relay.outs) (λ outs. do_turns (work p now host) p now (station_with host (with_outs relay outs))) v w h
+
+  -- an event stops in its first part, in its second, or ends with its third
+  module _ (p : Params) (now : ℕ) (e : Event T) (station : Station T) (first : V) where
+    pub stops_first : (w : V) → Stops tells tags hands fails (settle_station p now station) first w → Stops tells tags hands fails (station_event p now e station) first w
+    stops_first w h = stops_within tells tags hands fails (settle_station p now station) (λ before. happen p now e before >>= λ after. settle_station p now after) first w h
+
+    pub stops_second : (before : Station T) (m w : V) (q : Params) → q ≡ p → Plays tells tags hands (settle_station p now station) first m before → Stops tells tags hands fails (happen q now e before) m w → Stops tells tags hands fails (station_event p now e station) first w
+    stops_second before m w q same played h =
+        stops_after tells tags hands fails (settle_station p now station) (λ before. happen p now e before >>= λ after. settle_station p now after) first m w before played
+        (stops_within tells tags hands fails (happen p now e before) (λ after. settle_station p now after) m w (subst (λ (q : Params). Stops tells tags hands fails (happen q now e before) m w) same h))
+
+    pub ends_third : {U E : Type 0} (before after : Station T) (m n w : V) (b : Station T) (result : Result U E) (q r : Params) → q ≡ p → r ≡ p → Plays tells tags hands (settle_station p now station) first m before →
+        Plays tells tags hands (happen q now e before) m n after → Concludes tells tags hands fails result (settle_station r now after) n w b → Concludes tells tags hands fails result (station_event p now e station) first w b
+    ends_third before after m n w b result q r same too played happened h =
+        ends_after tells tags hands fails (settle_station p now station) (λ before. happen p now e before >>= λ after. settle_station p now after) first m w before b result played
+        (ends_after tells tags hands fails (happen p now e before) (λ after. settle_station p now after) m n w after b result (subst (λ (q : Params). Plays tells tags hands (happen q now e before) m n after) same happened)
+        (subst (λ (q : Params). Concludes tells tags hands fails result (settle_station q now after) n w b) too h))
+
+  may_send : (p q : Params) (now : ℕ) (station settled : Station T) (first m : V) (flow : _) (count : ℕ) → q ≡ p → settled.host.me ≡ station.host.me → Plays tells tags hands (settle_station p now station) first m settled →
+      MaySend p now station flow count → MaySendNow q now settled.host flow count
+  may_send p q now station settled first m flow count same me played may = record {
+    from = may.from ∙ sym me;
+    to = rw me may.to;
+    some = may.some;
+    counted = rw same (answers_hold tells tags hands fails (λ (s : Station T). taken_by (record_for p now (sender_at s.host flow)) + count < octets_below) (settle_station p now station) first m settled may.counted played);
+  }
+
+  -- what may happen to a station may happen to it once it has settled
+  pub may_now : {P : Type 0} (octets : P → List ℕ) (p q : Params) (now most : ℕ) (station settled : Station T) (first m : V) (event : StationEvent P) → q ≡ p → settled.host.me ≡ station.host.me →
+      Plays tells tags hands (settle_station p now station) first m settled → MayHappen octets p now station most event → MayHappenNow octets q now settled.host most event
+  may_now octets p q now most station settled first m (given.Send flow sent begin end) same me played may = may_send p q now station settled first m flow (length sent.now) same me played may
+  may_now octets p q now most station settled first m (given.Read flow) same me played may = may
+  may_now octets p q now most station settled first m given.Tick same me played may = tt
+  may_now octets p q now most station settled first m (given.Arrive link packet) same me played may = may

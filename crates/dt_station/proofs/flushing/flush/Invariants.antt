@@ -1,0 +1,21 @@
+use Rattle.std.proofs.Common.{◌≡◌, All, map}
+use Rattle.dt_relay.specs.Places.{link_of}
+use Rattle.dt_world_model.specs.Relay.{IsOutUpTo, with_outs}
+use Rattle.dt_world_model.specs.Station.{flush_at}
+use Rattle.dt_station.proofs.Playing.{Leads}
+use Rattle.dt_station.proofs.Flushes.{waiting_on}
+use Rattle.dt_station.proofs.flushing.flush.Given as goal
+
+-- what is left to flush leads to the end of all
+abbrev pub invariant-flush : goal.invariant-flush
+invariant-flush g l =
+    let visitor = g.V.Visitor in
+    record {
+      leads : Leads visitor.tells visitor.tags visitor.hands visitor.fails (flush_at l.link l.now l.fn.relay.outs) l.fn.visitor (flush_at l.link l.now l.relay.outs) l.visitor;
+      past : All (IsOutUpTo l.now) l.relay.outs;
+      links : map link_of l.relay.outs ≡ map link_of l.fn.relay.outs;
+      others : l.relay ≡ with_outs l.fn.relay l.relay.outs;
+    }
+
+abbrev pub decreases-flush : goal.decreases-flush
+decreases-flush g l = waiting_on l.relay.outs

@@ -1,0 +1,19 @@
+use Rattle.std.proofs.Common.{◌≡◌, All, map, drop, length}
+use Rattle.dt_relay.specs.Places.{link_of}
+use Rattle.dt_world_model.specs.Relay.{IsOutUpTo, with_outs}
+use Rattle.dt_world_model.specs.Station.{flush_links}
+use Rattle.dt_station.proofs.Playing.{Leads}
+use Rattle.dt_station.proofs.flushing.flush_all.Given as goal
+
+-- the links that are left lead to the end of all
+abbrev pub invariant-loop-i : goal.invariant-loop-i
+invariant-loop-i g l =
+    let visitor = g.V.Visitor in
+    let links = map link_of l.fn.relay.outs in
+    record {
+      leads : Leads visitor.tells visitor.tags visitor.hands visitor.fails (flush_links l.now links l.fn.relay.outs) l.fn.visitor (flush_links l.now (drop l.i links) l.relay.outs) l.visitor;
+      past : All (IsOutUpTo l.now) l.relay.outs;
+      links : map link_of l.relay.outs ≡ links;
+      end : l.i-end ≡ length l.fn.relay.outs;
+      others : l.relay ≡ with_outs l.fn.relay l.relay.outs;
+    }

@@ -1,0 +1,47 @@
+-- An event of the program, as a value without loans; when it may come.
+use Rattle.std.specs.Prelude.{◌≡◌, ◌≢◌, ℕ, ◌+◌, ◌<◌, ◌≤◌, List, length}
+use Rattle.dt_units.specs.declared.parameters.Params.{Params}
+use Rattle.dt_units.specs.declared.endpoints.Flow.{Flow}
+use Rattle.dt_layout.specs.Carried.{IsGram}
+use Rattle.dt_flow_model.specs.Acting.{record_for}
+use Rattle.dt_flow_model.specs.Keeping.{octets_below, taken_by}
+use Rattle.dt_world_model.specs.Host.{Host, sender_at}
+use Rattle.dt_world_model.specs.Relay.{Parcel}
+use Rattle.dt_world_model.specs.Script.{Answers}
+use Rattle.dt_world_model.specs.Station.{Event, Send, Read, Tick, Arrive, Station, settle_station}
+use Rattle.dt_station.specs.declared.events.StationEvent.{StationEvent}
+use Rattle.dt_station.specs.declared.events.StationEvent.TheVariants as given
+
+-- a read is of at most so many octets
+abbrev pub event_seen : {P T : Type 0} → (P → Parcel T) → ℕ → StationEvent P → Event T
+event_seen parcel most (given.Send flow octets begin end) = Send flow octets.now begin end
+event_seen parcel most (given.Read flow) = Read flow most
+event_seen parcel most given.Tick = Tick
+event_seen parcel most (given.Arrive link packet) = Arrive link (parcel packet)
+
+-- OCTETS MAY BE SENT on a flow: it goes from this node to another, and those that its record has taken can be counted.
+pub record MaySendNow (p : Params) (now : ℕ) (host : Host) (flow : Flow) (count : ℕ) : Type 0 where
+  pub from : flow.from.0 ≡ host.me
+  pub to : flow.to.0 ≢ host.me
+  pub some : 1 ≤ count
+  pub counted : taken_by (record_for p now (sender_at host flow)) + count < octets_below
+
+-- the same before the station has settled: they can be counted once it has, whatever tags are answered
+pub record MaySend {T : Type 0} (p : Params) (now : ℕ) (station : Station T) (flow : Flow) (count : ℕ) : Type 0 where
+  pub from : flow.from.0 ≡ station.host.me
+  pub to : flow.to.0 ≢ station.host.me
+  pub some : 1 ≤ count
+  pub counted : Answers (λ (settled : Station T). taken_by (record_for p now (sender_at settled.host flow)) + count < octets_below) (settle_station p now station)
+
+-- AN EVENT MAY HAPPEN, with a buffer of such a length: to a station, and to the host of one that has settled.
+abbrev pub MayHappen : {P T : Type 0} → (P → List ℕ) → Params → ℕ → Station T → ℕ → StationEvent P → Type 0
+MayHappen octets p now station most (given.Send flow sent begin end) = MaySend p now station flow (length sent.now)
+MayHappen octets p now station most (given.Read flow) = 0 < most
+MayHappen octets p now station most given.Tick = Unit {0}
+MayHappen octets p now station most (given.Arrive link packet) = IsGram (octets packet)
+
+abbrev pub MayHappenNow : {P : Type 0} → (P → List ℕ) → Params → ℕ → Host → ℕ → StationEvent P → Type 0
+MayHappenNow octets p now host most (given.Send flow sent begin end) = MaySendNow p now host flow (length sent.now)
+MayHappenNow octets p now host most (given.Read flow) = 0 < most
+MayHappenNow octets p now host most given.Tick = Unit {0}
+MayHappenNow octets p now host most (given.Arrive link packet) = IsGram (octets packet)

@@ -1,0 +1,37 @@
+-- A station as its callers see it.
+use Rattle.std.specs.Prelude.{ℕ, ◌≡◌, ◌≤◌, All, Bool, true, false, List, Option, Some, None, Result, Ok, Err, unwrap_or}
+use Rattle.dt_units.specs.declared.parameters.Params.{Params}
+use Rattle.dt_host.specs.Hosts.{HostValue}
+use Rattle.dt_world_model.specs.declared.links.OutLink.{OutLink}
+use Rattle.dt_world_model.specs.declared.links.InLink.{InLink}
+use Rattle.dt_world_model.specs.declared.links.Route.{Route}
+use Rattle.dt_world_model.specs.Host.{Host, first_host, restarted_host}
+use Rattle.dt_world_model.specs.Relay.{IsOutUpTo, Relay, new_relay}
+use Rattle.dt_world_model.specs.Station.{Station, station_with}
+
+pub record StationValue (T : Type 0) : Type 0 where
+  pub rules : Params
+  -- every later moment is no less
+  pub latest : ℕ
+  -- an event found no memory: the station is used no more
+  pub spent : Bool
+  pub state : Station T
+
+-- All that it keeps of the past is by the greatest moment that it was given.
+pub record IsStation {T : Type 0} (latest : ℕ) (host : HostValue) (relay : Relay T) : Type 0 where
+  pub host_past : host.latest ≤ latest
+  pub relay_past : All (IsOutUpTo latest) relay.outs
+
+-- the host of a node that starts for the first time, or again at a moment
+abbrev pub host_started : Params → ℕ → Option ℕ → Host
+host_started p me None = first_host me
+host_started p me (Some now) = restarted_host p me now
+
+abbrev pub station_started : {T : Type 0} → Params → ℕ → Option ℕ → List OutLink → List InLink → List Route → StationValue T
+station_started p me again outs ins routes =
+    record { rules = p; latest = unwrap_or again 0; spent = false; state = station_with (host_started p me again) (new_relay outs ins routes) }
+
+-- An event that found no memory leaves a spent station.
+abbrev pub is_spent_by : {A E : Type 0} → Result A E → Bool
+is_spent_by (Ok done) = false
+is_spent_by (Err fault) = true

@@ -1,0 +1,22 @@
+//! One station: a host and a relay, and what they do in one event.
+#![tactic(auto)]
+
+mod arriving;
+mod events;
+mod flushing;
+mod happening;
+mod laws;
+mod passing;
+mod stations;
+mod telling;
+mod turning;
+mod visitor;
+
+pub use dt_relay::{InLink, OutLink, Route};
+pub use events::StationEvent;
+pub use laws::octets_that_do_not_read_change_nothing;
+pub use stations::Station;
+pub use visitor::Visitor;
+
+#[cfg(test)]
+mod tests;

@@ -1,0 +1,176 @@
+ghost use Rattle.std.specs.Prelude.{◌≡◌, ◌≤◌, IfOk, OnOk, false, length, unwrap_or};
+ghost use Rattle.std.specs.Option.{ForSome};
+ghost use Rattle.dt_flow_model.specs.Keeping.{most_moment};
+ghost use Rattle.dt_relay.specs.Carrying.{parcel_seen};
+ghost use Rattle.dt_world_model.specs.Host.{IsCurrentHost};
+ghost use Rattle.dt_world_model.specs.Script.{Concludes};
+ghost use Rattle.dt_world_model.specs.Relay.{with_outs};
+ghost use Rattle.dt_world_model.specs.Station.{station_event, station_wake};
+ghost use Rattle.dt_station.specs.Events.{MayHappen, event_seen};
+ghost use Rattle.dt_station.specs.Stations.{host_started, is_spent_by, station_started};
+
+use crate::events::StationEvent;
+use crate::happening::event_on;
+use crate::visitor::Visitor;
+use dt_host::Host;
+use dt_items::NoMemory;
+use dt_layout::Frame;
+use dt_relay::{Carry, InLink, OutLink, Relay, Route, earlier};
+use dt_units::{NodeId, Rules};
+use std::alloc::Global;
+use std::marker::{Brand, Model};
+use std::sync::ledger::Blank;
+
+/// A node's host and its relay: what they do in one event.
+///
+/// Moments are readings of the station's clock in milliseconds, at most 2^62. Each moment that it is
+/// given is at least that of the one before.
+#[derive(Drop)]
+pub struct Station<P: Carry> {
+    host: Host,
+    relay: Relay<P>,
+    /// In which the host makes its packets.
+    frame: Frame,
+    /// The greatest moment that it was given.
+    latest: u64,
+    /// An event found no memory.
+    spent: bool,
+}
+
+impl<P: Carry> Model for Station<P> {
+    ghost use Rattle.dt_world_model.specs.Station.{station_with};
+    ghost use Rattle.dt_station.specs.Stations.{IsStation, StationValue};
+
+    ghost Value = { StationValue P.Tag };
+
+    ghost view = { λ s. record { rules = s.host.rules; latest = s.latest; spent = s.spent; state = station_with s.host.state s.relay } };
+
+    ghost invariant = { λ s. IsStation s.latest s.host s.relay };
+}
+
+impl<P: Carry> Station<P> {
+    /// The station of a node that starts for the first time, or again at the moment `again`: its host
+    /// is that of [`Host::first`] or [`Host::restarted`], and its relay that of [`Relay::new`], over
+    /// these links and routes. It takes the room for what may wait at once; `NoMemory` where there is
+    /// none.
+    pub fn new(
+        alloc: Global,
+        rules: &Rules,
+        me: NodeId,
+        again: Option<u64>,
+        outs: &[OutLink],
+        ins: &[InLink],
+        routes: &[Route],
+    ) -> Result<Station<P>, NoMemory>
+        requires moment { ForSome again (λ now. now ≤ most_moment) }
+        ensures { IfOk result (λ station. station ≡ station_started rules.now me.0 again outs.now ins.now routes.now) }
+    {
+        let host = start_host(alloc, rules, me, again)?;
+        let relay = Relay::new(alloc, outs, ins, routes)?;
+        Ok(Station {
+            host,
+            relay,
+            frame: Frame::new(),
+            latest: again.unwrap_or(0),
+            spent: false,
+        })
+    }
+
+    /// Settles, does the event at `now`, and settles again.
+    ///
+    /// 1. To flush a link is to let packets leave it until none does. Each is told, and handed to the
+    ///    visitor behind its report; one that has expired is told.
+    /// 2. To settle is to flush each out link, in their order, and then to do the acts of the host until
+    ///    none is due. Each act is told; then the frame that it made, if it made one, is tagged by the
+    ///    visitor, enters the relay, and its link is flushed. One that doesn't enter is told.
+    /// 3. Octets to send are given to the host, and it is told whether it took them.
+    /// 4. Octets that are read are told, with at most as many as `buf` holds. Only a read needs room
+    ///    there, and only a read writes to it.
+    /// 5. A packet that comes pays the charge of its link first; where it can't, that is told.
+    /// 6. One that isn't for this node enters the relay, and its link is flushed. It keeps its tag.
+    /// 7. One for this node is read and given to the host; the answer is told, and a reply goes as the
+    ///    frame of an act does. Octets that don't read are told, and change nothing.
+    ///
+    /// What the visitor is told, asked and handed, and the station after it, is in this order that of
+    /// the definition `station_event`. After `NoMemory` it was told, asked and handed a first part of
+    /// that, and the station is spent: [`Station::is_spent`].
+    ///
+    /// Its cost is that of a look at every record of the host for each act, and of the packets that
+    /// move.
+    pub fn event<V: Visitor<P>>(
+        &mut self,
+        now: u64,
+        event: StationEvent<'_, P>,
+        buf: &mut [u8],
+        visitor: &mut V,
+    ) -> Result<(), NoMemory>
+        requires unspent { self.old.spent ≡ false }
+        requires event { MayHappen P.octets self.old.rules now self.old.state (length buf.old) event }
+        requires past { self.old.latest ≤ now }
+        requires moment { now ≤ most_moment }
+        ensures script { let happens = event_seen (parcel_seen P.octets P.label) (length buf.old) event.entry in
+            Concludes V.tells V.tags V.hands V.fails result (station_event self.old.rules now happens self.old.state) visitor.old visitor.new self.new.state }
+        ensures current { OnOk result (IsCurrentHost self.new.rules now self.new.state.host) }
+        ensures spent { self.new.spent ≡ is_spent_by result }
+        // What never changes, after any answer.
+        ensures rules { self.new.rules ≡ self.old.rules }
+        ensures me { self.new.state.host.me ≡ self.old.state.host.me }
+        ensures links { self.new.state.relay ≡ with_outs self.old.state.relay self.new.state.relay.outs }
+        // What it keeps is past.
+        ensures latest { self.new.latest ≡ now }
+    {
+        self.latest = now;
+        let done = event_on::<P, V, Brand>(
+            &mut self.host,
+            &mut self.relay,
+            &mut self.frame,
+            now,
+            event,
+            buf,
+            Blank::new(1),
+            visitor,
+        );
+        self.spent = done.is_err();
+        done
+    }
+
+    /// The least moment at which an act of the host is due or a packet may leave, or none where there
+    /// is no such moment. A tick before it tells nothing, hands out nothing and changes no record and no
+    /// queue. It goes over all records and all out links, and takes no memory.
+    pub fn wake(&self) -> Option<u64>
+        ensures { result ≡ station_wake self.now.rules self.now.state }
+    {
+        earlier(self.host.wake(), self.relay.wake())
+    }
+
+    /// The station's host.
+    pub fn host(&self) -> &Host
+        ensures rules { result.now.rules ≡ self.now.rules }
+        ensures state { result.now.state ≡ self.now.state.host }
+    {
+        &self.host
+    }
+
+    /// Whether an event found no memory. Then the station is used no more.
+    pub fn is_spent(&self) -> bool
+        ensures { result ≡ self.now.spent }
+    {
+        self.spent
+    }
+}
+
+/// The host of a node that starts for the first time, or again.
+fn start_host(
+    alloc: Global,
+    rules: &Rules,
+    me: NodeId,
+    again: Option<u64>,
+) -> Result<Host, NoMemory>
+    requires moment { ForSome again (λ now. now ≤ most_moment) }
+    ensures { IfOk result (λ host. host ≡ record { rules = rules.now; latest = unwrap_or again 0; state = host_started rules.now me.0 again }) }
+{
+    match again {
+        None => Host::first(alloc, rules, me),
+        Some(now) => Host::restarted(alloc, rules, me, now),
+    }
+}
