@@ -1,0 +1,180 @@
+ghost use Rattle.std.specs.Prelude.{◌≡◌, ◌+◌, ◌^◌, ◌<◌, ◌≤◌, ◌↔◌, [], ◌++◌, false, length, IfSome, IsNone, OnErr, OnOk, slice_get, Some};
+ghost use Rattle.dt_items.specs.Unread.{marked};
+ghost use Rattle.dt_flow_model.specs.Keeping.{most_moment};
+ghost use Rattle.dt_flow_model.specs.Ledger.{HasNoEntry, first_unsent, given_rows, note_first, note_read, settle, take_rows, top};
+ghost use Rattle.dt_world_model.specs.Ledgers.{totals_of};
+ghost use Rattle.dt_ledger.specs.Reads.{read_of_all};
+ghost use Rattle.dt_ledger.specs.Rows.{settle_at};
+
+use crate::gives::{Give, GivenRows};
+use crate::read_counts::ReadCounts;
+use crate::taken_rows::TakenRows;
+use dt_flow_model::{Fate, Taken};
+use dt_items::NoMemory;
+use dt_reports::Totals;
+use std::alloc::Global;
+use std::marker::Model;
+
+/// The ledger of one flow: a row for each octet that it took, a row for each octet that was given to
+/// its receiver, and how many octets were read. The place of an octet is its row's position among all
+/// that were taken, from 0 on, over all lives of the sending station.
+///
+/// Moments are milliseconds of the world, at most 2^62. A taken octet takes 16 octets of memory, and a
+/// given one takes 1 octet, beside 32 for each call that gives. Calls that need memory and find none
+/// answer `NoMemory` and leave the ledger as it was; all others take none.
+#[derive(Drop)]
+pub struct FlowRows {
+    taken: TakenRows,
+    given: GivenRows,
+    reads: ReadCounts,
+}
+
+impl Model for FlowRows {
+    ghost use Rattle.dt_world_model.specs.Ledgers.{FlowLedger};
+
+    ghost Value = { FlowLedger };
+
+    ghost view = { λ f. record { taken = f.taken; given = f.given; reads = f.reads } };
+}
+
+impl FlowRows {
+    /// A ledger of nothing. What later calls take is taken of `alloc`.
+    pub fn new(alloc: Global) -> FlowRows
+        ensures { result ≡ record { taken = []; given = []; reads = [] } }
+    {
+        FlowRows {
+            taken: TakenRows::new(alloc),
+            given: GivenRows::new(alloc),
+            reads: ReadCounts::new(alloc),
+        }
+    }
+
+    /// Octets are taken in a life of the sending station: a row each, behind all others, with no fate
+    /// and no first moment. The first begins a message and the last ends one, where that is asked for.
+    /// `NoMemory` leaves the ledger as it was. The cost is that of the octets.
+    pub fn take(&mut self, life: u32, octets: &[u8], begin: bool, end: bool) -> Result<(), NoMemory>
+        ensures ok { OnOk result (self.new ≡ record self.old { taken = take_rows life (marked octets.now begin end false) self.old.taken }) }
+        ensures err { OnErr result (self.new ≡ self.old) }
+    {
+        self.taken.take(life, octets, begin, end)
+    }
+
+    /// So many taken rows from a place on, which are there, get their first moment. The cost is that of
+    /// the rows.
+    pub fn note_first(&mut self, place: u64, count: u32, at: u64)
+        requires there { place + count ≤ length self.old.taken }
+        requires moment { at ≤ most_moment }
+        ensures { self.new ≡ record self.old { taken = note_first at place count self.old.taken } }
+    {
+        self.taken.note_first(place, count, at);
+    }
+
+    /// So many taken rows from a place on, which are there, get the fate. The cost is that of the rows.
+    pub fn settle(&mut self, place: u64, count: u32, fate: Fate)
+        requires there { place + count ≤ length self.old.taken }
+        ensures { self.new ≡ record self.old { taken = settle_at fate place count self.old.taken } }
+    {
+        self.taken.settle(place, count, fate);
+    }
+
+    /// The leftmost taken rows without a fate that are of a life, so many, get the fate; all of them do
+    /// where there are fewer. No row is looked at twice as long as each call is for the latest life in
+    /// which octets were taken and no row gets the fate Open. A call for another life begins at place 0,
+    /// and so does the next one for the latest.
+    pub fn settle_open(&mut self, life: u32, count: u32, fate: Fate)
+        ensures { self.new ≡ record self.old { taken = settle life fate count self.old.taken } }
+    {
+        self.taken.settle_open(life, count, fate);
+    }
+
+    /// So many taken rows get their first moment, from the leftmost one on that is of a life and has
+    /// neither a fate nor a first moment; fewer do where the rows end before. The answer is the place of
+    /// that one, or the number of taken rows where there is none. The cost is as [`FlowRows::settle_open`]
+    /// says, and that of the rows.
+    pub fn note_next(&mut self, life: u32, count: u32, at: u64) -> u64
+        requires moment { at ≤ most_moment }
+        ensures place { result ≡ first_unsent life self.old.taken }
+        ensures noted { self.new ≡ record self.old { taken = note_first at (first_unsent life self.old.taken) count self.old.taken } }
+    {
+        self.taken.note_next(life, count, at)
+    }
+
+    /// Octets are given to the receiver at `at`, in a life of its station: a row each, behind all
+    /// others, with the places from `place` on. The first begins a message and the last ends one, and
+    /// the first has a run mark, where that is asked for. `NoMemory` leaves the ledger as it was. The cost
+    /// is that of the octets.
+    pub fn give(
+        &mut self,
+        place: u64,
+        octets: &[u8],
+        begin: bool,
+        end: bool,
+        run: bool,
+        life: u32,
+        at: u64,
+    ) -> Result<(), NoMemory>
+        requires below { place + length octets.now < 2 ^ 62 }
+        ensures ok { OnOk result (self.new ≡ record self.old { given = self.old.given ++ given_rows life at run place (marked octets.now begin end false) }) }
+        ensures err { OnErr result (self.new ≡ self.old) }
+    {
+        let give = Give {
+            place,
+            at,
+            count: octets.len() as u64,
+            life,
+            run,
+            begin,
+            end,
+        };
+        self.given.give(&give, octets)
+    }
+
+    /// So many octets more were read in a life of the receiving station. `NoMemory` comes only at the
+    /// first read of a life, and leaves the ledger as it was.
+    pub fn note_read(&mut self, life: u32, count: u32) -> Result<(), NoMemory>
+        requires { read_of_all self.old.reads + count < 2 ^ 62 }
+        ensures ok { OnOk result (self.new ≡ record self.old { reads = note_read life count self.old.reads }) }
+        ensures err { OnErr result (self.new ≡ self.old) }
+        ensures memory { OnErr result (HasNoEntry life self.old.reads) }
+    {
+        self.reads.note(life, count)
+    }
+
+    /// How many octets were taken over all lives, and what became of them. The cost is constant.
+    pub fn totals(&self) -> Totals
+        ensures { result ≡ totals_of self.now }
+    {
+        let counts = self.taken.counts();
+        Totals {
+            taken: self.taken.count(),
+            acked: counts.acked,
+            uncertain: counts.uncertain,
+            unsettled: counts.unsettled,
+            given: self.given.count(),
+            read: self.reads.all(),
+        }
+    }
+
+    /// The number of taken rows.
+    pub fn taken_count(&self) -> u64
+        ensures { result ≡ length self.now.taken }
+    {
+        self.taken.count()
+    }
+
+    /// The taken row at a place. The cost is constant.
+    pub fn taken_at(&self, place: u64) -> Taken
+        requires { place < length self.now.taken }
+        ensures { slice_get self.now.taken place ≡ Some result }
+    {
+        self.taken.at(place)
+    }
+
+    /// The place of the last given row. None comes exactly where there is no given row.
+    pub fn last_given(&self) -> Option<u64>
+        ensures none { IsNone result ↔ (self.now.given ≡ []) }
+        ensures last { IfSome result (λ place. place + 1 ≡ top self.now.given) }
+    {
+        self.given.last_place()
+    }
+}

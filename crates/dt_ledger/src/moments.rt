@@ -1,0 +1,54 @@
+ghost use Rattle.std.specs.Prelude.{◌≡◌, ◌≤◌, None, Some, is_some};
+ghost use Rattle.dt_flow_model.specs.Keeping.{most_moment};
+
+use std::marker::Model;
+
+/// What stands where there is no moment. Moments are at most 2^62.
+const NO_MOMENT: u64 = u64::MAX;
+
+/// A moment in milliseconds, or none, in eight octets.
+#[derive(Drop)]
+pub struct Moment {
+    milliseconds: u64,
+}
+
+impl Model for Moment {
+    ghost use Rattle.std.specs.Prelude.{ℕ, Option};
+    ghost use Rattle.dt_ledger.specs.Moments.{moment_in};
+
+    ghost Value = { Option ℕ };
+
+    ghost view = { λ m. moment_in m.milliseconds };
+}
+
+impl Moment {
+    /// No moment.
+    pub fn none() -> Moment
+        ensures { result ≡ None }
+    {
+        Moment {
+            milliseconds: NO_MOMENT,
+        }
+    }
+
+    /// This moment.
+    pub fn at(moment: u64) -> Moment
+        requires { moment ≤ most_moment }
+        ensures { result ≡ Some moment }
+    {
+        Moment {
+            milliseconds: moment,
+        }
+    }
+
+    /// The moment, or none.
+    pub fn get(&self) -> Option<u64>
+        ensures { result ≡ self.now }
+    {
+        if self.milliseconds == NO_MOMENT {
+            None
+        } else {
+            Some(self.milliseconds)
+        }
+    }
+}
