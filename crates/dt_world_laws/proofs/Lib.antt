@@ -4,6 +4,7 @@ pub mod Received
 pub mod Plays
 pub mod Flushing
 pub mod Views
+pub mod Visiting
 pub mod Frames
 pub mod Spelled
 pub mod Good
@@ -22,6 +23,8 @@ pub mod Alongside
 pub mod Bare
 pub mod Hosts
 pub mod Settles
+pub mod Sending
+pub mod Linking
 pub mod Wakes
 pub mod Meets
 pub mod Lifting

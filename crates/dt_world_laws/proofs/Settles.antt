@@ -16,13 +16,13 @@ no_offer p now host [] e = refl
 no_offer p now host (o ∷ os) e = absurd cc
 
 module _ {T : Type 0} where
-  answers_then : {A B : Type 0} (P : A → Type 0) (Q : B → Type 0) (s : Script T A) (k : A → Script T B) → Answers P s → ((a : A) → P a → Answers Q (k a)) → Answers Q (s >>= k)
+  pub answers_then : {A B : Type 0} (P : A → Type 0) (Q : B → Type 0) (s : Script T A) (k : A → Script T B) → Answers P s → ((a : A) → P a → Answers Q (k a)) → Answers Q (s >>= k)
   answers_then P Q (Done a) k h on = on a h
   answers_then P Q (Tell r s) k h on = answers_then P Q s k h on
   answers_then P Q (Ask host octets s) k h on = λ t. answers_then P Q (s t) k (h t) on
   answers_then P Q (Hand link parcel s) k h on = answers_then P Q s k h on
 
-  any_answer : {A : Type 0} (s : Script T A) → Answers (λ a. Unit {0}) s
+  pub any_answer : {A : Type 0} (s : Script T A) → Answers (λ a. Unit {0}) s
   any_answer (Done a) = tt
   any_answer (Tell r s) = any_answer s
   any_answer (Ask host octets s) = λ t. any_answer (s t)
@@ -36,7 +36,7 @@ module _ {T : Type 0} where
   answers_play handler P (Hand link parcel s) v h = answers_play handler P s (handler.hand link parcel v) h
 
   -- what goes off leaves the host as it is
-  off_same : (now : ℕ) (host : Host) (frame : Option (List ℕ)) (relay : Relay T) → Answers (λ (after : Station T). after.host ≡ host) (send_off now host frame relay)
+  pub off_same : (now : ℕ) (host : Host) (frame : Option (List ℕ)) (relay : Relay T) → Answers (λ (after : Station T). after.host ≡ host) (send_off now host frame relay)
   off_same now host None relay = refl
   off_same now host (Some octets) relay =
       λ t. answers_then (λ a. Unit {0}) (λ (after : Station T). after.host ≡ host) (pass_on (record { octets = octets; tag = t }) now relay) (λ after. Done (station_with host after)) (any_answer (pass_on (record { octets = octets; tag = t }) now relay)) (λ a h. refl)

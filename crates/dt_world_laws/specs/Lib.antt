@@ -2,3 +2,4 @@ pub mod Lift
 pub mod Follow
 pub mod Lives
 pub mod Schedule
+pub mod Visits

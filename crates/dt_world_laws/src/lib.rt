@@ -7,6 +7,7 @@ mod runs;
 mod schedule;
 mod settling;
 mod totals;
+mod visits;
 
 ghost use Rattle.std.specs.Prelude.{ℕ, ◌+◌, ◌≡◌, ◌<◌, ◌==◌, List, None, Some};
 ghost use Rattle.dt_reports.specs.Entries.{Entry};
@@ -37,9 +38,11 @@ pub use runs::{
 };
 pub use schedule::promise_of_a_whole_schedule;
 pub use settling::{
-    acts_come_to_an_end, settled_station_has_no_act_due, station_sleeps_until_its_wake,
+    acts_come_to_an_end, event_leaves_links_and_routes, settled_station_has_no_act_due,
+    settling_takes_no_octets, station_sleeps_until_its_wake,
 };
 pub use totals::{lives_are_counted_by_restarts, totals_add_up};
+pub use visits::visitor_ends_where_the_play_ends;
 
 /// Each step of the world that isn't refused keeps its facts; and for each flow it is a list of small
 /// steps of that flow, or nothing. So it leaves each fate that isn't open as it was.

@@ -1,12 +1,15 @@
 //! A station comes to an end with its acts, and then sleeps until its wake.
-ghost use Rattle.std.specs.Prelude.{ℕ, ◌≡◌, ◌<◌, ◌++◌, ◌∷◌, List, Some};
+ghost use Rattle.std.specs.Prelude.{ℕ, ◌+◌, ◌≡◌, ◌<◌, ◌++◌, ◌∷◌, List, Some};
 ghost use Rattle.dt_units.specs.declared.parameters.Params.{Params};
+ghost use Rattle.dt_units.specs.declared.endpoints.Flow.{Flow};
 ghost use Rattle.dt_units.specs.Limits.{IsWithinLimits};
+ghost use Rattle.dt_flow_model.specs.Acting.{record_for};
+ghost use Rattle.dt_flow_model.specs.Keeping.{taken_by};
 ghost use Rattle.dt_flow_model.specs.SendActs.{IsBefore, IsFirst};
-ghost use Rattle.dt_world_model.specs.Host.{Host, IsCurrentHost, IsHost, Turn, host_wake, next_turn, work};
-ghost use Rattle.dt_world_model.specs.Relay.{Left, Out, leave, out_wake, relay_wake};
+ghost use Rattle.dt_world_model.specs.Host.{Host, IsCurrentHost, IsHost, Turn, host_wake, next_turn, sender_at, work};
+ghost use Rattle.dt_world_model.specs.Relay.{Left, Out, emptied, leave, out_wake, relay_wake};
 ghost use Rattle.dt_world_model.specs.Script.{Answers, Done};
-ghost use Rattle.dt_world_model.specs.Station.{Station, Tick, settle_station, station_event, station_wake};
+ghost use Rattle.dt_world_model.specs.Station.{Event, Station, Tick, settle_station, station_event, station_wake};
 
 /// Each act of a host lowers the work that is left at its moment and keeps what a host keeps, so a host
 /// comes to an end with its acts.
@@ -30,4 +33,17 @@ pub fn station_sleeps_until_its_wake<T>()
     ensures host { (p : Params) (host : Host) → IsFirst Turn (λ now. next_turn p now host) (host_wake p host) }
     ensures link { (out : Out T) → IsFirst (Left T) (λ now. (leave now out).0) (out_wake out out.waits) }
     ensures relay { (outs : List (Out T)) (moment : ℕ) → relay_wake outs ≡ Some moment → (before after : List (Out T)) × (out : Out T) × (left : Left T) × (outs ≡ before ++ out ∷ after) × ((leave moment out).0 ≡ Some left) }
+{}
+
+/// Settling takes no octets: those that a flow's send record has taken end where they ended, or the
+/// record is gone, whatever tags were answered. So who bounds their count, with more to
+/// come, before a station settles bounds it after.
+pub fn settling_takes_no_octets<T>()
+    ensures { (p : Params) (now : ℕ) (station : Station T) (f : Flow) (more bound : ℕ) → IsWithinLimits p → IsHost p station.host → taken_by (record_for p now (sender_at station.host f)) + more < bound → Answers (λ (after : Station T). taken_by (record_for p now (sender_at after.host f)) + more < bound) (settle_station p now station) }
+{}
+
+/// An event leaves a relay's links with their paces and charges, and its routes: the station that starts
+/// again has the relay of its first start, whatever tags were answered.
+pub fn event_leaves_links_and_routes<T>()
+    ensures { (p : Params) (now : ℕ) (event : Event T) (station : Station T) → Answers (λ (after : Station T). emptied after.relay ≡ emptied station.relay) (station_event p now event station) }
 {}

@@ -1,0 +1,12 @@
+pub mod Beginning
+pub mod Arriving
+pub mod Happening
+pub mod LedgerCalls
+pub mod Possible
+pub mod Restarting
+pub mod RunTables
+pub mod SetupTables
+pub mod Slots
+pub mod StationTables
+pub mod Stepping
+pub mod Telling

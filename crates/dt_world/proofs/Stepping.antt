@@ -1,0 +1,68 @@
+-- A step of a whole world: it is the definition's, and the world is whole again.
+use Rattle.std.proofs.Common.{ℕ, ◌≤◌, ◌≡◌, ◌++◌, length, take, drop, Bool, false, true, List, Option, None, Some, refl, sym, ap, subst, ◌∙◌, arith}
+use Rattle.std.proofs.lemmas.Grind.{common_steps}
+use Rattle.dt_reports.specs.Entries.{Entry}
+use Rattle.dt_reports.specs.declared.faults.StepFault.{StepFault}
+use Rattle.dt_units.specs.declared.parameters.Params.{Params}
+use Rattle.dt_units.specs.Limits.{IsWithinLimits}
+use Rattle.dt_world_model.specs.Tables.{AllEntries}
+use Rattle.dt_world_model.specs.World.{World, view}
+use Rattle.dt_world_model.specs.WorldFacts.{CanHappen}
+use Rattle.dt_world_model.specs.WorldStep.{Refused, Stepped, WorldEvent, after_event, first_refusal, refusals, step_unless, world_step}
+use Rattle.dt_world_laws.proofs.Lifting.{lifted_fates}
+use Rattle.dt_world_laws.proofs.Promise.{facts_are_safe}
+use Rattle.dt_world_laws.proofs.Worlds.{GoesTo, effect_keeps}
+use Rattle.dt_world.specs.declared.parts.Parts.{Parts}
+use Rattle.dt_world.specs.Outcomes.{HasHappened, HasStopped, IsDone, IsSpent}
+use Rattle.dt_world.specs.Setups.{AreNumbered}
+use Rattle.dt_world.specs.Steps.{most_now}
+use Rattle.dt_world.specs.Worlds.{IsStationOf, IsWhole, WorldValue, most_read, world_seen}
+
+abbrev pub unspent : World → WorldValue
+unspent w = record { state = w; spent = false }
+
+module _ (parts : Parts) (whole : IsWhole parts) (e : WorldEvent) (can : CanHappen e) (begun : first_refusal (refusals (world_seen parts) e) ≡ None) (after : Parts) where
+  abbrev w : World
+  w = world_seen parts
+
+  goes : world_seen after ≡ (after_event w e).1 → GoesTo w (world_seen after)
+  goes is = subst (λ (v : World). GoesTo w v) (sym is) (effect_keeps w whole.limits whole.facts e can begun)
+
+  pub whole_after : {L : Type 0} (tells : L → Entry → L → Type 0) (u v : L) → HasHappened tells (after_event w e) u v (world_seen after) → after.rules ≡ parts.rules → after.links ≡ parts.links → after.now ≤ most_now → AllEntries (IsStationOf after.rules after.now) after.stations.entries → IsWhole after
+  whole_after tells u v h rules links moment stations =
+      record {
+        limits = subst (λ (p : Params). IsWithinLimits p) (sym rules) whole.limits;
+        moment = moment;
+        numbers = subst (λ entries. AreNumbered entries) (sym (ap (λ m. m.entries) links)) whole.numbers;
+        stations = stations;
+        facts = (goes h.world_is).0;
+      }
+
+  pub is_done : {L : Type 0} (tells : L → Entry → L → Type 0) (u v : L) → HasHappened tells (after_event w e) u v (world_seen after) → IsDone tells (unspent w) e u v (unspent (world_seen after))
+  is_done tells u v h =
+      let k = goes h.world_is in
+      record {
+        told = (after_event w e).0;
+        step = ap (λ (o : Option StepFault). step_unless o (after_event w e)) begun ∙ ap (λ (x : World). Stepped (after_event w e).0 x) (sym h.world_is);
+        lines = h.lines;
+        unspent = refl;
+        safe = λ f. facts_are_safe (world_seen after) f k.0;
+        fates = λ f. lifted_fates w.params (view w f) (view (world_seen after) f) (k.1 f);
+      }
+
+  pub is_spent : {L : Type 0} (tells : L → Entry → L → Type 0) (u v : L) → HasStopped tells w (after_event w e) u v (world_seen after) → IsSpent tells (unspent w) e u v (record { state = world_seen after; spent = true })
+  is_spent tells u v h = record { begun = begun; part = h.part; rest = h.rest; told = h.told; lines = h.lines; spent = refl; safe = h.safe }
+
+-- a refused event, by its fault
+pub refused_by : (w : World) (e : WorldEvent) (fault : StepFault) → first_refusal (refusals w e) ≡ Some fault → world_step w e ≡ Refused fault
+refused_by w e fault h = ap (λ (o : Option StepFault). step_unless o (after_event w e)) h
+
+-- a step's answer, said of the world's value
+pub done_in : {L : Type 0} (tells : L → Entry → L → Type 0) (begun after : World) (e : WorldEvent) (u v : L) (before : WorldValue) (spent : Bool) → spent ≡ false → (let x : WorldValue = record { state = begun; spent = spent } in x) ≡ before → IsDone tells (unspent begun) e u v (unspent after) → IsDone tells before e u v (record { state = after; spent = spent })
+done_in tells begun after e u v before spent unspent_is is d =
+    subst (λ (x : WorldValue). IsDone tells x e u v (record { state = after; spent = spent })) is
+    (subst (λ (b : Bool). IsDone tells (record { state = begun; spent = b }) e u v (record { state = after; spent = b })) (sym unspent_is) d)
+
+-- the buffer keeps its length
+pub buf_kept : (new items : List ℕ) (len : ℕ) → len ≡ most_read → length new ≡ most_read → length items ≡ most_read → length (take len (new ++ drop (length new) items)) ≡ most_read
+buf_kept new items len a b c = grind (arith, common_steps)

@@ -1,0 +1,10 @@
+use Rattle.std.proofs.Common.{ap, subst, ◌∙◌}
+use Rattle.dt_world_model.specs.WorldFacts.{SafeWorld}
+use Rattle.dt_world_laws.proofs.Promise.{facts_are_safe}
+use Rattle.dt_world.specs.Worlds.{WorldValue, world_seen}
+use Rattle.dt_world.proofs.worlds.World.ledger.Goals as goal
+
+pub returns-clause-safe : goal.returns-clause-safe
+returns-clause-safe c = λ unspent.
+    let whole = c.self.invariant.1 (ap (λ (x : WorldValue). x.spent) c.self.view_is ∙ unspent) in
+    subst (λ (x : WorldValue). SafeWorld x.state) c.self.view_is (λ f. facts_are_safe (world_seen c.self.inside.parts) f whole.facts)

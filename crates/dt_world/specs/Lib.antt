@@ -1,0 +1,12 @@
+pub mod Copies
+pub mod Effects
+pub mod Marked
+pub mod Notes
+pub mod Occasions
+pub mod Outcomes
+pub mod Runs
+pub mod Setups
+pub mod Starts
+pub mod Steps
+pub mod Tellers
+pub mod Worlds

@@ -1,0 +1,67 @@
+-- What happens to a world and what a step answers: what is told, and what is left.
+use Rattle.std.specs.Prelude.{◌≡◌, ◌++◌, true, false, List, None, Result, Ok, Err}
+use Rattle.dt_units.specs.declared.endpoints.Flow.{Flow}
+use Rattle.dt_reports.specs.Entries.{Entry}
+use Rattle.dt_reports.specs.declared.faults.StepFault.{StepFault}
+use Rattle.dt_reports.specs.declared.faults.StepFault.TheVariants as fault
+use Rattle.dt_flow_model.specs.Facts.{KeepsFates}
+use Rattle.dt_world_model.specs.World.{World, view}
+use Rattle.dt_world_model.specs.WorldFacts.{SafeLedgers, SafeWorld}
+use Rattle.dt_world_model.specs.WorldStep.{Refused, Stepped, WorldEvent, after_event, first_refusal, refusals, world_step}
+use Rattle.dt_world.specs.Tellers.{TellsAll}
+use Rattle.dt_world.specs.Worlds.{WorldValue}
+
+module _ {L : Type 0} (tells : L → Entry → L → Type 0) where
+  -- WHAT HAPPENS: all lines are told and the world is the one after; or, for want of memory, first lines are told, and the ledgers are safe.
+  pub record HasHappened (r : List Entry × World) (before after : L) (world : World) : Type 0 where
+    pub lines : TellsAll tells r.0 before after
+    pub world_is : world ≡ r.1
+
+  pub record HasStopped (w : World) (r : List Entry × World) (before after : L) (world : World) : Type 0 where
+    pub part : List Entry
+    pub rest : List Entry
+    pub told : part ++ rest ≡ r.0
+    pub lines : TellsAll tells part before after
+    pub safe : SafeLedgers w world.ledgers
+
+  abbrev pub Happens : {U E : Type 0} → Result U E → World → List Entry × World → L → L → World → Type 0
+  Happens (Ok done) w r before after world = HasHappened r before after world
+  Happens (Err e) w r before after world = HasStopped w r before after world
+
+  -- A STEP IS DONE: it told the definition's lines, gave its world, changed no fate that isn't open, and each flow is safe.
+  pub record IsDone (w : WorldValue) (e : WorldEvent) (before after : L) (new : WorldValue) : Type 0 where
+    pub told : List Entry
+    pub step : world_step w.state e ≡ Stepped told new.state
+    pub lines : TellsAll tells told before after
+    pub unspent : new.spent ≡ false
+    pub safe : SafeWorld new.state
+    pub fates : (f : Flow) → KeepsFates (view w.state f).taken (view new.state f).taken
+
+  -- It is refused as the definition refuses it, and changes nothing.
+  pub record IsRefused (w : WorldValue) (e : WorldEvent) (fault : StepFault) (before after : L) (new : WorldValue) : Type 0 where
+    pub step : world_step w.state e ≡ Refused fault
+    pub same : new ≡ w
+    pub lines : after ≡ before
+
+  -- It found no memory: it wasn't to be refused, told first lines of the definition's, and the world is spent, with safe ledgers.
+  pub record IsSpent (w : WorldValue) (e : WorldEvent) (before after : L) (new : WorldValue) : Type 0 where
+    pub begun : first_refusal (refusals w.state e) ≡ None
+    pub part : List Entry
+    pub rest : List Entry
+    pub told : part ++ rest ≡ (after_event w.state e).0
+    pub lines : TellsAll tells part before after
+    pub spent : new.spent ≡ true
+    pub safe : SafeLedgers w.state new.state.ledgers
+
+  abbrev pub FailsWith : StepFault → WorldValue → WorldEvent → L → L → WorldValue → Type 0
+  FailsWith fault.BadFlow w e before after new = IsRefused w e fault.BadFlow before after new
+  FailsWith (fault.NoStation n) w e before after new = IsRefused w e (fault.NoStation n) before after new
+  FailsWith (fault.NoCopy n) w e before after new = IsRefused w e (fault.NoCopy n) before after new
+  FailsWith (fault.Lost n) w e before after new = IsRefused w e (fault.Lost n) before after new
+  FailsWith (fault.TooLate held charge) w e before after new = IsRefused w e (fault.TooLate held charge) before after new
+  FailsWith fault.NoMemory w e before after new = IsSpent w e before after new
+
+  -- the answer of a step
+  abbrev pub Answers : {U : Type 0} → Result U StepFault → WorldValue → WorldEvent → L → L → WorldValue → Type 0
+  Answers (Ok done) w e before after new = IsDone w e before after new
+  Answers (Err fault) w e before after new = FailsWith fault w e before after new

@@ -1,0 +1,268 @@
+//! What happens to the parts of a world in an event that isn't refused.
+ghost use Rattle.std.specs.Prelude.{◌≡◌, ◌≢◌, ◌+◌, ◌<◌, ◌≤◌, OnErr, OnOk, [], length, None};
+ghost use Rattle.dt_units.specs.Flows.{IsFlow};
+ghost use Rattle.dt_layout.specs.Carried.{IsGram};
+ghost use Rattle.dt_layout.specs.Reading.{gram_in};
+ghost use Rattle.dt_layout.specs.Spelling.{Carries};
+ghost use Rattle.dt_flow_model.specs.Frames.{value_in};
+ghost use Rattle.dt_flow_model.specs.Keeping.{octets_below};
+ghost use Rattle.dt_world_model.specs.Ledgers.{ledger_of};
+ghost use Rattle.dt_world_model.specs.Station.{Read, Send, Tick};
+ghost use Rattle.dt_world_model.specs.Tables.{AllEntries};
+ghost use Rattle.dt_world_model.specs.WorldStep.{Arrives, Loses, Restarts, after_event, at_station, first_refusal, loss, refusals};
+ghost use Rattle.dt_world.specs.Outcomes.{Happens, HasHappened};
+ghost use Rattle.dt_world.specs.Steps.{BringsPacket, most_now};
+ghost use Rattle.dt_world.specs.Worlds.{IsStationOf, IsWhole, world_seen};
+
+use crate::marked::{Mark, MarkedFrame};
+use crate::parts::{Parts, event_at};
+use crate::placed::{Brought, start_again};
+use crate::refusals::link_of;
+use crate::tellers::Lines;
+use dt_items::NoMemory;
+use dt_layout::{Frame, Packet, read_deltagram, read_packet};
+use dt_relay::Carry;
+use dt_reports::{LogLine, Report};
+use dt_station::StationEvent;
+use dt_units::Flow;
+
+/// Octets are sent at the station where their flow begins.
+pub fn send<L: Lines>(
+    parts: &mut Parts,
+    flow: Flow,
+    octets: &[u8],
+    begin: bool,
+    end: bool,
+    buf: &mut [u8],
+    lines: &mut L,
+) -> Result<(), NoMemory>
+    requires whole { IsWhole parts.old }
+    requires apart { flow.from.0 ≢ flow.to.0 }
+    requires some { 1 ≤ length octets.now }
+    requires counted { length (ledger_of (world_seen parts.old).ledgers flow).taken + length octets.now < octets_below }
+    ensures happens { let w = world_seen parts.old in
+        Happens L.tells result w (at_station w flow.from.0 (Send flow octets.now begin end)) lines.old lines.new (world_seen parts.new) }
+    ensures stations { OnOk result (AllEntries (IsStationOf parts.old.rules parts.old.now) parts.new.stations.entries) }
+    ensures rules { parts.new.rules ≡ parts.old.rules }
+    ensures now { parts.new.now ≡ parts.old.now }
+    ensures links { parts.new.links ≡ parts.old.links }
+{
+    let event = StationEvent::Send {
+        flow,
+        octets,
+        begin,
+        end,
+    };
+    let brought = Brought {
+        octets,
+        begin,
+        end,
+        place: 0,
+    };
+    event_at(parts, flow.from.0, event, brought, buf, lines)
+}
+
+/// Unread octets are read at the station where their flow ends, at most as many as the buffer holds.
+pub fn read<L: Lines>(
+    parts: &mut Parts,
+    flow: Flow,
+    buf: &mut [u8],
+    lines: &mut L,
+) -> Result<(), NoMemory>
+    requires whole { IsWhole parts.old }
+    requires some { 0 < length buf.old }
+    ensures happens { let w = world_seen parts.old in
+        Happens L.tells result w (at_station w flow.to.0 (Read flow (length buf.old))) lines.old lines.new (world_seen parts.new) }
+    ensures flow { IsFlow flow }
+    ensures stations { OnOk result (AllEntries (IsStationOf parts.old.rules parts.old.now) parts.new.stations.entries) }
+    ensures rules { parts.new.rules ≡ parts.old.rules }
+    ensures now { parts.new.now ≡ parts.old.now }
+    ensures links { parts.new.links ≡ parts.old.links }
+{
+    let brought = Brought {
+        octets: &[],
+        begin: false,
+        end: false,
+        place: 0,
+    };
+    event_at(
+        parts,
+        flow.to.0,
+        StationEvent::Read { flow },
+        brought,
+        buf,
+        lines,
+    )
+}
+
+/// The station does what is due.
+pub fn tick<L: Lines>(
+    parts: &mut Parts,
+    node: u32,
+    buf: &mut [u8],
+    lines: &mut L,
+) -> Result<(), NoMemory>
+    requires whole { IsWhole parts.old }
+    ensures happens { let w = world_seen parts.old in
+        Happens L.tells result w (at_station w node Tick) lines.old lines.new (world_seen parts.new) }
+    ensures stations { OnOk result (AllEntries (IsStationOf parts.old.rules parts.old.now) parts.new.stations.entries) }
+    ensures rules { parts.new.rules ≡ parts.old.rules }
+    ensures now { parts.new.now ≡ parts.old.now }
+    ensures links { parts.new.links ≡ parts.old.links }
+{
+    let brought = Brought {
+        octets: &[],
+        begin: false,
+        end: false,
+        place: 0,
+    };
+    event_at(parts, node, StationEvent::Tick, brought, buf, lines)
+}
+
+/// A copy comes to the station at its link's end.
+pub fn arrive<L: Lines>(
+    parts: &mut Parts,
+    copy: u32,
+    buf: &mut [u8],
+    frame: &mut Frame,
+    lines: &mut L,
+) -> Result<(), NoMemory>
+    requires whole { IsWhole parts.old }
+    requires begun { first_refusal (refusals (world_seen parts.old) (Arrives copy)) ≡ None }
+    ensures happens { let w = world_seen parts.old in
+        Happens L.tells result w (after_event w (Arrives copy)) lines.old lines.new (world_seen parts.new) }
+    ensures stations { OnOk result (AllEntries (IsStationOf parts.old.rules parts.old.now) parts.new.stations.entries) }
+    ensures rules { parts.new.rules ≡ parts.old.rules }
+    ensures now { parts.new.now ≡ parts.old.now }
+    ensures links { parts.new.links ≡ parts.old.links }
+{
+    let seen = match parts.notes.copies.get(u64::from(copy)) {
+        Some(seen) => seen,
+        None => unreachable!(),
+    };
+    if !frame.refill(seen.octets) {
+        unreachable!();
+    }
+    let link = seen.link;
+    let place = seen.place;
+    let mark = Mark::new(seen.birth, place);
+    let to = link_of(parts, link).to;
+    let packet = MarkedFrame::make(frame, mark);
+    let brought = brought_by(frame, place);
+    event_at(
+        parts,
+        to,
+        StationEvent::Arrive { link, packet },
+        brought,
+        buf,
+        lines,
+    )
+}
+
+/// What a packet brings: the octets of a data packet.
+fn brought_by(frame: &Frame, place: u64) -> Brought<'_>
+    requires gram { IsGram frame.now }
+    requires carries { Carries (gram_in frame.now) (value_in frame.now) }
+    ensures { BringsPacket frame.now place result }
+{
+    let gram = match read_deltagram(frame.as_slice()) {
+        Ok(gram) => gram,
+        Err(_) => unreachable!(),
+    };
+    match read_packet(&gram) {
+        Ok(
+            Packet::Data {
+                octets,
+                begin,
+                end,
+                ..
+            },
+        ) => Brought {
+            octets,
+            begin,
+            end,
+            place,
+        },
+        Ok(Packet::Ack { .. }) => no_octets(place),
+        Ok(Packet::Meet { .. }) => no_octets(place),
+        Ok(Packet::Close { .. }) => no_octets(place),
+        Err(_) => unreachable!(),
+    }
+}
+
+/// A packet without octets.
+fn no_octets(place: u64) -> Brought<'static>
+    ensures octets { result.octets.now ≡ [] }
+    ensures place { result.place ≡ place }
+{
+    Brought {
+        octets: &[],
+        begin: false,
+        end: false,
+        place,
+    }
+}
+
+/// A copy is lost.
+pub fn lose<L: Lines>(parts: &mut Parts, copy: u32, lines: &mut L)
+    requires begun { first_refusal (refusals (world_seen parts.old) (Loses copy)) ≡ None }
+    ensures happens { let w = world_seen parts.old in
+        HasHappened L.tells (loss w copy) lines.old lines.new (world_seen parts.new) }
+    ensures stations { parts.new.stations ≡ parts.old.stations }
+    ensures rules { parts.new.rules ≡ parts.old.rules }
+    ensures now { parts.new.now ≡ parts.old.now }
+    ensures links { parts.new.links ≡ parts.old.links }
+{
+    parts.notes.copies.lose(u64::from(copy));
+    lines.line(&LogLine {
+        moment: parts.now,
+        node: None,
+        report: Report::Lost { copy },
+    });
+}
+
+/// The station starts again: its next life, with empty tables and an empty relay, and silent for a while.
+/// Copies on links stay. One that isn't there does nothing.
+pub fn restart<L: Lines>(parts: &mut Parts, node: u32, lines: &mut L) -> Result<(), NoMemory>
+    requires whole { IsWhole parts.old }
+    ensures happens { let w = world_seen parts.old in
+        Happens L.tells result w (after_event w (Restarts node)) lines.old lines.new (world_seen parts.new) }
+    ensures stations { OnOk result (AllEntries (IsStationOf parts.old.rules parts.old.now) parts.new.stations.entries) }
+    ensures rules { parts.new.rules ≡ parts.old.rules }
+    ensures now { parts.new.now ≡ parts.old.now }
+    ensures links { parts.new.links ≡ parts.old.links }
+{
+    let alloc = *parts.stations.allocator();
+    match parts.stations.get_mut(&node) {
+        None => Ok(()),
+        Some(placed) => match start_again(alloc, placed, &parts.rules, parts.now, node) {
+            Err(NoMemory) => Err(NoMemory),
+            Ok(()) => {
+                lines.line(&LogLine {
+                    moment: parts.now,
+                    node: Some(node),
+                    report: Report::Restarted { life: placed.life },
+                });
+                Ok(())
+            }
+        },
+    }
+}
+
+/// The greatest moment of a world.
+const MOST_NOW: u64 = 1 << 61;
+
+/// So many milliseconds pass. `NoMemory` comes where the moment would be above 2^61, and changes
+/// nothing.
+pub fn pass(parts: &mut Parts, by: u32) -> Result<(), NoMemory>
+    requires whole { IsWhole parts.old }
+    ensures passed { OnOk result (parts.new ≡ record parts.old { now = parts.old.now + by }) }
+    ensures moment { OnOk result (parts.new.now ≤ most_now) }
+    ensures same { OnErr result (parts.new ≡ parts.old) }
+{
+    if parts.now > MOST_NOW - u64::from(by) {
+        return Err(NoMemory);
+    }
+    parts.now += u64::from(by);
+    Ok(())
+}

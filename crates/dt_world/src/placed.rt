@@ -1,0 +1,190 @@
+//! The stations of the world, and an event at one.
+ghost use Rattle.std.specs.Prelude.{◌≡◌, ◌+◌, ◌≤◌, IfOk, OnOk, false, length};
+ghost use Rattle.dt_flow_model.specs.Keeping.{most_moment};
+ghost use Rattle.dt_world_model.specs.Relay.{emptied, new_relay, with_outs};
+ghost use Rattle.dt_world_model.specs.Host.{first_host, restarted_host};
+ghost use Rattle.dt_world_model.specs.Station.{station_event, station_with};
+ghost use Rattle.dt_station.specs.Events.{MayHappen, event_seen};
+ghost use Rattle.dt_world.specs.Marked.{frame_octets, parcel_of};
+ghost use Rattle.dt_world.specs.Steps.{Happened, Played, most_now, noted_first, occasion_with};
+ghost use Rattle.dt_world.specs.Tellers.{occasion_of};
+
+use crate::marked::MarkedFrame;
+use crate::notes::Notes;
+use crate::occasions::Occasion;
+use crate::tellers::{Lines, Teller};
+use dt_items::NoMemory;
+use dt_station::{InLink, OutLink, Route, Station, StationEvent};
+use dt_units::{NodeId, Rules};
+use std::alloc::Global;
+
+/// A station of the world. Its clock is ahead of the world's moment by `zero` ms.
+#[derive(Drop)]
+pub struct PlacedStation {
+    pub zero: u32,
+    /// How often it started again.
+    pub life: u32,
+    pub plan: Plan,
+    pub station: Station<MarkedFrame>,
+}
+
+/// A station's links and routes, in the order of the setup.
+#[derive(Drop)]
+pub struct Plan {
+    pub outs: Vec<OutLink>,
+    pub ins: Vec<InLink>,
+    pub routes: Vec<Route>,
+}
+
+/// What an event brings beyond what is reported: the octets of a send or of a data packet, and the
+/// packet's place.
+#[derive(Clone, Copy)]
+pub struct Brought<'a> {
+    pub octets: &'a [u8],
+    pub begin: bool,
+    pub end: bool,
+    pub place: u64,
+}
+
+/// An event at a station's reading, seen by a teller that hasn't failed. `NoMemory` comes also where the
+/// teller has failed.
+pub fn play<L: Lines>(
+    station: &mut Station<MarkedFrame>,
+    now: u64,
+    event: StationEvent<'_, MarkedFrame>,
+    buf: &mut [u8],
+    teller: &mut Teller<'_, '_, L>,
+) -> Result<(), NoMemory>
+    requires fresh { teller.old.failed ≡ false }
+    requires unspent { station.old.spent ≡ false }
+    requires may { MayHappen frame_octets station.old.rules now station.old.state (length buf.old) event }
+    requires past { station.old.latest ≤ now }
+    requires moment { now ≤ most_moment }
+    ensures notes { teller.new.notes.ghost_name ≡ teller.old.notes.ghost_name }
+    ensures lines { teller.new.lines.ghost_name ≡ teller.old.lines.ghost_name }
+    ensures played { let script = station_event station.old.rules now (event_seen parcel_of (length buf.old) event.entry) station.old.state in
+        Played L.tells result (occasion_of teller.old) script (noted_first teller.old) teller.old.lines.now teller.new station.new.state }
+    ensures rules { station.new.rules ≡ station.old.rules }
+    ensures latest { station.new.latest ≡ now }
+    ensures spent { OnOk result (station.new.spent ≡ false) }
+    ensures relay { OnOk result (emptied station.new.state.relay ≡ emptied station.old.state.relay) }
+    ensures me { station.new.state.host.me ≡ station.old.state.host.me }
+    ensures links { station.new.state.relay ≡ with_outs station.old.state.relay station.new.state.relay.outs }
+{
+    station.event(now, event, buf, teller)?;
+    if teller.failed {
+        return Err(NoMemory);
+    }
+    Ok(())
+}
+
+/// An event at a station of the world, which isn't spent, at a moment of at most 2^61 ms.
+pub fn happen<'a, 'o, L: Lines>(
+    placed: &mut PlacedStation,
+    rules: &'o Rules,
+    now: u64,
+    node: u32,
+    event: StationEvent<'_, MarkedFrame>,
+    brought: Brought<'o>,
+    buf: &mut [u8],
+    notes: &'a mut Notes,
+    lines: &'a mut L,
+) -> Result<(), NoMemory>
+    requires unspent { placed.old.station.spent ≡ false }
+    requires may { MayHappen frame_octets placed.old.station.rules (now + placed.old.zero) placed.old.station.state (length buf.old) event }
+    requires past { placed.old.station.latest ≤ now + placed.old.zero }
+    requires moment { now ≤ most_now }
+    ensures happened { let o = occasion_with rules.now now node placed.old.life brought.entry in
+        let script = station_event placed.old.station.rules (now + placed.old.zero) (event_seen parcel_of (length buf.old) event.entry) placed.old.station.state in
+        Happened L.tells result o script notes.old lines.old notes.new lines.new placed.new.station.state }
+    ensures zero { placed.new.zero ≡ placed.old.zero }
+    ensures life { placed.new.life ≡ placed.old.life }
+    ensures plan { placed.new.plan ≡ placed.old.plan }
+    ensures relay { OnOk result (emptied placed.new.station.state.relay ≡ emptied placed.old.station.state.relay) }
+    ensures rules { placed.new.station.rules ≡ placed.old.station.rules }
+    ensures latest { placed.new.station.latest ≡ now + placed.old.zero }
+    ensures spent { OnOk result (placed.new.station.spent ≡ false) }
+{
+    let reading = now + u64::from(placed.zero);
+    let occasion = Occasion {
+        rules,
+        now,
+        node,
+        life: placed.life,
+        octets: brought.octets,
+        begin: brought.begin,
+        end: brought.end,
+        place: brought.place,
+    };
+    let mut teller = Teller {
+        notes,
+        lines,
+        occasion,
+        failed: false,
+    };
+    play(&mut placed.station, reading, event, buf, &mut teller)
+}
+
+/// A station of these links and routes that starts for the first time.
+pub fn start_first(
+    alloc: Global,
+    rules: &Rules,
+    node: u32,
+    plan: &Plan,
+) -> Result<Station<MarkedFrame>, NoMemory>
+    ensures station { let relay = new_relay plan.now.outs.items plan.now.ins.items plan.now.routes.items in
+        IfOk result (λ s. s.state ≡ station_with (first_host node) relay) }
+    ensures rules { IfOk result (λ s. s.rules ≡ rules.now) }
+    ensures unspent { IfOk result (λ s. s.spent ≡ false) }
+    ensures latest { IfOk result (λ s. s.latest ≡ 0) }
+{
+    Station::new(
+        alloc,
+        rules,
+        NodeId(node),
+        None,
+        &plan.outs,
+        &plan.ins,
+        &plan.routes,
+    )
+}
+
+/// The station starts again at a moment of at most 2^61 ms, with its links and routes and nothing else,
+/// and is silent for a while. `NoMemory` leaves it as it was; it comes also where the life number is at
+/// its end.
+pub fn start_again(
+    alloc: Global,
+    placed: &mut PlacedStation,
+    rules: &Rules,
+    now: u64,
+    node: u32,
+) -> Result<(), NoMemory>
+    requires moment { now ≤ most_now }
+    ensures station { let relay = new_relay placed.old.plan.outs.items placed.old.plan.ins.items placed.old.plan.routes.items in
+        OnOk result (placed.new.station.state ≡ station_with (restarted_host rules.now node (now + placed.old.zero)) relay) }
+    ensures life { OnOk result (placed.new.life ≡ placed.old.life + 1) }
+    ensures rules { OnOk result (placed.new.station.rules ≡ rules.now) }
+    ensures unspent { OnOk result (placed.new.station.spent ≡ false) }
+    ensures latest { OnOk result (placed.new.station.latest ≡ now + placed.old.zero) }
+    ensures zero { placed.new.zero ≡ placed.old.zero }
+    ensures plan { placed.new.plan ≡ placed.old.plan }
+{
+    if placed.life == u32::MAX {
+        return Err(NoMemory);
+    }
+    let reading = now + u64::from(placed.zero);
+    let plan = &placed.plan;
+    let again = Some(reading);
+    let station = Station::new(
+        alloc,
+        rules,
+        NodeId(node),
+        again,
+        &plan.outs,
+        &plan.ins,
+        &plan.routes,
+    )?;
+    placed.station = station;
+    placed.life += 1;
+    Ok(())
+}

@@ -1,0 +1,76 @@
+//! What happens to a world in an event that isn't refused.
+ghost use Rattle.std.specs.Prelude.{◌≡◌, ◌+◌, ◌<◌, ◌≤◌, ◌↔◌, IsTrue, OnOk, length, None};
+ghost use Rattle.dt_flow_model.specs.Keeping.{octets_below};
+ghost use Rattle.dt_world_model.specs.Ledgers.{ledger_of};
+ghost use Rattle.dt_units.specs.Flows.{IsFlow};
+ghost use Rattle.dt_world_model.specs.Tables.{AllEntries};
+ghost use Rattle.dt_world_model.specs.WorldFacts.{CanHappen};
+ghost use Rattle.dt_world_model.specs.WorldStep.{after_event, first_refusal, refusals};
+ghost use Rattle.dt_world.specs.Outcomes.{Happens};
+ghost use Rattle.dt_world.specs.Steps.{most_now};
+ghost use Rattle.dt_world.specs.Worlds.{IsStationOf, IsWhole, MayStep, event_of, most_read, world_seen};
+
+use crate::doing;
+use crate::events::Event;
+use crate::parts::Parts;
+use crate::tellers::Lines;
+use dt_items::NoMemory;
+use dt_layout::Frame;
+use dt_units::Flow;
+
+/// Octets of a flow are fewer than this.
+const OCTETS_BELOW: u64 = 1 << 62;
+
+/// The event happens. `NoMemory` comes also where a count would pass its end: 2^62 octets of a flow,
+/// 2^32 lives of a station, a moment of 2^61 ms.
+pub fn happen<L: Lines>(
+    parts: &mut Parts,
+    event: &Event<'_>,
+    buf: &mut [u8],
+    frame: &mut Frame,
+    lines: &mut L,
+) -> Result<(), NoMemory>
+    requires whole { IsWhole parts.old }
+    requires begun { first_refusal (refusals (world_seen parts.old) (event_of event.now)) ≡ None }
+    requires may { MayStep (event_of event.now) }
+    requires room { length buf.old ≡ most_read }
+    ensures happens { let w = world_seen parts.old in
+        Happens L.tells result w (after_event w (event_of event.now)) lines.old lines.new (world_seen parts.new) }
+    ensures stations { OnOk result (AllEntries (IsStationOf parts.new.rules parts.new.now) parts.new.stations.entries) }
+    ensures moment { OnOk result (parts.new.now ≤ most_now) }
+    ensures can { CanHappen (event_of event.now) }
+    ensures rules { parts.new.rules ≡ parts.old.rules }
+    ensures links { parts.new.links ≡ parts.old.links }
+{
+    match *event {
+        Event::Pass { by } => doing::pass(parts, by),
+        Event::Send {
+            flow,
+            octets,
+            begin,
+            end,
+        } => {
+            if !can_take(parts, flow, octets.len() as u64) {
+                return Err(NoMemory);
+            }
+            doing::send(parts, flow, octets, begin, end, buf, lines)
+        }
+        Event::Read { flow, max } => doing::read(parts, flow, &mut buf[..max as usize], lines),
+        Event::Tick { station } => doing::tick(parts, station.0, buf, lines),
+        Event::Arrive { copy } => doing::arrive(parts, copy, buf, frame, lines),
+        Event::Lose { copy } => {
+            doing::lose(parts, copy, lines);
+            Ok(())
+        }
+        Event::Restart { station } => doing::restart(parts, station.0, lines),
+    }
+}
+
+/// Whether the flow can take so many octets more.
+fn can_take(parts: &Parts, flow: Flow, count: u64) -> bool
+    ensures can { IsTrue result ↔ (length (ledger_of (world_seen parts.entry.now).ledgers flow).taken + count < octets_below) }
+    ensures flow { IsFlow flow }
+{
+    let taken = parts.notes.ledger.taken_count(&flow);
+    taken < OCTETS_BELOW && count < OCTETS_BELOW - taken
+}

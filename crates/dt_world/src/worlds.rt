@@ -1,0 +1,149 @@
+//! The world and its step.
+ghost use Rattle.std.specs.Prelude.{◌≡◌, IfOk, false, length};
+ghost use Rattle.dt_world_model.specs.Setup.{new_world};
+ghost use Rattle.dt_world_model.specs.World.{placed};
+ghost use Rattle.dt_world_model.specs.WorldFacts.{SafeWorld};
+ghost use Rattle.dt_world.specs.Outcomes.{Answers};
+ghost use Rattle.dt_world.specs.Worlds.{MayStep, event_of};
+
+use crate::copies::Copies;
+use crate::events::Event;
+use crate::notes::Notes;
+use crate::parts::Parts;
+use crate::refusals::refusal;
+use crate::setups::Setup;
+use crate::starts::{first_stations, same_links};
+use crate::steps::happen;
+use crate::tellers::Lines;
+use dt_items::NoMemory;
+use dt_layout::Frame;
+use dt_ledger::Ledger;
+use dt_reports::StepFault;
+use dt_units::NodeId;
+use indexmap::IndexMap;
+use std::alloc::Global;
+use std::marker::Model;
+
+/// Stations and links, the copies of packets on the links, and what became of each octet.
+#[derive(Drop)]
+pub struct World {
+    parts: Parts,
+    /// Into which octets are read, 65,536 of them.
+    buf: Vec<u8>,
+    /// In which a copy that comes is read.
+    frame: Frame,
+    spent: bool,
+}
+
+impl Model for World {
+    ghost use Rattle.dt_world.specs.Worlds.{WorldValue};
+
+    ghost Value = { WorldValue };
+
+    ghost use Rattle.std.specs.Prelude.{◌≡◌, false, length};
+    ghost use Rattle.dt_world.specs.Worlds.{IsWhole, most_read, world_seen};
+
+    ghost view = { λ w. record { state = world_seen w.parts; spent = w.spent } };
+
+    ghost invariant = { λ w. (length w.buf.items ≡ most_read) × (w.spent ≡ false → IsWhole w.parts) };
+}
+
+/// The most octets of a read.
+const MOST_READ: usize = 65_536;
+
+impl World {
+    /// The world of a setup: all its stations start for the first time, the moment is 0, and nothing is
+    /// on a link. `NoMemory` where there is none. The cost is that of all links and routes for each
+    /// station.
+    pub fn new(alloc: Global, setup: &Setup) -> Result<World, NoMemory>
+        ensures { IfOk result (λ world. world ≡ record { state = new_world setup.now; spent = false }) }
+    {
+        let rules = *setup.rules();
+        let stated = setup.links();
+        let stations = first_stations(alloc, &rules, setup.zeros(), stated, setup.ways())?;
+        let links = same_links(alloc, stated)?;
+        let notes = Notes {
+            ledger: Ledger::new(alloc),
+            runs: IndexMap::new(alloc),
+            copies: Copies::new(alloc),
+        };
+        let mut buf = Vec::new(alloc);
+        buf.resize(MOST_READ, 0)?;
+        Ok(World {
+            parts: Parts {
+                rules,
+                now: 0,
+                stations,
+                links,
+                notes,
+            },
+            buf,
+            frame: Frame::new(),
+            spent: false,
+        })
+    }
+
+    /// How often the station started again. One that isn't there never did.
+    pub fn life(&self, station: NodeId) -> u32
+        ensures { result ≡ (placed self.now.state station.0).life }
+    {
+        match self.parts.stations.get(&station.0) {
+            Some(placed) => placed.life,
+            None => 0,
+        }
+    }
+
+    /// An event happens to the world, which isn't spent.
+    pub fn step<L: Lines>(&mut self, event: &Event<'_>, lines: &mut L) -> Result<(), StepFault>
+        requires unspent { self.old.spent ≡ false }
+        requires may { MayStep (event_of event.now) }
+        ensures { Answers L.tells result self.old (event_of event.now) lines.old lines.new self.new }
+    {
+        if let Some(fault) = refusal(&self.parts, event) {
+            return Err(fault);
+        }
+        match happen(
+            &mut self.parts,
+            event,
+            &mut self.buf,
+            &mut self.frame,
+            lines,
+        ) {
+            Ok(()) => Ok(()),
+            Err(NoMemory) => {
+                self.spent = true;
+                Err(StepFault::NoMemory)
+            }
+        }
+    }
+
+    /// What became of each octet of each flow, in the order of the flows' first octets.
+    pub fn ledger(&self) -> &Ledger
+        ensures rows { result.now ≡ self.now.state.ledgers.rows }
+        // Each flow of a world that isn't spent is safe.
+        ensures safe { self.now.spent ≡ false → SafeWorld self.now.state }
+    {
+        &self.parts.notes.ledger
+    }
+
+    /// The moment, in ms: 0 to 2^61.
+    pub fn now(&self) -> u64
+        ensures { result ≡ self.now.state.now }
+    {
+        self.parts.now
+    }
+
+    /// How many copies were put on links.
+    pub fn copies(&self) -> u64
+        ensures { result ≡ length self.now.state.copies }
+    {
+        self.parts.notes.copies.len()
+    }
+
+    /// Whether a step found no memory. Then the world is used no more.
+    pub fn is_spent(&self) -> bool
+        ensures { result ≡ self.now.spent }
+    {
+        self.spent
+    }
+}
