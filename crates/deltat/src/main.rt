@@ -1,63 +1,9 @@
-//! The program `deltat`: makes the real objects, calls the top call, and ends with its answer.
+//! The program `deltat`.
 #![tactic(auto)]
 
-use dt_edges::{MemClock, MemWire, ReaderSource, WriterSink, put_all};
-use dt_items::NoMemory;
-use dt_top::run;
-use std::env;
-use std::io::ErrorKind;
+use dt_main::deltat;
 use std::process::ExitCode;
 
-/// The exit status for want of memory.
-const NO_MEMORY: u8 = 4;
-
-/// The words of the command line without the program's name. Words that aren't UTF-8 make no command,
-/// so there is none then.
-fn words(rt: &HostRuntime) -> Result<Vec<String>, NoMemory> {
-    match env::args(rt) {
-        Ok(args) => Ok(args.skip(1).collect(rt.alloc())?),
-        Err(fault) if fault.kind() == ErrorKind::OutOfMemory => Err(NoMemory),
-        Err(_) => Ok(Vec::new(rt.alloc())),
-    }
-}
-
-/// Runs over standard input, standard output and standard error, with a wire on which nothing comes
-/// and a clock that stands still.
-fn serve(rt: &HostRuntime) -> Result<u8, NoMemory> {
-    let words = words(rt)?;
-    let mut wire = MemWire::new(rt.alloc(), false, &[], &[], None)?;
-    let mut clock = MemClock::new(rt.alloc(), &[0])?;
-    Ok(run(
-        rt.alloc(),
-        &words,
-        &mut ReaderSource::new(rt.stdin()),
-        &mut WriterSink::new(rt.stdout()),
-        &mut WriterSink::new(rt.stderr()),
-        &mut wire,
-        &mut clock,
-    ))
-}
-
 fn main(rt: HostRuntime) -> ExitCode {
-    match serve(&rt) {
-        Ok(status) => ExitCode::from(status),
-        Err(NoMemory) => {
-            let _ = put_all(b"out of memory\n", &mut WriterSink::new(rt.stderr()));
-            ExitCode::from(NO_MEMORY)
-        }
-    }
-}
-
-#[cfg(test)]
-mod tests {
-    use super::*;
-
-    #[test]
-    fn standard_error_is_a_sink(rt: HostRuntime) {
-        let mut err = WriterSink::new(rt.stderr());
-        assert_eq!(rt;
-            put_all(b"a test writes on standard error\n", &mut err),
-            Ok(())
-        );
-    }
+    deltat(&rt)
 }

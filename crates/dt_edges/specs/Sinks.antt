@@ -8,15 +8,22 @@ use Rattle.dt_edges.specs.Counts.{HasRisen, next_count, as_count}
 pub record SinkSight : Type 0 where
   -- the octets that it holds, where they are told
   pub held : Option (List ℕ)
+  -- those of them that have reached their end. A sink that keeps octets back for another has those reached that the other holds
+  pub reached : Option (List ℕ)
   -- how many puts failed
   pub faults : ℕ
   -- which sink it is: the names of the loans that it passes its octets on through
   pub identity : List GName
 
--- The sink took these octets: they stand behind those that it held, where it told them, and nothing
--- else changed.
+-- Octets that are told stay, and others may stand behind them.
+abbrev pub Grows : Option (List ℕ) → Option (List ℕ) → Type 0
+Grows before after = (part : List ℕ) × Appends before after part
+
+-- The sink took these octets: they stand behind those that it held, where it told them. What had reached
+-- its end stays there, and nothing else changed.
 pub record Takes (octets : List ℕ) (before after : SinkSight) : Type 0 where
   pub held : Appends before.held after.held octets
+  pub reached : Grows before.reached after.reached
   pub faults : after.faults ≡ before.faults
   pub identity : after.identity ≡ before.identity
 
@@ -24,6 +31,7 @@ pub record Takes (octets : List ℕ) (before after : SinkSight) : Type 0 where
 pub record TakesPart (octets : List ℕ) (before after : SinkSight) : Type 0 where
   pub count : ℕ
   pub held : Appends before.held after.held (take count octets)
+  pub reached : Grows before.reached after.reached
   pub faults : HasRisen before.faults after.faults
   pub identity : after.identity ≡ before.identity
 
@@ -50,7 +58,7 @@ pub record SinkInMemory : Type 0 where
 
 -- it tells all that it holds
 abbrev pub sink_in_memory : SinkInMemory → SinkSight
-sink_in_memory sink = record { held = Some sink.held; faults = as_count sink.faults; identity = [] }
+sink_in_memory sink = record { held = Some sink.held; reached = Some sink.held; faults = as_count sink.faults; identity = [] }
 
 -- a sink in memory after a put of these octets
 abbrev pub sink_after : Result ℕ Failed → List ℕ → SinkInMemory → SinkInMemory

@@ -1,7 +1,7 @@
 ghost use Rattle.std.specs.Prelude.{◌≡◌, ◌++◌, ◌<◌, ◌≤◌, [], take, length, IfOk, OnOk};
 ghost use Rattle.std.specs.Io.KnownBytes.{WriteAppends, append_known};
 ghost use Rattle.dt_edges.specs.Counts.{CountsFaults};
-ghost use Rattle.dt_edges.specs.Sinks.{Puts, PassesOn};
+ghost use Rattle.dt_edges.specs.Sinks.{Grows, PassesOn, Puts};
 
 use crate::failures::Failed;
 use crate::sinks::Sink;
@@ -68,6 +68,7 @@ impl Buffer {
         ensures some { IfOk result (λ n. 0 < n) }
         ensures within { IfOk result (λ n. n ≤ length piece.now) }
         ensures taken { WriteAppends (append_known (K.sight out.old).held self.old) (append_known (K.sight out.new).held self.new) result piece.now }
+        ensures reached { Grows (K.sight out.old).held (K.sight out.new).held }
         ensures counted { CountsFaults result (K.sight out.old).faults (K.sight out.new).faults }
         ensures never_falls { (K.sight out.old).faults ≤ (K.sight out.new).faults }
     {
@@ -112,6 +113,7 @@ impl<'a, K: Sink> Sink for Buffered<'a, K> {
 
     ghost sight = { λ b. record {
       held = append_known (K.sight b.out.now).held b.buffer.now;
+      reached = (K.sight b.out.now).held;
       faults = (K.sight b.out.now).faults;
       identity = b.out.ghost_name ∷ b.buffer.ghost_name ∷ [];
     } };

@@ -1,15 +1,15 @@
 ghost use Rattle.std.specs.Prelude.{◌≡◌, ◌<◌, ◌≤◌, length, IfOk};
 ghost use Rattle.std.specs.Io.KnownBytes.{WriteAppends};
 ghost use Rattle.dt_edges.specs.Counts.{CountsFaults, last_count};
-ghost use Rattle.dt_edges.specs.Sinks.{SinkSight, Puts};
+ghost use Rattle.dt_edges.specs.Sinks.{SinkSight, Grows, Puts};
 
 use crate::failures::Failed;
 
 /// Where octets go to. A sink keeps a count of its faults, which never falls and stands still at
 /// 2^64 - 1.
 pub trait Sink {
-    /// What contracts see: the octets that the sink holds, where it tells them, how many puts failed,
-    /// and which sink it is. A sink that passes its octets on to another that it borrows is named by
+    /// What contracts see: the octets that the sink holds, where it tells them, which of them have
+    /// reached their end, how many puts failed, and which sink it is. A sink that passes its octets on to another that it borrows is named by
     /// that loan, which no put changes. Plain sinks have no name.
     ghost sight: { Self → SinkSight };
 
@@ -21,6 +21,7 @@ pub trait Sink {
         ensures some { IfOk result (λ n. 0 < n) }
         ensures within { IfOk result (λ n. n ≤ length piece.now) }
         ensures taken { WriteAppends (sight self.old).held (sight self.new).held result piece.now }
+        ensures reached { Grows (sight self.old).reached (sight self.new).reached }
         ensures counted { CountsFaults result (sight self.old).faults (sight self.new).faults }
         ensures never_falls { (sight self.old).faults ≤ (sight self.new).faults }
         ensures same_sink { (sight self.new).identity ≡ (sight self.old).identity };

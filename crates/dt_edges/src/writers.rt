@@ -17,7 +17,7 @@ pub struct WriterSink<W> {
 impl<W: Write> WriterSink<W> {
     /// A sink that writes to the writer, and has no fault yet.
     pub fn new(writer: W) -> Self
-        ensures { ⟦<WriterSink<W> as Sink>⟧.sight result ≡ record { held = W.contents writer; faults = 0; identity = [] } }
+        ensures { ⟦<WriterSink<W> as Sink>⟧.sight result ≡ record { held = W.contents writer; reached = W.contents writer; faults = 0; identity = [] } }
     {
         WriterSink { writer, faults: 0 }
     }
@@ -35,7 +35,7 @@ impl<W: Write> Sink for WriterSink<W> {
     ghost use Rattle.std.proofs.Math.Nat.{min-le_right};
     ghost use Rattle.dt_edges.specs.Counts.{as_count, last_count};
 
-    ghost sight = { λ s. record { held = W.contents s.writer; faults = as_count s.faults; identity = [] } };
+    ghost sight = { λ s. record { held = W.contents s.writer; reached = W.contents s.writer; faults = as_count s.faults; identity = [] } };
 
     ghost bounded = { λ s. min-le_right s.faults last_count };
 

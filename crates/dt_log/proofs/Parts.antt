@@ -1,6 +1,7 @@
 -- Puts of a text in parts.
-use Rattle.std.proofs.Common.{◌≡◌, ℕ, suc, ◌<◌, List, [], ◌∷◌, ◌++◌, length, get_or, drop-cons, take, drop, flat_map, ap, sym, subst, ◌∙◌, append_assoc, append-nil, map, Result, Ok, Err, IsErr}
+use Rattle.std.proofs.Common.{◌≡◌, ℕ, suc, ◌+◌, add-one, ◌<◌, List, [], ◌∷◌, ◌++◌, length, get_or, drop-cons, take, drop, flat_map, ap, sym, subst, ◌∙◌, append_assoc, append-nil, map, Result, Ok, Err, IsErr}
 use Rattle.std.proofs.lemmas.List.Folds.{flat_map-map}
+use Rattle.std.proofs.Math.Seq.{take-suc}
 use Rattle.std.proofs.lemmas.List.{take-append-drop}
 use Rattle.std.proofs.lemmas.List.Concat.{flat_map-append}
 use Rattle.dt_edges.specs.Sinks.{SinkSight, Takes, TakesPart, Puts}
@@ -37,6 +38,12 @@ puts_failed_between sight text xs ys zs (Err _) old between new e p q is = takes
 pub takes_more : {X : Type 0} (f : X → List ℕ) (before piece : List X) (a b c : SinkSight) → Takes (flat_map f before) a b → Takes (flat_map f piece) b c → Takes (flat_map f (before ++ piece)) a c
 takes_more f before piece a b c p q =
     takes_as _ _ a c (sym (flat_map-append f before piece)) (takes_then (flat_map f before) (flat_map f piece) a b c p q)
+
+-- the texts of the items before one are taken, and then its own
+pub takes_next : {X : Type 0} (f : X → List ℕ) (xs : List X) (i : ℕ) (d : X) (a b c : SinkSight) → i < length xs → Takes (flat_map f (take i xs)) a b → Takes (f (get_or xs i d)) b c → Takes (flat_map f (take (i + 1) xs)) a c
+takes_next f xs i d a b c h p q =
+    let x = get_or xs i d in
+    rw (add-one i, take-suc xs i d h) (takes_more f (take i xs) (x ∷ []) a b c p (takes_as (f x) (f x ++ []) b c (sym (append-nil (f x))) q))
 
 -- items, of which the first n of the rest are cut off
 pub cut_further : {X : Type 0} (xs before rest piece more : List X) (n : ℕ) → xs ≡ before ++ rest → piece ≡ take n rest → more ≡ drop n rest → xs ≡ (before ++ piece) ++ more

@@ -204,7 +204,6 @@ fault_are (faults.Line fault) = (as_it_stands (line_fault_text fault) (line_faul
 fault_are (faults.Param fault) = (as_it_stands (codes "param") refl, (as_it_stands (field_text fault.field) (field_word fault.field), numbers1 fault.value))
 fault_are (faults.Setup fault) = setup_are fault
 fault_are (faults.Step fault) = step_are fault
-fault_are faults.NotBuilt = (as_it_stands (codes "not") refl, (as_it_stands (codes "built") refl, tt))
 
 -- LINES
 

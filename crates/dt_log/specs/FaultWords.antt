@@ -5,7 +5,7 @@ use Rattle.dt_units.specs.declared.parameters.Field.TheVariants.{Mpl, R, A, Rto,
 use Rattle.dt_layout.specs.declared.faults.LayoutFault.{LayoutFault}
 use Rattle.dt_layout.specs.declared.faults.LayoutFault.TheVariants as layout_faults
 use Rattle.dt_reports.specs.declared.faults.Fault.{Fault}
-use Rattle.dt_reports.specs.declared.faults.Fault.TheVariants.{Line, Param, Setup, Step, NotBuilt}
+use Rattle.dt_reports.specs.declared.faults.Fault.TheVariants.{Line, Param, Setup, Step}
 use Rattle.dt_reports.specs.declared.faults.LineFault.{LineFault}
 use Rattle.dt_reports.specs.declared.faults.LineFault.TheVariants as line_faults
 use Rattle.dt_reports.specs.declared.faults.SetupFault.{SetupFault}
@@ -73,4 +73,3 @@ fault_words (Line fault) = line_fault_text fault ∷ []
 fault_words (Param fault) = codes "param" ∷ field_text fault.field ∷ decimal fault.value ∷ []
 fault_words (Setup fault) = setup_fault_words fault
 fault_words (Step fault) = step_fault_words fault
-fault_words NotBuilt = codes "not" ∷ codes "built" ∷ []

@@ -132,9 +132,6 @@ pub(crate) fn put_fault<K: Sink>(line: u64, fault: Fault, out: &mut K) -> Result
         ),
         Fault::Setup(fault) => put_setup_fault(line, fault, out),
         Fault::Step(fault) => put_step_fault(line, fault, out),
-        Fault::NotBuilt => {
-            put_refused_line(line, &[Word::Text("not"), Word::Text("built")], out)
-        }
     }
 }
 

@@ -100,8 +100,6 @@ pub enum Fault {
     Setup(SetupFault),
     /// The event is refused.
     Step(StepFault),
-    /// The line is allowed, and nothing does yet what it says.
-    NotBuilt,
 }
 
 /// Why a station refuses to take octets to send.

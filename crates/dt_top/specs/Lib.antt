@@ -1,8 +1,4 @@
-pub mod Shown
-pub mod Sending
-pub mod Transmitting
-pub mod Replay
-pub mod Stopping
-pub mod Endings
 pub mod Inputs
+pub mod Endings
+pub mod Commands
 pub mod Serving

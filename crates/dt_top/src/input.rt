@@ -1,6 +1,6 @@
 //! The input is read whole, before anything is written.
-ghost use Rattle.std.specs.Prelude.{◌≡◌, ◌≤◌, IfOk, IfErr, vec_len, IfSome, length};
-ghost use Rattle.dt_top.specs.Inputs.{limit, LacksInput};
+ghost use Rattle.std.specs.Prelude.{IfOk, IfErr};
+ghost use Rattle.dt_top.specs.Inputs.{IsInput, LacksInput};
 
 use dt_edges::{Failed, Source};
 use std::alloc::{AllocError, Global};
@@ -46,8 +46,7 @@ impl From<Failed> for InputFault {
 
 /// The input, up to its end. Takes memory for the greatest input at once, and no more.
 pub fn read_input<S: Source>(alloc: Global, source: &mut S) -> Result<Vec<u8>, InputFault>
-    ensures within { IfOk result (λ input. vec_len input ≤ limit) }
-    ensures whole { IfOk result (λ input. IfSome (S.sight source.old).left (λ all. input.items ≡ all)) }
+    ensures whole { IfOk result (λ input. IsInput input.items (S.sight source.old) (S.sight source.new)) }
     ensures lacks { IfErr result (λ fault. LacksInput fault (S.sight source.old) (S.sight source.new)) }
 {
     let mut input = Vec::with_capacity(alloc, LIMIT)?;

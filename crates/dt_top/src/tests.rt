@@ -122,6 +122,22 @@ flow 1:10>2:20 taken 10 acked 0 uncertain 0 open 10 given 0 read 0
 end 0
 ";
 
+/// A message is sent, acknowledged and read.
+const SHORT: &str =
+    "send 1:10>2:20 be 68656c6c6f\npass 40\narrive 0\npass 30\narrive 1\nread 1:10>2:20 100\n";
+
+const SHORT_LOG: &str = "0 1 took 1:10>2:20 5
+0 1 sent 1:10>2:20 0 5 dbe
+0 1 put 1 999 as 0
+40 2 accepted 1:10>2:20 0 5 run
+40 2 acked 1:10>2:20 5 4091
+40 2 put 2 999 as 1
+70 1 settled 1:10>2:20 5 4091
+70 2 read 1:10>2:20 rbe 68656c6c6f
+flow 1:10>2:20 taken 5 acked 5 uncertain 0 open 0 given 5 read 5
+end 70
+";
+
 #[test]
 fn worked_schedules(rt: HostRuntime) -> Result<(), Fail> {
     let long = long_send(rt.alloc())?;
@@ -168,8 +184,8 @@ fn worked_schedules(rt: HostRuntime) -> Result<(), Fail> {
             3,
         ),
         (PARAMS, "pass 01\n", "line 9: number\n", 3),
-        (PARAMS, "pass 1\n", "line 9: not built\n", 3),
-        (PARAMS, "send 1:11>2:20 be 61\n", "line 9: not built\n", 3),
+        (PARAMS, "pass 1\n", "end 1\n", 0),
+        (PARAMS, SHORT, SHORT_LOG, 0),
         (PARAMS, "send 1:10>2:20 be 68656c6c6\n", "line 9: hex\n", 3),
         (PARAMS, "hop 1\n", "line 9: word\n", 3),
         (PARAMS, "station 3 0\n", "line 9: order\n", 3),
@@ -195,7 +211,7 @@ fn inputs_that_end_early(rt: HostRuntime) -> Result<(), Fail> {
         (PARAMS, "line 2: order\n"),
         (
             "params 1000 3000 200 500 800 100 4096 4096 512 2147483648\nstation 2 0\n",
-            "line 2: not built\n",
+            "line 3: order\n",
         ),
     ];
     for (input, log) in &cases {

@@ -289,7 +289,7 @@ fn each_fault_has_its_text(rt: HostRuntime) -> Result<(), Fail> {
         refused(&rt, alloc, Fault::Step(fault), text)?;
         shown(&rt, alloc, &fault, text)?;
     }
-    refused(&rt, alloc, Fault::NotBuilt, "not built")
+    Ok(())
 }
 
 #[test]

@@ -1,5 +1,5 @@
 use Rattle.std.proofs.Common.{◌≡◌, ◌+◌, length, arith, length-drop, ap}
-use Rattle.dt_edges.proofs.Puts.{takes_further, rest_cut}
+use Rattle.dt_edges.proofs.Puts.{puts_until, takes_further, rest_cut}
 use Rattle.dt_edges.proofs.sinks.put_all.Goals as goal
 
 pub loop-rest-preserved : goal.loop-rest-preserved
@@ -10,5 +10,10 @@ loop-rest-preserved g c =
       omega (arith, i.1, c.in_ok-taken.ensures.within),
       rest_cut c.args.bytes.now c.loop-rest.rest.now i.0 c.in_ok-taken.taken i.2,
       takes_further c.args.bytes.now c.loop-rest.rest.now i.0 c.in_ok-taken.taken _ _ _ i.2 i.3
-          (record { held = c.in_ok-taken.ensures.taken; faults = c.in_ok-taken.ensures.counted; identity = c.put.ensures.same_sink }),
+          (record { held = c.in_ok-taken.ensures.taken; reached = c.put.ensures.reached; faults = c.in_ok-taken.ensures.counted; identity = c.put.ensures.same_sink }),
     )
+
+pub returns-in_err-taken : goal.returns-in_err-taken
+returns-in_err-taken g c =
+    let i = c.loop-rest.invariant in
+    puts_until g.K.Sink.sight c.args.bytes.now i.0 c.from_residual.result c.args.out.now c.loop-rest.out c.put.new.self i.3 c.from_residual.ensures.0 c.in_err-taken.ensures.taken c.in_err-taken.ensures.reached c.in_err-taken.ensures.counted c.in_err-taken.ensures.same_sink

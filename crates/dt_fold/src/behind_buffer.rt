@@ -1,0 +1,59 @@
+ghost use Rattle.std.specs.Prelude.{◌≡◌, ◌≤◌, [], length};
+ghost use Rattle.dt_fold.specs.Folds.{fold_input};
+ghost use Rattle.dt_fold.specs.Logging.{Fills, FillsBehind, PassesRest};
+
+use crate::folding::fold_input;
+use crate::line_turns::LineTurns;
+use crate::stops::Stop;
+use dt_edges::{Buffer, Buffered, Sink};
+use std::alloc::Global;
+
+/// Reads an input of at most 16,777,216 octets line by line, as [`fold_input`] does, and gathers what
+/// is logged in a buffer of 8,192 octets, so that a put takes many lines. What stands in the buffer is
+/// put at the end, also where memory was wanted. Takes memory for the buffer.
+///
+/// - `Ok`: the sink has exactly what is told of the whole input. It says whether no line was refused.
+/// - `NoMemory`: the sink has a first part of it, and no put failed.
+/// - `WriteFault`: the sink has a first part of it, and its count of faults rose.
+pub fn fold_behind_buffer<T: LineTurns, K: Sink>(
+    alloc: Global,
+    lines: &mut T,
+    bytes: &[u8],
+    out: &mut K,
+) -> Result<bool, Stop>
+    requires few { length bytes.now ≤ 16777216 }
+    ensures { Fills (fold_input T.turns (T.state lines.old) bytes.now) result (K.sight out.old) (K.sight out.new) }
+{
+    let mut buffer = Buffer::new(alloc)?;
+    let folded = fold_into(lines, bytes, &mut buffer, out);
+    pass_rest(folded, &mut buffer, out)
+}
+
+/// Reads an input into an empty buffer, which is put on the sink where it is full.
+fn fold_into<T: LineTurns, K: Sink>(
+    lines: &mut T,
+    bytes: &[u8],
+    buffer: &mut Buffer,
+    out: &mut K,
+) -> Result<bool, Stop>
+    requires few { length bytes.now ≤ 16777216 }
+    ensures { FillsBehind (fold_input T.turns (T.state lines.old) bytes.now) result (K.sight out.old) buffer.old (K.sight out.new) buffer.new }
+{
+    let mut log = Buffered { out, buffer };
+    fold_input(lines, bytes, &mut log)
+}
+
+/// Puts what waits on the sink, where no put has failed.
+fn pass_rest<K: Sink>(
+    folded: Result<bool, Stop>,
+    buffer: &mut Buffer,
+    out: &mut K,
+) -> Result<bool, Stop>
+    ensures { PassesRest folded result buffer.old (K.sight out.old) (K.sight out.new) }
+{
+    if let Err(Stop::WriteFault) = folded {
+        return folded;
+    }
+    buffer.pass_on(out)?;
+    folded
+}

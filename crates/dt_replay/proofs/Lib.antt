@@ -1,0 +1,5 @@
+pub mod Scenes
+pub mod Writing
+pub mod Steps
+pub mod Closing
+pub mod Ends

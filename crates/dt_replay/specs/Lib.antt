@@ -1,0 +1,4 @@
+pub mod Schedules
+pub mod Scenes
+pub mod Writing
+pub mod Replays

@@ -1,0 +1,45 @@
+-- What the code has of a scene, and what its calls say of a line.
+use Rattle.std.specs.Prelude.{◌≡◌, Bool, true, false, [], Option, Some, None, Result, Ok, Err, IsOkAnd}
+use Rattle.dt_items.specs.declared.memory.NoMemory.{NoMemory}
+use Rattle.dt_reports.specs.declared.faults.Fault.{Fault}
+use Rattle.dt_reports.specs.declared.faults.Fault.TheVariants as faults
+use Rattle.dt_reports.specs.declared.faults.SetupFault.{SetupFault}
+use Rattle.dt_reports.specs.declared.faults.SetupFault.TheVariants as setup_fault
+use Rattle.dt_reports.specs.declared.faults.StepFault.{StepFault}
+use Rattle.dt_reports.specs.declared.faults.StepFault.TheVariants as step_fault
+use Rattle.dt_fold.specs.declared.stops.Stop.{Stop}
+use Rattle.dt_fold.specs.declared.stops.Stop.TheVariants as stop
+use Rattle.dt_fold.specs.Folds.{Turned}
+use Rattle.dt_replay.specs.declared.schedules.Part.{Part}
+use Rattle.dt_replay.specs.declared.schedules.Part.TheVariants as part
+use Rattle.dt_replay.specs.Schedules.{Empty, Prepares, Runs, Scene}
+
+abbrev pub scene_of : Part → Scene
+scene_of part.Nothing = Empty
+scene_of (part.Preparing setup) = Prepares setup
+scene_of (part.Running w) = Runs w.state
+
+-- what a step says of its line, unless a put failed
+abbrev pub stepped : Result (Unit {0}) StepFault → Bool → Result (Option Fault) Stop
+stepped answer true = Err stop.WriteFault
+stepped (Ok done) false = Ok None
+stepped (Err step_fault.NoMemory) false = Err stop.NoMemory
+stepped (Err step_fault.BadFlow) false = Ok (Some (faults.Step step_fault.BadFlow))
+stepped (Err (step_fault.NoStation n)) false = Ok (Some (faults.Step (step_fault.NoStation n)))
+stepped (Err (step_fault.NoCopy n)) false = Ok (Some (faults.Step (step_fault.NoCopy n)))
+stepped (Err (step_fault.Lost n)) false = Ok (Some (faults.Step (step_fault.Lost n)))
+stepped (Err (step_fault.TooLate held charge)) false = Ok (Some (faults.Step (step_fault.TooLate held charge)))
+
+-- what a call of a setup says of its line
+abbrev pub added : Result (Unit {0}) SetupFault → Result (Option Fault) NoMemory
+added (Ok done) = Ok None
+added (Err setup_fault.NoMemory) = Err record {}
+added (Err (setup_fault.Twice n)) = Ok (Some (faults.Setup (setup_fault.Twice n)))
+added (Err (setup_fault.Unknown n)) = Ok (Some (faults.Setup (setup_fault.Unknown n)))
+added (Err (setup_fault.Stray n)) = Ok (Some (faults.Setup (setup_fault.Stray n)))
+
+-- A line of which nothing is logged: it leads to the scene that the turn says, or is refused and changes nothing. Where memory is wanted nothing more is said.
+abbrev pub LeadsTo : Result (Turned Scene) Fault → Result (Option Fault) NoMemory → Scene → Scene → Type 0
+LeadsTo turn (Ok None) before after = IsOkAnd turn (λ t. (t.state ≡ after) × (t.told ≡ []))
+LeadsTo turn (Ok (Some fault)) before after = (turn ≡ Err fault) × (after ≡ before)
+LeadsTo turn (Err fault) before after = Unit {0}

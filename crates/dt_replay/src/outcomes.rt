@@ -1,0 +1,12 @@
+/// How a replay ends.
+#[derive(Clone, Copy, Debug, PartialEq, Eq)]
+pub enum Outcome {
+    /// The schedule is accepted, and its whole log is written.
+    Done,
+    /// A line is refused. The log up to it is written, and then its fault.
+    Refused,
+    /// There was no memory. A first part of the log is written.
+    NoMemory,
+    /// A put failed. A first part of the log is written.
+    WriteFault,
+}

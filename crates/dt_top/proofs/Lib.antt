@@ -1,7 +1,0 @@
-pub mod Cuts
-pub mod Segments
-pub mod Transmissions
-pub mod Sends
-pub mod Logging
-pub mod Replays
-pub mod Spacings
