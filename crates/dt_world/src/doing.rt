@@ -79,17 +79,11 @@ pub fn read<L: Lines>(
     ensures now { parts.new.now ≡ parts.old.now }
     ensures links { parts.new.links ≡ parts.old.links }
 {
-    let brought = Brought {
-        octets: &[],
-        begin: false,
-        end: false,
-        place: 0,
-    };
     event_at(
         parts,
         flow.to.0,
         StationEvent::Read { flow },
-        brought,
+        no_octets(0),
         buf,
         lines,
     )
@@ -110,13 +104,7 @@ pub fn tick<L: Lines>(
     ensures now { parts.new.now ≡ parts.old.now }
     ensures links { parts.new.links ≡ parts.old.links }
 {
-    let brought = Brought {
-        octets: &[],
-        begin: false,
-        end: false,
-        place: 0,
-    };
-    event_at(parts, node, StationEvent::Tick, brought, buf, lines)
+    event_at(parts, node, StationEvent::Tick, no_octets(0), buf, lines)
 }
 
 /// A copy comes to the station at its link's end.
@@ -190,7 +178,7 @@ fn brought_by(frame: &Frame, place: u64) -> Brought<'_>
     }
 }
 
-/// A packet without octets.
+/// What an event without octets brings.
 fn no_octets(place: u64) -> Brought<'static>
     ensures octets { result.octets.now ≡ [] }
     ensures place { result.place ≡ place }

@@ -201,8 +201,8 @@ fn read(notes: &mut Notes, occasion: &Occasion<'_>, flow: &Flow, count: u64) -> 
 /// Octets of a flow are fewer than this.
 const OCTETS_BELOW: u64 = 1 << 62;
 
-/// Whether so many octets from the place on end below [`OCTETS_BELOW`].
-fn stays_below(place: u64, count: u64) -> bool
+/// Whether so many octets from the place on end below 2^62.
+pub fn stays_below(place: u64, count: u64) -> bool
     ensures { IsTrue result ↔ (place + count < 2 ^ 62) }
 {
     place < OCTETS_BELOW && count < OCTETS_BELOW - place

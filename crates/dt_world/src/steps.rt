@@ -12,14 +12,12 @@ ghost use Rattle.dt_world.specs.Worlds.{IsStationOf, IsWhole, MayStep, event_of,
 
 use crate::doing;
 use crate::events::Event;
+use crate::notes::stays_below;
 use crate::parts::Parts;
 use crate::tellers::Lines;
 use dt_items::NoMemory;
 use dt_layout::Frame;
 use dt_units::Flow;
-
-/// Octets of a flow are fewer than this.
-const OCTETS_BELOW: u64 = 1 << 62;
 
 /// The event happens. `NoMemory` comes also where a count would pass its end: 2^62 octets of a flow,
 /// 2^32 lives of a station, a moment of 2^61 ms.
@@ -71,6 +69,5 @@ fn can_take(parts: &Parts, flow: Flow, count: u64) -> bool
     ensures can { IsTrue result ↔ (length (ledger_of (world_seen parts.entry.now).ledgers flow).taken + count < octets_below) }
     ensures flow { IsFlow flow }
 {
-    let taken = parts.notes.ledger.taken_count(&flow);
-    taken < OCTETS_BELOW && count < OCTETS_BELOW - taken
+    stays_below(parts.notes.ledger.taken_count(&flow), count)
 }

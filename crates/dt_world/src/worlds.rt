@@ -83,7 +83,7 @@ impl World {
         })
     }
 
-    /// How often the station started again. One that isn't there never did.
+    /// How often the station started again, 0 to 2^32 - 1. One that isn't there never did.
     pub fn life(&self, station: NodeId) -> u32
         ensures { result ≡ (placed self.now.state station.0).life }
     {
@@ -93,7 +93,17 @@ impl World {
         }
     }
 
-    /// An event happens to the world, which isn't spent.
+    /// An event happens to the world, which isn't spent, and its lines are told in order. Octets of a
+    /// send are 1 at least, `max` is 1 to 65,536.
+    ///
+    /// Refused, in this order, and then nothing is told or changed: `BadFlow`, a send or read whose flow
+    /// begins where it ends; `NoStation`, the event's station isn't there; `NoCopy`, no copy has that
+    /// number; `Lost`, that copy was lost before; `TooLate`, an arrival after more milliseconds on the
+    /// link than its charge. `NoMemory` comes for want of memory, and where a count would pass its end:
+    /// 2^62 octets of a flow, 2^32 lives of a station, 2^61 ms. Then the first of the lines were told,
+    /// and the world is spent; its ledger stays safe.
+    ///
+    /// The cost is the lines and their octets, and what the station's host looks through.
     pub fn step<L: Lines>(&mut self, event: &Event<'_>, lines: &mut L) -> Result<(), StepFault>
         requires unspent { self.old.spent ≡ false }
         requires may { MayStep (event_of event.now) }
