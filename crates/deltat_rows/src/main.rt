@@ -1,6 +1,6 @@
-//! The worked rows: each schedule of the folder is run as the program runs it, over the forms in
-//! memory, and its log and status are compared with those that stand beside it. What is printed is one
-//! line for each row. Each line of standard input is `NAME STATUS`.
+//! The worked rows: each input of the folder is run as the program runs it, over the forms in memory,
+//! and what is written and the status are compared with those that stand beside it. What is printed is
+//! one line for each row. Each line of standard input is `NAME WORD STATUS`.
 #![tactic(auto)]
 
 use dt_edges::{MemClock, MemSink, MemSource, MemWire};
@@ -18,11 +18,11 @@ struct Left {
     out: MemSink,
 }
 
-/// Runs `replay` on a schedule. None where there is no memory.
-fn replayed(alloc: Global, schedule: &[u8]) -> Option<Left> {
+/// Runs the program with a word on an input. None where there is no memory.
+fn after_run(alloc: Global, word: &str, input: &[u8]) -> Option<Left> {
     let mut words = Vec::new(alloc);
-    words.push(String::from_str(alloc, "replay").ok()?).ok()?;
-    let mut source = MemSource::new(alloc, schedule, &[]).ok()?;
+    words.push(String::from_str(alloc, word).ok()?).ok()?;
+    let mut source = MemSource::new(alloc, input, &[]).ok()?;
     let mut out = MemSink::new(alloc, ROOM, &[]).ok()?;
     let mut err = MemSink::new(alloc, ROOM, &[]).ok()?;
     let mut wire = MemWire::new(alloc, false, &[], &[], None).ok()?;
@@ -54,10 +54,12 @@ fn said(left: Option<Left>, log: &[u8], status: &str) -> &'static str {
 fn main(rt: HostRuntime) -> io::Result<()> {
     for line in rt.lines(rt.alloc()) {
         let line = line?;
-        if let Some((name, status)) = line.as_str().split_once(' ') {
-            let schedule = fs::read(&rt, format!(in rt.alloc(); "{name}.in")?.as_str())?;
+        if let Some((name, rest)) = line.as_str().split_once(' ')
+            && let Some((word, status)) = rest.split_once(' ')
+        {
+            let input = fs::read(&rt, format!(in rt.alloc(); "{name}.in")?.as_str())?;
             let log = fs::read(&rt, format!(in rt.alloc(); "{name}.out")?.as_str())?;
-            let said = said(replayed(rt.alloc(), &schedule), &log, status);
+            let said = said(after_run(rt.alloc(), word, &input), &log, status);
             println!(rt; "{name} {said}")?;
         }
     }

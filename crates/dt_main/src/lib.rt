@@ -1,8 +1,9 @@
 //! The program but for its `main`: makes the real objects, calls the top call, and tells its answer.
 #![tactic(auto)]
 
-use dt_edges::{MemClock, MemWire, ReaderSource, WriterSink, put_all};
+use dt_edges::{ReaderSource, WriterSink, put_all};
 use dt_items::NoMemory;
+use dt_machine::{MachineClock, UdpWire};
 use dt_top::run;
 use std::env;
 use std::io::ErrorKind;
@@ -21,20 +22,18 @@ fn words(rt: &HostRuntime) -> Result<Vec<String>, NoMemory> {
     }
 }
 
-/// Runs over standard input, standard output and standard error, with a wire on which nothing comes
-/// and a clock that stands still.
+/// Runs over standard input, standard output and standard error, with a UDP socket and the machine's
+/// clock.
 fn serve(rt: &HostRuntime) -> Result<u8, NoMemory> {
     let words = words(rt)?;
-    let mut wire = MemWire::new(rt.alloc(), false, &[], &[], None)?;
-    let mut clock = MemClock::new(rt.alloc(), &[0])?;
     Ok(run(
         rt.alloc(),
         &words,
         &mut ReaderSource::new(rt.stdin()),
         &mut WriterSink::new(rt.stdout()),
         &mut WriterSink::new(rt.stderr()),
-        &mut wire,
-        &mut clock,
+        &mut UdpWire::new(rt.alloc(), rt)?,
+        &mut MachineClock::new(rt),
     ))
 }
 

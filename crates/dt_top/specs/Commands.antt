@@ -1,33 +1,58 @@
--- The commands: which words name one, and what each owes.
-use Rattle.std.specs.Prelude.{ℕ, List, [], ◌∷◌, Option, Some, None, if◌then◌else◌, codes, String, string_bytes, bytes_eq}
-use Rattle.dt_edges.specs.Sinks.{SinkSight}
+-- The commands: which words name one, and which of them reads the source or uses wire and clock.
+use Rattle.std.specs.Prelude.{◌≤◌, Bool, true, false, List, [], ◌∷◌, Option, Some, None, if◌then◌else◌, map, option_map, codes, String, string_bytes, bytes_eq}
+use Rattle.dt_log.specs.Words.{Text}
+use Rattle.dt_make.specs.Schedules.{most_rounds}
 use Rattle.dt_top.specs.declared.command.Command.{Command}
-use Rattle.dt_top.specs.declared.command.Command.TheVariants.{Replay}
-use Rattle.dt_top.specs.declared.ending.Ending.{Ending}
-use Rattle.dt_top.specs.declared.ending.Ending.TheVariants as ending
-use Rattle.dt_replay.specs.declared.outcomes.Outcome.{Outcome}
-use Rattle.dt_replay.specs.declared.outcomes.Outcome.TheVariants as outcome
-use Rattle.dt_replay.specs.Replays.{Replays}
+use Rattle.dt_top.specs.declared.command.Command.TheVariants.{Serve, Make}
+use Rattle.dt_top.specs.declared.job.Job.{Job}
+use Rattle.dt_top.specs.declared.job.Job.TheVariants.{Replay, Node, Audit}
+use Rattle.dt_top.specs.Words.{without_mark, rounds_of}
 
--- the command that the words name
+-- the job that a word names
+abbrev pub job_of : Text → Option Job
+job_of word =
+    if bytes_eq word (codes "replay") then Some Replay
+    else if bytes_eq word (codes "node") then Some Node
+    else if bytes_eq word (codes "audit") then Some Audit
+    else None
+
+-- the command of one word
+abbrev pub alone : Text → Option Command
+alone word = option_map Serve (job_of word)
+
+-- the command of a word and a count
+abbrev pub counted : Text → Text → Option Command
+counted word count = if bytes_eq word (codes "make") then option_map Make (rounds_of count) else None
+
+-- the command of all of the words
+abbrev pub named : List Text → Option Command
+named [] = None
+named (word ∷ []) = alone word
+named (word ∷ count ∷ []) = counted word count
+named (word ∷ count ∷ next ∷ more) = None
+
+-- THE COMMAND that the words of the command line name
 abbrev pub command_of : {Z : Type 0} → List (String Z) → Option Command
-command_of [] = None
-command_of (word ∷ []) = if bytes_eq (string_bytes word) (codes "replay") then Some Replay else None
-command_of (word ∷ next ∷ more) = None
+command_of words = named (without_mark (map string_bytes words))
 
--- how a run ends whose replay does
-abbrev pub ending_of : Outcome → Ending
-ending_of outcome.Done = ending.Done
-ending_of outcome.Refused = ending.Refused
-ending_of outcome.NoMemory = ending.NoMemory
-ending_of outcome.WriteFault = ending.WriteFault
+-- a count is within its limits
+abbrev pub IsInRange : Command → Type 0
+IsInRange (Serve job) = Unit {0}
+IsInRange (Make n) = (1 ≤ n) × (n ≤ most_rounds)
 
--- WHAT A COMMAND OWES where it has its input: what the log holds, by how it ends. It doesn't end for its words or for want of an input.
-abbrev pub Owes : Command → Ending → List ℕ → SinkSight → SinkSight → Type 0
-Owes Replay ending.Done octets before after = Replays outcome.Done octets before after
-Owes Replay ending.Refused octets before after = Replays outcome.Refused octets before after
-Owes Replay ending.NoMemory octets before after = Replays outcome.NoMemory octets before after
-Owes Replay ending.WriteFault octets before after = Replays outcome.WriteFault octets before after
-Owes Replay ending.Usage octets before after = ⊥
-Owes Replay ending.TooLong octets before after = ⊥
-Owes Replay ending.ReadFault octets before after = ⊥
+-- whether a command reads the source
+abbrev pub reads_source : Option Command → Bool
+reads_source None = false
+reads_source (Some (Serve job)) = true
+reads_source (Some (Make n)) = false
+
+-- whether a command uses wire and clock
+abbrev pub job_uses_wire : Job → Bool
+job_uses_wire Replay = false
+job_uses_wire Node = true
+job_uses_wire Audit = false
+
+abbrev pub uses_wire : Option Command → Bool
+uses_wire None = false
+uses_wire (Some (Serve job)) = job_uses_wire job
+uses_wire (Some (Make n)) = false

@@ -1,4 +1,6 @@
 pub mod Inputs
 pub mod Endings
+pub mod Words
 pub mod Commands
+pub mod Streams
 pub mod Serving

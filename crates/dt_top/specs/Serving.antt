@@ -1,44 +1,114 @@
--- How a run of the program ends, and why.
-use Rattle.std.specs.Prelude.{ℕ, ◌<◌, ◌≡◌, ◌⊎◌, List, length, IfSome, Option, Some, None}
-use Rattle.dt_edges.specs.Counts.{HasRisen}
+-- What each command owes, and how a run of the program ends.
+use Rattle.std.specs.Prelude.{ℕ, ◌≡◌, ◌⊎◌, ◌<◌, ◌≤◌, List, length, Option, Some, None}
+use Rattle.dt_audit.specs.declared.outcomes.AuditOutcome.TheVariants as verdict
+use Rattle.dt_audit.specs.Audits.{Audits}
 use Rattle.dt_edges.specs.Sinks.{SinkSight, Takes, TakesPart}
-use Rattle.dt_edges.specs.Sources.{SourceSight}
+use Rattle.dt_make.specs.Schedules.{make_text}
+use Rattle.dt_node.specs.Answering.{Answers}
+use Rattle.dt_node.specs.Completing.{Completes}
+use Rattle.dt_node.specs.Serving.{Edges, edges}
+use Rattle.dt_node.specs.declared.outcomes.NodeOutcome.{NodeOutcome}
+use Rattle.dt_node.specs.declared.outcomes.NodeOutcome.TheVariants as node
+use Rattle.dt_replay.specs.declared.outcomes.Outcome.TheVariants as outcome
+use Rattle.dt_replay.specs.Replays.{Replays}
 use Rattle.dt_top.specs.declared.command.Command.{Command}
+use Rattle.dt_top.specs.declared.command.Command.TheVariants.{Serve, Make}
+use Rattle.dt_top.specs.declared.job.Job.{Job}
+use Rattle.dt_top.specs.declared.job.Job.TheVariants.{Replay, Node, Audit}
 use Rattle.dt_top.specs.declared.ending.Ending.{Ending}
-use Rattle.dt_top.specs.declared.ending.Ending.TheVariants.{Done, Usage, TooLong, Refused, NoMemory, ReadFault, WriteFault}
-use Rattle.dt_top.specs.Commands.{Owes}
-use Rattle.dt_top.specs.Inputs.{IsInput, limit}
+use Rattle.dt_top.specs.declared.ending.Ending.TheVariants.{Done, Usage, TooLong, Refused, NoMemory, WireFault, ClockStill, ReadFault, WriteFault}
+use Rattle.dt_top.specs.Inputs.{limit}
+use Rattle.dt_top.specs.Streams.{Effects, NoEffects, Streams, OwesFor, Untouched}
 
--- what contracts see of source and log, before a run and after it
-pub record Streams : Type 0 where
-  pub source_before : SourceSight
-  pub source_after : SourceSight
-  pub out_before : SinkSight
-  pub out_after : SinkSight
+-- for a schedule: its log
+abbrev pub replay_owes : Ending → List ℕ → Effects → Type 0
+replay_owes Done octets e = Replays outcome.Done octets e.out_before e.out_after
+replay_owes Usage octets e = ⊥
+replay_owes TooLong octets e = ⊥
+replay_owes Refused octets e = Replays outcome.Refused octets e.out_before e.out_after
+replay_owes NoMemory octets e = Replays outcome.NoMemory octets e.out_before e.out_after
+replay_owes WireFault octets e = ⊥
+replay_owes ClockStill octets e = ⊥
+replay_owes ReadFault octets e = ⊥
+replay_owes WriteFault octets e = Replays outcome.WriteFault octets e.out_before e.out_after
 
--- a command has read its whole input, and left what it owes
-pub record Serves (command : Command) (ending : Ending) (s : Streams) : Type 0 where
-  pub octets : List ℕ
-  pub input : IsInput octets s.source_before s.source_after
-  pub owes : Owes command ending octets s.out_before s.out_after
+-- for the script of a node: what the node does
+abbrev pub before : Effects → Edges
+before e = edges e.wire_before e.clock_before e.out_before
 
-abbrev pub ServesSome : Option Command → Ending → Streams → Type 0
-ServesSome None ending s = ⊥
-ServesSome (Some command) ending s = Serves command ending s
+abbrev pub after : Effects → Edges
+after e = edges e.wire_after e.clock_after e.out_after
 
-abbrev pub IsCommand : Option Command → Type 0
-IsCommand None = ⊥
-IsCommand (Some command) = Unit {0}
+pub record NodeAnswers (outcome : NodeOutcome) (octets : List ℕ) (e : Effects) : Type 0 where
+  pub answers : Answers octets outcome (before e) (after e)
+  pub completes : Completes octets outcome (before e) (after e)
 
--- HOW A RUN ENDS, and why. Memory may be wanted with any words, before anything is written, or while a command is served.
-abbrev pub Ends : Ending → Option Command → Streams → Type 0
-Ends Done command s = ServesSome command Done s
-Ends Usage command s = (command ≡ None) × (s.source_after ≡ s.source_before) × (s.out_after ≡ s.out_before)
-Ends TooLong command s = IsCommand command × IfSome s.source_before.left (λ octets. limit < length octets) × (s.out_after ≡ s.out_before)
-Ends Refused command s = ServesSome command Refused s
-Ends NoMemory command s = (s.out_after ≡ s.out_before) ⊎ ServesSome command NoMemory s
-Ends ReadFault command s = IsCommand command × HasRisen s.source_before.faults s.source_after.faults × (s.out_after ≡ s.out_before)
-Ends WriteFault command s = ServesSome command WriteFault s
+abbrev pub node_owes : Ending → List ℕ → Effects → Type 0
+node_owes Done octets e = NodeAnswers node.Done octets e
+node_owes Usage octets e = ⊥
+node_owes TooLong octets e = ⊥
+node_owes Refused octets e = NodeAnswers node.Refused octets e
+node_owes NoMemory octets e = NodeAnswers node.NoMemory octets e
+node_owes WireFault octets e = NodeAnswers node.WireFault octets e
+node_owes ClockStill octets e = NodeAnswers node.ClockStill octets e
+node_owes ReadFault octets e = ⊥
+node_owes WriteFault octets e = NodeAnswers node.WriteFault octets e
+
+-- for a log: the verdict on it
+abbrev pub audit_owes : Ending → List ℕ → Effects → Type 0
+audit_owes Done octets e = Audits verdict.Yes octets e.out_before e.out_after
+audit_owes Usage octets e = ⊥
+audit_owes TooLong octets e = ⊥
+audit_owes Refused octets e = Audits verdict.No octets e.out_before e.out_after
+audit_owes NoMemory octets e = Audits verdict.NoMemory octets e.out_before e.out_after
+audit_owes WireFault octets e = ⊥
+audit_owes ClockStill octets e = ⊥
+audit_owes ReadFault octets e = ⊥
+audit_owes WriteFault octets e = Audits verdict.WriteFault octets e.out_before e.out_after
+
+-- the generator's schedule, which takes no memory
+abbrev pub MakeOwes : ℕ → Ending → Effects → Type 0
+MakeOwes n Done e = Takes (make_text n) e.out_before e.out_after
+MakeOwes n Usage e = ⊥
+MakeOwes n TooLong e = ⊥
+MakeOwes n Refused e = ⊥
+MakeOwes n NoMemory e = ⊥
+MakeOwes n WireFault e = ⊥
+MakeOwes n ClockStill e = ⊥
+MakeOwes n ReadFault e = ⊥
+MakeOwes n WriteFault e = TakesPart (make_text n) e.out_before e.out_after
+
+-- what is owed for an input, by the job and by how it ends
+abbrev pub job_owes : Job → Ending → List ℕ → Effects → Type 0
+job_owes Replay ending octets e = replay_owes ending octets e
+job_owes Node ending octets e = node_owes ending octets e
+job_owes Audit ending octets e = audit_owes ending octets e
+
+-- what is true of an input that is refused: it is too long, and nothing was done, or it is refused by its job
+abbrev pub RefusesInput : Job → List ℕ → Effects → Type 0
+RefusesInput job octets e = ((limit < length octets) × NoEffects e) ⊎ ((length octets ≤ limit) × job_owes job Refused octets e)
+
+-- WHAT A COMMAND OWES, by how it ends
+abbrev pub Owes : Command → Ending → Streams → Type 0
+Owes (Serve job) ending s = OwesFor (job_owes job) ending s
+Owes (Make n) ending s = (s.source_after ≡ s.source_before) × MakeOwes n ending s.effects
+
+-- what is owed where the words name no command
+abbrev pub OwesNothing : Ending → Streams → Type 0
+OwesNothing Done s = ⊥
+OwesNothing Usage s = Untouched s
+OwesNothing TooLong s = ⊥
+OwesNothing Refused s = ⊥
+OwesNothing NoMemory s = Untouched s
+OwesNothing WireFault s = ⊥
+OwesNothing ClockStill s = ⊥
+OwesNothing ReadFault s = ⊥
+OwesNothing WriteFault s = ⊥
+
+-- HOW A RUN ENDS, and why. Memory may be wanted with any words, before anything is read.
+abbrev pub Ends : Option Command → Ending → Streams → Type 0
+Ends None ending s = OwesNothing ending s
+Ends (Some command) ending s = Owes command ending s ⊎ ((ending ≡ NoMemory) × Untouched s)
 
 -- A text was put on a sink: whole, or a first part of it where the sink's count of faults rose.
 abbrev pub Says : List ℕ → SinkSight → SinkSight → Type 0

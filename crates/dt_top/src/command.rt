@@ -1,19 +1,53 @@
-ghost use Rattle.std.specs.Prelude.{◌≡◌};
-ghost use Rattle.dt_top.specs.Commands.{command_of};
+ghost use Rattle.std.specs.Prelude.{◌≡◌, ◌≤◌, IfSome};
+ghost use Rattle.dt_make.specs.Schedules.{most_rounds};
+ghost use Rattle.dt_top.specs.Commands as commands;
+ghost use Rattle.dt_top.specs.Commands.{IsInRange};
+ghost use Rattle.dt_top.specs.Words as texts;
+
+use crate::job::Job;
+use dt_make::MOST_ROUNDS;
+use dt_text::read_number;
 
 /// What the words ask for.
 #[derive(Clone, Copy, Debug, PartialEq, Eq)]
 pub enum Command {
-    /// A schedule is read, and its log is written.
-    Replay,
+    /// An input is read to its end, and this is done with it.
+    Serve(Job),
+    /// The generator's schedule of this many rounds, 1 to 50,000, is written.
+    Make(u32),
 }
 
-/// The command that the words name, or none.
-pub fn command_of(words: &[String]) -> Option<Command>
-    ensures { result ≡ command_of words.now }
+/// The number of rounds that a word is, 1 to 50,000.
+fn rounds_of(word: &str) -> Option<u32>
+    ensures value { result ≡ texts.rounds_of word.now }
+    ensures within { IfSome result (λ n. (1 ≤ n) × (n ≤ most_rounds)) }
 {
-    match words {
-        [word] if word.as_str() == "replay" => Some(Command::Replay),
+    match read_number(word.as_bytes(), u64::from(MOST_ROUNDS)) {
+        Some(n) if n > 0 => Some(n as u32),
         _ => None,
+    }
+}
+
+impl Command {
+    /// The command of one word.
+    pub fn alone(word: &str) -> Option<Self>
+        ensures value { result ≡ commands.alone word.now }
+        ensures within { IfSome result IsInRange }
+    {
+        match Job::named(word) {
+            Some(job) => Some(Command::Serve(job)),
+            None => None,
+        }
+    }
+
+    /// The command of a word and a count.
+    pub fn counted(word: &str, count: &str) -> Option<Self>
+        ensures value { result ≡ commands.counted word.now count.now }
+        ensures within { IfSome result IsInRange }
+    {
+        match word {
+            "make" => Some(Command::Make(rounds_of(count)?)),
+            _ => None,
+        }
     }
 }

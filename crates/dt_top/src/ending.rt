@@ -4,19 +4,24 @@ ghost use Rattle.dt_top.specs.Endings.{status_of, text_of};
 /// How a run ends.
 #[derive(Clone, Copy, Debug, PartialEq, Eq)]
 pub enum Ending {
-    /// The schedule was accepted, and its log is written.
+    /// All was served: a schedule and its log, a script up to its stop, a generated schedule, or a log
+    /// without a flaw.
     Done,
     /// The words aren't those of a command.
     Usage,
     /// The input has more than 16,777,216 octets.
     TooLong,
-    /// A line of the input is refused, and the log ends with its fault.
+    /// A line of the input is refused, and what is written ends with its fault or its flaw.
     Refused,
     /// There was no memory.
     NoMemory,
+    /// The wire didn't open, or a take failed.
+    WireFault,
+    /// The clock stood still.
+    ClockStill,
     /// The source failed.
     ReadFault,
-    /// A put of the log failed.
+    /// A put on standard output failed.
     WriteFault,
 }
 
@@ -30,6 +35,8 @@ impl Ending {
             Ending::Usage => 2,
             Ending::TooLong | Ending::Refused => 3,
             Ending::NoMemory => 4,
+            Ending::WireFault => 5,
+            Ending::ClockStill => 6,
             Ending::ReadFault => 7,
             Ending::WriteFault => 8,
         }
@@ -41,10 +48,12 @@ impl Ending {
     {
         match self {
             Ending::Done => b"",
-            Ending::Usage => b"usage: deltat replay | node | make N\n",
+            Ending::Usage => b"usage: deltat replay | node | make N | audit\n",
             Ending::TooLong => b"input longer than 16777216 octets\n",
             Ending::Refused => b"input refused\n",
             Ending::NoMemory => b"out of memory\n",
+            Ending::WireFault => b"wire failed\n",
+            Ending::ClockStill => b"clock stands still\n",
             Ending::ReadFault => b"read failed\n",
             Ending::WriteFault => b"write failed\n",
         }

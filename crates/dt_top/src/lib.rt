@@ -2,89 +2,65 @@
 //! and answers with a status.
 #![tactic(auto)]
 
-ghost use Rattle.std.specs.Prelude.{ℕ, ◌≡◌, ◌≤◌, ◌<◌, ◌↔◌, ◌⊎◌, true, false, length, IfSome, Some, None};
+ghost use Rattle.std.specs.Prelude.{ℕ, ◌≡◌, ◌≤◌, ◌<◌, ◌⊎◌, true, false, List, [], length, IfOk, IfSome, Some, None};
+ghost use Rattle.dt_audit.specs.Audits.{AreSafe, audit_text, has_flaw, ledger_of};
 ghost use Rattle.dt_edges.specs.Counts.{HasRisen};
+ghost use Rattle.dt_edges.specs.Sinks.{Takes};
 ghost use Rattle.dt_fold.specs.Logging.{HasAll, HasPart};
+ghost use Rattle.dt_make.specs.Schedules.{make_text};
+ghost use Rattle.dt_node.specs.Completing.{ReachesStop};
+ghost use Rattle.dt_node.specs.Drafts.{script_of};
+ghost use Rattle.dt_node.specs.Orders.{Orders};
+ghost use Rattle.dt_node.specs.declared.outcomes.NodeOutcome.TheVariants as node;
 ghost use Rattle.dt_replay.specs.Schedules.{is_accepted, replay_text, world_after_lines};
 ghost use Rattle.dt_world_model.specs.WorldFacts.{SafeWorld};
-ghost use Rattle.dt_top.specs.Commands.{Owes, command_of, ending_of};
+ghost use Rattle.dt_top.specs.Commands.{command_of, reads_source, uses_wire};
 ghost use Rattle.dt_top.specs.Endings.{status_of, text_of};
 ghost use Rattle.dt_top.specs.Inputs.{limit};
-ghost use Rattle.dt_top.specs.Serving.{Ends, Says};
-ghost use Rattle.dt_top.specs.declared.command.Command.TheVariants.{Replay};
+ghost use Rattle.dt_top.specs.Serving.{Ends, NodeAnswers, RefusesInput, Says};
+ghost use Rattle.dt_top.specs.Streams.{effects};
+ghost use Rattle.dt_top.specs.declared.command.Command.TheVariants.{Serve, Make};
 ghost use Rattle.dt_top.specs.declared.ending.Ending.{Ending};
+ghost use Rattle.dt_top.specs.declared.job.Job.{Job};
+ghost use Rattle.dt_top.specs.declared.job.Job.TheVariants.{Replay, Node, Audit};
 
 mod command;
+mod command_line;
 mod ending;
 mod input;
+mod job;
+mod serving;
 
-use crate::command::{Command, command_of};
-use crate::ending::Ending;
-use crate::input::{InputFault, read_input};
+use crate::serving::serve_words;
 use dt_edges::{Clock, Sink, Source, Wire, put_all};
-use dt_replay::{Outcome, replay};
 use std::alloc::Global;
 
-/// How a run ends whose replay does.
-fn ending_of(outcome: Outcome) -> Ending
-    ensures { result ≡ ending_of outcome }
-{
-    match outcome {
-        Outcome::Done => Ending::Done,
-        Outcome::Refused => Ending::Refused,
-        Outcome::NoMemory => Ending::NoMemory,
-        Outcome::WriteFault => Ending::WriteFault,
-    }
-}
-
-/// Does what the command says with its input.
-fn serve<K: Sink>(alloc: Global, command: Command, input: &[u8], out: &mut K) -> Ending
-    requires { length input.now ≤ limit }
-    ensures { Owes command result input.now (K.sight out.old) (K.sight out.new) }
-{
-    match command {
-        Command::Replay => ending_of(replay(alloc, input, out)),
-    }
-}
-
-/// Serves the command that the words name.
-fn serve_words<S: Source, K: Sink>(
-    alloc: Global,
-    words: &[String],
-    source: &mut S,
-    out: &mut K,
-) -> Ending
-    ensures { Ends result (command_of words.now) (record {
-      source_before = S.sight source.old;
-      source_after = S.sight source.new;
-      out_before = K.sight out.old;
-      out_after = K.sight out.new;
-    }) }
-{
-    let Some(command) = command_of(words) else {
-        return Ending::Usage;
-    };
-    match read_input(alloc, source) {
-        Ok(input) => serve(alloc, command, &input, out),
-        Err(InputFault::TooLong) => Ending::TooLong,
-        Err(InputFault::NoMemory) => Ending::NoMemory,
-        Err(InputFault::ReadFault) => Ending::ReadFault,
-    }
-}
-
 /// The program: serves the command that the words name, and answers the exit status. `words` leaves
-/// out the program's name. The one command is `replay`: it reads a schedule from the source to its
-/// end and writes its log on `out`. The status's text is put on `err`; a failing put there changes
-/// no status. Wire and clock are left as they were. The cost is the input, the log, and what the
-/// schedule asks of its world.
+/// out the program's name. The first `--` among them, if there is one, is left out too. Then they are
+/// one of these, and the status's text is put on `err`; a failing put there changes no status.
 ///
-/// - 0: the schedule was accepted, and `out` has its whole log.
-/// - 2: the words aren't the one word `replay`. Nothing was read.
-/// - 3: the input has more than 16,777,216 octets, and nothing was written; or a line is refused, and
-///   the log ends with its fault.
-/// - 4: there was no memory. `out` has a first part of the log.
+/// - `replay`: reads a schedule from the source to its end and writes its log on `out`.
+/// - `node`: reads a script from the source to its end, opens the wire, and runs the node of the script
+///   over it by the clock, up to the script's stop. It writes the node's log on `out`.
+/// - `make` and a decimal number from 1 to 50,000 without a leading zero: writes the generator's
+///   schedule of so many rounds on `out`, and leaves the source as it was.
+/// - `audit`: reads a log of `replay` from the source to its end, checks it, and writes the verdict.
+///
+/// All but `node` leave wire and clock as they were. The cost of `replay` is the input, the log, and
+/// what the schedule asks of its world; that of `node` is its turns; that of `make` is what it writes;
+/// that of `audit` is the log.
+///
+/// - 0: all was served, and `out` has the whole log, schedule or verdict; a log that is audited has no
+///   flaw.
+/// - 2: the words are none of these. Nothing was read and nothing was written.
+/// - 3: the input has more than 16,777,216 octets, and nothing was written; or a line of it is refused,
+///   and what was written ends with its fault; or a line of a log has a flaw, which is the verdict.
+/// - 4: there was no memory. `out` has a first part of what it gets.
+/// - 5: the wire didn't open, or a take failed. `out` has the log up to there.
+/// - 6: 100,000 turns running had the same moment, and none of them met the stop. `out` has the log up
+///   to there.
 /// - 7: the source failed, and nothing was written.
-/// - 8: a put on `out` failed. It has a first part of the log.
+/// - 8: a put on `out` failed. It has a first part of what it gets.
 pub fn run<S: Source, K: Sink, E: Sink, W: Wire, C: Clock>(
     alloc: Global,
     words: &[String],
@@ -96,33 +72,54 @@ pub fn run<S: Source, K: Sink, E: Sink, W: Wire, C: Clock>(
 ) -> u8
     // How it ends, and why: no other status is answered, and standard error has the text of the one
     // that is.
-    ensures ends { (ending : Ending) × (result ≡ status_of ending) × Ends ending (command_of words.now) (record {
+    ensures ends { (ending : Ending) × (result ≡ status_of ending) × Ends (command_of words.now) ending (record {
       source_before = S.sight source.old;
       source_after = S.sight source.new;
-      out_before = K.sight out.old;
-      out_after = K.sight out.new;
+      effects = effects (K.sight out.old) (K.sight out.new) (W.sight wire.old) (W.sight wire.new) (C.sight clock.old) (C.sight clock.new);
     }) × Says (text_of ending) (E.sight err.old) (E.sight err.new) }
     // THE HEADLINE. The log of an accepted schedule, whole. After each line of any schedule each flow of
     // its world is safe.
-    ensures done { result ≡ 0 → IfSome (S.sight source.old).left (λ octets. (is_accepted octets ≡ true) × HasAll (replay_text octets) (K.sight out.old) (K.sight out.new)) }
+    ensures done { command_of words.now ≡ Some (Serve Replay) → result ≡ 0 → IfSome (S.sight source.old).left (λ octets. (is_accepted octets ≡ true) × HasAll (replay_text octets) (K.sight out.old) (K.sight out.new)) }
     ensures safe { IfSome (S.sight source.old).left (λ octets. (count : ℕ) → IfSome (world_after_lines count octets) (λ w. SafeWorld w)) }
+    // A node that met its stop: all that is said of such a run.
+    ensures stopped { command_of words.now ≡ Some (Serve Node) → result ≡ 0 → IfSome (S.sight source.old).left (λ octets. NodeAnswers node.Done octets (effects (K.sight out.old) (K.sight out.new) (W.sight wire.old) (W.sight wire.new) (C.sight clock.old) (C.sight clock.new))) }
+    // The generator's schedule, whole.
+    ensures made { (n : ℕ) → command_of words.now ≡ Some (Make n) → result ≡ 0 → Takes (make_text n) (K.sight out.old) (K.sight out.new) }
+    // A log without a flaw. Of any such log each flow of the ledger is safe.
+    ensures passed { command_of words.now ≡ Some (Serve Audit) → result ≡ 0 → IfSome (S.sight source.old).left (λ octets. (has_flaw octets ≡ false) × Takes (audit_text octets) (K.sight out.old) (K.sight out.new)) }
+    ensures audited { (octets : List ℕ) → IfOk (ledger_of octets) AreSafe }
     ensures usage { result ≡ 2 → (command_of words.now ≡ None) × (S.sight source.new ≡ S.sight source.old) × (K.sight out.new ≡ K.sight out.old) }
     ensures no_command { command_of words.now ≡ None → (result ≡ 2) ⊎ (result ≡ 4) }
-    // What is refused is too long, or has a refused line, which ends the log.
-    ensures refused { result ≡ 3 → IfSome (S.sight source.old).left (λ octets.
-        ((limit < length octets) × (K.sight out.new ≡ K.sight out.old))
-        ⊎ ((length octets ≤ limit) × (is_accepted octets ≡ false) × HasAll (replay_text octets) (K.sight out.old) (K.sight out.new))) }
+    // What is refused is too long, or has a refused line or a flaw, with which what is written ends.
+    ensures refused { result ≡ 3 → (job : Job) × (command_of words.now ≡ Some (Serve job)) × IfSome (S.sight source.old).left (λ octets. RefusesInput job octets (effects (K.sight out.old) (K.sight out.new) (W.sight wire.old) (W.sight wire.new) (C.sight clock.old) (C.sight clock.new))) }
+    ensures wire_failed { result ≡ 5 → (command_of words.now ≡ Some (Serve Node)) × HasRisen (W.sight wire.old).take_faults (W.sight wire.new).take_faults }
+    ensures stood_still { result ≡ 6 → (command_of words.now ≡ Some (Serve Node)) × IfSome (S.sight source.old).left (λ octets. NodeAnswers node.ClockStill octets (effects (K.sight out.old) (K.sight out.new) (W.sight wire.old) (W.sight wire.new) (C.sight clock.old) (C.sight clock.new))) }
     ensures read_failed { result ≡ 7 → HasRisen (S.sight source.old).faults (S.sight source.new).faults × (K.sight out.new ≡ K.sight out.old) }
-    ensures write_failed { result ≡ 8 → HasRisen (K.sight out.old).faults (K.sight out.new).faults
-        × IfSome (S.sight source.old).left (λ octets. HasPart (replay_text octets) (K.sight out.old) (K.sight out.new)) }
+    ensures write_failed { result ≡ 8 → HasRisen (K.sight out.old).faults (K.sight out.new).faults }
+    ensures part_of_log { command_of words.now ≡ Some (Serve Replay) → result ≡ 8 → IfSome (S.sight source.old).left (λ octets. HasPart (replay_text octets) (K.sight out.old) (K.sight out.new)) }
+    ensures part_of_schedule { (n : ℕ) → command_of words.now ≡ Some (Make n) → result ≡ 8 → HasPart (make_text n) (K.sight out.old) (K.sight out.new) }
     // An accepted schedule is served, where there is memory and nothing fails.
-    ensures complete { command_of words.now ≡ Some Replay → IfSome (S.sight source.old).left (λ octets. length octets ≤ limit → is_accepted octets ≡ true
+    ensures complete { command_of words.now ≡ Some (Serve Replay) → IfSome (S.sight source.old).left (λ octets. length octets ≤ limit → is_accepted octets ≡ true
         → (HasRisen (S.sight source.old).faults (S.sight source.new).faults → ⊥) → (HasRisen (K.sight out.old).faults (K.sight out.new).faults → ⊥)
         → (result ≡ 0) ⊎ (result ≡ 4)) }
-    ensures same_wire { wire.new ≡ wire.old }
-    ensures same_clock { clock.new ≡ clock.old }
+    // So is an accepted script, where the clock tells a plan that reaches the stop.
+    ensures complete_node { command_of words.now ≡ Some (Serve Node) → IfSome (S.sight source.old).left (λ octets. (o : Orders) (plan : List ℕ) → length octets ≤ limit → script_of octets ≡ Some o
+        → (C.sight clock.old).plan ≡ Some plan → (C.sight clock.old).readings ≡ Some [] → ReachesStop o.stop plan
+        → (HasRisen (S.sight source.old).faults (S.sight source.new).faults → ⊥) → (HasRisen (K.sight out.old).faults (K.sight out.new).faults → ⊥)
+        → (HasRisen (W.sight wire.old).take_faults (W.sight wire.new).take_faults → ⊥)
+        → (result ≡ 0) ⊎ (result ≡ 4)) }
+    // So is `make`: no memory is wanted but for the words, before anything is written.
+    ensures complete_make { (n : ℕ) → command_of words.now ≡ Some (Make n) → (HasRisen (K.sight out.old).faults (K.sight out.new).faults → ⊥)
+        → (result ≡ 0) ⊎ ((result ≡ 4) × (K.sight out.new ≡ K.sight out.old)) }
+    // So is a log without a flaw.
+    ensures complete_audit { command_of words.now ≡ Some (Serve Audit) → IfSome (S.sight source.old).left (λ octets. length octets ≤ limit → has_flaw octets ≡ false
+        → (HasRisen (S.sight source.old).faults (S.sight source.new).faults → ⊥) → (HasRisen (K.sight out.old).faults (K.sight out.new).faults → ⊥)
+        → (result ≡ 0) ⊎ (result ≡ 4)) }
+    ensures same_source { reads_source (command_of words.now) ≡ false → source.new ≡ source.old }
+    ensures same_wire { uses_wire (command_of words.now) ≡ false → wire.new ≡ wire.old }
+    ensures same_clock { uses_wire (command_of words.now) ≡ false → clock.new ≡ clock.old }
 {
-    let ending = serve_words(alloc, words, source, out);
+    let ending = serve_words(alloc, words, source, out, wire, clock);
     let _ = put_all(ending.text(), err);
     ending.status()
 }

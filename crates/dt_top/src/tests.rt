@@ -222,23 +222,167 @@ fn inputs_that_end_early(rt: HostRuntime) -> Result<(), Fail> {
     Ok(())
 }
 
+/// One run of the program on no input, with the words of a line, between which stand spaces.
+fn after_line(alloc: Global, line: &str) -> Result<Left, Fail> {
+    let words: Vec<&str> = line.split(' ').collect(alloc)?;
+    after_run(alloc, &words, b"", FREELY)
+}
+
 #[test]
 fn other_words_are_no_command(rt: HostRuntime) -> Result<(), Fail> {
     let cases = [
-        [].as_slice(),
-        &["node"],
-        &["Replay"],
-        &["replay", "5"],
-        &["--help"],
+        "",
+        "-",
+        "--",
+        "Replay",
+        "replay 5",
+        "node 5",
+        "audit 5",
+        "replay -- --",
+        "-- -- replay",
+        "--help",
+        "-h",
+        "--version",
+        "make",
+        "make ",
+        "make 0",
+        "make 01",
+        "make +1",
+        "make -1",
+        "make 50001",
+        "make 1 1",
+        "make -- -- 1",
+        "--make 1",
+        "--count 1",
     ];
-    for words in &cases {
-        let left = after_run(rt.alloc(), words, b"", FREELY)?;
-        assert_eq!(rt; left.status, 2);
+    let none = after_run(rt.alloc(), &[], b"", FREELY)?;
+    assert_eq!(rt; none.status, 2);
+    for line in cases {
+        let left = after_line(rt.alloc(), line)?;
+        assert_eq!(rt; left.status, 2, "of {line:?}");
         assert_eq!(rt; left.out.as_slice(), b"".as_slice());
         assert_eq!(rt;
             left.err.as_slice(),
-            b"usage: deltat replay | node | make N\n".as_slice()
+            b"usage: deltat replay | node | make N | audit\n".as_slice()
         );
+    }
+    Ok(())
+}
+
+/// What follows the setup in the schedule of one round.
+const ONE_ROUND: &str = "send 1:10>2:20 be 0001
+lose 0
+pass 500
+tick 1
+pass 10
+arrive 1
+pass 10
+arrive 2
+read 1:10>2:20 65536
+";
+
+#[test]
+fn the_first_mark_is_left_out(rt: HostRuntime) -> Result<(), Fail> {
+    let one = joined(rt.alloc(), &[PARAMS, SETUP, ONE_ROUND])?;
+    for line in ["make 1", "-- make 1", "make -- 1", "make 1 --"] {
+        let left = after_line(rt.alloc(), line)?;
+        assert_eq!(rt; left.status, 0, "of {line:?}");
+        assert_eq!(rt; left.out.as_slice(), one.as_bytes());
+        assert_eq!(rt; left.err.as_slice(), b"".as_slice());
+    }
+    for line in ["-- replay", "replay --"] {
+        let left = after_line(rt.alloc(), line)?;
+        assert_eq!(rt; left.status, 3);
+        assert_eq!(rt; left.out.as_slice(), b"line 1: order\n".as_slice());
+    }
+    Ok(())
+}
+
+/// Room for a schedule of 5,000 rounds, and for its log.
+const AMPLE: Hinder<'static> = Hinder {
+    out: 4_194_304,
+    ..FREELY
+};
+
+/// The log of the schedule of so many rounds.
+fn log_of_made(alloc: Global, rounds: &str) -> Result<Left, Fail> {
+    let made = after_run(alloc, &["make", rounds], b"", AMPLE)?;
+    after_run(alloc, &["replay"], made.out.as_slice(), AMPLE)
+}
+
+#[test]
+fn made_schedules_are_replayed(rt: HostRuntime) -> Result<(), Fail> {
+    let cases = [
+        (
+            "1",
+            "520 2 read 1:10>2:20 rbe 0001
+flow 1:10>2:20 taken 2 acked 2 uncertain 0 open 0 given 2 read 2
+end 520
+",
+        ),
+        (
+            "3",
+            "1060 2 read 1:10>2:20 be 02
+flow 1:10>2:20 taken 19 acked 19 uncertain 0 open 0 given 19 read 19
+end 1060
+",
+        ),
+    ];
+    for (rounds, end) in &cases {
+        let left = log_of_made(rt.alloc(), rounds)?;
+        assert_eq!(rt; left.status, 0);
+        assert!(rt;
+            left.out.as_slice().ends_with(end.as_bytes()),
+            "of {rounds}"
+        );
+    }
+    Ok(())
+}
+
+/// The last two lines of the log of so many rounds, from the numbers that the rounds are drawn from:
+/// all that was sent is read, and a round takes 520 milliseconds where its message is sent again, and
+/// 20 else.
+fn summary(alloc: Global, rounds: u32) -> Result<String, Fail> {
+    let (mut x, mut taken, mut end) = (1_u64, 0_u64, 0_u64);
+    for _ in 0..rounds {
+        x = x.wrapping_mul(1_103_515_245).wrapping_add(12_345) % 2_147_483_648;
+        let draw = x / 65_536;
+        taken = taken.wrapping_add(1 + draw / 4 % 16);
+        end = end.wrapping_add(if draw % 4 == 2 { 520 } else { 20 });
+    }
+    Ok(format!(in alloc;
+        "\nflow 1:10>2:20 taken {taken} acked {taken} uncertain 0 open 0 given {taken} read {taken}\nend {end}\n"
+    )?)
+}
+
+#[test]
+fn five_thousand_rounds(rt: HostRuntime) -> Result<(), Fail> {
+    let first = log_of_made(rt.alloc(), "5000")?;
+    assert_eq!(rt; first.status, 0);
+    let end = summary(rt.alloc(), 5000)?;
+    assert!(rt; first.out.as_slice().ends_with(end.as_bytes()));
+    let again = log_of_made(rt.alloc(), "5000")?;
+    assert!(rt; again.out.as_slice() == first.out.as_slice());
+    Ok(())
+}
+
+#[test]
+fn a_schedule_that_finds_no_room(rt: HostRuntime) -> Result<(), Fail> {
+    let one = joined(rt.alloc(), &[PARAMS, SETUP, ONE_ROUND])?;
+    for room in 0..one.as_bytes().len() {
+        let left = after_run(
+            rt.alloc(),
+            &["make", "1"],
+            b"",
+            Hinder {
+                out: room,
+                ..FREELY
+            },
+        )?;
+        assert_eq!(rt; left.status, 8);
+        assert!(rt; one.as_bytes().starts_with(left.out.as_slice()));
+        assert_eq!(rt; left.out.as_slice().len(), room);
+        assert_eq!(rt; left.err.as_slice(), b"write failed\n".as_slice());
     }
     Ok(())
 }
@@ -288,5 +432,80 @@ fn the_limit_of_the_input(rt: HostRuntime) -> Result<(), Fail> {
         longer.err.as_slice(),
         b"input longer than 16777216 octets\n".as_slice()
     );
+    Ok(())
+}
+
+/// The script of a node that sends five octets at once and stops at 100.
+const SCRIPT: &str = "params 1000 3000 200 500 800 100 4096 4096 512 2147483648
+me 1 first
+local 127.0.0.1:4001
+peer 1 127.0.0.1:4002 50 0
+route 2 1
+go
+at 0 send 1:10>2:20 be 68656c6c6f
+at 100 stop
+";
+
+/// Its first three lines.
+const SENDS: &str = "0 1 took 1:10>2:20 5\n0 1 sent 1:10>2:20 0 5 dbe\n0 1 put 1 999\n";
+
+/// A run of the node over a wire and by these readings, of which there is one at least.
+fn after_node(alloc: Global, wire: &mut MemWire, readings: &[u64]) -> Result<Left, Fail> {
+    let mut words = Vec::new(alloc);
+    words.push(String::from_str(alloc, "node")?)?;
+    let mut source = MemSource::new(alloc, SCRIPT.as_bytes(), &[])
+        .ok()
+        .ok_or("memory")?;
+    let mut out = MemSink::new(alloc, 4096, &[]).ok().ok_or("memory")?;
+    let mut err = MemSink::new(alloc, 64, &[]).ok().ok_or("memory")?;
+    if readings.is_empty() {
+        return Err(Fail::from("no readings"));
+    }
+    let mut clock = MemClock::new(alloc, readings).ok().ok_or("memory")?;
+    let status = run(
+        alloc,
+        &words,
+        &mut source,
+        &mut out,
+        &mut err,
+        wire,
+        &mut clock,
+    );
+    Ok(Left { status, out, err })
+}
+
+#[test]
+fn a_node_ends_by_its_stop_its_wire_or_its_clock(rt: HostRuntime) -> Result<(), Fail> {
+    let cases = [
+        (false, [1000, 1100], 0, "end 100\n", ""),
+        (true, [1000, 1100], 5, "", "wire failed\n"),
+        (false, [1000, 1000], 6, "", "clock stands still\n"),
+    ];
+    for (open_fails, readings, status, end, said) in &cases {
+        let mut wire = MemWire::new(rt.alloc(), *open_fails, &[], &[], Some(64))
+            .ok()
+            .ok_or("memory")?;
+        let left = after_node(rt.alloc(), &mut wire, readings)?;
+        assert_eq!(rt; left.status, *status);
+        let begun = if *open_fails { "" } else { SENDS };
+        let log = joined(rt.alloc(), &[begun, *end])?;
+        assert_eq!(rt; left.out.as_slice(), log.as_bytes());
+        assert_eq!(rt; left.err.as_slice(), said.as_bytes());
+        assert_eq!(rt; wire.given(0).is_some(), !*open_fails);
+    }
+    Ok(())
+}
+
+#[test]
+fn logs_are_audited(rt: HostRuntime) -> Result<(), Fail> {
+    let cases = [
+        (SHORT_LOG, 0, "audit yes\n"),
+        ("0 2 accepted 1:10>2:20 0 5 run\n", 3, "line 1: stray\n"),
+    ];
+    for (log, status, verdict) in &cases {
+        let left = after_run(rt.alloc(), &["audit"], log.as_bytes(), FREELY)?;
+        assert_eq!(rt; left.status, *status);
+        assert_eq!(rt; left.out.as_slice(), verdict.as_bytes());
+    }
     Ok(())
 }

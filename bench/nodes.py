@@ -1,0 +1,122 @@
+#!/usr/bin/env python3
+"""How fast a node is on this machine's loopback, beside a plain loop of UDP sockets with datagrams of the
+same sizes (`bench/plain.rs`, built by `rustc -O -o /tmp/plain bench/plain.rs`).
+`bench/nodes.py crates/deltat/out/deltat /tmp/plain`.
+
+- requests: a client sends a message of 100 octets in one packet and waits for what answers it.
+- octets: one node sends another messages of 65,536 octets; the plain client sends as many datagrams
+  of the same size and waits for an answer to every 64."""
+import socket
+import struct
+import subprocess
+import sys
+import time
+
+HOST = "127.0.0.1"
+REQUESTS, FLOWS = 500, 20
+MESSAGES = 40
+SEG = 1024
+
+
+def params(seg):
+    return f"params 1000 3000 200 500 800 {seg} 65536 65536 65536 2147483648"
+
+
+def bound():
+    it = socket.socket(socket.AF_INET, socket.SOCK_DGRAM)
+    it.setsockopt(socket.SOL_SOCKET, socket.SO_RCVBUF, 1 << 22)
+    it.bind((HOST, 0))
+    it.settimeout(5)
+    return it
+
+
+def free_port():
+    with bound() as it:
+        return it.getsockname()[1]
+
+
+def start(program, lines):
+    node = subprocess.Popen([program, "node"], stdin=subprocess.PIPE, stdout=subprocess.PIPE)
+    node.stdin.write(("\n".join(lines) + "\n").encode())
+    node.stdin.close()
+    return node
+
+
+def data(port, number, drf):
+    """A data packet of 100 octets from node 2 to node 1, a message of its own."""
+    body = struct.pack(">BBHHII", 1, 6 | drf, port, 20, number, 0) + b"a" * 100
+    return struct.pack(">BBHIII", 1, 1, len(body), 999, 2, 1) + body
+
+
+def exchange(client, port, datagrams):
+    """Requests a second, each answered before the next."""
+    begun = time.monotonic()
+    for octets in datagrams:
+        client.sendto(octets, (HOST, port))
+        client.recv(65536)
+    return len(datagrams) / (time.monotonic() - begun)
+
+
+def requests(program, plain):
+    client, port = bound(), free_port()
+    node = start(program, [params(SEG), "me 1 first", f"local {HOST}:{port}", f"peer 1 {HOST}:{client.getsockname()[1]} 50 0",
+                           "route 2 1", "go", "at 15000 stop"])
+    time.sleep(0.3)
+    datagrams = [data(flow, 100 * i, i == 0) for flow in range(FLOWS) for i in range(REQUESTS)]
+    by_node = exchange(client, port, datagrams)
+    node.kill()
+    port = free_port()
+    loop = subprocess.Popen([plain, str(port), str(len(datagrams))])
+    time.sleep(0.3)
+    by_loop = exchange(client, port, datagrams)
+    loop.wait()
+    return by_node, by_loop
+
+
+def moments(node):
+    """When the first line with `took` and the last with `settled` came, and how often nodes sent."""
+    first = last = None
+    sent = 0
+    for line in node.stdout:
+        now, words = time.monotonic(), line.split()
+        if words[2] == b"took" and first is None:
+            first = now
+        if words[2] == b"settled":
+            last = now
+        sent += words[2] in (b"sent", b"resent")
+    return first, last, sent
+
+
+def octets(program, plain):
+    ports = free_port(), free_port()
+    nodes = []
+    for me, other, mine, theirs in ((2, 1, ports[1], ports[0]), (1, 2, ports[0], ports[1])):
+        lines = [params(SEG), f"me {me} first", f"local {HOST}:{mine}", f"peer 1 {HOST}:{theirs} 50 0", f"route {other} 1", "go"]
+        if me == 1:
+            lines += [f"at 500 send 1:{i}>2:20 be {'61' * 65536}" for i in range(MESSAGES)]
+        nodes.append(start(program, lines + ["at 8000 stop"]))
+    nodes[0].stdout.close()
+    first, last, sent = moments(nodes[1])
+    by_nodes = MESSAGES * 65536 / (last - first)
+    print(f"  (the sender sent {sent} packets of {MESSAGES * 65536 // SEG})")
+    client, port, count = bound(), free_port(), MESSAGES * 65536 // SEG
+    loop = subprocess.Popen([plain, str(port), str(count)])
+    time.sleep(0.3)
+    begun = time.monotonic()
+    for i in range(count):
+        client.sendto(b"a" * (SEG + 30), (HOST, port))
+        if i % 64 == 63:
+            for _ in range(64):
+                client.recv(65536)
+    by_loop = MESSAGES * 65536 / (time.monotonic() - begun)
+    loop.wait()
+    return by_nodes, by_loop
+
+
+def main():
+    program, plain = sys.argv[1:3]
+    print("requests of 100 octets a second: node %.0f, plain loop %.0f" % requests(program, plain))
+    print("octets a second of messages of 65,536: two nodes %.0f, plain loop %.0f" % octets(program, plain))
+
+
+main()

@@ -1,0 +1,195 @@
+-- The lines that are written of reports are read as the facts that they tell.
+use Rattle.std.proofs.Common.{ℕ, suc, ◌≡◌, ◌<◌, ◌^◌, ◌==◌, Bool, true, false, List, [], ◌∷◌, ◌++◌, map, length, codes, decimal, Option, Some, None, Result, Ok, Err, is_some, refl, sym, ap, ◌∙◌, inl, inr, arith}
+use Rattle.std.specs.Prelude.{nat_le, nat_lt}
+use Rattle.std.specs.List.{onto_first, slice_split}
+use Rattle.std.proofs.lemmas.Bool.{and_left, and_right, cases_Bool, le-leb}
+use Rattle.std.proofs.lemmas.List.Splits.{slice_split-cons_no, slice_split-cons_yes}
+use Rattle.dt_reports.specs.Entries.{Entry}
+use Rattle.dt_reports.specs.Told.{Told}
+use Rattle.dt_reports.specs.declared.reports.Report.TheVariants as report
+use Rattle.dt_log.specs.LogLines.{line_words}
+use Rattle.dt_log.specs.Logs.{entry_words, log_text}
+use Rattle.dt_log.specs.Words.{Text, flow_text, sent_letters, spaced}
+use Rattle.dt_log.proofs.WordLaws.{lines_again, words_again}
+use Rattle.dt_text.specs.InputLines.{in_front, lines_of}
+use Rattle.dt_text.specs.Numerals.{digits_number, numeral}
+use Rattle.dt_text.proofs.FlowLaws.{flow-text}
+use Rattle.dt_text.proofs.NumberLaws.{numeral-decimal}
+use Rattle.dt_audit.specs.declared.facts.Fact.TheVariants.{Other}
+use Rattle.dt_audit.specs.declared.flaws.Flaw.{Flaw}
+use Rattle.dt_audit.specs.Books.{Book, Keeping, begun, follow_fact, follow_lines, follow_log, follow_on, follow_read}
+use Rattle.dt_audit.specs.Facts.{fact_of, is_told, letters_read, named_fact, told_fact}
+use Rattle.dt_audit.specs.Telling.{AreWritten, IsInRange, IsWritten, NodeInRange, fact_by, fact_in, fact_told, follow_facts}
+
+-- a line that no node tells, or that has another name
+other_named : (ws : List Text) → named_fact ws ≡ Ok Other → told_fact ws ≡ Ok Other
+other_named ws h =
+    elim (cases_Bool (nat_lt (length ws) 3)) [
+      | inl y ↦ rw y refl
+      | inr n ↦ rw n (elim (cases_Bool (is_told ws)) [ inl y ↦ rw y h | inr n ↦ rw n refl ])
+    ]
+
+not_told : (ws : List Text) → is_told ws ≡ false → told_fact ws ≡ Ok Other
+not_told ws h = elim (cases_Bool (nat_lt (length ws) 3)) [ inl y ↦ rw y refl | inr n ↦ rw (n, h) refl ]
+
+-- numbers as they are written
+long : (n : ℕ) → n < 2 ^ 64 → numeral 18446744073709551615 (decimal n) ≡ Some n
+long n h = numeral-decimal 18446744073709551615 n (omega arith) (omega arith)
+
+short : (n : ℕ) → n < 2 ^ 32 → numeral 4294967295 (decimal n) ≡ Some n
+short n h = numeral-decimal 4294967295 n (omega arith) (omega arith)
+
+from_0 : (n : ℕ) → nat_le 0 n ≡ true
+from_0 n = le-leb 0 n (omega arith)
+
+letters : (drf begin end : Bool) → letters_read (sent_letters drf begin end) ≡ Ok tt
+letters true true true = refl
+letters true true false = refl
+letters true false true = refl
+letters true false false = refl
+letters false true true = refl
+letters false true false = refl
+letters false false true = refl
+letters false false false = refl
+
+-- WHAT EACH REPORT'S LINE TELLS, where no node tells it
+by_none : (moment : ℕ) (told : Told) → told_fact (line_words moment None told) ≡ Ok Other
+unfolding numeral digits_number
+by_none moment (report.Took f count) = not_told (line_words moment None (report.Took f count)) (and_right (is_some (numeral 18446744073709551615 (decimal moment))) (is_some (numeral 4294967295 (codes "took"))) refl)
+by_none moment (report.Refused f fault) = not_told (line_words moment None (report.Refused f fault)) (and_right (is_some (numeral 18446744073709551615 (decimal moment))) (is_some (numeral 4294967295 (codes "refused"))) refl)
+by_none moment (report.Sent f number count drf begin end) = not_told (line_words moment None (report.Sent f number count drf begin end)) (and_right (is_some (numeral 18446744073709551615 (decimal moment))) (is_some (numeral 4294967295 (codes "sent"))) refl)
+by_none moment (report.Resent f number count drf begin end) = not_told (line_words moment None (report.Resent f number count drf begin end)) (and_right (is_some (numeral 18446744073709551615 (decimal moment))) (is_some (numeral 4294967295 (codes "resent"))) refl)
+by_none moment (report.Met f number) = not_told (line_words moment None (report.Met f number)) (and_right (is_some (numeral 18446744073709551615 (decimal moment))) (is_some (numeral 4294967295 (codes "met"))) refl)
+by_none moment (report.Uncertain f count) = not_told (line_words moment None (report.Uncertain f count)) (and_right (is_some (numeral 18446744073709551615 (decimal moment))) (is_some (numeral 4294967295 (codes "uncertain"))) refl)
+by_none moment (report.Released f sending) = not_told (line_words moment None (report.Released f sending)) (and_right (is_some (numeral 18446744073709551615 (decimal moment))) (is_some (numeral 4294967295 (codes "released"))) refl)
+by_none moment (report.Renewed f) = not_told (line_words moment None (report.Renewed f)) (and_right (is_some (numeral 18446744073709551615 (decimal moment))) (is_some (numeral 4294967295 (codes "renewed"))) refl)
+by_none moment (report.Acked f number window) = not_told (line_words moment None (report.Acked f number window)) (and_right (is_some (numeral 18446744073709551615 (decimal moment))) (is_some (numeral 4294967295 (codes "acked"))) refl)
+by_none moment (report.Replied f number window) = not_told (line_words moment None (report.Replied f number window)) (and_right (is_some (numeral 18446744073709551615 (decimal moment))) (is_some (numeral 4294967295 (codes "replied"))) refl)
+by_none moment (report.Accepted f number count run) = not_told (line_words moment None (report.Accepted f number count run)) (and_right (is_some (numeral 18446744073709551615 (decimal moment))) (is_some (numeral 4294967295 (codes "accepted"))) refl)
+by_none moment (report.Dropped f number) = not_told (line_words moment None (report.Dropped f number)) (and_right (is_some (numeral 18446744073709551615 (decimal moment))) (is_some (numeral 4294967295 (codes "dropped"))) refl)
+by_none moment (report.Closing f number) = not_told (line_words moment None (report.Closing f number)) (and_right (is_some (numeral 18446744073709551615 (decimal moment))) (is_some (numeral 4294967295 (codes "closing"))) refl)
+by_none moment (report.Settled f count window) = not_told (line_words moment None (report.Settled f count window)) (and_right (is_some (numeral 18446744073709551615 (decimal moment))) (is_some (numeral 4294967295 (codes "settled"))) refl)
+by_none moment (report.Ignored f number window) = not_told (line_words moment None (report.Ignored f number window)) (and_right (is_some (numeral 18446744073709551615 (decimal moment))) (is_some (numeral 4294967295 (codes "ignored"))) refl)
+by_none moment (report.Quiet until) = not_told (line_words moment None (report.Quiet until)) (and_right (is_some (numeral 18446744073709551615 (decimal moment))) (is_some (numeral 4294967295 (codes "quiet"))) refl)
+by_none moment (report.Read f run begin end octets) = not_told (line_words moment None (report.Read f run begin end octets)) (and_right (is_some (numeral 18446744073709551615 (decimal moment))) (is_some (numeral 4294967295 (codes "read"))) refl)
+by_none moment (report.Nothing f) = not_told (line_words moment None (report.Nothing f)) (and_right (is_some (numeral 18446744073709551615 (decimal moment))) (is_some (numeral 4294967295 (codes "nothing"))) refl)
+by_none moment (report.Put link life) = not_told (line_words moment None (report.Put link life)) (and_right (is_some (numeral 18446744073709551615 (decimal moment))) (is_some (numeral 4294967295 (codes "put"))) refl)
+by_none moment (report.PutAs link life copy) = not_told (line_words moment None (report.PutAs link life copy)) (and_right (is_some (numeral 18446744073709551615 (decimal moment))) (is_some (numeral 4294967295 (codes "put"))) refl)
+by_none moment (report.ExpiredIn link) = not_told (line_words moment None (report.ExpiredIn link)) (and_right (is_some (numeral 18446744073709551615 (decimal moment))) (is_some (numeral 4294967295 (codes "expired"))) refl)
+by_none moment (report.ExpiredOut link) = not_told (line_words moment None (report.ExpiredOut link)) (and_right (is_some (numeral 18446744073709551615 (decimal moment))) (is_some (numeral 4294967295 (codes "expired"))) refl)
+by_none moment (report.NoRoute to) = not_told (line_words moment None (report.NoRoute to)) (and_right (is_some (numeral 18446744073709551615 (decimal moment))) (is_some (numeral 4294967295 (codes "noroute"))) refl)
+by_none moment (report.Full link) = not_told (line_words moment None (report.Full link)) (and_right (is_some (numeral 18446744073709551615 (decimal moment))) (is_some (numeral 4294967295 (codes "full"))) refl)
+by_none moment (report.Bad fault) = not_told (line_words moment None (report.Bad fault)) (and_right (is_some (numeral 18446744073709551615 (decimal moment))) (is_some (numeral 4294967295 (codes "bad"))) refl)
+by_none moment (report.Unsent link) = not_told (line_words moment None (report.Unsent link)) (and_right (is_some (numeral 18446744073709551615 (decimal moment))) (is_some (numeral 4294967295 (codes "unsent"))) refl)
+by_none moment (report.Restarted life) = not_told (line_words moment None (report.Restarted life)) (and_right (is_some (numeral 18446744073709551615 (decimal moment))) (is_some (numeral 4294967295 (codes "restarted"))) refl)
+by_none moment (report.Lost copy) = not_told (line_words moment None (report.Lost copy)) (and_right (is_some (numeral 18446744073709551615 (decimal moment))) (is_some (numeral 4294967295 (codes "lost"))) refl)
+by_none moment (report.FlowTotals f taken acked uncertain unsettled given read) = not_told (line_words moment None (report.FlowTotals f taken acked uncertain unsettled given read)) (and_left (is_some (numeral 18446744073709551615 (codes "flow"))) (is_some (numeral 4294967295 (flow_text f))) refl)
+by_none moment report.End = refl
+by_none moment (report.Fault line fault) = not_told (line_words moment None (report.Fault line fault)) (and_left (is_some (numeral 18446744073709551615 (codes "line"))) (is_some (numeral 4294967295 (decimal line ++ codes ":"))) refl)
+
+-- and where a node does
+by_node : (moment node : ℕ) (told : Told) → moment < 2 ^ 64 → node < 2 ^ 32 → IsInRange told → told_fact (line_words moment (Some node) told) ≡ Ok (fact_by node told)
+by_node moment node (report.Took f count) m k h = rw (long moment m, short node k, flow-text f h.0, short count h.1, from_0 count) refl
+by_node moment node (report.Refused f fault) m k h = other_named (line_words moment (Some node) (report.Refused f fault)) refl
+by_node moment node (report.Sent f number count drf begin end) m k h = rw (long moment m, short node k, flow-text f h.0, short number h.1, short count h.2, from_0 number, from_0 count, letters drf begin end) refl
+by_node moment node (report.Resent f number count drf begin end) m k h = other_named (line_words moment (Some node) (report.Resent f number count drf begin end)) refl
+by_node moment node (report.Met f number) m k h = other_named (line_words moment (Some node) (report.Met f number)) refl
+by_node moment node (report.Uncertain f count) m k h = rw (long moment m, short node k, flow-text f h.0, short count h.1, from_0 count) refl
+by_node moment node (report.Released f sending) m k h = other_named (line_words moment (Some node) (report.Released f sending)) refl
+by_node moment node (report.Renewed f) m k h = other_named (line_words moment (Some node) (report.Renewed f)) refl
+by_node moment node (report.Acked f number window) m k h = other_named (line_words moment (Some node) (report.Acked f number window)) refl
+by_node moment node (report.Replied f number window) m k h = other_named (line_words moment (Some node) (report.Replied f number window)) refl
+by_node moment node (report.Accepted f number count true) m k h = rw (long moment m, short node k, flow-text f h.0, short number h.1, short count h.2, from_0 number, from_0 count) refl
+by_node moment node (report.Accepted f number count false) m k h = rw (long moment m, short node k, flow-text f h.0, short number h.1, short count h.2, from_0 number, from_0 count) refl
+by_node moment node (report.Dropped f number) m k h = other_named (line_words moment (Some node) (report.Dropped f number)) refl
+by_node moment node (report.Closing f number) m k h = other_named (line_words moment (Some node) (report.Closing f number)) refl
+by_node moment node (report.Settled f count window) m k h = rw (long moment m, short node k, flow-text f h.0, short count h.1, short window h.2, from_0 count, from_0 window) refl
+by_node moment node (report.Ignored f number window) m k h = other_named (line_words moment (Some node) (report.Ignored f number window)) refl
+by_node moment node (report.Quiet until) m k h = other_named (line_words moment (Some node) (report.Quiet until)) refl
+by_node moment node (report.Read f run begin end octets) m k h = other_named (line_words moment (Some node) (report.Read f run begin end octets)) refl
+by_node moment node (report.Nothing f) m k h = other_named (line_words moment (Some node) (report.Nothing f)) refl
+by_node moment node (report.Put link life) m k h = other_named (line_words moment (Some node) (report.Put link life)) refl
+by_node moment node (report.PutAs link life copy) m k h = other_named (line_words moment (Some node) (report.PutAs link life copy)) refl
+by_node moment node (report.ExpiredIn link) m k h = other_named (line_words moment (Some node) (report.ExpiredIn link)) refl
+by_node moment node (report.ExpiredOut link) m k h = other_named (line_words moment (Some node) (report.ExpiredOut link)) refl
+by_node moment node (report.NoRoute to) m k h = other_named (line_words moment (Some node) (report.NoRoute to)) refl
+by_node moment node (report.Full link) m k h = other_named (line_words moment (Some node) (report.Full link)) refl
+by_node moment node (report.Bad fault) m k h = other_named (line_words moment (Some node) (report.Bad fault)) refl
+by_node moment node (report.Unsent link) m k h = other_named (line_words moment (Some node) (report.Unsent link)) refl
+by_node moment node (report.Restarted life) m k h = rw (long moment m, short node k, short life h, from_0 node, from_0 life) refl
+by_node moment node (report.Lost copy) m k h = by_none moment (report.Lost copy)
+by_node moment node (report.FlowTotals f taken acked uncertain unsettled given read) m k h = by_none moment (report.FlowTotals f taken acked uncertain unsettled given read)
+by_node moment node report.End m k h = by_none moment report.End
+by_node moment node (report.Fault line fault) m k h = by_none moment (report.Fault line fault)
+
+pub told_is : (entry : Entry) → IsWritten entry → told_fact (entry_words entry) ≡ Ok (fact_told entry)
+told_is entry h = by entry.node h.node
+  where
+    by : (node : Option ℕ) → NodeInRange node → told_fact (line_words entry.moment node entry.told) ≡ Ok (fact_in node entry.told)
+    by None k = by_none entry.moment entry.told
+    by (Some node) k = by_node entry.moment node entry.told h.moment k h.told
+
+-- a line of a log, read
+pub line_tells : (entry : Entry) → IsWritten entry → fact_of (spaced (entry_words entry)) ≡ Ok (fact_told entry)
+unfolding fact_of
+line_tells entry h = ap told_fact (words_again entry) ∙ told_is entry h
+
+-- A LOG IN LINES
+never_empty : (p : ℕ → Bool) (xs : List ℕ) → slice_split p xs ≡ [] → ⊥
+never_empty p [] h = cc
+never_empty p (x ∷ xs) h =
+    elim (cases_Bool (p x)) [
+      | inl y ↦ let e = sym (slice_split-cons_yes p x xs y) ∙ h in cc
+      | inr n ↦ by (slice_split p xs) (sym (slice_split-cons_no p x xs n) ∙ h) (never_empty p xs)
+    ]
+  where
+    by : (parts : List (List ℕ)) → onto_first x parts ≡ [] → (parts ≡ [] → ⊥) → ⊥
+    by [] e some = some refl
+    by (part ∷ parts) e some = cc
+
+-- parts at line feeds, of which the last is empty, are lines
+lines_from_split : (xs : List ℕ) (ls : List (List ℕ)) → slice_split (λ octet. octet == 10) xs ≡ ls ++ [] ∷ [] → lines_of xs ≡ ls
+lines_from_split [] [] h = refl
+lines_from_split [] (l ∷ []) h = let e : [] ∷ [] ≡ l ∷ [] ∷ [] = h in absurd cc
+lines_from_split [] (l ∷ m ∷ ls) h = absurd cc
+lines_from_split (x ∷ xs) ls h =
+    elim (cases_Bool (x == 10)) [
+      | inl y ↦ rw y (at_feed ls (sym (slice_split-cons_yes (λ octet. octet == 10) x xs y) ∙ h) (lines_from_split xs))
+      | inr n ↦ rw n (on ls (slice_split (λ octet. octet == 10) xs) refl (sym (slice_split-cons_no (λ octet. octet == 10) x xs n) ∙ h) (lines_from_split xs))
+    ]
+  where
+    at_feed : (ls : List (List ℕ)) → [] ∷ slice_split (λ octet. octet == 10) xs ≡ ls ++ [] ∷ [] → ((ms : List (List ℕ)) → slice_split (λ octet. octet == 10) xs ≡ ms ++ [] ∷ [] → lines_of xs ≡ ms) → [] ∷ lines_of xs ≡ ls
+    at_feed [] e rest = absurd (never_empty (λ octet. octet == 10) xs cc)
+    at_feed (l ∷ ls) e rest = let tail : slice_split (λ octet. octet == 10) xs ≡ ls ++ [] ∷ [] = cc in let head : [] ≡ l = cc in let more = rest ls tail in cc
+
+    on : (ls parts : List (List ℕ)) → slice_split (λ octet. octet == 10) xs ≡ parts → onto_first x (slice_split (λ octet. octet == 10) xs) ≡ ls ++ [] ∷ [] → ((ms : List (List ℕ)) → slice_split (λ octet. octet == 10) xs ≡ ms ++ [] ∷ [] → lines_of xs ≡ ms) → in_front x (lines_of xs) ≡ ls
+    on ls [] is e rest = absurd (never_empty (λ octet. octet == 10) xs is)
+    on [] (part ∷ parts) is e rest = let e' : (x ∷ part) ∷ parts ≡ [] ∷ [] = rw is at e in absurd cc
+    on (l ∷ ls) (part ∷ parts) is e rest =
+        let e' : (x ∷ part) ∷ parts ≡ l ∷ (ls ++ [] ∷ []) = rw is at e in
+        let head : x ∷ part ≡ l = cc in
+        let tail : parts ≡ ls ++ [] ∷ [] = cc in
+        let more = rest (part ∷ ls) (is ∙ ap (λ ps. part ∷ ps) tail) in
+        rw more (ap (λ k. k ∷ ls) head)
+
+abbrev line_text : Entry → Text
+line_text entry = spaced (entry_words entry)
+
+log_lines : (entries : List Entry) → lines_of (log_text entries) ≡ map line_text entries
+log_lines entries = lines_from_split (log_text entries) (map line_text entries) (lines_again entries)
+
+module _ {A : Type 0} (keeping : Keeping A) where
+  rest_same : (number : ℕ) (rest rest' : Book A → Result (Book A) (ℕ × Flaw)) (r : Result (Book A) Flaw) → ((book : Book A) → rest book ≡ rest' book) → follow_on keeping number rest r ≡ follow_on keeping number rest' r
+  rest_same number rest rest' (Ok book) same = same book
+  rest_same number rest rest' (Err flaw) same = refl
+
+  lines_tell : (entries : List Entry) (number : ℕ) (book : Book A) → AreWritten entries → follow_lines keeping number (map line_text entries) book ≡ follow_facts keeping number (map fact_told entries) book
+  unfolding follow_lines follow_facts
+  lines_tell [] number book h = refl
+  lines_tell (entry ∷ entries) number book h =
+      ap (λ read. follow_on keeping number (follow_lines keeping (suc number) (map line_text entries)) (follow_read keeping book read)) (line_tells entry h.0)
+      ∙ rest_same number _ _ (follow_fact keeping (fact_told entry) book) (λ next. lines_tell entries (suc number) next h.1)
+
+  -- the log of entries is followed as their facts are
+  pub log_tells : (entries : List Entry) → AreWritten entries → follow_log keeping (log_text entries) ≡ follow_facts keeping 1 (map fact_told entries) (begun keeping)
+  log_tells entries h = ap (λ lines. follow_lines keeping 1 lines (begun keeping)) (log_lines entries) ∙ lines_tell entries 1 (begun keeping) h

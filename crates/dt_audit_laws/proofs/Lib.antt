@@ -1,0 +1,16 @@
+pub mod Shown
+pub mod Following
+pub mod Naming
+pub mod Reporting
+pub mod Keeping
+pub mod SmallSteps
+pub mod Reports
+pub mod Booking
+pub mod Lines
+pub mod Mute
+pub mod Acting
+pub mod Happening
+pub mod Coming
+pub mod Stepping
+pub mod Bounding
+pub mod Running

@@ -1,0 +1,5 @@
+pub mod Draws
+pub mod Lines
+pub mod Kinds
+pub mod Rounds
+pub mod Schedules

@@ -1,0 +1,460 @@
+-- How a run ends.
+use Rattle.std.proofs.Common.{◌≡◌, ◌+◌, ◌*◌, ◌^◌, ◌<◌, ◌≤◌, ◌==◌, ℕ, Bool, true, false, List, [], ◌∷◌, ◌++◌, length, map, take, Option, Some, None, Err, refl, sym, ap, subst, ◌∙◌, arith, min, length-append, inl, inr}
+use Rattle.std.specs.Option.{IfSome}
+use Rattle.std.proofs.lemmas.List.{append-nil, map-append}
+use Rattle.std.specs.Io.KnownBytes.{Appends}
+use Rattle.std.proofs.KnownBytes.{Appends-nil, Appends-trans}
+use Rattle.std.proofs.Math.Seq.{take-append-add}
+use Rattle.dt_edges.specs.Clocks.{ClockSight}
+use Rattle.dt_edges.specs.Counts.{HasRisen, is_planned, last_count}
+use Rattle.dt_edges.specs.Sinks.{SinkSight, Takes}
+use Rattle.dt_edges.specs.Telling.{NotesAll}
+use Rattle.dt_edges.specs.Wires.{Datagram, OpenFails, Opening, Plan, TakeFails, TakesOne, WireSight}
+use Rattle.std.specs.Prelude.{if◌then◌else◌}
+use Rattle.dt_reports.specs.Entries.{Entry}
+use Rattle.dt_log.specs.Logs.{log_text}
+use Rattle.dt_fold.specs.declared.stops.Stop.{Stop}
+use Rattle.dt_fold.specs.declared.stops.Stop.TheVariants as stops
+use Rattle.dt_fold.specs.Folds.{Folded, fold_input}
+use Rattle.dt_fold.specs.Logging.{StopsIn}
+use Rattle.dt_node.specs.declared.watch.Watch.{Watch}
+use Rattle.dt_node.specs.declared.outcomes.NodeOutcome.{NodeOutcome}
+use Rattle.dt_node.specs.declared.outcomes.NodeOutcome.TheVariants.{Done, Refused, NoMemory, WireFault, ClockStill, WriteFault}
+use Rattle.dt_node.specs.Orders.{Orders, Node, opening_of}
+use Rattle.dt_node.specs.Acts.{Act, Deed, act_of, acts_of, answer_of, log_lines, node_lines, sent_frames, fates}
+use Rattle.dt_node.specs.Turns.{turn}
+use Rattle.dt_node.specs.Runs.{Run, node_run, moment, most_equal}
+use Rattle.dt_node.specs.Codes.{IsGood}
+use Rattle.dt_node.specs.Drafts.{Draft, Empty, orders_in, read_script, script_turns}
+use Rattle.dt_node.proofs.Fitting.{script_good, script_read}
+use Rattle.dt_node.specs.Deeds.{FatesFrom, Scene, Sublist, TurnEnds, WroteSome, lost}
+use Rattle.dt_node.specs.InOrder.{InOrder, UnsentInOrder, without_unsent_lines}
+use Rattle.dt_node.specs.Serving.{AppendsPart, Edges, FailsAs, GivesSome, IsFresh, IsWhole, Logs, NoneFails, Serves, SinkFaults, first_entries, edges, first_readings, most_taken}
+use Rattle.dt_node.specs.Answering.{Answers, AnswersBy, RefusesAs}
+use Rattle.dt_node.proofs.Noting.{notes_none, notes_then, nothing_notes, sub_none, sub_then}
+use Rattle.dt_node.proofs.Doing.{acts_more, log_more, lost_more, sent_sub}
+use Rattle.dt_node.proofs.RunsOn.{came_of, run_cut, run_nothing, run_still, run_stopped, run_unfinished}
+use Rattle.dt_node.proofs.Keeping.{Given, PlannedTakes, Read, Taken, given_on, taken_more, taken_on}
+use Rattle.dt_node.proofs.Orderly.{node_in_order, unsent_apart, unsent_in_order}
+use Rattle.dt_node.proofs.Unsent.{log_apart}
+use Rattle.dt_node.proofs.Served.{Going, Passed, edges_of, scene_of, some_both, some_map, with_wire}
+
+module _ (o : Orders) (b : Edges) (rs : List ℕ) (ts : List (Option Datagram)) (few : length rs ≤ most_equal * o.stop + 1) (small : o.stop < 2 ^ 32) where
+  readings_planned : (c : ClockSight) → Read rs b.clock c → IfSome b.clock.plan (λ p. b.clock.readings ≡ Some [] → rs ≡ first_readings p (length rs))
+  readings_planned c h = some_map b.clock.plan (λ p. b.clock.readings ≡ Some [] → length rs < last_count → (c.readings ≡ Some rs) × (rs ≡ first_readings p (length rs))) (λ p. b.clock.readings ≡ Some [] → rs ≡ first_readings p (length rs))
+      (λ p k fresh. (k fresh (omega arith)).1) h.planned
+
+  module _ (less : length ts ≤ length rs) (v : WireSight) (h : Taken (opening_of o) ts b.wire v) where
+    takes_planned : IfSome b.wire.plan (λ p. IsFresh b.wire → ts ≡ first_entries p (length ts))
+    takes_planned = some_map b.wire.plan (λ p. b.wire.takes ≡ 0 → b.wire.used ≡ 0 → length ts ≤ last_count → PlannedTakes p ts v.used) (λ p. IsFresh b.wire → ts ≡ first_entries p (length ts))
+        (λ p k fresh. (k fresh.takes fresh.used (omega arith)).entries) h.planned
+
+    none_fails : IfSome b.wire.plan (λ p. IsFresh b.wire → (p.open_fails ≡ false) × NoneFails p.failing_takes (length ts))
+    none_fails = some_both b.wire.plan (λ p. b.wire.takes ≡ 0 → b.wire.used ≡ 0 → length ts ≤ last_count → PlannedTakes p ts v.used) (λ p. p.open_fails ≡ false) (λ p. IsFresh b.wire → (p.open_fails ≡ false) × NoneFails p.failing_takes (length ts))
+        (λ p k j fresh. (j, (k fresh.takes fresh.used (omega arith)).well)) h.planned h.opened
+
+fates_planned : (b : Edges) (v : WireSight) (outcome : NodeOutcome) (deeds : List Deed) → Given deeds b.wire v → IfSome b.wire.plan (λ p. IsFresh b.wire → IsWhole outcome → length (fates deeds) < 2 ^ 64 → FatesFrom p.failing_gives 0 (fates deeds))
+fates_planned b v outcome deeds h = some_map b.wire.plan (λ p. b.wire.gives + length (fates deeds) ≤ last_count → FatesFrom p.failing_gives b.wire.gives (fates deeds)) (λ p. IsFresh b.wire → IsWhole outcome → length (fates deeds) < 2 ^ 64 → FatesFrom p.failing_gives 0 (fates deeds))
+    (λ p k fresh whole few. let z = fresh.gives in subst (λ (m : ℕ). FatesFrom p.failing_gives m (fates deeds)) z (k (omega arith))) h.plan
+
+-- a first part behind a whole
+part_then : (xs ys zs : List ℕ) (a m c : Option (List ℕ)) → xs ++ ys ≡ zs → Appends a m xs → AppendsPart ys m c → AppendsPart zs a c
+part_then xs ys zs a m c e h (count, k) =
+    (length xs + count, subst (Appends a c) (sym (take-append-add xs ys count) ∙ ap (take (length xs + count)) e) (Appends-trans a m c xs (take count ys) h k))
+
+module _ (o : Orders) (b : Edges) where
+  in_order : (rs : List ℕ) (ts : List (Option Datagram)) (deeds : List Deed) → map act_of deeds ≡ (node_run o rs ts).acts → InOrder None (map act_of deeds)
+  in_order rs ts deeds e = subst (λ (acts : List Act). InOrder None acts) (sym e) (node_in_order o rs ts)
+
+  unsent_of : (rs : List ℕ) (ts : List (Option Datagram)) (deeds : List Deed) → map act_of deeds ≡ (node_run o rs ts).acts → UnsentInOrder None (log_lines o.setup.me deeds)
+  unsent_of rs ts deeds e = unsent_in_order o.setup.me deeds None None (in_order rs ts deeds e) (inl refl)
+
+  apart_of : (rs : List ℕ) (ts : List (Option Datagram)) (deeds : List Deed) → map act_of deeds ≡ (node_run o rs ts).acts → without_unsent_lines (log_text (log_lines o.setup.me deeds)) ≡ log_text (node_lines o.setup.me (node_run o rs ts).acts)
+  apart_of rs ts deeds e = log_apart o.setup.me deeds ∙ ap log_text (unsent_apart o.setup.me deeds None (in_order rs ts deeds e) ∙ ap (node_lines o.setup.me) e)
+
+  pub serve_done : (watch : Watch) (n : Edges) → Passed o b watch None n → Serves o Done b n
+  serve_done watch n h =
+      let k = h.kept in
+      let run = run_stopped o h.readings h.takes (map act_of h.deeds) watch h.came in
+      let less : length h.takes ≤ length h.readings = omega (arith, k.counted) in
+      record {
+        readings = h.readings;
+        takes = h.takes;
+        deeds = h.deeds;
+        told_readings = k.read.told;
+        told_takes = k.taken.taken;
+        acts = sym (ap (λ (r : Run). r.acts) run);
+        unsent = unsent_of _ _ _ (sym (ap (λ (r : Run). r.acts) run));
+        apart = apart_of _ _ _ (sym (ap (λ (r : Run). r.acts) run));
+        log = k.held;
+        ends = ap (λ (r : Run). r.ending) run;
+        counted = k.counted;
+        few = k.few;
+        opening = λ _. k.taken.opening;
+        take_faults = k.taken.faults;
+        give_faults = k.given.lost;
+        sink_faults = k.faults;
+        frames = k.given.given;
+        same_wire_plan = k.taken.plan;
+        same_clock_plan = k.read.plan;
+        planned_readings = readings_planned o b h.readings h.takes k.few k.small n.clock k.read;
+        planned_takes = takes_planned o b h.readings h.takes k.few k.small less n.wire k.taken;
+        planned_faults = none_fails o b h.readings h.takes k.few k.small less n.wire k.taken;
+        planned_fates = fates_planned b n.wire Done h.deeds k.given;
+      }
+
+  pub serve_still : (watch : Watch) (node : Node) (n : Edges) (t : Option Datagram) (v : WireSight) → (watch.equal == most_equal) ≡ true → Passed o b watch (Some node) n → TakesOne most_taken t n.wire v → Serves o ClockStill b (with_wire n v)
+  serve_still watch node n t v e h j =
+      let k = h.kept in
+      let ts = h.takes ++ t ∷ [] in
+      let run = run_still o h.readings h.takes t (map act_of h.deeds) watch node e h.came in
+      let number : length ts ≡ length h.takes + 1 = length-append h.takes (t ∷ []) in
+      let less : length ts ≤ length h.readings = omega (arith, k.counted) in
+      let taken = taken_more (opening_of o) h.takes t b.wire n.wire v k.taken j in
+      let given = given_on h.deeds b.wire n.wire v k.given j.same in
+      record {
+        readings = h.readings;
+        takes = ts;
+        deeds = h.deeds;
+        told_readings = k.read.told;
+        told_takes = taken.taken;
+        acts = sym (ap (λ (r : Run). r.acts) run);
+        unsent = unsent_of _ _ _ (sym (ap (λ (r : Run). r.acts) run));
+        apart = apart_of _ _ _ (sym (ap (λ (r : Run). r.acts) run));
+        log = k.held;
+        ends = ap (λ (r : Run). r.ending) run;
+        counted = number ∙ k.counted;
+        few = k.few;
+        opening = λ _. taken.opening;
+        take_faults = taken.faults;
+        give_faults = given.lost;
+        sink_faults = k.faults;
+        frames = given.given;
+        same_wire_plan = taken.plan;
+        same_clock_plan = k.read.plan;
+        planned_readings = readings_planned o b h.readings ts k.few k.small n.clock k.read;
+        planned_takes = takes_planned o b h.readings ts k.few k.small less v taken;
+        planned_faults = none_fails o b h.readings ts k.few k.small less v taken;
+        planned_fates = fates_planned b v ClockStill h.deeds given;
+      }
+
+  failing_planned : (rs : List ℕ) (ts : List (Option Datagram)) (v w : WireSight) → length rs ≤ most_equal * o.stop + 1 → o.stop < 2 ^ 32 → length ts + 1 ≡ length rs → Taken (opening_of o) ts b.wire v → TakeFails v w → IfSome b.wire.plan (λ p. IsFresh b.wire → FailsAs WireFault p (length rs) (length ts))
+  failing_planned rs ts v w few small counted h k =
+      let plan = subst (λ (x : Option Plan). IfSome x (λ p. v.takes < last_count → is_planned p.failing_takes (v.takes + 1) ≡ true)) h.plan k.plan in
+      some_both b.wire.plan (λ p. IsFresh b.wire → (p.open_fails ≡ false) × NoneFails p.failing_takes (length ts)) (λ p. v.takes < last_count → is_planned p.failing_takes (v.takes + 1) ≡ true) (λ p. IsFresh b.wire → FailsAs WireFault p (length rs) (length ts))
+      (λ p none one fresh.
+      let zero = fresh.takes in
+      let same : v.takes ≡ length ts = omega (arith, h.count (omega arith)) in
+      let well = none fresh in
+      let here = subst (λ (m : ℕ). is_planned p.failing_takes (m + 1) ≡ true) same (one (omega arith)) in
+      inr (well.0, (let some : 0 < length rs = omega arith in some), well.1, here))
+      (none_fails o b rs ts few small (omega arith) v h) plan
+
+  pub serve_wire : (watch : Watch) (node : Node) (n : Edges) (v : WireSight) → Passed o b watch (Some node) n → TakeFails n.wire v → Serves o WireFault b (with_wire n v)
+  serve_wire watch node n v h j =
+      let k = h.kept in
+      let run = run_unfinished o h.readings h.takes (map act_of h.deeds) watch node h.came in
+      let less : length h.takes ≤ length h.readings = omega (arith, k.counted) in
+      let given = given_on h.deeds b.wire n.wire v k.given j.same in
+      record {
+        readings = h.readings;
+        takes = h.takes;
+        deeds = h.deeds;
+        told_readings = k.read.told;
+        told_takes = subst (λ (xs : List (Option Datagram)). NotesAll xs b.wire.taken v.taken) (append-nil h.takes) (notes_then h.takes [] b.wire.taken n.wire.taken v.taken k.taken.taken (nothing_notes n.wire.taken v.taken j.taken));
+        acts = sym (ap (λ (r : Run). r.acts) run);
+        unsent = unsent_of _ _ _ (sym (ap (λ (r : Run). r.acts) run));
+        apart = apart_of _ _ _ (sym (ap (λ (r : Run). r.acts) run));
+        log = k.held;
+        ends = ap (λ (r : Run). r.ending) run;
+        counted = inr k.counted;
+        few = k.few;
+        opening = λ _. subst (λ (x : Option (Option Opening)). IfSome x (λ now. now ≡ Some (opening_of o))) (sym j.same.opening) k.taken.opening;
+        take_faults = subst (λ (m : ℕ). HasRisen m v.take_faults) k.taken.faults j.faults;
+        give_faults = given.lost;
+        sink_faults = k.faults;
+        frames = given.given;
+        same_wire_plan = j.same.plan ∙ k.taken.plan;
+        same_clock_plan = k.read.plan;
+        planned_readings = readings_planned o b h.readings h.takes k.few k.small n.clock k.read;
+        planned_takes = takes_planned o b h.readings h.takes k.few k.small less n.wire k.taken;
+        planned_faults = failing_planned h.readings h.takes n.wire v k.few k.small k.counted k.taken j;
+        planned_fates = fates_planned b v WireFault h.deeds given;
+      }
+
+  pub serve_unopened : (v : WireSight) → OpenFails b.wire v → Serves o WireFault b (with_wire b v)
+  serve_unopened v h = record {
+    readings = [];
+    takes = [];
+    deeds = [];
+    told_readings = notes_none b.clock.readings;
+    told_takes = subst (λ (x : Option (List (Option Datagram))). NotesAll [] b.wire.taken x) (sym h.same.taken) (notes_none b.wire.taken);
+    acts = sym (ap (λ (r : Run). r.acts) (run_nothing o));
+    unsent = unsent_of [] [] [] (sym (ap (λ (r : Run). r.acts) (run_nothing o)));
+    apart = apart_of [] [] [] (sym (ap (λ (r : Run). r.acts) (run_nothing o)));
+    log = Appends-nil b.held;
+    ends = ap (λ (r : Run). r.ending) (run_nothing o);
+    counted = inl (refl, refl);
+    few = omega arith;
+    opening = λ k. absurd (omega arith);
+    take_faults = h.faults;
+    give_faults = omega (arith, h.same.give_faults);
+    sink_faults = refl;
+    frames = subst (λ (x : Option (List Datagram)). NotesAll [] b.wire.given x) (sym h.same.given) (notes_none b.wire.given);
+    same_wire_plan = h.same.plan;
+    same_clock_plan = refl;
+    planned_readings = elim b.clock.plan as (λ x. IfSome x (λ p. b.clock.readings ≡ Some [] → [] ≡ first_readings p (length {A = ℕ} []))) [ None ↦ tt | Some p ↦ λ fresh. refl ];
+    planned_takes = elim b.wire.plan as (λ x. IfSome x (λ p. IsFresh b.wire → [] ≡ first_entries p (length {A = Option Datagram} []))) [ None ↦ tt | Some p ↦ λ fresh. refl ];
+    planned_faults = some_map b.wire.plan (λ p. p.open_fails ≡ true) (λ p. IsFresh b.wire → FailsAs WireFault p (length {A = ℕ} []) (length {A = Option Datagram} [])) (λ p k fresh. inl (k, refl)) h.plan;
+    planned_fates = elim b.wire.plan as (λ x. IfSome x (λ p. IsFresh b.wire → IsWhole WireFault → length {A = Bool} [] < 2 ^ 64 → FatesFrom p.failing_gives 0 [])) [ None ↦ tt | Some p ↦ λ fresh whole few. tt ];
+  }
+
+  -- what stands after a turn that stopped
+  pub record Broken (watch : Watch) (came : Option Datagram) (node : Node) (n : Edges) (t : Scene) (rs : List ℕ) (ts : List (Option Datagram)) : Type 0 where
+    pub deeds : List Deed
+    pub acts : map act_of deeds ≡ (node_run o rs ts).acts
+    pub log : AppendsPart (log_text (log_lines o.setup.me deeds)) b.held t.held
+    pub taken : Taken (opening_of o) ts b.wire t.wire
+    pub lost : min (b.wire.give_faults + lost deeds) last_count ≤ t.wire.give_faults
+    pub frames : GivesSome deeds b.wire.given t.wire.given
+
+  broken : (watch : Watch) (came : Option Datagram) (node : Node) (n : Edges) (t : Scene) (now : ℕ) (stop : Stop) (h : Going o b watch came node n) → now ≡ moment watch → (more : List Deed) → map act_of more ≡ acts_of now (turn o now came node) → WroteSome o.setup.me more stop (scene_of n) t → Broken watch came node n t h.readings h.takes
+  broken watch came node n t now stop h e more acts some =
+      let k = h.kept in
+      let all = map-append act_of h.deeds more in
+      record {
+        deeds = h.deeds ++ more;
+        acts = all ∙ sym (run_cut o h.readings h.takes (map act_of h.deeds ++ map act_of more) watch (answer_of (turn o now came node)) (came_of o h.readings h.takes (map act_of h.deeds) (map act_of more) watch came node now (answer_of (turn o now came node)) e acts refl h.comes));
+        log = part_then (log_text (log_lines o.setup.me h.deeds)) (log_text (log_lines o.setup.me more)) (log_text (log_lines o.setup.me (h.deeds ++ more))) b.held n.held t.held (sym (log_more o.setup.me h.deeds more)) k.held some.held;
+        taken = taken_on (opening_of o) h.takes b.wire n.wire t.wire k.taken some.wire.same;
+        lost = omega (arith, lost_more h.deeds more, k.given.lost, some.wire.lost);
+        frames = record {
+          frames = sent_frames h.deeds ++ some.wire.frames;
+          some = subst (λ (fs : List Datagram). Sublist (sent_frames h.deeds ++ some.wire.frames) fs) (sym (acts_more h.deeds more)) (sub_then (sent_sub h.deeds) some.wire.some);
+          given = notes_then (sent_frames h.deeds) some.wire.frames b.wire.given n.wire.given t.wire.given k.given.given some.wire.given;
+        };
+      }
+
+  pub serve_memory : (watch : Watch) (came : Option Datagram) (node : Node) (n : Edges) (t : Scene) (now : ℕ) (answer : Option Node) → now ≡ moment watch → Going o b watch came node n → TurnEnds (Err stops.NoMemory) o.setup.me now (turn o now came node) answer (scene_of n) t → Serves o NoMemory b (edges_of t n.clock)
+  serve_memory watch came node n t now answer e h (more, acts, some) =
+      let k = h.kept in
+      let j = broken watch came node n t now stops.NoMemory h e more acts some in
+      let less : length h.takes ≤ length h.readings = omega (arith, k.counted) in
+      record {
+        readings = h.readings;
+        takes = h.takes;
+        deeds = j.deeds;
+        told_readings = k.read.told;
+        told_takes = j.taken.taken;
+        acts = j.acts;
+        unsent = unsent_of _ _ _ (j.acts);
+        apart = apart_of _ _ _ (j.acts);
+        log = j.log;
+        ends = tt;
+        counted = tt;
+        few = k.few;
+        opening = λ x. absurd x;
+        take_faults = j.taken.faults;
+        give_faults = j.lost;
+        sink_faults = some.faults ∙ k.faults;
+        frames = j.frames;
+        same_wire_plan = j.taken.plan;
+        same_clock_plan = k.read.plan;
+        planned_readings = readings_planned o b h.readings h.takes k.few k.small n.clock k.read;
+        planned_takes = takes_planned o b h.readings h.takes k.few k.small less t.wire j.taken;
+        planned_faults = elim b.wire.plan as (λ x. IfSome x (λ p. IsFresh b.wire → Unit {0})) [ None ↦ tt | Some p ↦ λ fresh. tt ];
+        planned_fates = elim b.wire.plan as (λ x. IfSome x (λ p. IsFresh b.wire → ⊥ → length (fates j.deeds) < 2 ^ 64 → FatesFrom p.failing_gives 0 (fates j.deeds))) [ None ↦ tt | Some p ↦ λ fresh whole few. absurd whole ];
+      }
+
+  pub serve_write : (watch : Watch) (came : Option Datagram) (node : Node) (n : Edges) (t : Scene) (now : ℕ) (answer : Option Node) → now ≡ moment watch → Going o b watch came node n → TurnEnds (Err stops.WriteFault) o.setup.me now (turn o now came node) answer (scene_of n) t → Serves o WriteFault b (edges_of t n.clock)
+  serve_write watch came node n t now answer e h (more, acts, some) =
+      let k = h.kept in
+      let j = broken watch came node n t now stops.WriteFault h e more acts some in
+      let less : length h.takes ≤ length h.readings = omega (arith, k.counted) in
+      record {
+        readings = h.readings;
+        takes = h.takes;
+        deeds = j.deeds;
+        told_readings = k.read.told;
+        told_takes = j.taken.taken;
+        acts = j.acts;
+        unsent = unsent_of _ _ _ (j.acts);
+        apart = apart_of _ _ _ (j.acts);
+        log = j.log;
+        ends = tt;
+        counted = tt;
+        few = k.few;
+        opening = λ x. absurd x;
+        take_faults = j.taken.faults;
+        give_faults = j.lost;
+        sink_faults = subst (λ (m : ℕ). HasRisen m t.faults) k.faults some.faults;
+        frames = j.frames;
+        same_wire_plan = j.taken.plan;
+        same_clock_plan = k.read.plan;
+        planned_readings = readings_planned o b h.readings h.takes k.few k.small n.clock k.read;
+        planned_takes = takes_planned o b h.readings h.takes k.few k.small less t.wire j.taken;
+        planned_faults = elim b.wire.plan as (λ x. IfSome x (λ p. IsFresh b.wire → Unit {0})) [ None ↦ tt | Some p ↦ λ fresh. tt ];
+        planned_fates = elim b.wire.plan as (λ x. IfSome x (λ p. IsFresh b.wire → ⊥ → length (fates j.deeds) < 2 ^ 64 → FatesFrom p.failing_gives 0 (fates j.deeds))) [ None ↦ tt | Some p ↦ λ fresh whole few. absurd whole ];
+      }
+
+  -- memory was wanted, or a put failed, before the wire was opened
+  pub serve_memory_early : (held : Option (List ℕ)) (faults : ℕ) → AppendsPart [] b.held held → faults ≡ b.faults → Serves o NoMemory b (record b { held = held; faults = faults })
+  serve_memory_early held faults h same = record {
+    readings = [];
+    takes = [];
+    deeds = [];
+    told_readings = notes_none b.clock.readings;
+    told_takes = notes_none b.wire.taken;
+    acts = sym (ap (λ (r : Run). r.acts) (run_nothing o));
+    unsent = unsent_of [] [] [] (sym (ap (λ (r : Run). r.acts) (run_nothing o)));
+    apart = apart_of [] [] [] (sym (ap (λ (r : Run). r.acts) (run_nothing o)));
+    log = h;
+    ends = tt;
+    counted = tt;
+    few = omega arith;
+    opening = λ k. absurd k;
+    take_faults = refl;
+    give_faults = omega arith;
+    sink_faults = same;
+    frames = record { frames = []; some = sub_none []; given = notes_none b.wire.given };
+    same_wire_plan = refl;
+    same_clock_plan = refl;
+    planned_readings = elim b.clock.plan as (λ x. IfSome x (λ p. b.clock.readings ≡ Some [] → [] ≡ first_readings p (length {A = ℕ} []))) [ None ↦ tt | Some p ↦ λ fresh. refl ];
+    planned_takes = elim b.wire.plan as (λ x. IfSome x (λ p. IsFresh b.wire → [] ≡ first_entries p (length {A = Option Datagram} []))) [ None ↦ tt | Some p ↦ λ fresh. refl ];
+    planned_faults = elim b.wire.plan as (λ x. IfSome x (λ p. IsFresh b.wire → Unit {0})) [ None ↦ tt | Some p ↦ λ fresh. tt ];
+    planned_fates = elim b.wire.plan as (λ x. IfSome x (λ p. IsFresh b.wire → ⊥ → length {A = Bool} [] < 2 ^ 64 → FatesFrom p.failing_gives 0 [])) [ None ↦ tt | Some p ↦ λ fresh whole few. tt ];
+  }
+
+  pub serve_write_early : (held : Option (List ℕ)) (faults : ℕ) → AppendsPart [] b.held held → HasRisen b.faults faults → Serves o WriteFault b (record b { held = held; faults = faults })
+  serve_write_early held faults h risen = record {
+    readings = [];
+    takes = [];
+    deeds = [];
+    told_readings = notes_none b.clock.readings;
+    told_takes = notes_none b.wire.taken;
+    acts = sym (ap (λ (r : Run). r.acts) (run_nothing o));
+    unsent = unsent_of [] [] [] (sym (ap (λ (r : Run). r.acts) (run_nothing o)));
+    apart = apart_of [] [] [] (sym (ap (λ (r : Run). r.acts) (run_nothing o)));
+    log = h;
+    ends = tt;
+    counted = tt;
+    few = omega arith;
+    opening = λ k. absurd k;
+    take_faults = refl;
+    give_faults = omega arith;
+    sink_faults = risen;
+    frames = record { frames = []; some = sub_none []; given = notes_none b.wire.given };
+    same_wire_plan = refl;
+    same_clock_plan = refl;
+    planned_readings = elim b.clock.plan as (λ x. IfSome x (λ p. b.clock.readings ≡ Some [] → [] ≡ first_readings p (length {A = ℕ} []))) [ None ↦ tt | Some p ↦ λ fresh. refl ];
+    planned_takes = elim b.wire.plan as (λ x. IfSome x (λ p. IsFresh b.wire → [] ≡ first_entries p (length {A = Option Datagram} []))) [ None ↦ tt | Some p ↦ λ fresh. refl ];
+    planned_faults = elim b.wire.plan as (λ x. IfSome x (λ p. IsFresh b.wire → Unit {0})) [ None ↦ tt | Some p ↦ λ fresh. tt ];
+    planned_fates = elim b.wire.plan as (λ x. IfSome x (λ p. IsFresh b.wire → ⊥ → length {A = Bool} [] < 2 ^ 64 → FatesFrom p.failing_gives 0 [])) [ None ↦ tt | Some p ↦ λ fresh whole few. tt ];
+  }
+
+-- A SCRIPT THAT WAS READ, and its answer
+
+-- what a run leaves, from a sink on that took nothing before it
+logs_from : (outcome : NodeOutcome) (text : List ℕ) (a m e : Option (List ℕ)) → Appends a m [] → Logs outcome text m e → Logs outcome text a e
+logs_from Done text a m e h k = Appends-trans a m e [] text h k
+logs_from Refused text a m e h k = Appends-trans a m e [] text h k
+logs_from NoMemory text a m e h k = part_then [] text text a m e refl h k
+logs_from WireFault text a m e h k = Appends-trans a m e [] text h k
+logs_from ClockStill text a m e h k = Appends-trans a m e [] text h k
+logs_from WriteFault text a m e h k = part_then [] text text a m e refl h k
+
+serves_from : (o : Orders) (outcome : NodeOutcome) (w : WireSight) (c : ClockSight) (s t : SinkSight) (e : Edges) → Takes [] s t → Serves o outcome (edges w c t) e → Serves o outcome (edges w c s) e
+serves_from o outcome w c s t e h k = record {
+  readings = k.readings;
+  takes = k.takes;
+  deeds = k.deeds;
+  told_readings = k.told_readings;
+  told_takes = k.told_takes;
+  acts = k.acts;
+  log = logs_from outcome (log_text (log_lines o.setup.me k.deeds)) s.held t.held e.held h.held k.log;
+  unsent = k.unsent;
+  apart = k.apart;
+  ends = k.ends;
+  counted = k.counted;
+  few = k.few;
+  opening = k.opening;
+  take_faults = k.take_faults;
+  give_faults = k.give_faults;
+  sink_faults = subst (λ (n : ℕ). SinkFaults outcome n e.faults) h.faults k.sink_faults;
+  frames = k.frames;
+  same_wire_plan = k.same_wire_plan;
+  same_clock_plan = k.same_clock_plan;
+  planned_readings = k.planned_readings;
+  planned_takes = k.planned_takes;
+  planned_faults = k.planned_faults;
+  planned_fates = k.planned_fates;
+}
+
+answers_by : (octets : List ℕ) (outcome : NodeOutcome) (b a : Edges) (accepted : Bool) (o : Option Orders) → (read_script octets).accepted ≡ accepted → orders_in (read_script octets).state ≡ o →
+    AnswersBy (if accepted then o else None) (log_text (read_script octets).told) outcome b a → Answers octets outcome b a
+answers_by octets outcome b a accepted o e f h =
+    subst (λ (x : Bool). AnswersBy (if x then orders_in (read_script octets).state else None) (log_text (read_script octets).told) outcome b a) (sym e)
+    (subst (λ (x : Option Orders). AnswersBy (if accepted then x else None) (log_text (read_script octets).told) outcome b a) (sym f) h)
+
+read_is : (octets : List ℕ) (start : Draft) → start ≡ Empty → fold_input script_turns start octets ≡ read_script octets
+unfolding read_script
+read_is octets start e = ap (λ (d : Draft). fold_input script_turns d octets) e
+
+module _ (octets : List ℕ) (start : Draft) (empty : start ≡ Empty) where
+  abbrev pub folded : Folded Draft
+  folded = fold_input script_turns start octets
+
+  same : folded ≡ read_script octets
+  same = read_is octets start empty
+
+  told_nothing : folded.accepted ≡ true → (read_script octets).told ≡ []
+  told_nothing a = (script_read octets).told (ap (λ (f : Folded Draft). f.accepted) (sym same) ∙ a)
+
+  -- the orders are there
+  pub orders_there : (accepted : Bool) (state : Draft) → accepted ≡ true → accepted ≡ folded.accepted → state ≡ folded.state → orders_in state ≡ None → ⊥
+  orders_there accepted state a e f none =
+      let there = (script_read octets).there (ap (λ (f : Folded Draft). f.accepted) (sym same) ∙ sym e ∙ a) in
+      let gone : orders_in (read_script octets).state ≡ None = ap (λ (f : Folded Draft). orders_in f.state) (sym same) ∙ ap orders_in (sym f) ∙ none in
+      let found = there.1 in
+      absurd cc
+
+  pub orders_good : (state : Draft) (o : Orders) → length octets ≤ 16777216 → state ≡ folded.state → Some o ≡ orders_in state → IsGood o
+  orders_good state o few f e = script_good octets o few (ap (λ (f : Folded Draft). orders_in f.state) (sym same) ∙ ap orders_in (sym f) ∙ sym e)
+
+  module _ (w : WireSight) (c : ClockSight) (s t : SinkSight) where
+    -- they were carried out
+    pub answers_served : (accepted : Bool) (state : Draft) (o : Orders) (outcome : NodeOutcome) (e : Edges) → accepted ≡ true → accepted ≡ folded.accepted → state ≡ folded.state → Some o ≡ orders_in state → Takes (log_text folded.told) s t → Serves o outcome (edges w c t) e → Answers octets outcome (edges w c s) e
+    answers_served accepted state o outcome e a f g k took serves =
+        let here : folded.accepted ≡ true = sym f ∙ a in
+        let nothing : folded.told ≡ [] = ap (λ (f : Folded Draft). f.told) same ∙ told_nothing here in
+        answers_by octets outcome (edges w c s) e true (Some o) (ap (λ (f : Folded Draft). f.accepted) (sym same) ∙ here) (ap (λ (f : Folded Draft). orders_in f.state) (sym same) ∙ ap orders_in (sym g) ∙ sym k)
+        (serves_from o outcome w c s t e (subst (λ (xs : List Entry). Takes (log_text xs) s t) nothing took) serves)
+
+    -- the script was refused
+    pub answers_refused : (accepted : Bool) → accepted ≡ false → accepted ≡ folded.accepted → Takes (log_text folded.told) s t → Answers octets Refused (edges w c s) (edges w c t)
+    answers_refused accepted a f took =
+        let text = subst (λ (f : Folded Draft). Takes (log_text f.told) s t) same took in
+        answers_by octets Refused (edges w c s) (edges w c t) false (orders_in (read_script octets).state) (ap (λ (f : Folded Draft). f.accepted) (sym same) ∙ sym f ∙ a) refl
+        (record { may = tt; wire = refl; clock = refl; log = text.held; sink_faults = text.faults })
+
+    -- its reading stopped
+    stopped_by : (outcome : NodeOutcome) (accepted : Bool) (o : Option Orders) → (read_script octets).accepted ≡ accepted → orders_in (read_script octets).state ≡ o → (accepted ≡ true → (read_script octets).told ≡ []) → AppendsPart (log_text (read_script octets).told) s.held t.held →
+        RefusesAs outcome (log_text (read_script octets).told) (edges w c s) (edges w c t) → ((k : Orders) → AppendsPart [] s.held t.held → Serves k outcome (edges w c s) (edges w c t)) → Answers octets outcome (edges w c s) (edges w c t)
+    stopped_by outcome false o e f none h refuses serves = answers_by octets outcome (edges w c s) (edges w c t) false o e f refuses
+    stopped_by outcome true None e f none h refuses serves = answers_by octets outcome (edges w c s) (edges w c t) true None e f refuses
+    stopped_by outcome true (Some k) e f none h refuses serves =
+        answers_by octets outcome (edges w c s) (edges w c t) true (Some k) e f (serves k (subst (λ (xs : List Entry). AppendsPart (log_text xs) s.held t.held) (none refl) h))
+
+    pub answers_memory : StopsIn (log_text folded.told) stops.NoMemory s t → Answers octets NoMemory (edges w c s) (edges w c t)
+    answers_memory stopped =
+        let text = subst (λ (f : Folded Draft). StopsIn (log_text f.told) stops.NoMemory s t) same stopped in
+        let part : AppendsPart (log_text (read_script octets).told) s.held t.held = (text.0, text.1.held) in
+        stopped_by NoMemory (read_script octets).accepted (orders_in (read_script octets).state) refl refl (script_read octets).told part (record { may = tt; wire = refl; clock = refl; log = part; sink_faults = text.1.faults })
+        (λ k nothing. serve_memory_early k (edges w c s) t.held t.faults nothing text.1.faults)
+
+    pub answers_write : StopsIn (log_text folded.told) stops.WriteFault s t → Answers octets WriteFault (edges w c s) (edges w c t)
+    answers_write stopped =
+        let text = subst (λ (f : Folded Draft). StopsIn (log_text f.told) stops.WriteFault s t) same stopped in
+        let part : AppendsPart (log_text (read_script octets).told) s.held t.held = (text.count, text.held) in
+        stopped_by WriteFault (read_script octets).accepted (orders_in (read_script octets).state) refl refl (script_read octets).told part (record { may = tt; wire = refl; clock = refl; log = part; sink_faults = text.faults })
+        (λ k nothing. serve_write_early k (edges w c s) t.held t.faults nothing text.faults)

@@ -1,0 +1,22 @@
+use Rattle.std.proofs.Common.{◌≡◌, ◌≤◌, []}
+use Rattle.std.specs.Option.{IfSome}
+use Rattle.dt_edges.specs.Wires.{handed}
+use Rattle.dt_node.specs.Codes.{IsReady, node_seen, orders_seen}
+use Rattle.dt_node.specs.Runs.{moment}
+use Rattle.dt_node.specs.Serving.{edges, most_taken}
+use Rattle.dt_node.proofs.Watching.{IsWell, left_before}
+use Rattle.dt_node.proofs.Served.{Going}
+use Rattle.dt_node.proofs.running.run_turns.Given as goal
+
+abbrev pub invariant-turns : goal.invariant-turns
+invariant-turns g l =
+    record {
+      going : Going (orders_seen l.orders) (edges (g.W.Wire.sight l.fn.wire) (g.C.Clock.sight l.fn.clock) (g.K.Sink.sight l.fn.out)) l.watch (handed l.came l.octets) (node_seen l.orders l.node) (edges (g.W.Wire.sight l.wire) (g.C.Clock.sight l.clock) (g.K.Sink.sight l.out));
+      well : IsWell l.watch;
+      ready : IsReady l.orders (moment l.watch) l.node;
+      within : IfSome l.came (λ d. d.1 ≤ most_taken);
+      empty : l.buffer ≡ [];
+    }
+
+abbrev pub decreases-turns : goal.decreases-turns
+decreases-turns g l = left_before l.orders.stop l.watch

@@ -1,0 +1,24 @@
+use Rattle.std.proofs.Common.{List, ℕ, subst}
+use Rattle.dt_edges.specs.Wires.{handed}
+use Rattle.dt_fold.specs.Logging.{with_waiting}
+use Rattle.dt_node.specs.Codes.{node_seen, orders_seen, turned}
+use Rattle.dt_node.specs.Deeds.{TurnEnds, scene}
+use Rattle.dt_node.specs.Turns.{turn}
+use Rattle.dt_node.proofs.Gathered.{gathered}
+use Rattle.dt_node.proofs.running.turn_at.Goals as goal
+
+pub returns-clause-ends : goal.returns-clause-ends
+returns-clause-ends g c =
+    let o = c.args.orders.now in
+    let me = o.setup.me.0 in
+    let now = c.args.moment in
+    let script = turn (orders_seen o) now (handed c.args.came c.args.octets.now) (node_seen o c.args.node.now) in
+    let w = g.W.Wire.sight c.args.wire.now in
+    let v = g.W.Wire.sight c.turn_into-turned.new.wire in
+    let a = g.K.Sink.sight c.args.out.now in
+    let mid = g.K.Sink.sight c.turn_into-turned.new.out in
+    let end = g.K.Sink.sight c.pass_rest.new.out in
+    let node = node_seen o c.turn_into-turned.new.node in
+    let waits = c.turn_into-turned.new.buffer in
+    let into = subst (λ (b : List ℕ). TurnEnds c.turn_into-turned.result me now script (turned c.turn_into-turned.result node) (scene w (with_waiting a b)) (scene v (with_waiting mid waits))) c.requires.empty c.turn_into-turned.ensures.ends in
+    gathered me now script w v a mid end waits c.turn_into-turned.ensures.reached c.turn_into-turned.result c.pass_rest.result node into c.pass_rest.ensures.puts

@@ -1,0 +1,13 @@
+pub mod Orders
+pub mod Drafts
+pub mod Turns
+pub mod Acts
+pub mod Runs
+pub mod InOrder
+pub mod Logging
+pub mod Deeds
+pub mod Codes
+pub mod Serving
+pub mod Answering
+pub mod Completing
+pub mod Worked

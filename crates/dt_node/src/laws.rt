@@ -1,0 +1,13 @@
+//! Laws of the definitions. Each law is the contract of a public function with an empty body.
+ghost use Rattle.std.specs.Prelude.{ℕ, List, Option, None};
+ghost use Rattle.dt_edges.specs.Wires.{Datagram};
+ghost use Rattle.dt_node.specs.InOrder.{InOrder};
+ghost use Rattle.dt_node.specs.Orders.{Orders};
+ghost use Rattle.dt_node.specs.Runs.{node_run};
+
+/// A run tells no `unsent` line of its own, and each frame stands directly behind the `put` line of
+/// its link. So in a log, where an `unsent` line stands in the place of a frame that was lost, each
+/// `unsent` line follows the `put` line of its link directly.
+pub fn lines_stand_in_order()
+    ensures { (o : Orders) (readings : List ℕ) (takes : List (Option Datagram)) → InOrder None (node_run o readings takes).acts }
+{}

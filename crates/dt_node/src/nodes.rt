@@ -1,0 +1,57 @@
+//! A node between two turns.
+ghost use Rattle.std.specs.Prelude.{◌≡◌, IfOk};
+ghost use Rattle.dt_node.specs.Codes.{IsReady, node_seen, orders_seen};
+ghost use Rattle.dt_node.specs.Orders.{first_node, restart_of};
+
+use crate::orders::Orders;
+use dt_items::NoMemory;
+use dt_layout::Frame;
+use dt_station::Station;
+use std::alloc::Global;
+
+/// How many octets a read takes at most.
+const MOST_READ: usize = 65_536;
+
+/// A node between two turns.
+#[derive(Drop)]
+pub struct Node {
+    pub station: Station<Frame>,
+    /// How many commands were done.
+    pub next: usize,
+    /// Room for what a read takes.
+    pub buf: Vec<u8>,
+}
+
+impl Node {
+    /// The node before its first turn. Takes the room for what may wait on its links, and for a read.
+    pub fn new(alloc: Global, orders: &Orders) -> Result<Node, NoMemory>
+        ensures first { IfOk result (λ node. node_seen orders.now node ≡ first_node (orders_seen orders.now)) }
+        ensures ready { IfOk result (λ node. IsReady orders.now 0 node) }
+    {
+        let setup = &orders.setup;
+        let again = restart(setup.again);
+        let station = Station::new(
+            alloc,
+            &setup.rules,
+            setup.me,
+            again,
+            &setup.outs,
+            &setup.ins,
+            &setup.routes,
+        )?;
+        let mut buf = Vec::new(alloc);
+        buf.resize(MOST_READ, 0)?;
+        Ok(Node {
+            station,
+            next: 0,
+            buf,
+        })
+    }
+}
+
+/// The moment at which a node that begins again is restarted.
+fn restart(again: bool) -> Option<u64>
+    ensures { result ≡ restart_of again }
+{
+    if again { Some(0) } else { None }
+}

@@ -1,0 +1,194 @@
+//! Turn after turn.
+ghost use Rattle.std.specs.Prelude.{◌≡◌, ◌<◌, [], IfOk, OnOk, false, Ok};
+ghost use Rattle.dt_edges.specs.Sinks.{Grows};
+ghost use Rattle.dt_edges.specs.Wires.{handed};
+ghost use Rattle.dt_fold.specs.Logging.{PassesRest, with_waiting};
+ghost use Rattle.dt_world_model.specs.Station.{station_wake};
+ghost use Rattle.dt_node.specs.Codes.{IsGood, IsReady, MayTurn, left_of, node_seen, orders_seen, turned};
+ghost use Rattle.dt_node.specs.Deeds.{TurnEnds, scene};
+ghost use Rattle.dt_node.specs.Orders.{first_node};
+ghost use Rattle.dt_node.specs.Runs.{next_moment, wait_until, wakes_by};
+ghost use Rattle.dt_node.specs.Serving.{Serves, edges};
+ghost use Rattle.dt_node.specs.Turns.{turn};
+
+use crate::logs::Log;
+use crate::nodes::Node;
+use crate::orders::Orders;
+use crate::outcomes::NodeOutcome;
+use crate::turns::turn;
+use crate::watch::{MOST_EQUAL, Watch};
+use dt_edges::{Buffer, Buffered, Clock, Sink, Wire};
+use dt_fold::Stop;
+
+/// The room for a datagram: one octet more than a frame has at most.
+const MOST_TAKEN: usize = 8_223;
+
+/// A turn before a log, by what it leaves of the wire and of the sink.
+fn turn_by<W: Wire, K: Sink>(
+    orders: &Orders,
+    node: &mut Node,
+    came: Option<(u16, usize)>,
+    octets: &[u8],
+    log: &mut Log<'_, '_, W, K>,
+) -> Result<bool, Stop>
+    requires may { MayTurn orders.now log.old.moment node.old came octets.now }
+    requires fine { log.old.failed ≡ false }
+    ensures ends { let script = turn (orders_seen orders.now) log.old.moment (handed came octets.now) (node_seen orders.now node.old) in
+        TurnEnds result log.old.me log.old.moment script (turned result (node_seen orders.now node.new)) (scene (W.sight log.old.wire.now) (K.sight log.old.out.now)) (scene (W.sight log.new.wire.now) (K.sight log.new.out.now)) }
+    ensures same_wire { log.new.wire.ghost_name ≡ log.old.wire.ghost_name }
+    ensures same_out { log.new.out.ghost_name ≡ log.old.out.ghost_name }
+    ensures same_sink { (K.sight log.new.out.now).identity ≡ (K.sight log.old.out.now).identity }
+    ensures reached { Grows (K.sight log.old.out.now).reached (K.sight log.new.out.now).reached }
+    ensures ready { OnOk result (IsReady orders.now log.old.moment node.new) }
+    ensures going { IfOk result (λ stopped. stopped ≡ false → log.old.moment < orders.now.stop) }
+{
+    turn(orders, node, came, octets, log)
+}
+
+/// A turn at a moment, whose lines are put one after another. It says whether the stop was due.
+fn turn_onto<W: Wire, K: Sink>(
+    orders: &Orders,
+    node: &mut Node,
+    moment: u64,
+    came: Option<(u16, usize)>,
+    octets: &[u8],
+    wire: &mut W,
+    out: &mut K,
+) -> Result<bool, Stop>
+    requires { MayTurn orders.now moment node.old came octets.now }
+    ensures ends { let script = turn (orders_seen orders.now) moment (handed came octets.now) (node_seen orders.now node.old) in
+        TurnEnds result orders.now.setup.me.0 moment script (turned result (node_seen orders.now node.new)) (scene (W.sight wire.old) (K.sight out.old)) (scene (W.sight wire.new) (K.sight out.new)) }
+    ensures same_sink { (K.sight out.new).identity ≡ (K.sight out.old).identity }
+    ensures reached { Grows (K.sight out.old).reached (K.sight out.new).reached }
+    ensures ready { OnOk result (IsReady orders.now moment node.new) }
+    ensures going { IfOk result (λ stopped. stopped ≡ false → moment < orders.now.stop) }
+{
+    let mut log = Log {
+        wire,
+        out,
+        moment,
+        me: orders.setup.me.0,
+        failed: false,
+    };
+    turn_by(orders, node, came, octets, &mut log)
+}
+
+/// A turn at a moment, whose lines are gathered in an empty buffer. It says whether the stop was due.
+fn turn_into<W: Wire, K: Sink>(
+    orders: &Orders,
+    node: &mut Node,
+    moment: u64,
+    came: Option<(u16, usize)>,
+    octets: &[u8],
+    wire: &mut W,
+    out: &mut K,
+    buffer: &mut Buffer,
+) -> Result<bool, Stop>
+    requires { MayTurn orders.now moment node.old came octets.now }
+    ensures ends { let script = turn (orders_seen orders.now) moment (handed came octets.now) (node_seen orders.now node.old) in
+        TurnEnds result orders.now.setup.me.0 moment script (turned result (node_seen orders.now node.new)) (scene (W.sight wire.old) (with_waiting (K.sight out.old) buffer.old)) (scene (W.sight wire.new) (with_waiting (K.sight out.new) buffer.new)) }
+    ensures reached { Grows (K.sight out.old).held (K.sight out.new).held }
+    ensures ready { OnOk result (IsReady orders.now moment node.new) }
+    ensures going { IfOk result (λ stopped. stopped ≡ false → moment < orders.now.stop) }
+{
+    let mut gathered = Buffered { out, buffer };
+    turn_onto(orders, node, moment, came, octets, wire, &mut gathered)
+}
+
+/// Puts the lines of a turn on the sink, where no put has failed.
+fn pass_rest<K: Sink>(
+    turned: Result<bool, Stop>,
+    buffer: &mut Buffer,
+    out: &mut K,
+) -> Result<bool, Stop>
+    ensures puts { PassesRest turned result buffer.old (K.sight out.old) (K.sight out.new) }
+    ensures empty { OnOk result (buffer.new ≡ []) }
+    ensures same { IfOk result (λ stopped. turned ≡ Ok stopped) }
+{
+    if let Err(Stop::WriteFault) = turned {
+        return turned;
+    }
+    buffer.pass_on(out)?;
+    turned
+}
+
+/// A turn at a moment, and its lines on the sink. It says whether the stop was due.
+fn turn_at<W: Wire, K: Sink>(
+    orders: &Orders,
+    node: &mut Node,
+    moment: u64,
+    came: Option<(u16, usize)>,
+    octets: &[u8],
+    wire: &mut W,
+    out: &mut K,
+    buffer: &mut Buffer,
+) -> Result<bool, Stop>
+    requires may { MayTurn orders.now moment node.old came octets.now }
+    requires empty { buffer.old ≡ [] }
+    ensures ends { let script = turn (orders_seen orders.now) moment (handed came octets.now) (node_seen orders.now node.old) in
+        TurnEnds result orders.now.setup.me.0 moment script (turned result (node_seen orders.now node.new)) (scene (W.sight wire.old) (K.sight out.old)) (scene (W.sight wire.new) (K.sight out.new)) }
+    ensures ready { OnOk result (IsReady orders.now moment node.new) }
+    ensures going { IfOk result (λ stopped. stopped ≡ false → moment < orders.now.stop) }
+    ensures empty { OnOk result (buffer.new ≡ []) }
+{
+    let turned = turn_into(orders, node, moment, came, octets, wire, out, buffer);
+    pass_rest(turned, buffer, out)
+}
+
+/// How long a take may wait: to the station's wake and to the next command or the stop, 1 to 1,000 ms.
+fn wait_for(orders: &Orders, node: &Node, moment: u64) -> u32
+    ensures { let wake = station_wake node.now.station.rules node.now.station.state in
+        result ≡ wait_until (wakes_by wake (next_moment orders.now.stop (left_of orders.now node.now.next))) moment }
+{
+    let command = match orders.commands.get(node.next) {
+        Some(command) => u64::from(command.at),
+        None => u64::from(orders.stop),
+    };
+    let due = match node.station.wake() {
+        Some(wake) => wake.min(command),
+        None => command,
+    };
+    due.saturating_sub(moment).max(1).min(1000) as u32
+}
+
+/// Opens the wire, and takes turns until one of them ends the run. The buffer, which is empty, gathers
+/// the lines of a turn.
+pub fn run_turns<W: Wire, C: Clock, K: Sink>(
+    orders: &Orders,
+    node: &mut Node,
+    wire: &mut W,
+    clock: &mut C,
+    out: &mut K,
+    buffer: &mut Buffer,
+) -> NodeOutcome
+    requires good { IsGood (orders_seen orders.now) }
+    requires first { node_seen orders.now node.old ≡ first_node (orders_seen orders.now) }
+    requires ready { IsReady orders.now 0 node.old }
+    requires empty { buffer.old ≡ [] }
+    ensures { Serves (orders_seen orders.now) result (edges (W.sight wire.old) (C.sight clock.old) (K.sight out.old)) (edges (W.sight wire.new) (C.sight clock.new) (K.sight out.new)) }
+{
+    if let Err(_) = wire.open(orders.setup.local, &orders.setup.peers) {
+        return NodeOutcome::WireFault;
+    }
+    let mut octets = [0; MOST_TAKEN];
+    let mut came = None;
+    let mut watch = Watch::start(clock.now());
+    'turns: loop {
+        let moment = watch.moment();
+        match turn_at(orders, node, moment, came, &octets, wire, out, buffer) {
+            Ok(false) => (),
+            Ok(true) => return NodeOutcome::Done,
+            Err(Stop::NoMemory) => return NodeOutcome::NoMemory,
+            Err(Stop::WriteFault) => return NodeOutcome::WriteFault,
+        }
+        let wait = wait_for(orders, node, moment);
+        match wire.take(wait, &mut octets) {
+            Ok(found) => came = found,
+            Err(_) => return NodeOutcome::WireFault,
+        }
+        if watch.equal == MOST_EQUAL {
+            return NodeOutcome::ClockStill;
+        }
+        watch = watch.next(clock.now());
+    }
+}

@@ -1,0 +1,106 @@
+ghost use Rattle.std.specs.Prelude.{◌≡◌, ◌≤◌, [], IfOk, length};
+ghost use Rattle.dt_node.specs.Answering.{Answers};
+ghost use Rattle.dt_node.specs.Completing.{Completes};
+ghost use Rattle.dt_node.specs.Codes.{IsGood, IsReady, node_seen, orders_seen};
+ghost use Rattle.dt_node.specs.Orders.{first_node};
+ghost use Rattle.dt_node.specs.Serving.{Serves, edges};
+
+use crate::drafts::Draft;
+use crate::nodes::Node;
+use crate::orders::Orders;
+use crate::outcomes::NodeOutcome;
+use crate::running::run_turns;
+use dt_edges::{Buffer, Clock, Sink, Wire};
+use dt_fold::{Stop, fold_input};
+use dt_items::NoMemory;
+use std::alloc::Global;
+
+/// What a run takes before its first turn: the node, and the buffer for the lines of a turn.
+fn prepare(alloc: Global, orders: &Orders) -> Result<(Node, Buffer), NoMemory>
+    ensures first { IfOk result (λ made. node_seen orders.now made.0 ≡ first_node (orders_seen orders.now)) }
+    ensures ready { IfOk result (λ made. IsReady orders.now 0 made.0) }
+    ensures empty { IfOk result (λ made. made.1 ≡ []) }
+{
+    let node = Node::new(alloc, orders)?;
+    let buffer = Buffer::new(alloc)?;
+    Ok((node, buffer))
+}
+
+/// Carries out the orders of a script.
+fn serve_orders<W: Wire, C: Clock, K: Sink>(
+    alloc: Global,
+    orders: &Orders,
+    wire: &mut W,
+    clock: &mut C,
+    out: &mut K,
+) -> NodeOutcome
+    requires { IsGood (orders_seen orders.now) }
+    ensures { Serves (orders_seen orders.now) result (edges (W.sight wire.old) (C.sight clock.old) (K.sight out.old)) (edges (W.sight wire.new) (C.sight clock.new) (K.sight out.new)) }
+{
+    match prepare(alloc, orders) {
+        Ok((mut node, mut buffer)) => run_turns(orders, &mut node, wire, clock, out, &mut buffer),
+        Err(_) => NodeOutcome::NoMemory,
+    }
+}
+
+/// Reads the script, and carries out its orders.
+fn serve_script<W: Wire, C: Clock, K: Sink>(
+    alloc: Global,
+    script: &[u8],
+    wire: &mut W,
+    clock: &mut C,
+    out: &mut K,
+) -> NodeOutcome
+    requires { length script.now ≤ 16777216 }
+    ensures { Answers script.now result (edges (W.sight wire.old) (C.sight clock.old) (K.sight out.old)) (edges (W.sight wire.new) (C.sight clock.new) (K.sight out.new)) }
+{
+    let mut draft = Draft::new(alloc);
+    match fold_input(&mut draft, script, out) {
+        Ok(true) => match draft.into_orders() {
+            Some(orders) => serve_orders(alloc, &orders, wire, clock, out),
+            None => unreachable!(),
+        },
+        Ok(false) => NodeOutcome::Refused,
+        Err(Stop::NoMemory) => NodeOutcome::NoMemory,
+        Err(Stop::WriteFault) => NodeOutcome::WriteFault,
+    }
+}
+
+/// Runs the node of a script of at most 16,777,216 octets. It reads and checks the whole script, then
+/// opens the wire, then takes turns; each turn's lines are put on `out` at its end. A turn
+///
+/// 1. takes a reading of the clock, whose moment is the greatest reading so far, at most 2^62, less the
+///    first one, in ms;
+/// 2. hands in the datagram that the last turn took, if any;
+/// 3. does the commands that are due, in their order; a due stop ends the run;
+/// 4. lets the station tick;
+/// 5. takes from the wire, into 8,223 octets. The wait is 1 to 1,000 ms, and reaches at most to the
+///    station's wake and to the next command.
+///
+/// - `Done`: a turn met the due stop. `out` has the whole log.
+/// - `Refused`: a line of the script is refused. `out` has its fault, and neither wire nor clock was
+///   called.
+/// - `NoMemory`: there was none. `out` has a first part of the log, and no put failed.
+/// - `WireFault`: the wire didn't open, or a take failed. `out` has the log up to there.
+/// - `ClockStill`: 100,000 turns running had the same moment, and none of them met the stop. `out` has
+///   the log up to there.
+/// - `WriteFault`: a put on `out` failed. It has a first part of the log.
+///
+/// Where no open, take or put fails, and the clock reaches the stop before 100,000 turns running have
+/// the same moment, an accepted script ends with `Done` or `NoMemory`.
+///
+/// A give that fails is a loss: an `unsent` line tells it, behind the `put` line of the frame. The run
+/// ends after at most 100,000 turns for each ms up to the stop, and one.
+pub fn serve<W: Wire, C: Clock, K: Sink>(
+    alloc: Global,
+    script: &[u8],
+    wire: &mut W,
+    clock: &mut C,
+    out: &mut K,
+) -> NodeOutcome
+    requires { length script.now ≤ 16777216 }
+    ensures answers { Answers script.now result (edges (W.sight wire.old) (C.sight clock.old) (K.sight out.old)) (edges (W.sight wire.new) (C.sight clock.new) (K.sight out.new)) }
+    ensures completes { Completes script.now result (edges (W.sight wire.old) (C.sight clock.old) (K.sight out.old)) (edges (W.sight wire.new) (C.sight clock.new) (K.sight out.new)) }
+{
+    serve_script(alloc, script, wire, clock, out)
+}

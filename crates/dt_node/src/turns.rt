@@ -1,0 +1,224 @@
+//! A turn of a node.
+ghost use Rattle.std.specs.Prelude.{◌≡◌, ◌*◌, ◌<◌, ◌≤◌, All, IfOk, IfSome, OnOk, false, length, vec_len};
+ghost use Rattle.dt_edges.specs.Wires.{handed};
+ghost use Rattle.dt_flow_model.specs.Keeping.{most_moment};
+ghost use Rattle.dt_layout.specs.Reading.{gram_fault};
+ghost use Rattle.dt_station.specs.Events.{MayHappen, event_seen};
+ghost use Rattle.dt_world_model.specs.Station.{station_event};
+ghost use Rattle.dt_node.specs.Codes.{GoesOn, HasTakenAtMost, IsCommandOf, IsReady, IsTaskOf, MayGo, MayTurn, frame_octets, left_of, most_commands, most_octets, node_seen, octets_sent, orders_seen, task_seen, turned};
+ghost use Rattle.dt_node.specs.Drafts.{has_link};
+ghost use Rattle.dt_node.specs.Logging.{LogEnds, failed_by, fixed_of, log_sight};
+ghost use Rattle.dt_node.specs.Turns.{comes, do_due, event_of, finish, hand_in, plain, turn};
+
+use crate::drafts::has_link;
+use crate::logs::Log;
+use crate::nodes::Node;
+use crate::orders::{Orders, Task};
+use dt_edges::{Sink, Wire};
+use dt_fold::Stop;
+use dt_items::NoMemory;
+use dt_layout::{Frame, read_deltagram};
+use dt_reports::Report;
+use dt_station::{InLink, Station, StationEvent, Visitor};
+
+/// One event of the station, with its lines.
+fn happen<W: Wire, K: Sink>(
+    station: &mut Station<Frame>,
+    event: StationEvent<'_, Frame>,
+    buf: &mut [u8],
+    log: &mut Log<'_, '_, W, K>,
+) -> Result<(), Stop>
+    requires may { MayHappen frame_octets station.old.rules log.old.moment station.old.state (length buf.old) event }
+    requires go { MayGo log.old.moment station.old }
+    requires fine { log.old.failed ≡ false }
+    ensures ends { let script = station_event station.old.rules log.old.moment (event_seen plain (length buf.old) event.entry) station.old.state in
+        LogEnds (log_sight W.sight K.sight) result script log.old log.new station.new.state }
+    ensures failed { log.new.failed ≡ failed_by result }
+    ensures fixed { fixed_of log.new ≡ fixed_of log.old }
+    ensures on { OnOk result (GoesOn log.old.moment (octets_sent (event_seen plain (length buf.old) event.entry)) station.old station.new) }
+{
+    let done = station.event(log.moment, event, buf, log);
+    if log.failed {
+        return Err(Stop::WriteFault);
+    }
+    match done {
+        Ok(()) => Ok(()),
+        Err(NoMemory) => Err(Stop::NoMemory),
+    }
+}
+
+/// Octets that came on a link: they arrive, or give their `bad` line.
+fn comes<W: Wire, K: Sink>(
+    station: &mut Station<Frame>,
+    link: u16,
+    octets: &[u8],
+    log: &mut Log<'_, '_, W, K>,
+) -> Result<(), Stop>
+    requires go { MayGo log.old.moment station.old }
+    requires fine { log.old.failed ≡ false }
+    ensures ends { let script = comes station.old.rules log.old.moment (record { link = link; octets = octets.now }) (gram_fault octets.now) station.old.state in
+        LogEnds (log_sight W.sight K.sight) result script log.old log.new station.new.state }
+    ensures failed { log.new.failed ≡ failed_by result }
+    ensures fixed { fixed_of log.new ≡ fixed_of log.old }
+    ensures on { OnOk result (GoesOn log.old.moment 0 station.old station.new) }
+{
+    match read_deltagram(octets) {
+        Err(fault) => {
+            log.tell(&Report::Bad { fault });
+            if log.failed {
+                return Err(Stop::WriteFault);
+            }
+            Ok(())
+        }
+        Ok(_) => match Frame::from_bytes(octets) {
+            Some(packet) => happen(station, StationEvent::Arrive { link, packet }, &mut [], log),
+            None => unreachable!(),
+        },
+    }
+}
+
+/// Hands in what the last turn took.
+fn hand_in<W: Wire, K: Sink>(
+    station: &mut Station<Frame>,
+    ins: &[InLink],
+    came: Option<(u16, usize)>,
+    octets: &[u8],
+    log: &mut Log<'_, '_, W, K>,
+) -> Result<(), Stop>
+    requires ins { station.old.state.relay.ins ≡ ins.now }
+    requires within { IfSome came (λ d. d.1 ≤ length octets.now) }
+    requires go { MayGo log.old.moment station.old }
+    requires fine { log.old.failed ≡ false }
+    ensures ends { let script = hand_in station.old.rules log.old.moment (handed came octets.now) station.old.state in
+        LogEnds (log_sight W.sight K.sight) result script log.old log.new station.new.state }
+    ensures failed { log.new.failed ≡ failed_by result }
+    ensures fixed { fixed_of log.new ≡ fixed_of log.old }
+    ensures on { OnOk result (GoesOn log.old.moment 0 station.old station.new) }
+{
+    match came {
+        Some((link, len)) if has_link(link, ins) => comes(station, link, &octets[..len], log),
+        _ => Ok(()),
+    }
+}
+
+/// Does a command, as one event. `buf` has room for 65,536 octets.
+fn do_task<W: Wire, K: Sink>(
+    station: &mut Station<Frame>,
+    task: &Task,
+    buf: &mut Vec<u8>,
+    log: &mut Log<'_, '_, W, K>,
+) -> Result<(), Stop>
+    requires can { IsTaskOf station.old.state.host.me (task_seen task.now) }
+    requires few { HasTakenAtMost (most_commands * most_octets) station.old.state.host }
+    requires room { vec_len buf.old ≡ most_octets }
+    requires go { MayGo log.old.moment station.old }
+    requires fine { log.old.failed ≡ false }
+    ensures ends { let script = station_event station.old.rules log.old.moment (event_of (task_seen task.now)) station.old.state in
+        LogEnds (log_sight W.sight K.sight) result script log.old log.new station.new.state }
+    ensures failed { log.new.failed ≡ failed_by result }
+    ensures fixed { fixed_of log.new ≡ fixed_of log.old }
+    ensures on { OnOk result (GoesOn log.old.moment most_octets station.old station.new) }
+    ensures room { vec_len buf.new ≡ most_octets }
+{
+    match task {
+        Task::Send {
+            flow,
+            begin,
+            end,
+            octets,
+        } => {
+            let event = StationEvent::Send {
+                flow: *flow,
+                octets,
+                begin: *begin,
+                end: *end,
+            };
+            happen(station, event, &mut [], log)
+        }
+        Task::Read { flow, max } => {
+            let room = *max as usize;
+            let event = StationEvent::Read { flow: *flow };
+            happen(station, event, &mut buf[..room], log)
+        }
+    }
+}
+
+/// Does the commands that are due, in order.
+fn do_due<W: Wire, K: Sink>(
+    orders: &Orders,
+    node: &mut Node,
+    log: &mut Log<'_, '_, W, K>,
+) -> Result<(), Stop>
+    requires ready { IsReady orders.now log.old.moment node.old }
+    requires tasks { All (IsCommandOf orders.now.setup.me.0) (left_of orders.now 0) }
+    requires few { vec_len orders.now.commands ≤ most_commands }
+    requires moment { log.old.moment ≤ most_moment }
+    requires fine { log.old.failed ≡ false }
+    ensures ends { let script = do_due orders.now.setup.rules log.old.moment (left_of orders.now node.old.next) node.old.station.state in
+        LogEnds (log_sight W.sight K.sight) result script log.old log.new (node_seen orders.now node.new) }
+    ensures failed { log.new.failed ≡ failed_by result }
+    ensures fixed { fixed_of log.new ≡ fixed_of log.old }
+    ensures ready { OnOk result (IsReady orders.now log.old.moment node.new) }
+{
+    'due: while node.next < orders.commands.len() {
+        let command = &orders.commands[node.next];
+        if u64::from(command.at) > log.moment {
+            return Ok(());
+        }
+        do_task(&mut node.station, &command.task, &mut node.buf, log)?;
+        node.next += 1;
+    }
+    Ok(())
+}
+
+/// Ends the run where the stop is due, and ticks else. It says whether the stop was due.
+fn finish<W: Wire, K: Sink>(
+    orders: &Orders,
+    node: &mut Node,
+    log: &mut Log<'_, '_, W, K>,
+) -> Result<bool, Stop>
+    requires ready { IsReady orders.now log.old.moment node.old }
+    requires moment { log.old.moment ≤ most_moment }
+    requires fine { log.old.failed ≡ false }
+    ensures ends { let script = finish (orders_seen orders.now) log.old.moment (node_seen orders.now node.old) in
+        LogEnds (log_sight W.sight K.sight) result script log.old log.new (turned result (node_seen orders.now node.new)) }
+    ensures failed { log.new.failed ≡ failed_by result }
+    ensures fixed { fixed_of log.new ≡ fixed_of log.old }
+    ensures ready { OnOk result (IsReady orders.now log.old.moment node.new) }
+    ensures going { IfOk result (λ stopped. stopped ≡ false → log.old.moment < orders.now.stop) }
+{
+    if u64::from(orders.stop) <= log.moment {
+        log.tell(&Report::End);
+        if log.failed {
+            return Err(Stop::WriteFault);
+        }
+        return Ok(true);
+    }
+    happen(&mut node.station, StationEvent::Tick, &mut [], log)?;
+    Ok(false)
+}
+
+/// A turn: what the last one took is handed in, the commands that are due are done, and then the stop
+/// is due or the station ticks. It says whether the stop was due. It takes no memory but for what comes
+/// of the events.
+pub fn turn<W: Wire, K: Sink>(
+    orders: &Orders,
+    node: &mut Node,
+    came: Option<(u16, usize)>,
+    octets: &[u8],
+    log: &mut Log<'_, '_, W, K>,
+) -> Result<bool, Stop>
+    requires may { MayTurn orders.now log.old.moment node.old came octets.now }
+    requires fine { log.old.failed ≡ false }
+    ensures ends { let script = turn (orders_seen orders.now) log.old.moment (handed came octets.now) (node_seen orders.now node.old) in
+        LogEnds (log_sight W.sight K.sight) result script log.old log.new (turned result (node_seen orders.now node.new)) }
+    ensures failed { log.new.failed ≡ failed_by result }
+    ensures fixed { fixed_of log.new ≡ fixed_of log.old }
+    ensures ready { OnOk result (IsReady orders.now log.old.moment node.new) }
+    ensures going { IfOk result (λ stopped. stopped ≡ false → log.old.moment < orders.now.stop) }
+{
+    let setup = &orders.setup;
+    hand_in(&mut node.station, &setup.ins, came, octets, log)?;
+    do_due(orders, node, log)?;
+    finish(orders, node, log)
+}

@@ -1,0 +1,8 @@
+use Rattle.dt_replay_audit.proofs.Turning.{lines_count, schedule_passes}
+use Rattle.dt_replay_audit.proofs.log_of_a_schedule_passes.Goals as goal
+
+pub returns-clause-lines : goal.returns-clause-lines
+returns-clause-lines c octets = lines_count octets
+
+pub returns-clause-passes : goal.returns-clause-passes
+returns-clause-passes c octets few = schedule_passes octets few

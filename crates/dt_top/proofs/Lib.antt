@@ -1,0 +1,3 @@
+pub mod Positionals
+pub mod Naming
+pub mod NodeRuns
