@@ -156,8 +156,8 @@ def changed(log):
 def logs():
     """The logs of the rows that were accepted, each with its changes. The first passes."""
     for line in (ROWS / "stdin").read_text().splitlines():
-        name, status = line.split()
-        if status == "0":
+        name, word, status = line.split()
+        if (word, status) == ("replay", "0"):
             log = (ROWS / "data" / f"{name}.out").read_text().splitlines()
             for k, log in enumerate(changed(log)):
                 yield f"{name} {k}", log, k == 0
