@@ -4,8 +4,9 @@ same sizes (`bench/plain.rs`, built by `rustc -O -o /tmp/plain bench/plain.rs`).
 `bench/nodes.py crates/deltat/out/deltat /tmp/plain`.
 
 - requests: a client sends a message of 100 octets in one packet and waits for what answers it.
-- octets: one node sends another messages of 65,536 octets; the plain client sends as many datagrams
-  of the same size and waits for an answer to every 64."""
+- octets: one node sends another messages of 65,536 octets, one after another, each from its taking to
+  its last acknowledgement; the plain client sends as many datagrams of the same size and waits for an
+  answer to every 64."""
 import socket
 import struct
 import subprocess
@@ -35,8 +36,8 @@ def free_port():
         return it.getsockname()[1]
 
 
-def start(program, lines):
-    node = subprocess.Popen([program, "node"], stdin=subprocess.PIPE, stdout=subprocess.PIPE)
+def start(program, lines, out=subprocess.DEVNULL):
+    node = subprocess.Popen([program, "node"], stdin=subprocess.PIPE, stdout=out)
     node.stdin.write(("\n".join(lines) + "\n").encode())
     node.stdin.close()
     return node
@@ -73,18 +74,20 @@ def requests(program, plain):
     return by_node, by_loop
 
 
-def moments(node):
-    """When the first line with `took` and the last with `settled` came, and how often nodes sent."""
-    first = last = None
-    sent = 0
+def spans(node):
+    """For each message the seconds from its `took` line to its last `settled` line, and how many packets
+    went out."""
+    first, last, sent = {}, {}, 0
     for line in node.stdout:
         now, words = time.monotonic(), line.split()
-        if words[2] == b"took" and first is None:
-            first = now
+        if len(words) < 4:
+            continue
+        if words[2] == b"took":
+            first[words[3]] = now
         if words[2] == b"settled":
-            last = now
+            last[words[3]] = now
         sent += words[2] in (b"sent", b"resent")
-    return first, last, sent
+    return [last[flow] - first[flow] for flow in first], sent
 
 
 def octets(program, plain):
@@ -93,11 +96,10 @@ def octets(program, plain):
     for me, other, mine, theirs in ((2, 1, ports[1], ports[0]), (1, 2, ports[0], ports[1])):
         lines = [params(SEG), f"me {me} first", f"local {HOST}:{mine}", f"peer 1 {HOST}:{theirs} 50 0", f"route {other} 1", "go"]
         if me == 1:
-            lines += [f"at 500 send 1:{i}>2:20 be {'61' * 65536}" for i in range(MESSAGES)]
-        nodes.append(start(program, lines + ["at 8000 stop"]))
-    nodes[0].stdout.close()
-    first, last, sent = moments(nodes[1])
-    by_nodes = MESSAGES * 65536 / (last - first)
+            lines += [f"at {500 + 100 * i} send 1:{i}>2:20 be {'61' * 65536}" for i in range(MESSAGES)]
+        nodes.append(start(program, lines + ["at 8000 stop"], subprocess.PIPE if me == 1 else subprocess.DEVNULL))
+    seconds, sent = spans(nodes[1])
+    by_nodes = MESSAGES * 65536 / sum(seconds)
     print(f"  (the sender sent {sent} packets of {MESSAGES * 65536 // SEG})")
     client, port, count = bound(), free_port(), MESSAGES * 65536 // SEG
     loop = subprocess.Popen([plain, str(port), str(count)])
