@@ -121,4 +121,5 @@ def main():
     print("octets a second of messages of 65,536: two nodes %.0f, plain loop %.0f" % octets(program, plain))
 
 
-main()
+if __name__ == "__main__":
+    main()

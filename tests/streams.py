@@ -8,6 +8,7 @@ import sys
 
 TOP = os.path.dirname(os.path.dirname(os.path.abspath(__file__)))
 SCHEDULE = os.path.join(TOP, "examples", "loss-repeat-restart.schedule")
+LOG = os.path.join(TOP, "crates", "deltat_rows", "data", "01-short-exchange.out")
 
 
 def status(program, words, redirections):
@@ -33,14 +34,19 @@ def main():
         ("a closed pipe for make", status_into_a_closed_pipe(program, ["make", "5"]), 8),
         ("a full disk", status(program, "replay", f'< "{SCHEDULE}" > /dev/full'), 8),
         ("a full disk for make", status(program, "make 5", "> /dev/full"), 8),
+        ("a full disk for a refused script", status(program, "node", f'< "{SCHEDULE}" > /dev/full'), 8),
+        ("a full disk for a verdict", status(program, "audit", f'< "{LOG}" > /dev/full'), 8),
         ("a full disk for the text of the status", status(program, "hop", "2> /dev/full"), 2),
+        ("no place for the text of the status", status(program, "node", f'< "{SCHEDULE}" > /dev/null 2>&-'), 3),
         ("a directory as input", status(program, "replay", "< /"), 7),
         ("a directory as a script", status(program, "node", "< /"), 7),
         ("a directory as a log", status(program, "audit", "< /"), 7),
         ("no input", status(program, "replay", "<&-"), 7),
         ("no output", status(program, "replay", f'< "{SCHEDULE}" >&-'), 8),
         ("no streams at all", status(program, "replay", "<&- >&- 2>&-"), 7),
+        ("no streams at all for a node", status(program, "node", "<&- >&- 2>&-"), 7),
         ("no streams at all for make", status(program, "make 5", "<&- >&- 2>&-"), 8),
+        ("no streams at all for no command", status(program, "hop", "<&- >&- 2>&-"), 2),
     ]
     wrong = [(name, had, wanted) for name, had, wanted in cases if had != wanted]
     for name, had, wanted in wrong:

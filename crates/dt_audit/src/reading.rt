@@ -3,9 +3,11 @@ ghost use Rattle.std.specs.Prelude.{◌≡◌, ◌≤◌, length};
 ghost use Rattle.dt_audit.specs.Facts.{accepted_said, fact_of, is_told, named_fact, restarted_said, sent_said, settled_said, took_said, uncertain_said};
 
 use crate::facts::Fact;
-use crate::words::{Words, flow, has, is, letters, number, run};
+use crate::words::{letters, run};
 use dt_reports::LineFault;
+use dt_text::fields::{flow, has, number};
 use dt_text::read_number;
+use dt_text::splitting::{Words, is};
 
 /// `MOMENT NODE took FLOW COUNT`
 fn took(words: &Words<'_>) -> Result<Fact, LineFault>

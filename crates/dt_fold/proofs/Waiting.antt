@@ -18,18 +18,18 @@ none_waits None = refl
 none_waits (Some x) = ap Some (append-nil x)
 
 -- nothing waited at first
-from_empty : (a b : Option (List ℕ)) (text : List ℕ) → Appends (append_known a []) b text → Appends a b text
+pub from_empty : (a b : Option (List ℕ)) (text : List ℕ) → Appends (append_known a []) b text → Appends a b text
 from_empty a b text h = subst (λ c. Appends c b text) (none_waits a) h
 
 -- all that waited was put
-all_put : (a m end : Option (List ℕ)) (waiting text : List ℕ) → Appends a (append_known m waiting) text → Appends m end waiting → Appends a end text
+pub all_put : (a m end : Option (List ℕ)) (waiting text : List ℕ) → Appends a (append_known m waiting) text → Appends m end waiting → Appends a end text
 all_put None m end waiting text h e = tt
 all_put (Some x) None end waiting text h e = absurd h
 all_put (Some x) (Some y) None waiting text h e = absurd e
 all_put (Some x) (Some y) (Some z) waiting text h e = e ∙ h
 
 -- of what waited the first n octets were put
-part_put : (a m end : Option (List ℕ)) (waiting text : List ℕ) (n : ℕ) (g : Grows a m) → Appends a (append_known m waiting) text → Appends m end (take n waiting) → Appends a end (take (length g.0 + n) text)
+pub part_put : (a m end : Option (List ℕ)) (waiting text : List ℕ) (n : ℕ) (g : Grows a m) → Appends a (append_known m waiting) text → Appends m end (take n waiting) → Appends a end (take (length g.0 + n) text)
 part_put None m end waiting text n g h e = tt
 part_put (Some x) None end waiting text n g h e = absurd h
 part_put (Some x) (Some y) None waiting text n g h e = absurd e
@@ -42,12 +42,12 @@ part_put (Some x) (Some y) (Some z) waiting text n g h e =
     ∙ ap (λ l. x ++ l) (sym (take-append-add p waiting n) ∙ ap (take (length p + n)) whole)
 
 -- a first part of a first part
-part_of_part : (text : List ℕ) (count : ℕ) (a b : SinkSight) → HasPart (take count text) a b → HasPart text a b
+pub part_of_part : (text : List ℕ) (count : ℕ) (a b : SinkSight) → HasPart (take count text) a b → HasPart text a b
 part_of_part text count a b h =
     let part = take count text in
     (min h.0 (length part), subst (Appends a.held b.held) (first_of part (drop count text) h.0 ∙ ap (take (min h.0 (length part))) (take-append-drop count text)) h.1)
 
-risen_from : (m n k : ℕ) → n ≡ m → HasRisen n k → HasRisen m k
+pub risen_from : (m n k : ℕ) → n ≡ m → HasRisen n k → HasRisen m k
 risen_from m n k e h = subst (λ i. HasRisen i k) e h
 
 module _ {S : Type 0} (all : Folded S) (a mid end : SinkSight) (waiting : List ℕ) where

@@ -1,3 +1,7 @@
 pub mod Answers
 pub mod Dues
 pub mod Hosts
+pub mod Orders
+pub mod Agendas
+pub mod Notes
+pub mod Soonest

@@ -11,22 +11,26 @@ ghost use Rattle.dt_flow_model.specs.SendRecord.{next_of};
 ghost use Rattle.dt_world_model.specs.Host.{IsCurrentHost, arrive, first_host, host_wake, next_turn, read_octets, receiver_at, restarted_host, send_octets, sender_at, work};
 ghost use Rattle.dt_host.specs.Answers.{IsAnswerTo, IsMade, frame_made, host_after, or_stays, replied, told_done};
 ghost use Rattle.dt_host.specs.Dues.{IsNext};
+ghost use Rattle.dt_host.specs.Soonest.{missed_senders};
 ghost use Rattle.dt_host.specs.declared.faults.SendFault.TheVariants as send_fault;
 
 use crate::acts::{Act, Done};
 use crate::dues::{DueAct, DueKind};
 use crate::faults::SendFault;
 use crate::receiving::{Receivers, Segment};
+use crate::recv_agenda::RecvAgenda;
+use crate::send_agenda::SendAgenda;
 use crate::sending::{Octets, Senders};
-use crate::{receiving, sending};
+use crate::upcoming::upcoming;
+use crate::{receiving, recv_side, send_side, sending};
 use dt_flow_model::Arrived;
 use dt_items::{NoMemory, Piece};
 use dt_layout::{Frame, Packet};
 use dt_units::{Flow, NodeId, Rules, Steps};
 use indexmap::IndexMap;
 use std::alloc::Global;
-use std::marker::{Brand, Model};
-use std::sync::ledger::{Blank, Ledger};
+use std::marker::Model;
+use std::sync::ledger::Ledger;
 
 /// All records of one node: its senders and its receivers, each in the order of their making. A sender
 /// goes when it is released, and a receiver when it has neither a record nor unread octets.
@@ -43,17 +47,20 @@ pub struct Host {
     /// The greatest moment that it was given.
     latest: u64,
     senders: Senders,
+    send_agenda: SendAgenda,
     receivers: Receivers,
+    recv_agenda: RecvAgenda,
 }
 
 impl Model for Host {
     ghost use Rattle.dt_host.specs.Hosts.{AreReceiveEntries, AreSendEntries, HostValue, receivers_of, send_records};
+    ghost use Rattle.dt_host.specs.Notes.{AreNoted, IsRecvNoted, IsSendNoted};
 
     ghost Value = { HostValue };
 
     ghost view = { λ h. record { rules = h.rules; latest = h.latest; state = record { me = h.me.0; until = h.until; senders = send_records h.senders.entries; receivers = receivers_of h.receivers.entries } } };
 
-    ghost invariant = { λ h. AreSendEntries h.rules h.senders.entries × AreReceiveEntries h.rules h.receivers.entries };
+    ghost invariant = { λ h. AreSendEntries h.rules h.senders.entries × AreReceiveEntries h.rules h.receivers.entries × AreNoted (IsSendNoted h.rules h.latest) (send_records h.senders.entries) h.send_agenda × AreNoted (IsRecvNoted h.rules) (receivers_of h.receivers.entries) h.recv_agenda };
 }
 
 impl Host {
@@ -68,7 +75,9 @@ impl Host {
             until: 0,
             latest: 0,
             senders: IndexMap::new(alloc),
+            send_agenda: SendAgenda::new(alloc),
             receivers: IndexMap::new(alloc),
+            recv_agenda: RecvAgenda::new(alloc),
         })
     }
 
@@ -135,7 +144,15 @@ impl Host {
             return Err(SendFault::Quiet { until: self.until });
         }
         let asked = Octets { octets, begin, end };
-        sending::put(&mut self.senders, &self.rules, flow, &asked, now, steps)
+        send_side::put(
+            &mut self.senders,
+            &mut self.send_agenda,
+            &self.rules,
+            flow,
+            &asked,
+            now,
+            steps,
+        )
     }
 
     /// Unread octets of a flow are read at `now` into the buffer, which isn't empty, where the host is
@@ -166,7 +183,15 @@ impl Host {
         ensures looks { steps.new ≤ steps.old + 4 }
     {
         self.latest = now;
-        receiving::read(&mut self.receivers, &self.rules, flow, buf, now, steps)
+        recv_side::read(
+            &mut self.receivers,
+            &mut self.recv_agenda,
+            &self.rules,
+            flow,
+            buf,
+            now,
+            steps,
+        )
     }
 
     /// A packet came from a node at `now`, where the host is current. A silent host answers `Quiet` to
@@ -230,15 +255,45 @@ impl Host {
                     octets,
                 };
                 let receivers = &mut self.receivers;
-                receiving::take(receivers, &self.rules, &flow, &segment, now, reply, steps)
+                let agenda = &mut self.recv_agenda;
+                recv_side::take(
+                    receivers,
+                    agenda,
+                    &self.rules,
+                    &flow,
+                    &segment,
+                    now,
+                    reply,
+                    steps,
+                )
             }
             Packet::Ack { number, window, .. } => {
                 let senders = &mut self.senders;
-                Ok(sending::acknowledge(senders, &self.rules, &flow, number, window, steps))
+                let agenda = &mut self.send_agenda;
+                Ok(send_side::acknowledge(
+                    senders,
+                    agenda,
+                    &self.rules,
+                    &flow,
+                    number,
+                    window,
+                    now,
+                    steps,
+                ))
             }
             Packet::Meet { number, .. } => {
                 let receivers = &mut self.receivers;
-                Ok(receiving::meet(receivers, &self.rules, &flow, number, now, reply, steps))
+                let agenda = &mut self.recv_agenda;
+                Ok(recv_side::meet(
+                    receivers,
+                    agenda,
+                    &self.rules,
+                    &flow,
+                    number,
+                    now,
+                    reply,
+                    steps,
+                ))
             }
             Packet::Close { number, .. } => {
                 Ok(receiving::close(&self.receivers, &flow, number, steps))
@@ -257,8 +312,11 @@ impl Host {
     /// What goes out is in the frame, a Deltagram of life `mpl`, and else the frame is as it was. Each
     /// act lowers the work that is left at `now`, so that calls at one moment come to an end.
     ///
-    /// It takes no memory. Its cost is that of a look at every record. A sender that is released and a
-    /// receiver that is idle go from their table, and the records made after them move up by one place.
+    /// It takes no memory. Of the records it looks at the senders that hold a segment whose resend was
+    /// missed: it was to go out again before now, and may do so no more. Beside these it looks at the
+    /// record that acts, 4 times at most. Its further cost grows with the number of records as its
+    /// logarithm does, but where a sender that is released or a receiver that is idle goes: the records
+    /// made after it move up by one place in their table.
     pub fn next<L: Ledger>(
         &mut self,
         now: u64,
@@ -276,16 +334,77 @@ impl Host {
         ensures gram { let turn = next_turn self.old.rules now self.old.state in
             IfSome (frame_made turn) (λ octets. IsGram octets) }
         ensures falls { IfSome result (λ done. work self.old.rules now self.new.state < work self.old.rules now self.old.state) }
+        ensures looks { steps.new ≤ steps.old + missed_senders self.old.rules now self.old.state.senders + 4 }
+        ensures none { result ≡ None → steps.new ≤ steps.old + missed_senders self.old.rules now self.old.state.senders }
+    {
+        let due = self.upcoming(now, steps)?;
+        Some(self.act(due, now, frame, steps))
+    }
+
+    /// The act that comes first of those that are due at `now`, by the agendas.
+    fn upcoming<L: Ledger>(&mut self, now: u64, steps: &mut Steps<L>) -> Option<DueAct>
+        requires past { self.old.latest ≤ now }
+        ensures next { IsNext self.old.rules now self.old.state result }
+        ensures same { self.new ≡ record self.old { latest = now } }
+        ensures looks { steps.new ≤ steps.old + missed_senders self.old.rules now self.old.state.senders + 1 }
+        ensures none { result ≡ None → steps.new ≤ steps.old + missed_senders self.old.rules now self.old.state.senders }
     {
         self.latest = now;
-        let DueAct { kind, flow, .. } = self.soonest(now, steps)?;
+        // With its length a map tells that its keys differ.
+        let _senders = self.senders.len();
+        let _receivers = self.receivers.len();
+        upcoming(
+            &self.senders,
+            &mut self.send_agenda,
+            &self.receivers,
+            &self.recv_agenda,
+            &self.rules,
+            now,
+            steps,
+        )
+    }
+
+    /// Does the act that comes next at the latest moment.
+    fn act<L: Ledger>(
+        &mut self,
+        due: DueAct,
+        now: u64,
+        frame: &mut Frame,
+        steps: &mut Steps<L>,
+    ) -> Done
+        requires moment { now ≤ most_moment }
+        requires latest { self.old.latest ≡ now }
+        requires next { IsNext self.old.rules now self.old.state (Some due) }
+        ensures turn { let turn = next_turn self.old.rules now self.old.state in
+            Some (told_done result) ≡ option_map (λ done. done.told) turn }
+        ensures frame { let turn = next_turn self.old.rules now self.old.state in
+            frame.new ≡ unwrap_or (frame_made turn) frame.old }
+        ensures after { let turn = next_turn self.old.rules now self.old.state in
+            self.new ≡ record self.old { latest = now; state = host_after self.old.state turn } }
+        ensures gram { let turn = next_turn self.old.rules now self.old.state in
+            IfSome (frame_made turn) (λ octets. IsGram octets) }
+        ensures falls { work self.old.rules now self.new.state < work self.old.rules now self.old.state }
+        ensures looks { steps.new ≤ steps.old + 3 }
+    {
+        let DueAct { kind, flow, .. } = due;
         let act = match kind {
             DueKind::Send(_) => {
-                Act::Send(sending::act(&mut self.senders, &self.rules, &flow, now, frame, steps))
+                let agenda = &mut self.send_agenda;
+                Act::Send(send_side::act(
+                    &mut self.senders,
+                    agenda,
+                    &self.rules,
+                    &flow,
+                    now,
+                    frame,
+                    steps,
+                ))
             }
             DueKind::Recv(_) => {
-                Act::Recv(receiving::act(
+                let agenda = &mut self.recv_agenda;
+                Act::Recv(recv_side::act(
                     &mut self.receivers,
+                    agenda,
                     &self.rules,
                     &flow,
                     now,
@@ -294,7 +413,7 @@ impl Host {
                 ))
             }
         };
-        Some(Done { flow, act })
+        Done { flow, act }
     }
 
     /// The act that comes first of those that are due at `now`.
@@ -306,24 +425,11 @@ impl Host {
     }
 
     /// The least moment at which an act of any record is due, or none where there is no record that has
-    /// one. It takes no memory, and its cost is that of a look at every record.
+    /// one. It takes no memory, looks at no record, and its cost doesn't grow.
     pub fn wake(&self) -> Option<u64>
         ensures { result ≡ host_wake self.now.rules self.now.state }
     {
-        self.wake_on::<Brand>(Blank::new(1))
-    }
-
-    /// The same, with a count of its own of the looks that are taken.
-    fn wake_on<L: Ledger>(&self, ledger: Blank) -> Option<u64>
-        requires name { ledger.name ≡ L.name }
-        requires parts { ledger.parts ≡ L.parts }
-        requires some { 0 < ledger.parts }
-        ensures { result ≡ host_wake self.now.rules self.now.state }
-    {
-        let mut steps = Steps::<L>::new(ledger);
-        let senders = sending::wake(&self.senders, &self.rules, &mut steps);
-        let receivers = receiving::wake(&self.receivers, &self.rules, &mut steps);
-        sending::lesser(senders, receivers)
+        sending::lesser(self.send_agenda.wake(), self.recv_agenda.wake())
     }
 
     /// The node that it is the host of.

@@ -5,13 +5,17 @@ mod acts;
 mod dues;
 mod faults;
 mod hosts;
+mod order;
 mod receiving;
+mod recv_agenda;
+mod recv_side;
+mod send_agenda;
+mod send_side;
 mod sending;
+mod tables;
+mod upcoming;
 
 pub use acts::{Act, Done};
 pub use dt_flow_model::{Arrived, Cut, RecvAct, SendAct};
 pub use faults::SendFault;
 pub use hosts::{Host, flow_of_packet};
-
-#[cfg(test)]
-mod tests;

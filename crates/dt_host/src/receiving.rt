@@ -7,16 +7,14 @@ ghost use Rattle.dt_flow_model.specs.declared.arrivals.Action.TheVariants.{Make}
 ghost use Rattle.dt_flow_model.specs.declared.arrivals.Arrived.TheVariants.{Replied};
 ghost use Rattle.dt_flow_model.specs.Frames.{recv_frame, reply_frame};
 ghost use Rattle.dt_flow_model.specs.Keeping.{most_moment};
-ghost use Rattle.dt_flow_model.specs.ReceiveRecord.{ReceiveRecord, Receiver as ReceiverState, action_on, after_data, after_meet, after_recv_act, answer_to_close, answer_to_data, answer_to_meet, recv_told_of, recv_wake_of};
-ghost use Rattle.dt_flow_model.specs.SendActs.{earlier};
+ghost use Rattle.dt_flow_model.specs.ReceiveRecord.{ReceiveRecord, Receiver as ReceiverState, action_on, after_data, after_meet, after_recv_act, answer_to_close, answer_to_data, answer_to_meet, recv_told_of};
 ghost use Rattle.dt_world_model.specs.Host.{Host, host_with_receiver, read_octets, receiver_at};
-ghost use Rattle.dt_world_model.specs.Tables.{Distinct, earliest, look, same_flow};
+ghost use Rattle.dt_world_model.specs.Tables.{Distinct, look, same_flow};
 ghost use Rattle.dt_host.specs.Answers.{IsDataAnswer, IsDataTaken, replied};
 ghost use Rattle.dt_host.specs.Dues.{HasRecvDue, soonest_recv};
 ghost use Rattle.dt_host.specs.Hosts.{AreReceiveEntries, receivers_of};
 
 use crate::dues::{DueAct, DueKind};
-use crate::sending::lesser;
 use dt_flow_model::{Action, Arrived, RecvAct};
 use dt_items::{NoMemory, Piece};
 use dt_layout::{Frame, Packet, write_frame};
@@ -269,6 +267,7 @@ pub fn act<L: Ledger>(
     ensures after { (r : ReceiverState) (y : ReceiveRecord) (kind : RecvKind) (moment : ℕ) → HasRecvDue rules.now now (look same_flow flow.now (receivers_of receivers.old.entries)) r y kind moment
         → (host : Host) → record host { receivers = receivers_of receivers.new.entries } ≡ host_with_receiver (record host { receivers = receivers_of receivers.old.entries }) flow.now (after_recv_act rules.now r kind) }
     ensures entries { AreReceiveEntries rules.now receivers.new.entries }
+    ensures looks { steps.new ≤ steps.old + 1 }
 {
     let Some(receiver) = receivers.get_mut(flow) else {
         unreachable!();
@@ -279,16 +278,4 @@ pub fn act<L: Ledger>(
         receivers.shift_remove(flow);
     }
     act
-}
-
-/// The least moment at which an act of a receiver is due.
-pub fn wake<L: Ledger>(receivers: &Receivers, rules: &Rules, steps: &mut Steps<L>) -> Option<u64>
-    requires entries { AreReceiveEntries rules.now receivers.now.entries }
-    ensures { result ≡ earliest (λ e. recv_wake_of rules.now e.1.standing) (receivers_of receivers.now.entries) }
-{
-    let mut wake = None;
-    for receiver in receivers.values() {
-        wake = lesser(wake, receiver.wake(steps));
-    }
-    wake
 }

@@ -1,5 +1,5 @@
 //! The senders of a host, in the order of their making.
-ghost use Rattle.std.specs.Prelude.{ℕ, ◌≡◌, ◌+◌, ◌<◌, ◌≤◌, false, length, IfErr, IfSome, Some, None, unwrap_or};
+ghost use Rattle.std.specs.Prelude.{◌≡◌, ◌+◌, ◌<◌, ◌≤◌, false, length, IfErr, IfSome, Some, None, unwrap_or};
 ghost use Rattle.std.specs.Option.{option_and_then};
 ghost use Rattle.dt_items.specs.Unread.{marked};
 ghost use Rattle.dt_layout.specs.Carried.{IsGram};
@@ -7,9 +7,9 @@ ghost use Rattle.dt_flow_model.specs.Acting.{record_for};
 ghost use Rattle.dt_flow_model.specs.Frames.{frame_of_act};
 ghost use Rattle.dt_flow_model.specs.Keeping.{most_moment, octets_below, taken_by};
 ghost use Rattle.dt_flow_model.specs.SendRecord.{SendRecord, on_ack};
-ghost use Rattle.dt_flow_model.specs.SendActs.{Act, earlier, record_after, told_of, wake_of};
+ghost use Rattle.dt_flow_model.specs.SendActs.{Act, earlier, record_after, told_of};
 ghost use Rattle.dt_world_model.specs.Host.{Host, ack_answer, sender_at};
-ghost use Rattle.dt_world_model.specs.Tables.{Distinct, earliest, look, same_flow, write_or_erase};
+ghost use Rattle.dt_world_model.specs.Tables.{Distinct, look, same_flow, write_or_erase};
 ghost use Rattle.dt_host.specs.Answers.{IsSent};
 ghost use Rattle.dt_host.specs.declared.faults.SendFault.TheVariants.{NoMemory};
 ghost use Rattle.dt_host.specs.Dues.{HasDue, soonest_send};
@@ -166,6 +166,7 @@ pub fn act<L: Ledger>(
     ensures after { (x : SendRecord) (act : Act) → HasDue rules.now now (look same_flow flow.now (send_records senders.old.entries)) x act
         → send_records senders.new.entries ≡ write_or_erase same_flow flow.now (record_after rules.now now x act) (send_records senders.old.entries) }
     ensures entries { AreSendEntries rules.now senders.new.entries }
+    ensures looks { steps.new ≤ steps.old + 1 }
 {
     let Some(sender) = senders.get_mut(flow) else {
         unreachable!();
@@ -175,18 +176,6 @@ pub fn act<L: Ledger>(
         senders.shift_remove(flow);
     }
     act
-}
-
-/// The least moment at which an act of a sender is due.
-pub fn wake<L: Ledger>(senders: &Senders, rules: &Rules, steps: &mut Steps<L>) -> Option<u64>
-    requires entries { AreSendEntries rules.now senders.now.entries }
-    ensures { result ≡ earliest (λ e. wake_of rules.now e.1) (send_records senders.now.entries) }
-{
-    let mut wake = None;
-    for sender in senders.values() {
-        wake = lesser(wake, sender.wake(steps));
-    }
-    wake
 }
 
 /// The lesser of two moments, of which each may be none.

@@ -14,6 +14,7 @@ pub use digits::put_hex;
 pub use flows::put_flow;
 pub use log_lines::write_line;
 pub use numbers::put_number;
+pub use words::{Word, put_row};
 
 #[cfg(test)]
 mod tests;

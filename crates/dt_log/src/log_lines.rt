@@ -153,6 +153,10 @@ pub fn write_line<K: Sink>(line: &LogLine<'_>, out: &mut K) -> Result<(), Failed
         NoRoute { to } => [Text("noroute"), Number(to)],
         Full { link } => [Text("full"), Number(link as u32)],
         Unsent { link } => [Text("unsent"), Number(link as u32)],
+        Shelved { flow, number } => [Text("shelved"), Flow(flow), Number(number)],
+        NoShelf { flow, number } => [Text("noshelf"), Flow(flow), Number(number)],
+        Again { flow, number } => [Text("again"), Flow(flow), Number(number)],
+        Stale { flow, number } => [Text("stale"), Flow(flow), Number(number)],
         Restarted { life } => [Text("restarted"), Number(life)],
         ;
         Refused { flow, fault } => put_refusal(line, flow, fault, out),

@@ -140,7 +140,7 @@ fn put_behind<K: Sink>(some: &[Word<'_>], more: &[Word<'_>], out: &mut K) -> Res
 
 /// Puts a line: a first word, some words behind it and more words, with one space between two of
 /// them, and a line feed.
-pub(crate) fn put_row<K: Sink>(
+pub fn put_row<K: Sink>(
     first: Word<'_>,
     some: &[Word<'_>],
     more: &[Word<'_>],

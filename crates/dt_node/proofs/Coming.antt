@@ -1,5 +1,5 @@
 -- Octets that came.
-use Rattle.std.proofs.Common.{◌≡◌, ◌==◌, ◌≤◌, inl, inr, ℕ, List, length, Option, Some, refl, ap, subst, arith}
+use Rattle.std.proofs.Common.{◌≡◌, ◌==◌, ◌≤◌, inl, inr, ℕ, List, length, Option, Some, Result, Ok, Err, refl, ap, subst, arith}
 use Rattle.std.proofs.lemmas.Bool.{cases_Bool}
 use Rattle.dt_layout.specs.Spelling.{DeltagramValue, Gram, gram_spelling, most_body}
 use Rattle.dt_units.specs.declared.parameters.Params.{Params}
@@ -7,24 +7,22 @@ use Rattle.dt_edges.specs.Wires.{Datagram}
 use Rattle.dt_layout.specs.declared.faults.LayoutFault.{LayoutFault}
 use Rattle.dt_reports.specs.Told.{Told}
 use Rattle.dt_reports.specs.declared.reports.Report.TheVariants.{Bad}
-use Rattle.dt_world_model.specs.Script.{Tell, Done, Plays, Stops}
+use Rattle.dt_world_model.specs.Script.{Tell, Done}
 use Rattle.dt_world_model.specs.Station.{Station}
-use Rattle.dt_node.specs.Logging.{LogSight, log_tells, log_tags, log_hands, log_fails}
+use Rattle.dt_shelf.specs.Shelves.{Shelf}
+use Rattle.dt_node.specs.Shelving.{inside}
+use Rattle.dt_node.specs.Logging.{LogEnds, LogSight, log_tells}
 use Rattle.dt_node.specs.Turns.{comes}
 
 module _ {V : Type 0} (view : V → LogSight) where
-  -- one report alone
-  pub tell_plays : {A : Type 0} (told : Told) (a : A) (v w : V) → log_tells view v told w → Plays (log_tells view) log_tags (log_hands view) (Tell told (Done a)) v w a
-  tell_plays told a v w h = (w, h, (refl, refl))
+  -- octets that don't read are told, and nothing else comes of them
+  told_ends : {A E : Type 0} (result : Result (Unit {0}) E) (told : Told) (a : A) (v w : V) → log_tells view v told w → LogEnds view result (Tell told (Done a)) v w a
+  told_ends (Ok done) told a v w h = (w, h, (refl, refl))
+  told_ends (Err e) told a v w h = inr (w, h, refl)
 
-  pub tell_stops : {A : Type 0} (told : Told) (a : A) (v w : V) → log_tells view v told w → Stops (log_tells view) log_tags (log_hands view) log_fails (Tell told (Done a)) v w
-  tell_stops told a v w h = inr (w, h, refl)
-
-  pub bad_plays : (p : Params) (now : ℕ) (d : Datagram) (o : Option LayoutFault) (fault : LayoutFault) (station : Station (Unit {0})) (v w : V) → Some fault ≡ o → log_tells view v (Bad fault) w → Plays (log_tells view) log_tags (log_hands view) (comes p now d o station) v w station
-  bad_plays p now d o fault station v w e h = subst (λ (o : Option LayoutFault). Plays (log_tells view) log_tags (log_hands view) (comes p now d o station) v w station) e (tell_plays (Bad fault) station v w h)
-
-  pub bad_stops : (p : Params) (now : ℕ) (d : Datagram) (o : Option LayoutFault) (fault : LayoutFault) (station : Station (Unit {0})) (v w : V) → Some fault ≡ o → log_tells view v (Bad fault) w → Stops (log_tells view) log_tags (log_hands view) log_fails (comes p now d o station) v w
-  bad_stops p now d o fault station v w e h = subst (λ (o : Option LayoutFault). Stops (log_tells view) log_tags (log_hands view) log_fails (comes p now d o station) v w) e (tell_stops (Bad fault) station v w h)
+  pub bad_ends : {E : Type 0} (result : Result (Unit {0}) E) (p : Params) (now : ℕ) (d : Datagram) (o : Option LayoutFault) (fault : LayoutFault) (station : Station (Unit {0})) (shelf : Option Shelf) (v w : V) → Some fault ≡ o → log_tells view v (Bad fault) w → LogEnds view result (comes p now d o station shelf) v w (inside station shelf)
+  bad_ends result p now d o fault station shelf v w e h =
+      subst (λ (o : Option LayoutFault). LogEnds view result (comes p now d o station shelf) v w (inside station shelf)) e (told_ends result (Bad fault) (inside station shelf) v w h)
 
 -- what reads as a Deltagram fits into a frame
 body_small : (version : ℕ) → most_body version ≤ 8206

@@ -10,6 +10,7 @@ use Rattle.dt_edges.specs.Wires.{Datagram}
 use Rattle.dt_world_model.specs.Script.{Script, Done as Ends, Tell, Ask, Hand, ◌>>=◌}
 use Rattle.dt_node.specs.declared.outcomes.NodeOutcome.{NodeOutcome}
 use Rattle.dt_node.specs.declared.outcomes.NodeOutcome.TheVariants.{Done, Refused, NoMemory, WireFault, ClockStill, WriteFault}
+use Rattle.dt_node.specs.declared.forms.Form.{Form}
 use Rattle.dt_node.specs.declared.watch.Watch.{Watch}
 use Rattle.dt_node.specs.Acts.{answer_of}
 use Rattle.dt_node.specs.Answering.{Answers, AnswersBy}
@@ -22,7 +23,7 @@ use Rattle.dt_node.specs.Turns.{do_due, finish, hand_in, turn}
 use Rattle.dt_node.proofs.RunsOn.{next_of, run_from_is}
 
 -- A TURN THAT GOES ON comes before the stop
-answer_then : {A B : Type 0} (s : Script (Unit {0}) A) (k : A → Script (Unit {0}) B) → answer_of (s >>= k) ≡ answer_of (k (answer_of s))
+pub answer_then : {A B : Type 0} (s : Script (Unit {0}) A) (k : A → Script (Unit {0}) B) → answer_of (s >>= k) ≡ answer_of (k (answer_of s))
 answer_then (Ends a) k = refl
 answer_then (Tell r s) k = answer_then s k
 answer_then (Ask host octets s) k = answer_then (s tt) k
@@ -37,10 +38,10 @@ finish_goes o now node after e =
 
 turn_goes : (o : Orders) (now : ℕ) (came : Option Datagram) (node after : Node) → answer_of (turn o now came node) ≡ Some after → now < o.stop
 turn_goes o now came node after e =
-    let first = hand_in o.setup.params now came node.station in
-    let second = do_due o.setup.params now node.commands (answer_of first) in
+    let first = hand_in o.setup.params now came node.station node.shelf in
+    let second = do_due o.setup.params now (answer_of first).1 node.commands (answer_of first).0 in
     finish_goes o now (answer_of second) after
-    (sym (answer_then first (λ station. do_due o.setup.params now node.commands station >>= λ done. finish o now done) ∙ answer_then second (λ done. finish o now done)) ∙ e)
+    (sym (answer_then first (λ r. do_due o.setup.params now r.1 node.commands r.0 >>= λ done. finish o now done) ∙ answer_then second (λ done. finish o now done)) ∙ e)
 
 -- A RUN THAT STOOD STILL did so at its last reading, before the stop
 abbrev Still : Orders → Watch → Type 0
@@ -78,15 +79,15 @@ planned_still o plan zero ts h = absurd cc
 planned_still o plan (suc n) ts h = (n, run_still o (first_watch (reading_at plan 0)) None (first_node o) (map (reading_at plan) (range_with_len 1 n)) ts h)
 
 -- THE ANSWERS
-module _ (o : Orders) (plan : List ℕ) (b a : Edges) (planned : b.clock.plan ≡ Some plan) (fresh : b.clock.readings ≡ Some []) (reaches : ReachesStop o.stop plan) (wire : HasRisen b.wire.take_faults a.wire.take_faults → ⊥) (sink : HasRisen b.faults a.faults → ⊥) where
-  still_never : Serves o ClockStill b a → ⊥
+module _ (form : Form) (o : Orders) (plan : List ℕ) (b a : Edges) (planned : b.clock.plan ≡ Some plan) (fresh : b.clock.readings ≡ Some []) (reaches : ReachesStop o.stop plan) (wire : HasRisen b.wire.take_faults a.wire.take_faults → ⊥) (sink : HasRisen b.faults a.faults → ⊥) where
+  still_never : Serves form o ClockStill b a → ⊥
   still_never h =
       let same = (subst (λ (p : Option (List ℕ)). IfSome p (λ p. b.clock.readings ≡ Some [] → h.readings ≡ first_readings p (length h.readings))) planned h.planned_readings) fresh in
       let still = planned_still o plan (length h.readings) h.takes (subst (λ (rs : List ℕ). (node_run o rs h.takes).ending ≡ StoodStill) same h.ends) in
       let few = reaches still.0 still.1.1 in
       omega (arith, few, still.1.0)
 
-  served_whole : (outcome : NodeOutcome) → Serves o outcome b a → (outcome ≡ Done) ⊎ (outcome ≡ NoMemory)
+  served_whole : (outcome : NodeOutcome) → Serves form o outcome b a → (outcome ≡ Done) ⊎ (outcome ≡ NoMemory)
   served_whole Done h = inl refl
   served_whole Refused h = absurd h.ends
   served_whole NoMemory h = inr refl
@@ -94,6 +95,6 @@ module _ (o : Orders) (plan : List ℕ) (b a : Edges) (planned : b.clock.plan �
   served_whole ClockStill h = absurd (still_never h)
   served_whole WriteFault h = absurd (sink h.sink_faults)
 
-pub completes : (octets : List ℕ) (outcome : NodeOutcome) (b a : Edges) → Answers octets outcome b a → Completes octets outcome b a
-completes octets outcome b a h o plan accepted planned fresh reaches wire sink =
-    served_whole o plan b a planned fresh reaches wire sink outcome (subst (λ (x : Option Orders). AnswersBy x (refusal_text octets) outcome b a) accepted h)
+pub completes : (form : Form) (octets : List ℕ) (outcome : NodeOutcome) (b a : Edges) → Answers form octets outcome b a → Completes octets outcome b a
+completes form octets outcome b a h o plan accepted planned fresh reaches wire sink =
+    served_whole form o plan b a planned fresh reaches wire sink outcome (subst (λ (x : Option Orders). AnswersBy form x (refusal_text octets) outcome b a) accepted h)

@@ -4,7 +4,7 @@ use Rattle.std.specs.Option.{IfSome}
 use Rattle.std.proofs.lemmas.List.{append-nil, map-append}
 use Rattle.std.proofs.lemmas.Bool.{false≢true}
 use Rattle.std.proofs.lemmas.List.Concat.{flat_map-append}
-use Rattle.dt_edges.specs.Counts.{is_planned, last_count}
+use Rattle.dt_edges.specs.Counts.{is_planned, last_count, next_count}
 use Rattle.dt_edges.specs.Sinks.{SinkSight, Takes}
 use Rattle.dt_edges.specs.Telling.{NotesAll}
 use Rattle.dt_edges.specs.Wires.{Datagram, Plan, SameTaking, WireSight}
@@ -15,8 +15,11 @@ use Rattle.dt_log.specs.Logs.{entry_text, log_text}
 use Rattle.dt_fold.specs.Logging.{StopsIn}
 use Rattle.dt_fold.proofs.Stopping.{stops_after, stops_as, stops_more}
 use Rattle.dt_node.specs.Acts.{Act, Tells, Hands, Deed, Says, Gives, act_of, log_lines, lines_of_deed, sent_frames, sent_by, node_frames, frames_of_act, fates, fates_by}
-use Rattle.dt_node.specs.Logging.{Fixed, GaveBy, HandsIf, LogHands, LogSight, LogTells, TellsIf, UnsentIf, WroteBy, line_at}
-use Rattle.dt_node.specs.Deeds.{lost, count_true, FatesFrom, Gave, GaveSome, Did, DidSome, Sublist, stop_by, unlost}
+use Rattle.dt_node.specs.Logging.{Fixed, GaveBy, HandsIf, LogHands, LogSight, LogTells, TellsIf, UnsentIf, WroteBy, lost_text, told_text}
+use Rattle.dt_trace.specs.Inputs.{FailedGive, Input, input_text, trace_text}
+use Rattle.dt_node.specs.declared.forms.Form.{Form}
+use Rattle.dt_node.specs.declared.forms.Form.TheVariants as forms
+use Rattle.dt_node.specs.Deeds.{counted, deeds_text, lost_numbers, lost, count_true, FatesFrom, Gave, GaveSome, Did, DidSome, Sublist, stop_by, unlost}
 use Rattle.dt_node.proofs.Noting.{notes_none, notes_then, sub_all, sub_none, sub_then, fates_then, count_append}
 
 pub log_more : (me : ℕ) (a b : List Deed) → log_text (log_lines me (a ++ b)) ≡ log_text (log_lines me a) ++ log_text (log_lines me b)
@@ -24,6 +27,40 @@ log_more me a b = ap log_text (flat_map-append (lines_of_deed me) a b) ∙ flat_
 
 pub fates_more : (a b : List Deed) → fates (a ++ b) ≡ fates a ++ fates b
 fates_more a b = flat_map-append fates_by a b
+
+pub counted_more : (n : ℕ) (a b : List Bool) → counted n (a ++ b) ≡ counted (counted n a) b
+counted_more n [] b = refl
+counted_more n (gone ∷ a) b = counted_more (next_count n) a b
+
+pub numbers_more : (n : ℕ) (a b : List Bool) → lost_numbers n (a ++ b) ≡ lost_numbers n a ++ lost_numbers (counted n a) b
+numbers_more n [] b = refl
+numbers_more n (true ∷ a) b = ap (λ (xs : List ℕ). next_count n ∷ xs) (numbers_more (next_count n) a b)
+numbers_more n (false ∷ a) b = numbers_more (next_count n) a b
+
+-- WHAT IS WRITTEN of deeds one after another
+pub text_more : (form : Form) (gives me : ℕ) (a b : List Deed) → deeds_text form gives me (a ++ b) ≡ deeds_text form gives me a ++ deeds_text form (counted gives (fates a)) me b
+text_more forms.Log gives me a b = log_more me a b
+text_more forms.Trace gives me a b =
+    ap (λ (fs : List Bool). trace_text (map FailedGive (lost_numbers gives fs))) (fates_more a b)
+    ∙ ap (λ (ns : List ℕ). trace_text (map FailedGive ns)) (numbers_more gives (fates a) (fates b))
+    ∙ ap trace_text (map-append FailedGive (lost_numbers gives (fates a)) (lost_numbers (counted gives (fates a)) (fates b)))
+    ∙ flat_map-append input_text (map FailedGive (lost_numbers gives (fates a))) (map FailedGive (lost_numbers (counted gives (fates a)) (fates b)))
+
+text_none : (form : Form) (gives me : ℕ) → deeds_text form gives me [] ≡ []
+text_none forms.Log gives me = refl
+text_none forms.Trace gives me = refl
+
+told_line : (form : Form) (fixed : Fixed) (gives : ℕ) (told : Told) → deeds_text form gives fixed.me (Says fixed.moment told ∷ []) ≡ told_text form fixed told ++ []
+told_line forms.Log fixed gives told = refl
+told_line forms.Trace fixed gives told = refl
+
+lost_line : (form : Form) (fixed : Fixed) (gives link : ℕ) (octets : List ℕ) → deeds_text form gives fixed.me (Gives fixed.moment link octets true ∷ []) ≡ lost_text form fixed (next_count gives) link ++ []
+lost_line forms.Log fixed gives link octets = refl
+lost_line forms.Trace fixed gives link octets = refl
+
+kept_line : (form : Form) (gives me moment link : ℕ) (octets : List ℕ) → [] ≡ deeds_text form gives me (Gives moment link octets false ∷ [])
+kept_line forms.Log gives me moment link octets = refl
+kept_line forms.Trace gives me moment link octets = refl
 
 pub lost_more : (a b : List Deed) → lost (a ++ b) ≡ lost a + lost b
 lost_more a b = ap count_true (fates_more a b) ∙ count_append (fates a) (fates b)
@@ -86,20 +123,23 @@ gave_then a b u v w h k = record {
   same = same_then u v w h.same k.same;
 }
 
--- the node of the lines stays
-lines_as : (deeds : List Deed) (f g : Fixed) (a b : SinkSight) → f ≡ g → Takes (log_text (log_lines f.me deeds)) a b → Takes (log_text (log_lines g.me deeds)) a b
-lines_as deeds f g a b e h = takes_as _ _ a b (ap (λ (x : Fixed). log_text (log_lines x.me deeds)) e) h
+-- the form and the node stay
+text_as : (deeds : List Deed) (f g : Fixed) (n m : ℕ) → f ≡ g → n ≡ m → deeds_text f.form n f.me deeds ≡ deeds_text g.form m g.me deeds
+text_as deeds f g n m e k = ap (λ (x : Fixed). deeds_text x.form n x.me deeds) e ∙ ap (λ (n : ℕ). deeds_text g.form n g.me deeds) k
 
 pub did_then : (a b : List Deed) (s t u : LogSight) → Did a s t → Did b t u → Did (a ++ b) s u
 did_then a b s t u h k = record {
   fixed = k.fixed ∙ h.fixed;
+  gives = k.gives ∙ ap (λ (n : ℕ). counted n (fates b)) h.gives ∙ sym (counted_more s.gives (fates a) (fates b)) ∙ ap (counted s.gives) (sym (fates_more a b));
   failed = k.failed;
-  out = takes_as _ _ s.out u.out (sym (log_more s.fixed.me a b)) (takes_then (log_text (log_lines s.fixed.me a)) (log_text (log_lines s.fixed.me b)) s.out t.out u.out h.out (lines_as b t.fixed s.fixed t.out u.out h.fixed k.out));
+  out = takes_as _ _ s.out u.out (sym (text_more s.fixed.form s.gives s.fixed.me a b))
+      (takes_then (deeds_text s.fixed.form s.gives s.fixed.me a) (deeds_text s.fixed.form (counted s.gives (fates a)) s.fixed.me b) s.out t.out u.out h.out
+      (takes_as _ _ t.out u.out (text_as b t.fixed s.fixed t.gives (counted s.gives (fates a)) h.fixed h.gives) k.out));
   wire = gave_then a b s.wire t.wire u.wire h.wire k.wire;
 }
 
 pub did_none : (s : LogSight) → s.failed ≡ false → Did [] s s
-did_none s f = record { fixed = refl; failed = f; out = takes_nothing s.out; wire = gave_none s.wire }
+did_none s f = record { fixed = refl; gives = refl; failed = f; out = takes_as _ _ s.out s.out (sym (text_none s.fixed.form s.gives s.fixed.me)) (takes_nothing s.out); wire = gave_none s.wire }
 
 -- what wasn't done counts as not lost
 lost_unlost : (acts : List Act) → lost (map unlost acts) ≡ 0
@@ -133,7 +173,7 @@ gave_then_some a b u v w h k = record {
   same = same_then u v w h.same k.same;
 }
 
-some_more_given : (a : List Deed) (acts : List Act) (w v : WireSight) → GaveSome a w v → GaveSome (a ++ map unlost acts) w v
+pub some_more_given : (a : List Deed) (acts : List Act) (w v : WireSight) → GaveSome a w v → GaveSome (a ++ map unlost acts) w v
 some_more_given a acts w v h = record {
   frames = h.frames;
   some = subst (λ (fs : List Datagram). Sublist h.frames fs) (sym (acts_more a (map unlost acts)))
@@ -150,23 +190,24 @@ taken_all text a b h = (length text, takes_as text (take (length text) text) a b
 pub did_some : (deeds : List Deed) (s t : LogSight) → Did deeds s t → DidSome deeds s t
 did_some deeds s t h = record {
   fixed = h.fixed;
-  out = subst (λ (f : Bool). StopsIn (log_text (log_lines s.fixed.me deeds)) (stop_by f) s.out t.out) (sym h.failed) (taken_all (log_text (log_lines s.fixed.me deeds)) s.out t.out h.out);
+  out = subst (λ (f : Bool). StopsIn (deeds_text s.fixed.form s.gives s.fixed.me deeds) (stop_by f) s.out t.out) (sym h.failed) (taken_all (deeds_text s.fixed.form s.gives s.fixed.me deeds) s.out t.out h.out);
   wire = gave_some deeds s.wire t.wire h.wire;
 }
 
 pub did_then_some : (a b : List Deed) (s t u : LogSight) → Did a s t → DidSome b t u → DidSome (a ++ b) s u
 did_then_some a b s t u h k = record {
   fixed = k.fixed ∙ h.fixed;
-  out = stops_as (stop_by u.failed) _ _ s.out u.out (sym (log_more s.fixed.me a b))
-      (stops_after (stop_by u.failed) (log_text (log_lines s.fixed.me a)) (log_text (log_lines s.fixed.me b)) s.out t.out u.out h.out
-      (stops_as (stop_by u.failed) _ _ t.out u.out (ap (λ (x : Fixed). log_text (log_lines x.me b)) h.fixed) k.out));
+  out = stops_as (stop_by u.failed) _ _ s.out u.out (sym (text_more s.fixed.form s.gives s.fixed.me a b))
+      (stops_after (stop_by u.failed) (deeds_text s.fixed.form s.gives s.fixed.me a) (deeds_text s.fixed.form (counted s.gives (fates a)) s.fixed.me b) s.out t.out u.out h.out
+      (stops_as (stop_by u.failed) _ _ t.out u.out (text_as b t.fixed s.fixed t.gives (counted s.gives (fates a)) h.fixed h.gives) k.out));
   wire = gave_then_some a b s.wire t.wire u.wire h.wire k.wire;
 }
 
 pub some_more : (a : List Deed) (acts : List Act) (s t : LogSight) → DidSome a s t → DidSome (a ++ map unlost acts) s t
 some_more a acts s t h = record {
   fixed = h.fixed;
-  out = stops_as (stop_by t.failed) _ _ s.out t.out (sym (log_more s.fixed.me a (map unlost acts))) (stops_more (stop_by t.failed) (log_text (log_lines s.fixed.me a)) (log_text (log_lines s.fixed.me (map unlost acts))) s.out t.out h.out);
+  out = stops_as (stop_by t.failed) _ _ s.out t.out (sym (text_more s.fixed.form s.gives s.fixed.me a (map unlost acts)))
+      (stops_more (stop_by t.failed) (deeds_text s.fixed.form s.gives s.fixed.me a) (deeds_text s.fixed.form (counted s.gives (fates a)) s.fixed.me (map unlost acts)) s.out t.out h.out);
   wire = some_more_given a acts s.wire t.wire h.wire;
 }
 
@@ -179,15 +220,16 @@ gave_said : (moment : ℕ) (told : Told) (w : WireSight) → Gave (Says moment t
 gave_said moment told w = let n = gave_none w in record { given = n.given; lost = n.lost; gives = n.gives; plan = n.plan; same = n.same }
 
 -- a line that was written whole, and one that was cut
-line_did : (deeds : List Deed) (line : List ℕ) (s t : LogSight) → log_text (log_lines s.fixed.me deeds) ≡ line ++ [] → t.fixed ≡ s.fixed → t.failed ≡ false → WroteBy t.failed line s.out t.out → Gave deeds s.wire t.wire → Did deeds s t
-line_did deeds line s t e x g k w = record {
+line_did : (deeds : List Deed) (line : List ℕ) (s t : LogSight) → deeds_text s.fixed.form s.gives s.fixed.me deeds ≡ line ++ [] → t.fixed ≡ s.fixed → t.gives ≡ counted s.gives (fates deeds) → t.failed ≡ false → WroteBy t.failed line s.out t.out → Gave deeds s.wire t.wire → Did deeds s t
+line_did deeds line s t e x n g k w = record {
   fixed = x;
+  gives = n;
   failed = g;
   out = takes_as line _ s.out t.out (sym (e ∙ append-nil line)) (subst (λ (b : Bool). WroteBy b line s.out t.out) g k);
   wire = w;
 }
 
-line_some : (deeds : List Deed) (line : List ℕ) (s t : LogSight) → log_text (log_lines s.fixed.me deeds) ≡ line ++ [] → t.fixed ≡ s.fixed → t.failed ≡ true → WroteBy t.failed line s.out t.out → GaveSome deeds s.wire t.wire → DidSome deeds s t
+line_some : (deeds : List Deed) (line : List ℕ) (s t : LogSight) → deeds_text s.fixed.form s.gives s.fixed.me deeds ≡ line ++ [] → t.fixed ≡ s.fixed → t.failed ≡ true → WroteBy t.failed line s.out t.out → GaveSome deeds s.wire t.wire → DidSome deeds s t
 line_some deeds line s t e x g k w = record {
   fixed = x;
   out = stops_as (stop_by t.failed) line _ s.out t.out (sym (e ∙ append-nil line))
@@ -201,12 +243,12 @@ told_wire s t told e = subst (λ (w : WireSight). Gave (Says s.fixed.moment told
 pub told_did : (s t : LogSight) (told : Told) → LogTells s told t → s.failed ≡ false → t.failed ≡ false → Did (Says s.fixed.moment told ∷ []) s t
 told_did s t told h f g =
     let k = subst (λ (b : Bool). TellsIf b told s t) f h in
-    line_did (Says s.fixed.moment told ∷ []) (line_at s.fixed told) s t refl k.0 g k.2 (told_wire s t told k.1)
+    line_did (Says s.fixed.moment told ∷ []) (told_text s.fixed.form s.fixed told) s t (told_line s.fixed.form s.fixed s.gives told) k.0 k.1 g k.3 (told_wire s t told k.2)
 
 pub told_some : (s t : LogSight) (told : Told) → LogTells s told t → s.failed ≡ false → t.failed ≡ true → DidSome (Says s.fixed.moment told ∷ []) s t
 told_some s t told h f g =
     let k = subst (λ (b : Bool). TellsIf b told s t) f h in
-    line_some (Says s.fixed.moment told ∷ []) (line_at s.fixed told) s t refl k.0 g k.2 (gave_some (Says s.fixed.moment told ∷ []) s.wire t.wire (told_wire s t told k.1))
+    line_some (Says s.fixed.moment told ∷ []) (told_text s.fixed.form s.fixed told) s t (told_line s.fixed.form s.fixed s.gives told) k.0 g k.3 (gave_some (Says s.fixed.moment told ∷ []) s.wire t.wire (told_wire s t told k.2))
 
 -- whether a give fails by the plan
 plan_one : (p : Option Plan) (gone : Bool) (calls : ℕ) → IfSome p (λ p. calls < last_count → is_planned p.failing_gives (calls + 1) ≡ gone) → IfSome p (λ p. calls + 1 ≤ last_count → FatesFrom p.failing_gives calls (gone ∷ []))
@@ -235,21 +277,25 @@ pub record Handed (link : ℕ) (octets : List ℕ) (s t : LogSight) : Type 0 whe
   pub did : t.failed ≡ false → Did (Gives s.fixed.moment link octets gone ∷ []) s t
   pub some : t.failed ≡ true → DidSome (Gives s.fixed.moment link octets gone ∷ []) s t
 
-handed_by : (link : ℕ) (octets : List ℕ) (s t : LogSight) (gone : Bool) → t.fixed ≡ s.fixed → GaveBy gone (record { link = link; octets = octets }) s.wire t.wire → UnsentIf gone link s t → Handed link octets s t
-handed_by link octets s t true x w u =
+handed_by : (link : ℕ) (octets : List ℕ) (s t : LogSight) (gone : Bool) → t.fixed ≡ s.fixed → t.gives ≡ next_count s.gives → GaveBy gone (record { link = link; octets = octets }) s.wire t.wire → UnsentIf gone link s t → Handed link octets s t
+handed_by link octets s t true x n w u =
     let deeds = Gives s.fixed.moment link octets true ∷ [] in
     let gave = gave_one s.fixed.moment link octets true s.wire t.wire w in
+    let line = lost_text s.fixed.form s.fixed (next_count s.gives) link in
+    let wrote = subst (λ (number : ℕ). WroteBy t.failed (lost_text s.fixed.form s.fixed number link) s.out t.out) n u in
+    let text = lost_line s.fixed.form s.fixed s.gives link octets in
     record {
       gone = true;
-      did = λ g. line_did deeds (line_at s.fixed (Unsent link)) s t refl x g u gave;
-      some = λ g. line_some deeds (line_at s.fixed (Unsent link)) s t refl x g u (gave_some deeds s.wire t.wire gave);
+      did = λ g. line_did deeds line s t text x n g wrote gave;
+      some = λ g. line_some deeds line s t text x g wrote (gave_some deeds s.wire t.wire gave);
     }
-handed_by link octets s t false x w u = record {
+handed_by link octets s t false x n w u = record {
   gone = false;
   did = λ g. record {
     fixed = x;
+    gives = n;
     failed = g;
-    out = subst (λ (o : SinkSight). Takes [] s.out o) (sym u.1) (takes_nothing s.out);
+    out = takes_as _ _ s.out t.out (kept_line s.fixed.form s.gives s.fixed.me s.fixed.moment link octets) (subst (λ (o : SinkSight). Takes [] s.out o) (sym u.1) (takes_nothing s.out));
     wire = gave_one s.fixed.moment link octets false s.wire t.wire w;
   };
   some = λ g. absurd (false≢true (sym u.0 ∙ g));
@@ -258,4 +304,4 @@ handed_by link octets s t false x w u = record {
 pub handed : (s t : LogSight) (link : ℕ) (octets : List ℕ) → LogHands s link octets t → s.failed ≡ false → Handed link octets s t
 handed s t link octets h f =
     let k = subst (λ (b : Bool). HandsIf b link octets s t) f h in
-    handed_by link octets s t k.0 k.1 k.2 k.3
+    handed_by link octets s t k.0 k.1 k.2 k.3 k.4

@@ -1,5 +1,5 @@
 -- How a run ends.
-use Rattle.std.proofs.Common.{◌≡◌, ◌+◌, ◌*◌, ◌^◌, ◌<◌, ◌≤◌, ◌==◌, ℕ, Bool, true, false, List, [], ◌∷◌, ◌++◌, length, map, take, Option, Some, None, Err, refl, sym, ap, subst, ◌∙◌, arith, min, length-append, inl, inr}
+use Rattle.std.proofs.Common.{◌≡◌, ◌+◌, ◌*◌, ◌^◌, ◌<◌, ◌≤◌, ◌==◌, ℕ, Bool, true, false, List, [], ◌∷◌, ◌++◌, length, map, take, Option, Some, None, Ok, Err, refl, sym, ap, subst, ◌∙◌, arith, min, length-append, inl, inr}
 use Rattle.std.specs.Option.{IfSome}
 use Rattle.std.proofs.lemmas.List.{append-nil, map-append}
 use Rattle.std.specs.Io.KnownBytes.{Appends}
@@ -16,7 +16,7 @@ use Rattle.dt_log.specs.Logs.{log_text}
 use Rattle.dt_fold.specs.declared.stops.Stop.{Stop}
 use Rattle.dt_fold.specs.declared.stops.Stop.TheVariants as stops
 use Rattle.dt_fold.specs.Folds.{Folded, fold_input}
-use Rattle.dt_fold.specs.Logging.{StopsIn}
+use Rattle.dt_fold.specs.Logging.{HasAll, HasPart, StopsIn}
 use Rattle.dt_node.specs.declared.watch.Watch.{Watch}
 use Rattle.dt_node.specs.declared.outcomes.NodeOutcome.{NodeOutcome}
 use Rattle.dt_node.specs.declared.outcomes.NodeOutcome.TheVariants.{Done, Refused, NoMemory, WireFault, ClockStill, WriteFault}
@@ -27,17 +27,25 @@ use Rattle.dt_node.specs.Runs.{Run, node_run, moment, most_equal}
 use Rattle.dt_node.specs.Codes.{IsGood}
 use Rattle.dt_node.specs.Drafts.{Draft, Empty, orders_in, read_script, script_turns}
 use Rattle.dt_node.proofs.Fitting.{script_good, script_read}
-use Rattle.dt_node.specs.Deeds.{FatesFrom, Scene, Sublist, TurnEnds, WroteSome, lost}
+use Rattle.dt_trace.specs.Inputs.{Input, FailedOpen, FailedTake, Reading, Taken as Found}
+use Rattle.dt_trace.specs.Standing.{HasFound}
+use Rattle.dt_node.specs.declared.forms.Form.{Form}
+use Rattle.dt_node.specs.declared.forms.Form.TheVariants as forms
+use Rattle.dt_node.specs.Deeds.{FatesFrom, Scene, Sublist, TurnEnds, WroteSome, deeds_text, lost}
+use Rattle.dt_node.specs.Logging.{NotesBehind, NotesFault, noted_text}
 use Rattle.dt_node.specs.InOrder.{InOrder, UnsentInOrder, without_unsent_lines}
-use Rattle.dt_node.specs.Serving.{AppendsPart, Edges, FailsAs, GivesSome, IsFresh, IsWhole, Logs, NoneFails, Serves, SinkFaults, first_entries, edges, first_readings, most_taken}
+use Rattle.dt_node.specs.Serving.{AppendsPart, Edges, FailsAs, GivesSome, IsFresh, IsWhole, Logs, NoneFails, Serves, SinkFaults, TakeFaults, Written, first_entries, edges, first_readings, most_taken}
 use Rattle.dt_node.specs.Answering.{Answers, AnswersBy, RefusesAs}
 use Rattle.dt_node.proofs.Noting.{notes_none, notes_then, nothing_notes, sub_none, sub_then}
 use Rattle.dt_node.proofs.Doing.{acts_more, log_more, lost_more, sent_sub}
-use Rattle.dt_node.proofs.RunsOn.{came_of, run_cut, run_nothing, run_still, run_stopped, run_unfinished}
+use Rattle.dt_node.proofs.RunsOn.{came_of, run_cut, run_nothing, run_still, run_stopped, run_taken, run_unfinished}
+use Rattle.dt_node.proofs.Again.{again_is_old}
 use Rattle.dt_node.proofs.Keeping.{Given, PlannedTakes, Read, Taken, given_on, taken_more, taken_on}
 use Rattle.dt_node.proofs.Orderly.{node_in_order, unsent_apart, unsent_in_order}
 use Rattle.dt_node.proofs.Unsent.{log_apart}
-use Rattle.dt_node.proofs.Served.{Going, Passed, edges_of, scene_of, some_both, some_map, with_wire}
+use Rattle.dt_node.proofs.Beginning.{part_then}
+use Rattle.dt_node.proofs.Tracing.{Unfailed, far_none, far_take, far_turn, written_failed, written_far, written_unopened}
+use Rattle.dt_node.proofs.Served.{Going, Noted, Passed, edges_of, scene_of, some_both, some_map, with_held}
 
 module _ (o : Orders) (b : Edges) (rs : List ℕ) (ts : List (Option Datagram)) (few : length rs ≤ most_equal * o.stop + 1) (small : o.stop < 2 ^ 32) where
   readings_planned : (c : ClockSight) → Read rs b.clock c → IfSome b.clock.plan (λ p. b.clock.readings ≡ Some [] → rs ≡ first_readings p (length rs))
@@ -57,12 +65,7 @@ fates_planned : (b : Edges) (v : WireSight) (outcome : NodeOutcome) (deeds : Lis
 fates_planned b v outcome deeds h = some_map b.wire.plan (λ p. b.wire.gives + length (fates deeds) ≤ last_count → FatesFrom p.failing_gives b.wire.gives (fates deeds)) (λ p. IsFresh b.wire → IsWhole outcome → length (fates deeds) < 2 ^ 64 → FatesFrom p.failing_gives 0 (fates deeds))
     (λ p k fresh whole few. let z = fresh.gives in subst (λ (m : ℕ). FatesFrom p.failing_gives m (fates deeds)) z (k (omega arith))) h.plan
 
--- a first part behind a whole
-part_then : (xs ys zs : List ℕ) (a m c : Option (List ℕ)) → xs ++ ys ≡ zs → Appends a m xs → AppendsPart ys m c → AppendsPart zs a c
-part_then xs ys zs a m c e h (count, k) =
-    (length xs + count, subst (Appends a c) (sym (take-append-add xs ys count) ∙ ap (take (length xs + count)) e) (Appends-trans a m c xs (take count ys) h k))
-
-module _ (o : Orders) (b : Edges) where
+module _ (form : Form) (o : Orders) (b : Edges) where
   in_order : (rs : List ℕ) (ts : List (Option Datagram)) (deeds : List Deed) → map act_of deeds ≡ (node_run o rs ts).acts → InOrder None (map act_of deeds)
   in_order rs ts deeds e = subst (λ (acts : List Act). InOrder None acts) (sym e) (node_in_order o rs ts)
 
@@ -72,8 +75,8 @@ module _ (o : Orders) (b : Edges) where
   apart_of : (rs : List ℕ) (ts : List (Option Datagram)) (deeds : List Deed) → map act_of deeds ≡ (node_run o rs ts).acts → without_unsent_lines (log_text (log_lines o.setup.me deeds)) ≡ log_text (node_lines o.setup.me (node_run o rs ts).acts)
   apart_of rs ts deeds e = log_apart o.setup.me deeds ∙ ap log_text (unsent_apart o.setup.me deeds None (in_order rs ts deeds e) ∙ ap (node_lines o.setup.me) e)
 
-  pub serve_done : (watch : Watch) (n : Edges) → Passed o b watch None n → Serves o Done b n
-  serve_done watch n h =
+  pub serve_done : (gives : ℕ) (watch : Watch) (n : Edges) → Passed form o b gives watch None n → Serves form o Done b n
+  serve_done gives watch n h =
       let k = h.kept in
       let run = run_stopped o h.readings h.takes (map act_of h.deeds) watch h.came in
       let less : length h.takes ≤ length h.readings = omega (arith, k.counted) in
@@ -86,6 +89,9 @@ module _ (o : Orders) (b : Edges) where
         acts = sym (ap (λ (r : Run). r.acts) run);
         unsent = unsent_of _ _ _ (sym (ap (λ (r : Run). r.acts) run));
         apart = apart_of _ _ _ (sym (ap (λ (r : Run). r.acts) run));
+        text = h.text;
+        written = written_far form o.setup.me Done h.readings h.takes h.deeds h.text tt h.far;
+        again = again_is_old o _ _;
         log = k.held;
         ends = ap (λ (r : Run). r.ending) run;
         counted = k.counted;
@@ -103,39 +109,39 @@ module _ (o : Orders) (b : Edges) where
         planned_fates = fates_planned b n.wire Done h.deeds k.given;
       }
 
-  pub serve_still : (watch : Watch) (node : Node) (n : Edges) (t : Option Datagram) (v : WireSight) → (watch.equal == most_equal) ≡ true → Passed o b watch (Some node) n → TakesOne most_taken t n.wire v → Serves o ClockStill b (with_wire n v)
-  serve_still watch node n t v e h j =
-      let k = h.kept in
+  pub serve_still : (gives : ℕ) (watch : Watch) (node : Node) (n : Edges) (t : Option Datagram) → (watch.equal == most_equal) ≡ true → Noted form o b gives watch node t n → Serves form o ClockStill b n
+  serve_still gives watch node n t e h =
       let ts = h.takes ++ t ∷ [] in
       let run = run_still o h.readings h.takes t (map act_of h.deeds) watch node e h.came in
       let number : length ts ≡ length h.takes + 1 = length-append h.takes (t ∷ []) in
-      let less : length ts ≤ length h.readings = omega (arith, k.counted) in
-      let taken = taken_more (opening_of o) h.takes t b.wire n.wire v k.taken j in
-      let given = given_on h.deeds b.wire n.wire v k.given j.same in
+      let less : length ts ≤ length h.readings = omega (arith, number, h.counted) in
       record {
         readings = h.readings;
         takes = ts;
         deeds = h.deeds;
-        told_readings = k.read.told;
-        told_takes = taken.taken;
+        told_readings = h.read.told;
+        told_takes = h.taken.taken;
         acts = sym (ap (λ (r : Run). r.acts) run);
         unsent = unsent_of _ _ _ (sym (ap (λ (r : Run). r.acts) run));
         apart = apart_of _ _ _ (sym (ap (λ (r : Run). r.acts) run));
-        log = k.held;
+        text = h.text;
+        written = written_far form o.setup.me ClockStill h.readings ts h.deeds h.text tt h.far;
+        log = h.held;
+        again = again_is_old o _ _;
         ends = ap (λ (r : Run). r.ending) run;
-        counted = number ∙ k.counted;
-        few = k.few;
-        opening = λ _. taken.opening;
-        take_faults = taken.faults;
-        give_faults = given.lost;
-        sink_faults = k.faults;
-        frames = given.given;
-        same_wire_plan = taken.plan;
-        same_clock_plan = k.read.plan;
-        planned_readings = readings_planned o b h.readings ts k.few k.small n.clock k.read;
-        planned_takes = takes_planned o b h.readings ts k.few k.small less v taken;
-        planned_faults = none_fails o b h.readings ts k.few k.small less v taken;
-        planned_fates = fates_planned b v ClockStill h.deeds given;
+        counted = number ∙ h.counted;
+        few = h.few;
+        opening = λ _. h.taken.opening;
+        take_faults = h.taken.faults;
+        give_faults = h.given.lost;
+        sink_faults = h.faults;
+        frames = h.given.given;
+        same_wire_plan = h.taken.plan;
+        same_clock_plan = h.read.plan;
+        planned_readings = readings_planned o b h.readings ts h.few h.small n.clock h.read;
+        planned_takes = takes_planned o b h.readings ts h.few h.small less n.wire h.taken;
+        planned_faults = none_fails o b h.readings ts h.few h.small less n.wire h.taken;
+        planned_fates = fates_planned b n.wire ClockStill h.deeds h.given;
       }
 
   failing_planned : (rs : List ℕ) (ts : List (Option Datagram)) (v w : WireSight) → length rs ≤ most_equal * o.stop + 1 → o.stop < 2 ^ 32 → length ts + 1 ≡ length rs → Taken (opening_of o) ts b.wire v → TakeFails v w → IfSome b.wire.plan (λ p. IsFresh b.wire → FailsAs WireFault p (length rs) (length ts))
@@ -150,29 +156,51 @@ module _ (o : Orders) (b : Edges) where
       inr (well.0, (let some : 0 < length rs = omega arith in some), well.1, here))
       (none_fails o b rs ts few small (omega arith) v h) plan
 
-  pub serve_wire : (watch : Watch) (node : Node) (n : Edges) (v : WireSight) → Passed o b watch (Some node) n → TakeFails n.wire v → Serves o WireFault b (with_wire n v)
-  serve_wire watch node n v h j =
+  -- a failed take hands nothing over
+  told_failed : (ts : List (Option Datagram)) (v w : WireSight) → Taken (opening_of o) ts b.wire v → TakeFails v w → NotesAll ts b.wire.taken w.taken
+  told_failed ts v w h j = subst (λ (xs : List (Option Datagram)). NotesAll xs b.wire.taken w.taken) (append-nil ts) (notes_then ts [] b.wire.taken v.taken w.taken h.taken (nothing_notes v.taken w.taken j.taken))
+
+  faults_kept : (f : Form) (before after : ℕ) → after ≡ before → TakeFaults f WriteFault before after
+  faults_kept forms.Log before after e = e
+  faults_kept forms.Trace before after e = inl e
+
+  faults_traced : (f : Form) (before after : ℕ) → f ≡ forms.Trace → HasRisen before after → TakeFaults f WriteFault before after
+  faults_traced forms.Log before after e h = absurd cc
+  faults_traced forms.Trace before after e h = inr h
+
+  -- nothing is planned of a run that was cut off
+  fates_cut : (p : Option Plan) (deeds : List Deed) → IfSome p (λ p. IsFresh b.wire → ⊥ → length (fates deeds) < 2 ^ 64 → FatesFrom p.failing_gives 0 (fates deeds))
+  fates_cut None deeds = tt
+  fates_cut (Some p) deeds = λ fresh whole few. absurd whole
+
+  pub serve_wire : (gives : ℕ) (watch : Watch) (node : Node) (n : Edges) (v : WireSight) (held : Option (List ℕ)) (faults : ℕ) → Passed form o b gives watch (Some node) n → TakeFails n.wire v → Appends n.held held (noted_text form FailedTake) → faults ≡ n.faults
+      → Serves form o WireFault b (with_held n v held faults)
+  serve_wire gives watch node n v held faults h j put same =
       let k = h.kept in
       let run = run_unfinished o h.readings h.takes (map act_of h.deeds) watch node h.came in
       let less : length h.takes ≤ length h.readings = omega (arith, k.counted) in
+      let some : 0 < length h.readings = omega (arith, k.counted) in
       let given = given_on h.deeds b.wire n.wire v k.given j.same in
       record {
         readings = h.readings;
         takes = h.takes;
         deeds = h.deeds;
         told_readings = k.read.told;
-        told_takes = subst (λ (xs : List (Option Datagram)). NotesAll xs b.wire.taken v.taken) (append-nil h.takes) (notes_then h.takes [] b.wire.taken n.wire.taken v.taken k.taken.taken (nothing_notes n.wire.taken v.taken j.taken));
+        told_takes = told_failed h.takes n.wire v k.taken j;
         acts = sym (ap (λ (r : Run). r.acts) run);
         unsent = unsent_of _ _ _ (sym (ap (λ (r : Run). r.acts) run));
         apart = apart_of _ _ _ (sym (ap (λ (r : Run). r.acts) run));
-        log = k.held;
+        text = h.text ++ noted_text form FailedTake;
+        written = written_failed form o.setup.me WireFault h.readings h.takes h.deeds h.text tt some h.far;
+        log = Appends-trans b.held n.held held h.text (noted_text form FailedTake) k.held put;
+        again = again_is_old o _ _;
         ends = ap (λ (r : Run). r.ending) run;
         counted = inr k.counted;
         few = k.few;
         opening = λ _. subst (λ (x : Option (Option Opening)). IfSome x (λ now. now ≡ Some (opening_of o))) (sym j.same.opening) k.taken.opening;
         take_faults = subst (λ (m : ℕ). HasRisen m v.take_faults) k.taken.faults j.faults;
         give_faults = given.lost;
-        sink_faults = k.faults;
+        sink_faults = same ∙ k.faults;
         frames = given.given;
         same_wire_plan = j.same.plan ∙ k.taken.plan;
         same_clock_plan = k.read.plan;
@@ -182,8 +210,86 @@ module _ (o : Orders) (b : Edges) where
         planned_fates = fates_planned b v WireFault h.deeds given;
       }
 
-  pub serve_unopened : (v : WireSight) → OpenFails b.wire v → Serves o WireFault b (with_wire b v)
-  serve_unopened v h = record {
+  -- the put failed that told it
+  pub serve_wire_write : (gives : ℕ) (watch : Watch) (node : Node) (n : Edges) (v : WireSight) (held : Option (List ℕ)) (faults : ℕ) → form ≡ forms.Trace → Passed form o b gives watch (Some node) n → TakeFails n.wire v → AppendsPart (noted_text form FailedTake) n.held held
+      → HasRisen n.faults faults → Serves form o WriteFault b (with_held n v held faults)
+  serve_wire_write gives watch node n v held faults trace h j put risen =
+      let k = h.kept in
+      let run = run_unfinished o h.readings h.takes (map act_of h.deeds) watch node h.came in
+      let less : length h.takes ≤ length h.readings = omega (arith, k.counted) in
+      let some : 0 < length h.readings = omega (arith, k.counted) in
+      let given = given_on h.deeds b.wire n.wire v k.given j.same in
+      record {
+        readings = h.readings;
+        takes = h.takes;
+        deeds = h.deeds;
+        told_readings = k.read.told;
+        told_takes = told_failed h.takes n.wire v k.taken j;
+        acts = sym (ap (λ (r : Run). r.acts) run);
+        unsent = unsent_of _ _ _ (sym (ap (λ (r : Run). r.acts) run));
+        apart = apart_of _ _ _ (sym (ap (λ (r : Run). r.acts) run));
+        text = h.text ++ noted_text form FailedTake;
+        written = written_failed form o.setup.me WriteFault h.readings h.takes h.deeds h.text tt some h.far;
+        log = part_then h.text (noted_text form FailedTake) (h.text ++ noted_text form FailedTake) b.held n.held held refl k.held put;
+        again = again_is_old o _ _;
+        ends = tt;
+        counted = tt;
+        few = k.few;
+        opening = λ x. absurd x;
+        take_faults = faults_traced form b.wire.take_faults v.take_faults trace (subst (λ (m : ℕ). HasRisen m v.take_faults) k.taken.faults j.faults);
+        give_faults = given.lost;
+        sink_faults = subst (λ (m : ℕ). HasRisen m faults) k.faults risen;
+        frames = record { frames = sent_frames h.deeds; some = sent_sub h.deeds; given = given.given };
+        same_wire_plan = j.same.plan ∙ k.taken.plan;
+        same_clock_plan = k.read.plan;
+        planned_readings = readings_planned o b h.readings h.takes k.few k.small n.clock k.read;
+        planned_takes = takes_planned o b h.readings h.takes k.few k.small less n.wire k.taken;
+        planned_faults = elim b.wire.plan as (λ x. IfSome x (λ p. IsFresh b.wire → Unit {0})) [ None ↦ tt | Some p ↦ λ fresh. tt ];
+        planned_fates = fates_cut b.wire.plan h.deeds;
+      }
+
+  -- what a take found wasn't written
+  pub serve_take_write : (gives : ℕ) (watch : Watch) (node : Node) (n : Edges) (t : Option Datagram) (v : WireSight) (held : Option (List ℕ)) (faults : ℕ) → HasFound t → Passed form o b gives watch (Some node) n → TakesOne most_taken t n.wire v → AppendsPart (noted_text form (Found t)) n.held held
+      → HasRisen n.faults faults → Serves form o WriteFault b (with_held n v held faults)
+  serve_take_write gives watch node n t v held faults fits h j put risen =
+      let k = h.kept in
+      let ts = h.takes ++ t ∷ [] in
+      let run = run_taken o h.readings h.takes t (map act_of h.deeds) watch node h.came in
+      let number : length ts ≡ length h.takes + 1 = length-append h.takes (t ∷ []) in
+      let less : length ts ≤ length h.readings = omega (arith, number, k.counted) in
+      let taken = taken_more (opening_of o) h.takes t b.wire n.wire v k.taken j in
+      let given = given_on h.deeds b.wire n.wire v k.given j.same in
+      record {
+        readings = h.readings;
+        takes = ts;
+        deeds = h.deeds;
+        told_readings = k.read.told;
+        told_takes = taken.taken;
+        acts = sym run;
+        unsent = unsent_of _ _ _ (sym run);
+        apart = apart_of _ _ _ (sym run);
+        text = h.text ++ noted_text form (Found t);
+        written = written_far form o.setup.me WriteFault h.readings ts h.deeds (h.text ++ noted_text form (Found t)) tt (far_take form o.setup.me h.readings h.takes h.deeds h.text t fits h.far);
+        log = part_then h.text (noted_text form (Found t)) (h.text ++ noted_text form (Found t)) b.held n.held held refl k.held put;
+        again = again_is_old o _ _;
+        ends = tt;
+        counted = tt;
+        few = k.few;
+        opening = λ x. absurd x;
+        take_faults = faults_kept form b.wire.take_faults v.take_faults taken.faults;
+        give_faults = given.lost;
+        sink_faults = subst (λ (m : ℕ). HasRisen m faults) k.faults risen;
+        frames = record { frames = sent_frames h.deeds; some = sent_sub h.deeds; given = given.given };
+        same_wire_plan = taken.plan;
+        same_clock_plan = k.read.plan;
+        planned_readings = readings_planned o b h.readings ts k.few k.small n.clock k.read;
+        planned_takes = takes_planned o b h.readings ts k.few k.small less v taken;
+        planned_faults = elim b.wire.plan as (λ x. IfSome x (λ p. IsFresh b.wire → Unit {0})) [ None ↦ tt | Some p ↦ λ fresh. tt ];
+        planned_fates = fates_cut b.wire.plan h.deeds;
+      }
+
+  pub serve_unopened : (v : WireSight) (held : Option (List ℕ)) (faults : ℕ) → OpenFails b.wire v → Appends b.held held (noted_text form FailedOpen) → faults ≡ b.faults → Serves form o WireFault b (with_held b v held faults)
+  serve_unopened v held faults h put same = record {
     readings = [];
     takes = [];
     deeds = [];
@@ -192,14 +298,17 @@ module _ (o : Orders) (b : Edges) where
     acts = sym (ap (λ (r : Run). r.acts) (run_nothing o));
     unsent = unsent_of [] [] [] (sym (ap (λ (r : Run). r.acts) (run_nothing o)));
     apart = apart_of [] [] [] (sym (ap (λ (r : Run). r.acts) (run_nothing o)));
-    log = Appends-nil b.held;
+    text = noted_text form FailedOpen;
+    written = written_unopened form o.setup.me WireFault tt;
+    log = put;
+    again = again_is_old o [] [];
     ends = ap (λ (r : Run). r.ending) (run_nothing o);
     counted = inl (refl, refl);
     few = omega arith;
     opening = λ k. absurd (omega arith);
     take_faults = h.faults;
     give_faults = omega (arith, h.same.give_faults);
-    sink_faults = refl;
+    sink_faults = same;
     frames = subst (λ (x : Option (List Datagram)). NotesAll [] b.wire.given x) (sym h.same.given) (notes_none b.wire.given);
     same_wire_plan = h.same.plan;
     same_clock_plan = refl;
@@ -209,23 +318,61 @@ module _ (o : Orders) (b : Edges) where
     planned_fates = elim b.wire.plan as (λ x. IfSome x (λ p. IsFresh b.wire → IsWhole WireFault → length {A = Bool} [] < 2 ^ 64 → FatesFrom p.failing_gives 0 [])) [ None ↦ tt | Some p ↦ λ fresh whole few. tt ];
   }
 
+  -- the put failed that told it
+  pub serve_unopened_write : (v : WireSight) (held : Option (List ℕ)) (faults : ℕ) → form ≡ forms.Trace → OpenFails b.wire v → AppendsPart (noted_text form FailedOpen) b.held held → HasRisen b.faults faults → Serves form o WriteFault b (with_held b v held faults)
+  serve_unopened_write v held faults trace h put risen = record {
+    readings = [];
+    takes = [];
+    deeds = [];
+    told_readings = notes_none b.clock.readings;
+    told_takes = subst (λ (x : Option (List (Option Datagram))). NotesAll [] b.wire.taken x) (sym h.same.taken) (notes_none b.wire.taken);
+    acts = sym (ap (λ (r : Run). r.acts) (run_nothing o));
+    unsent = unsent_of [] [] [] (sym (ap (λ (r : Run). r.acts) (run_nothing o)));
+    apart = apart_of [] [] [] (sym (ap (λ (r : Run). r.acts) (run_nothing o)));
+    text = noted_text form FailedOpen;
+    written = written_unopened form o.setup.me WriteFault tt;
+    log = put;
+    again = again_is_old o [] [];
+    ends = tt;
+    counted = tt;
+    few = omega arith;
+    opening = λ k. absurd k;
+    take_faults = faults_traced form b.wire.take_faults v.take_faults trace h.faults;
+    give_faults = omega (arith, h.same.give_faults);
+    sink_faults = risen;
+    frames = record { frames = []; some = sub_none []; given = subst (λ (x : Option (List Datagram)). NotesAll [] b.wire.given x) (sym h.same.given) (notes_none b.wire.given) };
+    same_wire_plan = h.same.plan;
+    same_clock_plan = refl;
+    planned_readings = elim b.clock.plan as (λ x. IfSome x (λ p. b.clock.readings ≡ Some [] → [] ≡ first_readings p (length {A = ℕ} []))) [ None ↦ tt | Some p ↦ λ fresh. refl ];
+    planned_takes = elim b.wire.plan as (λ x. IfSome x (λ p. IsFresh b.wire → [] ≡ first_entries p (length {A = Option Datagram} []))) [ None ↦ tt | Some p ↦ λ fresh. refl ];
+    planned_faults = elim b.wire.plan as (λ x. IfSome x (λ p. IsFresh b.wire → Unit {0})) [ None ↦ tt | Some p ↦ λ fresh. tt ];
+    planned_fates = fates_cut b.wire.plan [];
+  }
+
   -- what stands after a turn that stopped
-  pub record Broken (watch : Watch) (came : Option Datagram) (node : Node) (n : Edges) (t : Scene) (rs : List ℕ) (ts : List (Option Datagram)) : Type 0 where
+  pub record Broken (outcome : NodeOutcome) (watch : Watch) (came : Option Datagram) (node : Node) (n : Edges) (t : Scene) (rs : List ℕ) (ts : List (Option Datagram)) : Type 0 where
     pub deeds : List Deed
     pub acts : map act_of deeds ≡ (node_run o rs ts).acts
-    pub log : AppendsPart (log_text (log_lines o.setup.me deeds)) b.held t.held
+    pub text : List ℕ
+    pub written : Written form o.setup.me outcome rs ts deeds text
+    pub log : AppendsPart text b.held t.held
     pub taken : Taken (opening_of o) ts b.wire t.wire
     pub lost : min (b.wire.give_faults + lost deeds) last_count ≤ t.wire.give_faults
     pub frames : GivesSome deeds b.wire.given t.wire.given
 
-  broken : (watch : Watch) (came : Option Datagram) (node : Node) (n : Edges) (t : Scene) (now : ℕ) (stop : Stop) (h : Going o b watch came node n) → now ≡ moment watch → (more : List Deed) → map act_of more ≡ acts_of now (turn o now came node) → WroteSome o.setup.me more stop (scene_of n) t → Broken watch came node n t h.readings h.takes
-  broken watch came node n t now stop h e more acts some =
+  broken : (outcome : NodeOutcome) (reading gives : ℕ) (watch : Watch) (came : Option Datagram) (node : Node) (n : Edges) (t : Scene) (now : ℕ) (stop : Stop) → Unfailed outcome → (h : Going form o b reading gives watch came node n) → now ≡ moment watch → (more : List Deed) → map act_of more ≡ acts_of now (turn o now came node)
+      → WroteSome form o.setup.me (noted_text form (Reading reading)) more stop (scene_of gives n) t → Broken outcome watch came node n t (h.earlier ++ reading ∷ []) h.takes
+  broken outcome reading gives watch came node n t now stop whole h e more acts some =
       let k = h.kept in
       let all = map-append act_of h.deeds more in
+      let rs = h.earlier ++ reading ∷ [] in
+      let line = noted_text form (Reading reading) ++ deeds_text form gives o.setup.me more in
       record {
         deeds = h.deeds ++ more;
-        acts = all ∙ sym (run_cut o h.readings h.takes (map act_of h.deeds ++ map act_of more) watch (answer_of (turn o now came node)) (came_of o h.readings h.takes (map act_of h.deeds) (map act_of more) watch came node now (answer_of (turn o now came node)) e acts refl h.comes));
-        log = part_then (log_text (log_lines o.setup.me h.deeds)) (log_text (log_lines o.setup.me more)) (log_text (log_lines o.setup.me (h.deeds ++ more))) b.held n.held t.held (sym (log_more o.setup.me h.deeds more)) k.held some.held;
+        acts = all ∙ sym (run_cut o rs h.takes (map act_of h.deeds ++ map act_of more) watch (answer_of (turn o now came node)) (came_of o rs h.takes (map act_of h.deeds) (map act_of more) watch came node now (answer_of (turn o now came node)) e acts refl h.comes));
+        text = h.text ++ line;
+        written = written_far form o.setup.me outcome rs h.takes (h.deeds ++ more) (h.text ++ line) whole (far_turn form o.setup.me h.earlier h.takes h.deeds more h.text reading gives h.fits k.calls h.far);
+        log = part_then h.text line (h.text ++ line) b.held n.held t.held refl k.held some.held;
         taken = taken_on (opening_of o) h.takes b.wire n.wire t.wire k.taken some.wire.same;
         lost = omega (arith, lost_more h.deeds more, k.given.lost, some.wire.lost);
         frames = record {
@@ -235,13 +382,15 @@ module _ (o : Orders) (b : Edges) where
         };
       }
 
-  pub serve_memory : (watch : Watch) (came : Option Datagram) (node : Node) (n : Edges) (t : Scene) (now : ℕ) (answer : Option Node) → now ≡ moment watch → Going o b watch came node n → TurnEnds (Err stops.NoMemory) o.setup.me now (turn o now came node) answer (scene_of n) t → Serves o NoMemory b (edges_of t n.clock)
-  serve_memory watch came node n t now answer e h (more, acts, some) =
+  pub serve_memory : (reading gives : ℕ) (watch : Watch) (came : Option Datagram) (node : Node) (n : Edges) (t : Scene) (now : ℕ) (answer : Option Node) → now ≡ moment watch → Going form o b reading gives watch came node n
+      → TurnEnds (Err stops.NoMemory) form o.setup.me now (noted_text form (Reading reading)) (turn o now came node) answer (scene_of gives n) t → Serves form o NoMemory b (edges_of t n.clock)
+  serve_memory reading gives watch came node n t now answer e h (more, acts, some) =
       let k = h.kept in
-      let j = broken watch came node n t now stops.NoMemory h e more acts some in
-      let less : length h.takes ≤ length h.readings = omega (arith, k.counted) in
+      let j = broken NoMemory reading gives watch came node n t now stops.NoMemory tt h e more acts some in
+      let rs = h.earlier ++ reading ∷ [] in
+      let less : length h.takes ≤ length rs = omega (arith, k.counted) in
       record {
-        readings = h.readings;
+        readings = rs;
         takes = h.takes;
         deeds = j.deeds;
         told_readings = k.read.told;
@@ -249,6 +398,9 @@ module _ (o : Orders) (b : Edges) where
         acts = j.acts;
         unsent = unsent_of _ _ _ (j.acts);
         apart = apart_of _ _ _ (j.acts);
+        text = j.text;
+        written = j.written;
+        again = again_is_old o _ _;
         log = j.log;
         ends = tt;
         counted = tt;
@@ -260,19 +412,21 @@ module _ (o : Orders) (b : Edges) where
         frames = j.frames;
         same_wire_plan = j.taken.plan;
         same_clock_plan = k.read.plan;
-        planned_readings = readings_planned o b h.readings h.takes k.few k.small n.clock k.read;
-        planned_takes = takes_planned o b h.readings h.takes k.few k.small less t.wire j.taken;
+        planned_readings = readings_planned o b rs h.takes k.few k.small n.clock k.read;
+        planned_takes = takes_planned o b rs h.takes k.few k.small less t.wire j.taken;
         planned_faults = elim b.wire.plan as (λ x. IfSome x (λ p. IsFresh b.wire → Unit {0})) [ None ↦ tt | Some p ↦ λ fresh. tt ];
         planned_fates = elim b.wire.plan as (λ x. IfSome x (λ p. IsFresh b.wire → ⊥ → length (fates j.deeds) < 2 ^ 64 → FatesFrom p.failing_gives 0 (fates j.deeds))) [ None ↦ tt | Some p ↦ λ fresh whole few. absurd whole ];
       }
 
-  pub serve_write : (watch : Watch) (came : Option Datagram) (node : Node) (n : Edges) (t : Scene) (now : ℕ) (answer : Option Node) → now ≡ moment watch → Going o b watch came node n → TurnEnds (Err stops.WriteFault) o.setup.me now (turn o now came node) answer (scene_of n) t → Serves o WriteFault b (edges_of t n.clock)
-  serve_write watch came node n t now answer e h (more, acts, some) =
+  pub serve_write : (reading gives : ℕ) (watch : Watch) (came : Option Datagram) (node : Node) (n : Edges) (t : Scene) (now : ℕ) (answer : Option Node) → now ≡ moment watch → Going form o b reading gives watch came node n
+      → TurnEnds (Err stops.WriteFault) form o.setup.me now (noted_text form (Reading reading)) (turn o now came node) answer (scene_of gives n) t → Serves form o WriteFault b (edges_of t n.clock)
+  serve_write reading gives watch came node n t now answer e h (more, acts, some) =
       let k = h.kept in
-      let j = broken watch came node n t now stops.WriteFault h e more acts some in
-      let less : length h.takes ≤ length h.readings = omega (arith, k.counted) in
+      let j = broken WriteFault reading gives watch came node n t now stops.WriteFault tt h e more acts some in
+      let rs = h.earlier ++ reading ∷ [] in
+      let less : length h.takes ≤ length rs = omega (arith, k.counted) in
       record {
-        readings = h.readings;
+        readings = rs;
         takes = h.takes;
         deeds = j.deeds;
         told_readings = k.read.told;
@@ -280,25 +434,28 @@ module _ (o : Orders) (b : Edges) where
         acts = j.acts;
         unsent = unsent_of _ _ _ (j.acts);
         apart = apart_of _ _ _ (j.acts);
+        text = j.text;
+        written = j.written;
+        again = again_is_old o _ _;
         log = j.log;
         ends = tt;
         counted = tt;
         few = k.few;
         opening = λ x. absurd x;
-        take_faults = j.taken.faults;
+        take_faults = faults_kept form b.wire.take_faults t.wire.take_faults j.taken.faults;
         give_faults = j.lost;
         sink_faults = subst (λ (m : ℕ). HasRisen m t.faults) k.faults some.faults;
         frames = j.frames;
         same_wire_plan = j.taken.plan;
         same_clock_plan = k.read.plan;
-        planned_readings = readings_planned o b h.readings h.takes k.few k.small n.clock k.read;
-        planned_takes = takes_planned o b h.readings h.takes k.few k.small less t.wire j.taken;
+        planned_readings = readings_planned o b rs h.takes k.few k.small n.clock k.read;
+        planned_takes = takes_planned o b rs h.takes k.few k.small less t.wire j.taken;
         planned_faults = elim b.wire.plan as (λ x. IfSome x (λ p. IsFresh b.wire → Unit {0})) [ None ↦ tt | Some p ↦ λ fresh. tt ];
         planned_fates = elim b.wire.plan as (λ x. IfSome x (λ p. IsFresh b.wire → ⊥ → length (fates j.deeds) < 2 ^ 64 → FatesFrom p.failing_gives 0 (fates j.deeds))) [ None ↦ tt | Some p ↦ λ fresh whole few. absurd whole ];
       }
 
   -- memory was wanted, or a put failed, before the wire was opened
-  pub serve_memory_early : (held : Option (List ℕ)) (faults : ℕ) → AppendsPart [] b.held held → faults ≡ b.faults → Serves o NoMemory b (record b { held = held; faults = faults })
+  pub serve_memory_early : (held : Option (List ℕ)) (faults : ℕ) → AppendsPart [] b.held held → faults ≡ b.faults → Serves form o NoMemory b (record b { held = held; faults = faults })
   serve_memory_early held faults h same = record {
     readings = [];
     takes = [];
@@ -308,6 +465,9 @@ module _ (o : Orders) (b : Edges) where
     acts = sym (ap (λ (r : Run). r.acts) (run_nothing o));
     unsent = unsent_of [] [] [] (sym (ap (λ (r : Run). r.acts) (run_nothing o)));
     apart = apart_of [] [] [] (sym (ap (λ (r : Run). r.acts) (run_nothing o)));
+    text = [];
+    written = written_far form o.setup.me NoMemory [] [] [] [] tt (far_none form o.setup.me);
+    again = again_is_old o [] [];
     log = h;
     ends = tt;
     counted = tt;
@@ -325,7 +485,7 @@ module _ (o : Orders) (b : Edges) where
     planned_fates = elim b.wire.plan as (λ x. IfSome x (λ p. IsFresh b.wire → ⊥ → length {A = Bool} [] < 2 ^ 64 → FatesFrom p.failing_gives 0 [])) [ None ↦ tt | Some p ↦ λ fresh whole few. tt ];
   }
 
-  pub serve_write_early : (held : Option (List ℕ)) (faults : ℕ) → AppendsPart [] b.held held → HasRisen b.faults faults → Serves o WriteFault b (record b { held = held; faults = faults })
+  pub serve_write_early : (held : Option (List ℕ)) (faults : ℕ) → AppendsPart [] b.held held → HasRisen b.faults faults → Serves form o WriteFault b (record b { held = held; faults = faults })
   serve_write_early held faults h risen = record {
     readings = [];
     takes = [];
@@ -335,12 +495,15 @@ module _ (o : Orders) (b : Edges) where
     acts = sym (ap (λ (r : Run). r.acts) (run_nothing o));
     unsent = unsent_of [] [] [] (sym (ap (λ (r : Run). r.acts) (run_nothing o)));
     apart = apart_of [] [] [] (sym (ap (λ (r : Run). r.acts) (run_nothing o)));
+    text = [];
+    written = written_far form o.setup.me WriteFault [] [] [] [] tt (far_none form o.setup.me);
+    again = again_is_old o [] [];
     log = h;
     ends = tt;
     counted = tt;
     few = omega arith;
     opening = λ k. absurd k;
-    take_faults = refl;
+    take_faults = faults_kept form b.wire.take_faults b.wire.take_faults refl;
     give_faults = omega arith;
     sink_faults = risen;
     frames = record { frames = []; some = sub_none []; given = notes_none b.wire.given };
@@ -363,17 +526,20 @@ logs_from WireFault text a m e h k = Appends-trans a m e [] text h k
 logs_from ClockStill text a m e h k = Appends-trans a m e [] text h k
 logs_from WriteFault text a m e h k = part_then [] text text a m e refl h k
 
-serves_from : (o : Orders) (outcome : NodeOutcome) (w : WireSight) (c : ClockSight) (s t : SinkSight) (e : Edges) → Takes [] s t → Serves o outcome (edges w c t) e → Serves o outcome (edges w c s) e
-serves_from o outcome w c s t e h k = record {
+serves_from : (form : Form) (o : Orders) (outcome : NodeOutcome) (w : WireSight) (c : ClockSight) (s t : SinkSight) (e : Edges) → Takes [] s t → Serves form o outcome (edges w c t) e → Serves form o outcome (edges w c s) e
+serves_from form o outcome w c s t e h k = record {
   readings = k.readings;
   takes = k.takes;
   deeds = k.deeds;
   told_readings = k.told_readings;
   told_takes = k.told_takes;
   acts = k.acts;
-  log = logs_from outcome (log_text (log_lines o.setup.me k.deeds)) s.held t.held e.held h.held k.log;
+  text = k.text;
+  written = k.written;
+  log = logs_from outcome k.text s.held t.held e.held h.held k.log;
   unsent = k.unsent;
   apart = k.apart;
+  again = k.again;
   ends = k.ends;
   counted = k.counted;
   few = k.few;
@@ -390,11 +556,11 @@ serves_from o outcome w c s t e h k = record {
   planned_fates = k.planned_fates;
 }
 
-answers_by : (octets : List ℕ) (outcome : NodeOutcome) (b a : Edges) (accepted : Bool) (o : Option Orders) → (read_script octets).accepted ≡ accepted → orders_in (read_script octets).state ≡ o →
-    AnswersBy (if accepted then o else None) (log_text (read_script octets).told) outcome b a → Answers octets outcome b a
-answers_by octets outcome b a accepted o e f h =
-    subst (λ (x : Bool). AnswersBy (if x then orders_in (read_script octets).state else None) (log_text (read_script octets).told) outcome b a) (sym e)
-    (subst (λ (x : Option Orders). AnswersBy (if accepted then x else None) (log_text (read_script octets).told) outcome b a) (sym f) h)
+answers_by : (form : Form) (octets : List ℕ) (outcome : NodeOutcome) (b a : Edges) (accepted : Bool) (o : Option Orders) → (read_script octets).accepted ≡ accepted → orders_in (read_script octets).state ≡ o →
+    AnswersBy form (if accepted then o else None) (log_text (read_script octets).told) outcome b a → Answers form octets outcome b a
+answers_by form octets outcome b a accepted o e f h =
+    subst (λ (x : Bool). AnswersBy form (if x then orders_in (read_script octets).state else None) (log_text (read_script octets).told) outcome b a) (sym e)
+    (subst (λ (x : Option Orders). AnswersBy form (if accepted then x else None) (log_text (read_script octets).told) outcome b a) (sym f) h)
 
 read_is : (octets : List ℕ) (start : Draft) → start ≡ Empty → fold_input script_turns start octets ≡ read_script octets
 unfolding read_script
@@ -421,40 +587,74 @@ module _ (octets : List ℕ) (start : Draft) (empty : start ≡ Empty) where
   pub orders_good : (state : Draft) (o : Orders) → length octets ≤ 16777216 → state ≡ folded.state → Some o ≡ orders_in state → IsGood o
   orders_good state o few f e = script_good octets o few (ap (λ (f : Folded Draft). orders_in f.state) (sym same) ∙ ap orders_in (sym f) ∙ sym e)
 
-  module _ (w : WireSight) (c : ClockSight) (s t : SinkSight) where
+  module _ (form : Form) (w : WireSight) (c : ClockSight) (s t : SinkSight) where
     -- they were carried out
-    pub answers_served : (accepted : Bool) (state : Draft) (o : Orders) (outcome : NodeOutcome) (e : Edges) → accepted ≡ true → accepted ≡ folded.accepted → state ≡ folded.state → Some o ≡ orders_in state → Takes (log_text folded.told) s t → Serves o outcome (edges w c t) e → Answers octets outcome (edges w c s) e
+    pub answers_served : (accepted : Bool) (state : Draft) (o : Orders) (outcome : NodeOutcome) (e : Edges) → accepted ≡ true → accepted ≡ folded.accepted → state ≡ folded.state → Some o ≡ orders_in state → Takes (log_text folded.told) s t → Serves form o outcome (edges w c t) e → Answers form octets outcome (edges w c s) e
     answers_served accepted state o outcome e a f g k took serves =
         let here : folded.accepted ≡ true = sym f ∙ a in
         let nothing : folded.told ≡ [] = ap (λ (f : Folded Draft). f.told) same ∙ told_nothing here in
-        answers_by octets outcome (edges w c s) e true (Some o) (ap (λ (f : Folded Draft). f.accepted) (sym same) ∙ here) (ap (λ (f : Folded Draft). orders_in f.state) (sym same) ∙ ap orders_in (sym g) ∙ sym k)
-        (serves_from o outcome w c s t e (subst (λ (xs : List Entry). Takes (log_text xs) s t) nothing took) serves)
+        answers_by form octets outcome (edges w c s) e true (Some o) (ap (λ (f : Folded Draft). f.accepted) (sym same) ∙ here) (ap (λ (f : Folded Draft). orders_in f.state) (sym same) ∙ ap orders_in (sym g) ∙ sym k)
+        (serves_from form o outcome w c s t e (subst (λ (xs : List Entry). Takes (log_text xs) s t) nothing took) serves)
 
     -- the script was refused
-    pub answers_refused : (accepted : Bool) → accepted ≡ false → accepted ≡ folded.accepted → Takes (log_text folded.told) s t → Answers octets Refused (edges w c s) (edges w c t)
+    pub answers_refused : (accepted : Bool) → accepted ≡ false → accepted ≡ folded.accepted → Takes (log_text folded.told) s t → Answers form octets Refused (edges w c s) (edges w c t)
     answers_refused accepted a f took =
         let text = subst (λ (f : Folded Draft). Takes (log_text f.told) s t) same took in
-        answers_by octets Refused (edges w c s) (edges w c t) false (orders_in (read_script octets).state) (ap (λ (f : Folded Draft). f.accepted) (sym same) ∙ sym f ∙ a) refl
+        answers_by form octets Refused (edges w c s) (edges w c t) false (orders_in (read_script octets).state) (ap (λ (f : Folded Draft). f.accepted) (sym same) ∙ sym f ∙ a) refl
         (record { may = tt; wire = refl; clock = refl; log = text.held; sink_faults = text.faults })
 
     -- its reading stopped
     stopped_by : (outcome : NodeOutcome) (accepted : Bool) (o : Option Orders) → (read_script octets).accepted ≡ accepted → orders_in (read_script octets).state ≡ o → (accepted ≡ true → (read_script octets).told ≡ []) → AppendsPart (log_text (read_script octets).told) s.held t.held →
-        RefusesAs outcome (log_text (read_script octets).told) (edges w c s) (edges w c t) → ((k : Orders) → AppendsPart [] s.held t.held → Serves k outcome (edges w c s) (edges w c t)) → Answers octets outcome (edges w c s) (edges w c t)
-    stopped_by outcome false o e f none h refuses serves = answers_by octets outcome (edges w c s) (edges w c t) false o e f refuses
-    stopped_by outcome true None e f none h refuses serves = answers_by octets outcome (edges w c s) (edges w c t) true None e f refuses
+        RefusesAs outcome (log_text (read_script octets).told) (edges w c s) (edges w c t) → ((k : Orders) → AppendsPart [] s.held t.held → Serves form k outcome (edges w c s) (edges w c t)) → Answers form octets outcome (edges w c s) (edges w c t)
+    stopped_by outcome false o e f none h refuses serves = answers_by form octets outcome (edges w c s) (edges w c t) false o e f refuses
+    stopped_by outcome true None e f none h refuses serves = answers_by form octets outcome (edges w c s) (edges w c t) true None e f refuses
     stopped_by outcome true (Some k) e f none h refuses serves =
-        answers_by octets outcome (edges w c s) (edges w c t) true (Some k) e f (serves k (subst (λ (xs : List Entry). AppendsPart (log_text xs) s.held t.held) (none refl) h))
+        answers_by form octets outcome (edges w c s) (edges w c t) true (Some k) e f (serves k (subst (λ (xs : List Entry). AppendsPart (log_text xs) s.held t.held) (none refl) h))
 
-    pub answers_memory : StopsIn (log_text folded.told) stops.NoMemory s t → Answers octets NoMemory (edges w c s) (edges w c t)
+    pub answers_memory : StopsIn (log_text folded.told) stops.NoMemory s t → Answers form octets NoMemory (edges w c s) (edges w c t)
     answers_memory stopped =
         let text = subst (λ (f : Folded Draft). StopsIn (log_text f.told) stops.NoMemory s t) same stopped in
         let part : AppendsPart (log_text (read_script octets).told) s.held t.held = (text.0, text.1.held) in
         stopped_by NoMemory (read_script octets).accepted (orders_in (read_script octets).state) refl refl (script_read octets).told part (record { may = tt; wire = refl; clock = refl; log = part; sink_faults = text.1.faults })
-        (λ k nothing. serve_memory_early k (edges w c s) t.held t.faults nothing text.1.faults)
+        (λ k nothing. serve_memory_early form k (edges w c s) t.held t.faults nothing text.1.faults)
 
-    pub answers_write : StopsIn (log_text folded.told) stops.WriteFault s t → Answers octets WriteFault (edges w c s) (edges w c t)
+    pub answers_write : StopsIn (log_text folded.told) stops.WriteFault s t → Answers form octets WriteFault (edges w c s) (edges w c t)
     answers_write stopped =
         let text = subst (λ (f : Folded Draft). StopsIn (log_text f.told) stops.WriteFault s t) same stopped in
         let part : AppendsPart (log_text (read_script octets).told) s.held t.held = (text.count, text.held) in
         stopped_by WriteFault (read_script octets).accepted (orders_in (read_script octets).state) refl refl (script_read octets).told part (record { may = tt; wire = refl; clock = refl; log = part; sink_faults = text.faults })
-        (λ k nothing. serve_write_early k (edges w c s) t.held t.faults nothing text.faults)
+        (λ k nothing. serve_write_early form k (edges w c s) t.held t.faults nothing text.faults)
+
+-- A CALL OF THE WIRE FAILED, and that was noted, or not
+behind_ok : (form : Form) (input : Input) (a z : SinkSight) → NotesBehind {T = Unit {0}} {E = Unit {0}} form input (Ok tt) a z → HasAll (noted_text form input) a z × (z.faults ≡ a.faults)
+behind_ok forms.Log input a z e = (subst (λ (s : SinkSight). HasAll [] a s) (sym e) (Appends-nil a.held), ap (λ (s : SinkSight). s.faults) e)
+behind_ok forms.Trace input a z h = h
+
+behind_err : (form : Form) (input : Input) (a z : SinkSight) → NotesBehind {T = Unit {0}} {E = Unit {0}} form input (Err tt) a z → (form ≡ forms.Trace) × HasPart (noted_text form input) a z × HasRisen a.faults z.faults
+behind_err forms.Log input a z h = absurd h
+behind_err forms.Trace input a z h = (refl, h.0, h.1)
+
+pub noted_ok : {T : Type 0} (E : Type 0) (form : Form) (input : Input) (done : T) (a z : SinkSight) → NotesBehind {E = E} form input (Ok done) a z → HasAll (noted_text form input) a z × (z.faults ≡ a.faults)
+noted_ok E forms.Log input done a z e = behind_ok forms.Log input a z e
+noted_ok E forms.Trace input done a z h = h
+
+pub noted_err : {E : Type 0} (T : Type 0) (form : Form) (input : Input) (fault : E) (a z : SinkSight) → NotesBehind {T = T} form input (Err fault) a z → HasPart (noted_text form input) a z × HasRisen a.faults z.faults
+noted_err T forms.Log input fault a z h = absurd h
+noted_err T forms.Trace input fault a z h = h
+
+module _ (form : Form) (o : Orders) where
+  pub unopened_ends : (w v : WireSight) (c : ClockSight) (a z : SinkSight) (outcome : NodeOutcome) → OpenFails w v → NotesFault FailedOpen form outcome a z → Serves form o outcome (edges w c a) (edges v c z)
+  unopened_ends w v c a z Done h n = absurd n
+  unopened_ends w v c a z Refused h n = absurd n
+  unopened_ends w v c a z NoMemory h n = absurd n
+  unopened_ends w v c a z ClockStill h n = absurd n
+  unopened_ends w v c a z WireFault h n = let k = behind_ok form FailedOpen a z n in serve_unopened form o (edges w c a) v z.held z.faults h k.0 k.1
+  unopened_ends w v c a z WriteFault h n = let k = behind_err form FailedOpen a z n in serve_unopened_write form o (edges w c a) v z.held z.faults k.0 h k.1 k.2
+
+  pub untaken_ends : (b : Edges) (gives : ℕ) (watch : Watch) (node : Node) (w v : WireSight) (c : ClockSight) (a z : SinkSight) (outcome : NodeOutcome) → Passed form o b gives watch (Some node) (edges w c a) → TakeFails w v → NotesFault FailedTake form outcome a z → Serves form o outcome b (edges v c z)
+  untaken_ends b gives watch node w v c a z Done p h n = absurd n
+  untaken_ends b gives watch node w v c a z Refused p h n = absurd n
+  untaken_ends b gives watch node w v c a z NoMemory p h n = absurd n
+  untaken_ends b gives watch node w v c a z ClockStill p h n = absurd n
+  untaken_ends b gives watch node w v c a z WireFault p h n = let k = behind_ok form FailedTake a z n in serve_wire form o b gives watch node (edges w c a) v z.held z.faults p h k.0 k.1
+  untaken_ends b gives watch node w v c a z WriteFault p h n = let k = behind_err form FailedTake a z n in serve_wire_write form o b gives watch node (edges w c a) v z.held z.faults k.0 p h k.1 k.2

@@ -27,7 +27,7 @@ use Rattle.dt_text.proofs.LineLaws.{line-only}
 use Rattle.dt_fold.specs.Folds.{Folded, Turned, closed, fold_from, fold_on}
 use Rattle.dt_world_model.specs.declared.links.InLink.{InLink}
 use Rattle.dt_node.specs.Codes.{IsCommandOf, IsGood, IsGoodSetup, IsTaskOf, SameLinks, most_commands}
-use Rattle.dt_node.specs.Drafts.{Collects, Complete, Draft, Empty, Named, Prepares, Ruled, by_command, by_local, by_me, by_params, by_peer, by_route, closed_with, done_by, done_if, has_link, in_commands, in_setup, orders_in, read_script, route_fault, route_unless, script_turns, stage_of, to_draft, turn_line, turn_read}
+use Rattle.dt_node.specs.Drafts.{Collects, Complete, Draft, Empty, Named, Prepares, Ruled, by_command, by_local, by_me, by_params, by_peer, by_route, by_shelf, closed_with, done_by, done_if, has_link, in_commands, in_setup, orders_in, read_script, route_fault, route_unless, shelf_unless, script_turns, stage_of, to_draft, turn_line, turn_read}
 use Rattle.dt_node.specs.Orders.{Command, Orders, Reads, Sends, Setup, Task}
 
 -- PEERS
@@ -140,6 +140,10 @@ route_kept : (lines to link : ℕ) (s : Setup) (fault : Option SetupFault) → I
 route_kept lines to link s None h = (record { limits = h.limits; differ = h.differ; same = h.same }, refl)
 route_kept lines to link s (Some fault) h = tt
 
+shelf_kept : (lines room : ℕ) (s : Setup) (o : Option ℕ) → IsGoodSetup s → IsKept lines (shelf_unless room s o)
+shelf_kept lines room s None h = (record { limits = h.limits; differ = h.differ; same = h.same }, refl)
+shelf_kept lines room s (Some other) h = tt
+
 in_setup_kept : (lines : ℕ) (draft : Draft) (does : Setup → Result (Turned Draft) Fault) → IsFit lines draft → ((s : Setup) → IsGoodSetup s → IsKept (lines + 1) (does s)) → IsKept (lines + 1) (in_setup draft does)
 in_setup_kept lines Empty does h on = tt
 in_setup_kept lines (Ruled p) does h on = tt
@@ -172,7 +176,7 @@ command_kept lines at here there task s cs h is =
 
 -- what is known of a command's words
 abbrev HasWords : Said → Type 0
-HasWords (said.AtSend at flow begin end hex) = IsHex hex
+HasWords (said.AtSend at flow begin end hex) = IsHex 65536 hex
 HasWords (said.AtRead at flow max) = (1 ≤ max) × (max ≤ 65536)
 HasWords (said.AtStop at) = at < 2 ^ 32
 HasWords line = Unit {0}
@@ -194,6 +198,8 @@ line_words (said.Tick n) h = tt
 line_words (said.Arrive copy) h = tt
 line_words (said.Lose copy) h = tt
 line_words (said.Restart n) h = tt
+line_words (said.Shelf room) h = tt
+line_words (said.Call flow hex) h = tt
 line_words (said.Me n again) h = tt
 line_words (said.Local address) h = tt
 line_words (said.Peer link address charge pace) h = tt
@@ -228,6 +234,8 @@ done_kept lines draft (said.Tick n) h words = tt
 done_kept lines draft (said.Arrive copy) h words = tt
 done_kept lines draft (said.Lose copy) h words = tt
 done_kept lines draft (said.Restart n) h words = tt
+done_kept lines draft (said.Shelf room) h words = in_setup_kept lines draft (by_shelf room) h (λ s k. shelf_kept (lines + 1) room s s.shelf k)
+done_kept lines draft (said.Call flow hex) h words = tt
 
 if_kept : (lines : ℕ) (draft : Draft) (line : Said) (stage : Option Stage) → IsFit lines draft → HasWords line → IsKept (lines + 1) (done_if stage draft line)
 if_kept lines draft line None h words = tt

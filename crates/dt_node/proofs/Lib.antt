@@ -7,6 +7,8 @@ mod RunsOn
 mod Keeping
 mod Watching
 mod Orderly
+mod Overheard
+mod Shelved
 mod Served
 mod Endings
 mod Readying
@@ -16,3 +18,6 @@ mod Gathered
 mod Reading
 mod Unsent
 mod Completed
+mod Beginning
+mod Tracing
+mod Again

@@ -12,7 +12,7 @@ use Rattle.dt_fold.specs.declared.stops.Stop.{Stop}
 use Rattle.dt_fold.specs.declared.stops.Stop.TheVariants as stops
 use Rattle.dt_node.specs.Acts.{Act, Tells, Hands, Deed, Says, Gives, act_of, acts_of, answer_of, log_lines}
 use Rattle.dt_node.specs.Logging.{Fixed, LogSight, LogTells, LogHands, HandsIf, TellsIf, log_tells, log_tags, log_hands, log_fails, LogEnds, failed_by}
-use Rattle.dt_node.specs.Deeds.{Did, DidSome, FaultsBy, TurnEnds, WroteSome, scene, stop_by, unlost}
+use Rattle.dt_node.specs.Deeds.{deeds_text, Did, DidSome, FaultsBy, TurnEnds, WroteSome, scene, stop_by, unlost}
 use Rattle.dt_node.proofs.Doing.{did_none, did_then, did_then_some, some_more, some_none, acts_unlost, told_did, told_some, handed}
 
 -- after a line that couldn't be written nothing is done
@@ -162,18 +162,18 @@ some_held text stops.WriteFault a b h = ((h.count, h.held), h.faults)
 -- A turn by what it leaves.
 module _ {V A : Type 0} (view : V → LogSight) where
   turn_stops : (stop : Stop) (failed : Bool) (script : Script (Unit {0}) A) (v w : V) → Stops (log_tells view) log_tags (log_hands view) log_fails script v w → (view v).failed ≡ false → (view w).failed ≡ failed → stop_by failed ≡ stop →
-      (deeds : List Deed) × (map act_of deeds ≡ acts_of (view v).fixed.moment script) × WroteSome (view v).fixed.me deeds stop (scene (view v).wire (view v).out) (scene (view w).wire (view w).out)
+      (deeds : List Deed) × (map act_of deeds ≡ acts_of (view v).fixed.moment script) × WroteSome (view v).fixed.form (view v).fixed.me [] deeds stop (scene (view v).gives (view v).wire (view v).out) (scene (view w).gives (view w).wire (view w).out)
   turn_stops stop failed script v w h f g e =
       let k = stops_partly view script v w h f in
-      let text = log_text (log_lines (view v).fixed.me k.deeds) in
+      let text = deeds_text (view v).fixed.form (view v).gives (view v).fixed.me k.deeds in
       let out = subst (λ (s : Stop). StopsIn text s (view v).out (view w).out) (ap stop_by g ∙ e) k.did.out in
       let part = some_held text stop (view v).out (view w).out out in
       (k.deeds, k.acts, record { held = part.0; faults = part.1; wire = k.did.wire })
 
   pub turn_ends : (result : Result Bool Stop) (script : Script (Unit {0}) A) (v w : V) (b : A) → LogEnds view result script v w b → (view v).failed ≡ false → (view w).failed ≡ failed_by result →
-      TurnEnds result (view v).fixed.me (view v).fixed.moment script b (scene (view v).wire (view v).out) (scene (view w).wire (view w).out)
+      TurnEnds result (view v).fixed.form (view v).fixed.me (view v).fixed.moment [] script b (scene (view v).gives (view v).wire (view v).out) (scene (view w).gives (view w).wire (view w).out)
   turn_ends (Ok stopped) script v w b h f g =
       let k = plays_whole view script v w b h f g in
-      (k.deeds, k.acts, record { held = k.did.out.held; faults = k.did.out.faults; wire = k.did.wire }, k.answers)
+      (k.deeds, k.acts, record { gives = k.did.gives; held = k.did.out.held; faults = k.did.out.faults; wire = k.did.wire }, k.answers)
   turn_ends (Err stops.NoMemory) script v w b h f g = turn_stops stops.NoMemory false script v w h f g refl
   turn_ends (Err stops.WriteFault) script v w b h f g = turn_stops stops.WriteFault true script v w h f g refl

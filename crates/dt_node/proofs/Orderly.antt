@@ -30,6 +30,9 @@ use Rattle.dt_world_model.specs.Relay.{Expired, Goes, Left, Out, Parcel, Relay, 
 use Rattle.dt_world_model.specs.Script.{Script, Done, Tell, Ask, Hand, ◌>>=◌}
 use Rattle.dt_world_model.specs.Station.{Arrive, Event, Read, Send, Station, Tick, come, come_in, deliver, do_turns, flush, flush_at, flush_entered, flush_links, flush_on, flush_turns, go_on, happen, pass_on, send_off, settle_station, station_event, station_with, told_piece, told_sent}
 use Rattle.dt_world_model.proofs.Offers.{turn_if}
+use Rattle.dt_shelf.specs.declared.taken.Taken.{Taken}
+use Rattle.dt_shelf.specs.declared.taken.Taken.TheVariants as taken
+use Rattle.dt_shelf.specs.Shelves.{Shelf, held_packet, hold, take_held}
 use Rattle.dt_world_laws.proofs.Plays.{do_turn, link_of}
 use Rattle.dt_node.specs.declared.watch.Watch.{Watch}
 use Rattle.dt_node.specs.Acts.{Act, Deed, Says, Gives, act_of, acts_of, answer_of, entry, log_lines, node_lines}
@@ -37,7 +40,11 @@ use Rattle.dt_node.specs.Drafts.{has_link}
 use Rattle.dt_node.specs.InOrder.{InOrder, Orderly, UnsentInOrder, is_unsent, link_put, without_unsent}
 use Rattle.dt_node.specs.Orders.{Command, Orders, Node, node_with, first_node}
 use Rattle.dt_node.specs.Runs.{Run, after_turn, turn_then, run_from, node_run, first_watch, next_watch, moment, most_equal, ends, ends_at, Ending, Stopped, Unfinished, StoodStill}
-use Rattle.dt_node.specs.Turns.{comes, hand_in, event_of, do_due, finish, plain, turn}
+use Rattle.dt_node.specs.declared.heard.Heard.{Heard}
+use Rattle.dt_node.specs.declared.heard.Heard.TheVariants as heard
+use Rattle.dt_node.specs.Hearing.{heard_in}
+use Rattle.dt_node.specs.Shelving.{Round, arrive as arrives, early_number, fetch, fetch_on, fetch_turns, first_round, hold_if, inside, plain, round, round_with, rounds, rounds_on, told_held, use_shelf}
+use Rattle.dt_node.specs.Turns.{comes, hand_in, event_of, do_due, finish, turn}
 
 abbrev Any : {A : Type 0} → Script (Unit {0}) A → Type 0
 Any s = (before : Option ℕ) → Orderly before s
@@ -171,30 +178,72 @@ event_any p now e station =
 
 -- A NODE
 
-comes_any : (p : Params) (now : ℕ) (d : Datagram) (o : Option LayoutFault) (station : Station (Unit {0})) → Any (comes p now d o station)
-comes_any p now d None station = event_any p now (Arrive d.link (plain d.octets)) station
-comes_any p now d (Some fault) station = λ before. (refl, tt)
+held_quiet : (flow : Flow) (number : ℕ) (room : Bool) → is_unsent (told_held flow number room) ≡ false
+held_quiet flow number true = refl
+held_quiet flow number false = refl
 
-hand_in_any : (p : Params) (now : ℕ) (came : Option Datagram) (station : Station (Unit {0})) → Any (hand_in p now came station)
-hand_in_any p now None station = λ before. tt
-hand_in_any p now (Some d) station = any_if (has_link d.link station.relay.ins) _ _ (comes_any p now d (gram_fault d.octets) station) (λ before. tt)
+hold_any : (now : ℕ) (d : Datagram) (flow : Flow) (number : Option ℕ) (shelf : Shelf) → Any (hold_if now d flow number shelf)
+hold_any now d flow None shelf = λ before. tt
+hold_any now d flow (Some number) shelf = λ before. (held_quiet flow number (hold (held_packet d.link flow number d.octets now) shelf).0, tt)
 
-do_due_any : (p : Params) (now : ℕ) (cs : List Command) (station : Station (Unit {0})) → Any (do_due p now cs station)
-do_due_any p now [] station = λ before. tt
-do_due_any p now (c ∷ cs) station =
+fetch_on_any : (again : Shelf → Script (Unit {0}) (Option Datagram × Shelf)) → ((shelf : Shelf) → Any (again shelf)) → (flow : Flow) (number : ℕ) (t : Option Taken) (shelf : Shelf) → Any (fetch_on again flow number (t, shelf))
+fetch_on_any again h flow number None shelf = λ before. tt
+fetch_on_any again h flow number (Some taken.Stale) shelf = λ before. (refl, h shelf None)
+fetch_on_any again h flow number (Some (taken.Again link octets)) shelf = λ before. (refl, tt)
+
+fetch_any : (most : ℕ) (flow : Flow) (number now : ℕ) (shelf : Shelf) → Any (fetch_turns most flow number now shelf)
+fetch_any zero flow number now shelf = λ before. tt
+fetch_any (suc most) flow number now shelf =
+    let r = take_held flow number now shelf in
+    fetch_on_any (fetch_turns most flow number now) (fetch_any most flow number now) flow number r.0 r.1
+
+use_any : (now : ℕ) (d : Datagram) (h : Heard) (station : Station (Unit {0})) (shelf : Shelf) → Any (use_shelf now d h station shelf)
+use_any now d heard.Nothing station shelf = λ before. tt
+use_any now d (heard.Refused flow replied) station shelf = any_then (hold_if now d flow (early_number replied d.octets) shelf) (λ after. Done (round_with station after None)) (hold_any now d flow (early_number replied d.octets) shelf) (λ after before. tt)
+use_any now d (heard.Accepted flow next) station shelf = any_then (fetch flow next now shelf) (λ r. Done (round_with station r.1 r.0)) (fetch_any (length shelf.held) flow next now shelf) (λ r before. tt)
+
+round_any : (p : Params) (now : ℕ) (d : Datagram) (station : Station (Unit {0})) (shelf : Shelf) → Any (round p now d station shelf)
+round_any p now d station shelf =
+    let event = station_event p now (Arrive d.link (plain d.octets)) station in
+    let h = heard_in event heard.Nothing in
+    any_then event (λ after. use_shelf now d h after shelf) (event_any p now (Arrive d.link (plain d.octets)) station) (λ after. use_any now d h after shelf)
+
+rounds_on_any : (again : Round → Script (Unit {0}) Round) → ((r : Round) → Any (again r)) → (p : Params) (now : ℕ) (d : Option Datagram) (r : Round) → Any (rounds_on again p now d r)
+rounds_on_any again h p now None r = λ before. tt
+rounds_on_any again h p now (Some d) r = any_then (round p now d r.station r.shelf) again (round_any p now d r.station r.shelf) h
+
+rounds_any : (most : ℕ) (p : Params) (now : ℕ) (r : Round) → Any (rounds most p now r)
+rounds_any zero p now r = λ before. tt
+rounds_any (suc most) p now r = rounds_on_any (rounds most p now) (rounds_any most p now) p now r.next r
+
+arrive_any : (p : Params) (now : ℕ) (d : Datagram) (station : Station (Unit {0})) (shelf : Option Shelf) → Any (arrives p now d station shelf)
+arrive_any p now d station None = any_then (station_event p now (Arrive d.link (plain d.octets)) station) (λ after. Done (inside after None)) (event_any p now (Arrive d.link (plain d.octets)) station) (λ after before. tt)
+arrive_any p now d station (Some shelf) = any_then (rounds (suc (length shelf.held)) p now (first_round d station shelf)) (λ r. Done (inside r.station (Some r.shelf))) (rounds_any (suc (length shelf.held)) p now (first_round d station shelf)) (λ r before. tt)
+
+comes_any : (p : Params) (now : ℕ) (d : Datagram) (o : Option LayoutFault) (station : Station (Unit {0})) (shelf : Option Shelf) → Any (comes p now d o station shelf)
+comes_any p now d None station shelf = arrive_any p now d station shelf
+comes_any p now d (Some fault) station shelf = λ before. (refl, tt)
+
+hand_in_any : (p : Params) (now : ℕ) (came : Option Datagram) (station : Station (Unit {0})) (shelf : Option Shelf) → Any (hand_in p now came station shelf)
+hand_in_any p now None station shelf = λ before. tt
+hand_in_any p now (Some d) station shelf = any_if (has_link d.link station.relay.ins) _ _ (comes_any p now d (gram_fault d.octets) station shelf) (λ before. tt)
+
+do_due_any : (p : Params) (now : ℕ) (shelf : Option Shelf) (cs : List Command) (station : Station (Unit {0})) → Any (do_due p now shelf cs station)
+do_due_any p now shelf [] station = λ before. tt
+do_due_any p now shelf (c ∷ cs) station =
     any_if (nat_le c.at now) _ _
-    (any_then (station_event p now (event_of c.task) station) (λ after. do_due p now cs after) (event_any p now (event_of c.task) station) (λ after. do_due_any p now cs after))
+    (any_then (station_event p now (event_of c.task) station) (λ after. do_due p now shelf cs after) (event_any p now (event_of c.task) station) (λ after. do_due_any p now shelf cs after))
     (λ before. tt)
 
 finish_any : (o : Orders) (now : ℕ) (node : Node) → Any (finish o now node)
 finish_any o now node =
     any_if (nat_le o.stop now) _ _ (λ before. (refl, tt))
-    (any_then (station_event o.setup.params now Tick node.station) (λ after. Done (Some (node_with after node.commands))) (event_any o.setup.params now Tick node.station) (λ after before. tt))
+    (any_then (station_event o.setup.params now Tick node.station) (λ after. Done (Some (node_with after node.commands node.shelf))) (event_any o.setup.params now Tick node.station) (λ after before. tt))
 
 turn_any : (o : Orders) (now : ℕ) (came : Option Datagram) (node : Node) → Any (turn o now came node)
 turn_any o now came node =
-    any_then (hand_in o.setup.params now came node.station) (λ station. do_due o.setup.params now node.commands station >>= λ done. finish o now done) (hand_in_any o.setup.params now came node.station)
-    (λ station. any_then (do_due o.setup.params now node.commands station) (λ done. finish o now done) (do_due_any o.setup.params now node.commands station) (λ done. finish_any o now done))
+    any_then (hand_in o.setup.params now came node.station node.shelf) (λ r. do_due o.setup.params now r.1 node.commands r.0 >>= λ done. finish o now done) (hand_in_any o.setup.params now came node.station node.shelf)
+    (λ r. any_then (do_due o.setup.params now r.1 node.commands r.0) (λ done. finish o now done) (do_due_any o.setup.params now r.1 node.commands r.0) (λ done. finish_any o now done))
 
 -- ITS ACTS
 

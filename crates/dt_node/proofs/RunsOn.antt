@@ -72,6 +72,16 @@ run_still o rs ts t acts watch node e h =
     ∙ ap (λ (b : Bool). behind acts (if b then ends StoodStill else next_of o watch [] t node [])) e
     ∙ behind_ends acts StoodStill
 
+-- a take was made, and nothing more
+taken_acts : (acts : List Act) (b : Bool) → (behind acts (if b then ends StoodStill else ends Unfinished)).acts ≡ acts
+taken_acts acts true = append-nil acts
+taken_acts acts false = append-nil acts
+
+pub run_taken : (o : Orders) (rs : List ℕ) (ts : List (Option Datagram)) (t : Option Datagram) (acts : List Act) (watch : Watch) (node : Node) → Came o rs ts acts watch (Some node) → (node_run o rs (ts ++ t ∷ [])).acts ≡ acts
+run_taken o rs ts t acts watch node h =
+    ap (λ (r : Run). r.acts) (sym (ap (λ xs. node_run o xs (ts ++ t ∷ [])) (append-nil rs)) ∙ h [] (t ∷ []))
+    ∙ taken_acts acts (watch.equal == most_equal)
+
 pub comes_next : (o : Orders) (rs : List ℕ) (ts : List (Option Datagram)) (r : ℕ) (t : Option Datagram) (acts : List Act) (watch : Watch) (node : Node) → (watch.equal == most_equal) ≡ false → Came o rs ts acts watch (Some node) → Comes o (rs ++ r ∷ []) (ts ++ t ∷ []) acts (next_watch r watch) t node
 comes_next o rs ts r t acts watch node e h more further =
     ap (λ xs. node_run o xs ((ts ++ t ∷ []) ++ further)) (append_assoc rs (r ∷ []) more)

@@ -1,5 +1,5 @@
 -- The script, the orders and the node of the code, as the definitions have them.
-use Rattle.std.specs.Prelude.{◌≡◌, ◌≢◌, ℕ, ◌+◌, ◌*◌, ◌<◌, ◌≤◌, ◌^◌, List, [], ◌∷◌, length, map, drop, vec_len, Option, Some, None, Result, Ok, Err, IfSome, IsOkAnd, Bool, true, false, AllPairs, All}
+use Rattle.std.specs.Prelude.{◌≡◌, ◌≢◌, ℕ, ◌+◌, ◌*◌, ◌<◌, ◌≤◌, ◌^◌, List, [], ◌∷◌, length, map, drop, vec_len, Option, Some, None, Result, Ok, Err, IfSome, IsOkAnd, Bool, true, false, AllPairs, All, option_map}
 use Rattle.dt_units.specs.Limits.{IsWithinLimits}
 use Rattle.dt_edges.specs.declared.addresses.Peer.{Peer}
 use Rattle.dt_items.specs.declared.memory.NoMemory.{NoMemory}
@@ -12,6 +12,9 @@ use Rattle.dt_world_model.specs.Host.{Host}
 use Rattle.dt_world_model.specs.Station.{Arrive, Event, Read, Send, Tick}
 use Rattle.dt_world_model.specs.Tables.{AllEntries}
 use Rattle.dt_station.specs.Stations.{StationValue}
+use Rattle.dt_shelf.specs.Shelves.{IsShelfUpTo, Shelf}
+use Rattle.dt_edges.specs.Wires.{Datagram}
+use Rattle.dt_node.specs.declared.arriving.Came.{Came}
 use Rattle.dt_node.specs.declared.orders.Task.{Task}
 use Rattle.dt_node.specs.declared.orders.Task.TheVariants as tasks
 use Rattle.dt_node.specs.declared.orders.Command.{Command}
@@ -43,6 +46,7 @@ setup_seen s = record {
   outs = s.outs.items;
   ins = s.ins.items;
   routes = s.routes.items;
+  shelf = s.shelf;
 }
 
 abbrev pub orders_seen : Orders → model.Orders
@@ -105,7 +109,7 @@ abbrev pub left_of : Orders → ℕ → List model.Command
 left_of o next = map command_seen (drop next o.commands.items)
 
 abbrev pub node_seen : Orders → Node → model.Node
-node_seen o node = model.node_with node.station.state (left_of o node.next)
+node_seen o node = model.node_with node.station.state (left_of o node.next) node.shelf
 
 -- no send record of the host has taken more octets than this
 abbrev pub HasTakenAtMost : ℕ → Host → Type 0
@@ -147,6 +151,7 @@ pub record IsReady (o : Orders) (now : ℕ) (node : Node) : Type 0 where
   pub taken : HasTakenAtMost (node.next * most_octets) node.station.state.host
   pub buf : vec_len node.buf ≡ most_octets
   pub next : node.next ≤ vec_len o.commands
+  pub shelf : IfSome node.shelf (IsShelfUpTo now)
 
 -- a turn may be taken at a moment, with what the last one took
 pub record MayTurn (o : Orders) (now : ℕ) (node : Node) (came : Option (ℕ × ℕ)) (octets : List ℕ) : Type 0 where
@@ -154,6 +159,17 @@ pub record MayTurn (o : Orders) (now : ℕ) (node : Node) (came : Option (ℕ ×
   pub ready : IsReady o now node
   pub within : IfSome came (λ d. d.1 ≤ length octets)
   pub moment : now ≤ most_moment
+
+-- a packet that is handed in, and what is handed in next, where nothing failed
+abbrev pub came_seen : Came → Datagram
+came_seen came = record { link = came.link; octets = came.frame }
+
+abbrev pub next_seen : Result (Option Came) Stop → Option Datagram
+next_seen (Ok next) = option_map came_seen next
+next_seen (Err stop) = None
+
+abbrev pub fetched_seen : Result (Option Came) Stop → Shelf → Option Datagram × Shelf
+fetched_seen result shelf = (next_seen result, shelf)
 
 -- what a turn answers: nothing where it met the stop
 abbrev pub turned : Result Bool Stop → model.Node → Option model.Node

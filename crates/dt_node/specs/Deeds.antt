@@ -1,7 +1,7 @@
 -- What was done of a node's acts, and what was told of it.
-use Rattle.std.specs.Prelude.{◌≡◌, ℕ, ◌+◌, ◌≤◌, Bool, true, false, List, [], ◌∷◌, length, map, take, IfSome, min, Option, Result, Ok, Err}
+use Rattle.std.specs.Prelude.{◌≡◌, ℕ, ◌+◌, ◌≤◌, Bool, true, false, List, [], ◌∷◌, ◌++◌, length, map, take, IfSome, min, Option, Result, Ok, Err}
 use Rattle.std.specs.Io.KnownBytes.{Appends}
-use Rattle.dt_edges.specs.Counts.{HasRisen, is_planned, last_count}
+use Rattle.dt_edges.specs.Counts.{HasRisen, is_planned, last_count, next_count}
 use Rattle.dt_edges.specs.Sinks.{SinkSight, Takes}
 use Rattle.dt_edges.specs.Telling.{NotesAll}
 use Rattle.dt_edges.specs.Wires.{Datagram, SameTaking, WireSight}
@@ -9,8 +9,11 @@ use Rattle.dt_log.specs.Logs.{log_text}
 use Rattle.dt_fold.specs.declared.stops.Stop.{Stop}
 use Rattle.dt_fold.specs.declared.stops.Stop.TheVariants as stops
 use Rattle.dt_fold.specs.Logging.{StopsIn}
+use Rattle.dt_trace.specs.Inputs.{FailedGive, trace_text}
 use Rattle.dt_world_model.specs.Script.{Script}
 use Rattle.dt_node.specs.Acts.{Act, Tells, Hands, Deed, Says, Gives, act_of, acts_of, answer_of, log_lines, sent_frames, node_frames, fates}
+use Rattle.dt_node.specs.declared.forms.Form.{Form}
+use Rattle.dt_node.specs.declared.forms.Form.TheVariants as forms
 use Rattle.dt_node.specs.Logging.{LogSight}
 
 -- some of these, in their order
@@ -34,6 +37,24 @@ abbrev pub FatesFrom : List ℕ → ℕ → List Bool → Type 0
 FatesFrom failing calls [] = Unit {0}
 FatesFrom failing calls (gone ∷ more) = (gone ≡ is_planned failing (calls + 1)) × FatesFrom failing (calls + 1) more
 
+-- THE NUMBERS OF GIVES, which are counted up to 2^64 - 1
+
+-- so many gives, and those of these frames
+abbrev pub counted : ℕ → List Bool → ℕ
+counted calls [] = calls
+counted calls (gone ∷ more) = counted (next_count calls) more
+
+-- the numbers of those that were lost
+abbrev pub lost_numbers : ℕ → List Bool → List ℕ
+lost_numbers calls [] = []
+lost_numbers calls (true ∷ more) = next_count calls ∷ lost_numbers (next_count calls) more
+lost_numbers calls (false ∷ more) = lost_numbers (next_count calls) more
+
+-- WHAT IS WRITTEN of deeds, after so many gives: the lines of a log, or those of a trace that tell which gives failed
+abbrev pub deeds_text : Form → (gives me : ℕ) → List Deed → List ℕ
+deeds_text forms.Log gives me deeds = log_text (log_lines me deeds)
+deeds_text forms.Trace gives me deeds = trace_text (map FailedGive (lost_numbers gives (fates deeds)))
+
 -- The frames of these deeds were given: the wire has taken those that aren't lost, and the others are faults.
 pub record Gave (deeds : List Deed) (w v : WireSight) : Type 0 where
   pub given : NotesAll (sent_frames deeds) w.given v.given
@@ -53,8 +74,9 @@ pub record GaveSome (deeds : List Deed) (w v : WireSight) : Type 0 where
 -- All of these deeds were done.
 pub record Did (deeds : List Deed) (s t : LogSight) : Type 0 where
   pub fixed : t.fixed ≡ s.fixed
+  pub gives : t.gives ≡ counted s.gives (fates deeds)
   pub failed : t.failed ≡ false
-  pub out : Takes (log_text (log_lines s.fixed.me deeds)) s.out t.out
+  pub out : Takes (deeds_text s.fixed.form s.gives s.fixed.me deeds) s.out t.out
   pub wire : Gave deeds s.wire t.wire
 
 -- why nothing more is done: a line couldn't be written, or memory was wanted
@@ -65,7 +87,7 @@ stop_by false = stops.NoMemory
 -- A first part of these deeds was done, and the last line of it may be cut.
 pub record DidSome (deeds : List Deed) (s t : LogSight) : Type 0 where
   pub fixed : t.fixed ≡ s.fixed
-  pub out : StopsIn (log_text (log_lines s.fixed.me deeds)) (stop_by t.failed) s.out t.out
+  pub out : StopsIn (deeds_text s.fixed.form s.gives s.fixed.me deeds) (stop_by t.failed) s.out t.out
   pub wire : GaveSome deeds s.wire t.wire
 
 -- an act that wasn't done, as if it were done and nothing were lost
@@ -75,18 +97,20 @@ unlost (Hands moment link octets) = Gives moment link octets false
 
 -- WHAT A TURN LEAVES
 
--- what a wire and a sink tell
+-- how many frames were given, and what a wire and a sink tell
 pub record Scene : Type 0 where
+  pub gives : ℕ
   pub wire : WireSight
   pub held : Option (List ℕ)
   pub faults : ℕ
 
-abbrev pub scene : WireSight → SinkSight → Scene
-scene wire out = record { wire = wire; held = out.held; faults = out.faults }
+abbrev pub scene : ℕ → WireSight → SinkSight → Scene
+scene gives wire out = record { gives = gives; wire = wire; held = out.held; faults = out.faults }
 
--- all of these deeds were done
-pub record Wrote (me : ℕ) (deeds : List Deed) (s t : Scene) : Type 0 where
-  pub held : Appends s.held t.held (log_text (log_lines me deeds))
+-- all of these deeds were done, and something was written first
+pub record Wrote (form : Form) (me : ℕ) (first : List ℕ) (deeds : List Deed) (s t : Scene) : Type 0 where
+  pub gives : t.gives ≡ counted s.gives (fates deeds)
+  pub held : Appends s.held t.held (first ++ deeds_text form s.gives me deeds)
   pub faults : t.faults ≡ s.faults
   pub wire : Gave deeds s.wire t.wire
 
@@ -95,12 +119,12 @@ FaultsBy stops.NoMemory before after = after ≡ before
 FaultsBy stops.WriteFault before after = HasRisen before after
 
 -- a first part of them was done
-pub record WroteSome (me : ℕ) (deeds : List Deed) (stop : Stop) (s t : Scene) : Type 0 where
-  pub held : (count : ℕ) × Appends s.held t.held (take count (log_text (log_lines me deeds)))
+pub record WroteSome (form : Form) (me : ℕ) (first : List ℕ) (deeds : List Deed) (stop : Stop) (s t : Scene) : Type 0 where
+  pub held : (count : ℕ) × Appends s.held t.held (take count (first ++ deeds_text form s.gives me deeds))
   pub faults : FaultsBy stop s.faults t.faults
   pub wire : GaveSome deeds s.wire t.wire
 
 -- A turn by its script: it was played whole, or it stopped and says why.
-abbrev pub TurnEnds : {A : Type 0} → Result Bool Stop → ℕ → ℕ → Script (Unit {0}) A → A → Scene → Scene → Type 0
-TurnEnds (Ok stopped) me now script answer s t = (deeds : List Deed) × (map act_of deeds ≡ acts_of now script) × Wrote me deeds s t × (answer_of script ≡ answer)
-TurnEnds (Err stop) me now script answer s t = (deeds : List Deed) × (map act_of deeds ≡ acts_of now script) × WroteSome me deeds stop s t
+abbrev pub TurnEnds : {A : Type 0} → Result Bool Stop → Form → (me now : ℕ) → List ℕ → Script (Unit {0}) A → A → Scene → Scene → Type 0
+TurnEnds (Ok stopped) form me now first script answer s t = (deeds : List Deed) × (map act_of deeds ≡ acts_of now script) × Wrote form me first deeds s t × (answer_of script ≡ answer)
+TurnEnds (Err stop) form me now first script answer s t = (deeds : List Deed) × (map act_of deeds ≡ acts_of now script) × WroteSome form me first deeds stop s t

@@ -76,7 +76,7 @@ by_me (Complete o) me again = misplaced
 abbrev pub by_local : Draft → Address → Result (Turned Draft) Fault
 by_local Empty local = misplaced
 by_local (Ruled p) local = misplaced
-by_local (Named p me again) local = to_draft (Prepares (record { params = p; me = me; again = again; local = local; peers = []; outs = []; ins = []; routes = [] }))
+by_local (Named p me again) local = to_draft (Prepares (record { params = p; me = me; again = again; local = local; peers = []; outs = []; ins = []; routes = []; shelf = None }))
 by_local (Prepares s) local = misplaced
 by_local (Collects s cs last) local = misplaced
 by_local (Complete o) local = misplaced
@@ -129,6 +129,14 @@ route_unless to link s (Some fault) = Err (faults.Setup fault)
 abbrev pub by_route : (to link : ℕ) → Setup → Result (Turned Draft) Fault
 by_route to link s = route_unless to link s (route_fault to link s)
 
+-- a shelf for so many packets. There is one at most
+abbrev pub shelf_unless : (room : ℕ) → Setup → Option ℕ → Result (Turned Draft) Fault
+shelf_unless room s None = to_draft (Prepares (record s { shelf = Some room }))
+shelf_unless room s (Some other) = Err (faults.Setup (Twice room))
+
+abbrev pub by_shelf : (room : ℕ) → Setup → Result (Turned Draft) Fault
+by_shelf room s = shelf_unless room s s.shelf
+
 -- what is sent goes from this node to another, and what is read came to it from another
 abbrev pub by_command : (at here there : ℕ) → Task → Setup → List Command → Result (Turned Draft) Fault
 by_command at here there task s cs =
@@ -156,6 +164,8 @@ done_by draft (said.Tick n) = misplaced
 done_by draft (said.Arrive copy) = misplaced
 done_by draft (said.Lose copy) = misplaced
 done_by draft (said.Restart n) = misplaced
+done_by draft (said.Shelf room) = in_setup draft (by_shelf room)
+done_by draft (said.Call flow hex) = misplaced
 
 -- A LINE IS TURNED: it is read, then its place is tested, and then it is done. The first of the three that refuses it tells the fault.
 abbrev pub done_if : Option Stage → Draft → Said → Result (Turned Draft) Fault

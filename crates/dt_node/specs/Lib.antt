@@ -1,8 +1,11 @@
 pub mod Orders
 pub mod Drafts
+pub mod Hearing
+pub mod Shelving
 pub mod Turns
 pub mod Acts
 pub mod Runs
+pub mod HandingIn
 pub mod InOrder
 pub mod Logging
 pub mod Deeds

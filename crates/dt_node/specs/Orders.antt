@@ -1,5 +1,5 @@
 -- What a script says that isn't refused: the node, what it is to do and when, and when it stops.
-use Rattle.std.specs.Prelude.{ℕ, Bool, true, false, List, Option, Some, None}
+use Rattle.std.specs.Prelude.{ℕ, Bool, true, false, List, Option, Some, None, option_map}
 use Rattle.dt_units.specs.declared.parameters.Params.{Params}
 use Rattle.dt_units.specs.declared.endpoints.Flow.{Flow}
 use Rattle.dt_edges.specs.declared.addresses.Address.{Address}
@@ -11,6 +11,7 @@ use Rattle.dt_world_model.specs.declared.links.Route.{Route}
 use Rattle.dt_world_model.specs.Relay.{new_relay}
 use Rattle.dt_world_model.specs.Station.{Station, station_with}
 use Rattle.dt_station.specs.Stations.{host_started}
+use Rattle.dt_shelf.specs.Shelves.{Shelf, empty_shelf}
 
 -- the node, and how it is reached
 pub record Setup : Type 0 where
@@ -24,6 +25,8 @@ pub record Setup : Type 0 where
   pub outs : List OutLink
   pub ins : List InLink
   pub routes : List Route
+  -- how many packets its shelf holds at most, where it has one
+  pub shelf : Option ℕ
 
 -- what is to be done
 pub data Task : Type 0 where
@@ -45,13 +48,14 @@ pub record Orders : Type 0 where
 abbrev pub opening_of : Orders → Opening
 opening_of o = record { local = o.setup.local; peers = o.setup.peers }
 
--- a node between two turns: its station, and the commands that aren't done yet
+-- a node between two turns: its station, the commands that aren't done yet, and its shelf, if it has one
 pub record Node : Type 0 where
   pub station : Station (Unit {0})
   pub commands : List Command
+  pub shelf : Option Shelf
 
-abbrev pub node_with : Station (Unit {0}) → List Command → Node
-node_with station commands = record { station = station; commands = commands }
+abbrev pub node_with : Station (Unit {0}) → List Command → Option Shelf → Node
+node_with station commands shelf = record { station = station; commands = commands; shelf = shelf }
 
 -- the moment at which a host is restarted, if it is
 abbrev pub restart_of : Bool → Option ℕ
@@ -63,4 +67,4 @@ first_station s = station_with (host_started s.params s.me (restart_of s.again))
 
 -- the node before its first turn
 abbrev pub first_node : Orders → Node
-first_node o = node_with (first_station o.setup) o.commands
+first_node o = node_with (first_station o.setup) o.commands (option_map empty_shelf o.setup.shelf)

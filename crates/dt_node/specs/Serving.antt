@@ -1,5 +1,5 @@
 -- What a run of a node leaves: what is true of it, answer by answer.
-use Rattle.std.specs.Prelude.{◌≡◌, ◌⊎◌, ℕ, ◌+◌, ◌*◌, ◌^◌, ◌<◌, ◌≤◌, true, false, List, [], length, map, take, Option, Some, None, IfSome, min}
+use Rattle.std.specs.Prelude.{◌≡◌, ◌⊎◌, ℕ, ◌+◌, ◌*◌, ◌^◌, ◌<◌, ◌≤◌, Bool, true, false, All, List, [], ◌∷◌, length, map, take, Option, Some, None, IfSome, min, Ok}
 use Rattle.std.specs.Io.KnownBytes.{Appends}
 use Rattle.std.specs.List.{range_with_len}
 use Rattle.dt_edges.specs.Clocks.{ClockSight, reading_at}
@@ -13,8 +13,14 @@ use Rattle.dt_node.specs.declared.outcomes.NodeOutcome.TheVariants.{Done, Refuse
 use Rattle.dt_node.specs.Orders.{Orders, opening_of}
 use Rattle.dt_node.specs.Acts.{Deed, act_of, log_lines, node_lines, sent_frames, node_frames, fates}
 use Rattle.dt_node.specs.Runs.{Ending, Stopped, StoodStill, Unfinished, node_run, most_equal}
+use Rattle.dt_node.specs.HandingIn.{IsAgainOf, handed_again, handed_over}
 use Rattle.dt_node.specs.InOrder.{UnsentInOrder, without_unsent_lines}
-use Rattle.dt_node.specs.Deeds.{Sublist, lost, FatesFrom}
+use Rattle.dt_node.specs.declared.forms.Form.{Form}
+use Rattle.dt_node.specs.declared.forms.Form.TheVariants as forms
+use Rattle.dt_node.specs.Deeds.{Sublist, lost, lost_numbers, FatesFrom}
+use Rattle.dt_trace.specs.Inputs.{Input, trace_text}
+use Rattle.dt_trace.specs.Standing.{Stand, noted_all}
+use Rattle.dt_trace.specs.Traces.{Recorded, nothing, trace_of}
 
 -- a wire, a clock and a sink, as they tell: of the sink what it holds, and its count of faults
 pub record Edges : Type 0 where
@@ -110,14 +116,15 @@ HasOpened Refused readings = ⊥
 HasOpened NoMemory readings = ⊥
 HasOpened WriteFault readings = ⊥
 
--- the count of faults of open and take
-abbrev pub TakeFaults : NodeOutcome → ℕ → ℕ → Type 0
-TakeFaults WireFault before after = HasRisen before after
-TakeFaults Done before after = after ≡ before
-TakeFaults Refused before after = after ≡ before
-TakeFaults NoMemory before after = after ≡ before
-TakeFaults ClockStill before after = after ≡ before
-TakeFaults WriteFault before after = after ≡ before
+-- The count of faults of open and take. In a trace the put may fail that tells of an open or of a take that failed
+abbrev pub TakeFaults : Form → NodeOutcome → ℕ → ℕ → Type 0
+TakeFaults form WireFault before after = HasRisen before after
+TakeFaults form Done before after = after ≡ before
+TakeFaults form Refused before after = after ≡ before
+TakeFaults form NoMemory before after = after ≡ before
+TakeFaults form ClockStill before after = after ≡ before
+TakeFaults forms.Log WriteFault before after = after ≡ before
+TakeFaults forms.Trace WriteFault before after = (after ≡ before) ⊎ HasRisen before after
 
 -- which of the calls fail by the plan
 abbrev pub FailsAs : NodeOutcome → Plan → ℕ → ℕ → Type 0
@@ -145,9 +152,44 @@ GivesAs ClockStill deeds before after = NotesAll (sent_frames deeds) before afte
 GivesAs NoMemory deeds before after = GivesSome deeds before after
 GivesAs WriteFault deeds before after = GivesSome deeds before after
 
--- WHAT IS TRUE OF A RUN OF ACCEPTED ORDERS
+-- WHAT IS WRITTEN OF A RUN
 
-pub record Serves (o : Orders) (outcome : NodeOutcome) (before after : Edges) : Type 0 where
+-- the inputs of a run, with the numbers of the takes that failed, and whether the wire wasn't opened
+abbrev pub recorded : List ℕ → List (Option Datagram) → List Deed → List ℕ → Bool → Recorded
+recorded readings takes deeds failing unopened = record { readings = readings; takes = takes; failing_takes = failing; failing_gives = lost_numbers 0 (fates deeds); open_fails = unopened }
+
+-- The lines of a trace that come to these inputs. With fewer than 2^64 gives each may stand where it does.
+pub record Traced (readings : List ℕ) (takes : List (Option Datagram)) (deeds : List Deed) (failing : List ℕ) (unopened : Bool) (text : List ℕ) : Type 0 where
+  pub inputs : List Input
+  pub spelled : text ≡ trace_text inputs
+  pub noted : noted_all nothing inputs ≡ recorded readings takes deeds failing unopened
+  pub stand : length (fates deeds) < 2 ^ 64 → Stand 1 nothing inputs
+
+-- which calls failed
+abbrev pub HasFailed : NodeOutcome → (readings takes : ℕ) → List ℕ → Bool → Type 0
+HasFailed Done readings takes failing unopened = (failing ≡ []) × (unopened ≡ false)
+HasFailed ClockStill readings takes failing unopened = (failing ≡ []) × (unopened ≡ false)
+HasFailed NoMemory readings takes failing unopened = (failing ≡ []) × (unopened ≡ false)
+HasFailed WireFault readings takes failing unopened = ((readings ≡ 0) × (failing ≡ []) × (unopened ≡ true)) ⊎ ((0 < readings) × (failing ≡ (takes + 1) ∷ []) × (unopened ≡ false))
+HasFailed WriteFault readings takes failing unopened = Unit {0}
+HasFailed Refused readings takes failing unopened = ⊥
+
+-- The trace of a run. It is read back as what the run took in.
+pub record IsTrace (outcome : NodeOutcome) (readings : List ℕ) (takes : List (Option Datagram)) (deeds : List Deed) (text : List ℕ) : Type 0 where
+  pub failing : List ℕ
+  pub unopened : Bool
+  pub failed : HasFailed outcome (length readings) (length takes) failing unopened
+  pub traced : Traced readings takes deeds failing unopened text
+  pub read : length (fates deeds) < 2 ^ 64 → trace_of text ≡ Ok (recorded readings takes deeds failing unopened)
+
+-- The log: the lines of the run, and behind the `put` line of each frame that was lost its `unsent` line. Or the trace.
+abbrev pub Written : Form → (me : ℕ) → NodeOutcome → List ℕ → List (Option Datagram) → List Deed → List ℕ → Type 0
+Written forms.Log me outcome readings takes deeds text = text ≡ log_text (log_lines me deeds)
+Written forms.Trace me outcome readings takes deeds text = IsTrace outcome readings takes deeds text
+
+-- WHAT IS TRUE OF A RUN OF ACCEPTED ORDERS, by the form of what is written
+
+pub record Serves (form : Form) (o : Orders) (outcome : NodeOutcome) (before after : Edges) : Type 0 where
   -- the readings, what the takes handed over, and the acts as they were done
   pub readings : List ℕ
   pub takes : List (Option Datagram)
@@ -157,18 +199,22 @@ pub record Serves (o : Orders) (outcome : NodeOutcome) (before after : Edges) : 
   pub told_takes : NotesAll takes before.wire.taken after.wire.taken
   -- the acts are those of the node's run
   pub acts : map act_of deeds ≡ (node_run o readings takes).acts
-  -- the log: the lines of the run, and behind the `put` line of each frame that was lost its `unsent` line
-  pub log : Logs outcome (log_text (log_lines o.setup.me deeds)) before.held after.held
-  -- each `unsent` line stands directly behind the `put` line of its link
+  -- what is written
+  pub text : List ℕ
+  pub written : Written form o.setup.me outcome readings takes deeds text
+  pub log : Logs outcome text before.held after.held
+  -- in a log each `unsent` line stands directly behind the `put` line of its link
   pub unsent : UnsentInOrder None (log_lines o.setup.me deeds)
   -- without the lines whose third word is `unsent` the text is the node's
   pub apart : without_unsent_lines (log_text (log_lines o.setup.me deeds)) ≡ log_text (node_lines o.setup.me (node_run o readings takes).acts)
   pub ends : EndsAs outcome (node_run o readings takes).ending
+  -- what is handed in again, a take handed over: its life is less by more than the time since, and nothing else has changed
+  pub again : All (IsAgainOf (handed_over readings takes)) (handed_again o readings takes)
   pub counted : CountsTakes outcome (length readings) (length takes)
   -- a run has so many turns at most
   pub few : length readings ≤ most_equal * o.stop + 1
   pub opening : HasOpened outcome (length readings) → IfSome after.wire.opening (λ now. now ≡ Some (opening_of o))
-  pub take_faults : TakeFaults outcome before.wire.take_faults after.wire.take_faults
+  pub take_faults : TakeFaults form outcome before.wire.take_faults after.wire.take_faults
   pub give_faults : min (before.wire.give_faults + lost deeds) last_count ≤ after.wire.give_faults
   pub sink_faults : SinkFaults outcome before.faults after.faults
   pub frames : GivesAs outcome deeds before.wire.given after.wire.given

@@ -1,5 +1,5 @@
 -- Worked runs over literals: the definitions compute them.
-use Rattle.std.specs.Prelude.{ℕ, Bool, true, List, [], ◌∷◌}
+use Rattle.std.specs.Prelude.{ℕ, ◌/◌, ◌%◌, Bool, true, false, List, [], ◌∷◌, Some, None}
 use Rattle.dt_edges.specs.Wires.{Datagram}
 use Rattle.dt_world_model.specs.Worked.{main_flow, standard}
 use Rattle.dt_node.specs.Orders.{Orders, Sends}
@@ -16,6 +16,7 @@ exchange again = record {
     outs = (record { link = 1; pace = 0 }) ∷ [];
     ins = (record { link = 1; charge = 50 }) ∷ [];
     routes = (record { to = 2; link = 1 }) ∷ [];
+    shelf = None;
   };
   commands = (record { at = 0; task = Sends main_flow true true (104 ∷ 101 ∷ 108 ∷ 108 ∷ 111 ∷ []) }) ∷ [];
   stop = 100;
@@ -30,3 +31,28 @@ acknowledgement = on_one (1 ∷ 1 ∷ 0 ∷ 14 ∷ 0 ∷ 0 ∷ 3 ∷ 231 ∷ 0 �
 
 abbrev pub short : Datagram
 short = on_one (1 ∷ 1 ∷ 0 ∷ 19 ∷ 0 ∷ 0 ∷ 3 ∷ 231 ∷ 0 ∷ 0 ∷ 0 ∷ 1 ∷ 0 ∷ 0 ∷ 0 ∷ [])
+
+-- NODE 2 WITH A SHELF for four packets, which stops at 100; segments are of four octets
+abbrev pub with_shelf : Orders
+with_shelf = record {
+  setup = record {
+    params = record standard { seg = 4 };
+    me = 2;
+    again = false;
+    local = record { ip = 127 ∷ 0 ∷ 0 ∷ 1 ∷ []; port = 4002 };
+    peers = (record { link = 1; address = record { ip = 127 ∷ 0 ∷ 0 ∷ 1 ∷ []; port = 4001 } }) ∷ [];
+    outs = (record { link = 1; pace = 0 }) ∷ [];
+    ins = (record { link = 1; charge = 50 }) ∷ [];
+    routes = (record { to = 1; link = 1 }) ∷ [];
+    shelf = Some 4;
+  };
+  commands = [];
+  stop = 100;
+}
+
+-- the first four octets of a message and the next four, with a life below 1,024
+abbrev pub beginning : ℕ → Datagram
+beginning life = on_one (1 ∷ 1 ∷ 0 ∷ 18 ∷ 0 ∷ 0 ∷ life / 256 ∷ life % 256 ∷ 0 ∷ 0 ∷ 0 ∷ 1 ∷ 0 ∷ 0 ∷ 0 ∷ 2 ∷ 1 ∷ 3 ∷ 0 ∷ 10 ∷ 0 ∷ 20 ∷ 0 ∷ 0 ∷ 0 ∷ 0 ∷ 0 ∷ 0 ∷ 0 ∷ 0 ∷ 97 ∷ 98 ∷ 99 ∷ 100 ∷ [])
+
+abbrev pub ending : ℕ → Datagram
+ending life = on_one (1 ∷ 1 ∷ 0 ∷ 18 ∷ 0 ∷ 0 ∷ life / 256 ∷ life % 256 ∷ 0 ∷ 0 ∷ 0 ∷ 1 ∷ 0 ∷ 0 ∷ 0 ∷ 2 ∷ 1 ∷ 4 ∷ 0 ∷ 10 ∷ 0 ∷ 20 ∷ 0 ∷ 0 ∷ 0 ∷ 4 ∷ 0 ∷ 0 ∷ 0 ∷ 0 ∷ 101 ∷ 102 ∷ 103 ∷ 104 ∷ [])

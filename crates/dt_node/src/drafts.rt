@@ -7,7 +7,7 @@ ghost use Rattle.dt_text.specs.Spelling.{IsLine};
 ghost use Rattle.dt_text.specs.declared.lines.Form.TheVariants.{Script as OfScript};
 ghost use Rattle.dt_node.specs.Codes.{LeadsTo, draft_seen, orders_seen, setup_seen, task_seen};
 ghost use Rattle.dt_node.specs.Orders.{Sends};
-ghost use Rattle.dt_node.specs.Drafts.{Collects, Complete, Empty, by_command, by_local, by_me, by_params, by_peer, by_route, done_by, has_link, has_route, in_commands, in_setup, orders_in, route_fault, stage_of, to_draft};
+ghost use Rattle.dt_node.specs.Drafts.{Collects, Complete, Empty, by_command, by_local, by_me, by_params, by_peer, by_route, by_shelf, done_by, has_link, has_route, in_commands, in_setup, orders_in, route_fault, stage_of, to_draft};
 
 use crate::orders::{Command, NodeSetup, Orders, Task};
 use dt_edges::{Address, Peer, Sink};
@@ -104,6 +104,7 @@ impl Draft {
                 pace,
             } => add_peer(part, Peer { link, address }, charge, pace),
             Line::Route { to, link, .. } => add_route(part, Route { to, link }),
+            Line::Shelf { room } => Ok(add_shelf(part, room)),
             Line::Go => Ok(begin(part, self.alloc)),
             Line::AtSend {
                 at,
@@ -127,7 +128,8 @@ impl Draft {
             | Line::Tick { .. }
             | Line::Arrive { .. }
             | Line::Lose { .. }
-            | Line::Restart { .. } => Ok(Some(MISPLACED)),
+            | Line::Restart { .. }
+            | Line::Call { .. } => Ok(Some(MISPLACED)),
         }
     }
 }
@@ -215,6 +217,7 @@ fn add_local(part: &mut Part, local: Address, alloc: Global) -> Option<Fault>
                 outs: Vec::new(alloc),
                 ins: Vec::new(alloc),
                 routes: Vec::new(alloc),
+                shelf: None,
             };
             *part = Part::Preparing(setup);
             None
@@ -255,6 +258,22 @@ fn add_route(part: &mut Part, route: Route) -> Result<Option<Fault>, NoMemory>
             Ok(None)
         }
         _ => Ok(Some(MISPLACED)),
+    }
+}
+
+/// A shelf for so many packets. There is one at most.
+fn add_shelf(part: &mut Part, room: u32) -> Option<Fault>
+    ensures { LeadsTo (in_setup (draft_seen part.old) (by_shelf room)) (Ok result) (draft_seen part.old) (draft_seen part.new) }
+{
+    match part {
+        Part::Preparing(setup) => match setup.shelf {
+            Some(_) => Some(Fault::Setup(SetupFault::Twice { n: room })),
+            None => {
+                setup.shelf = Some(room);
+                None
+            }
+        },
+        _ => Some(MISPLACED),
     }
 }
 

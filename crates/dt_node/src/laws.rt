@@ -1,6 +1,7 @@
 //! Laws of the definitions. Each law is the contract of a public function with an empty body.
-ghost use Rattle.std.specs.Prelude.{ℕ, List, Option, None};
+ghost use Rattle.std.specs.Prelude.{ℕ, All, List, Option, None};
 ghost use Rattle.dt_edges.specs.Wires.{Datagram};
+ghost use Rattle.dt_node.specs.HandingIn.{IsAgainOf, handed_again, handed_over};
 ghost use Rattle.dt_node.specs.InOrder.{InOrder};
 ghost use Rattle.dt_node.specs.Orders.{Orders};
 ghost use Rattle.dt_node.specs.Runs.{node_run};
@@ -10,4 +11,11 @@ ghost use Rattle.dt_node.specs.Runs.{node_run};
 /// `unsent` line follows the `put` line of its link directly.
 pub fn lines_stand_in_order()
     ensures { (o : Orders) (readings : List ℕ) (takes : List (Option Datagram)) → InOrder None (node_run o readings takes).acts }
+{}
+
+/// Each frame that a run hands in again from its shelf is one that a take of the run handed over, on the
+/// same link. Its life is less by more than the time since that frame was handed in first, in ms, and
+/// nothing else has changed. So its life and its age together don't grow.
+pub fn frames_go_in_again_with_less_life()
+    ensures { (o : Orders) (readings : List ℕ) (takes : List (Option Datagram)) → All (IsAgainOf (handed_over readings takes)) (handed_again o readings takes) }
 {}

@@ -1,22 +1,26 @@
-//! A station over a wire: its script, its turns and its log.
+//! A station over a wire: its script, its turns, its log and its trace.
 #![tactic(auto)]
 
+mod arriving;
 mod drafts;
+mod forms;
+mod heard;
 mod laws;
 mod logs;
 mod nodes;
 mod orders;
 mod outcomes;
+mod recorders;
 mod running;
 mod serving;
 mod turns;
 mod watch;
 mod worked;
 
-pub use laws::lines_stand_in_order;
+pub use laws::{frames_go_in_again_with_less_life, lines_stand_in_order};
 pub use outcomes::NodeOutcome;
-pub use serving::serve;
-pub use worked::exchange_is_logged;
+pub use serving::{serve, serve_traced};
+pub use worked::{early_data_are_handed_in_again, exchange_is_logged};
 
 #[cfg(test)]
 mod tests;

@@ -1,8 +1,10 @@
 //! Who sees the events of a node's station.
-ghost use Rattle.std.specs.Prelude.{◌≡◌};
+ghost use Rattle.std.specs.Prelude.{◌≡◌, false};
 ghost use Rattle.dt_reports.specs.Told.{told};
-ghost use Rattle.dt_node.specs.Logging.{LogHands, LogTells, log_sight};
+ghost use Rattle.dt_node.specs.Logging.{LogHands, LogLoses, LogTells, log_sight};
 
+use crate::forms::Form;
+use crate::recorders::Writer;
 use dt_edges::{Sink, Wire};
 use dt_host::Host;
 use dt_items::NoMemory;
@@ -10,13 +12,17 @@ use dt_layout::Frame;
 use dt_log::write_line;
 use dt_reports::{LogLine, Report};
 use dt_station::Visitor;
+use dt_trace::{Input, put_input};
 
-/// Writes a line for each report, and gives each frame to the wire. A give that fails is a loss, and
-/// gives an `unsent` line. After a put that failed it writes and gives nothing more.
+/// Writes a line for each report, where the form is that of a log, and gives each frame to the wire. A
+/// give that fails is a loss: a log tells it by an `unsent` line, and a trace by the number of the give.
+/// After a put that failed it writes and gives nothing more.
 #[derive(Drop)]
 pub struct Log<'w, 'o, W, K> {
     pub wire: &'w mut W,
     pub out: &'o mut K,
+    /// What is written, and how many frames were given.
+    pub writer: Writer,
     /// The moment of the turn, in ms.
     pub moment: u64,
     /// The node.
@@ -30,7 +36,7 @@ impl<'w, 'o, W: Wire, K: Sink> Log<'w, 'o, W, K> {
     fn write(&mut self, report: &Report<'_>)
         ensures { LogTells (log_sight W.sight K.sight self.old) (told report.now) (log_sight W.sight K.sight self.new) }
     {
-        if !self.failed {
+        if !self.failed && self.writer.form == Form::Log {
             let line = LogLine {
                 moment: self.moment,
                 node: Some(self.me),
@@ -40,13 +46,29 @@ impl<'w, 'o, W: Wire, K: Sink> Log<'w, 'o, W, K> {
         }
     }
 
+    /// Writes the line of the last give, on this link, which failed.
+    fn lose(&mut self, link: u16)
+        requires { self.old.failed ≡ false }
+        ensures { LogLoses link (log_sight W.sight K.sight self.old) (log_sight W.sight K.sight self.new) }
+    {
+        match self.writer.form {
+            Form::Log => self.write(&Report::Unsent { link }),
+            Form::Trace => {
+                let failed = Input::FailedGive(self.writer.gives);
+                self.failed = put_input(&failed, self.out).is_err();
+            }
+        }
+    }
+
     /// Gives a frame to the wire.
     fn give(&mut self, link: u16, octets: &[u8])
         ensures { LogHands (log_sight W.sight K.sight self.old) link octets.now (log_sight W.sight K.sight self.new) }
     {
         if !self.failed {
-            if let Err(_) = self.wire.give(link, octets) {
-                self.write(&Report::Unsent { link });
+            let given = self.wire.give(link, octets);
+            self.writer.gives = self.writer.gives.saturating_add(1);
+            if let Err(_) = given {
+                self.lose(link);
             }
         }
     }

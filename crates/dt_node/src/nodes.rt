@@ -1,11 +1,13 @@
 //! A node between two turns.
-ghost use Rattle.std.specs.Prelude.{◌≡◌, IfOk};
+ghost use Rattle.std.specs.Prelude.{◌≡◌, IfOk, IfSome, option_map};
+ghost use Rattle.dt_shelf.specs.Shelves.{IsShelfUpTo, empty_shelf};
 ghost use Rattle.dt_node.specs.Codes.{IsReady, node_seen, orders_seen};
 ghost use Rattle.dt_node.specs.Orders.{first_node, restart_of};
 
 use crate::orders::Orders;
 use dt_items::NoMemory;
 use dt_layout::Frame;
+use dt_shelf::Shelf;
 use dt_station::Station;
 use std::alloc::Global;
 
@@ -20,16 +22,22 @@ pub struct Node {
     pub next: usize,
     /// Room for what a read takes.
     pub buf: Vec<u8>,
+    /// Where packets are kept that came too early, if its script asks for that.
+    pub shelf: Option<Shelf>,
 }
 
 impl Node {
-    /// The node before its first turn. Takes the room for what may wait on its links, and for a read.
+    /// The node before its first turn. Takes the room for what may wait on its links
+    /// and on its shelf, and for a read.
     pub fn new(alloc: Global, orders: &Orders) -> Result<Node, NoMemory>
         ensures first { IfOk result (λ node. node_seen orders.now node ≡ first_node (orders_seen orders.now)) }
         ensures ready { IfOk result (λ node. IsReady orders.now 0 node) }
     {
         let setup = &orders.setup;
         let again = restart(setup.again);
+        let mut buf = Vec::new(alloc);
+        buf.resize(MOST_READ, 0)?;
+        let shelf = new_shelf(alloc, setup.shelf)?;
         let station = Station::new(
             alloc,
             &setup.rules,
@@ -39,12 +47,11 @@ impl Node {
             &setup.ins,
             &setup.routes,
         )?;
-        let mut buf = Vec::new(alloc);
-        buf.resize(MOST_READ, 0)?;
         Ok(Node {
             station,
             next: 0,
             buf,
+            shelf,
         })
     }
 }
@@ -54,4 +61,15 @@ fn restart(again: bool) -> Option<u64>
     ensures { result ≡ restart_of again }
 {
     if again { Some(0) } else { None }
+}
+
+/// An empty shelf, where one is asked for.
+fn new_shelf(alloc: Global, room: Option<u32>) -> Result<Option<Shelf>, NoMemory>
+    ensures empty { IfOk result (λ shelf. shelf ≡ option_map empty_shelf room) }
+    ensures past { IfOk result (λ shelf. IfSome shelf (IsShelfUpTo 0)) }
+{
+    match room {
+        Some(room) => Ok(Some(Shelf::with_room(alloc, room)?)),
+        None => Ok(None),
+    }
 }

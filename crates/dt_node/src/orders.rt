@@ -42,6 +42,8 @@ pub struct NodeSetup {
     /// The same links, as packets come on them.
     pub ins: Vec<InLink>,
     pub routes: Vec<Route>,
+    /// How many packets its shelf holds at most, 1 to 64, where it has one.
+    pub shelf: Option<u32>,
 }
 
 /// All that a script says. The moments of its commands never fall.

@@ -1,24 +1,30 @@
 //! Turn after turn.
-ghost use Rattle.std.specs.Prelude.{◌≡◌, ◌<◌, [], IfOk, OnOk, false, Ok};
+ghost use Rattle.std.specs.Prelude.{◌≡◌, ◌<◌, ◌≤◌, [], IfOk, IfSome, OnOk, false, length, Ok};
 ghost use Rattle.dt_edges.specs.Sinks.{Grows};
 ghost use Rattle.dt_edges.specs.Wires.{handed};
 ghost use Rattle.dt_fold.specs.Logging.{PassesRest, with_waiting};
+ghost use Rattle.dt_trace.specs.Inputs.{Reading, Taken};
+ghost use Rattle.dt_trace.specs.Standing.{HasFound};
+ghost use Rattle.dt_trace.specs.Written.{input_written};
 ghost use Rattle.dt_world_model.specs.Station.{station_wake};
 ghost use Rattle.dt_node.specs.Codes.{IsGood, IsReady, MayTurn, left_of, node_seen, orders_seen, turned};
 ghost use Rattle.dt_node.specs.Deeds.{TurnEnds, scene};
+ghost use Rattle.dt_node.specs.Logging.{NotesFault, noted_text};
 ghost use Rattle.dt_node.specs.Orders.{first_node};
 ghost use Rattle.dt_node.specs.Runs.{next_moment, wait_until, wakes_by};
-ghost use Rattle.dt_node.specs.Serving.{Serves, edges};
+ghost use Rattle.dt_node.specs.Serving.{Serves, edges, most_taken};
 ghost use Rattle.dt_node.specs.Turns.{turn};
 
 use crate::logs::Log;
 use crate::nodes::Node;
 use crate::orders::Orders;
 use crate::outcomes::NodeOutcome;
+use crate::recorders::{Recorder, Writer};
 use crate::turns::turn;
 use crate::watch::{MOST_EQUAL, Watch};
 use dt_edges::{Buffer, Buffered, Clock, Sink, Wire};
 use dt_fold::Stop;
+use dt_trace::Input;
 
 /// The room for a datagram: one octet more than a frame has at most.
 const MOST_TAKEN: usize = 8_223;
@@ -34,7 +40,8 @@ fn turn_by<W: Wire, K: Sink>(
     requires may { MayTurn orders.now log.old.moment node.old came octets.now }
     requires fine { log.old.failed ≡ false }
     ensures ends { let script = turn (orders_seen orders.now) log.old.moment (handed came octets.now) (node_seen orders.now node.old) in
-        TurnEnds result log.old.me log.old.moment script (turned result (node_seen orders.now node.new)) (scene (W.sight log.old.wire.now) (K.sight log.old.out.now)) (scene (W.sight log.new.wire.now) (K.sight log.new.out.now)) }
+        TurnEnds result log.old.writer.form log.old.me log.old.moment [] script (turned result (node_seen orders.now node.new)) (scene log.old.writer.gives (W.sight log.old.wire.now) (K.sight log.old.out.now)) (scene log.new.writer.gives (W.sight log.new.wire.now) (K.sight log.new.out.now)) }
+    ensures same_form { log.new.writer.form ≡ log.old.writer.form }
     ensures same_wire { log.new.wire.ghost_name ≡ log.old.wire.ghost_name }
     ensures same_out { log.new.out.ghost_name ≡ log.old.out.ghost_name }
     ensures same_sink { (K.sight log.new.out.now).identity ≡ (K.sight log.old.out.now).identity }
@@ -45,8 +52,15 @@ fn turn_by<W: Wire, K: Sink>(
     turn(orders, node, came, octets, log)
 }
 
-/// A turn at a moment, whose lines are put one after another. It says whether the stop was due.
-fn turn_onto<W: Wire, K: Sink>(
+/// When a turn is: the clock's reading, and its moment, in ms.
+#[derive(Clone, Copy)]
+pub struct Now {
+    pub reading: u64,
+    pub moment: u64,
+}
+
+/// What happens in a turn, whose lines are put one after another.
+fn turn_logged<W: Wire, K: Sink>(
     orders: &Orders,
     node: &mut Node,
     moment: u64,
@@ -54,10 +68,12 @@ fn turn_onto<W: Wire, K: Sink>(
     octets: &[u8],
     wire: &mut W,
     out: &mut K,
+    writer: &mut Writer,
 ) -> Result<bool, Stop>
     requires { MayTurn orders.now moment node.old came octets.now }
     ensures ends { let script = turn (orders_seen orders.now) moment (handed came octets.now) (node_seen orders.now node.old) in
-        TurnEnds result orders.now.setup.me.0 moment script (turned result (node_seen orders.now node.new)) (scene (W.sight wire.old) (K.sight out.old)) (scene (W.sight wire.new) (K.sight out.new)) }
+        TurnEnds result writer.old.form orders.now.setup.me.0 moment [] script (turned result (node_seen orders.now node.new)) (scene writer.old.gives (W.sight wire.old) (K.sight out.old)) (scene writer.new.gives (W.sight wire.new) (K.sight out.new)) }
+    ensures same_form { writer.new.form ≡ writer.old.form }
     ensures same_sink { (K.sight out.new).identity ≡ (K.sight out.old).identity }
     ensures reached { Grows (K.sight out.old).reached (K.sight out.new).reached }
     ensures ready { OnOk result (IsReady orders.now moment node.new) }
@@ -66,33 +82,71 @@ fn turn_onto<W: Wire, K: Sink>(
     let mut log = Log {
         wire,
         out,
+        writer: *writer,
         moment,
         me: orders.setup.me.0,
         failed: false,
     };
-    turn_by(orders, node, came, octets, &mut log)
+    let turned = turn_by(orders, node, came, octets, &mut log);
+    *writer = log.writer;
+    turned
 }
 
-/// A turn at a moment, whose lines are gathered in an empty buffer. It says whether the stop was due.
-fn turn_into<W: Wire, K: Sink>(
+/// A turn, whose lines are put one after another, that of its reading first. It says whether the stop was due.
+fn turn_onto<W: Wire, K: Sink>(
     orders: &Orders,
     node: &mut Node,
-    moment: u64,
+    now: Now,
     came: Option<(u16, usize)>,
     octets: &[u8],
     wire: &mut W,
     out: &mut K,
-    buffer: &mut Buffer,
+    writer: &mut Writer,
 ) -> Result<bool, Stop>
-    requires { MayTurn orders.now moment node.old came octets.now }
-    ensures ends { let script = turn (orders_seen orders.now) moment (handed came octets.now) (node_seen orders.now node.old) in
-        TurnEnds result orders.now.setup.me.0 moment script (turned result (node_seen orders.now node.new)) (scene (W.sight wire.old) (with_waiting (K.sight out.old) buffer.old)) (scene (W.sight wire.new) (with_waiting (K.sight out.new) buffer.new)) }
-    ensures reached { Grows (K.sight out.old).held (K.sight out.new).held }
-    ensures ready { OnOk result (IsReady orders.now moment node.new) }
-    ensures going { IfOk result (λ stopped. stopped ≡ false → moment < orders.now.stop) }
+    requires { MayTurn orders.now now.moment node.old came octets.now }
+    ensures ends { let script = turn (orders_seen orders.now) now.moment (handed came octets.now) (node_seen orders.now node.old) in
+        TurnEnds result writer.old.form orders.now.setup.me.0 now.moment (noted_text writer.old.form (Reading now.reading)) script (turned result (node_seen orders.now node.new)) (scene writer.old.gives (W.sight wire.old) (K.sight out.old)) (scene writer.new.gives (W.sight wire.new) (K.sight out.new)) }
+    ensures same_form { writer.new.form ≡ writer.old.form }
+    ensures same_sink { (K.sight out.new).identity ≡ (K.sight out.old).identity }
+    ensures reached { Grows (K.sight out.old).reached (K.sight out.new).reached }
+    ensures ready { OnOk result (IsReady orders.now now.moment node.new) }
+    ensures going { IfOk result (λ stopped. stopped ≡ false → now.moment < orders.now.stop) }
 {
+    writer.note(&Input::Reading(now.reading), out)?;
+    turn_logged(orders, node, now.moment, came, octets, wire, out, writer)
+}
+
+/// A turn, whose lines are gathered in an empty buffer. It says whether the stop was due.
+fn turn_into<W: Wire, K: Sink>(
+    orders: &Orders,
+    node: &mut Node,
+    now: Now,
+    came: Option<(u16, usize)>,
+    octets: &[u8],
+    wire: &mut W,
+    out: &mut K,
+    recorder: &mut Recorder,
+) -> Result<bool, Stop>
+    requires { MayTurn orders.now now.moment node.old came octets.now }
+    ensures ends { let script = turn (orders_seen orders.now) now.moment (handed came octets.now) (node_seen orders.now node.old) in
+        TurnEnds result recorder.old.writer.form orders.now.setup.me.0 now.moment (noted_text recorder.old.writer.form (Reading now.reading)) script (turned result (node_seen orders.now node.new)) (scene recorder.old.writer.gives (W.sight wire.old) (with_waiting (K.sight out.old) recorder.old.buffer)) (scene recorder.new.writer.gives (W.sight wire.new) (with_waiting (K.sight out.new) recorder.new.buffer)) }
+    ensures same_form { recorder.new.writer.form ≡ recorder.old.writer.form }
+    ensures reached { Grows (K.sight out.old).held (K.sight out.new).held }
+    ensures ready { OnOk result (IsReady orders.now now.moment node.new) }
+    ensures going { IfOk result (λ stopped. stopped ≡ false → now.moment < orders.now.stop) }
+{
+    let buffer = &mut recorder.buffer;
     let mut gathered = Buffered { out, buffer };
-    turn_onto(orders, node, moment, came, octets, wire, &mut gathered)
+    turn_onto(
+        orders,
+        node,
+        now,
+        came,
+        octets,
+        wire,
+        &mut gathered,
+        &mut recorder.writer,
+    )
 }
 
 /// Puts the lines of a turn on the sink, where no put has failed.
@@ -112,27 +166,28 @@ fn pass_rest<K: Sink>(
     turned
 }
 
-/// A turn at a moment, and its lines on the sink. It says whether the stop was due.
+/// A turn, and its lines on the sink. It says whether the stop was due.
 fn turn_at<W: Wire, K: Sink>(
     orders: &Orders,
     node: &mut Node,
-    moment: u64,
+    now: Now,
     came: Option<(u16, usize)>,
     octets: &[u8],
     wire: &mut W,
     out: &mut K,
-    buffer: &mut Buffer,
+    recorder: &mut Recorder,
 ) -> Result<bool, Stop>
-    requires may { MayTurn orders.now moment node.old came octets.now }
-    requires empty { buffer.old ≡ [] }
-    ensures ends { let script = turn (orders_seen orders.now) moment (handed came octets.now) (node_seen orders.now node.old) in
-        TurnEnds result orders.now.setup.me.0 moment script (turned result (node_seen orders.now node.new)) (scene (W.sight wire.old) (K.sight out.old)) (scene (W.sight wire.new) (K.sight out.new)) }
-    ensures ready { OnOk result (IsReady orders.now moment node.new) }
-    ensures going { IfOk result (λ stopped. stopped ≡ false → moment < orders.now.stop) }
-    ensures empty { OnOk result (buffer.new ≡ []) }
+    requires may { MayTurn orders.now now.moment node.old came octets.now }
+    requires empty { recorder.old.buffer ≡ [] }
+    ensures ends { let script = turn (orders_seen orders.now) now.moment (handed came octets.now) (node_seen orders.now node.old) in
+        TurnEnds result recorder.old.writer.form orders.now.setup.me.0 now.moment (noted_text recorder.old.writer.form (Reading now.reading)) script (turned result (node_seen orders.now node.new)) (scene recorder.old.writer.gives (W.sight wire.old) (K.sight out.old)) (scene recorder.new.writer.gives (W.sight wire.new) (K.sight out.new)) }
+    ensures same_form { recorder.new.writer.form ≡ recorder.old.writer.form }
+    ensures ready { OnOk result (IsReady orders.now now.moment node.new) }
+    ensures going { IfOk result (λ stopped. stopped ≡ false → now.moment < orders.now.stop) }
+    ensures empty { OnOk result (recorder.new.buffer ≡ []) }
 {
-    let turned = turn_into(orders, node, moment, came, octets, wire, out, buffer);
-    pass_rest(turned, buffer, out)
+    let turned = turn_into(orders, node, now, came, octets, wire, out, recorder);
+    pass_rest(turned, &mut recorder.buffer, out)
 }
 
 /// How long a take may wait: to the station's wake and to the next command or the stop, 1 to 1,000 ms.
@@ -151,31 +206,56 @@ fn wait_for(orders: &Orders, node: &Node, moment: u64) -> u32
     due.saturating_sub(moment).max(1).min(1000) as u32
 }
 
-/// Opens the wire, and takes turns until one of them ends the run. The buffer, which is empty, gathers
-/// the lines of a turn.
+/// Notes that a call of the wire failed, which ends the run.
+fn fail<K: Sink>(failed: &Input<'_>, out: &mut K, recorder: &mut Recorder) -> NodeOutcome
+    requires { recorder.old.buffer ≡ [] }
+    ensures { NotesFault (input_written failed.now) recorder.old.writer.form result (K.sight out.old) (K.sight out.new) }
+{
+    match recorder.note(failed, out) {
+        Ok(()) => NodeOutcome::WireFault,
+        Err(_) => NodeOutcome::WriteFault,
+    }
+}
+
+/// What a take found, as an input.
+fn input_of(came: Option<(u16, usize)>, octets: &[u8]) -> Input<'_>
+    requires link { IfSome came (λ d. d.0 ≤ 255) }
+    requires within { IfSome came (λ d. d.1 ≤ length octets.now) }
+    requires room { length octets.now ≤ most_taken }
+    ensures input { input_written result ≡ Taken (handed came octets.now) }
+    ensures fits { HasFound (handed came octets.now) }
+{
+    Input::taken(came, octets)
+}
+
+/// Opens the wire, and takes turns until one of them ends the run. The recorder has no lines that wait,
+/// and has counted no frame.
 pub fn run_turns<W: Wire, C: Clock, K: Sink>(
     orders: &Orders,
     node: &mut Node,
     wire: &mut W,
     clock: &mut C,
     out: &mut K,
-    buffer: &mut Buffer,
+    recorder: &mut Recorder,
 ) -> NodeOutcome
     requires good { IsGood (orders_seen orders.now) }
     requires first { node_seen orders.now node.old ≡ first_node (orders_seen orders.now) }
     requires ready { IsReady orders.now 0 node.old }
-    requires empty { buffer.old ≡ [] }
-    ensures { Serves (orders_seen orders.now) result (edges (W.sight wire.old) (C.sight clock.old) (K.sight out.old)) (edges (W.sight wire.new) (C.sight clock.new) (K.sight out.new)) }
+    requires empty { recorder.old.buffer ≡ [] }
+    requires new { recorder.old.writer.gives ≡ 0 }
+    ensures { Serves recorder.old.writer.form (orders_seen orders.now) result (edges (W.sight wire.old) (C.sight clock.old) (K.sight out.old)) (edges (W.sight wire.new) (C.sight clock.new) (K.sight out.new)) }
 {
     if let Err(_) = wire.open(orders.setup.local, &orders.setup.peers) {
-        return NodeOutcome::WireFault;
+        return fail(&Input::FailedOpen, out, recorder);
     }
     let mut octets = [0; MOST_TAKEN];
     let mut came = None;
-    let mut watch = Watch::start(clock.now());
+    let mut reading = clock.now();
+    let mut watch = Watch::start(reading);
     'turns: loop {
         let moment = watch.moment();
-        match turn_at(orders, node, moment, came, &octets, wire, out, buffer) {
+        let now = Now { reading, moment };
+        match turn_at(orders, node, now, came, &octets, wire, out, recorder) {
             Ok(false) => (),
             Ok(true) => return NodeOutcome::Done,
             Err(Stop::NoMemory) => return NodeOutcome::NoMemory,
@@ -184,11 +264,15 @@ pub fn run_turns<W: Wire, C: Clock, K: Sink>(
         let wait = wait_for(orders, node, moment);
         match wire.take(wait, &mut octets) {
             Ok(found) => came = found,
-            Err(_) => return NodeOutcome::WireFault,
+            Err(_) => return fail(&Input::FailedTake, out, recorder),
+        }
+        if let Err(_) = recorder.note(&input_of(came, &octets), out) {
+            return NodeOutcome::WriteFault;
         }
         if watch.equal == MOST_EQUAL {
             return NodeOutcome::ClockStill;
         }
-        watch = watch.next(clock.now());
+        reading = clock.now();
+        watch = watch.next(reading);
     }
 }

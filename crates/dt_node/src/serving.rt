@@ -2,13 +2,16 @@ ghost use Rattle.std.specs.Prelude.{◌≡◌, ◌≤◌, [], IfOk, length};
 ghost use Rattle.dt_node.specs.Answering.{Answers};
 ghost use Rattle.dt_node.specs.Completing.{Completes};
 ghost use Rattle.dt_node.specs.Codes.{IsGood, IsReady, node_seen, orders_seen};
+ghost use Rattle.dt_node.specs.declared.forms.Form.TheVariants.{Log, Trace};
 ghost use Rattle.dt_node.specs.Orders.{first_node};
 ghost use Rattle.dt_node.specs.Serving.{Serves, edges};
 
 use crate::drafts::Draft;
+use crate::forms::Form;
 use crate::nodes::Node;
 use crate::orders::Orders;
 use crate::outcomes::NodeOutcome;
+use crate::recorders::{Recorder, Writer};
 use crate::running::run_turns;
 use dt_edges::{Buffer, Clock, Sink, Wire};
 use dt_fold::{Stop, fold_input};
@@ -16,29 +19,34 @@ use dt_items::NoMemory;
 use std::alloc::Global;
 
 /// What a run takes before its first turn: the node, and the buffer for the lines of a turn.
-fn prepare(alloc: Global, orders: &Orders) -> Result<(Node, Buffer), NoMemory>
+fn prepare(alloc: Global, form: Form, orders: &Orders) -> Result<(Node, Recorder), NoMemory>
     ensures first { IfOk result (λ made. node_seen orders.now made.0 ≡ first_node (orders_seen orders.now)) }
     ensures ready { IfOk result (λ made. IsReady orders.now 0 made.0) }
-    ensures empty { IfOk result (λ made. made.1 ≡ []) }
+    ensures empty { IfOk result (λ made. made.1.buffer ≡ []) }
+    ensures new { IfOk result (λ made. made.1.writer ≡ record { form = form; gives = 0 }) }
 {
-    let node = Node::new(alloc, orders)?;
     let buffer = Buffer::new(alloc)?;
-    Ok((node, buffer))
+    let writer = Writer { form, gives: 0 };
+    let node = Node::new(alloc, orders)?;
+    Ok((node, Recorder { writer, buffer }))
 }
 
 /// Carries out the orders of a script.
 fn serve_orders<W: Wire, C: Clock, K: Sink>(
     alloc: Global,
+    form: Form,
     orders: &Orders,
     wire: &mut W,
     clock: &mut C,
     out: &mut K,
 ) -> NodeOutcome
     requires { IsGood (orders_seen orders.now) }
-    ensures { Serves (orders_seen orders.now) result (edges (W.sight wire.old) (C.sight clock.old) (K.sight out.old)) (edges (W.sight wire.new) (C.sight clock.new) (K.sight out.new)) }
+    ensures { Serves form (orders_seen orders.now) result (edges (W.sight wire.old) (C.sight clock.old) (K.sight out.old)) (edges (W.sight wire.new) (C.sight clock.new) (K.sight out.new)) }
 {
-    match prepare(alloc, orders) {
-        Ok((mut node, mut buffer)) => run_turns(orders, &mut node, wire, clock, out, &mut buffer),
+    match prepare(alloc, form, orders) {
+        Ok((mut node, mut recorder)) => {
+            run_turns(orders, &mut node, wire, clock, out, &mut recorder)
+        }
         Err(_) => NodeOutcome::NoMemory,
     }
 }
@@ -46,18 +54,19 @@ fn serve_orders<W: Wire, C: Clock, K: Sink>(
 /// Reads the script, and carries out its orders.
 fn serve_script<W: Wire, C: Clock, K: Sink>(
     alloc: Global,
+    form: Form,
     script: &[u8],
     wire: &mut W,
     clock: &mut C,
     out: &mut K,
 ) -> NodeOutcome
     requires { length script.now ≤ 16777216 }
-    ensures { Answers script.now result (edges (W.sight wire.old) (C.sight clock.old) (K.sight out.old)) (edges (W.sight wire.new) (C.sight clock.new) (K.sight out.new)) }
+    ensures { Answers form script.now result (edges (W.sight wire.old) (C.sight clock.old) (K.sight out.old)) (edges (W.sight wire.new) (C.sight clock.new) (K.sight out.new)) }
 {
     let mut draft = Draft::new(alloc);
     match fold_input(&mut draft, script, out) {
         Ok(true) => match draft.into_orders() {
-            Some(orders) => serve_orders(alloc, &orders, wire, clock, out),
+            Some(orders) => serve_orders(alloc, form, &orders, wire, clock, out),
             None => unreachable!(),
         },
         Ok(false) => NodeOutcome::Refused,
@@ -99,8 +108,34 @@ pub fn serve<W: Wire, C: Clock, K: Sink>(
     out: &mut K,
 ) -> NodeOutcome
     requires { length script.now ≤ 16777216 }
-    ensures answers { Answers script.now result (edges (W.sight wire.old) (C.sight clock.old) (K.sight out.old)) (edges (W.sight wire.new) (C.sight clock.new) (K.sight out.new)) }
+    ensures answers { Answers Log script.now result (edges (W.sight wire.old) (C.sight clock.old) (K.sight out.old)) (edges (W.sight wire.new) (C.sight clock.new) (K.sight out.new)) }
     ensures completes { Completes script.now result (edges (W.sight wire.old) (C.sight clock.old) (K.sight out.old)) (edges (W.sight wire.new) (C.sight clock.new) (K.sight out.new)) }
 {
-    serve_script(alloc, script, wire, clock, out)
+    serve_script(alloc, Form::Log, script, wire, clock, out)
+}
+
+/// Runs the node of a script as [`serve`] does, and writes a trace in place of the log: what the run
+/// takes in, in the order in which it happens. `! 0` says that the wire didn't open. A turn begins with
+/// `@` and the clock's reading, whose line is put on `out` at its end with the others of the turn; `!`
+/// and a number is a give that failed, the first of which is 1; then what the take found is put at once,
+/// as `<` and a link and its octets, or `<` and a dash, or `<` and an `x` where the take failed.
+///
+/// The answers are those of `serve`, and `out` has the trace where it has the log there. A refused
+/// script gives its fault line. `WriteFault` may come where a put fails that tells of an open or of a
+/// take that failed.
+///
+/// After `Done`, `WireFault` and `ClockStill` of a run of fewer than 2^64 gives the trace is read as
+/// what the run took in.
+pub fn serve_traced<W: Wire, C: Clock, K: Sink>(
+    alloc: Global,
+    script: &[u8],
+    wire: &mut W,
+    clock: &mut C,
+    out: &mut K,
+) -> NodeOutcome
+    requires { length script.now ≤ 16777216 }
+    ensures answers { Answers Trace script.now result (edges (W.sight wire.old) (C.sight clock.old) (K.sight out.old)) (edges (W.sight wire.new) (C.sight clock.new) (K.sight out.new)) }
+    ensures completes { Completes script.now result (edges (W.sight wire.old) (C.sight clock.old) (K.sight out.old)) (edges (W.sight wire.new) (C.sight clock.new) (K.sight out.new)) }
+{
+    serve_script(alloc, Form::Trace, script, wire, clock, out)
 }

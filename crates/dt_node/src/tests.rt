@@ -1,4 +1,4 @@
-use crate::{NodeOutcome, serve};
+use crate::{NodeOutcome, serve, serve_traced};
 use dt_edges::{Address, Failed, MemClock, MemSink, MemWire, Peer, Wire};
 use std::alloc::Global;
 use std::test::Fail;
@@ -45,6 +45,45 @@ route 1 1
 go
 at 100 stop
 ";
+
+/// Node 2 with a shelf for four packets.
+const SHELF: &[u8] = b"params 1000 3000 200 500 800 4 4096 4096 512 2147483648
+me 2 first
+local 127.0.0.1:4002
+peer 1 127.0.0.1:4001 50 0
+route 1 1
+shelf 4
+go
+at 100 stop
+";
+
+/// The same with a shelf for one packet.
+const SMALL_SHELF: &[u8] = b"params 1000 3000 200 500 800 4 4096 4096 512 2147483648
+me 2 first
+local 127.0.0.1:4002
+peer 1 127.0.0.1:4001 50 0
+route 1 1
+shelf 1
+go
+at 100 stop
+";
+
+/// The first four octets of a message of node 1, the next four, and the last four.
+const ABCD: &[u8] =
+    b"\x01\x01\x00\x12\x00\x00\x03\xe7\x00\x00\x00\x01\x00\x00\x00\x02\x01\x03\x00\x0a\x00\x14\x00\x00\x00\x00\x00\x00\x00\x00abcd";
+
+const EFGH: &[u8] =
+    b"\x01\x01\x00\x12\x00\x00\x03\xe7\x00\x00\x00\x01\x00\x00\x00\x02\x01\x04\x00\x0a\x00\x14\x00\x00\x00\x04\x00\x00\x00\x00efgh";
+
+const IJKL: &[u8] =
+    b"\x01\x01\x00\x12\x00\x00\x03\xe7\x00\x00\x00\x01\x00\x00\x00\x02\x01\x04\x00\x0a\x00\x14\x00\x00\x00\x08\x00\x00\x00\x00ijkl";
+
+/// The first two, with a life of 51 ms.
+const OLD_ABCD: &[u8] =
+    b"\x01\x01\x00\x12\x00\x00\x00\x33\x00\x00\x00\x01\x00\x00\x00\x02\x01\x03\x00\x0a\x00\x14\x00\x00\x00\x00\x00\x00\x00\x00abcd";
+
+const OLD_EFGH: &[u8] =
+    b"\x01\x01\x00\x12\x00\x00\x00\x33\x00\x00\x00\x01\x00\x00\x00\x02\x01\x04\x00\x0a\x00\x14\x00\x00\x00\x04\x00\x00\x00\x00efgh";
 
 /// What node 1 sends: five octets, as they leave it.
 const DATA: &[u8] =
@@ -98,6 +137,11 @@ struct Left {
 
 /// The trial, where there is memory for it.
 fn tried(alloc: Global, trial: &Trial<'_>) -> Option<Left> {
+    tried_as(alloc, false, trial)
+}
+
+/// The same, with the run's trace in place of its log where that is asked for.
+fn tried_as(alloc: Global, traced: bool, trial: &Trial<'_>) -> Option<Left> {
     let gives = trial.failing_gives;
     let mut wire = MemWire::new(
         alloc,
@@ -121,7 +165,11 @@ fn tried(alloc: Global, trial: &Trial<'_>) -> Option<Left> {
     if trial.script.len() > 1000 {
         return None;
     }
-    let outcome = serve(alloc, trial.script, &mut wire, &mut clock, &mut out);
+    let outcome = if traced {
+        serve_traced(alloc, trial.script, &mut wire, &mut clock, &mut out)
+    } else {
+        serve(alloc, trial.script, &mut wire, &mut clock, &mut out)
+    };
     Some(Left { outcome, wire, out })
 }
 
@@ -264,11 +312,86 @@ fn a_refused_script_calls_nothing(rt: HostRuntime) {
         ..EXCHANGE
     };
     assert!(rt; ends(alloc, &foreign, NodeOutcome::Refused, b"line 5: bad flow\n"));
+    let twice = Trial {
+        script: b"params 1000 3000 200 500 800 100 4096 4096 512 2147483648\nme 1 first\nlocal 127.0.0.1:4001\nshelf 4\nshelf 5\ngo\nat 1 stop\n",
+        ..EXCHANGE
+    };
+    assert!(rt; ends(alloc, &twice, NodeOutcome::Refused, b"line 5: twice 5\n"));
     let behind = Trial {
         script: b"params 1000 3000 200 500 800 100 4096 4096 512 2147483648\nme 1 first\nlocal 127.0.0.1:4001\ngo\nat 1 stop\nat 2 stop\n",
         ..EXCHANGE
     };
     assert!(rt; ends(alloc, &behind, NodeOutcome::Refused, b"line 6: order\n"));
+}
+
+#[test]
+fn data_that_came_too_early_are_handed_in_again(rt: HostRuntime) {
+    let alloc = rt.alloc();
+    let swapped = Trial {
+        script: SHELF,
+        readings: &[1000, 1010, 1020, 1100],
+        takes: &[Some(EFGH), Some(ABCD), None],
+        ..EXCHANGE
+    };
+    let log =
+        b"10 2 dropped 1:10>2:20 4\n10 2 shelved 1:10>2:20 4\n20 2 accepted 1:10>2:20 0 4 run\n20 2 again 1:10>2:20 4\n20 2 accepted 1:10>2:20 4 4 on\n20 2 acked 1:10>2:20 8 4088\n20 2 put 1 999\nend 100\n";
+    assert!(rt; ends(alloc, &swapped, NodeOutcome::Done, log));
+    let short_life = Trial {
+        takes: &[Some(OLD_EFGH), Some(OLD_ABCD), None],
+        ..swapped
+    };
+    let log =
+        b"10 2 dropped 1:10>2:20 4\n10 2 shelved 1:10>2:20 4\n20 2 accepted 1:10>2:20 0 4 run\n20 2 again 1:10>2:20 4\n20 2 expired in 1\nend 100\n";
+    assert!(rt; ends(alloc, &short_life, NodeOutcome::Done, log));
+}
+
+#[test]
+fn one_packet_after_the_other_leaves_the_shelf(rt: HostRuntime) {
+    let alloc = rt.alloc();
+    let reversed = Trial {
+        script: SHELF,
+        readings: &[1000, 1010, 1020, 1030, 1100],
+        takes: &[Some(IJKL), Some(EFGH), Some(ABCD), None],
+        ..EXCHANGE
+    };
+    let log =
+        b"10 2 dropped 1:10>2:20 8\n10 2 shelved 1:10>2:20 8\n20 2 dropped 1:10>2:20 4\n20 2 shelved 1:10>2:20 4\n30 2 accepted 1:10>2:20 0 4 run\n30 2 again 1:10>2:20 4\n30 2 accepted 1:10>2:20 4 4 on\n30 2 acked 1:10>2:20 8 4088\n30 2 put 1 999\n30 2 again 1:10>2:20 8\n30 2 accepted 1:10>2:20 8 4 on\n30 2 acked 1:10>2:20 12 4084\n30 2 put 1 999\nend 100\n";
+    assert!(rt; ends(alloc, &reversed, NodeOutcome::Done, log));
+    let full = Trial {
+        script: SMALL_SHELF,
+        ..reversed
+    };
+    let log =
+        b"10 2 dropped 1:10>2:20 8\n10 2 shelved 1:10>2:20 8\n20 2 dropped 1:10>2:20 4\n20 2 noshelf 1:10>2:20 4\n30 2 accepted 1:10>2:20 0 4 run\nend 100\n";
+    assert!(rt; ends(alloc, &full, NodeOutcome::Done, log));
+    let replied = Trial {
+        readings: &[1000, 1010, 1020, 1030, 1100],
+        takes: &[Some(ABCD), Some(IJKL), Some(EFGH), None],
+        ..reversed
+    };
+    let log =
+        b"10 2 accepted 1:10>2:20 0 4 run\n20 2 replied 1:10>2:20 4 4092\n20 2 put 1 999\n20 2 shelved 1:10>2:20 8\n30 2 accepted 1:10>2:20 4 4 on\n30 2 acked 1:10>2:20 8 4088\n30 2 put 1 999\n30 2 again 1:10>2:20 8\n30 2 accepted 1:10>2:20 8 4 on\n30 2 acked 1:10>2:20 12 4084\n30 2 put 1 999\nend 100\n";
+    assert!(rt; ends(alloc, &replied, NodeOutcome::Done, log));
+    let stale = Trial {
+        readings: &[1000, 1010, 1061, 1100],
+        takes: &[Some(OLD_EFGH), Some(ABCD), None],
+        ..reversed
+    };
+    let log =
+        b"10 2 dropped 1:10>2:20 4\n10 2 shelved 1:10>2:20 4\n61 2 accepted 1:10>2:20 0 4 run\n61 2 stale 1:10>2:20 4\nend 100\n";
+    assert!(rt; ends(alloc, &stale, NodeOutcome::Done, log));
+}
+
+#[test]
+fn without_a_shelf_what_came_too_early_is_gone(rt: HostRuntime) {
+    let without = Trial {
+        script: HEARS,
+        readings: &[1000, 1010, 1020, 1100],
+        takes: &[Some(EFGH), Some(ABCD), None],
+        ..EXCHANGE
+    };
+    let log = b"10 2 dropped 1:10>2:20 4\n20 2 accepted 1:10>2:20 0 4 run\nend 100\n";
+    assert!(rt; ends(rt.alloc(), &without, NodeOutcome::Done, log));
 }
 
 /// A wire over memory that keeps the waits of its first takes, in ms.
@@ -334,4 +457,50 @@ fn a_take_waits_to_the_wake_and_the_next_command(rt: HostRuntime) -> Result<(), 
     assert_eq!(rt; wire.first, Some(100));
     assert_eq!(rt; wire.second, Some(60));
     Ok(())
+}
+
+/// Whether the trial ends so, with this trace.
+fn traces(alloc: Global, trial: &Trial<'_>, outcome: NodeOutcome, trace: &[u8]) -> bool {
+    match tried_as(alloc, true, trial) {
+        Some(left) => left.outcome == outcome && left.out.as_slice() == trace,
+        None => false,
+    }
+}
+
+#[test]
+fn a_trace_has_what_came_and_what_failed(rt: HostRuntime) {
+    let alloc = rt.alloc();
+    let trace =
+        b"@ 1000\n< 1 0101000e000003e7000000020000000102000014000a0000000500000ffb\n@ 1040\n< -\n@ 1100\n";
+    assert!(rt; traces(alloc, &EXCHANGE, NodeOutcome::Done, trace));
+    let lossy = Trial {
+        failing_gives: &[1],
+        ..EXCHANGE
+    };
+    let trace =
+        b"@ 1000\n! 1\n< 1 0101000e000003e7000000020000000102000014000a0000000500000ffb\n@ 1040\n< -\n@ 1100\n";
+    assert!(rt; traces(alloc, &lossy, NodeOutcome::Done, trace));
+    let closed = Trial {
+        open_fails: true,
+        ..EXCHANGE
+    };
+    assert!(rt; traces(alloc, &closed, NodeOutcome::WireFault, b"! 0\n"));
+    let deaf = Trial {
+        failing_takes: &[2],
+        ..EXCHANGE
+    };
+    let trace =
+        b"@ 1000\n< 1 0101000e000003e7000000020000000102000014000a0000000500000ffb\n@ 1040\n< x\n";
+    assert!(rt; traces(alloc, &deaf, NodeOutcome::WireFault, trace));
+    let refused = Trial {
+        script: b"params 1\n",
+        ..EXCHANGE
+    };
+    assert!(rt; traces(alloc, &refused, NodeOutcome::Refused, b"line 1: count\n"));
+    let full = Trial {
+        open_fails: true,
+        room: 3,
+        ..EXCHANGE
+    };
+    assert!(rt; traces(alloc, &full, NodeOutcome::WriteFault, b"! 0"));
 }

@@ -3,13 +3,16 @@ ghost use Rattle.std.specs.Prelude.{◌≡◌, ◌*◌, ◌<◌, ◌≤◌, All,
 ghost use Rattle.dt_edges.specs.Wires.{handed};
 ghost use Rattle.dt_flow_model.specs.Keeping.{most_moment};
 ghost use Rattle.dt_layout.specs.Reading.{gram_fault};
+ghost use Rattle.dt_shelf.specs.Shelves.{IsShelfUpTo};
 ghost use Rattle.dt_station.specs.Events.{MayHappen, event_seen};
 ghost use Rattle.dt_world_model.specs.Station.{station_event};
 ghost use Rattle.dt_node.specs.Codes.{GoesOn, HasTakenAtMost, IsCommandOf, IsReady, IsTaskOf, MayGo, MayTurn, frame_octets, left_of, most_commands, most_octets, node_seen, octets_sent, orders_seen, task_seen, turned};
 ghost use Rattle.dt_node.specs.Drafts.{has_link};
 ghost use Rattle.dt_node.specs.Logging.{LogEnds, failed_by, fixed_of, log_sight};
-ghost use Rattle.dt_node.specs.Turns.{comes, do_due, event_of, finish, hand_in, plain, turn};
+ghost use Rattle.dt_node.specs.Shelving.{datagram, inside, plain};
+ghost use Rattle.dt_node.specs.Turns.{comes, do_due, event_of, finish, hand_in, turn};
 
+use crate::arriving::{Came, arrive, tell};
 use crate::drafts::has_link;
 use crate::logs::Log;
 use crate::nodes::Node;
@@ -19,7 +22,8 @@ use dt_fold::Stop;
 use dt_items::NoMemory;
 use dt_layout::{Frame, read_deltagram};
 use dt_reports::Report;
-use dt_station::{InLink, Station, StationEvent, Visitor};
+use dt_shelf::Shelf;
+use dt_station::{InLink, Station, StationEvent};
 
 /// One event of the station, with its lines.
 fn happen<W: Wire, K: Sink>(
@@ -50,28 +54,25 @@ fn happen<W: Wire, K: Sink>(
 /// Octets that came on a link: they arrive, or give their `bad` line.
 fn comes<W: Wire, K: Sink>(
     station: &mut Station<Frame>,
+    shelf: &mut Option<Shelf>,
     link: u16,
     octets: &[u8],
     log: &mut Log<'_, '_, W, K>,
 ) -> Result<(), Stop>
+    requires past { IfSome shelf.old (IsShelfUpTo log.old.moment) }
     requires go { MayGo log.old.moment station.old }
     requires fine { log.old.failed ≡ false }
-    ensures ends { let script = comes station.old.rules log.old.moment (record { link = link; octets = octets.now }) (gram_fault octets.now) station.old.state in
-        LogEnds (log_sight W.sight K.sight) result script log.old log.new station.new.state }
+    ensures ends { let script = comes station.old.rules log.old.moment (datagram link octets.now) (gram_fault octets.now) station.old.state shelf.old in
+        LogEnds (log_sight W.sight K.sight) result script log.old log.new (inside station.new.state shelf.new) }
     ensures failed { log.new.failed ≡ failed_by result }
     ensures fixed { fixed_of log.new ≡ fixed_of log.old }
     ensures on { OnOk result (GoesOn log.old.moment 0 station.old station.new) }
+    ensures past { IfSome shelf.new (IsShelfUpTo log.old.moment) }
 {
     match read_deltagram(octets) {
-        Err(fault) => {
-            log.tell(&Report::Bad { fault });
-            if log.failed {
-                return Err(Stop::WriteFault);
-            }
-            Ok(())
-        }
+        Err(fault) => tell(&Report::Bad { fault }, log),
         Ok(_) => match Frame::from_bytes(octets) {
-            Some(packet) => happen(station, StationEvent::Arrive { link, packet }, &mut [], log),
+            Some(frame) => arrive(station, shelf, Came { link, frame }, log),
             None => unreachable!(),
         },
     }
@@ -80,6 +81,7 @@ fn comes<W: Wire, K: Sink>(
 /// Hands in what the last turn took.
 fn hand_in<W: Wire, K: Sink>(
     station: &mut Station<Frame>,
+    shelf: &mut Option<Shelf>,
     ins: &[InLink],
     came: Option<(u16, usize)>,
     octets: &[u8],
@@ -87,16 +89,20 @@ fn hand_in<W: Wire, K: Sink>(
 ) -> Result<(), Stop>
     requires ins { station.old.state.relay.ins ≡ ins.now }
     requires within { IfSome came (λ d. d.1 ≤ length octets.now) }
+    requires past { IfSome shelf.old (IsShelfUpTo log.old.moment) }
     requires go { MayGo log.old.moment station.old }
     requires fine { log.old.failed ≡ false }
-    ensures ends { let script = hand_in station.old.rules log.old.moment (handed came octets.now) station.old.state in
-        LogEnds (log_sight W.sight K.sight) result script log.old log.new station.new.state }
+    ensures ends { let script = hand_in station.old.rules log.old.moment (handed came octets.now) station.old.state shelf.old in
+        LogEnds (log_sight W.sight K.sight) result script log.old log.new (inside station.new.state shelf.new) }
     ensures failed { log.new.failed ≡ failed_by result }
     ensures fixed { fixed_of log.new ≡ fixed_of log.old }
     ensures on { OnOk result (GoesOn log.old.moment 0 station.old station.new) }
+    ensures past { IfSome shelf.new (IsShelfUpTo log.old.moment) }
 {
     match came {
-        Some((link, len)) if has_link(link, ins) => comes(station, link, &octets[..len], log),
+        Some((link, len)) if has_link(link, ins) => {
+            comes(station, shelf, link, &octets[..len], log)
+        }
         _ => Ok(()),
     }
 }
@@ -154,7 +160,7 @@ fn do_due<W: Wire, K: Sink>(
     requires few { vec_len orders.now.commands ≤ most_commands }
     requires moment { log.old.moment ≤ most_moment }
     requires fine { log.old.failed ≡ false }
-    ensures ends { let script = do_due orders.now.setup.rules log.old.moment (left_of orders.now node.old.next) node.old.station.state in
+    ensures ends { let script = do_due orders.now.setup.rules log.old.moment node.old.shelf (left_of orders.now node.old.next) node.old.station.state in
         LogEnds (log_sight W.sight K.sight) result script log.old log.new (node_seen orders.now node.new) }
     ensures failed { log.new.failed ≡ failed_by result }
     ensures fixed { fixed_of log.new ≡ fixed_of log.old }
@@ -188,10 +194,7 @@ fn finish<W: Wire, K: Sink>(
     ensures going { IfOk result (λ stopped. stopped ≡ false → log.old.moment < orders.now.stop) }
 {
     if u64::from(orders.stop) <= log.moment {
-        log.tell(&Report::End);
-        if log.failed {
-            return Err(Stop::WriteFault);
-        }
+        tell(&Report::End, log)?;
         return Ok(true);
     }
     happen(&mut node.station, StationEvent::Tick, &mut [], log)?;
@@ -217,8 +220,8 @@ pub fn turn<W: Wire, K: Sink>(
     ensures ready { OnOk result (IsReady orders.now log.old.moment node.new) }
     ensures going { IfOk result (λ stopped. stopped ≡ false → log.old.moment < orders.now.stop) }
 {
-    let setup = &orders.setup;
-    hand_in(&mut node.station, &setup.ins, came, octets, log)?;
+    let ins = &orders.setup.ins;
+    hand_in(&mut node.station, &mut node.shelf, ins, came, octets, log)?;
     do_due(orders, node, log)?;
     finish(orders, node, log)
 }

@@ -87,6 +87,8 @@ line_flow (said.Peer link address charge pace) h = tt
 line_flow (said.AtSend at flow begin end hex) h = tt
 line_flow (said.AtRead at flow max) h = tt
 line_flow (said.AtStop at) h = tt
+line_flow (said.Shelf room) h = tt
+line_flow (said.Call flow hex) h = tt
 
 read_flow : (line : Said) (octets : List ℕ) → (line ≡ said.Blank) ⊎ (IsLine Schedule line × IsSpelling Schedule line octets) → HasFlow line
 read_flow line octets (inl blank) = subst HasFlow (sym blank) tt
@@ -127,6 +129,8 @@ done_kept scene (said.Peer link address charge pace) h flow = tt
 done_kept scene (said.AtSend at f begin end hex) h flow = tt
 done_kept scene (said.AtRead at f max) h flow = tt
 done_kept scene (said.AtStop at) h flow = tt
+done_kept scene (said.Shelf room) h flow = tt
+done_kept scene (said.Call f hex) h flow = tt
 
 allowed_kept : (scene : Scene) (line : Said) (stage : Option Stage) → IsScene scene → HasFlow line → IsKeptBy (done_if stage scene line)
 allowed_kept scene line None h flow = tt

@@ -89,6 +89,8 @@ done_by scene (said.Peer link address charge pace) = misplaced
 done_by scene (said.AtSend at flow begin end hex) = misplaced
 done_by scene (said.AtRead at flow max) = misplaced
 done_by scene (said.AtStop at) = misplaced
+done_by scene (said.Shelf room) = misplaced
+done_by scene (said.Call flow hex) = misplaced
 
 -- A LINE IS TURNED: it is read, then its place is tested, and then it is done. The first of the three that refuses it tells the fault.
 abbrev pub done_if : Option Stage → Scene → Said → Result (Turned Scene) Fault

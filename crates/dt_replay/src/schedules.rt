@@ -110,7 +110,9 @@ impl Schedule {
             | Line::Peer { .. }
             | Line::AtSend { .. }
             | Line::AtRead { .. }
-            | Line::AtStop { .. } => Ok(Some(MISPLACED)),
+            | Line::AtStop { .. }
+            | Line::Shelf { .. }
+            | Line::Call { .. } => Ok(Some(MISPLACED)),
         }
     }
 }
@@ -159,7 +161,7 @@ impl Part {
 }
 
 /// The parameters are checked, and a setup begins.
-fn configure(part: &mut Part, alloc: Global, params: &Params) -> Option<Fault>
+pub fn configure(part: &mut Part, alloc: Global, params: &Params) -> Option<Fault>
     ensures { LeadsTo (by_params params.now (first_out_of_range params.now)) (Ok result) (scene_of part.old) (scene_of part.new) }
 {
     match params.check() {
@@ -171,7 +173,8 @@ fn configure(part: &mut Part, alloc: Global, params: &Params) -> Option<Fault>
     }
 }
 
-fn add_station(part: &mut Part, station: NodeId, zero: u32) -> Result<Option<Fault>, NoMemory>
+/// A station is added to the setup.
+pub fn add_station(part: &mut Part, station: NodeId, zero: u32) -> Result<Option<Fault>, NoMemory>
     ensures { LeadsTo (in_setup (scene_of part.old) (λ setup. by_setup (setup_call setup (AddStation station.0 zero)))) result (scene_of part.old) (scene_of part.new) }
 {
     match part {
@@ -180,7 +183,8 @@ fn add_station(part: &mut Part, station: NodeId, zero: u32) -> Result<Option<Fau
     }
 }
 
-fn add_link(
+/// A link is added to the setup.
+pub fn add_link(
     part: &mut Part,
     link: u16,
     from: NodeId,
@@ -197,7 +201,13 @@ fn add_link(
     }
 }
 
-fn add_route(part: &mut Part, at: NodeId, to: NodeId, link: u16) -> Result<Option<Fault>, NoMemory>
+/// A route is added to the setup.
+pub fn add_route(
+    part: &mut Part,
+    at: NodeId,
+    to: NodeId,
+    link: u16,
+) -> Result<Option<Fault>, NoMemory>
     ensures { let call = AddRoute at.0 record { to = to.0; link = link } in
         LeadsTo (in_setup (scene_of part.old) (λ setup. by_setup (setup_call setup call))) result (scene_of part.old) (scene_of part.new) }
 {
@@ -208,7 +218,7 @@ fn add_route(part: &mut Part, at: NodeId, to: NodeId, link: u16) -> Result<Optio
 }
 
 /// The setup ends, and its world begins.
-fn begin(part: &mut Part, alloc: Global) -> Result<Option<Fault>, NoMemory>
+pub fn begin(part: &mut Part, alloc: Global) -> Result<Option<Fault>, NoMemory>
     ensures { LeadsTo (in_setup (scene_of part.old) (λ setup. to_scene [] (Runs (new_world setup)))) result (scene_of part.old) (scene_of part.new) }
 {
     match part {

@@ -144,6 +144,8 @@ line_ranges (said.Peer link address charge pace) h = tt
 line_ranges (said.AtSend at flow begin end hex) h = tt
 line_ranges (said.AtRead at flow max) h = tt
 line_ranges (said.AtStop at) h = tt
+line_ranges (said.Shelf room) h = tt
+line_ranges (said.Call flow hex) h = tt
 
 read_ranges : (line : Said) (octets : List ℕ) → (line ≡ said.Blank) ⊎ (IsLine Schedule line × IsSpelling Schedule line octets) → HasRanges line
 read_ranges line octets (inl blank) = subst HasRanges (sym blank) tt
@@ -172,6 +174,8 @@ done_passes count book scene (said.Peer link address charge pace) stage on small
 done_passes count book scene (said.AtSend at f begin end hex) stage on small ranges h = tt
 done_passes count book scene (said.AtRead at f max) stage on small ranges h = tt
 done_passes count book scene (said.AtStop at) stage on small ranges h = tt
+done_passes count book scene (said.Shelf room) stage on small ranges h = tt
+done_passes count book scene (said.Call f hex) stage on small ranges h = tt
 
 allowed_passes : (count : ℕ) (book : Book FlowLog) (scene : Scene) (line : Said) (stage : Option Stage) → stage_after Schedule (stage_of scene) line ≡ stage → suc count < 2 ^ 32 → HasRanges line → IsSceneLogged count scene book → TurnPasses (suc count) book (done_if stage scene line)
 allowed_passes count book scene line None on small ranges h = tt

@@ -146,6 +146,26 @@ pub enum Report<'a> {
     Unsent {
         link: u16,
     },
+    /// Data that came too early was put on the shelf. The number is that of its first octet.
+    Shelved {
+        flow: Flow,
+        number: u32,
+    },
+    /// Data came too early, and the shelf was full.
+    NoShelf {
+        flow: Flow,
+        number: u32,
+    },
+    /// Data left the shelf and arrives again.
+    Again {
+        flow: Flow,
+        number: u32,
+    },
+    /// Data left the shelf, but too little of its life is left for it to arrive again.
+    Stale {
+        flow: Flow,
+        number: u32,
+    },
     /// A station restarted, and this is its life number.
     Restarted {
         life: u32,

@@ -1,6 +1,6 @@
 ghost use Rattle.std.specs.Prelude.{◌≡◌, ◌≤◌, ◌<◌, ◌^◌, false, length, IfOk, IfSome, OnOk};
 ghost use Rattle.dt_layout.specs.Carried.{IsGram};
-ghost use Rattle.dt_station.specs.Events.{MayHappen};
+ghost use Rattle.dt_station.specs.Events.{MayHappen, MaySend};
 
 use crate::{InLink, OutLink, Route, Station, StationEvent, Visitor};
 use dt_host::Host;
@@ -227,9 +227,10 @@ fn station(rt: &impl Abort, alloc: Global, me: u32) -> Result<Station<Frame>, No
 
 // A packet that isn't for the station is passed on, and what a link keeps back leaves at a tick, in
 // the order of the links.
-#[test]
-fn links_are_flushed_in_their_order(rt: HostRuntime) -> Result<(), Fail> {
-    let mut station = station(&rt, rt.alloc(), 9)?;
+fn flushes(rt: &impl Abort, station: &mut Station<Frame>) -> Result<(), NoMemory>
+    requires unspent { station.old.spent ≡ false }
+    requires past { station.old.latest ≡ 0 }
+{
     let to_two = [
         Seen::Told(Report::Put {
             link: 5,
@@ -240,7 +241,7 @@ fn links_are_flushed_in_their_order(rt: HostRuntime) -> Result<(), Fail> {
             life: 4949,
         },
     ];
-    arrive(&rt, &mut station, 0, rendezvous(&rt, 5000, 2), &to_two)?;
+    arrive(rt, station, 0, rendezvous(rt, 5000, 2), &to_two)?;
     let to_three = [
         Seen::Told(Report::Put {
             link: 1,
@@ -251,12 +252,12 @@ fn links_are_flushed_in_their_order(rt: HostRuntime) -> Result<(), Fail> {
             life: 4949,
         },
     ];
-    arrive(&rt, &mut station, 0, rendezvous(&rt, 5000, 3), &to_three)?;
-    assert_eq!(&rt; station.wake(), None);
-    arrive(&rt, &mut station, 0, rendezvous(&rt, 5000, 3), &[])?;
-    arrive(&rt, &mut station, 0, rendezvous(&rt, 5000, 2), &[])?;
-    assert_eq!(&rt; station.wake(), Some(1000));
-    tick(&rt, &mut station, 999, &[])?;
+    arrive(rt, station, 0, rendezvous(rt, 5000, 3), &to_three)?;
+    assert_eq!(rt; station.wake(), None);
+    arrive(rt, station, 0, rendezvous(rt, 5000, 3), &[])?;
+    arrive(rt, station, 0, rendezvous(rt, 5000, 2), &[])?;
+    assert_eq!(rt; station.wake(), Some(1000));
+    tick(rt, station, 999, &[])?;
     let both = [
         Seen::Told(Report::Put {
             link: 5,
@@ -275,28 +276,46 @@ fn links_are_flushed_in_their_order(rt: HostRuntime) -> Result<(), Fail> {
             life: 3949,
         },
     ];
-    tick(&rt, &mut station, 1000, &both)?;
+    tick(rt, station, 1000, &both)?;
     Ok(())
 }
 
+#[test]
+fn links_are_flushed_in_their_order(rt: HostRuntime) -> Result<(), Fail> {
+    let mut station = station(&rt, rt.alloc(), 9)?;
+    let played = flushes(&rt, &mut station);
+    drop(station);
+    Ok(played?)
+}
+
 // What can't be passed on is told.
+fn goes_nowhere(rt: &impl Abort, station: &mut Station<Frame>) -> Result<(), NoMemory>
+    requires unspent { station.old.spent ≡ false }
+    requires past { station.old.latest ≡ 0 }
+{
+    let no_charge = [Seen::Told(Report::ExpiredIn { link: 7 })];
+    arrive(rt, station, 0, rendezvous(rt, 50, 2), &no_charge)?;
+    let no_route = [Seen::Told(Report::NoRoute { to: 4 })];
+    arrive(rt, station, 0, rendezvous(rt, 5000, 4), &no_route)?;
+    let no_time = [Seen::Told(Report::ExpiredOut { link: 5 })];
+    arrive(rt, station, 0, rendezvous(rt, 51, 2), &no_time)?;
+    Ok(())
+}
+
 #[test]
 fn packets_that_go_nowhere_are_told(rt: HostRuntime) -> Result<(), Fail> {
     let mut station = station(&rt, rt.alloc(), 9)?;
-    let no_charge = [Seen::Told(Report::ExpiredIn { link: 7 })];
-    arrive(&rt, &mut station, 0, rendezvous(&rt, 50, 2), &no_charge)?;
-    let no_route = [Seen::Told(Report::NoRoute { to: 4 })];
-    arrive(&rt, &mut station, 0, rendezvous(&rt, 5000, 4), &no_route)?;
-    let no_time = [Seen::Told(Report::ExpiredOut { link: 5 })];
-    arrive(&rt, &mut station, 0, rendezvous(&rt, 51, 2), &no_time)?;
-    Ok(())
+    let played = goes_nowhere(&rt, &mut station);
+    drop(station);
+    Ok(played?)
 }
 
 // Data for the station is accepted, and the acknowledgement that it makes goes out behind its report,
 // tagged. It goes back to node 1, to which there is no route.
-#[test]
-fn data_is_acknowledged(rt: HostRuntime) -> Result<(), Fail> {
-    let mut station = station(&rt, rt.alloc(), 2)?;
+fn acknowledges(rt: &impl Abort, station: &mut Station<Frame>) -> Result<(), NoMemory>
+    requires unspent { station.old.spent ≡ false }
+    requires past { station.old.latest ≡ 0 }
+{
     let wanted = [
         Seen::Told(Report::Accepted {
             flow: FLOW,
@@ -313,10 +332,18 @@ fn data_is_acknowledged(rt: HostRuntime) -> Result<(), Fail> {
         Seen::Told(Report::NoRoute { to: 1 }),
     ];
     match framed(&HELLO) {
-        None => assert!(&rt; false, "it doesn't read"),
-        Some(hello) => arrive(&rt, &mut station, 40, hello, &wanted)?,
+        None => assert!(rt; false, "it doesn't read"),
+        Some(hello) => arrive(rt, station, 40, hello, &wanted)?,
     }
     Ok(())
+}
+
+#[test]
+fn data_is_acknowledged(rt: HostRuntime) -> Result<(), Fail> {
+    let mut station = station(&rt, rt.alloc(), 2)?;
+    let played = acknowledges(&rt, &mut station);
+    drop(station);
+    Ok(played?)
 }
 
 // `hello` from node 1 to node 2, with a life of 999.
@@ -339,30 +366,29 @@ fn framed(octets: &[u8]) -> Option<Frame>
 
 // Octets for the station that don't read are told by their fault, and change nothing: `hello` is taken
 // as if none of them had come.
+fn does_not_read(rt: &impl Abort, station: &mut Station<Frame>) -> Result<(), NoMemory>
+    requires unspent { station.old.spent ≡ false }
+    requires past { station.old.latest ≡ 0 }
+{
+    changed(rt, station, 1, 2, LayoutFault::Protocol { octet: 2 })?;
+    changed(rt, station, 16, 9, LayoutFault::Kind { octet: 9 })?;
+    changed(rt, station, 17, 8, LayoutFault::Flags { octet: 8 })?;
+    changed(rt, station, 29, 1, LayoutFault::Window { value: 1 })?;
+    let mut short = HELLO;
+    short[3] = 13;
+    refused(rt, station, &short[..29], LayoutFault::Short { len: 13 })?;
+    let mut empty = HELLO;
+    empty[3] = 14;
+    refused(rt, station, &empty[..30], LayoutFault::Size { len: 0 })?;
+    Ok(())
+}
+
 #[test]
 fn octets_that_do_not_read_are_told(rt: HostRuntime) -> Result<(), Fail> {
     let mut station = station(&rt, rt.alloc(), 2)?;
-    changed(&rt, &mut station, 1, 2, LayoutFault::Protocol { octet: 2 })?;
-    changed(&rt, &mut station, 16, 9, LayoutFault::Kind { octet: 9 })?;
-    changed(&rt, &mut station, 17, 8, LayoutFault::Flags { octet: 8 })?;
-    changed(&rt, &mut station, 29, 1, LayoutFault::Window { value: 1 })?;
-    let mut short = HELLO;
-    short[3] = 13;
-    refused(
-        &rt,
-        &mut station,
-        &short[..29],
-        LayoutFault::Short { len: 13 },
-    )?;
-    let mut empty = HELLO;
-    empty[3] = 14;
-    refused(
-        &rt,
-        &mut station,
-        &empty[..30],
-        LayoutFault::Size { len: 0 },
-    )?;
-    Ok(())
+    let played = does_not_read(&rt, &mut station);
+    drop(station);
+    Ok(played?)
 }
 
 // `hello` with another octet at a place.
@@ -405,34 +431,45 @@ fn refused(
     }
 }
 
-// A visitor that has memory for none, one or two packets ends the event of the next there, and the
-// station is spent.
+// A visitor that has memory for so many packets, none, one or two, ends the event of the next there, and
+// the station is spent.
+fn is_spent_behind(rt: &impl Abort, station: &mut Station<Frame>, memory: usize)
+    requires { station.old.latest ≡ 0 }
+{
+    let mut audience = Audience {
+        wanted: &[],
+        place: 0,
+        fits: true,
+        memory,
+    };
+    let first = passes(rt, station, &mut audience);
+    assert_eq!(rt; first, memory > 0);
+    let second = passes(rt, station, &mut audience);
+    assert_eq!(rt; second, memory > 1);
+    let third = passes(rt, station, &mut audience);
+    assert!(rt; !third && station.is_spent());
+}
+
+fn spends(rt: &impl Abort, alloc: Global, memory: usize) -> Result<(), NoMemory> {
+    let outs = [OutLink { link: 5, pace: 0 }];
+    let mut station = Station::<Frame>::new(
+        alloc,
+        &rules(rt)?,
+        NodeId(9),
+        None,
+        &outs,
+        &INS,
+        &ROUTES,
+    )?;
+    is_spent_behind(rt, &mut station, memory);
+    drop(station);
+    Ok(())
+}
+
 #[test]
 fn want_of_memory_spends_the_station(rt: HostRuntime) -> Result<(), Fail> {
-    let rules = rules(&rt)?;
-    let outs = [OutLink { link: 5, pace: 0 }];
     for memory in 0..3usize {
-        let mut station = Station::<Frame>::new(
-            rt.alloc(),
-            &rules,
-            NodeId(9),
-            None,
-            &outs,
-            &INS,
-            &ROUTES,
-        )?;
-        let mut audience = Audience {
-            wanted: &[],
-            place: 0,
-            fits: true,
-            memory,
-        };
-        let first = passes(&rt, &mut station, &mut audience);
-        assert_eq!(&rt; first, memory > 0);
-        let second = passes(&rt, &mut station, &mut audience);
-        assert_eq!(&rt; second, memory > 1);
-        let third = passes(&rt, &mut station, &mut audience);
-        assert!(&rt; !third && station.is_spent());
+        spends(&rt, rt.alloc(), memory)?;
     }
     Ok(())
 }
@@ -451,18 +488,11 @@ fn passes(rt: &impl Abort, station: &mut Station<Frame>, audience: &mut Audience
 }
 
 // Octets that are sent go out at once, and are read where they come.
-#[test]
-fn octets_are_sent_and_read(rt: HostRuntime) -> Result<(), Fail> {
-    let rules = rules(&rt)?;
-    let mut station = Station::<Frame>::new(
-        rt.alloc(),
-        &rules,
-        NodeId(1),
-        None,
-        &OUTS,
-        &INS,
-        &ROUTES,
-    )?;
+fn sends_and_reads(rt: &impl Abort, station: &mut Station<Frame>) -> Result<(), NoMemory>
+    requires unspent { station.old.spent ≡ false }
+    requires past { station.old.latest ≡ 0 }
+    requires may { MaySend station.old.rules 0 station.old.state FLOW 5 }
+{
     let wanted = [
         Seen::Told(Report::Took {
             flow: FLOW,
@@ -486,14 +516,25 @@ fn octets_are_sent_and_read(rt: HostRuntime) -> Result<(), Fail> {
         begin: true,
         end: true,
     };
-    play(&rt, &mut station, 0, event, &wanted)?;
+    play(rt, station, 0, event, &wanted)?;
     let nothing = [Seen::Told(Report::Nothing { flow: FLOW })];
-    play(
-        &rt,
-        &mut station,
-        0,
-        StationEvent::Read { flow: FLOW },
-        &nothing,
-    )?;
+    play(rt, station, 0, StationEvent::Read { flow: FLOW }, &nothing)?;
     Ok(())
+}
+
+#[test]
+fn octets_are_sent_and_read(rt: HostRuntime) -> Result<(), Fail> {
+    let rules = rules(&rt)?;
+    let mut station = Station::<Frame>::new(
+        rt.alloc(),
+        &rules,
+        NodeId(1),
+        None,
+        &OUTS,
+        &INS,
+        &ROUTES,
+    )?;
+    let played = sends_and_reads(&rt, &mut station);
+    drop(station);
+    Ok(played?)
 }

@@ -1,4 +1,4 @@
--- The lines of both forms, by their rows: each way to write a line is read as that line, and nothing else is.
+-- The lines of each form, by their rows: each way to write a line is read as that line, and nothing else is.
 use Rattle.std.proofs.Common.{◌≡◌, ◌≢◌, ℕ, Bool, true, false, not, cond, eqb, ltb, ◌||◌, ◌⊎◌, inl, inr, List, [], ◌∷◌, ◌++◌, None, Result, Ok, Err, length, get_or, refl, sym, ap, subst, ◌∙◌, arith, codes, IfOk}
 use Rattle.std.specs.Str.{bytes_eq}
 use Rattle.std.specs.List.{join_with_byte}
@@ -8,11 +8,11 @@ use Rattle.std.proofs.lemmas.List.Splits.{join_with_byte-slice_split}
 use Rattle.dt_reports.specs.declared.faults.LineFault.{LineFault}
 use Rattle.dt_reports.specs.declared.faults.LineFault.TheVariants as faults
 use Rattle.dt_text.specs.declared.lines.Form.{Form}
-use Rattle.dt_text.specs.declared.lines.Form.TheVariants.{Schedule, Script}
+use Rattle.dt_text.specs.declared.lines.Form.TheVariants.{Schedule, Script, Calls}
 use Rattle.dt_text.specs.declared.lines.Line.{Line}
 use Rattle.dt_text.specs.Splitting.{cut, words, word}
 use Rattle.dt_text.specs.Said.{Said, Blank, ReadAs, said}
-use Rattle.dt_text.specs.Rows.{Part, Fixed, Given, Makes, LineRow, LineKind, params_row, of_schedules, of_scripts, behind_moments}
+use Rattle.dt_text.specs.Rows.{Part, Fixed, Given, Makes, LineRow, LineKind, params_row, of_schedules, of_scripts, of_calls, behind_moments}
 use Rattle.dt_text.specs.Lines.{said_by, said_as, name_at, said_by_name, said_at, said_in, line_of}
 use Rattle.dt_text.specs.Spelling.{Values, made, texts, AreOfKinds, Way, ways, IsLine, way_text, IsSpelledBy, IsSpelling}
 use Rattle.dt_text.proofs.CutLemmas.{words-cut_none, words-cut_some, cut-cons_no, onto_front}
@@ -77,6 +77,7 @@ ways-found : (form : Form) (line : Said) → (line ≡ Blank) ⊎ AreFound form 
 unfolding said_as said_at
 ways-found Schedule Blank = inl refl
 ways-found Script Blank = inl refl
+ways-found Calls Blank = inl refl
 ways-found form line = inr (search refl)
 
 spelled-read : (form : Form) (line : Said) (octets : List ℕ) (some : List Way) → AreFound form some → IsSpelledBy line octets some → line_of form octets ≡ Ok line
@@ -126,6 +127,9 @@ schedules-fit line = search (params-fit, refl, inl) depth 24
 scripts-fit : (line : List (List ℕ)) → KindsFit Script 0 line of_scripts
 scripts-fit line = search (params-fit, refl, inl) depth 24
 
+calls-fit : (line : List (List ℕ)) → KindsFit Calls 0 line of_calls
+calls-fit line = search (params-fit, refl, inl) depth 24
+
 moments-fit : (line : List (List ℕ)) → word 0 line ≡ codes "at" → KindsFit Script 2 line behind_moments
 moments-fit line at = search (refl, inl) depth 24
 
@@ -168,6 +172,7 @@ at-held line what at h =
 
 pub form-held : (form : Form) (line : List (List ℕ)) (what : Said) → said_in form line ≡ Ok what → IsHeld form line what
 form-held Schedule line what h = named-held Schedule 0 of_schedules line what (schedules-fit line) h
+form-held Calls line what h = named-held Calls 0 of_calls line what (calls-fit line) h
 form-held Script line what h =
     elim (chosen (bytes_eq (word 0 line) (codes "at")) _ _ what h) [
       | inl read ↦ at-held line what (is_text (word 0 line) (codes "at") read.0) read.1
@@ -204,6 +209,7 @@ at-told line = told-choice (ltb (length line) 3) _ _ (told-err _ faults.Count (�
 
 form-told : (form : Form) (line : List (List ℕ)) → IsTold (said_in form line)
 form-told Schedule line = named-told 0 of_schedules line
+form-told Calls line = named-told 0 of_calls line
 form-told Script line = told-choice (bytes_eq (word 0 line) (codes "at")) _ _ (at-told line) (named-told 0 of_scripts line)
 
 reads-told : (read : Result Line LineFault) (line : Result Said LineFault) → ReadAs read line → IsTold line → read ≢ Err faults.Order

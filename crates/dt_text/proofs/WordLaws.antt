@@ -1,5 +1,5 @@
 -- A word of a kind: what is written is read, and nothing else is; it has no space; and its fault is no Order.
-use Rattle.std.proofs.Common.{◌≡◌, ◌≢◌, ℕ, ◌<◌, ◌≤◌, ◌^◌, ◌%◌, Bool, true, false, cond, eqb, leb, ltb, ◌&&◌, inl, inr, ◌⊎◌, List, [], ◌∷◌, ◌++◌, Option, Some, None, Result, Ok, Err, length, map, refl, ap, subst, ◌∙◌, arith, codes}
+use Rattle.std.proofs.Common.{◌≡◌, ◌≢◌, ℕ, ◌<◌, ◌≤◌, ◌^◌, ◌*◌, ◌%◌, Bool, true, false, cond, eqb, leb, ltb, ◌&&◌, inl, inr, ◌⊎◌, List, [], ◌∷◌, ◌++◌, Option, Some, None, Result, Ok, Err, length, map, refl, ap, subst, ◌∙◌, arith, codes}
 use Rattle.std.specs.Fmt.{decimal}
 use Rattle.std.specs.Option.{ok_or}
 use Rattle.std.specs.Char.{is_ascii_hexdigit}
@@ -35,7 +35,7 @@ abbrev pub is_small : WordKind → Bool
 is_small (NumberWord least most) = ltb most 18446744073709551616
 is_small FlowWord = true
 is_small AddressWord = true
-is_small HexWord = true
+is_small (HexWord most) = true
 is_small MarksWord = true
 is_small AgainWord = true
 
@@ -142,16 +142,16 @@ address-text a h =
 
 -- Digits.
 
-is_hex-means : (digits : List ℕ) → is_hex 65536 digits ≡ true → IsHex digits
-is_hex-means digits h =
-    let outer = both (ltb 0 (length digits) && leb (length digits) 131072) (are_pairs digits) h in
-    let inner = both (ltb 0 (length digits)) (leb (length digits) 131072) outer.0 in
-    record { some = ltb-true 0 (length digits) inner.0; within = leb-true (length digits) 131072 inner.1; pairs = outer.1 }
+is_hex-means : (most : ℕ) (digits : List ℕ) → is_hex most digits ≡ true → IsHex most digits
+is_hex-means most digits h =
+    let outer = both (ltb 0 (length digits) && leb (length digits) (2 * most)) (are_pairs digits) h in
+    let inner = both (ltb 0 (length digits)) (leb (length digits) (2 * most)) outer.0 in
+    record { some = ltb-true 0 (length digits) inner.0; within = leb-true (length digits) (2 * most) inner.1; pairs = outer.1 }
 
-is_hex-from : (digits : List ℕ) → IsHex digits → is_hex 65536 digits ≡ true
-is_hex-from digits h =
-    ap (λ b. (b && leb (length digits) 131072) && are_pairs digits) (lt-ltb 0 (length digits) h.some)
-    ∙ ap (λ b. b && are_pairs digits) (le-leb (length digits) 131072 h.within)
+is_hex-from : (most : ℕ) (digits : List ℕ) → IsHex most digits → is_hex most digits ≡ true
+is_hex-from most digits h =
+    ap (λ b. (b && leb (length digits) (2 * most)) && are_pairs digits) (lt-ltb 0 (length digits) h.some)
+    ∙ ap (λ b. b && are_pairs digits) (le-leb (length digits) (2 * most) h.within)
     ∙ h.pairs
 
 not-space : (x : ℕ) → is_ascii_hexdigit x ≡ true → eqb x 32 ≡ false
@@ -181,7 +181,7 @@ pub value-text : (kind : WordKind) (value : Value kind) → is_small kind ≡ tr
 value-text (NumberWord least most) n bits h = number-text least most n (small most bits) h.0 h.1
 value-text FlowWord flow bits h = ap (λ (r : Option Flow). ok_or r faults.Flow) (flow-text flow h)
 value-text AddressWord address bits h = ap (λ (r : Option Address). ok_or r faults.Number) (address-text address h)
-value-text HexWord hex bits h = ap (λ (b : Bool). cond b (Ok hex) (Err faults.Hex)) (is_hex-from hex h)
+value-text (HexWord most) hex bits h = ap (λ (b : Bool). cond b (Ok hex) (Err faults.Hex)) (is_hex-from most hex h)
 value-text MarksWord marks bits h = marks-text marks
 value-text AgainWord again bits h = again-text again
 
@@ -229,10 +229,10 @@ again-only word again h =
       ]
     ]
 
-hex-only : (word hex : List ℕ) → value_read HexWord word ≡ Ok hex → IsWritten HexWord word hex
-hex-only word hex h =
-    elim (chosen (is_hex 65536 word) (Ok word) (Err faults.Hex) hex h) [
-      | inl p ↦ let same : word ≡ hex = cc in (same, subst IsHex same (is_hex-means word p.0))
+hex-only : (most : ℕ) (word hex : List ℕ) → value_read (HexWord most) word ≡ Ok hex → IsWritten (HexWord most) word hex
+hex-only most word hex h =
+    elim (chosen (is_hex most word) (Ok word) (Err faults.Hex) hex h) [
+      | inl p ↦ let same : word ≡ hex = cc in (same, subst (IsHex most) same (is_hex-means most word p.0))
       | inr h ↦ cc
     ]
 
@@ -240,7 +240,7 @@ pub value-only : (kind : WordKind) (word : List ℕ) (value : Value kind) → is
 value-only (NumberWord least most) word n bits h = number-only least most word n (numeral most word) (small most bits) refl h
 value-only FlowWord word flow bits h = flow-only word flow (found (flow_read word) faults.Flow flow h)
 value-only AddressWord word address bits h = address-only word address (found (address_read word) faults.Number address h)
-value-only HexWord word hex bits h = hex-only word hex h
+value-only (HexWord most) word hex bits h = hex-only most word hex h
 value-only MarksWord word marks bits h = marks-only word marks h
 value-only AgainWord word again bits h = again-only word again h
 
@@ -290,7 +290,7 @@ pub value-free : (kind : WordKind) (value : Value kind) → is_small kind ≡ tr
 value-free (NumberWord least most) n bits h = let most_small = small most bits in IsFree-decimal 32 n (inl (omega arith)) (omega (arith, h.1))
 value-free FlowWord flow bits h = free-flow flow h
 value-free AddressWord address bits h = free-address address h
-value-free HexWord hex bits h = free-hexdigits hex (both (eqb (length hex % 2) 0) (list_all is_ascii_hexdigit hex) h.pairs).1
+value-free (HexWord most) hex bits h = free-hexdigits hex (both (eqb (length hex % 2) 0) (list_all is_ascii_hexdigit hex) h.pairs).1
 value-free MarksWord marks bits h = free-marks marks
 value-free AgainWord again bits h = free-again again
 
@@ -331,7 +331,7 @@ pub value-told : (kind : WordKind) (word : List ℕ) → IsTold (value_read kind
 value-told (NumberWord least most) word = told-number least (numeral most word)
 value-told FlowWord word = told-found (flow_read word) faults.Flow (λ h. cc)
 value-told AddressWord word = told-found (address_read word) faults.Number (λ h. cc)
-value-told HexWord word = told-choice (is_hex 65536 word) (Ok word) (Err faults.Hex) (told-ok word) (told-err _ faults.Hex (λ h. cc))
+value-told (HexWord most) word = told-choice (is_hex most word) (Ok word) (Err faults.Hex) (told-ok word) (told-err _ faults.Hex (λ h. cc))
 value-told MarksWord word =
     told-choice (bytes_eq word (codes "be")) _ _ (told-ok _) (
     told-choice (bytes_eq word (codes "b")) _ _ (told-ok _) (

@@ -5,11 +5,11 @@ use Rattle.std.specs.Str.{bytes_eq}
 use Rattle.dt_reports.specs.declared.faults.LineFault.{LineFault}
 use Rattle.dt_reports.specs.declared.faults.LineFault.TheVariants as faults
 use Rattle.dt_text.specs.declared.lines.Form.{Form}
-use Rattle.dt_text.specs.declared.lines.Form.TheVariants.{Schedule, Script}
+use Rattle.dt_text.specs.declared.lines.Form.TheVariants.{Schedule, Script, Calls}
 use Rattle.dt_text.specs.Splitting.{words, word}
 use Rattle.dt_text.specs.Said.{Said, Blank}
 use Rattle.dt_text.specs.WordKinds.{value_read}
-use Rattle.dt_text.specs.Rows.{Part, Fixed, Given, Makes, LineKind, of_schedules, of_scripts, behind_moments}
+use Rattle.dt_text.specs.Rows.{Part, Fixed, Given, Makes, LineKind, of_schedules, of_scripts, of_calls, behind_moments}
 
 infixl 10 ◌>>=◌
 abbrev pub ◌>>=◌ : {A B : Type 0} → Result A LineFault → (A → Result B LineFault) → Result B LineFault
@@ -51,6 +51,7 @@ said_at line = if nat_lt (length line) 3 then Err faults.Count else said_by_name
 abbrev pub said_in : Form → List (List ℕ) → Result Said LineFault
 said_in Schedule line = said_by_name 0 of_schedules line
 said_in Script line = if bytes_eq (word 0 line) (codes "at") then said_at line else said_by_name 0 of_scripts line
+said_in Calls line = said_by_name 0 of_calls line
 
 -- A line is blank where it is empty or begins with `#`. Every other line is words.
 unfoldable pub line_of : Form → List ℕ → Result Said LineFault

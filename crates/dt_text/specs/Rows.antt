@@ -1,7 +1,7 @@
--- The lines of schedules and of scripts, a row each: which words a line has, and what it says.
+-- The lines of schedules, of scripts and of calls, a row each: which words a line has, and what it says.
 use Rattle.std.specs.Prelude.{ℕ, List, [], ◌∷◌, codes, replicate}
 use Rattle.dt_units.specs.Limits.{day}
-use Rattle.dt_text.specs.Said.{Said, Params, Station, Link, Route, Go, Pass, Send, Read, Tick, Arrive, Lose, Restart, Me, Local, Peer, AtSend, AtRead, AtStop}
+use Rattle.dt_text.specs.Said.{Said, Params, Station, Link, Route, Go, Pass, Send, Read, Tick, Arrive, Lose, Restart, Me, Local, Peer, AtSend, AtRead, AtStop, Shelf, Call}
 use Rattle.dt_text.specs.WordKinds.{WordKind, NumberWord, FlowWord, AddressWord, HexWord, MarksWord, AgainWord, Value}
 
 -- A word of a line is fixed, or it is one of a kind and gives the line a value.
@@ -20,7 +20,8 @@ pub record LineRow : Type 0 where
   pub words : List Part
   pub says : Makes words
 
--- The ranges of numbers: of 32 bits, the number of a link, a charge or a pace in milliseconds, and how many octets are read at most.
+-- The ranges of numbers: of 32 bits, the number of a link, a charge or a pace in milliseconds, and how many octets are read at most. And how many
+-- octets are sent at most, and are called with: the message of a call has eight octets more. And how many packets a shelf holds at most.
 abbrev pub any_number : WordKind
 any_number = NumberWord 0 4294967295
 
@@ -32,6 +33,15 @@ link_time = NumberWord 0 day
 
 abbrev pub read_count : WordKind
 read_count = NumberWord 1 65536
+
+abbrev pub shelf_count : WordKind
+shelf_count = NumberWord 1 64
+
+abbrev pub sent_octets : WordKind
+sent_octets = HexWord 65536
+
+abbrev pub called_octets : WordKind
+called_octets = HexWord 65528
 
 abbrev pub number_word : Part
 number_word = Given any_number
@@ -45,6 +55,9 @@ time_word = Given link_time
 abbrev pub count_word : Part
 count_word = Given read_count
 
+abbrev pub room_word : Part
+room_word = Given shelf_count
+
 abbrev pub flow_word : Part
 flow_word = Given FlowWord
 
@@ -52,7 +65,10 @@ abbrev pub address_word : Part
 address_word = Given AddressWord
 
 abbrev pub hex_word : Part
-hex_word = Given HexWord
+hex_word = Given sent_octets
+
+abbrev pub payload_word : Part
+payload_word = Given called_octets
 
 abbrev pub marks_word : Part
 marks_word = Given MarksWord
@@ -120,6 +136,10 @@ lose_row = record { words = Fixed (codes "lose") ∷ number_word ∷ []; says = 
 abbrev pub restart_row : LineRow
 restart_row = record { words = Fixed (codes "restart") ∷ number_word ∷ []; says = Restart }
 
+-- `call FLOW HEX`
+abbrev pub call_row : LineRow
+call_row = record { words = Fixed (codes "call") ∷ flow_word ∷ payload_word ∷ []; says = Call }
+
 -- `me N first` or `me N again`
 abbrev pub me_row : LineRow
 me_row = record { words = Fixed (codes "me") ∷ number_word ∷ again_word ∷ []; says = Me }
@@ -135,6 +155,10 @@ peer_row = record { words = Fixed (codes "peer") ∷ link_word ∷ address_word 
 -- `route TO L`: at the node itself
 abbrev pub own_route_row : LineRow
 own_route_row = record { words = Fixed (codes "route") ∷ number_word ∷ link_word ∷ []; says = Route 0 }
+
+-- `shelf N`
+abbrev pub shelf_row : LineRow
+shelf_row = record { words = Fixed (codes "shelf") ∷ room_word ∷ []; says = Shelf }
 
 -- `at T send FLOW MARKS HEX`
 abbrev pub at_send_row : LineRow
@@ -161,9 +185,15 @@ of_schedules =
     (params_row ∷ params_start_row ∷ []) ∷ (station_row ∷ []) ∷ (link_row ∷ []) ∷ (route_row ∷ []) ∷ (go_row ∷ [])
     ∷ (pass_row ∷ []) ∷ (send_row ∷ []) ∷ (read_row ∷ []) ∷ (tick_row ∷ []) ∷ (arrive_row ∷ []) ∷ (lose_row ∷ []) ∷ (restart_row ∷ []) ∷ []
 
+-- the kinds of lines of an input of calls
+abbrev pub of_calls : List LineKind
+of_calls =
+    (params_row ∷ params_start_row ∷ []) ∷ (station_row ∷ []) ∷ (link_row ∷ []) ∷ (route_row ∷ []) ∷ (go_row ∷ [])
+    ∷ (call_row ∷ []) ∷ (pass_row ∷ []) ∷ (tick_row ∷ []) ∷ (arrive_row ∷ []) ∷ (lose_row ∷ []) ∷ (restart_row ∷ []) ∷ []
+
 -- the kinds of lines of a script, but for those behind `at T`
 abbrev pub of_scripts : List LineKind
-of_scripts = (params_row ∷ params_start_row ∷ []) ∷ (me_row ∷ []) ∷ (local_row ∷ []) ∷ (peer_row ∷ []) ∷ (own_route_row ∷ []) ∷ (go_row ∷ []) ∷ []
+of_scripts = (params_row ∷ params_start_row ∷ []) ∷ (me_row ∷ []) ∷ (local_row ∷ []) ∷ (peer_row ∷ []) ∷ (own_route_row ∷ []) ∷ (shelf_row ∷ []) ∷ (go_row ∷ []) ∷ []
 
 -- the kinds of lines of a script behind `at T`
 abbrev pub behind_moments : List LineKind

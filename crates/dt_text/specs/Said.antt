@@ -27,6 +27,8 @@ pub data Said : Type 0 where
   AtSend : (at : ℕ) (flow : Flow) (begin end : Bool) (hex : List ℕ) → Said
   AtRead : (at : ℕ) (flow : Flow) (max : ℕ) → Said
   AtStop : (at : ℕ) → Said
+  Shelf : (room : ℕ) → Said
+  Call : (flow : Flow) (hex : List ℕ) → Said
 
 -- what a line says
 abbrev pub said : Line → Said
@@ -49,6 +51,8 @@ said (lines.Peer link address charge pace) = Peer link address charge pace
 said (lines.AtSend at flow begin end hex) = AtSend at flow begin end hex.now
 said (lines.AtRead at flow max) = AtRead at flow max
 said (lines.AtStop at) = AtStop at
+said (lines.Shelf room) = Shelf room
+said (lines.Call flow hex) = Call flow hex.now
 
 -- what was read is what the definition says: this line, or this fault
 abbrev pub ReadAs : Result Line LineFault → Result Said LineFault → Type 0

@@ -2,10 +2,10 @@
 use Rattle.std.specs.Prelude.{◌≡◌, ◌⊎◌, ℕ, List, [], ◌∷◌, ◌++◌}
 use Rattle.std.specs.List.{join_with_byte}
 use Rattle.dt_text.specs.declared.lines.Form.{Form}
-use Rattle.dt_text.specs.declared.lines.Form.TheVariants.{Schedule, Script}
-use Rattle.dt_text.specs.Said.{Said, Params, Station, Link, Route, Go, Pass, Send, Read, Tick, Arrive, Lose, Restart, Me, Local, Peer, AtSend, AtRead, AtStop, Blank}
+use Rattle.dt_text.specs.declared.lines.Form.TheVariants.{Schedule, Script, Calls}
+use Rattle.dt_text.specs.Said.{Said, Params, Station, Link, Route, Go, Pass, Send, Read, Tick, Arrive, Lose, Restart, Me, Local, Peer, AtSend, AtRead, AtStop, Shelf, Call, Blank}
 use Rattle.dt_text.specs.WordKinds.{Value, value_text, IsOfKind}
-use Rattle.dt_text.specs.Rows.{Part, Fixed, Given, Makes, LineRow, params_row, params_start_row, station_row, link_row, route_row, go_row, pass_row, send_row, read_row, tick_row, arrive_row, lose_row, restart_row, me_row, local_row, peer_row, own_route_row, at_send_row, at_read_row, at_stop_row}
+use Rattle.dt_text.specs.Rows.{Part, Fixed, Given, Makes, LineRow, params_row, params_start_row, station_row, link_row, route_row, go_row, pass_row, send_row, read_row, tick_row, arrive_row, lose_row, restart_row, me_row, local_row, peer_row, own_route_row, at_send_row, at_read_row, at_stop_row, shelf_row, call_row}
 
 -- the values of the words of a row, one after another
 abbrev pub Values : List Part → Type 0
@@ -39,14 +39,26 @@ pub record Way : Type 0 where
 abbrev pub by : (row : LineRow) → Values row.words → List Way
 by row values = (record { row = row; values = values }) ∷ []
 
--- a line of schedules alone, or of scripts alone
+-- a line of worlds alone, which are those of schedules and of calls; or of one of the three forms alone
+abbrev pub in_world : Form → List Way → List Way
+in_world Schedule ways = ways
+in_world Script ways = []
+in_world Calls ways = ways
+
 abbrev pub in_schedule : Form → List Way → List Way
 in_schedule Schedule ways = ways
 in_schedule Script ways = []
+in_schedule Calls ways = []
 
 abbrev pub in_script : Form → List Way → List Way
 in_script Schedule ways = []
 in_script Script ways = ways
+in_script Calls ways = []
+
+abbrev pub in_calls : Form → List Way → List Way
+in_calls Schedule ways = []
+in_calls Script ways = []
+in_calls Calls ways = ways
 
 -- a blank line has no words
 abbrev pub blank_row : LineRow
@@ -59,24 +71,27 @@ ways form Blank = by blank_row tt
 ways form (Params p) =
     by params_start_row (p.mpl, (p.r, (p.a, (p.rto, (p.probe, (p.seg, (p.cap, (p.rcap, (p.window, (p.run_limit, (p.start, tt)))))))))))
     ++ by params_row (p.mpl, (p.r, (p.a, (p.rto, (p.probe, (p.seg, (p.cap, (p.rcap, (p.window, (p.run_limit, tt))))))))))
-ways form (Station n clock) = in_schedule form (by station_row (n, (clock, tt)))
-ways form (Link link from to charge pace) = in_schedule form (by link_row (link, (from, (to, (charge, (pace, tt))))))
+ways form (Station n clock) = in_world form (by station_row (n, (clock, tt)))
+ways form (Link link from to charge pace) = in_world form (by link_row (link, (from, (to, (charge, (pace, tt))))))
 ways Schedule (Route at to link) = by route_row (at, (to, (link, tt)))
 ways Script (Route at to link) = by own_route_row (to, (link, tt))
+ways Calls (Route at to link) = by route_row (at, (to, (link, tt)))
 ways form Go = by go_row tt
-ways form (Pass by_ms) = in_schedule form (by pass_row (by_ms, tt))
+ways form (Pass by_ms) = in_world form (by pass_row (by_ms, tt))
 ways form (Send flow begin end hex) = in_schedule form (by send_row (flow, ((begin, end), (hex, tt))))
 ways form (Read flow max) = in_schedule form (by read_row (flow, (max, tt)))
-ways form (Tick n) = in_schedule form (by tick_row (n, tt))
-ways form (Arrive copy) = in_schedule form (by arrive_row (copy, tt))
-ways form (Lose copy) = in_schedule form (by lose_row (copy, tt))
-ways form (Restart n) = in_schedule form (by restart_row (n, tt))
+ways form (Tick n) = in_world form (by tick_row (n, tt))
+ways form (Arrive copy) = in_world form (by arrive_row (copy, tt))
+ways form (Lose copy) = in_world form (by lose_row (copy, tt))
+ways form (Restart n) = in_world form (by restart_row (n, tt))
 ways form (Me n again) = in_script form (by me_row (n, (again, tt)))
 ways form (Local address) = in_script form (by local_row (address, tt))
 ways form (Peer link address charge pace) = in_script form (by peer_row (link, (address, (charge, (pace, tt)))))
 ways form (AtSend at flow begin end hex) = in_script form (by at_send_row (at, (flow, ((begin, end), (hex, tt)))))
 ways form (AtRead at flow max) = in_script form (by at_read_row (at, (flow, (max, tt))))
 ways form (AtStop at) = in_script form (by at_stop_row (at, tt))
+ways form (Shelf room) = in_script form (by shelf_row (room, tt))
+ways form (Call flow hex) = in_calls form (by call_row (flow, (hex, tt)))
 
 -- the row makes the line, with values of the kinds of its words
 abbrev pub IsWay : Said → Way → Type 0

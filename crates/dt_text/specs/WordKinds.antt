@@ -1,6 +1,6 @@
 -- What the words of a line may be: for each kind of word the values that it has, how a word is read, the fault where it isn't of the kind, how
 -- a value is written, and the values that are written so.
-use Rattle.std.specs.Prelude.{◌≡◌, ℕ, ◌<◌, ◌≤◌, Bool, true, false, List, ◌∷◌, ◌++◌, map, length, codes, IsTrue, Option, Some, None, Result, Ok, Err, if◌then◌else◌, nat_le}
+use Rattle.std.specs.Prelude.{◌≡◌, ℕ, ◌*◌, ◌<◌, ◌≤◌, Bool, true, false, List, ◌∷◌, ◌++◌, map, length, codes, IsTrue, Option, Some, None, Result, Ok, Err, if◌then◌else◌, nat_le}
 use Rattle.std.specs.Option.{ok_or}
 use Rattle.std.specs.Fmt.{decimal}
 use Rattle.std.specs.Str.{bytes_eq}
@@ -20,8 +20,8 @@ pub data WordKind : Type 0 where
   NumberWord : (least most : ℕ) → WordKind
   FlowWord : WordKind
   AddressWord : WordKind
-  -- 1 to 65,536 pairs of hexadecimal digits
-  HexWord : WordKind
+  -- 1 to most pairs of hexadecimal digits
+  HexWord : (most : ℕ) → WordKind
   -- `be`, `b`, `e` or `-`: whether a message begins with the octets, and whether it ends with them
   MarksWord : WordKind
   -- `first` or `again`: whether a node begins again after an earlier life
@@ -32,7 +32,7 @@ abbrev pub Value : WordKind → Type 0
 Value (NumberWord least most) = ℕ
 Value FlowWord = Flow
 Value AddressWord = Address
-Value HexWord = List ℕ
+Value (HexWord most) = List ℕ
 Value MarksWord = Bool × Bool
 Value AgainWord = Bool
 
@@ -57,7 +57,7 @@ abbrev pub value_read : (kind : WordKind) → List ℕ → Result (Value kind) L
 value_read (NumberWord least most) word = number_from least (numeral most word)
 value_read FlowWord word = ok_or (flow_read word) faults.Flow
 value_read AddressWord word = ok_or (address_read word) faults.Number
-value_read HexWord word = if is_hex 65536 word then Ok word else Err faults.Hex
+value_read (HexWord most) word = if is_hex most word then Ok word else Err faults.Hex
 value_read MarksWord word = marks_of word
 value_read AgainWord word = again_of word
 
@@ -76,7 +76,7 @@ abbrev pub value_text : (kind : WordKind) → Value kind → List ℕ
 value_text (NumberWord least most) n = decimal n
 value_text FlowWord flow = flow_text flow
 value_text AddressWord address = address_text address
-value_text HexWord hex = hex
+value_text (HexWord most) hex = hex
 value_text MarksWord marks = marks_text marks
 value_text AgainWord again = again_text again
 
@@ -86,10 +86,10 @@ pub record IsAddress (a : Address) : Type 0 where
   pub octets : AllByRecursion (λ n. n ≤ 255) a.ip
   pub port : a.port ≤ 65535
 
--- 1 to 65,536 pairs of hexadecimal digits
-pub record IsHex (hex : List ℕ) : Type 0 where
+-- 1 to most pairs of hexadecimal digits
+pub record IsHex (most : ℕ) (hex : List ℕ) : Type 0 where
   pub some : 0 < length hex
-  pub within : length hex ≤ 131072
+  pub within : length hex ≤ 2 * most
   pub pairs : IsTrue (are_pairs hex)
 
 -- the value is one of the kind
@@ -97,6 +97,6 @@ abbrev pub IsOfKind : (kind : WordKind) → Value kind → Type 0
 IsOfKind (NumberWord least most) n = (least ≤ n) × (n ≤ most)
 IsOfKind FlowWord flow = IsFlow flow
 IsOfKind AddressWord address = IsAddress address
-IsOfKind HexWord hex = IsHex hex
+IsOfKind (HexWord most) hex = IsHex most hex
 IsOfKind MarksWord marks = Unit {0}
 IsOfKind AgainWord again = Unit {0}

@@ -1,7 +1,7 @@
 //! The words behind the first word of a line: what each may be, and its fault where it isn't that.
 ghost use Rattle.std.specs.Prelude.{◌≡◌, ◌==◌, ◌<◌, ◌≤◌, length, IfOk, OnOk, MatchResult, if◌then◌else◌};
 ghost use Rattle.dt_text.specs.WordKinds.{value_read, NumberWord, FlowWord, AddressWord, HexWord, MarksWord, AgainWord};
-ghost use Rattle.dt_text.specs.Rows.{any_number, link_number, link_time, read_count};
+ghost use Rattle.dt_text.specs.Rows.{any_number, called_octets, link_number, link_time, read_count, sent_octets, shelf_count};
 
 use crate::endpoints::{read_address, read_flow};
 use crate::hexadecimal::is_hex;
@@ -17,8 +17,14 @@ const MOST_LINK: u32 = 255;
 /// A day: the greatest charge and the greatest pace, in ms.
 const DAY: u32 = 86_400_000;
 
-/// The most octets of one read, and the most pairs of hexadecimal digits of one line.
+/// The most octets of one read, and the most pairs of hexadecimal digits of a send.
 const MOST_OCTETS: u32 = 65_536;
+
+/// The most pairs of hexadecimal digits of a call: its message has its number before them.
+const MOST_PAYLOAD: u32 = 65_528;
+
+/// The most packets on a shelf.
+const MOST_SHELVED: u32 = 64;
 
 /// Whether a line has as many words as that.
 pub fn has(count: usize, words: &Words<'_>) -> Result<(), LineFault>
@@ -75,6 +81,13 @@ pub fn max(word: &[u8]) -> Result<u32, LineFault>
     number_from(1, MOST_OCTETS, word)
 }
 
+/// How many packets a shelf holds at most, 1 to 64.
+pub fn room(word: &[u8]) -> Result<u32, LineFault>
+    ensures { result ≡ value_read shelf_count word.now }
+{
+    number_from(1, MOST_SHELVED, word)
+}
+
 /// A flow.
 pub fn flow(word: &[u8]) -> Result<Flow, LineFault>
     ensures { result ≡ value_read FlowWord word.now }
@@ -89,15 +102,29 @@ pub fn address(word: &[u8]) -> Result<Address, LineFault>
     read_address(word).ok_or(LineFault::Number)
 }
 
-/// 1 to 65,536 pairs of hexadecimal digits, as they are written.
-pub fn hex(word: &[u8]) -> Result<&[u8], LineFault>
-    ensures { MatchResult result (λ hex. value_read HexWord word.now ≡ Ok hex.now) (λ fault. value_read HexWord word.now ≡ Err fault) }
+/// 1 to `most` pairs of hexadecimal digits, as they are written.
+fn hex_to(most: u32, word: &[u8]) -> Result<&[u8], LineFault>
+    ensures { MatchResult result (λ hex. value_read (HexWord most) word.now ≡ Ok hex.now) (λ fault. value_read (HexWord most) word.now ≡ Err fault) }
 {
-    if is_hex(word, MOST_OCTETS) {
+    if is_hex(word, most) {
         Ok(word)
     } else {
         Err(LineFault::Hex)
     }
+}
+
+/// 1 to 65,536 pairs of hexadecimal digits, as they are written.
+pub fn hex(word: &[u8]) -> Result<&[u8], LineFault>
+    ensures { MatchResult result (λ hex. value_read sent_octets word.now ≡ Ok hex.now) (λ fault. value_read sent_octets word.now ≡ Err fault) }
+{
+    hex_to(MOST_OCTETS, word)
+}
+
+/// 1 to 65,528 pairs of hexadecimal digits, as they are written.
+pub fn payload(word: &[u8]) -> Result<&[u8], LineFault>
+    ensures { MatchResult result (λ hex. value_read called_octets word.now ≡ Ok hex.now) (λ fault. value_read called_octets word.now ≡ Err fault) }
+{
+    hex_to(MOST_PAYLOAD, word)
 }
 
 /// Whether a message begins with the octets, and whether it ends with them: `be`, `b`, `e`, `-`.

@@ -1,16 +1,16 @@
-//! Lines of schedules and of scripts, read: an input is cut into lines, and each line says what its
-//! words say, or has the first fault.
+//! Lines of schedules, of scripts and of inputs of calls, read: an input is cut into lines, and each
+//! line says what its words say, or has the first fault.
 #![tactic(auto)]
 
 mod endpoints;
-mod fields;
+pub mod fields;
 mod hexadecimal;
 mod input_lines;
 pub mod laws;
 mod lines;
 mod numerals;
 mod reading;
-mod splitting;
+pub mod splitting;
 mod stages;
 
 pub use dt_reports::LineFault;

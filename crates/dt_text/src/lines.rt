@@ -8,10 +8,14 @@ pub enum Form {
     Schedule,
     /// The input of one node over a wire.
     Script,
+    /// The input of a whole world in which calls are made: as a schedule, but that octets go in calls
+    /// and their replies alone.
+    Calls,
 }
 
-/// A line of a schedule or of a script, as its words say. `hex` lends the digits of the line, which
-/// are pairs of hexadecimal digits, at least one pair and at most 65,536.
+/// A line of an input, as its words say. `hex` lends the digits of the line, which are pairs of
+/// hexadecimal digits, at least one pair and at most 65,536. Where it isn't said of a line in which
+/// forms it stands, it stands in all; those of a world stand in schedules and in inputs of calls.
 #[derive(Clone, Copy, Debug, PartialEq, Eq)]
 pub enum Line<'a> {
     /// An empty line, or one that begins with `#`.
@@ -19,13 +23,13 @@ pub enum Line<'a> {
     /// The parameters of the protocol. Their ranges aren't tested yet. `start` is 0 where the line
     /// leaves it out.
     Params(Params),
-    /// A schedule: the node `n` stands in the world. Its clock reads `zero` ms more than the
+    /// Of a world: the node `n` stands in it. Its clock reads `zero` ms more than the
     /// world's.
     Station {
         n: u32,
         zero: u32,
     },
-    /// A schedule: a link goes from a node to another. Its number is 0 to 255. Its charge and its
+    /// Of a world: a link goes from a node to another. Its number is 0 to 255. Its charge and its
     /// pace are 0 to 86,400,000 ms.
     Link {
         link: u16,
@@ -43,7 +47,7 @@ pub enum Line<'a> {
     },
     /// The setup ends.
     Go,
-    /// A schedule: `by` ms pass.
+    /// Of a world: `by` ms pass.
     Pass {
         by: u32,
     },
@@ -59,19 +63,19 @@ pub enum Line<'a> {
         flow: Flow,
         max: u32,
     },
-    /// A schedule: the station `n` does what is due.
+    /// Of a world: the station `n` does what is due.
     Tick {
         n: u32,
     },
-    /// A schedule: a copy of a packet comes to the end of its link.
+    /// Of a world: a copy of a packet comes to the end of its link.
     Arrive {
         copy: u32,
     },
-    /// A schedule: a copy of a packet is lost.
+    /// Of a world: a copy of a packet is lost.
     Lose {
         copy: u32,
     },
-    /// A schedule: the station `n` loses its records and begins again.
+    /// Of a world: the station `n` loses its records and begins again.
     Restart {
         n: u32,
     },
@@ -107,5 +111,14 @@ pub enum Line<'a> {
     /// A script: the run ends `at` ms after the first reading.
     AtStop {
         at: u32,
+    },
+    /// A script: the node keeps up to `room` packets that came too early, 1 to 64.
+    Shelf {
+        room: u32,
+    },
+    /// Calls: a call is made along the flow, with 1 to 65,528 pairs of digits.
+    Call {
+        flow: Flow,
+        hex: &'a [u8],
     },
 }

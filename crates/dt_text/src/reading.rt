@@ -1,14 +1,14 @@
-//! Each kind of line by its words, and the lines of both forms.
+//! Each kind of line by its words, and the lines of each form.
 ghost use Rattle.std.specs.Prelude.{◌≡◌, ◌≢◌, ◌==◌, ◌⊎◌, ◌∷◌, [], ◌<◌, length, IfOk, IfErr, OnOk, if◌then◌else◌};
 ghost use Rattle.dt_text.specs.Said.{ReadAs, said};
 ghost use Rattle.dt_text.specs.Spelling.{IsLine};
 ghost use Rattle.dt_text.specs.Lines.{line_of, said_as, said_at, said_in};
-ghost use Rattle.dt_text.specs.declared.lines.Form.TheVariants.{Schedule, Script};
+ghost use Rattle.dt_text.specs.declared.lines.Form.TheVariants.{Calls, Schedule, Script};
 ghost use Rattle.dt_text.specs.Rows as rows;
 ghost use Rattle.dt_text.specs.Splitting.{word};
 ghost use Rattle.dt_text.specs.WordKinds.{value_read};
 
-use crate::fields::{address, again, day, flow, has, hex, link, marks, max, number};
+use crate::fields::{address, again, day, flow, has, hex, link, marks, max, number, payload, room};
 use crate::lines::{Form, Line};
 use crate::splitting::{Words, is};
 use dt_reports::LineFault;
@@ -249,6 +249,16 @@ fn own_route_line<'a>(words: &Words<'a>) -> Result<Line<'a>, LineFault>
     Ok(Line::Route { at: 0, to, link })
 }
 
+/// `shelf N`
+#[tactic(auto, unfolding(crate::specs::Lines::said_as))]
+fn shelf_line<'a>(words: &Words<'a>) -> Result<Line<'a>, LineFault>
+    ensures { ReadAs result (said_as (rows.shelf_row ∷ []) words.now) }
+{
+    has(2, words)?;
+    let room = room(words.word(1))?;
+    Ok(Line::Shelf { room })
+}
+
 /// `at T send FLOW MARKS HEX`
 #[tactic(auto, unfolding(crate::specs::Lines::said_as))]
 fn at_send_line<'a>(words: &Words<'a>) -> Result<Line<'a>, LineFault>
@@ -288,6 +298,17 @@ fn at_stop_line<'a>(words: &Words<'a>) -> Result<Line<'a>, LineFault>
     has(3, words)?;
     let at = number(words.word(1))?;
     Ok(Line::AtStop { at })
+}
+
+/// `call FLOW HEX`
+#[tactic(auto, unfolding(crate::specs::Lines::said_as))]
+fn call_line<'a>(words: &Words<'a>) -> Result<Line<'a>, LineFault>
+    ensures { ReadAs result (said_as (rows.call_row ∷ []) words.now) }
+{
+    has(3, words)?;
+    let flow = flow(words.word(1))?;
+    let hex = payload(words.word(2))?;
+    Ok(Line::Call { flow, hex })
 }
 
 /// A line of a script behind `at T`, which its third word chooses.
@@ -345,6 +366,39 @@ fn schedule_line<'a>(words: &Words<'a>) -> Result<Line<'a>, LineFault>
     }
 }
 
+/// A line of an input of calls, by its first word.
+fn calls_line<'a>(words: &Words<'a>) -> Result<Line<'a>, LineFault>
+    requires { 0 < length words.now }
+    ensures { ReadAs result (said_in Calls words.now) }
+{
+    let name = words.word(0);
+    if is(name, "params") {
+        params_line(words)
+    } else if is(name, "station") {
+        station_line(words)
+    } else if is(name, "link") {
+        link_line(words)
+    } else if is(name, "route") {
+        route_line(words)
+    } else if is(name, "go") {
+        go_line(words)
+    } else if is(name, "call") {
+        call_line(words)
+    } else if is(name, "pass") {
+        pass_line(words)
+    } else if is(name, "tick") {
+        tick_line(words)
+    } else if is(name, "arrive") {
+        arrive_line(words)
+    } else if is(name, "lose") {
+        lose_line(words)
+    } else if is(name, "restart") {
+        restart_line(words)
+    } else {
+        Err(LineFault::Word)
+    }
+}
+
 /// A line of a script, by its first word.
 fn script_line<'a>(words: &Words<'a>) -> Result<Line<'a>, LineFault>
     requires { 0 < length words.now }
@@ -363,6 +417,8 @@ fn script_line<'a>(words: &Words<'a>) -> Result<Line<'a>, LineFault>
         peer_line(words)
     } else if is(name, "route") {
         own_route_line(words)
+    } else if is(name, "shelf") {
+        shelf_line(words)
     } else if is(name, "go") {
         go_line(words)
     } else {
@@ -387,5 +443,6 @@ pub fn read_line(form: Form, bytes: &[u8]) -> Result<Line<'_>, LineFault>
     match form {
         Form::Schedule => schedule_line(&words),
         Form::Script => script_line(&words),
+        Form::Calls => calls_line(&words),
     }
 }

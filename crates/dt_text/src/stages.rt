@@ -1,6 +1,6 @@
 ghost use Rattle.std.specs.Prelude.{◌≡◌};
 ghost use Rattle.dt_text.specs.Said.{said};
-ghost use Rattle.dt_text.specs.Stages.{schedule_after, script_after, stage_after};
+ghost use Rattle.dt_text.specs.Stages.{calls_after, schedule_after, script_after, stage_after};
 
 use crate::lines::{Form, Line};
 
@@ -15,8 +15,8 @@ pub enum Stage {
     Me,
     /// Stations, links, peers and routes are set up.
     Setup,
-    /// The setup has ended. `last` is the moment of the last line of a script, in ms; in a
-    /// schedule it is 0.
+    /// The setup has ended. `last` is the moment of the last line of a script, in ms; in the other
+    /// forms it is 0.
     Run { last: u32 },
     /// A script: the stop was read.
     Ended,
@@ -56,7 +56,9 @@ fn script_after(stage: Stage, line: &Line<'_>) -> Option<Stage>
         (Stage::Start, Line::Params(_)) => Some(Stage::Params),
         (Stage::Params, Line::Me { .. }) => Some(Stage::Me),
         (Stage::Me, Line::Local(_)) => Some(Stage::Setup),
-        (Stage::Setup, Line::Peer { .. } | Line::Route { .. }) => Some(Stage::Setup),
+        (Stage::Setup, Line::Peer { .. } | Line::Route { .. } | Line::Shelf { .. }) => {
+            Some(Stage::Setup)
+        }
         (Stage::Setup, Line::Go) => Some(Stage::Run { last: 0 }),
         (Stage::Run { last }, Line::AtSend { at, .. } | Line::AtRead { at, .. }) if *at >= last => {
             Some(Stage::Run { last: *at })
@@ -66,17 +68,30 @@ fn script_after(stage: Stage, line: &Line<'_>) -> Option<Stage>
     }
 }
 
+/// The stage behind a line of an input of calls.
+fn calls_after(stage: Stage, line: &Line<'_>) -> Option<Stage>
+    ensures { result ≡ calls_after stage (said line.now) }
+{
+    match (stage, line) {
+        (Stage::Run { last }, Line::Call { .. }) => Some(Stage::Run { last }),
+        (_, Line::Call { .. } | Line::Send { .. } | Line::Read { .. }) => None,
+        (stage, line) => schedule_after(stage, line),
+    }
+}
+
 /// The stage behind a line that stands at this stage of its input. It is `None` exactly where the
 /// line isn't allowed there, which is the fault [`crate::LineFault::Order`]. In a schedule the
-/// parameters come first, then stations, links and routes, then `go`, then what happens. In a
-/// script the parameters come first, then the node's number, then its address, then peers and
-/// routes, then `go`, then what happens at moments that never fall, and the stop last. Blank lines
-/// are allowed everywhere and change no stage.
+/// parameters come first, then stations, links and routes, then `go`, then what happens; in an
+/// input of calls it is the same, with calls in place of sends and reads. In a script the parameters
+/// come first, then the node's number, then its address, then peers, routes and the shelf, then
+/// `go`, then what happens at moments that never fall, and the stop last. Blank lines are allowed
+/// everywhere and change no stage.
 pub fn follows(form: Form, stage: Stage, line: &Line<'_>) -> Option<Stage>
     ensures { result ≡ stage_after form stage (said line.now) }
 {
     match form {
         Form::Schedule => schedule_after(stage, line),
         Form::Script => script_after(stage, line),
+        Form::Calls => calls_after(stage, line),
     }
 }

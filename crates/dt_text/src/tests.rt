@@ -112,6 +112,76 @@ fn lines_of_schedules(rt: HostRuntime) {
 }
 
 #[test]
+fn lines_of_calls(rt: HostRuntime) {
+    reads(
+        &rt,
+        Form::Calls,
+        &[
+            ("#", Line::Blank),
+            ("station 0 1", Line::Station { n: 0, zero: 1 }),
+            (
+                "route 1 2 255",
+                Line::Route {
+                    at: 1,
+                    to: 2,
+                    link: 255,
+                },
+            ),
+            ("go", Line::Go),
+            (
+                "call 1:10>2:20 00fFA9",
+                Line::Call {
+                    flow: FLOW,
+                    hex: b"00fFA9",
+                },
+            ),
+            ("pass 0", Line::Pass { by: 0 }),
+            ("restart 7", Line::Restart { n: 7 }),
+        ],
+    );
+    refuses(
+        &rt,
+        Form::Calls,
+        LineFault::Word,
+        &[
+            "send 1:10>2:20 be 00",
+            "read 1:10>2:20 1",
+            "me 1 first",
+            "calls",
+        ],
+    );
+    refuses(&rt, Form::Schedule, LineFault::Word, &["call 1:10>2:20 00"]);
+    refuses(&rt, Form::Script, LineFault::Word, &["call 1:10>2:20 00"]);
+    refuses(
+        &rt,
+        Form::Calls,
+        LineFault::Count,
+        &["call", "call 1:10>2:20"],
+    );
+    refuses(&rt, Form::Calls, LineFault::Flow, &["call 1:10 0"]);
+    refuses(
+        &rt,
+        Form::Calls,
+        LineFault::Hex,
+        &["call 1:10>2:20 ", "call 1:10>2:20 0", "call 1:10>2:20 0g"],
+    );
+}
+
+/// A call has two digits for each octet, and at most 65,528 octets.
+#[test]
+fn the_longest_call(rt: HostRuntime) -> Result<(), Fail> {
+    for (count, fault) in [(65_528, None), (65_529, Some(LineFault::Hex))] {
+        let mut line = Vec::new(rt.alloc());
+        line.extend_from_slice(b"call 1:10>2:20 ")?;
+        for _ in 0..count {
+            line.extend_from_slice(b"61")?;
+        }
+        assert_eq!(rt; read_line(Form::Calls, &line).err(), fault, "{count}");
+    }
+    Ok(())
+}
+
+#[test]
 fn lines_of_scripts(rt: HostRuntime) {
     reads(
         &rt,
@@ -139,6 +209,8 @@ fn lines_of_scripts(rt: HostRuntime) {
                     link: 1,
                 },
             ),
+            ("shelf 1", Line::Shelf { room: 1 }),
+            ("shelf 64", Line::Shelf { room: 64 }),
             ("go", Line::Go),
             (
                 "at 4294967295 send 1:10>2:20 e 61",
@@ -313,6 +385,8 @@ const DAY: [&str; 4] = ["0", "86400000", "-1", "86400001"];
 
 const COUNT: [&str; 4] = ["1", "65536", "0", "65537"];
 
+const ROOM: [&str; 4] = ["1", "64", "0", "65"];
+
 const PORT: [&str; 4] = ["0", "65535", "-1", "65536"];
 
 const OCTET: [&str; 4] = ["0", "255", "-1", "256"];
@@ -380,6 +454,7 @@ fn the_ends_of_numbers(rt: HostRuntime) -> Result<(), Fail> {
             "peer 1 1.2.3.4:5 * 0\npeer 1 1.2.3.4:5 0 *",
         ),
         (script, number, COUNT, "at 0 read 1:10>2:20 *"),
+        (script, number, ROOM, "shelf *"),
         (
             script,
             number,
@@ -508,7 +583,11 @@ fn the_first_fault_of_each_kind(rt: HostRuntime) -> Result<(), Fail> {
         ),
         (
             Form::Script,
-            "wnnnnnnnnnnn params 1 1 1 1 1 1 1 1 1 1 1\nwnw me 1 again\nwn local 1.2.3.4:5\nwnnnn peer 1 1.2.3.4:5 50 0\nwnn route 2 1\nw go\nwnwfwh at 1 send 1:10>2:20 be 61\nwnwfn at 1 read 1:10>2:20 1\nwnw at 1 stop",
+            "wnnnnnnnnnnn params 1 1 1 1 1 1 1 1 1 1 1\nwnw me 1 again\nwn local 1.2.3.4:5\nwnnnn peer 1 1.2.3.4:5 50 0\nwnn route 2 1\nwn shelf 1\nw go\nwnwfwh at 1 send 1:10>2:20 be 61\nwnwfn at 1 read 1:10>2:20 1\nwnw at 1 stop",
+        ),
+        (
+            Form::Calls,
+            "wnnnnnnnnnnn params 1 1 1 1 1 1 1 1 1 1 1\nwnn station 1 0\nwnnnnn link 1 1 2 50 0\nwnnn route 1 2 1\nw go\nwfh call 1:10>2:20 61\nwn pass 1\nwn tick 1\nwn arrive 1\nwn lose 1\nwn restart 1",
         ),
     ] {
         for row in rows.split('\n') {
@@ -529,7 +608,11 @@ fn lines_with_a_word_too_few(rt: HostRuntime) {
         ),
         (
             Form::Script,
-            "me 1\nlocal\npeer 1 1.2.3.4:5 50\nroute 2\nat 1 send 1:10>2:20 be\nat 1 read 1:10>2:20\nat 1",
+            "me 1\nlocal\npeer 1 1.2.3.4:5 50\nroute 2\nshelf\nat 1 send 1:10>2:20 be\nat 1 read 1:10>2:20\nat 1",
+        ),
+        (
+            Form::Calls,
+            "station 1\nlink 1 1 2 50\nroute 1 2\ncall 1:10>2:20\npass\ntick\narrive\nlose\nrestart",
         ),
     ] {
         for line in lines.split('\n') {
@@ -593,7 +676,7 @@ fn hexadecimal_digits(rt: HostRuntime) -> Result<(), Fail> {
 }
 
 /// One line of each kind, and lines of a script at the moments 4 and 5.
-fn each_kind() -> [Line<'static>; 21] {
+fn each_kind() -> [Line<'static>; 23] {
     let hex = b"61".as_slice();
     let (flow, begin, end, address) = (FLOW, true, true, ADDRESS);
     let (link, charge, pace, from, to) = (1, 50, 0, 1, 2);
@@ -649,6 +732,8 @@ fn each_kind() -> [Line<'static>; 21] {
             max: 1,
         },
         Line::AtStop { at: 4 },
+        Line::Call { flow, hex },
+        Line::Shelf { room: 1 },
     ]
 }
 
@@ -678,6 +763,7 @@ fn allowed(form: Form, stage: Stage) -> &'static [(usize, Stage)] {
             (4, Stage::Setup),
             (5, Stage::Run { last: 0 }),
             (15, Stage::Setup),
+            (22, Stage::Setup),
         ],
         (Form::Script, Stage::Run { last: 0 }) => &[
             (16, Stage::Run { last: 5 }),
@@ -691,13 +777,28 @@ fn allowed(form: Form, stage: Stage) -> &'static [(usize, Stage)] {
             (17, Stage::Run { last: 5 }),
             (18, Stage::Ended),
         ],
+        (Form::Calls, Stage::Start) => &[(1, Stage::Setup)],
+        (Form::Calls, Stage::Setup) => &[
+            (2, Stage::Setup),
+            (3, Stage::Setup),
+            (4, Stage::Setup),
+            (5, Stage::Run { last: 0 }),
+        ],
+        (Form::Calls, Stage::Run { last: 0 }) => &[
+            (6, Stage::Run { last: 0 }),
+            (9, Stage::Run { last: 0 }),
+            (10, Stage::Run { last: 0 }),
+            (11, Stage::Run { last: 0 }),
+            (12, Stage::Run { last: 0 }),
+            (21, Stage::Run { last: 0 }),
+        ],
         _ => &[],
     }
 }
 
 #[test]
 fn stages(rt: HostRuntime) {
-    let of_schedules = [Stage::Start, Stage::Setup, Stage::Run { last: 0 }].as_slice();
+    let of_worlds = [Stage::Start, Stage::Setup, Stage::Run { last: 0 }].as_slice();
     let of_scripts = [
         Stage::Start,
         Stage::Params,
@@ -708,7 +809,11 @@ fn stages(rt: HostRuntime) {
         Stage::Ended,
     ]
     .as_slice();
-    for (form, stages) in [(Form::Schedule, of_schedules), (Form::Script, of_scripts)] {
+    for (form, stages) in [
+        (Form::Schedule, of_worlds),
+        (Form::Script, of_scripts),
+        (Form::Calls, of_worlds),
+    ] {
         for stage in stages {
             for (kind, line) in each_kind().iter().enumerate() {
                 let blank = (kind == 0).then_some(*stage);

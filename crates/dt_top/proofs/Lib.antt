@@ -1,3 +1,4 @@
 pub mod Positionals
 pub mod Naming
 pub mod NodeRuns
+pub mod Reruns

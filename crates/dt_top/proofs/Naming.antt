@@ -1,5 +1,5 @@
 -- What `clap` reads of the words, and that it takes all words that name a command.
-use Rattle.std.proofs.Common.{◌≡◌, ◌⊎◌, ℕ, ◌≤◌, ◌==◌, true, List, [], ◌∷◌, length, Option, Some, None, Result, Ok, Err, IfOk, IfErr, sym, refl, ap, subst, ◌∙◌, inl, inr, codes, slice_get, if◌then◌else◌, eqb-true, bytes_eq, option_map}
+use Rattle.std.proofs.Common.{arith, ◌≡◌, ◌⊎◌, ℕ, ◌≤◌, ◌==◌, true, List, [], ◌∷◌, length, Option, Some, None, Result, Ok, Err, IfOk, IfErr, sym, refl, ap, subst, ◌∙◌, inl, inr, codes, slice_get, if◌then◌else◌, eqb-true, bytes_eq, option_map}
 use Rattle.std.proofs.lemmas.Slice.Eq.{bytes_eq-Decides}
 use Rattle.clap.specs.Words.{FailsBy, IsAmong, HasMatchesOf, fault_of, found_of, first_of, first_value, kind_of}
 use Rattle.clap.specs.declared.error.Error.{Error}
@@ -11,7 +11,7 @@ use Rattle.dt_text.specs.Numerals.{numeral, digits_number}
 use Rattle.dt_make.specs.Schedules.{most_rounds}
 use Rattle.dt_top.specs.declared.command.Command.TheVariants.{Make}
 use Rattle.dt_top.specs.Words.{without_mark, from_one, rounds_of}
-use Rattle.dt_top.specs.Commands.{alone, counted, named}
+use Rattle.dt_top.specs.Commands.{alone, counted, named, named_by}
 use Rattle.dt_top.proofs.Positionals.{line, NoHyphen, reads, takes_one, takes_two, by_test}
 
 -- a number doesn't begin with a hyphen
@@ -41,6 +41,13 @@ counted_begins word count = by_test (bytes_eq word (codes "make"))
     number : bytes_eq word (codes "make") ≡ true → (o : Option ℕ) → numeral most_rounds count ≡ o → (counted word count ≡ None) ⊎ (NoHyphen word × NoHyphen count)
     number is None none = inl (ap (λ b. if b then option_map Make (rounds_of count) else None) is ∙ ap (λ o. option_map Make (from_one o)) none)
     number is (Some n) some = inr (subst NoHyphen (sym ((bytes_eq-Decides word (codes "make")).0 is)) refl, number_begins most_rounds n count some)
+
+-- two words at most name what the first and the next name
+pub named_parts : (texts : List Text) → length texts ≤ 2 → named_by (slice_get texts 0) (slice_get texts 1) ≡ named texts
+named_parts [] few = refl
+named_parts (word ∷ []) few = refl
+named_parts (word ∷ count ∷ []) few = refl
+named_parts (word ∷ count ∷ next ∷ more) few = absurd (omega (arith, few))
 
 -- words that `clap` doesn't take name no command
 pub none_or_taken : (words texts : List Text) → without_mark words ≡ texts → (named texts ≡ None) ⊎ (fault_of line words ≡ [])

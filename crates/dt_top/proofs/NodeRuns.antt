@@ -4,6 +4,7 @@ use Rattle.dt_edges.specs.Counts.{HasRisen}
 use Rattle.dt_node.specs.Completing.{ReachesStop}
 use Rattle.dt_node.specs.Drafts.{script_of}
 use Rattle.dt_node.specs.Orders.{Orders}
+use Rattle.dt_node.specs.declared.forms.Form.TheVariants as forms
 use Rattle.dt_node.specs.declared.outcomes.NodeOutcome.{NodeOutcome}
 use Rattle.dt_node.specs.declared.outcomes.NodeOutcome.TheVariants as node
 use Rattle.dt_top.specs.declared.command.Command.TheVariants.{Serve}
@@ -36,7 +37,7 @@ by_outcome outcome h = elim h [
   | inr e ↦ subst (λ n. Ended (status_of (node_ending n))) (sym e) (inr refl)
 ]
 
-by_answers : (outcome : NodeOutcome) (octets : List ℕ) (o : Orders) (plan : List ℕ) (s : Streams) → Runs octets o plan s → Served (NodeAnswers outcome) s → Ended (status_of (node_ending outcome))
+by_answers : (outcome : NodeOutcome) (octets : List ℕ) (o : Orders) (plan : List ℕ) (s : Streams) → Runs octets o plan s → Served (NodeAnswers forms.Log outcome) s → Ended (status_of (node_ending outcome))
 by_answers outcome octets o plan s runs h =
     let is : octets ≡ h.octets = subst (λ l. IfSome l (λ all. all ≡ h.octets)) runs.left h.input.whole in
     by_outcome outcome (h.owes.completes o plan (subst (λ xs. script_of xs ≡ Some o) is runs.script) runs.planned runs.fresh runs.reaches runs.take runs.out)

@@ -5,7 +5,7 @@ use Rattle.dt_make.specs.Schedules.{most_rounds}
 use Rattle.dt_top.specs.declared.command.Command.{Command}
 use Rattle.dt_top.specs.declared.command.Command.TheVariants.{Serve, Make}
 use Rattle.dt_top.specs.declared.job.Job.{Job}
-use Rattle.dt_top.specs.declared.job.Job.TheVariants.{Replay, Node, Audit}
+use Rattle.dt_top.specs.declared.job.Job.TheVariants.{Replay, Node, Trace, Retrace, Audit}
 use Rattle.dt_top.specs.Words.{without_mark, rounds_of}
 
 -- the job that a word names
@@ -13,6 +13,8 @@ abbrev pub job_of : Text → Option Job
 job_of word =
     if bytes_eq word (codes "replay") then Some Replay
     else if bytes_eq word (codes "node") then Some Node
+    else if bytes_eq word (codes "trace") then Some Trace
+    else if bytes_eq word (codes "retrace") then Some Retrace
     else if bytes_eq word (codes "audit") then Some Audit
     else None
 
@@ -23,6 +25,12 @@ alone word = option_map Serve (job_of word)
 -- the command of a word and a count
 abbrev pub counted : Text → Text → Option Command
 counted word count = if bytes_eq word (codes "make") then option_map Make (rounds_of count) else None
+
+-- the command of the first word and the next, where they are there
+abbrev pub named_by : (word count : Option Text) → Option Command
+named_by None count = None
+named_by (Some word) None = alone word
+named_by (Some word) (Some count) = counted word count
 
 -- the command of all of the words
 abbrev pub named : List Text → Option Command
@@ -50,6 +58,8 @@ reads_source (Some (Make n)) = false
 abbrev pub job_uses_wire : Job → Bool
 job_uses_wire Replay = false
 job_uses_wire Node = true
+job_uses_wire Trace = true
+job_uses_wire Retrace = false
 job_uses_wire Audit = false
 
 abbrev pub uses_wire : Option Command → Bool

@@ -24,7 +24,7 @@ status_of WriteFault = 8
 
 abbrev pub text_of : Ending → List ℕ
 text_of Done = []
-text_of Usage = codes "usage: deltat replay | node | make N | audit\n"
+text_of Usage = codes "usage: deltat replay | node | make N | trace | retrace | audit\n"
 text_of TooLong = codes "input longer than 16777216 octets\n"
 text_of Refused = codes "input refused\n"
 text_of NoMemory = codes "out of memory\n"

@@ -1,22 +1,28 @@
 -- What each command owes, and how a run of the program ends.
-use Rattle.std.specs.Prelude.{ℕ, ◌≡◌, ◌⊎◌, ◌<◌, ◌≤◌, List, length, Option, Some, None}
+use Rattle.std.specs.Prelude.{ℕ, ◌≡◌, ◌⊎◌, ◌<◌, ◌≤◌, List, length, Option, Some, None, IfSome}
+use Rattle.std.specs.Io.KnownBytes.{Appends}
 use Rattle.dt_audit.specs.declared.outcomes.AuditOutcome.TheVariants as verdict
 use Rattle.dt_audit.specs.Audits.{Audits}
+use Rattle.dt_edges.specs.Counts.{HasRisen}
 use Rattle.dt_edges.specs.Sinks.{SinkSight, Takes, TakesPart}
 use Rattle.dt_make.specs.Schedules.{make_text}
 use Rattle.dt_node.specs.Answering.{Answers}
 use Rattle.dt_node.specs.Completing.{Completes}
 use Rattle.dt_node.specs.Serving.{Edges, edges}
+use Rattle.dt_node.specs.declared.forms.Form.{Form}
+use Rattle.dt_node.specs.declared.forms.Form.TheVariants as forms
 use Rattle.dt_node.specs.declared.outcomes.NodeOutcome.{NodeOutcome}
 use Rattle.dt_node.specs.declared.outcomes.NodeOutcome.TheVariants as node
 use Rattle.dt_replay.specs.declared.outcomes.Outcome.TheVariants as outcome
 use Rattle.dt_replay.specs.Replays.{Replays}
+use Rattle.dt_retrace.specs.Retracing.{Retraces}
 use Rattle.dt_top.specs.declared.command.Command.{Command}
 use Rattle.dt_top.specs.declared.command.Command.TheVariants.{Serve, Make}
 use Rattle.dt_top.specs.declared.job.Job.{Job}
-use Rattle.dt_top.specs.declared.job.Job.TheVariants.{Replay, Node, Audit}
+use Rattle.dt_top.specs.declared.job.Job.TheVariants.{Replay, Node, Trace, Retrace, Audit}
 use Rattle.dt_top.specs.declared.ending.Ending.{Ending}
 use Rattle.dt_top.specs.declared.ending.Ending.TheVariants.{Done, Usage, TooLong, Refused, NoMemory, WireFault, ClockStill, ReadFault, WriteFault}
+use Rattle.dt_top.specs.Endings.{node_ending, status_of}
 use Rattle.dt_top.specs.Inputs.{limit}
 use Rattle.dt_top.specs.Streams.{Effects, NoEffects, Streams, OwesFor, Untouched}
 
@@ -32,27 +38,39 @@ replay_owes ClockStill octets e = ⊥
 replay_owes ReadFault octets e = ⊥
 replay_owes WriteFault octets e = Replays outcome.WriteFault octets e.out_before e.out_after
 
--- for the script of a node: what the node does
+-- for the script of a node: what the node does, by the form of what is written
 abbrev pub before : Effects → Edges
 before e = edges e.wire_before e.clock_before e.out_before
 
 abbrev pub after : Effects → Edges
 after e = edges e.wire_after e.clock_after e.out_after
 
-pub record NodeAnswers (outcome : NodeOutcome) (octets : List ℕ) (e : Effects) : Type 0 where
-  pub answers : Answers octets outcome (before e) (after e)
+pub record NodeAnswers (form : Form) (outcome : NodeOutcome) (octets : List ℕ) (e : Effects) : Type 0 where
+  pub answers : Answers form octets outcome (before e) (after e)
   pub completes : Completes octets outcome (before e) (after e)
 
-abbrev pub node_owes : Ending → List ℕ → Effects → Type 0
-node_owes Done octets e = NodeAnswers node.Done octets e
-node_owes Usage octets e = ⊥
-node_owes TooLong octets e = ⊥
-node_owes Refused octets e = NodeAnswers node.Refused octets e
-node_owes NoMemory octets e = NodeAnswers node.NoMemory octets e
-node_owes WireFault octets e = NodeAnswers node.WireFault octets e
-node_owes ClockStill octets e = NodeAnswers node.ClockStill octets e
-node_owes ReadFault octets e = ⊥
-node_owes WriteFault octets e = NodeAnswers node.WriteFault octets e
+abbrev pub node_owes : Form → Ending → List ℕ → Effects → Type 0
+node_owes form Done octets e = NodeAnswers form node.Done octets e
+node_owes form Usage octets e = ⊥
+node_owes form TooLong octets e = ⊥
+node_owes form Refused octets e = NodeAnswers form node.Refused octets e
+node_owes form NoMemory octets e = NodeAnswers form node.NoMemory octets e
+node_owes form WireFault octets e = NodeAnswers form node.WireFault octets e
+node_owes form ClockStill octets e = NodeAnswers form node.ClockStill octets e
+node_owes form ReadFault octets e = ⊥
+node_owes form WriteFault octets e = NodeAnswers form node.WriteFault octets e
+
+-- for a script and a trace: what the run does that is run again
+abbrev pub retrace_owes : Ending → List ℕ → Effects → Type 0
+retrace_owes Done octets e = Retraces octets node.Done e.out_before e.out_after
+retrace_owes Usage octets e = ⊥
+retrace_owes TooLong octets e = ⊥
+retrace_owes Refused octets e = Retraces octets node.Refused e.out_before e.out_after
+retrace_owes NoMemory octets e = Retraces octets node.NoMemory e.out_before e.out_after
+retrace_owes WireFault octets e = Retraces octets node.WireFault e.out_before e.out_after
+retrace_owes ClockStill octets e = Retraces octets node.ClockStill e.out_before e.out_after
+retrace_owes ReadFault octets e = ⊥
+retrace_owes WriteFault octets e = Retraces octets node.WriteFault e.out_before e.out_after
 
 -- for a log: the verdict on it
 abbrev pub audit_owes : Ending → List ℕ → Effects → Type 0
@@ -81,8 +99,22 @@ MakeOwes n WriteFault e = TakesPart (make_text n) e.out_before e.out_after
 -- what is owed for an input, by the job and by how it ends
 abbrev pub job_owes : Job → Ending → List ℕ → Effects → Type 0
 job_owes Replay ending octets e = replay_owes ending octets e
-job_owes Node ending octets e = node_owes ending octets e
+job_owes Node ending octets e = node_owes forms.Log ending octets e
+job_owes Trace ending octets e = node_owes forms.Trace ending octets e
+job_owes Retrace ending octets e = retrace_owes ending octets e
 job_owes Audit ending octets e = audit_owes ending octets e
+
+-- What is true of a failing wire: its count of faults rose, or it is a recorded failure that was met.
+abbrev pub WireFailed : Job → Option (List ℕ) → Effects → Type 0
+WireFailed Replay left e = ⊥
+WireFailed Node left e = HasRisen e.wire_before.take_faults e.wire_after.take_faults
+WireFailed Trace left e = HasRisen e.wire_before.take_faults e.wire_after.take_faults
+WireFailed Retrace left e = IfSome left (λ octets. Retraces octets node.WireFault e.out_before e.out_after)
+WireFailed Audit left e = ⊥
+
+-- what `retrace` leaves over the script and the trace of a run that left this log and this answer: the same, but where memory was wanted, or its own source or sink failed
+abbrev pub RunsAgain : (log : List ℕ) → (outcome : NodeOutcome) → (status : ℕ) → (before after : SinkSight) → Type 0
+RunsAgain log outcome status before after = ((status ≡ status_of (node_ending outcome)) × Appends before.held after.held log) ⊎ ((status ≡ 4) ⊎ ((status ≡ 7) ⊎ (status ≡ 8)))
 
 -- what is true of an input that is refused: it is too long, and nothing was done, or it is refused by its job
 abbrev pub RefusesInput : Job → List ℕ → Effects → Type 0

@@ -1,4 +1,4 @@
-ghost use Rattle.std.specs.Prelude.{◌≡◌, ◌≤◌, IfSome};
+ghost use Rattle.std.specs.Prelude.{◌≡◌, ◌≤◌, IfSome, option_map};
 ghost use Rattle.dt_make.specs.Schedules.{most_rounds};
 ghost use Rattle.dt_top.specs.Commands as commands;
 ghost use Rattle.dt_top.specs.Commands.{IsInRange};
@@ -30,7 +30,7 @@ fn rounds_of(word: &str) -> Option<u32>
 
 impl Command {
     /// The command of one word.
-    pub fn alone(word: &str) -> Option<Self>
+    fn alone(word: &str) -> Option<Self>
         ensures value { result ≡ commands.alone word.now }
         ensures within { IfSome result IsInRange }
     {
@@ -40,8 +40,20 @@ impl Command {
         }
     }
 
+    /// The command of the first word and the next, where they are there.
+    pub fn named_by(word: Option<&str>, count: Option<&str>) -> Option<Self>
+        ensures value { result ≡ commands.named_by (option_map (λ w. w.now) word.entry) (option_map (λ c. c.now) count.entry) }
+        ensures within { IfSome result IsInRange }
+    {
+        match (word, count) {
+            (Some(word), None) => Command::alone(word),
+            (Some(word), Some(count)) => Command::counted(word, count),
+            (None, _) => None,
+        }
+    }
+
     /// The command of a word and a count.
-    pub fn counted(word: &str, count: &str) -> Option<Self>
+    fn counted(word: &str, count: &str) -> Option<Self>
         ensures value { result ≡ commands.counted word.now count.now }
         ensures within { IfSome result IsInRange }
     {

@@ -32,18 +32,17 @@ fn found<'a>(alloc: Global, words: &'a [String]) -> Result<ArgMatches<'a>, Error
 
 /// The command that the words name, or none. `NoMemory` comes with any words, for want of memory in
 /// `clap` alone.
+#[tactic(auto, using(crate::proofs::Naming::named_parts))]
 pub fn command_of(alloc: Global, words: &[String]) -> Result<Option<Command>, NoMemory>
     ensures value { IfOk result (λ command. command ≡ commands.command_of words.now) }
     ensures within { IfOk result (λ command. IfSome command IsInRange) }
 {
     match found(alloc, words) {
-        Ok(matches) => Ok(
-            match (matches.get_str("command"), matches.get_str("count")) {
-                (Some(word), None) => Command::alone(word),
-                (Some(word), Some(count)) => Command::counted(word, count),
-                (None, _) => None,
-            },
-        ),
+        Ok(matches) => {
+            let word = matches.get_str("command");
+            let count = matches.get_str("count");
+            Ok(Command::named_by(word, count))
+        }
         Err(error) if error.kind() == ErrorKind::OutOfMemory => Err(NoMemory),
         Err(_) => Ok(None),
     }

@@ -4,8 +4,8 @@ ghost use Rattle.dt_top.specs.Endings.{status_of, text_of};
 /// How a run ends.
 #[derive(Clone, Copy, Debug, PartialEq, Eq)]
 pub enum Ending {
-    /// All was served: a schedule and its log, a script up to its stop, a generated schedule, or a log
-    /// without a flaw.
+    /// All was served: a schedule and its log, a script or a run up to its stop, a generated schedule, or
+    /// a log without a flaw.
     Done,
     /// The words aren't those of a command.
     Usage,
@@ -15,7 +15,7 @@ pub enum Ending {
     Refused,
     /// There was no memory.
     NoMemory,
-    /// The wire didn't open, or a take failed.
+    /// The wire didn't open, or a take failed; in a run that is run again, it is recorded so.
     WireFault,
     /// The clock stood still.
     ClockStill,
@@ -48,7 +48,7 @@ impl Ending {
     {
         match self {
             Ending::Done => b"",
-            Ending::Usage => b"usage: deltat replay | node | make N | audit\n",
+            Ending::Usage => b"usage: deltat replay | node | make N | trace | retrace | audit\n",
             Ending::TooLong => b"input longer than 16777216 octets\n",
             Ending::Refused => b"input refused\n",
             Ending::NoMemory => b"out of memory\n",

@@ -8,6 +8,10 @@ pub enum Job {
     Replay,
     /// It is a script, whose node runs over the wire.
     Node,
+    /// The same, and what is written is the run's trace.
+    Trace,
+    /// It is a script and a trace, whose run is run again.
+    Retrace,
     /// It is a log, which is checked.
     Audit,
 }
@@ -20,6 +24,8 @@ impl Job {
         match word {
             "replay" => Some(Job::Replay),
             "node" => Some(Job::Node),
+            "trace" => Some(Job::Trace),
+            "retrace" => Some(Job::Retrace),
             "audit" => Some(Job::Audit),
             _ => None,
         }

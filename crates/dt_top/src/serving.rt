@@ -15,8 +15,9 @@ use dt_audit::{AuditOutcome, audit};
 use dt_edges::{Clock, Failed, Sink, Source, Wire};
 use dt_items::NoMemory;
 use dt_make::make;
-use dt_node::{NodeOutcome, serve};
+use dt_node::{NodeOutcome, serve, serve_traced};
 use dt_replay::{Outcome, replay};
+use dt_retrace::retrace;
 use std::alloc::Global;
 
 /// How a run ends that has no input.
@@ -85,6 +86,8 @@ fn serve_input<K: Sink, W: Wire, C: Clock>(
     match job {
         Job::Replay => replay_ending(replay(alloc, input, out)),
         Job::Node => node_ending(serve(alloc, input, wire, clock, out)),
+        Job::Trace => node_ending(serve_traced(alloc, input, wire, clock, out)),
+        Job::Retrace => node_ending(retrace(alloc, input, out)),
         Job::Audit => audit_ending(audit(alloc, input, out)),
     }
 }

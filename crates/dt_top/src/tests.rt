@@ -237,6 +237,8 @@ fn other_words_are_no_command(rt: HostRuntime) -> Result<(), Fail> {
         "Replay",
         "replay 5",
         "node 5",
+        "trace 5",
+        "retrace 5",
         "audit 5",
         "replay -- --",
         "-- -- replay",
@@ -263,7 +265,7 @@ fn other_words_are_no_command(rt: HostRuntime) -> Result<(), Fail> {
         assert_eq!(rt; left.out.as_slice(), b"".as_slice());
         assert_eq!(rt;
             left.err.as_slice(),
-            b"usage: deltat replay | node | make N | audit\n".as_slice()
+            b"usage: deltat replay | node | make N | trace | retrace | audit\n".as_slice()
         );
     }
     Ok(())
@@ -449,10 +451,16 @@ at 100 stop
 /// Its first three lines.
 const SENDS: &str = "0 1 took 1:10>2:20 5\n0 1 sent 1:10>2:20 0 5 dbe\n0 1 put 1 999\n";
 
-/// A run of the node over a wire and by these readings, of which there is one at least.
-fn after_node(alloc: Global, wire: &mut MemWire, readings: &[u64]) -> Result<Left, Fail> {
+/// A run of the node, which the word names, over a wire and by these readings, of which there is one at
+/// least.
+fn after_node(
+    alloc: Global,
+    word: &str,
+    wire: &mut MemWire,
+    readings: &[u64],
+) -> Result<Left, Fail> {
     let mut words = Vec::new(alloc);
-    words.push(String::from_str(alloc, "node")?)?;
+    words.push(String::from_str(alloc, word)?)?;
     let mut source = MemSource::new(alloc, SCRIPT.as_bytes(), &[])
         .ok()
         .ok_or("memory")?;
@@ -485,7 +493,7 @@ fn a_node_ends_by_its_stop_its_wire_or_its_clock(rt: HostRuntime) -> Result<(), 
         let mut wire = MemWire::new(rt.alloc(), *open_fails, &[], &[], Some(64))
             .ok()
             .ok_or("memory")?;
-        let left = after_node(rt.alloc(), &mut wire, readings)?;
+        let left = after_node(rt.alloc(), "node", &mut wire, readings)?;
         assert_eq!(rt; left.status, *status);
         let begun = if *open_fails { "" } else { SENDS };
         let log = joined(rt.alloc(), &[begun, *end])?;
@@ -493,6 +501,28 @@ fn a_node_ends_by_its_stop_its_wire_or_its_clock(rt: HostRuntime) -> Result<(), 
         assert_eq!(rt; left.err.as_slice(), said.as_bytes());
         assert_eq!(rt; wire.given(0).is_some(), !*open_fails);
     }
+    Ok(())
+}
+
+#[test]
+fn a_trace_is_run_again(rt: HostRuntime) -> Result<(), Fail> {
+    let alloc = rt.alloc();
+    let mut wire = MemWire::new(alloc, false, &[], &[1], None)
+        .ok()
+        .ok_or("memory")?;
+    let left = after_node(alloc, "trace", &mut wire, &[1000, 1100])?;
+    assert_eq!(rt; left.status, 0);
+    let trace = "@ 1000\n! 1\n< -\n@ 1100\n";
+    assert_eq!(rt; left.out.as_slice(), trace.as_bytes());
+    let input = joined(alloc, &[SCRIPT, "trace\n", trace])?;
+    let again = after_run(alloc, &["retrace"], input.as_bytes(), FREELY)?;
+    assert_eq!(rt; again.status, 0);
+    let log = joined(alloc, &[SENDS, "0 1 unsent 1\nend 100\n"])?;
+    assert_eq!(rt; again.out.as_slice(), log.as_bytes());
+    let open = joined(alloc, &[SCRIPT, "trace\n! 0\n"])?;
+    let closed = after_run(alloc, &["retrace"], open.as_bytes(), FREELY)?;
+    assert_eq!(rt; closed.status, 5);
+    assert!(rt; closed.out.as_slice().is_empty());
     Ok(())
 }
 

@@ -73,6 +73,10 @@ pub fn effect_of(report: &Report<'_>) -> Effect
         | Report::Full { .. }
         | Report::Bad { .. }
         | Report::Unsent { .. }
+        | Report::Shelved { .. }
+        | Report::NoShelf { .. }
+        | Report::Again { .. }
+        | Report::Stale { .. }
         | Report::Restarted { .. }
         | Report::Lost { .. }
         | Report::FlowTotals { .. }

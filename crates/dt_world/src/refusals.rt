@@ -84,7 +84,8 @@ fn arrival_refusal(parts: &Parts, copy: u32) -> Option<StepFault>
     }
 }
 
-fn has_station(parts: &Parts, n: u32) -> bool
+/// Whether the station is there.
+pub fn has_station(parts: &Parts, n: u32) -> bool
     ensures { result ≡ has_key ◌==◌ n (world_seen parts.entry.now).stations }
 {
     parts.stations.contains_key(&n)

@@ -1,6 +1,7 @@
 //! The world and its step.
-ghost use Rattle.std.specs.Prelude.{◌≡◌, IfOk, false, length};
+ghost use Rattle.std.specs.Prelude.{◌≡◌, ◌==◌, IfOk, false, length};
 ghost use Rattle.dt_world_model.specs.Setup.{new_world};
+ghost use Rattle.dt_world_model.specs.Tables.{has_key};
 ghost use Rattle.dt_world_model.specs.World.{placed};
 ghost use Rattle.dt_world_model.specs.WorldFacts.{SafeWorld};
 ghost use Rattle.dt_world.specs.Outcomes.{Answers};
@@ -10,7 +11,7 @@ use crate::copies::Copies;
 use crate::events::Event;
 use crate::notes::Notes;
 use crate::parts::Parts;
-use crate::refusals::refusal;
+use crate::refusals::{has_station, refusal};
 use crate::setups::Setup;
 use crate::starts::{first_stations, same_links};
 use crate::steps::happen;
@@ -81,6 +82,13 @@ impl World {
             frame: Frame::new(),
             spent: false,
         })
+    }
+
+    /// Whether the station is there.
+    pub fn has_station(&self, station: NodeId) -> bool
+        ensures { result ≡ has_key ◌==◌ station.0 self.now.state.stations }
+    {
+        has_station(&self.parts, station.0)
     }
 
     /// How often the station started again, 0 to 2^32 - 1. One that isn't there never did.

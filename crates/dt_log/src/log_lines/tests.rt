@@ -228,6 +228,25 @@ fn each_report_has_its_line(rt: HostRuntime) -> Result<(), Fail> {
             "40 2 bad dead\n",
         ),
         (Report::Unsent { link: 1 }, "40 2 unsent 1\n"),
+        (
+            Report::Shelved { flow, number: 4 },
+            "40 2 shelved 1:10>4294967295:0 4\n",
+        ),
+        (
+            Report::NoShelf { flow, number: 8 },
+            "40 2 noshelf 1:10>4294967295:0 8\n",
+        ),
+        (
+            Report::Again { flow, number: 0 },
+            "40 2 again 1:10>4294967295:0 0\n",
+        ),
+        (
+            Report::Stale {
+                flow,
+                number: 4_294_967_295,
+            },
+            "40 2 stale 1:10>4294967295:0 4294967295\n",
+        ),
         (Report::Restarted { life: 1 }, "40 2 restarted 1\n"),
         (Report::Lost { copy: 3 }, "40 lost 3\n"),
         (

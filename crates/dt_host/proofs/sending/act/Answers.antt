@@ -1,4 +1,4 @@
-use Rattle.std.proofs.Common.{refl, sym, ap, subst, ◌∙◌}
+use Rattle.std.proofs.Common.{refl, sym, ap, subst, ◌∙◌, arith}
 use Rattle.std.specs.Map.{remove_entry}
 use Rattle.dt_flow_model.specs.SendActs.{Act, kind_and_moment}
 use Rattle.std.specs.Prelude.{Option, IsSome}
@@ -72,4 +72,5 @@ returns-in_default-act g c =
       entries =
           (let after = after_is a.rules.now a.now a.flow.now a.senders.now.entries c.requires.entries c.in-Some.sender.now found d.0 d.1 d.2 c.act-act.new.self c.act-act.ensures.after in
           subst (AreSendEntries a.rules.now) (sym stands) (all_after a.rules.now a.now a.flow.now a.senders.now.entries c.requires.entries c.in-Some.sender.now found d.0 d.1 d.2 c.act-act.new.self after));
+      looks = (let one = c.act-act.ensures.looks in omega arith);
     }

@@ -11,11 +11,12 @@ use Rattle.dt_node.proofs.running.run_turns.Given as goal
 abbrev pub invariant-turns : goal.invariant-turns
 invariant-turns g l =
     record {
-      going : Going (orders_seen l.orders) (edges (g.W.Wire.sight l.fn.wire) (g.C.Clock.sight l.fn.clock) (g.K.Sink.sight l.fn.out)) l.watch (handed l.came l.octets) (node_seen l.orders l.node) (edges (g.W.Wire.sight l.wire) (g.C.Clock.sight l.clock) (g.K.Sink.sight l.out));
+      going : Going l.fn.recorder.writer.form (orders_seen l.orders) (edges (g.W.Wire.sight l.fn.wire) (g.C.Clock.sight l.fn.clock) (g.K.Sink.sight l.fn.out)) l.reading l.recorder.writer.gives l.watch (handed l.came l.octets) (node_seen l.orders l.node) (edges (g.W.Wire.sight l.wire) (g.C.Clock.sight l.clock) (g.K.Sink.sight l.out));
       well : IsWell l.watch;
       ready : IsReady l.orders (moment l.watch) l.node;
       within : IfSome l.came (λ d. d.1 ≤ most_taken);
-      empty : l.buffer ≡ [];
+      empty : l.recorder.buffer ≡ [];
+      form : l.recorder.writer.form ≡ l.fn.recorder.writer.form;
     }
 
 abbrev pub decreases-turns : goal.decreases-turns

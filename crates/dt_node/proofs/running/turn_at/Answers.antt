@@ -1,8 +1,10 @@
 use Rattle.std.proofs.Common.{List, ℕ, subst}
 use Rattle.dt_edges.specs.Wires.{handed}
 use Rattle.dt_fold.specs.Logging.{with_waiting}
+use Rattle.dt_trace.specs.Inputs.{Reading}
 use Rattle.dt_node.specs.Codes.{node_seen, orders_seen, turned}
 use Rattle.dt_node.specs.Deeds.{TurnEnds, scene}
+use Rattle.dt_node.specs.Logging.{noted_text}
 use Rattle.dt_node.specs.Turns.{turn}
 use Rattle.dt_node.proofs.Gathered.{gathered}
 use Rattle.dt_node.proofs.running.turn_at.Goals as goal
@@ -11,7 +13,10 @@ pub returns-clause-ends : goal.returns-clause-ends
 returns-clause-ends g c =
     let o = c.args.orders.now in
     let me = o.setup.me.0 in
-    let now = c.args.moment in
+    let now = c.args.now.moment in
+    let form = c.args.recorder.now.writer.form in
+    let gives = c.args.recorder.now.writer.gives in
+    let first = noted_text form (Reading c.args.now.reading) in
     let script = turn (orders_seen o) now (handed c.args.came c.args.octets.now) (node_seen o c.args.node.now) in
     let w = g.W.Wire.sight c.args.wire.now in
     let v = g.W.Wire.sight c.turn_into-turned.new.wire in
@@ -19,6 +24,7 @@ returns-clause-ends g c =
     let mid = g.K.Sink.sight c.turn_into-turned.new.out in
     let end = g.K.Sink.sight c.pass_rest.new.out in
     let node = node_seen o c.turn_into-turned.new.node in
-    let waits = c.turn_into-turned.new.buffer in
-    let into = subst (λ (b : List ℕ). TurnEnds c.turn_into-turned.result me now script (turned c.turn_into-turned.result node) (scene w (with_waiting a b)) (scene v (with_waiting mid waits))) c.requires.empty c.turn_into-turned.ensures.ends in
-    gathered me now script w v a mid end waits c.turn_into-turned.ensures.reached c.turn_into-turned.result c.pass_rest.result node into c.pass_rest.ensures.puts
+    let after = c.turn_into-turned.new.recorder.writer.gives in
+    let waits = c.turn_into-turned.new.recorder.buffer in
+    let into = subst (λ (b : List ℕ). TurnEnds c.turn_into-turned.result form me now first script (turned c.turn_into-turned.result node) (scene gives w (with_waiting a b)) (scene after v (with_waiting mid waits))) c.requires.empty c.turn_into-turned.ensures.ends in
+    gathered form me now gives after first script w v a mid end waits c.turn_into-turned.ensures.reached c.turn_into-turned.result c.pass_rest.result node into c.pass_rest.ensures.puts

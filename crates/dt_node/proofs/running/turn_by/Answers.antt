@@ -32,3 +32,6 @@ returns-clause-reached g c =
     let script = turn (orders_seen o) c.args.log.now.moment (handed c.args.came c.args.octets.now) (node_seen o c.args.node.now) in
     let answer = turned c.turn.result (node_seen o c.turn.new.node) in
     (ends_sink (log_sight g.W.Wire.sight g.K.Sink.sight) c.turn.result script c.args.log.now c.turn.new.log answer c.turn.ensures.ends c.requires.fine).1
+
+pub returns-clause-same_form : goal.returns-clause-same_form
+returns-clause-same_form g c = ap (λ (f : Fixed). f.form) c.turn.ensures.fixed

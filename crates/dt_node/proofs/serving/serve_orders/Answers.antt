@@ -8,4 +8,4 @@ use Rattle.dt_node.proofs.serving.serve_orders.Goals as goal
 pub returns-in-Err : goal.returns-in-Err
 returns-in-Err g c =
     let out = g.K.Sink.sight c.args.out.now in
-    serve_memory_early (orders_seen c.args.orders.now) (edges (g.W.Wire.sight c.args.wire.now) (g.C.Clock.sight c.args.clock.now) out) out.held out.faults (0, Appends-nil out.held) refl
+    serve_memory_early c.args.form (orders_seen c.args.orders.now) (edges (g.W.Wire.sight c.args.wire.now) (g.C.Clock.sight c.args.clock.now) out) out.held out.faults (0, Appends-nil out.held) refl

@@ -10,10 +10,11 @@ invariant-due g l =
     let view = log_sight g.W.Wire.sight g.K.Sink.sight in
     let rules = l.orders.setup.rules in
     record {
-      leads : Leads (log_tells view) log_tags (log_hands view) log_fails (do_due rules l.fn.log.moment (left_of l.orders l.fn.node.next) l.fn.node.station.state) l.fn.log (do_due rules l.fn.log.moment (left_of l.orders l.node.next) l.node.station.state) l.log;
+      leads : Leads (log_tells view) log_tags (log_hands view) log_fails (do_due rules l.fn.log.moment l.fn.node.shelf (left_of l.orders l.fn.node.next) l.fn.node.station.state) l.fn.log (do_due rules l.fn.log.moment l.fn.node.shelf (left_of l.orders l.node.next) l.node.station.state) l.log;
       failed : l.log.failed ≡ false;
       fixed : fixed_of l.log ≡ fixed_of l.fn.log;
       ready : IsReady l.orders l.fn.log.moment l.node;
+      shelf : l.node.shelf ≡ l.fn.node.shelf;
     }
 
 abbrev pub decreases-due : goal.decreases-due

@@ -6,23 +6,24 @@ use Rattle.dt_node.proofs.Readying.{ready_on}
 use Rattle.dt_node.proofs.Turning.{stopped_plays, stopped_stops, ticked_plays, ticked_stops}
 use Rattle.dt_node.proofs.turns.finish.Goals as goal
 
-pub returns-then-log-clause-ends : goal.returns-then-log-clause-ends
-returns-then-log-clause-ends g c =
+pub returns-in_err-tell-clause-ends : goal.returns-in_err-tell-clause-ends
+returns-in_err-tell-clause-ends g c =
+    let p = err_from_is_err_and c.from_residual.result c.from_residual.ensures.1 in
     let view = log_sight g.W.Wire.sight g.K.Sink.sight in
     let o = orders_seen c.args.orders.now in
     let node = node_seen c.args.orders.now c.args.node.now in
-    stopped_stops (log_tells view) log_tags (log_hands view) log_fails o c.args.log.now.moment node c.args.log.now c.tell.new.self (omega (arith, c.if-from-log.true, c.from.ensures)) c.tell.ensures
+    rw (p.1) (stopped_stops (log_tells view) log_tags (log_hands view) log_fails o c.args.log.now.moment node c.args.log.now c.tell.new.log (omega (arith, c.if-from-log.true, c.from.ensures)) c.tell.ensures.tells)
 
 pub returns-then-from-log-clause-ends : goal.returns-then-from-log-clause-ends
 returns-then-from-log-clause-ends g c =
     let view = log_sight g.W.Wire.sight g.K.Sink.sight in
     let o = orders_seen c.args.orders.now in
     let node = node_seen c.args.orders.now c.args.node.now in
-    stopped_plays (log_tells view) log_tags (log_hands view) log_fails o c.args.log.now.moment node c.args.log.now c.tell.new.self (omega (arith, c.if-from-log.true, c.from.ensures)) c.tell.ensures
+    stopped_plays (log_tells view) log_tags (log_hands view) log_fails o c.args.log.now.moment node c.args.log.now c.tell.new.log (omega (arith, c.if-from-log.true, c.from.ensures)) c.tell.ensures.tells
 
 pub returns-in_err-happen-clause-ends : goal.returns-in_err-happen-clause-ends
 returns-in_err-happen-clause-ends g c =
-    let p = err_from_is_err_and c.from_residual.result c.from_residual.ensures.1 in
+    let p = err_from_is_err_and c.from_residual-in_err-happen.result c.from_residual-in_err-happen.ensures.1 in
     let view = log_sight g.W.Wire.sight g.K.Sink.sight in
     let o = orders_seen c.args.orders.now in
     let node = node_seen c.args.orders.now c.args.node.now in
@@ -37,4 +38,4 @@ returns-clause-ends g c =
 
 pub returns-clause-ready : goal.returns-clause-ready
 returns-clause-ready g c =
-    ready_on c.args.orders.now c.args.log.now.moment 0 c.args.node.now _ c.requires.ready c.in_ok-happen.ensures.on (omega arith) c.requires.ready.buf c.requires.ready.next
+    ready_on c.args.orders.now c.args.log.now.moment 0 c.args.node.now _ c.requires.ready c.in_ok-happen.ensures.on (omega arith) c.requires.ready.buf c.requires.ready.next c.requires.ready.shelf

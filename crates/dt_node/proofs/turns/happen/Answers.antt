@@ -1,12 +1,9 @@
-use Rattle.std.proofs.Common.{◌+◌, arith, length}
-use Rattle.dt_world_model.specs.Station.{Station, station_event}
+use Rattle.std.proofs.Common.{Ok, Result, length}
+use Rattle.dt_items.specs.declared.memory.NoMemory.{NoMemory}
 use Rattle.dt_station.specs.Events.{event_seen}
-use Rattle.dt_station.proofs.Playing.{answers_hold}
-use Rattle.dt_node.specs.Codes.{HasTakenAtMost, octets_sent}
 use Rattle.dt_node.specs.Logging.{log_fails, log_hands, log_sight, log_tags, log_tells}
-use Rattle.dt_node.specs.Turns.{plain}
-use Rattle.dt_node.proofs.Counting.{event_few}
-use Rattle.dt_node.proofs.Readying.{same_ins}
+use Rattle.dt_node.specs.Shelving.{plain}
+use Rattle.dt_node.proofs.Readying.{event_goes}
 use Rattle.dt_node.proofs.Logged.{ends_fixed, ends_stops}
 use Rattle.dt_node.proofs.turns.happen.Goals as goal
 
@@ -25,15 +22,6 @@ returns-in-Err-clause-fixed g c = ends_fixed (log_sight g.W.Wire.sight g.K.Sink.
 pub returns-in-Ok-clause-on : goal.returns-in-Ok-clause-on
 returns-in-Ok-clause-on g c =
     let view = log_sight g.W.Wire.sight g.K.Sink.sight in
-    let old = c.args.station.now in
-    let now = c.args.log.now.moment in
-    let event = event_seen plain (length c.args.buf.now) c.args.event in
-    record {
-      rules = c.event-done.ensures.rules;
-      unspent = c.in-Ok.ensures.spent;
-      me = c.event-done.ensures.me;
-      ins = same_ins old.state.relay c.event-done.new.self.state.relay c.event-done.ensures.links;
-      past = omega (arith, c.event-done.ensures.latest);
-      taken = λ bound few. answers_hold (log_tells view) log_tags (log_hands view) log_fails (λ (after : Station (Unit {0})). HasTakenAtMost (bound + octets_sent event) after.host) (station_event old.rules now event old.state) c.args.log.now c.event-done.new.visitor c.event-done.new.self.state
-          (event_few old.rules now bound event old.state few) c.in-Ok.ensures.script;
-    }
+    let done : Result (Unit {0}) NoMemory = Ok tt in
+    event_goes (log_tells view) log_tags (log_hands view) log_fails done c.args.log.now.moment (event_seen plain (length c.args.buf.now) c.args.event) c.args.station.now c.event-done.new.self c.args.log.now c.event-done.new.visitor
+    c.in-Ok.ensures.script c.event-done.ensures.rules c.in-Ok.ensures.spent c.event-done.ensures.me c.event-done.ensures.links c.event-done.ensures.latest

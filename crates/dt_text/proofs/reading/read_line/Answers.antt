@@ -1,7 +1,7 @@
 use Rattle.std.proofs.Common.{IfOk, subst, sym}
 use Rattle.dt_text.specs.Said.{said}
 use Rattle.dt_text.specs.Spelling.{IsLine}
-use Rattle.dt_text.specs.declared.lines.Form.TheVariants.{Schedule, Script}
+use Rattle.dt_text.specs.declared.lines.Form.TheVariants.{Schedule, Script, Calls}
 use Rattle.dt_text.proofs.LineLaws.{reads-within, reads-not_order}
 use Rattle.dt_text.proofs.reading.read_line.Goals as goal
 
@@ -16,3 +16,9 @@ returns-in-Schedule-clause-not_order c = reads-not_order Schedule c.new-words.re
 
 pub returns-in-Script-clause-not_order : goal.returns-in-Script-clause-not_order
 returns-in-Script-clause-not_order c = reads-not_order Script c.new-words.result c.script_line.result c.script_line.ensures
+
+pub returns-in-Calls-clause-within : goal.returns-in-Calls-clause-within
+returns-in-Calls-clause-within c = subst (λ form. IfOk c.calls_line.result (λ line. IsLine form (said line))) (sym c.in-Calls.is) (reads-within Calls c.new-words.result c.calls_line.result c.calls_line.ensures)
+
+pub returns-in-Calls-clause-not_order : goal.returns-in-Calls-clause-not_order
+returns-in-Calls-clause-not_order c = reads-not_order Calls c.new-words.result c.calls_line.result c.calls_line.ensures

@@ -1,4 +1,4 @@
-use Rattle.std.proofs.Common.{◌≡◌, Option, None, List, ℕ, sym, ap, subst, ◌∙◌}
+use Rattle.std.proofs.Common.{◌≡◌, ◌≤◌, arith, Option, None, List, ℕ, sym, ap, subst, ◌∙◌}
 use Rattle.std.specs.Prelude.{IfOk, IfSome, unwrap_or}
 use Rattle.dt_units.specs.declared.endpoints.Flow.{Flow}
 use Rattle.dt_layout.specs.Carried.{IsGram}
@@ -7,9 +7,10 @@ use Rattle.dt_flow_model.specs.declared.arrivals.Arrived.{Arrived}
 use Rattle.dt_flow_model.specs.Frames.{flow_of, reply_frame}
 use Rattle.dt_world_model.specs.Host.{Host, arrive, receiver_at}
 use Rattle.dt_host.specs.Answers.{IsMade}
-use Rattle.dt_host.specs.Hosts.{HostValue}
+use Rattle.dt_host.specs.Hosts.{HostValue, send_records}
 use Rattle.dt_host.proofs.HostParts.{host_in, seen}
 use Rattle.dt_host.proofs.Arrivals.{ack_has_no_reply, awake, close_has_no_reply, heard, if_err_is}
+use Rattle.dt_host.proofs.Later.{later_noted}
 use Rattle.dt_host.proofs.hosts.Host.arrive.Goals as goal
 
 pub returns-in-Data-clause-answer : goal.returns-in-Data-clause-answer
@@ -91,3 +92,44 @@ returns-in-Close-clause-gram g c =
     let none : reply_frame h.rules f c.close.result ≡ None = ap (reply_frame h.rules f) (c.close.ensures.answer host) ∙ close_has_no_reply h.rules f (receiver_at host c.flow_of_packet-flow.result) c.in-Close.number in
     subst (λ (v : HostValue). IfSome (reply_frame v.rules (flow_of c.args.from.0 v.state.me (packet_of c.args.packet.now)) c.close.result) (λ octets. IsGram octets)) c.self.view_is
     (subst (λ (o : Option (List ℕ)). IfSome o (λ octets. IsGram octets)) (sym none) tt)
+
+-- The notes tell the records at now.
+pub invariant_of-self : goal.invariant_of-self
+invariant_of-self g c =
+    let h = c.self.inside in
+    let at = ap (λ (v : HostValue). v.latest) c.self.view_is in
+    let past : h.latest ≤ c.args.now = (let p = c.requires.past in omega arith) in
+    let send = later_noted h.rules h.latest c.args.now past (send_records h.senders.entries) h.send_agenda c.self.invariant.2 in
+    (c.self.invariant.0, c.self.invariant.1, send, c.self.invariant.3)
+
+pub invariant_of-self-in-Data : goal.invariant_of-self-in-Data
+invariant_of-self-in-Data g c =
+    let h = c.self.inside in
+    let at = ap (λ (v : HostValue). v.latest) c.self.view_is in
+    let past : h.latest ≤ c.args.now = (let p = c.requires.past in omega arith) in
+    let send = later_noted h.rules h.latest c.args.now past (send_records h.senders.entries) h.send_agenda c.self.invariant.2 in
+    (c.self.invariant.0, c.take.ensures.entries, send, c.take.ensures.noted)
+
+pub acknowledge-requires-clause-noted : goal.acknowledge-requires-clause-noted
+acknowledge-requires-clause-noted g c =
+    let h = c.self.inside in
+    let at = ap (λ (v : HostValue). v.latest) c.self.view_is in
+    let past : h.latest ≤ c.args.now = (let p = c.requires.past in omega arith) in
+    let send = later_noted h.rules h.latest c.args.now past (send_records h.senders.entries) h.send_agenda c.self.invariant.2 in
+    send
+
+pub invariant_of-self-in-Meet : goal.invariant_of-self-in-Meet
+invariant_of-self-in-Meet g c =
+    let h = c.self.inside in
+    let at = ap (λ (v : HostValue). v.latest) c.self.view_is in
+    let past : h.latest ≤ c.args.now = (let p = c.requires.past in omega arith) in
+    let send = later_noted h.rules h.latest c.args.now past (send_records h.senders.entries) h.send_agenda c.self.invariant.2 in
+    (c.self.invariant.0, c.meet.ensures.entries, send, c.meet.ensures.noted)
+
+pub invariant_of-self-in-Close : goal.invariant_of-self-in-Close
+invariant_of-self-in-Close g c =
+    let h = c.self.inside in
+    let at = ap (λ (v : HostValue). v.latest) c.self.view_is in
+    let past : h.latest ≤ c.args.now = (let p = c.requires.past in omega arith) in
+    let send = later_noted h.rules h.latest c.args.now past (send_records h.senders.entries) h.send_agenda c.self.invariant.2 in
+    (c.self.invariant.0, c.self.invariant.1, send, c.self.invariant.3)

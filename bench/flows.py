@@ -1,0 +1,84 @@
+#!/usr/bin/env python3
+"""What many flows cost `replay`: a schedule on 20,000 flows beside one of the same lines on 20, in
+seconds, peak memory and the factor between their times, for two sizes of the records' rooms. Each
+flow's records stand to the end, so each event finds its act among those of all flows. Needs the built
+program: `bench/flows.py crates/deltat/out/deltat`. Ends with 1 where a schedule isn't accepted."""
+import os
+import subprocess
+import sys
+import tempfile
+import time
+
+FEW = 20
+MANY = 20_000
+ROOMS = (64, 4096)
+ROUNDS = 3600
+RUNS = 3
+OCTETS = "".join(f"{i:02x}" for i in range(16))
+
+
+def setup(room):
+    """Two nodes with a link each way, where a record has room for so many octets."""
+    return f"""params 1000 3000 200 500 800 16 {room} {room} {room} 2147483648
+station 1 0
+station 2 0
+link 1 1 2 50 0
+link 2 2 1 50 0
+route 1 2 1
+route 2 1 2
+go
+"""
+
+
+def schedule(flows, room, out):
+    """Each round sends a message on the next 20 flows, hands over the packets and then the
+    acknowledgements, reads, and ticks both nodes. A round is 2 ms, so 20,000 flows come round again
+    after 2 s; a record stands for 4.2 s and more. Returns the number of lines."""
+    out.write(setup(room))
+    for number in range(ROUNDS):
+        first, copy = number * FEW, number * FEW * 2
+        names = [f"1:{i % flows}>2:{i % flows}" for i in range(first, first + FEW)]
+        out.writelines(f"send {name} be {OCTETS}\n" for name in names)
+        out.write("pass 1\n")
+        out.writelines(f"arrive {copy + i}\n" for i in range(FEW))
+        out.write("pass 1\n")
+        out.writelines(f"arrive {copy + FEW + i}\n" for i in range(FEW))
+        out.writelines(f"read {name} 65536\n" for name in names)
+        out.write("tick 1\ntick 2\n")
+    return setup(room).count("\n") + ROUNDS * (4 * FEW + 4)
+
+
+def run(program, path):
+    """The seconds, the peak memory in octets and the status of one run."""
+    begun = time.monotonic()
+    with open(path, encoding="ascii") as source, open(os.devnull, "wb") as sink:
+        child = subprocess.Popen([program, "replay"], stdin=source, stdout=sink)
+        _, status, usage = os.wait4(child.pid, 0)
+    return time.monotonic() - begun, usage.ru_maxrss * 1024, os.waitstatus_to_exitcode(status)
+
+
+def measure(program, flows, room):
+    """The least seconds of some runs, or None where one isn't accepted. Prints a row."""
+    with tempfile.NamedTemporaryFile("w", suffix=".schedule") as file:
+        lines = schedule(flows, room, file)
+        file.flush()
+        runs = [run(program, file.name) for _ in range(RUNS)]
+    seconds = min(seconds for seconds, _, _ in runs)
+    peak = max(peak for _, peak, _ in runs)
+    statuses = {status for _, _, status in runs}
+    print(f"{room:4}  {flows:5}  {lines}  {seconds:7.2f}  {peak / 1e6:7.1f}  {max(statuses)}")
+    return seconds if statuses == {0} else None
+
+
+def main():
+    program = sys.argv[1]
+    print("room  flows  lines   seconds  peak MB  status")
+    for room in ROOMS:
+        few, many = measure(program, FEW, room), measure(program, MANY, room)
+        if few is None or many is None:
+            return 1
+        print(f"factor {many / few:.2f}")
+    return 0
+
+
+sys.exit(main())

@@ -1,0 +1,262 @@
+-- EACH STEP keeps the facts of calls, and so does every list of events.
+use Rattle.std.proofs.Common.{Bool, List, None, Option, Some, ℕ, [], arith, false, if◌then◌else◌, length, map, refl, subst, suc, sym, true, ◌++◌, ◌+◌, ◌<◌, ◌^◌, ◌∙◌, ◌∷◌, ◌≡◌, ◌≢◌, ◌≤◌}
+use Rattle.std.specs.List.{All}
+use Rattle.std.proofs.lemmas.List.{length-map, length_push}
+use Rattle.std.proofs.lemmas.List.Elements.{All-append, All-cons, All-head, All-nil, All-push, All-tail, All-weaker}
+use Rattle.dt_units.specs.declared.endpoints.Flow.{Flow}
+use Rattle.dt_units.specs.Flows.{IsFlow}
+use Rattle.dt_units.specs.Limits.{IsWithinLimits}
+use Rattle.dt_reports.specs.declared.faults.StepFault.{StepFault}
+use Rattle.dt_world_model.specs.Setup.{Setup, new_world}
+use Rattle.dt_world_model.specs.Tables.{AllEntries}
+use Rattle.dt_world_model.specs.World.{World, view}
+use Rattle.dt_world_model.specs.WorldStep.{WorldEvent, after_event, first_refusal, refusals, step_unless}
+use Rattle.dt_calls_model.specs.declared.calls.Call.{Call}
+use Rattle.dt_calls_model.specs.declared.calls.Posted.{Posted}
+use Rattle.dt_calls_model.specs.declared.calls.Posted.TheVariants.{Refused, Taken}
+use Rattle.dt_calls_model.specs.CallFacts.{CallFacts, CourseFacts, FlowRests}
+use Rattle.dt_calls_model.specs.CallRuns.{call_run, call_run_from, then_call}
+use Rattle.dt_calls_model.specs.Calls.{Begun, Calls, Client, Server, Side, call_at, flow_read, new_calls}
+use Rattle.dt_calls_model.specs.CallStep.{CallEvent, Faulty, Happens, Makes, Outcome, Stepped, becomes_unsure, call_refusals, call_step, doubt_all, doubted, doubts_from, finish, go_on, make, make_unless, say_posted}
+use Rattle.dt_calls_model.specs.CallTold as told
+use Rattle.dt_calls_model.specs.CallTold.{CallEntry, CallTold}
+use Rattle.dt_calls_model.specs.Messages.{message_of}
+use Rattle.dt_calls_model.specs.Promises.{AreItsAnswers, AreServedOnce, IsItsAnswer, payload_of}
+use Rattle.dt_calls_model.specs.Reads.{Course, post, read_all, say}
+use Rattle.dt_calls_laws.specs.Leads.{AllRead, AreDone}
+use Rattle.dt_calls_laws.specs.MayCome.{MayCome}
+use Rattle.dt_calls_laws.specs.Onward.{CallGoesOn, Onward}
+use Rattle.dt_calls_laws.specs.Told.{AreTold, IsOn, IsTold}
+use Rattle.dt_calls_laws.proofs.Courses.{all_told, onward_same, onward_then, payloads_stay}
+use Rattle.dt_calls_laws.proofs.Happening.{event_course, event_onward, happened}
+use Rattle.dt_calls_laws.proofs.Making.{made, made_payload, make_course, make_onward, new_call}
+use Rattle.dt_calls_laws.proofs.SideReads.{all_read}
+use Rattle.dt_calls_laws.proofs.Starting.{new_calls_facts}
+use Rattle.dt_calls_laws.proofs.States.{all_entries_on, doubt_course, doubt_onward, doubts_sure}
+
+-- doubts are told of no answer
+doubt_told : (answer : List ℕ → List ℕ) (after : Calls) (b : Bool) (moment n : ℕ) → AreTold answer after (if b then record { moment = moment; told = told.Unsure n } ∷ [] else [])
+doubt_told answer after true moment n = All-cons (λ (e : CallEntry). IsTold answer after e.told) (record { moment = moment; told = told.Unsure n }) [] tt (All-nil (λ (e : CallEntry). IsTold answer after e.told))
+doubt_told answer after false moment n = All-nil (λ (e : CallEntry). IsTold answer after e.told)
+
+doubts_told : (answer : List ℕ → List ℕ) (after : Calls) (w : World) (n : ℕ) (calls : List Call) → AreTold answer after (doubts_from w n calls)
+doubts_told answer after w n [] = All-nil (λ (e : CallEntry). IsTold answer after e.told)
+doubts_told answer after w n (call ∷ calls) =
+    All-append (λ (e : CallEntry). IsTold answer after e.told) (if becomes_unsure w call then record { moment = w.now; told = told.Unsure n } ∷ [] else []) (doubts_from w (suc n) calls) (doubt_told answer after (becomes_unsure w call) w.now n) (doubts_told answer after w (suc n) calls)
+
+-- what is told right is the handler's
+answers_of : (answer : List ℕ → List ℕ) (c : Calls) (t : CallTold) → IsTold answer c t → IsItsAnswer answer c t
+answers_of answer c (told.Made call flow count) h = tt
+answers_of answer c (told.Declined call) h = tt
+answers_of answer c (told.Served call) h = tt
+answers_of answer c (told.Answered call octets) h = h.1
+answers_of answer c (told.Unsure call) h = tt
+
+all_answers : (answer : List ℕ → List ℕ) (c : Calls) (entries : List CallEntry) → AreTold answer c entries → AreItsAnswers answer c entries
+all_answers answer c entries h = All-weaker (λ (e : CallEntry). IsTold answer c e.told) (λ (e : CallEntry). IsItsAnswer answer c e.told) (λ e k. answers_of answer c e.told k) entries h
+
+-- ALL FLOWS REST where all sides are done
+all_rest : (c : Calls) (flows : List (Flow × Begun)) → AreDone Server c.world (map (λ (e : Flow × Begun). e.0) flows) → AreDone Client c.world (map (λ (e : Flow × Begun). e.0) flows) → AllEntries (FlowRests c) flows
+all_rest c [] s k = tt
+all_rest c (x ∷ flows) s k = (record { client_rests = k.0.rests; server_rests = s.0.rests; all_read = read_at }, all_rest c flows s.1 k.1)
+  where
+    read_at : (side : Side) → (view c.world (flow_read side x.0)).unread ≡ []
+    read_at Server = s.0.read
+    read_at Client = k.0.read
+
+module _ (answer : List ℕ → List ℕ) where
+  -- what a step comes to
+  pub record ComesTo (c after : Calls) (lines : List CallEntry) : Type 0 where
+    pub facts : CallFacts answer after
+    pub told : AreTold answer after lines
+    pub onward : Onward c after
+    pub count : length after.calls ≤ length c.calls + 1
+
+  -- DOUBTS
+  doubts_on : (d : Course) → IsOn answer d → IsOn answer (doubt_all d) × Onward d.calls (doubt_all d).calls × (length (doubt_all d).calls.calls ≡ length d.calls.calls)
+  doubts_on d on =
+      let after = (doubt_all d).calls in
+      let onward : Onward d.calls after = doubt_onward answer d.calls on.facts in
+      let many = length-map d.calls.calls (doubted d.calls.world) in (
+        record {
+          facts = doubt_course answer d.calls on.facts;
+          few = subst (λ (k : ℕ). k ≤ 2 ^ 64) (sym many) on.few;
+          told = All-append (λ (e : CallEntry). IsTold answer after e.told) d.told (doubts_from d.calls.world 0 d.calls.calls) (all_told answer d.calls after d.told on.facts onward on.told) (doubts_told answer after d.calls.world 0 d.calls.calls);
+        },
+        onward,
+        many,
+      )
+
+  pub doubted_on : (d : Course) → IsOn answer d → IsOn answer (doubt_all d)
+  doubted_on d on = (doubts_on d on).0
+
+  -- ITS END: all sides are read, and doubts are told
+  finished : (c : Calls) (d : Course) → Onward c d.calls → length d.calls.calls ≤ length c.calls + 1 → IsOn answer d → ComesTo c (finish answer d).calls (finish answer d).told
+  finished c d onward few on =
+      let read = read_all answer d in
+      let all : AllRead answer d read = all_read answer d on in
+      let after = (finish answer d).calls in
+      let rest : AllEntries (FlowRests read.calls) read.calls.flows = all_rest read.calls read.calls.flows all.servers all.clients in
+      let doubts = doubts_on read all.leads.on in
+      record {
+        facts = record {
+          course = doubts.0.facts;
+          rest = all_entries_on (FlowRests read.calls) (FlowRests after) read.calls.flows (λ k x h. record { client_rests = h.client_rests; server_rests = h.server_rests; all_read = h.all_read }) rest;
+          sure = doubts_sure answer read.calls all.leads.on.facts;
+        };
+        told = doubts.0.told;
+        onward = onward_then answer c read.calls after (onward_then answer c d.calls read.calls onward all.leads.onward) doubts.1;
+        count = let l = doubts.2 in let same = all.leads.count in omega (arith, l, same, few);
+      }
+
+  finish_onward : (d : Course) → IsOn answer d → Onward d.calls (finish answer d).calls
+  finish_onward d on =
+      let read = read_all answer d in
+      let all : AllRead answer d read = all_read answer d on in
+      onward_then answer d.calls read.calls (finish answer d).calls all.leads.onward (doubts_on read all.leads.on).1
+
+  -- A CALL IS MADE
+  said : (c : Course) (t : CallTold) → IsTold answer c.calls t → IsOn answer c → IsOn answer (say t c)
+  said c t h on = record { facts = on.facts; few = on.few; told = All-push (λ (e : CallEntry). IsTold answer c.calls e.told) c.told (record { moment = c.calls.world.now; told = t }) on.told h }
+
+  said_posted : (p : Posted) (n : ℕ) (c : Course) → IsOn answer c → IsOn answer (say_posted p n c)
+  said_posted (Taken place count) n c on = on
+  said_posted Refused n c on = said c (told.Declined n) tt on
+
+  posted_calls : (p : Posted) (n : ℕ) (c : Course) → (say_posted p n c).calls ≡ c.calls
+  posted_calls (Taken place count) n c = refl
+  posted_calls Refused n c = refl
+
+  many_made : (c : Calls) (f : Flow) (payload : List ℕ) (facts : CourseFacts answer c) (flow : IsFlow f) (clear : first_refusal (call_refusals c f) ≡ None) → length (made answer c f payload facts flow clear).calls ≤ length c.calls + 1
+  many_made c f payload facts flow clear = let many = length_push c.calls (new_call answer c f payload facts flow clear) in omega (arith, many)
+
+  pub made_on : (c : Calls) (f : Flow) (payload : List ℕ) → CourseFacts answer c → length c.calls < 2 ^ 64 → IsFlow f → first_refusal (call_refusals c f) ≡ None → IsOn answer (make f payload c)
+  made_on c f payload facts few flow clear =
+      let n = length c.calls in
+      let request = post f (message_of n payload) c.world in
+      let next = made answer c f payload facts flow clear in
+      let few_more = many_made c f payload facts flow clear in
+      let start : Course = record { told = []; calls = next } in
+      let on : IsOn answer start = record { facts = make_course answer c f payload facts flow clear; few = omega (arith, few, few_more); told = All-nil (λ (e : CallEntry). IsTold answer next e.told) } in
+      said_posted request.0 n (say (told.Made n f (length payload)) start) (said start (told.Made n f (length payload)) tt on)
+
+  made_comes : (c : Calls) (f : Flow) (payload : List ℕ) → CallFacts answer c → length c.calls < 2 ^ 64 → IsFlow f → first_refusal (call_refusals c f) ≡ None → let d = finish answer (make f payload c) in ComesTo c d.calls d.told
+  made_comes c f payload h few flow clear =
+      let facts = h.course in
+      let n = length c.calls in
+      let next = made answer c f payload facts flow clear in
+      let first : Course = say (told.Made n f (length payload)) (record { told = []; calls = next }) in
+      let is : (make f payload c).calls ≡ next = posted_calls (post f (message_of n payload) c.world).0 n first in
+      let few_more : length next.calls ≤ n + 1 = many_made c f payload facts flow clear in
+      finished c (make f payload c) (subst (λ (x : Calls). Onward c x) (sym is) (make_onward answer c f payload facts flow clear)) (subst (λ (x : Calls). length x.calls ≤ n + 1) (sym is) few_more) (made_on c f payload facts few flow clear)
+
+  -- AN EVENT OF THE WORLD
+  event_comes : (c : Calls) (e : WorldEvent) → CallFacts answer c → length c.calls < 2 ^ 64 → MayCome (Happens e) → first_refusal (refusals c.world e) ≡ None → let d = finish answer (record { told = []; calls = happened e c }) in ComesTo c d.calls d.told
+  event_comes c e h few may clear =
+      finished c (record { told = []; calls = happened e c }) (event_onward answer c e h.course may clear) (omega arith)
+      (record { facts = event_course answer c e h.course may clear; few = omega (arith, few); told = All-nil (λ (x : CallEntry). IsTold answer (happened e c) x.told) })
+
+  -- THE STEP
+  abbrev pub Comes : Calls → Outcome → Type 0
+  Comes c (Faulty fault) = Unit {0}
+  Comes c (Stepped lines after) = ComesTo c after lines
+
+  make_comes : (c : Calls) (f : Flow) (payload : List ℕ) (o : Option StepFault) → first_refusal (call_refusals c f) ≡ o → CallFacts answer c → length c.calls < 2 ^ 64 → IsFlow f → Comes c (make_unless answer o f payload c)
+  make_comes c f payload None clear h few flow = made_comes c f payload h few flow clear
+  make_comes c f payload (Some fault) clear h few flow = tt
+
+  world_comes : (c : Calls) (e : WorldEvent) (o : Option StepFault) → first_refusal (refusals c.world e) ≡ o → CallFacts answer c → length c.calls < 2 ^ 64 → MayCome (Happens e) → Comes c (go_on answer e c (step_unless o (after_event c.world e)))
+  world_comes c e None clear h few may = event_comes c e h few may clear
+  world_comes c e (Some fault) clear h few may = tt
+
+  pub step_comes : (c : Calls) (e : CallEvent) → CallFacts answer c → length c.calls < 2 ^ 64 → MayCome e → Comes c (call_step answer c e)
+  step_comes c (Makes f payload) h few may = make_comes c f payload (first_refusal (call_refusals c f)) refl h few may
+  step_comes c (Happens e) h few may = world_comes c e (first_refusal (refusals c.world e)) refl h few may
+
+  pub step_facts : (c : Calls) (e : CallEvent) (lines : List CallEntry) (after : Calls) → CallFacts answer c → length c.calls < 2 ^ 64 → MayCome e → call_step answer c e ≡ Stepped lines after → CallFacts answer after
+  step_facts c e lines after h few may is = (subst (Comes c) is (step_comes c e h few may)).facts
+
+  pub step_answers : (c : Calls) (e : CallEvent) (lines : List CallEntry) (after : Calls) → CallFacts answer c → length c.calls < 2 ^ 64 → MayCome e → call_step answer c e ≡ Stepped lines after → AreItsAnswers answer after lines
+  step_answers c e lines after h few may is = all_answers answer after lines (subst (Comes c) is (step_comes c e h few may)).told
+
+  -- A RUN
+  pub record HasRun (r : List CallEntry × Calls) : Type 0 where
+    pub facts : CallFacts answer r.1
+    pub told : AreTold answer r.1 r.0
+
+  -- a run goes on from another by so many calls at most
+  record RunsTo (r after : List CallEntry × Calls) (most : ℕ) : Type 0 where
+    pub run : HasRun after
+    pub onward : Onward r.1 after.1
+    pub count : length after.1.calls ≤ length r.1.calls + most
+
+  then_comes : (r : List CallEntry × Calls) (o : Outcome) → HasRun r → Comes r.1 o → RunsTo r (then_call r o) 1
+  then_comes r (Faulty fault) h k = record { run = h; onward = onward_same answer r.1; count = omega arith }
+  then_comes r (Stepped lines after) h k = record {
+    run = record { facts = k.facts; told = All-append (λ (e : CallEntry). IsTold answer after e.told) r.0 lines (all_told answer r.1 after r.0 h.facts.course k.onward h.told) k.told };
+    onward = k.onward;
+    count = k.count;
+  }
+
+  run_comes : (es : List CallEvent) (r : List CallEntry × Calls) → HasRun r → All MayCome es → length r.1.calls + length es ≤ 2 ^ 64 → RunsTo r (call_run_from answer es r) (length es)
+  run_comes [] r h may few = record { run = h; onward = onward_same answer r.1; count = omega arith }
+  run_comes (e ∷ es) r h may few =
+      let next = then_call r (call_step answer r.1 e) in
+      let one = then_comes r (call_step answer r.1 e) h (step_comes r.1 e h.facts (omega (arith, few)) (All-head MayCome e es may)) in
+      let rest = run_comes es next one.run (All-tail MayCome e es may) (let l = one.count in omega (arith, few, l)) in
+      record { run = rest.run; onward = onward_then answer r.1 next.1 (call_run_from answer es next).1 one.onward rest.onward; count = let l = one.count in let k = rest.count in omega (arith, l, k) }
+
+  starts : (setup : Setup) → IsWithinLimits setup.params → HasRun ([], new_calls (new_world setup))
+  starts setup limits = record { facts = new_calls_facts answer setup limits; told = All-nil (λ (e : CallEntry). IsTold answer (new_calls (new_world setup)) e.told) }
+
+  run_of_setup : (setup : Setup) (es : List CallEvent) → IsWithinLimits setup.params → All MayCome es → length es ≤ 2 ^ 64 → RunsTo ([], new_calls (new_world setup)) (call_run answer es (new_calls (new_world setup))) (length es)
+  run_of_setup setup es limits may few = run_comes es ([], new_calls (new_world setup)) (starts setup limits) may (omega (arith, few))
+
+  joined_runs : (es more : List CallEvent) (r : List CallEntry × Calls) → call_run_from answer (es ++ more) r ≡ call_run_from answer more (call_run_from answer es r)
+  joined_runs [] more r = refl
+  joined_runs (e ∷ es) more r = joined_runs es more (then_call r (call_step answer r.1 e))
+
+  -- THE PROMISE
+  pub run_served_once : (setup : Setup) (es : List CallEvent) → IsWithinLimits setup.params → All MayCome es → length es ≤ 2 ^ 64 → AreServedOnce (call_run answer es (new_calls (new_world setup))).1
+  run_served_once setup es limits may few = (run_of_setup setup es limits may few).run.facts.course.once
+
+  pub run_answers : (setup : Setup) (es : List CallEvent) → IsWithinLimits setup.params → All MayCome es → length es ≤ 2 ^ 64 → let r = call_run answer es (new_calls (new_world setup)) in AreItsAnswers answer r.1 r.0
+  run_answers setup es limits may few = let r = call_run answer es (new_calls (new_world setup)) in all_answers answer r.1 r.0 (run_of_setup setup es limits may few).run.told
+
+  -- WHAT BECAME OF A CALL stays
+  pub step_goes_on : (c : Calls) (e : CallEvent) (lines : List CallEntry) (after : Calls) → CallFacts answer c → length c.calls < 2 ^ 64 → MayCome e → call_step answer c e ≡ Stepped lines after → (n : ℕ) → n < length c.calls → CallGoesOn (call_at c n) (call_at after n)
+  step_goes_on c e lines after h few may is n lt = (subst (Comes c) is (step_comes c e h few may)).onward.calls n lt
+
+  pub run_goes_on : (setup : Setup) (es more : List CallEvent) → IsWithinLimits setup.params → All MayCome es → All MayCome more → length es + length more ≤ 2 ^ 64
+      → let c = new_calls (new_world setup) in (n : ℕ) → n < length (call_run answer es c).1.calls → CallGoesOn (call_at (call_run answer es c).1 n) (call_at (call_run answer (es ++ more) c).1 n)
+  run_goes_on setup es more limits may later few n lt =
+      let c = new_calls (new_world setup) in
+      let first = run_of_setup setup es limits may (omega (arith, few)) in
+      let rest = run_comes more (call_run answer es c) first.run later (let l = first.count in omega (arith, l, few)) in
+      subst (λ (r : List CallEntry × Calls). CallGoesOn (call_at (call_run answer es c).1 n) (call_at r.1 n)) (sym (joined_runs es more ([], c))) (rest.onward.calls n lt)
+
+  -- THE PAYLOAD of a call is what was handed in, and stays
+  stepped_after : (lines more : List CallEntry) (c after : Calls) → Stepped lines c ≡ Stepped more after → c ≡ after
+  stepped_after lines more c after e = cc
+
+  payload_by : (c : Calls) (f : Flow) (payload : List ℕ) (lines : List CallEntry) (after : Calls) (o : Option StepFault) → first_refusal (call_refusals c f) ≡ o → CallFacts answer c → length c.calls < 2 ^ 64 → IsFlow f → make_unless answer o f payload c ≡ Stepped lines after
+      → (call_at after (length c.calls)).request ≢ Refused → payload_of after.world (call_at after (length c.calls)) ≡ payload
+  payload_by c f payload lines after None clear h few flow is some =
+      let facts = h.course in
+      let n = length c.calls in
+      let d = make f payload c in
+      let next = made answer c f payload facts flow clear in
+      let same : d.calls ≡ next = posted_calls (post f (message_of n payload) c.world).0 n (say (told.Made n f (length payload)) (record { told = []; calls = next })) in
+      let on = made_on c f payload facts few flow clear in
+      let last : (finish answer d).calls ≡ after = stepped_after (finish answer d).told lines (finish answer d).calls after is in
+      let onward : Onward next after = subst (λ (x : Calls). Onward next x) last (subst (λ (x : Calls). Onward x (finish answer d).calls) same (finish_onward d on)) in
+      let lt : n < length next.calls = (let l = length_push c.calls (new_call answer c f payload facts flow clear) in omega (arith, l)) in
+      payloads_stay answer next after n (make_course answer c f payload facts flow clear) onward lt ∙ made_payload answer c f payload facts flow clear (λ e. some ((onward.calls n lt).request ∙ e))
+  payload_by c f payload lines after (Some fault) clear h few flow is some = absurd cc
+
+  pub payload_made : (c : Calls) (f : Flow) (payload : List ℕ) (lines : List CallEntry) (after : Calls) → CallFacts answer c → length c.calls < 2 ^ 64 → IsFlow f → call_step answer c (Makes f payload) ≡ Stepped lines after
+      → (call_at after (length c.calls)).request ≢ Refused → payload_of after.world (call_at after (length c.calls)) ≡ payload
+  payload_made c f payload lines after h few flow is some = payload_by c f payload lines after (first_refusal (call_refusals c f)) refl h few flow is some
+
+  pub payload_after : (c : Calls) (e : CallEvent) (lines : List CallEntry) (after : Calls) → CallFacts answer c → length c.calls < 2 ^ 64 → MayCome e → call_step answer c e ≡ Stepped lines after → (n : ℕ) → n < length c.calls → payload_of after.world (call_at after n) ≡ payload_of c.world (call_at c n)
+  payload_after c e lines after h few may is n lt = payloads_stay answer c after n h.course (subst (Comes c) is (step_comes c e h few may)).onward lt

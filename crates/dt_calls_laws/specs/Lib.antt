@@ -1,0 +1,16 @@
+pub mod ReadTold
+pub mod Silence
+pub mod HasRead
+pub mod Sent
+pub mod Grown
+pub mod Wholes
+pub mod SideBySide
+pub mod NoPass
+pub mod Calm
+pub mod Unread
+pub mod Joins
+pub mod Comes
+pub mod Onward
+pub mod Told
+pub mod MayCome
+pub mod Leads

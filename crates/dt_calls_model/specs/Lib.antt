@@ -1,0 +1,11 @@
+pub mod Messages
+pub mod Heard
+pub mod Calls
+pub mod CallTold
+pub mod Reads
+pub mod CallStep
+pub mod CallRuns
+pub mod Promises
+pub mod Rests
+pub mod CallFacts
+pub mod Worked

@@ -1,0 +1,19 @@
+use Rattle.std.proofs.Common.{ℕ, ◌≡◌, List, Option, Some, None, map, ap, sym, subst, ◌∙◌}
+use Rattle.dt_world_model.specs.Tables.{earliest}
+use Rattle.dt_host.specs.Agendas.{IsFirstOf, RecvNote, RecvTables, recv_note}
+use Rattle.dt_host.proofs.Rows.{first_row, none_earliest, some_earliest}
+use Rattle.dt_host.proofs.recv_agenda.RecvAgenda.wake.Goals as goal
+
+pub returns-in_err-moment : goal.returns-in_err-moment
+returns-in_err-moment c =
+    let a = c.self.inside in
+    let t : RecvTables = record { release = a.release; ack = a.ack; wake = a.wake } in
+    let none = first_row (recv_note t) (λ (n : RecvNote). n.wake) a.order.numbers None c.in_err-moment.ensures in
+    c.from_residual.ensures ∙ sym (none_earliest (λ (n : RecvNote). n.wake) (map (recv_note t) a.order.numbers) none) ∙ ap (earliest (λ (n : RecvNote). n.wake)) c.self.view_is
+
+pub returns : goal.returns
+returns c =
+    let a = c.self.inside in
+    let t : RecvTables = record { release = a.release; ack = a.ack; wake = a.wake } in
+    let first = first_row (recv_note t) (λ (n : RecvNote). n.wake) a.order.numbers (Some (c.in_ok-moment.moment, c.in_ok-moment.field-0-1)) c.in_ok-moment.ensures in
+    sym (some_earliest (λ (n : RecvNote). n.wake) (map (recv_note t) a.order.numbers) c.in_ok-moment.moment c.in_ok-moment.field-0-1 first) ∙ ap (earliest (λ (n : RecvNote). n.wake)) c.self.view_is

@@ -1,0 +1,50 @@
+-- What is noted of a host's records, and how the notes follow a change of one flow's record.
+use Rattle.std.specs.Prelude.{ℕ, suc, ◌≡◌, ◌≤◌, if◌then◌else◌, List, [], ◌∷◌, option_map, Option, Some, None}
+use Rattle.dt_units.specs.declared.parameters.Params.{Params}
+use Rattle.dt_units.specs.declared.endpoints.Flow.{Flow}
+use Rattle.dt_flow_model.specs.SendRecord.{SendRecord}
+use Rattle.dt_flow_model.specs.SendActs.{send_moments, wake_of}
+use Rattle.dt_flow_model.specs.ReceiveRecord.{Receiver, recv_moments, recv_wake_of}
+use Rattle.dt_world_model.specs.Tables.{Distinct, same_flow, write_or_erase}
+use Rattle.dt_host.specs.Agendas.{RecvNote, SendNote}
+
+-- A sender's moments are noted as they stood at some moment of the past. All but that of a resend stand as long as the record does.
+pub record IsSendNoted (p : Params) (latest : ℕ) (x : SendRecord) (n : SendNote) : Type 0 where
+  pub since : ℕ
+  pub past : since ≤ latest
+  pub moments : n.moments ≡ send_moments p since x
+  pub wake : n.wake ≡ wake_of p x
+
+abbrev pub send_noted : Params → ℕ → SendRecord → SendNote
+send_noted p now x = record { moments = send_moments p now x; wake = wake_of p x }
+
+abbrev pub recv_noted : Params → Receiver → RecvNote
+recv_noted p r = record { moments = recv_moments p r.standing; wake = recv_wake_of p r.standing }
+
+abbrev pub IsRecvNoted : Params → Receiver → RecvNote → Type 0
+IsRecvNoted p r n = n ≡ recv_noted p r
+
+-- each record has its note, in the order of making
+abbrev pub AreNoted : {B N : Type 0} → (B → N → Type 0) → List (Flow × B) → List N → Type 0
+AreNoted P [] [] = Unit {0}
+AreNoted P [] (n ∷ ns) = ⊥
+AreNoted P (e ∷ es) [] = ⊥
+AreNoted P (e ∷ es) (n ∷ ns) = P e.1 n × AreNoted P es ns
+
+-- the index of a flow's record
+abbrev pub place : {B : Type 0} → Flow → List (Flow × B) → Option ℕ
+place f [] = None
+place f (e ∷ es) = if same_flow e.0 f then Some 0 else option_map suc (place f es)
+
+-- The records after a change of one flow's, of which the notes don't tell yet, and the index that it had before.
+pub record IsChanged {B N : Type 0} (P : B → N → Type 0) (f : Flow) (index : Option ℕ) (after : List (Flow × B)) (ns : List N) : Type 0 where
+  pub was : List (Flow × B)
+  pub becomes : Option B
+  pub noted : AreNoted P was ns
+  pub distinct : Distinct same_flow was
+  pub at : index ≡ place f was
+  pub is : after ≡ write_or_erase same_flow f becomes was
+
+-- It isn't made by the change.
+abbrev pub IsNotMade : {B N : Type 0} → (P : B → N → Type 0) → (f : Flow) → (index : Option ℕ) → (after : List (Flow × B)) → (ns : List N) → Type 0
+IsNotMade P f index after ns = (c : IsChanged P f index after ns) × (index ≡ None → c.becomes ≡ None)

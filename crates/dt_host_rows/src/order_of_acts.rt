@@ -1,0 +1,462 @@
+ghost use Rattle.std.specs.Prelude.{◌≡◌, ◌<◌, ◌≤◌, length};
+ghost use Rattle.dt_layout.specs.Spelling.{KeepsRules, packet_of};
+ghost use Rattle.dt_flow_model.specs.Keeping.{most_moment};
+
+use crate::fixtures::{ME, STANDARD, host_with, out, rests, sends};
+use dt_host::{Act, Arrived, Cut, Done, Host, RecvAct, SendAct, SendFault};
+use dt_items::{NoMemory, Piece};
+use dt_layout::{Frame, Packet};
+use dt_units::{Flow, NodeId, Steps};
+use std::alloc::Global;
+use std::marker::Brand;
+use std::process::Abort;
+use std::sync::ledger::{Blank, Ledger};
+use std::test::Fail;
+
+const OTHER: NodeId = NodeId(2);
+
+/// What happens to the host of node 1. The port is node 1's where the host is the sender, and node 2's
+/// where it is the receiver.
+#[derive(Clone, Copy)]
+enum Event {
+    /// One octet is sent as a message, on a flow that has no sender.
+    Send(u16),
+    /// Two octets are sent in the same way.
+    SendTwo(u16),
+    /// One octet isn't taken.
+    Refused(u16, SendFault),
+    /// The act that comes next is that of a sender.
+    Sender(u16, SendAct),
+    /// The act that comes next is that of a receiver.
+    Receiver(u16, RecvAct),
+    /// No act is due.
+    Rest,
+    /// The least moment at which an act is due.
+    Wake(Option<u64>),
+    /// One octet comes that begins a message, the first of its flow. Where it ends the message too, an
+    /// acknowledgement is owed at once.
+    Message(u16, bool, Arrived),
+    /// An acknowledgement comes, with this number and window.
+    Ack(u16, u32, u16, Arrived),
+    /// A rendezvous packet comes, with this number.
+    Meet(u16, u32, Arrived),
+    /// A closing packet comes, with this number.
+    Close(u16, u32, Arrived),
+    /// So many unread octets are read, into two zeros that become these octets.
+    Read(u16, usize, [u8; 2]),
+    /// The number that a receiver expects.
+    Expects(u16, Option<u32>),
+}
+
+/// An event and its moment.
+type Row = (u64, Event);
+
+/// The first octet of a flow, alone in its segment.
+const FIRST: Cut = Cut {
+    number: 0,
+    length: 1,
+    drf: true,
+    begin: true,
+    end: true,
+};
+
+/// The same where a second octet of its message is to come.
+const FIRST_OF_TWO: Cut = Cut {
+    number: 0,
+    length: 1,
+    drf: true,
+    begin: true,
+    end: false,
+};
+
+/// That second octet.
+const SECOND_OF_TWO: Cut = Cut {
+    number: 1,
+    length: 1,
+    drf: true,
+    begin: false,
+    end: true,
+};
+
+/// An octet was accepted, the first of its run.
+const ACCEPTED: Arrived = Arrived::Accepted {
+    run: true,
+    count: 1,
+};
+
+/// An acknowledgement of it goes out, with the room that is left.
+const ACKED: RecvAct = RecvAct::Acked {
+    number: 1,
+    window: 4095,
+};
+
+/// An octet was acknowledged.
+const SETTLED: Arrived = Arrived::Acked { count: 1 };
+
+/// Two octets go out on two flows, and nothing is heard.
+const GIVEN_UP: [Row; 10] = [
+    (0, Event::Send(10)),
+    (0, Event::Sender(10, SendAct::Sent(FIRST))),
+    (1, Event::Send(11)),
+    (1, Event::Sender(11, SendAct::Sent(FIRST))),
+    (1, Event::Wake(Some(500))),
+    (5200, Event::Sender(10, SendAct::GaveUp { count: 1 })),
+    (5200, Event::Rest),
+    (5201, Event::Sender(11, SendAct::GaveUp { count: 1 })),
+    (5201, Event::Rest),
+    (5201, Event::Wake(Some(6200))),
+];
+
+/// After a restart at 0 nothing is taken for 6,200 ms.
+const SILENCE: [Row; 5] = [
+    (6199, Event::Refused(10, SendFault::Quiet { until: 6200 })),
+    (
+        6199,
+        Event::Message(20, true, Arrived::Quiet { until: 6200 }),
+    ),
+    (6200, Event::Send(10)),
+    (6200, Event::Sender(10, SendAct::Sent(FIRST))),
+    (6200, Event::Rest),
+];
+
+/// An act of each class is due at 10,000. The last sender waits for a window.
+const CLASSES: [Row; 23] = [
+    (3800, Event::Send(12)),
+    (3800, Event::Sender(12, SendAct::Sent(FIRST))),
+    (3800, Event::Ack(12, 1, 1, SETTLED)),
+    (4800, Event::Send(11)),
+    (4800, Event::Sender(11, SendAct::Sent(FIRST))),
+    (5800, Event::Sender(11, SendAct::Resent(FIRST))),
+    (5800, Event::Message(13, true, ACCEPTED)),
+    (5800, Event::Receiver(13, ACKED)),
+    (9200, Event::SendTwo(17)),
+    (9200, Event::Sender(17, SendAct::Sent(FIRST_OF_TWO))),
+    (9200, Event::Ack(17, 1, 0, SETTLED)),
+    (9500, Event::Send(15)),
+    (9500, Event::Sender(15, SendAct::Sent(FIRST))),
+    (9800, Event::Message(14, false, ACCEPTED)),
+    (9900, Event::Send(16)),
+    (10_000, Event::Sender(11, SendAct::GaveUp { count: 1 })),
+    (10_000, Event::Sender(12, SendAct::Released)),
+    (10_000, Event::Receiver(13, RecvAct::Released)),
+    (10_000, Event::Receiver(14, ACKED)),
+    (10_000, Event::Sender(15, SendAct::Resent(FIRST))),
+    (10_000, Event::Sender(16, SendAct::Sent(FIRST))),
+    (10_000, Event::Sender(17, SendAct::Met { number: 1 })),
+    (10_000, Event::Rest),
+];
+
+/// Of four senders the second goes: the others keep their order, so a swap would show. The first keeps
+/// an octet until 100, so that its release is due when those of the last two are.
+const ORDER_OF_MAKING: [Row; 21] = [
+    (0, Event::SendTwo(13)),
+    (0, Event::Sender(13, SendAct::Sent(FIRST_OF_TWO))),
+    (0, Event::Send(12)),
+    (0, Event::Sender(12, SendAct::Sent(FIRST))),
+    (0, Event::Ack(12, 1, 1, SETTLED)),
+    (100, Event::Send(11)),
+    (100, Event::Sender(11, SendAct::Sent(FIRST))),
+    (100, Event::Ack(11, 1, 1, SETTLED)),
+    (100, Event::Send(10)),
+    (100, Event::Sender(10, SendAct::Sent(FIRST))),
+    (100, Event::Ack(10, 1, 1, SETTLED)),
+    (100, Event::Ack(13, 1, 1, SETTLED)),
+    (100, Event::Sender(13, SendAct::Sent(SECOND_OF_TWO))),
+    (100, Event::Ack(13, 2, 1, SETTLED)),
+    (6200, Event::Sender(12, SendAct::Released)),
+    (6200, Event::Rest),
+    (6300, Event::Sender(13, SendAct::Released)),
+    (6300, Event::Sender(11, SendAct::Released)),
+    (6300, Event::Sender(10, SendAct::Released)),
+    (6300, Event::Rest),
+    (6300, Event::Wake(None)),
+];
+
+/// What comes for a flow that has no record.
+const WITHOUT_RECORD: [Row; 4] = [
+    (0, Event::Ack(10, 0, 9, Arrived::Dropped)),
+    (
+        0,
+        Event::Meet(
+            20,
+            7,
+            Arrived::Replied {
+                number: 7,
+                window: 4096,
+            },
+        ),
+    ),
+    (0, Event::Close(20, 7, Arrived::Dropped)),
+    (0, Event::Wake(None)),
+];
+
+/// A receiver goes when it has neither a record nor unread octets.
+const IDLE: [Row; 8] = [
+    (0, Event::Message(20, true, ACCEPTED)),
+    (0, Event::Expects(20, Some(1))),
+    (0, Event::Receiver(20, ACKED)),
+    (4200, Event::Receiver(20, RecvAct::Released)),
+    (4200, Event::Rest),
+    (4200, Event::Read(20, 1, [65, 0])),
+    (4200, Event::Read(20, 0, [0, 0])),
+    (4200, Event::Expects(20, None)),
+];
+
+/// From a port of node 2 to port 10 of node 1.
+fn back(from_port: u16) -> Flow {
+    Flow {
+        from: OTHER,
+        from_port,
+        to: ME,
+        to_port: 10,
+    }
+}
+
+fn receives(flow: Flow, act: RecvAct) -> Done {
+    Done {
+        flow,
+        act: Act::Recv(act),
+    }
+}
+
+fn message<'a>(flow: Flow, octets: &'a [u8], end: bool) -> Packet<'a>
+    requires some { 1 ≤ length octets.now }
+    requires few { length octets.now ≤ 8192 }
+    ensures { KeepsRules (packet_of result) }
+{
+    Packet::Data {
+        from_port: flow.from_port,
+        to_port: flow.to_port,
+        number: 0,
+        drf: true,
+        begin: true,
+        end,
+        octets,
+    }
+}
+
+/// An acknowledgement of octets of a flow, which comes the other way.
+fn ack(flow: Flow, number: u32, window: u16) -> Packet<'static>
+    ensures { KeepsRules (packet_of result) }
+{
+    Packet::Ack {
+        from_port: flow.to_port,
+        to_port: flow.from_port,
+        number,
+        window: u32::from(window),
+    }
+}
+
+fn meet(flow: Flow, number: u32) -> Packet<'static>
+    ensures { KeepsRules (packet_of result) }
+{
+    Packet::Meet {
+        from_port: flow.from_port,
+        to_port: flow.to_port,
+        number,
+    }
+}
+
+fn close(flow: Flow, number: u32) -> Packet<'static>
+    ensures { KeepsRules (packet_of result) }
+{
+    Packet::Close {
+        from_port: flow.from_port,
+        to_port: flow.to_port,
+        number,
+    }
+}
+
+/// Octets are sent as a message on a flow that has no sender.
+fn offers<L: Ledger>(
+    rt: &impl Abort,
+    host: &mut Host,
+    flow: Flow,
+    octets: &[u8],
+    now: u64,
+    answer: Result<(), SendFault>,
+    steps: &mut Steps<L>,
+)
+    requires some { 1 ≤ length octets.now }
+    requires few { length octets.now ≤ 8192 }
+    requires moment { now ≤ most_moment }
+    requires past { host.old.latest ≤ now }
+    ensures latest { host.new.latest ≡ now }
+{
+    assert_eq!(rt; flow.from.0, host.me().0);
+    assert_ne!(rt; flow.to.0, host.me().0);
+    assert!(rt; host.next_number(&flow).is_none());
+    assert!(rt; host.is_current(now, steps));
+    let result = host.send(&flow, octets, true, true, now, steps);
+    assert_eq!(rt; result, answer, "at {now}");
+}
+
+/// The act that comes next.
+fn does<L: Ledger>(rt: &impl Abort, host: &mut Host, act: Done, now: u64, steps: &mut Steps<L>)
+    requires moment { now ≤ most_moment }
+    requires past { host.old.latest ≤ now }
+    ensures latest { host.new.latest ≡ now }
+{
+    let done = host.next(now, &mut Frame::new(), steps);
+    assert_eq!(rt; done, Some(act), "at {now}");
+}
+
+/// A packet comes from node 2.
+fn comes<L: Ledger>(
+    rt: &impl Abort,
+    host: &mut Host,
+    packet: &Packet<'_>,
+    now: u64,
+    answer: Arrived,
+    steps: &mut Steps<L>,
+)
+    requires rules { KeepsRules (packet_of packet.now) }
+    requires moment { now ≤ most_moment }
+    requires past { host.old.latest ≤ now }
+    ensures latest { host.new.latest ≡ now }
+{
+    assert!(rt; host.is_current(now, steps));
+    let result = host.arrive(OTHER, packet, now, &mut Frame::new(), steps);
+    assert_eq!(rt; result, Ok(answer), "at {now}");
+}
+
+/// Unread octets are read into two zeros.
+fn reads<L: Ledger>(
+    rt: &impl Abort,
+    host: &mut Host,
+    flow: Flow,
+    now: u64,
+    count: usize,
+    buffer: [u8; 2],
+    steps: &mut Steps<L>,
+)
+    requires moment { now ≤ most_moment }
+    requires past { host.old.latest ≤ now }
+    ensures latest { host.new.latest ≡ now }
+{
+    assert!(rt; host.is_current(now, steps));
+    let mut read = [0; 2];
+    let piece = host.read(&flow, &mut read, now, steps);
+    assert_eq!(rt; count_of(piece), count, "at {now}");
+    assert_eq!(rt; read, buffer, "at {now}");
+}
+
+fn count_of(piece: Option<Piece>) -> usize {
+    match piece {
+        Some(piece) => piece.len,
+        None => 0,
+    }
+}
+
+/// An event at a moment that isn't before those that were.
+fn happens<L: Ledger>(
+    rt: &impl Abort,
+    host: &mut Host,
+    event: Event,
+    now: u64,
+    steps: &mut Steps<L>,
+)
+    requires moment { now ≤ most_moment }
+    requires past { host.old.latest ≤ now }
+    ensures latest { host.new.latest ≤ now }
+{
+    match event {
+        Event::Send(port) => offers(rt, host, out(port), &[65], now, Ok(()), steps),
+        Event::SendTwo(port) => offers(rt, host, out(port), &[65, 66], now, Ok(()), steps),
+        Event::Refused(port, fault) => offers(rt, host, out(port), &[65], now, Err(fault), steps),
+        Event::Sender(port, act) => does(rt, host, sends(out(port), act), now, steps),
+        Event::Receiver(port, act) => does(rt, host, receives(back(port), act), now, steps),
+        Event::Rest => rests(rt, host, now, &mut Frame::new(), steps),
+        Event::Wake(moment) => assert_eq!(rt; host.wake(), moment, "at {now}"),
+        Event::Message(port, end, answer) => {
+            comes(
+                rt,
+                host,
+                &message(back(port), &[65], end),
+                now,
+                answer,
+                steps,
+            )
+        }
+        Event::Ack(port, number, window, answer) => {
+            comes(
+                rt,
+                host,
+                &ack(out(port), number, window),
+                now,
+                answer,
+                steps,
+            )
+        }
+        Event::Meet(port, number, answer) => {
+            comes(rt, host, &meet(back(port), number), now, answer, steps)
+        }
+        Event::Close(port, number, answer) => {
+            comes(rt, host, &close(back(port), number), now, answer, steps)
+        }
+        Event::Read(port, count, buffer) => {
+            reads(rt, host, back(port), now, count, buffer, steps)
+        }
+        Event::Expects(port, number) => {
+            assert_eq!(rt; host.expected(&back(port)), number, "at {now}")
+        }
+    }
+}
+
+/// The rows one after another.
+fn runs<L: Ledger>(rt: &impl Abort, host: &mut Host, rows: &[Row], steps: &mut Steps<L>)
+    requires { host.old.latest ≡ 0 }
+{
+    let mut latest = 0;
+    for (now, event) in rows {
+        assert!(rt; latest <= *now && *now <= 10_000);
+        happens(rt, host, *event, *now, steps);
+        latest = *now;
+    }
+}
+
+/// The rows on the host of a node that starts for the first time.
+fn runs_first<L: Ledger>(
+    rt: &impl Abort,
+    alloc: Global,
+    rows: &[Row],
+    steps: &mut Steps<L>,
+) -> Result<(), NoMemory> {
+    let mut host = host_with(rt, alloc, &STANDARD)?;
+    runs(rt, &mut host, rows, steps);
+    drop(host);
+    Ok(())
+}
+
+/// The rows on the host of a node that starts again at 0.
+fn runs_again<L: Ledger>(
+    rt: &impl Abort,
+    alloc: Global,
+    rows: &[Row],
+    steps: &mut Steps<L>,
+) -> Result<(), NoMemory> {
+    let rules = STANDARD.check().expect(rt, "the parameters are refused");
+    let mut host = Host::restarted(alloc, &rules, ME, 0)?;
+    runs(rt, &mut host, rows, steps);
+    drop(host);
+    Ok(())
+}
+
+fn rows_on<L: Ledger>(rt: &impl Abort, alloc: Global, ledger: Blank) -> Result<(), NoMemory>
+    requires name { ledger.name ≡ L.name }
+    requires parts { ledger.parts ≡ L.parts }
+    requires some { 0 < ledger.parts }
+{
+    let mut steps = Steps::<L>::new(ledger);
+    runs_first(rt, alloc, &GIVEN_UP, &mut steps)?;
+    runs_again(rt, alloc, &SILENCE, &mut steps)?;
+    runs_first(rt, alloc, &CLASSES, &mut steps)?;
+    runs_first(rt, alloc, &ORDER_OF_MAKING, &mut steps)?;
+    runs_first(rt, alloc, &WITHOUT_RECORD, &mut steps)?;
+    runs_first(rt, alloc, &IDLE, &mut steps)
+}
+
+#[test]
+fn the_host_orders_its_acts(rt: HostRuntime) -> Result<(), Fail> {
+    Ok(rows_on::<Brand>(&rt, rt.alloc(), Blank::new(1))?)
+}

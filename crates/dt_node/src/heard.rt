@@ -1,0 +1,166 @@
+//! What a station answers to a packet, heard by a visitor between it and another.
+ghost use Rattle.std.specs.Prelude.{◌≡◌, IfOk, OnOk};
+ghost use Rattle.dt_layout.specs.Carried.{IsGram};
+ghost use Rattle.dt_reports.specs.Told.{told};
+ghost use Rattle.dt_world_model.specs.Script.{Concludes};
+ghost use Rattle.dt_world_model.specs.Station.{Arrive, station_event};
+ghost use Rattle.dt_node.specs.declared.heard.Heard.TheVariants as heard;
+ghost use Rattle.dt_node.specs.Codes.{GoesOn, MayGo};
+ghost use Rattle.dt_node.specs.Hearing.{heard_in, hears};
+ghost use Rattle.dt_node.specs.Shelving.{plain};
+
+use dt_host::Host;
+use dt_items::NoMemory;
+use dt_layout::Frame;
+use dt_relay::Carry;
+use dt_reports::Report;
+use dt_station::{Station, StationEvent, Visitor};
+use dt_units::Flow;
+
+/// What a station answered to a packet, as far as it concerns a shelf.
+#[derive(Clone, Copy, Debug, PartialEq, Eq)]
+pub enum Heard {
+    /// Nothing that concerns it.
+    Nothing,
+    /// Its data were accepted, and `next` is the sequence number behind them.
+    Accepted { flow: Flow, next: u32 },
+    /// It wasn't accepted: it was replied to with this number, or dropped.
+    Refused { flow: Flow, replied: Option<u32> },
+}
+
+/// Hands on to a visitor all that it sees, and keeps what it hears.
+#[derive(Drop)]
+pub struct Listener<'v, V> {
+    pub visitor: &'v mut V,
+    pub heard: Heard,
+}
+
+impl<'v, V: Visitor<Frame>> Visitor<Frame> for Listener<'v, V> {
+    ghost use Rattle.dt_node.specs.Hearing.{listens_fails, listens_hands, listens_tags, listens_tells};
+
+    ghost tells = { λ s r t. listens_tells V.tells s r t };
+
+    ghost tags = { λ s host octets tag t. listens_tags V.tags s host octets tag t };
+
+    ghost hands = { λ s link parcel t. listens_hands V.hands s link parcel t };
+
+    ghost fails = { λ s t. listens_fails V.fails s t };
+
+    fn tag(&mut self, host: &Host, frame: &Frame, now: u64) {
+        self.visitor.tag(host, frame, now)
+    }
+
+    fn tell(&mut self, report: &Report<'_>) {
+        self.visitor.tell(report);
+        self.heard = heard_after(report, self.heard);
+    }
+
+    fn out(&mut self, link: u16, packet: Frame) -> Result<(), NoMemory> {
+        self.visitor.out(link, packet)
+    }
+}
+
+/// What is heard after a report.
+fn heard_after(report: &Report<'_>, before: Heard) -> Heard
+    ensures { result ≡ hears (told report.now) before }
+{
+    match *report {
+        Report::Accepted {
+            flow,
+            number,
+            length,
+            ..
+        } => Heard::Accepted {
+            flow,
+            next: number.wrapping_add(length),
+        },
+        Report::Replied { flow, number, .. } => Heard::Refused {
+            flow,
+            replied: Some(number),
+        },
+        Report::Dropped { flow, .. } => Heard::Refused {
+            flow,
+            replied: None,
+        },
+        Report::Took { .. }
+        | Report::Refused { .. }
+        | Report::Sent { .. }
+        | Report::Resent { .. }
+        | Report::Met { .. }
+        | Report::Uncertain { .. }
+        | Report::Released { .. }
+        | Report::Renewed { .. }
+        | Report::Acked { .. }
+        | Report::Closing { .. }
+        | Report::Settled { .. }
+        | Report::Ignored { .. }
+        | Report::Quiet { .. }
+        | Report::Read { .. }
+        | Report::Nothing { .. }
+        | Report::Put { .. }
+        | Report::PutAs { .. }
+        | Report::ExpiredIn { .. }
+        | Report::ExpiredOut { .. }
+        | Report::NoRoute { .. }
+        | Report::Full { .. }
+        | Report::Bad { .. }
+        | Report::Unsent { .. }
+        | Report::Shelved { .. }
+        | Report::NoShelf { .. }
+        | Report::Again { .. }
+        | Report::Stale { .. }
+        | Report::Restarted { .. }
+        | Report::Lost { .. }
+        | Report::FlowTotals { .. }
+        | Report::End
+        | Report::Fault { .. } => before,
+    }
+}
+
+/// A packet that came on a link arrives at a station, before a listener. The frame, which must read as a
+/// Deltagram, is copied.
+fn listen<V: Visitor<Frame>>(
+    station: &mut Station<Frame>,
+    now: u64,
+    link: u16,
+    frame: &Frame,
+    listener: &mut Listener<'_, V>,
+) -> Result<(), NoMemory>
+    requires gram { IsGram frame.now }
+    requires go { MayGo now station.old }
+    ensures ends { let script = station_event station.old.rules now (Arrive link (plain frame.now)) station.old.state in
+        Concludes V.tells V.tags V.hands V.fails result script listener.old.visitor.now listener.new.visitor.now station.new.state }
+    ensures heard { let script = station_event station.old.rules now (Arrive link (plain frame.now)) station.old.state in
+        OnOk result (listener.new.heard ≡ heard_in script listener.old.heard) }
+    ensures same { listener.new.visitor.ghost_name ≡ listener.old.visitor.ghost_name }
+    ensures on { OnOk result (GoesOn now 0 station.old station.new) }
+{
+    let packet = Frame::make(frame, ());
+    let event = StationEvent::Arrive { link, packet };
+    station.event(now, event, &mut [], listener)
+}
+
+/// A packet that came on a link arrives at a station. It answers what the station told, as far as that
+/// concerns a shelf. The frame, which must read as a Deltagram, is copied.
+pub fn hear<V: Visitor<Frame>>(
+    station: &mut Station<Frame>,
+    now: u64,
+    link: u16,
+    frame: &Frame,
+    visitor: &mut V,
+) -> Result<Heard, NoMemory>
+    requires gram { IsGram frame.now }
+    requires go { MayGo now station.old }
+    ensures ends { let script = station_event station.old.rules now (Arrive link (plain frame.now)) station.old.state in
+        Concludes V.tells V.tags V.hands V.fails result script visitor.old visitor.new station.new.state }
+    ensures heard { let script = station_event station.old.rules now (Arrive link (plain frame.now)) station.old.state in
+        IfOk result (λ answer. answer ≡ heard_in script heard.Nothing) }
+    ensures on { OnOk result (GoesOn now 0 station.old station.new) }
+{
+    let mut listener = Listener {
+        visitor,
+        heard: Heard::Nothing,
+    };
+    listen(station, now, link, frame, &mut listener)?;
+    Ok(listener.heard)
+}

@@ -1,0 +1,7 @@
+mod Cutting
+mod Fates
+mod Joining
+mod Leaving
+mod Planned
+pub mod Repeated
+pub mod Rerunning

@@ -1,0 +1,121 @@
+ghost use Rattle.std.specs.Prelude.{◌≡◌, ◌≤◌, ◌<◌, ◌↔◌, IfOk, IfSome, IsTrue, length};
+ghost use Rattle.std.specs.List.{position};
+ghost use Rattle.dt_layout.specs.Carried.{IsGram, life_of};
+ghost use Rattle.dt_flow_model.specs.Keeping.{most_moment};
+ghost use Rattle.dt_shelf.specs.Shelves.{IfAgain, IsShelfUpTo, empty_shelf, held_packet, hold, is_of, take_held};
+
+use crate::held::Held;
+use crate::taken::Taken;
+use dt_items::NoMemory;
+use dt_layout::{Frame, read_deltagram};
+use dt_units::Flow;
+use std::alloc::Global;
+use std::marker::Model;
+
+/// Packets that came too early, in the order in which they were put here. A contract sees its room and
+/// what it holds.
+///
+/// Moments are readings of one clock in milliseconds, at most 2^62, and never fall.
+#[derive(Drop)]
+pub struct Shelf {
+    room: u32,
+    held: Vec<Held>,
+}
+
+impl Model for Shelf {
+    ghost use Rattle.std.specs.Prelude.{◌≤◌, All, vec_capacity};
+    ghost use Rattle.dt_shelf.specs.Shelves as model;
+    ghost use Rattle.dt_shelf.specs.Shelves.{HoldsGram};
+
+    ghost Value = { model.Shelf };
+
+    ghost view = { λ s. record { room = s.room; held = s.held.items } };
+
+    ghost invariant = { λ s. (s.room ≤ vec_capacity s.held) × All HoldsGram s.held.items };
+}
+
+impl Shelf {
+    /// An empty shelf for so many packets. Takes their room, 8,264 octets for each; `NoMemory` where
+    /// there is none. No later call takes memory.
+    pub fn with_room(alloc: Global, room: u32) -> Result<Shelf, NoMemory>
+        ensures { IfOk result (λ shelf. shelf ≡ empty_shelf room) }
+    {
+        let held = Vec::with_capacity(alloc, room as usize)?;
+        Ok(Shelf { room, held })
+    }
+
+    /// Puts a packet last, whose first octet has this number. It came on a link, and its frame, which
+    /// must read as a Deltagram, is copied. False where the shelf is full, and then nothing changes.
+    pub fn hold(&mut self, link: u16, flow: Flow, number: u32, frame: &Frame, now: u64) -> bool
+        requires { IsGram frame.now }
+        ensures answer { result ≡ (hold (held_packet link flow number frame.now now) self.old).0 }
+        ensures shelf { self.new ≡ (hold (held_packet link flow number frame.now now) self.old).1 }
+        ensures full { IsTrue result ↔ (length self.old.held < self.old.room) }
+    {
+        if self.held.len() >= self.room as usize {
+            return false;
+        }
+        let mut copy = Frame::new();
+        copy.refill(frame.as_slice());
+        self.held.push_reserved(Held {
+            link,
+            flow,
+            number,
+            frame: copy,
+            since: now,
+        });
+        true
+    }
+
+    /// Takes the first packet of this flow whose first octet has this number, and makes its life less
+    /// by the charge for its time here, which is the time since it was put here and one millisecond
+    /// more. None where there is no such packet. The others stay, in their order.
+    ///
+    /// Its cost is that of going over the packets, and of moving those behind the one that leaves.
+    pub fn take(&mut self, flow: &Flow, number: u32, now: u64) -> Option<Taken>
+        requires past { IsShelfUpTo now self.old }
+        requires moment { now ≤ most_moment }
+        ensures taken { result ≡ (take_held flow.now number now self.old).0 }
+        ensures left { self.new ≡ (take_held flow.now number now self.old).1 }
+        ensures gram { IfAgain result (λ link frame. IsGram frame) }
+    {
+        let place = self.place(flow, number)?;
+        let Held {
+            link,
+            mut frame,
+            since,
+            ..
+        } = self.held.remove(place);
+        let charge = now - since + 1;
+        if u64::from(life(&frame)) <= charge {
+            return Some(Taken::Stale);
+        }
+        frame.lower(charge as u32);
+        Some(Taken::Again { link, frame })
+    }
+
+    /// Where the first packet of a flow and number stands.
+    fn place(&self, flow: &Flow, number: u32) -> Option<usize>
+        ensures { result ≡ position (is_of flow.now number) self.now.held }
+    {
+        self.held.iter().position(|held| is_of(held, flow, number))
+    }
+}
+
+/// Whether a packet is of this flow and its first octet has this number.
+fn is_of(held: &Held, flow: &Flow, number: u32) -> bool
+    ensures { result ≡ is_of flow.now number held.now }
+{
+    held.flow == *flow && held.number == number
+}
+
+/// The life that a frame tells, in ms.
+fn life(frame: &Frame) -> u32
+    requires { IsGram frame.now }
+    ensures { result ≡ life_of frame.now }
+{
+    match read_deltagram(frame.as_slice()) {
+        Ok(gram) => gram.life,
+        Err(_) => unreachable!(),
+    }
+}

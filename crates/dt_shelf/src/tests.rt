@@ -1,0 +1,53 @@
+ghost use Rattle.dt_layout.specs.Carried.{IsGram};
+
+use crate::{Shelf, Taken};
+use dt_layout::{Frame, Packet, write_frame};
+use dt_units::{Flow, NodeId};
+use std::process::Abort;
+use std::test::Fail;
+
+// Data of a flow from node 1 to node 2.
+fn packet(rt: &impl Abort, life: u32, number: u32) -> Frame
+    ensures { IsGram result }
+{
+    let mut frame = Frame::new();
+    let data = Packet::Data {
+        from_port: 10,
+        to_port: 20,
+        number,
+        drf: false,
+        begin: false,
+        end: true,
+        octets: b"abcd",
+    };
+    assert!(rt; life > 0);
+    write_frame(&mut frame, life, 1, 2, &data);
+    frame
+}
+
+const FLOW: Flow = Flow {
+    from: NodeId(1),
+    from_port: 10,
+    to: NodeId(2),
+    to_port: 20,
+};
+
+#[test]
+fn a_packet_is_held_and_taken(rt: HostRuntime) -> Result<(), Fail> {
+    let mut shelf = Shelf::with_room(rt.alloc(), 1).ok().ok_or("memory")?;
+    assert!(rt; shelf.take(&FLOW, 4, 5).is_none());
+    let frame = packet(&rt, 100, 4);
+    assert!(rt; shelf.hold(1, FLOW, 4, &frame, 10));
+    assert!(rt; !shelf.hold(1, FLOW, 8, &frame, 10));
+    // It was there for 10 ms, so 89 are left.
+    let octets: &[u8] =
+        b"\x01\x01\x00\x12\x00\x00\x00\x59\x00\x00\x00\x01\x00\x00\x00\x02\x01\x04\x00\x0a\x00\x14\x00\x00\x00\x04\x00\x00\x00\x00abcd";
+    match shelf.take(&FLOW, 4, 20) {
+        Some(Taken::Again { link, frame }) => {
+            assert_eq!(rt; link, 1);
+            assert_eq!(rt; frame.as_slice(), octets);
+        }
+        _ => return Err("nothing".into()),
+    }
+    Ok(())
+}

@@ -1,0 +1,51 @@
+-- The order of deadlines, and the sooner of two.
+use Rattle.std.proofs.Common.{ℕ, ◌≡◌, ◌<◌, ◌≤◌, ◌⊎◌, inl, inr, Bool, true, false, Option, Some, None, refl, sym, subst, arith}
+use Rattle.std.specs.Prelude.{◌==◌, ◌&&◌, ◌||◌, nat_lt, if◌then◌else◌}
+use Rattle.std.proofs.lemmas.Bool.{cases_Bool}
+use Rattle.std.proofs.lemmas.Bool.Decides.{nat_tests}
+use Rattle.dt_timers.specs.declared.deadline.Deadline.{Deadline}
+use Rattle.dt_timers.specs.Order.{IsBy, IsNoLater, goes_first, sooner_of}
+
+pub by_itself : (d : Option Deadline) → IsBy d d
+by_itself None = tt
+by_itself (Some d) = inr (refl, omega arith)
+
+pub by_then : (a b c : Option Deadline) → IsBy a b → IsBy b c → IsBy a c
+by_then a b None h k = tt
+by_then a None (Some e) h k = absurd k
+by_then None (Some d) (Some e) h k = absurd h
+by_then (Some d) (Some e) (Some f) h k = grind arith
+
+no_later : (d e : Deadline) → goes_first e d ≡ false → IsNoLater d e
+no_later d e h = grind (arith, nat_tests)
+
+goes : (d e : Deadline) → goes_first e d ≡ true → IsNoLater e d
+goes d e h = grind (arith, nat_tests)
+
+-- the sooner is one of the two, and by both
+pub is_one : (a b : Option Deadline) → (sooner_of a b ≡ a) ⊎ (sooner_of a b ≡ b)
+is_one None b = inr refl
+is_one (Some d) None = inl refl
+is_one (Some d) (Some e) = by (goes_first e d)
+  where
+    by : (t : Bool) → ((if t then Some e else Some d) ≡ Some d) ⊎ ((if t then Some e else Some d) ≡ Some e)
+    by true = inr refl
+    by false = inl refl
+
+pub by_first : (a b : Option Deadline) → IsBy (sooner_of a b) a
+by_first None b = tt
+by_first (Some d) None = by_itself (Some d)
+by_first (Some d) (Some e) =
+    elim (cases_Bool (goes_first e d)) [
+      | inl y ↦ rw y (goes d e y)
+      | inr n ↦ rw n (by_itself (Some d))
+    ]
+
+pub by_second : (a b : Option Deadline) → IsBy (sooner_of a b) b
+by_second None b = by_itself b
+by_second (Some d) None = tt
+by_second (Some d) (Some e) =
+    elim (cases_Bool (goes_first e d)) [
+      | inl y ↦ rw y (by_itself (Some e))
+      | inr n ↦ rw n (no_later d e n)
+    ]

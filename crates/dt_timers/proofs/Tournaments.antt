@@ -1,0 +1,132 @@
+-- Nodes that are played again one after another, and the soonest of all places.
+use Rattle.std.proofs.Common.{ℕ, zero, suc, ◌≡◌, ◌≢◌, ◌+◌, ◌/◌, ◌<◌, ◌≤◌, ◌⊎◌, inl, inr, List, length, get_or, set, drop, Option, Some, None, refl, sym, ap, subst, ◌∙◌, arith, ◌-◌, length-drop, get_or-set_same, get_or-set_other}
+use Rattle.std.proofs.lemmas.List.{drop-set-add, ext_get_or, get_or-drop, get_or_past, length-set}
+use Rattle.std.proofs.lemmas.Bool.{cases_eq, cases_lt}
+use Rattle.dt_timers.specs.declared.deadline.Deadline.{Deadline}
+use Rattle.dt_timers.specs.Order.{IsBy, sooner_of}
+use Rattle.dt_timers.specs.Tournaments.{ArePlayed, ArePlayedBut, IsSoonestOf, node}
+use Rattle.dt_timers.proofs.Order.{by_first, by_itself, by_second, by_then, is_one}
+
+half_even : (at k : ℕ) → k + k ≡ at → k ≡ at / 2
+half_even at k e = omega arith
+
+even_or_odd : (k : ℕ) → (k ≡ k / 2 + k / 2) ⊎ (k ≡ k / 2 + k / 2 + 1)
+even_or_odd k = elim (cases_eq k (k / 2 + k / 2)) [ inl e ↦ inl e | inr ne ↦ inr (omega arith) ]
+
+half_odd : (at k : ℕ) → k + k + 1 ≡ at → k ≡ at / 2
+half_odd at k e = omega arith
+
+module _ (nodes : List (Option Deadline)) where
+  -- a node keeps its deadline where another is written
+  pub stays : (at k : ℕ) (d : Option Deadline) → k ≢ at → node (set nodes at d) k ≡ node nodes k
+  stays at k d apart = get_or-set_other nodes at k d None apart
+
+  pub wrote : (at : ℕ) (d : Option Deadline) → at < length nodes → node (set nodes at d) at ≡ d
+  wrote at d within = get_or-set_same nodes at d None within
+
+  -- ONE MORE NODE IS PLAYED: the next one up may be wrong
+  module _ (at : ℕ) (some : 1 ≤ at) (within : at + at + 1 < length nodes) (played : ArePlayedBut at nodes) where
+    abbrev won : Option Deadline
+    won = sooner_of (node nodes (at + at)) (node nodes (at + at + 1))
+
+    abbrev after : List (Option Deadline)
+    after = set nodes at won
+
+    both : (k : ℕ) → k + k ≢ at → k + k + 1 ≢ at → sooner_of (node after (k + k)) (node after (k + k + 1)) ≡ sooner_of (node nodes (k + k)) (node nodes (k + k + 1))
+    both k l r = ap (λ (a : Option Deadline). sooner_of a (node after (k + k + 1))) (stays at (k + k) won l) ∙ ap (λ (b : Option Deadline). sooner_of (node nodes (k + k)) b) (stays at (k + k + 1) won r)
+
+    here : node after at ≡ sooner_of (node after (at + at)) (node after (at + at + 1))
+    here =
+        let l : at + at ≢ at = λ e. omega arith in
+        let r : at + at + 1 ≢ at = λ e. omega arith in
+        wrote at won (omega arith) ∙ sym (both at l r)
+
+    there : (k : ℕ) → 1 ≤ k → k + k + 1 < length after → k ≢ at / 2 → k ≢ at → node after k ≡ sooner_of (node after (k + k)) (node after (k + k + 1))
+    there k k_some k_within apart other =
+        let long : k + k + 1 < length nodes = subst (λ (n : ℕ). k + k + 1 < n) (length-set nodes at won) k_within in
+        stays at k won other ∙ played k k_some long other ∙ sym (both k (λ e. apart (half_even at k e)) (λ e. apart (half_odd at k e)))
+
+    pub one_more : ArePlayedBut (at / 2) after
+    one_more = λ k k_some k_within apart.
+        elim (cases_eq k at) [
+          | inl same ↦ subst (λ (n : ℕ). node after n ≡ sooner_of (node after (n + n)) (node after (n + n + 1))) (sym same) here
+          | inr other ↦ there k k_some k_within apart other
+        ]
+
+  -- THE SOONEST
+  module _ (half : ℕ) (even : length nodes ≡ half + half) (played : ArePlayed nodes) where
+    -- a node that is by another is by the two below it
+    down : (k j : ℕ) → 1 ≤ j → j + j + 1 < length nodes → (k ≡ j + j) ⊎ (k ≡ j + j + 1) → IsBy (node nodes 1) (node nodes j) → IsBy (node nodes 1) (node nodes k)
+    down k j some long which up =
+        let apart : j ≢ 0 = λ e. omega arith in
+        let top : IsBy (node nodes 1) (sooner_of (node nodes (j + j)) (node nodes (j + j + 1))) = subst (λ (a : Option Deadline). IsBy (node nodes 1) a) (played j some long apart) up in
+        elim which [
+          | inl l ↦ subst (λ (n : ℕ). IsBy (node nodes 1) (node nodes n)) (sym l) (by_then (node nodes 1) (sooner_of (node nodes (j + j)) (node nodes (j + j + 1))) (node nodes (j + j)) top (by_first (node nodes (j + j)) (node nodes (j + j + 1))))
+          | inr r ↦ subst (λ (n : ℕ). IsBy (node nodes 1) (node nodes n)) (sym r) (by_then (node nodes 1) (sooner_of (node nodes (j + j)) (node nodes (j + j + 1))) (node nodes (j + j + 1)) top (by_second (node nodes (j + j)) (node nodes (j + j + 1))))
+        ]
+
+    -- so the top is by each node
+    root_by : (most k : ℕ) → k ≤ most → 1 ≤ k → k < length nodes → IsBy (node nodes 1) (node nodes k)
+    root_by zero k within some long = absurd (omega arith)
+    root_by (suc most) k within some long =
+        elim (cases_eq k 1) [
+          | inl same ↦ subst (λ (n : ℕ). IsBy (node nodes 1) (node nodes n)) (sym same) (by_itself (node nodes 1))
+          | inr other ↦
+              let j_most : k / 2 ≤ most = omega arith in
+              let j_some : 1 ≤ k / 2 = omega arith in
+              let j_within : k / 2 < length nodes = omega arith in
+              let j_long : k / 2 + k / 2 + 1 < length nodes = omega arith in
+              let which = even_or_odd k in
+              down k (k / 2) j_some j_long which (root_by most (k / 2) j_most j_some j_within)
+        ]
+
+    -- each node has its deadline from a place, from the places up
+    at_place : (k : ℕ) → half ≤ k → (i : ℕ) × (node nodes (half + i) ≡ node nodes k)
+    at_place k low = let e : half + (k - half) ≡ k = omega arith in (k - half, ap (node nodes) e)
+
+    won_from : (k : ℕ) → 1 ≤ k → k < half → (i : ℕ) × (node nodes (half + i) ≡ node nodes (k + k)) → (i : ℕ) × (node nodes (half + i) ≡ node nodes (k + k + 1)) → (i : ℕ) × (node nodes (half + i) ≡ node nodes k)
+    won_from k some high l r =
+        let apart : k ≢ 0 = λ e. omega arith in
+        let long : k + k + 1 < length nodes = omega arith in
+        let won = played k some long apart in
+        elim (is_one (node nodes (k + k)) (node nodes (k + k + 1))) [
+          | inl a ↦ (l.0, l.1 ∙ sym (won ∙ a))
+          | inr b ↦ (r.0, r.1 ∙ sym (won ∙ b))
+        ]
+
+    from_place : (most k : ℕ) → half ≤ k + most → 1 ≤ k → (i : ℕ) × (node nodes (half + i) ≡ node nodes k)
+    from_place zero k within some = at_place k (omega arith)
+    from_place (suc most) k within some =
+        elim (cases_lt k half) [
+          | inl high ↦ won_from k some high (from_place most (k + k) (omega arith) (omega arith)) (from_place most (k + k + 1) (omega arith) (omega arith))
+          | inr low ↦ at_place k low
+        ]
+
+    pub soonest_is : 1 ≤ half → IsSoonestOf (drop half nodes) (node nodes 1)
+    soonest_is some =
+        let at = from_place half 1 (omega arith) (omega arith) in
+        ((at.0, get_or-drop half nodes at.0 None ∙ at.1), λ i. by_place i)
+      where
+        by_place : (i : ℕ) → IsBy (node nodes 1) (node (drop half nodes) i)
+        by_place i =
+            elim (cases_lt (half + i) (length nodes)) [
+              | inl within ↦ subst (λ (d : Option Deadline). IsBy (node nodes 1) d) (sym (get_or-drop half nodes i None)) (root_by (half + i) (half + i) (omega arith) (omega arith) within)
+              | inr beyond ↦
+                  let none : node (drop half nodes) i ≡ None = get_or-drop half nodes i None ∙ get_or_past nodes (half + i) None beyond in
+                  subst (λ (d : Option Deadline). IsBy (node nodes 1) d) (sym none) tt
+            ]
+
+  -- A PLACE IS WRITTEN, and the nodes above it are played: the places after it
+  pub placed : (half : ℕ) → length nodes ≡ half + half → (place : ℕ) (d : Option Deadline) (after : List (Option Deadline)) → length after ≡ length (set nodes (half + place) d) → ((k : ℕ) → length (set nodes (half + place) d) ≤ k + k → node after k ≡ node (set nodes (half + place) d) k) → drop half after ≡ set (drop half nodes) place d
+  placed half even place d after long same =
+      ext_get_or None (drop half after) (drop half (set nodes (half + place) d)) (ap (λ (n : ℕ). n) lengths) each
+      ∙ drop-set-add half nodes place d
+    where
+      lengths : length (drop half after) ≡ length (drop half (set nodes (half + place) d))
+      lengths = length-drop half after ∙ ap (λ (n : ℕ). n - half) long ∙ sym (length-drop half (set nodes (half + place) d))
+
+      each : (i : ℕ) → i < length (drop half after) → get_or (drop half after) i None ≡ get_or (drop half (set nodes (half + place) d)) i None
+      each i within =
+          let size : length (set nodes (half + place) d) ≡ length nodes = length-set nodes (half + place) d in
+          let far : length (set nodes (half + place) d) ≤ (half + i) + (half + i) = omega arith in
+          get_or-drop half after i None ∙ same (half + i) far ∙ sym (get_or-drop half (set nodes (half + place) d) i None)

@@ -1,0 +1,3 @@
+pub mod Order
+pub mod Tournaments
+pub mod Deadlines

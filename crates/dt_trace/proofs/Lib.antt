@@ -1,0 +1,4 @@
+pub mod Folding
+pub mod LineLaws
+pub mod TraceLaws
+pub mod Wiring

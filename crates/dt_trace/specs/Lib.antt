@@ -1,0 +1,5 @@
+pub mod Inputs
+pub mod Lines
+pub mod Traces
+pub mod Standing
+pub mod Written

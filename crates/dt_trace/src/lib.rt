@@ -1,0 +1,18 @@
+//! Traces: what a run of a node took in from its clock and its wire, as lines that are written while
+//! it runs, and read to run it again.
+#![tactic(auto)]
+
+mod inputs;
+pub mod laws;
+mod lines;
+mod refusals;
+mod taken;
+mod trace_faults;
+mod traces;
+
+pub use inputs::{Input, put_input};
+pub use trace_faults::TraceFault;
+pub use traces::{Trace, read_trace};
+
+#[cfg(test)]
+mod tests;

@@ -1,0 +1,110 @@
+#!/usr/bin/env python3
+"""Runs of nodes over real sockets that are run again, outside the gate, since ports and time are the
+machine's. `tests/traces.py crates/deltat/out/deltat`. Ends with 1 where one of these fails:
+
+- pair: two nodes that write their traces send each other 20,000 octets through a third process that
+  drops and repeats datagrams. Both traces are run again, and each log has read what the other sent.
+- cut: a trace that is cut off behind a line in its last 2,000 octets gives a first part of the log; one
+  that is cut off elsewhere does, or refuses the line, or reads it as another.
+- rows: so with two worked rows, cut off at each octet."""
+import os
+import random
+import subprocess
+import sys
+import threading
+import time
+
+from nodes import bound, free_port, read_of, relay, script
+
+FLOWS = ["1:10>2:20", "2:20>1:10"]
+
+
+def start(program, text):
+    node = subprocess.Popen([program, "trace"], stdin=subprocess.PIPE, stdout=subprocess.PIPE, stderr=subprocess.PIPE)
+    node.stdin.write(text.encode())
+    node.stdin.close()
+    return node
+
+
+def again(program, text, trace):
+    """What is written of a run that is run again, and the status."""
+    ran = subprocess.run([program, "retrace"], input=text.encode() + b"trace\n" + trace, capture_output=True, check=False)
+    return ran.stdout, ran.returncode
+
+
+def traced(program):
+    """The scripts and the traces of two nodes, what each sent, and whether all went as it should."""
+    chance = random.Random(7)
+    messages = [chance.randbytes(20000), chance.randbytes(20000)]
+    ports, ends = [free_port(), free_port()], [bound(), bound()]
+    told = [0, 0, 0]
+    passing = threading.Thread(target=relay, args=(chance, ends, ports, time.monotonic() + 15, told))
+    passing.start()
+    texts, nodes = [], []
+    for i in (0, 1):
+        commands = [f"at 200 send {FLOWS[i]} be {messages[i].hex()}", f"at 11000 read {FLOWS[1 - i]} 65536", "at 11100 stop"]
+        texts.append(script(i + 1, 2 - i, ports[i], ends[i].getsockname()[1], commands))
+        nodes.append(start(program, texts[i]))
+    traces = [node.stdout.read() for node in nodes]
+    statuses = [node.wait() for node in nodes]
+    passing.join()
+    print(f"{told[1]} datagrams passed, {told[0]} dropped, {told[2]} repeated; traces of {[len(it) for it in traces]} octets")
+    return texts, traces, messages, statuses == [0, 0] and told[0] > 0 and told[2] > 0
+
+
+def pair(program, run):
+    texts, traces, messages, well = run
+    logs = [again(program, text, trace) for text, trace in zip(texts, traces)]
+    once_more = [again(program, text, trace) for text, trace in zip(texts, traces)]
+    heard = [read_of(logs[i][0].decode(), FLOWS[1 - i]) == messages[1 - i] for i in (0, 1)]
+    return well and logs == once_more and [it[1] for it in logs] == [0, 0] and all(heard)
+
+
+def cut(program, run):
+    texts, traces, _, well = run
+    text, trace = texts[0], traces[0]
+    log, _ = again(program, text, trace)
+    last = text.count("\n") + 1
+    for length in range(max(0, len(trace) - 2000), len(trace), 13):
+        part = trace[:length]
+        written, status = again(program, text, part)
+        line = last + part.count(b"\n") + 1
+        whole = part.endswith(b"\n")
+        runs = status in (0, 6) and (not whole or log.startswith(written))
+        refuses = not whole and status == 3 and written.startswith(b"line %d: " % line)
+        if not runs and not refuses:
+            print(f"cut at {length}: status {status}")
+            return False
+    return well
+
+
+def rows(program, run):
+    data = os.path.join(os.path.dirname(os.path.abspath(__file__)), "..", "crates", "deltat_rows", "data")
+    for name in ("17-node-give-fails", "node-closing"):
+        with open(os.path.join(data, f"{name}.in"), "rb") as it:
+            row = it.read()
+        log = subprocess.run([program, "retrace"], input=row, capture_output=True, check=False).stdout
+        behind = row.index(b"\ntrace\n") + 6
+        for length in range(len(row)):
+            ran = subprocess.run([program, "retrace"], input=row[:length], capture_output=True, check=False)
+            runs = length >= behind and ran.returncode in (0, 6) and (row[length - 1 : length] != b"\n" or log.startswith(ran.stdout))
+            refuses = ran.returncode == 3 and ran.stdout.startswith(b"line ") and (length < behind or row[length - 1 : length] != b"\n")
+            if not runs and not refuses:
+                print(f"{name} cut at {length}: status {ran.returncode}")
+                return False
+    return True
+
+
+def main():
+    program = os.path.abspath(sys.argv[1])
+    run = traced(program)
+    tests = [pair, cut, rows]
+    failed = [it.__name__ for it in tests if not it(program, run)]
+    for name in failed:
+        print(f"{name} failed")
+    print(f"{len(tests) - len(failed)} of {len(tests)} hold")
+    return 1 if failed else 0
+
+
+if __name__ == "__main__":
+    sys.exit(main())
