@@ -1,4 +1,4 @@
-ghost use Rattle.std.specs.Prelude.{◌≡◌, ◌≤◌, ◌∷◌, [], length, IfOk};
+ghost use Rattle.std.specs.Prelude.{◌≡◌, ◌≤◌, [], length, IfOk};
 ghost use Rattle.dt_fold.specs.Folds.{fold_input, refusal};
 ghost use Rattle.dt_fold.specs.Logging.{FoldsTo, Logs};
 
@@ -11,7 +11,7 @@ use dt_text::split_line;
 
 /// Logs the fault of the line with this number.
 fn refuse<K: Sink>(line: u64, fault: Fault, out: &mut K) -> Result<(), Stop>
-    ensures { Logs K.sight (refusal line fault ∷ []) result out.old out.new }
+    ensures { Logs K.sight (refusal line fault) result out.old out.new }
 {
     let refusal = LogLine {
         moment: 0,
@@ -60,7 +60,7 @@ pub fn fold_input<T: LineTurns, K: Sink>(
     out: &mut K,
 ) -> Result<bool, Stop>
     requires few { length bytes.now ≤ 16777216 }
-    ensures logs { Logs K.sight (fold_input T.turns (T.state lines.old) bytes.now).told result out.old out.new }
+    ensures logs { Logs K.sight (fold_input T.turns (T.state lines.old) bytes.now).text result out.old out.new }
     ensures accepted { IfOk result (λ accepted. accepted ≡ (fold_input T.turns (T.state lines.old) bytes.now).accepted) }
     ensures state { IfOk result (λ _. T.state lines.new ≡ (fold_input T.turns (T.state lines.old) bytes.now).state) }
 {
