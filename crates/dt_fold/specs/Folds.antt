@@ -2,6 +2,7 @@
 use Rattle.std.specs.Prelude.{ℕ, suc, Bool, true, false, List, [], ◌∷◌, ◌++◌, None, Result, Ok, Err}
 use Rattle.dt_reports.specs.declared.faults.Fault.{Fault}
 use Rattle.dt_reports.specs.declared.reports.Report.TheVariants as reports
+use Rattle.dt_reports.specs.Entries.{Entry}
 use Rattle.dt_log.specs.Logs.{entry_text}
 use Rattle.dt_text.specs.InputLines.{lines_of}
 
@@ -22,8 +23,11 @@ pub record Folded (S : Type 0) : Type 0 where
   pub accepted : Bool
 
 -- the line with this number is refused. That is the last that is logged
+abbrev pub refusal_entry : ℕ → Fault → Entry
+refusal_entry number fault = record { moment = 0; node = None; told = reports.Fault number fault }
+
 abbrev pub refusal : ℕ → Fault → List ℕ
-refusal number fault = entry_text (record { moment = 0; node = None; told = reports.Fault number fault })
+refusal number fault = entry_text (refusal_entry number fault)
 
 abbrev pub refused : {S : Type 0} → ℕ → S → Fault → Folded S
 refused number state fault = record { text = refusal number fault; state = state; accepted = false }

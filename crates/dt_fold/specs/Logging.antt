@@ -46,7 +46,7 @@ FoldsTo sight all (Ok None) state old new = (all.accepted ≡ true) × (all.stat
 FoldsTo sight all (Ok (Some (number, fault))) state old new = (all.accepted ≡ false) × (all.state ≡ state) × ((part : List ℕ) × Takes part (sight old) (sight new) × (part ++ refusal number fault ≡ all.text))
 FoldsTo sight all (Err stop) state old new = StopsIn all.text stop (sight old) (sight new)
 
--- What a sink holds after a whole input: all that is told of it, or a first part.
+-- What a sink holds after a whole input: all its text, or a first part of it.
 abbrev pub HasAll : List ℕ → SinkSight → SinkSight → Type 0
 HasAll text before after = Appends before.held after.held text
 

@@ -51,7 +51,7 @@ fn fold_lines<T: LineTurns, K: Sink>(
 /// is refused, which is logged with its number, and says whether none was. It takes no memory beside
 /// what the lines take. The cost is that of the lines.
 ///
-/// `Ok` has logged exactly what is told of the whole input. `NoMemory` has logged a first part of it,
+/// `Ok` has logged exactly the text of the whole input. `NoMemory` has logged a first part of it,
 /// and no put failed. `WriteFault` has logged a first part of it, and comes only where the sink's count
 /// of faults rose.
 pub fn fold_input<T: LineTurns, K: Sink>(
