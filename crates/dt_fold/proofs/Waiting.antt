@@ -6,7 +6,6 @@ use Rattle.std.specs.Io.KnownBytes.{Appends, append_known}
 use Rattle.std.proofs.KnownBytes.{Appends-nil}
 use Rattle.dt_edges.specs.Counts.{HasRisen}
 use Rattle.dt_edges.specs.Sinks.{Grows, SinkSight}
-use Rattle.dt_log.specs.Logs.{log_text}
 use Rattle.dt_fold.specs.declared.stops.Stop.{Stop}
 use Rattle.dt_fold.specs.declared.stops.Stop.TheVariants as stops
 use Rattle.dt_fold.specs.Folds.{Folded}
@@ -53,24 +52,24 @@ risen_from m n k e h = subst (λ i. HasRisen i k) e h
 module _ {S : Type 0} (all : Folded S) (a mid end : SinkSight) (waiting : List ℕ) where
   -- the rest was put after all was logged
   after_all : (accepted : Bool) (result : Result Bool Stop) → FillsBehind all (Ok accepted) a [] mid waiting → Passes (Ok accepted) result waiting mid end → Fills all result a end
-  after_all accepted (Ok b) f p = let same : b ≡ accepted = cc in (same ∙ f.0.0, all_put a.held mid.held end.held waiting (log_text all.told) (from_empty a.held _ _ f.0.1) p.1, p.2 ∙ f.0.2)
+  after_all accepted (Ok b) f p = let same : b ≡ accepted = cc in (same ∙ f.0.0, all_put a.held mid.held end.held waiting all.text (from_empty a.held _ _ f.0.1) p.1, p.2 ∙ f.0.2)
   after_all accepted (Err stops.NoMemory) f p = cc
   after_all accepted (Err stops.WriteFault) f p =
-      ((length f.1.0 + p.0.0, part_put a.held mid.held end.held waiting (log_text all.told) p.0.0 f.1 (from_empty a.held _ _ f.0.1) p.0.1), risen_from a.faults mid.faults end.faults f.0.2 p.1)
+      ((length f.1.0 + p.0.0, part_put a.held mid.held end.held waiting all.text p.0.0 f.1 (from_empty a.held _ _ f.0.1) p.0.1), risen_from a.faults mid.faults end.faults f.0.2 p.1)
 
   -- the rest was put after memory was wanted
   after_want : (result : Result Bool Stop) → FillsBehind all (Err stops.NoMemory) a [] mid waiting → Passes (Err stops.NoMemory) result waiting mid end → Fills all result a end
   after_want (Ok b) f p = cc
-  after_want (Err stops.NoMemory) f p = ((f.0.0.0, all_put a.held mid.held end.held waiting (take f.0.0.0 (log_text all.told)) (from_empty a.held _ _ f.0.0.1) p.1), p.2 ∙ f.0.1)
+  after_want (Err stops.NoMemory) f p = ((f.0.0.0, all_put a.held mid.held end.held waiting (take f.0.0.0 all.text) (from_empty a.held _ _ f.0.0.1) p.1), p.2 ∙ f.0.1)
   after_want (Err stops.WriteFault) f p =
-      let text = log_text all.told in
+      let text = all.text in
       let part = take f.0.0.0 text in
       (part_of_part text f.0.0.0 a end (length f.1.0 + p.0.0, part_put a.held mid.held end.held waiting part p.0.0 f.1 (from_empty a.held _ _ f.0.0.1) p.0.1), risen_from a.faults mid.faults end.faults f.0.1 p.1)
 
   -- nothing more was put
   after_fault : (result : Result Bool Stop) → FillsBehind all (Err stops.WriteFault) a [] mid waiting → PassesRest (Err stops.WriteFault) result waiting mid end → Fills all result a end
   after_fault result f p =
-      let text = log_text all.told in
+      let text = all.text in
       let part = take f.0.0.0 text in
       let held : HasPart text a mid = part_of_part text f.0.0.0 a mid (length f.1.0 + 0, part_put a.held mid.held mid.held waiting part 0 f.1 (from_empty a.held _ _ f.0.0.1) (Appends-nil mid.held)) in
       subst (λ r. Fills all r a end) (sym p.0) (subst (λ s. Fills all (Err stops.WriteFault) a s) (sym p.1) (held, f.0.1))

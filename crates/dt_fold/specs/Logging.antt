@@ -4,8 +4,6 @@ use Rattle.std.specs.Io.KnownBytes.{Appends, append_known}
 use Rattle.dt_edges.specs.Counts.{HasRisen}
 use Rattle.dt_edges.specs.Sinks.{Grows, SinkSight, Takes, TakesPart}
 use Rattle.dt_reports.specs.declared.faults.Fault.{Fault}
-use Rattle.dt_reports.specs.Entries.{Entry}
-use Rattle.dt_log.specs.Logs.{entry_text, log_text}
 use Rattle.dt_fold.specs.declared.stops.Stop.{Stop}
 use Rattle.dt_fold.specs.declared.stops.Stop.TheVariants as stops
 use Rattle.dt_fold.specs.Folds.{Folded, Turned, refusal}
@@ -15,40 +13,40 @@ abbrev pub StopsIn : List ℕ → Stop → SinkSight → SinkSight → Type 0
 StopsIn text stops.NoMemory before after = (count : ℕ) × Takes (take count text) before after
 StopsIn text stops.WriteFault before after = TakesPart text before after
 
--- A call that logs these lines: with Ok the sink took exactly their texts.
-abbrev pub Logs : {S T : Type 0} → (S → SinkSight) → List Entry → Result T Stop → S → S → Type 0
-Logs sight entries (Ok done) old new = Takes (log_text entries) (sight old) (sight new)
-Logs sight entries (Err stop) old new = StopsIn (log_text entries) stop (sight old) (sight new)
+-- A call that logs this text: with Ok the sink took exactly it.
+abbrev pub Logs : {S T : Type 0} → (S → SinkSight) → List ℕ → Result T Stop → S → S → Type 0
+Logs sight text (Ok done) old new = Takes text (sight old) (sight new)
+Logs sight text (Err stop) old new = StopsIn text stop (sight old) (sight new)
 
--- what a line tells
-abbrev pub told_by : {S : Type 0} → Result (Turned S) Fault → List Entry
-told_by (Ok turned) = turned.told
-told_by (Err fault) = []
+-- what is logged of a line
+abbrev pub text_by : {S : Type 0} → Result (Turned S) Fault → List ℕ
+text_by (Ok turned) = turned.text
+text_by (Err fault) = []
 
--- A line that is turned leads to the state that the turn says, and what it tells is logged. One that is refused for its fault changes nothing.
+-- A line that is turned leads to the state that the turn says, and its text is logged. One that is refused for its fault changes nothing.
 abbrev pub TurnsTo : {K S : Type 0} → (K → SinkSight) → Result (Turned S) Fault → Result (Option Fault) Stop → S → S → K → K → Type 0
-TurnsTo sight turn (Ok None) before after old new = IsOkAnd turn (λ t. (t.state ≡ after) × Takes (log_text t.told) (sight old) (sight new))
+TurnsTo sight turn (Ok None) before after old new = IsOkAnd turn (λ t. (t.state ≡ after) × Takes t.text (sight old) (sight new))
 TurnsTo sight turn (Ok (Some fault)) before after old new = (turn ≡ Err fault) × (after ≡ before) × (sight new ≡ sight old)
-TurnsTo sight turn (Err stop) before after old new = StopsIn (log_text (told_by turn)) stop (sight old) (sight new)
+TurnsTo sight turn (Err stop) before after old new = StopsIn (text_by turn) stop (sight old) (sight new)
 
--- what is told behind the last line
-abbrev pub told_behind : Result (List Entry) Fault → List Entry
-told_behind (Ok told) = told
-told_behind (Err fault) = []
+-- what is logged behind the last line
+abbrev pub text_behind : Result (List ℕ) Fault → List ℕ
+text_behind (Ok text) = text
+text_behind (Err fault) = []
 
 -- An input that ends here is closed, and what stands behind it is logged; or it is refused for its fault.
-abbrev pub Closes : {K : Type 0} → (K → SinkSight) → Result (List Entry) Fault → Result (Option Fault) Stop → K → K → Type 0
-Closes sight close (Ok None) old new = IsOkAnd close (λ told. Takes (log_text told) (sight old) (sight new))
+abbrev pub Closes : {K : Type 0} → (K → SinkSight) → Result (List ℕ) Fault → Result (Option Fault) Stop → K → K → Type 0
+Closes sight close (Ok None) old new = IsOkAnd close (λ text. Takes text (sight old) (sight new))
 Closes sight close (Ok (Some fault)) old new = (close ≡ Err fault) × (sight new ≡ sight old)
-Closes sight close (Err stop) old new = StopsIn (log_text (told_behind close)) stop (sight old) (sight new)
+Closes sight close (Err stop) old new = StopsIn (text_behind close) stop (sight old) (sight new)
 
 -- An input was read up to its end, or to the line with this number, whose fault is still to be logged.
 abbrev pub FoldsTo : {K S : Type 0} → (K → SinkSight) → Folded S → Result (Option (ℕ × Fault)) Stop → S → K → K → Type 0
-FoldsTo sight all (Ok None) state old new = (all.accepted ≡ true) × (all.state ≡ state) × Takes (log_text all.told) (sight old) (sight new)
-FoldsTo sight all (Ok (Some (number, fault))) state old new = (all.accepted ≡ false) × (all.state ≡ state) × ((part : List ℕ) × Takes part (sight old) (sight new) × (part ++ entry_text (refusal number fault) ≡ log_text all.told))
-FoldsTo sight all (Err stop) state old new = StopsIn (log_text all.told) stop (sight old) (sight new)
+FoldsTo sight all (Ok None) state old new = (all.accepted ≡ true) × (all.state ≡ state) × Takes all.text (sight old) (sight new)
+FoldsTo sight all (Ok (Some (number, fault))) state old new = (all.accepted ≡ false) × (all.state ≡ state) × ((part : List ℕ) × Takes part (sight old) (sight new) × (part ++ refusal number fault ≡ all.text))
+FoldsTo sight all (Err stop) state old new = StopsIn all.text stop (sight old) (sight new)
 
--- What a sink holds after a whole input: all that is told of it, or a first part.
+-- What a sink holds after a whole input: all its text, or a first part of it.
 abbrev pub HasAll : List ℕ → SinkSight → SinkSight → Type 0
 HasAll text before after = Appends before.held after.held text
 
@@ -57,9 +55,9 @@ HasPart text before after = (count : ℕ) × Appends before.held after.held (tak
 
 -- With Ok no put failed, and all was put. Want of memory comes of no failed put, and an answer for a failed put only where the sink's count of faults rose.
 abbrev pub Fills : {S : Type 0} → Folded S → Result Bool Stop → SinkSight → SinkSight → Type 0
-Fills all (Ok accepted) before after = (accepted ≡ all.accepted) × HasAll (log_text all.told) before after × (after.faults ≡ before.faults)
-Fills all (Err stops.NoMemory) before after = HasPart (log_text all.told) before after × (after.faults ≡ before.faults)
-Fills all (Err stops.WriteFault) before after = HasPart (log_text all.told) before after × HasRisen before.faults after.faults
+Fills all (Ok accepted) before after = (accepted ≡ all.accepted) × HasAll all.text before after × (after.faults ≡ before.faults)
+Fills all (Err stops.NoMemory) before after = HasPart all.text before after × (after.faults ≡ before.faults)
+Fills all (Err stops.WriteFault) before after = HasPart all.text before after × HasRisen before.faults after.faults
 
 -- a sink with the octets that wait to be put on it
 abbrev pub with_waiting : SinkSight → List ℕ → SinkSight

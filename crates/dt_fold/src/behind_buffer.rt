@@ -12,7 +12,7 @@ use std::alloc::Global;
 /// is logged in a buffer of 8,192 octets, so that a put takes many lines. What stands in the buffer is
 /// put at the end, also where memory was wanted. Takes memory for the buffer.
 ///
-/// - `Ok`: the sink has exactly what is told of the whole input. It says whether no line was refused.
+/// - `Ok`: the sink has exactly the text of the whole input. It says whether no line was refused.
 /// - `NoMemory`: the sink has a first part of it, and no put failed.
 /// - `WriteFault`: the sink has a first part of it, and its count of faults rose.
 pub fn fold_behind_buffer<T: LineTurns, K: Sink>(

@@ -1,4 +1,4 @@
-ghost use Rattle.std.specs.Prelude.{◌≡◌, ◌≤◌, ◌∷◌, [], length, IfOk};
+ghost use Rattle.std.specs.Prelude.{◌≡◌, ◌≤◌, [], length, IfOk};
 ghost use Rattle.dt_fold.specs.Folds.{fold_input, refusal};
 ghost use Rattle.dt_fold.specs.Logging.{FoldsTo, Logs};
 
@@ -11,7 +11,7 @@ use dt_text::split_line;
 
 /// Logs the fault of the line with this number.
 fn refuse<K: Sink>(line: u64, fault: Fault, out: &mut K) -> Result<(), Stop>
-    ensures { Logs K.sight (refusal line fault ∷ []) result out.old out.new }
+    ensures { Logs K.sight (refusal line fault) result out.old out.new }
 {
     let refusal = LogLine {
         moment: 0,
@@ -51,7 +51,7 @@ fn fold_lines<T: LineTurns, K: Sink>(
 /// is refused, which is logged with its number, and says whether none was. It takes no memory beside
 /// what the lines take. The cost is that of the lines.
 ///
-/// `Ok` has logged exactly what is told of the whole input. `NoMemory` has logged a first part of it,
+/// `Ok` has logged exactly the text of the whole input. `NoMemory` has logged a first part of it,
 /// and no put failed. `WriteFault` has logged a first part of it, and comes only where the sink's count
 /// of faults rose.
 pub fn fold_input<T: LineTurns, K: Sink>(
@@ -60,7 +60,7 @@ pub fn fold_input<T: LineTurns, K: Sink>(
     out: &mut K,
 ) -> Result<bool, Stop>
     requires few { length bytes.now ≤ 16777216 }
-    ensures logs { Logs K.sight (fold_input T.turns (T.state lines.old) bytes.now).told result out.old out.new }
+    ensures logs { Logs K.sight (fold_input T.turns (T.state lines.old) bytes.now).text result out.old out.new }
     ensures accepted { IfOk result (λ accepted. accepted ≡ (fold_input T.turns (T.state lines.old) bytes.now).accepted) }
     ensures state { IfOk result (λ _. T.state lines.new ≡ (fold_input T.turns (T.state lines.old) bytes.now).state) }
 {

@@ -1,4 +1,4 @@
-//! Inputs are read line by line: each line turns a state into the next one, and what is told is
+//! Inputs are read line by line: each line turns a state into the next one, and its text is
 //! logged.
 #![tactic(auto)]
 

@@ -14,7 +14,7 @@ pub trait LineTurns {
 
     ghost turns: { Turns State };
 
-    /// Does what the next line says, and logs what is told of it; or says why it is refused, and changes
+    /// Does what the next line says, and logs its text; or says why it is refused, and changes
     /// and logs nothing then.
     fn turn<K: Sink>(&mut self, line: &[u8], out: &mut K) -> Result<Option<Fault>, Stop>
         ensures { TurnsTo K.sight (turns.turn (state self.old) line.now) result (state self.old) (state self.new) out.old out.new };

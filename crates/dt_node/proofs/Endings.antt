@@ -11,7 +11,6 @@ use Rattle.dt_edges.specs.Sinks.{SinkSight, Takes}
 use Rattle.dt_edges.specs.Telling.{NotesAll}
 use Rattle.dt_edges.specs.Wires.{Datagram, OpenFails, Opening, Plan, TakeFails, TakesOne, WireSight}
 use Rattle.std.specs.Prelude.{if◌then◌else◌}
-use Rattle.dt_reports.specs.Entries.{Entry}
 use Rattle.dt_log.specs.Logs.{log_text}
 use Rattle.dt_fold.specs.declared.stops.Stop.{Stop}
 use Rattle.dt_fold.specs.declared.stops.Stop.TheVariants as stops
@@ -25,7 +24,7 @@ use Rattle.dt_node.specs.Acts.{Act, Deed, act_of, acts_of, answer_of, log_lines,
 use Rattle.dt_node.specs.Turns.{turn}
 use Rattle.dt_node.specs.Runs.{Run, node_run, moment, most_equal}
 use Rattle.dt_node.specs.Codes.{IsGood}
-use Rattle.dt_node.specs.Drafts.{Draft, Empty, orders_in, read_script, script_turns}
+use Rattle.dt_node.specs.Drafts.{Draft, Empty, orders_in, read_script, refusal_text, script_turns}
 use Rattle.dt_node.proofs.Fitting.{script_good, script_read}
 use Rattle.dt_trace.specs.Inputs.{Input, FailedOpen, FailedTake, Reading, Taken as Found}
 use Rattle.dt_trace.specs.Standing.{HasFound}
@@ -557,10 +556,10 @@ serves_from form o outcome w c s t e h k = record {
 }
 
 answers_by : (form : Form) (octets : List ℕ) (outcome : NodeOutcome) (b a : Edges) (accepted : Bool) (o : Option Orders) → (read_script octets).accepted ≡ accepted → orders_in (read_script octets).state ≡ o →
-    AnswersBy form (if accepted then o else None) (log_text (read_script octets).told) outcome b a → Answers form octets outcome b a
+    AnswersBy form (if accepted then o else None) (refusal_text octets) outcome b a → Answers form octets outcome b a
 answers_by form octets outcome b a accepted o e f h =
-    subst (λ (x : Bool). AnswersBy form (if x then orders_in (read_script octets).state else None) (log_text (read_script octets).told) outcome b a) (sym e)
-    (subst (λ (x : Option Orders). AnswersBy form (if accepted then x else None) (log_text (read_script octets).told) outcome b a) (sym f) h)
+    subst (λ (x : Bool). AnswersBy form (if x then orders_in (read_script octets).state else None) (refusal_text octets) outcome b a) (sym e)
+    (subst (λ (x : Option Orders). AnswersBy form (if accepted then x else None) (refusal_text octets) outcome b a) (sym f) h)
 
 read_is : (octets : List ℕ) (start : Draft) → start ≡ Empty → fold_input script_turns start octets ≡ read_script octets
 unfolding read_script
@@ -573,8 +572,8 @@ module _ (octets : List ℕ) (start : Draft) (empty : start ≡ Empty) where
   same : folded ≡ read_script octets
   same = read_is octets start empty
 
-  told_nothing : folded.accepted ≡ true → (read_script octets).told ≡ []
-  told_nothing a = (script_read octets).told (ap (λ (f : Folded Draft). f.accepted) (sym same) ∙ a)
+  logs_nothing : folded.accepted ≡ true → (read_script octets).text ≡ []
+  logs_nothing a = (script_read octets).text (ap (λ (f : Folded Draft). f.accepted) (sym same) ∙ a)
 
   -- the orders are there
   pub orders_there : (accepted : Bool) (state : Draft) → accepted ≡ true → accepted ≡ folded.accepted → state ≡ folded.state → orders_in state ≡ None → ⊥
@@ -589,40 +588,40 @@ module _ (octets : List ℕ) (start : Draft) (empty : start ≡ Empty) where
 
   module _ (form : Form) (w : WireSight) (c : ClockSight) (s t : SinkSight) where
     -- they were carried out
-    pub answers_served : (accepted : Bool) (state : Draft) (o : Orders) (outcome : NodeOutcome) (e : Edges) → accepted ≡ true → accepted ≡ folded.accepted → state ≡ folded.state → Some o ≡ orders_in state → Takes (log_text folded.told) s t → Serves form o outcome (edges w c t) e → Answers form octets outcome (edges w c s) e
+    pub answers_served : (accepted : Bool) (state : Draft) (o : Orders) (outcome : NodeOutcome) (e : Edges) → accepted ≡ true → accepted ≡ folded.accepted → state ≡ folded.state → Some o ≡ orders_in state → Takes folded.text s t → Serves form o outcome (edges w c t) e → Answers form octets outcome (edges w c s) e
     answers_served accepted state o outcome e a f g k took serves =
         let here : folded.accepted ≡ true = sym f ∙ a in
-        let nothing : folded.told ≡ [] = ap (λ (f : Folded Draft). f.told) same ∙ told_nothing here in
+        let nothing : folded.text ≡ [] = ap (λ (f : Folded Draft). f.text) same ∙ logs_nothing here in
         answers_by form octets outcome (edges w c s) e true (Some o) (ap (λ (f : Folded Draft). f.accepted) (sym same) ∙ here) (ap (λ (f : Folded Draft). orders_in f.state) (sym same) ∙ ap orders_in (sym g) ∙ sym k)
-        (serves_from form o outcome w c s t e (subst (λ (xs : List Entry). Takes (log_text xs) s t) nothing took) serves)
+        (serves_from form o outcome w c s t e (subst (λ (xs : List ℕ). Takes xs s t) nothing took) serves)
 
     -- the script was refused
-    pub answers_refused : (accepted : Bool) → accepted ≡ false → accepted ≡ folded.accepted → Takes (log_text folded.told) s t → Answers form octets Refused (edges w c s) (edges w c t)
+    pub answers_refused : (accepted : Bool) → accepted ≡ false → accepted ≡ folded.accepted → Takes folded.text s t → Answers form octets Refused (edges w c s) (edges w c t)
     answers_refused accepted a f took =
-        let text = subst (λ (f : Folded Draft). Takes (log_text f.told) s t) same took in
+        let text = subst (λ (f : Folded Draft). Takes f.text s t) same took in
         answers_by form octets Refused (edges w c s) (edges w c t) false (orders_in (read_script octets).state) (ap (λ (f : Folded Draft). f.accepted) (sym same) ∙ sym f ∙ a) refl
         (record { may = tt; wire = refl; clock = refl; log = text.held; sink_faults = text.faults })
 
     -- its reading stopped
-    stopped_by : (outcome : NodeOutcome) (accepted : Bool) (o : Option Orders) → (read_script octets).accepted ≡ accepted → orders_in (read_script octets).state ≡ o → (accepted ≡ true → (read_script octets).told ≡ []) → AppendsPart (log_text (read_script octets).told) s.held t.held →
-        RefusesAs outcome (log_text (read_script octets).told) (edges w c s) (edges w c t) → ((k : Orders) → AppendsPart [] s.held t.held → Serves form k outcome (edges w c s) (edges w c t)) → Answers form octets outcome (edges w c s) (edges w c t)
+    stopped_by : (outcome : NodeOutcome) (accepted : Bool) (o : Option Orders) → (read_script octets).accepted ≡ accepted → orders_in (read_script octets).state ≡ o → (accepted ≡ true → (read_script octets).text ≡ []) → AppendsPart (refusal_text octets) s.held t.held →
+        RefusesAs outcome (refusal_text octets) (edges w c s) (edges w c t) → ((k : Orders) → AppendsPart [] s.held t.held → Serves form k outcome (edges w c s) (edges w c t)) → Answers form octets outcome (edges w c s) (edges w c t)
     stopped_by outcome false o e f none h refuses serves = answers_by form octets outcome (edges w c s) (edges w c t) false o e f refuses
     stopped_by outcome true None e f none h refuses serves = answers_by form octets outcome (edges w c s) (edges w c t) true None e f refuses
     stopped_by outcome true (Some k) e f none h refuses serves =
-        answers_by form octets outcome (edges w c s) (edges w c t) true (Some k) e f (serves k (subst (λ (xs : List Entry). AppendsPart (log_text xs) s.held t.held) (none refl) h))
+        answers_by form octets outcome (edges w c s) (edges w c t) true (Some k) e f (serves k (subst (λ (xs : List ℕ). AppendsPart xs s.held t.held) (none refl) h))
 
-    pub answers_memory : StopsIn (log_text folded.told) stops.NoMemory s t → Answers form octets NoMemory (edges w c s) (edges w c t)
+    pub answers_memory : StopsIn folded.text stops.NoMemory s t → Answers form octets NoMemory (edges w c s) (edges w c t)
     answers_memory stopped =
-        let text = subst (λ (f : Folded Draft). StopsIn (log_text f.told) stops.NoMemory s t) same stopped in
-        let part : AppendsPart (log_text (read_script octets).told) s.held t.held = (text.0, text.1.held) in
-        stopped_by NoMemory (read_script octets).accepted (orders_in (read_script octets).state) refl refl (script_read octets).told part (record { may = tt; wire = refl; clock = refl; log = part; sink_faults = text.1.faults })
+        let text = subst (λ (f : Folded Draft). StopsIn f.text stops.NoMemory s t) same stopped in
+        let part : AppendsPart (refusal_text octets) s.held t.held = (text.0, text.1.held) in
+        stopped_by NoMemory (read_script octets).accepted (orders_in (read_script octets).state) refl refl (script_read octets).text part (record { may = tt; wire = refl; clock = refl; log = part; sink_faults = text.1.faults })
         (λ k nothing. serve_memory_early form k (edges w c s) t.held t.faults nothing text.1.faults)
 
-    pub answers_write : StopsIn (log_text folded.told) stops.WriteFault s t → Answers form octets WriteFault (edges w c s) (edges w c t)
+    pub answers_write : StopsIn folded.text stops.WriteFault s t → Answers form octets WriteFault (edges w c s) (edges w c t)
     answers_write stopped =
-        let text = subst (λ (f : Folded Draft). StopsIn (log_text f.told) stops.WriteFault s t) same stopped in
-        let part : AppendsPart (log_text (read_script octets).told) s.held t.held = (text.count, text.held) in
-        stopped_by WriteFault (read_script octets).accepted (orders_in (read_script octets).state) refl refl (script_read octets).told part (record { may = tt; wire = refl; clock = refl; log = part; sink_faults = text.faults })
+        let text = subst (λ (f : Folded Draft). StopsIn f.text stops.WriteFault s t) same stopped in
+        let part : AppendsPart (refusal_text octets) s.held t.held = (text.count, text.held) in
+        stopped_by WriteFault (read_script octets).accepted (orders_in (read_script octets).state) refl refl (script_read octets).text part (record { may = tt; wire = refl; clock = refl; log = part; sink_faults = text.faults })
         (λ k nothing. serve_write_early form k (edges w c s) t.held t.faults nothing text.faults)
 
 -- A CALL OF THE WIRE FAILED, and that was noted, or not

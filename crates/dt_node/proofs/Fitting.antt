@@ -81,7 +81,7 @@ IsFit lines (Collects s cs last) = Commands lines s cs
 IsFit lines (Complete o) = Commands lines o.setup o.commands × (o.stop < 2 ^ 32)
 
 abbrev IsKept : ℕ → Result (Turned Draft) Fault → Type 0
-IsKept lines (Ok turned) = IsFit lines turned.state × (turned.told ≡ [])
+IsKept lines (Ok turned) = IsFit lines turned.state × (turned.text ≡ [])
 IsKept lines (Err fault) = Unit {0}
 
 -- more lines were read
@@ -245,21 +245,21 @@ turn_kept : (lines : ℕ) (draft : Draft) (octets : List ℕ) (r : Result Said L
 turn_kept lines draft octets (Err fault) e h = tt
 turn_kept lines draft octets (Ok line) e h = if_kept lines draft line (stage_after Script (stage_of draft) line) h (read_words line octets (line-only Script octets line e))
 
--- A WHOLE SCRIPT: where no line is refused, nothing is told and its orders are there
+-- A WHOLE SCRIPT: where no line is refused, nothing is logged and its orders are there
 pub record IsRead (lines : ℕ) (all : Folded Draft) : Type 0 where
   pub fit : IsFit lines all.state
-  pub told : all.accepted ≡ true → all.told ≡ []
+  pub text : all.accepted ≡ true → all.text ≡ []
   pub there : all.accepted ≡ true → (o : Orders) × (orders_in all.state ≡ Some o)
 
 closed_read : (lines number : ℕ) (draft : Draft) (o : Option Orders) → orders_in draft ≡ o → IsFit lines draft → IsRead lines (closed number draft (closed_with o))
-closed_read lines number draft None e h = record { fit = h; told = λ a. absurd cc; there = λ a. absurd cc }
-closed_read lines number draft (Some o) e h = record { fit = h; told = λ a. refl; there = λ a. (o, e) }
+closed_read lines number draft None e h = record { fit = h; text = λ a. absurd cc; there = λ a. absurd cc }
+closed_read lines number draft (Some o) e h = record { fit = h; text = λ a. refl; there = λ a. (o, e) }
 
 on_read : (lines most number : ℕ) (draft : Draft) (rest : Draft → Folded Draft) (r : Result (Turned Draft) Fault) → IsFit most draft → IsKept (lines + 1) r → ((next : Draft) → IsFit (lines + 1) next → IsRead most (rest next)) → IsRead most (fold_on number draft rest r)
-on_read lines most number draft rest (Err fault) h kept on = record { fit = h; told = λ a. absurd cc; there = λ a. absurd cc }
+on_read lines most number draft rest (Err fault) h kept on = record { fit = h; text = λ a. absurd cc; there = λ a. absurd cc }
 on_read lines most number draft rest (Ok turned) h kept on =
     let k = on turned.state kept.0 in
-    record { fit = k.fit; told = λ a. ap (λ xs. xs ++ (rest turned.state).told) kept.1 ∙ k.told a; there = k.there }
+    record { fit = k.fit; text = λ a. ap (λ xs. xs ++ (rest turned.state).text) kept.1 ∙ k.text a; there = k.there }
 
 lines_read : (lines number : ℕ) (draft : Draft) (rest : List (List ℕ)) → IsFit lines draft → IsRead (lines + length rest) (fold_from script_turns number draft rest)
 unfolding fold_from

@@ -3,7 +3,6 @@ use Rattle.std.proofs.Common.{◌≡◌, ◌∙◌, ℕ, List, Option, Some, Non
 use Rattle.dt_edges.specs.Sinks.{SinkSight}
 use Rattle.dt_edges.proofs.Puts.{takes_as, takes_nothing}
 use Rattle.dt_reports.specs.declared.faults.Fault.{Fault}
-use Rattle.dt_log.specs.Logs.{log_text}
 use Rattle.dt_text.specs.declared.lines.Form.TheVariants.{Script}
 use Rattle.dt_text.specs.declared.stages.Stage.{Stage}
 use Rattle.dt_text.specs.Lines.{line_of}
@@ -17,7 +16,7 @@ use Rattle.dt_node.specs.Drafts.{Draft, done_by, done_if, stage_of, turn_line, t
 module _ {K : Type 0} (sight : K → SinkSight) where
   turned_by : (turn : Result (Turned Draft) Fault) (answer : Option Fault) (before after : Draft) (out : K) → LeadsTo turn (Ok answer) before after → TurnsTo sight turn (Ok answer) before after out out
   turned_by (Err fault) None before after out h = absurd h
-  turned_by (Ok turned) None before after out h = (h.0, takes_as _ _ (sight out) (sight out) (ap log_text (sym h.1)) (takes_nothing (sight out)))
+  turned_by (Ok turned) None before after out h = (h.0, takes_as _ _ (sight out) (sight out) (sym h.1) (takes_nothing (sight out)))
   turned_by turn (Some fault) before after out h = (h.0, h.1, refl)
 
   pub line_turns : (octets : List ℕ) (line : Said) (stage : Stage) (answer : Option Fault) (before after : Draft) (out : K) → line_of Script octets ≡ Ok line → Some stage ≡ stage_after Script (stage_of before) line → LeadsTo (done_by before line) (Ok answer) before after → TurnsTo sight (turn_line before octets) (Ok answer) before after out out

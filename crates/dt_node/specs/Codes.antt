@@ -64,7 +64,7 @@ draft_seen (part.Complete orders) = Complete (orders_seen orders)
 
 -- A line leads to the draft that its turn says, or is refused and changes nothing. Where memory is wanted nothing more is said.
 abbrev pub LeadsTo : Result (Turned Draft) Fault → Result (Option Fault) NoMemory → Draft → Draft → Type 0
-LeadsTo turn (Ok None) before after = IsOkAnd turn (λ t. (t.state ≡ after) × (t.told ≡ []))
+LeadsTo turn (Ok None) before after = IsOkAnd turn (λ t. (t.state ≡ after) × (t.text ≡ []))
 LeadsTo turn (Ok (Some fault)) before after = (turn ≡ Err fault) × (after ≡ before)
 LeadsTo turn (Err fault) before after = Unit {0}
 

@@ -5,7 +5,6 @@ use Rattle.dt_units.specs.declared.parameters.Params.{Params}
 use Rattle.dt_units.specs.declared.parameters.Field.{Field}
 use Rattle.dt_units.specs.Limits.{value_of, first_out_of_range}
 use Rattle.dt_edges.specs.declared.addresses.Address.{Address}
-use Rattle.dt_reports.specs.Entries.{Entry}
 use Rattle.dt_reports.specs.declared.faults.Fault.{Fault}
 use Rattle.dt_reports.specs.declared.faults.Fault.TheVariants as faults
 use Rattle.dt_reports.specs.declared.faults.LineFault.{LineFault}
@@ -13,7 +12,6 @@ use Rattle.dt_reports.specs.declared.faults.LineFault.TheVariants.{Order}
 use Rattle.dt_reports.specs.declared.faults.SetupFault.{SetupFault}
 use Rattle.dt_reports.specs.declared.faults.SetupFault.TheVariants.{Twice, Unknown, Stray}
 use Rattle.dt_reports.specs.declared.faults.StepFault.TheVariants.{BadFlow}
-use Rattle.dt_log.specs.Logs.{log_text}
 use Rattle.dt_text.specs.declared.lines.Form.TheVariants.{Script}
 use Rattle.dt_text.specs.declared.stages.Stage.{Stage}
 use Rattle.dt_text.specs.declared.stages.Stage.TheVariants as stages
@@ -50,9 +48,9 @@ stage_of (Prepares s) = stages.Setup
 stage_of (Collects s cs last) = stages.Run last
 stage_of (Complete o) = stages.Ended
 
--- a line that isn't refused tells nothing
+-- of a line that isn't refused nothing is logged
 abbrev pub to_draft : Draft → Result (Turned Draft) Fault
-to_draft draft = Ok (record { told = []; state = draft })
+to_draft draft = Ok (record { text = []; state = draft })
 
 -- a line that stands elsewhere: it was refused before, since its stage doesn't allow it
 abbrev pub misplaced : Result (Turned Draft) Fault
@@ -188,7 +186,7 @@ orders_in (Prepares s) = None
 orders_in (Collects s cs last) = None
 orders_in (Complete o) = Some o
 
-abbrev pub closed_with : Option Orders → Result (List Entry) Fault
+abbrev pub closed_with : Option Orders → Result (List ℕ) Fault
 closed_with None = Err (faults.Line Order)
 closed_with (Some o) = Ok []
 
@@ -205,4 +203,4 @@ script_of octets = if (read_script octets).accepted then orders_in (read_script 
 
 -- the line of what is refused
 abbrev pub refusal_text : List ℕ → List ℕ
-refusal_text octets = log_text (read_script octets).told
+refusal_text octets = (read_script octets).text

@@ -6,7 +6,6 @@ use Rattle.dt_units.specs.declared.parameters.Field.{Field}
 use Rattle.dt_units.specs.Limits.{IsWithinLimits, first_out_of_range}
 use Rattle.dt_units.specs.Flows.{IsFlow}
 use Rattle.dt_units.proofs.Within.{within_limits}
-use Rattle.dt_reports.specs.Entries.{Entry}
 use Rattle.dt_reports.specs.declared.faults.Fault.{Fault}
 use Rattle.dt_reports.specs.declared.faults.LineFault.{LineFault}
 use Rattle.dt_reports.specs.declared.faults.SetupFault.{SetupFault}
@@ -140,8 +139,8 @@ turn_kept : (scene : Scene) (octets : List ℕ) (r : Result Said LineFault) → 
 turn_kept scene octets (Err fault) e h = tt
 turn_kept scene octets (Ok line) e h = allowed_kept scene line (stage_after Schedule (stage_of scene) line) h (read_flow line octets (line-only Schedule octets line e))
 
-closed_kept : (number : ℕ) (scene : Scene) (r : Result (List Entry) Fault) → IsScene scene → IsScene (closed number scene r).state
-closed_kept number scene (Ok told) h = h
+closed_kept : (number : ℕ) (scene : Scene) (r : Result (List ℕ) Fault) → IsScene scene → IsScene (closed number scene r).state
+closed_kept number scene (Ok text) h = h
 closed_kept number scene (Err fault) h = h
 
 on_kept : (number : ℕ) (scene : Scene) (rest : Scene → Folded Scene) (r : Result (Turned Scene) Fault) → IsScene scene → IsKeptBy r → ((next : Scene) → IsScene next → IsScene (rest next).state) → IsScene (fold_on number scene rest r).state

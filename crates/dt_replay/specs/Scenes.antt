@@ -40,6 +40,6 @@ added (Err (setup_fault.Stray n)) = Ok (Some (faults.Setup (setup_fault.Stray n)
 
 -- A line of which nothing is logged: it leads to the scene that the turn says, or is refused and changes nothing. Where memory is wanted nothing more is said.
 abbrev pub LeadsTo : Result (Turned Scene) Fault → Result (Option Fault) NoMemory → Scene → Scene → Type 0
-LeadsTo turn (Ok None) before after = IsOkAnd turn (λ t. (t.state ≡ after) × (t.told ≡ []))
+LeadsTo turn (Ok None) before after = IsOkAnd turn (λ t. (t.state ≡ after) × (t.text ≡ []))
 LeadsTo turn (Ok (Some fault)) before after = (turn ≡ Err fault) × (after ≡ before)
 LeadsTo turn (Err fault) before after = Unit {0}

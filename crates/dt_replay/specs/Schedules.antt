@@ -38,8 +38,9 @@ stage_of Empty = stages.Start
 stage_of (Prepares setup) = stages.Setup
 stage_of (Runs w) = stages.Run 0
 
+-- a line of which these entries are logged, and that leads to this scene
 abbrev pub to_scene : List Entry → Scene → Result (Turned Scene) Fault
-to_scene told scene = Ok (record { told = told; state = scene })
+to_scene told scene = Ok (record { text = log_text told; state = scene })
 
 -- a line that stands elsewhere: it was refused before, since its stage doesn't allow it
 abbrev pub misplaced : Result (Turned Scene) Fault
@@ -105,10 +106,10 @@ abbrev pub turn : Scene → List ℕ → Result (Turned Scene) Fault
 turn scene line = turn_read scene (line_of Schedule line)
 
 -- behind the last line: the totals of the flows and the end, where there is a world. Else `go` is missing
-abbrev pub close : Scene → Result (List Entry) Fault
+abbrev pub close : Scene → Result (List ℕ) Fault
 close Empty = Err (faults.Line Order)
 close (Prepares setup) = Err (faults.Line Order)
-close (Runs w) = Ok (last_lines w)
+close (Runs w) = Ok (log_text (last_lines w))
 
 abbrev pub schedule_turns : Turns Scene
 schedule_turns = record { turn = turn; close = close }
@@ -119,7 +120,7 @@ replayed octets = fold_input schedule_turns Empty octets
 
 -- its log: the texts of all that is told
 abbrev pub replay_text : List ℕ → List ℕ
-replay_text octets = log_text (replayed octets).told
+replay_text octets = (replayed octets).text
 
 -- whether no line is refused, and `go` is there
 abbrev pub is_accepted : List ℕ → Bool

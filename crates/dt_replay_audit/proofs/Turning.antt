@@ -1,13 +1,15 @@
 -- What each line of a schedule tells passes.
-use Rattle.std.proofs.Common.{ℕ, zero, suc, ◌+◌, ◌<◌, ◌≤◌, ◌^◌, ◌≡◌, ◌==◌, false, List, [], ◌∷◌, ◌++◌, length, map, Option, Some, None, Result, Ok, Err, refl, sym, subst, inl, inr, ◌⊎◌, arith}
+use Rattle.std.proofs.Common.{ℕ, zero, suc, ◌+◌, ◌<◌, ◌≤◌, ◌^◌, ◌≡◌, ◌==◌, false, List, [], ◌∷◌, ◌++◌, length, map, Option, Some, None, Result, Ok, Err, refl, ap, sym, subst, ◌∙◌, append-nil, inl, inr, ◌⊎◌, arith}
 use Rattle.std.proofs.lemmas.Bool.{cases_Bool}
 use Rattle.std.proofs.lemmas.List.{map-append}
+use Rattle.std.proofs.lemmas.List.Concat.{flat_map-append}
 use Rattle.dt_units.specs.declared.parameters.Params.{Params}
 use Rattle.dt_units.specs.declared.parameters.Field.{Field}
 use Rattle.dt_units.specs.Limits.{first_out_of_range}
 use Rattle.dt_units.specs.Flows.{IsFlow}
 use Rattle.dt_units.proofs.Within.{within_limits}
 use Rattle.dt_reports.specs.Entries.{Entry}
+use Rattle.dt_log.specs.Logs.{entry_text, log_text}
 use Rattle.dt_reports.specs.declared.faults.Fault.{Fault}
 use Rattle.dt_reports.specs.declared.faults.LineFault.{LineFault}
 use Rattle.dt_reports.specs.declared.faults.SetupFault.{SetupFault}
@@ -21,10 +23,10 @@ use Rattle.dt_text.specs.Lines.{line_of}
 use Rattle.dt_text.specs.Spelling.{IsLine, IsSpelling}
 use Rattle.dt_text.specs.Stages.{stage_after}
 use Rattle.dt_text.proofs.LineLaws.{line-only}
-use Rattle.dt_fold.specs.Folds.{Folded, Turned, closed, fold_from, fold_on, refused}
+use Rattle.dt_fold.specs.Folds.{Folded, Turned, closed, fold_from, fold_on, refusal, refusal_entry, refused}
 use Rattle.dt_world_model.specs.Setup.{AddLink, AddRoute, AddStation, Setup, SetupCall, added, new_world, setup_call, setup_refusals, setup_unless}
 use Rattle.dt_world_model.specs.Tables.{AllEntries}
-use Rattle.dt_world_model.specs.World.{World}
+use Rattle.dt_world_model.specs.World.{World, last_lines}
 use Rattle.dt_world_model.specs.WorldFacts.{CanHappen}
 use Rattle.dt_world_model.specs.WorldStep.{Arrives, Loses, Outcome, Passes, Reads, Refused, Restarts, Sends, Stepped, Ticks, WorldEvent, first_refusal, world_step}
 use Rattle.dt_replay.specs.Schedules.{Empty, Prepares, Runs, Scene, by_params, by_setup, by_step, close, done_by, done_if, in_setup, in_world, replay_text, replayed, schedule_turns, stage_of, to_scene, turn, turn_read}
@@ -46,19 +48,21 @@ IsSceneLogged count Empty book = book ≡ begun by_rows
 IsSceneLogged count (Prepares setup) book = CanBeSetUp setup × (book ≡ begun by_rows)
 IsSceneLogged count (Runs w) book = IsLogged count w book
 
--- lines that were told are read back and pass, and lead to what a scene has
-record TellsTo (count : ℕ) (told : List Entry) (scene : Scene) (book : Book FlowLog) : Type 0 where
+-- a text that was logged is that of lines that are read back and pass, and lead to what a scene has
+record TellsTo (count : ℕ) (text : List ℕ) (scene : Scene) (book : Book FlowLog) : Type 0 where
+  told : List Entry
+  logs : text ≡ log_text told
   next : Book FlowLog
   passes : FactsPass (map fact_told told) book next
   written : AreWritten told
   logged : IsSceneLogged count scene next
 
 abbrev TurnPasses : ℕ → Book FlowLog → Result (Turned Scene) Fault → Type 0
-TurnPasses count book (Ok turned) = TellsTo count turned.told turned.state book
+TurnPasses count book (Ok turned) = TellsTo count turned.text turned.state book
 TurnPasses count book (Err fault) = Unit {0}
 
 tells_nothing : (count : ℕ) (scene : Scene) (book : Book FlowLog) → IsSceneLogged count scene book → TellsTo count [] scene book
-tells_nothing count scene book h = record { next = book; passes = refl; written = tt; logged = h }
+tells_nothing count scene book h = record { told = []; logs = refl; next = book; passes = refl; written = tt; logged = h }
 
 scene_more : (count : ℕ) (scene : Scene) (book : Book FlowLog) → IsSceneLogged count scene book → IsSceneLogged (suc count) scene book
 scene_more count Empty book h = h
@@ -109,7 +113,7 @@ step_turn : (count : ℕ) (book : Book FlowLog) (w : World) (e : WorldEvent) (o 
 step_turn count book w e (Refused fault) is small can short h = tt
 step_turn count book w e (Stepped lines after) is small can short h =
     let one = step_passes count w book e lines after small can short h is in
-    record { next = one.next; passes = one.passes; written = one.written; logged = one.logged }
+    record { told = lines; logs = refl; next = one.next; passes = one.passes; written = one.written; logged = one.logged }
 
 world_turn : (count : ℕ) (book : Book FlowLog) (scene : Scene) (e : WorldEvent) → suc count < 2 ^ 32 → CanHappen e → IsShort e → IsSceneLogged count scene book → TurnPasses (suc count) book (in_world scene (λ w. by_step (world_step w e)))
 world_turn count book Empty e small can short h = tt
@@ -186,32 +190,43 @@ turn_passes count book scene octets (Err fault) e small h = tt
 turn_passes count book scene octets (Ok line) e small h = allowed_passes count book scene line (stage_after Schedule (stage_of scene) line) refl small (read_ranges line octets (line-only Schedule octets line e)) h
 
 -- A WHOLE SCHEDULE, up to its first refused line, where it has one
-record FoldPasses (book : Book FlowLog) (told : List Entry) : Type 0 where
+record FoldPasses (book : Book FlowLog) (text : List ℕ) : Type 0 where
+  told : List Entry
+  logs : text ≡ log_text told
   next : Book FlowLog
   passes : FactsPass (map fact_told told) book next
   written : AreWritten told
 
 -- what is told of a refused line says nothing of octets and lives
-refused_passes : (number : ℕ) (book : Book FlowLog) (scene : Scene) (fault : Fault) → FoldPasses book (refused number scene fault).told
-refused_passes number book scene fault = record { next = book; passes = (book, refl, refl); written = (record { moment = omega arith; node = tt; told = tt }, tt) }
+refused_passes : (number : ℕ) (book : Book FlowLog) (scene : Scene) (fault : Fault) → FoldPasses book (refused number scene fault).text
+refused_passes number book scene fault =
+    record {
+      told = refusal_entry number fault ∷ [];
+      logs = sym (append-nil (refusal number fault));
+      next = book;
+      passes = (book, refl, refl);
+      written = (record { moment = omega arith; node = tt; told = tt }, tt);
+    }
 
-closed_passes : (count number : ℕ) (book : Book FlowLog) (scene : Scene) → count < 2 ^ 32 → IsSceneLogged count scene book → FoldPasses book (closed number scene (close scene)).told
+closed_passes : (count number : ℕ) (book : Book FlowLog) (scene : Scene) → count < 2 ^ 32 → IsSceneLogged count scene book → FoldPasses book (closed number scene (close scene)).text
 closed_passes count number book Empty small h = refused_passes number book Empty _
 closed_passes count number book (Prepares setup) small h = refused_passes number book (Prepares setup) _
-closed_passes count number book (Runs w) small h = record { next = book; passes = last_pass w book; written = last_written w (omega (arith, h.within.now, small)) }
+closed_passes count number book (Runs w) small h = record { told = last_lines w; logs = refl; next = book; passes = last_pass w book; written = last_written w (omega (arith, h.within.now, small)) }
 
 on_passes : (count number : ℕ) (book : Book FlowLog) (scene : Scene) (rest : Scene → Folded Scene) (r : Result (Turned Scene) Fault) → TurnPasses (suc count) book r
-    → ((after : Scene) (next : Book FlowLog) → IsSceneLogged (suc count) after next → FoldPasses next (rest after).told) → FoldPasses book (fold_on number scene rest r).told
+    → ((after : Scene) (next : Book FlowLog) → IsSceneLogged (suc count) after next → FoldPasses next (rest after).text) → FoldPasses book (fold_on number scene rest r).text
 on_passes count number book scene rest (Err fault) turned on = refused_passes number book scene fault
 on_passes count number book scene rest (Ok t) turned on =
     let more = on t.state turned.next turned.logged in
     record {
+      told = turned.told ++ more.told;
+      logs = ap (λ xs. xs ++ (rest t.state).text) turned.logs ∙ ap (λ xs. log_text turned.told ++ xs) more.logs ∙ sym (flat_map-append entry_text turned.told more.told);
       next = more.next;
-      passes = subst (λ (facts : List Fact). FactsPass facts book more.next) (sym (map-append fact_told t.told (rest t.state).told)) (passes_then (map fact_told t.told) (map fact_told (rest t.state).told) book turned.next more.next turned.passes more.passes);
-      written = written_then t.told (rest t.state).told turned.written more.written;
+      passes = subst (λ (facts : List Fact). FactsPass facts book more.next) (sym (map-append fact_told turned.told more.told)) (passes_then (map fact_told turned.told) (map fact_told more.told) book turned.next more.next turned.passes more.passes);
+      written = written_then turned.told more.told turned.written more.written;
     }
 
-fold_passes : (count number : ℕ) (book : Book FlowLog) (scene : Scene) (lines : List (List ℕ)) → count + length lines < 2 ^ 32 → IsSceneLogged count scene book → FoldPasses book (fold_from schedule_turns number scene lines).told
+fold_passes : (count number : ℕ) (book : Book FlowLog) (scene : Scene) (lines : List (List ℕ)) → count + length lines < 2 ^ 32 → IsSceneLogged count scene book → FoldPasses book (fold_from schedule_turns number scene lines).text
 unfolding fold_from
 fold_passes count number book scene [] few h = closed_passes count number book scene (omega arith) h
 fold_passes count number book scene (line ∷ lines) few h =
@@ -234,4 +249,4 @@ pub schedule_passes : (octets : List ℕ) → length (lines_of octets) < 2 ^ 32 
 unfolding replayed
 schedule_passes octets few =
     let h = fold_passes 0 1 (begun by_rows) Empty (lines_of octets) (omega arith) refl in
-    passes_log (replayed octets).told h.next h.written h.passes
+    ap has_flaw h.logs ∙ passes_log h.told h.next h.written h.passes

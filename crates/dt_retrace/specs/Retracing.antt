@@ -3,7 +3,6 @@ use Rattle.std.specs.Prelude.{◌≡◌, ◌⊎◌, ℕ, ◌+◌, List, length, 
 use Rattle.dt_edges.specs.Clocks.{ClockSight, clock_in_memory}
 use Rattle.dt_edges.specs.Sinks.{SinkSight}
 use Rattle.dt_edges.specs.Wires.{WireSight, wire_in_memory}
-use Rattle.dt_log.specs.Logs.{entry_text}
 use Rattle.dt_fold.specs.Folds.{refusal}
 use Rattle.dt_reports.specs.declared.faults.Fault.TheVariants as faults
 use Rattle.dt_reports.specs.declared.faults.LineFault.{LineFault}
@@ -20,7 +19,7 @@ use Rattle.dt_retrace.specs.Parts.{cut_lines, text_of}
 
 -- the line of a refused line
 abbrev pub refused_text : ℕ → LineFault → List ℕ
-refused_text line fault = entry_text (refusal line (faults.Line fault))
+refused_text line fault = refusal line (faults.Line fault)
 
 -- an input is refused, and that is what is written
 pub record RefusesWith (outcome : NodeOutcome) (text : List ℕ) (before after : SinkSight) : Type 0 where

@@ -1,7 +1,5 @@
-use Rattle.std.proofs.Common.{ap, ◌∙◌, ◌++◌, ◌∷◌, [], append-nil}
 use Rattle.std.proofs.lemmas.Result.{err_from_is_err_and}
 use Rattle.dt_edges.proofs.Puts.{takes_as, takes_then}
-use Rattle.dt_log.specs.Logs.{entry_text, log_text}
 use Rattle.dt_fold.specs.Folds.{refusal}
 use Rattle.dt_fold.proofs.Stopping.{stops_after, stops_as}
 use Rattle.dt_fold.proofs.folding.fold_input.Goals as goal
@@ -11,12 +9,9 @@ returns-in_err-refuse-in-Some-clause-logs g c =
     let p = err_from_is_err_and c.from_residual-in_err-refuse-in-Some.result c.from_residual-in_err-refuse-in-Some.ensures.1 in
     let f = rw c.in-Some.is at c.in_ok-fold_lines.ensures in
     let stop = c.in_err-refuse-in-Some.field-0.0 in
-    let text = ap (λ ys. f.2.0 ++ ys) (append-nil (entry_text (refusal c.in-Some.number c.in-Some.fault))) ∙ f.2.2 in
-    rw (p.1, p.2) (stops_as stop _ _ _ _ text (stops_after stop f.2.0 (log_text (refusal c.in-Some.number c.in-Some.fault ∷ [])) _ _ _ f.2.1 c.in_err-refuse-in-Some.ensures))
+    rw (p.1, p.2) (stops_as stop _ _ _ _ f.2.2 (stops_after stop f.2.0 (refusal c.in-Some.number c.in-Some.fault) _ _ _ f.2.1 c.in_err-refuse-in-Some.ensures))
 
 pub returns-in_ok-refuse-in-Some-clause-logs : goal.returns-in_ok-refuse-in-Some-clause-logs
 returns-in_ok-refuse-in-Some-clause-logs g c =
     let f = rw c.in-Some.is at c.in_ok-fold_lines.ensures in
-    let line = refusal c.in-Some.number c.in-Some.fault in
-    let text = ap (λ ys. f.2.0 ++ ys) (append-nil (entry_text line)) ∙ f.2.2 in
-    takes_as _ _ _ _ text (takes_then f.2.0 (log_text (line ∷ [])) _ _ _ f.2.1 c.in_ok-refuse-in-Some.ensures)
+    takes_as _ _ _ _ f.2.2 (takes_then f.2.0 (refusal c.in-Some.number c.in-Some.fault) _ _ _ f.2.1 c.in_ok-refuse-in-Some.ensures)

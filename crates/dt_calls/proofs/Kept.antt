@@ -1,0 +1,63 @@
+-- The facts of calls over the parts of a step, as the code comes to them.
+use Rattle.std.proofs.Common.{ℕ, ◌≡◌, ◌<◌, ◌≤◌, ◌^◌, Bool, true, false, List, ◌++◌, length, Option, None, Some, Result, Ok, Err, refl, ap, sym, subst, ◌∙◌}
+use Rattle.dt_units.specs.declared.endpoints.Flow.{Flow}
+use Rattle.dt_units.specs.Flows.{IsFlow}
+use Rattle.dt_reports.specs.Entries.{Entry}
+use Rattle.dt_reports.specs.declared.faults.StepFault.{StepFault}
+use Rattle.dt_reports.specs.declared.faults.StepFault.TheVariants as fault
+use Rattle.dt_world_model.specs.World.{World}
+use Rattle.dt_world_model.specs.WorldStep as world
+use Rattle.dt_world_model.specs.WorldStep.{WorldEvent, after_event, first_refusal, refusals, step_unless, world_step}
+use Rattle.dt_calls_laws.specs.Grown.{IsNoSendOrRead}
+use Rattle.dt_calls_laws.specs.MayCome as law
+use Rattle.dt_calls_laws.proofs.Happening.{event_course}
+use Rattle.dt_calls_laws.proofs.Stepping.{made_on, step_facts}
+use Rattle.dt_calls_model.specs.CallFacts.{CallFacts, CourseFacts}
+use Rattle.dt_calls_model.specs.Calls.{Calls}
+use Rattle.dt_calls_model.specs.CallStep as step
+use Rattle.dt_calls_model.specs.CallStep.{call_refusals, flows_after, make}
+use Rattle.dt_calls_model.specs.CallTold.{CallEntry}
+use Rattle.dt_calls.specs.CallOutcomes.{StepsTo, lacks_memory}
+use Rattle.dt_calls.specs.Parts.{IsKeptWorld}
+
+-- the world of calls
+pub world_kept : (answer : List ℕ → List ℕ) (c : Calls) → CourseFacts answer c → IsKeptWorld c.world
+world_kept answer c h = record { limits = h.limits; facts = h.world }
+
+-- AN EVENT of the world that was done
+record IsStepped (o : Option StepFault) (r : List Entry × World) (w : World) : Type 0 where
+  clear : o ≡ None
+  world : r.1 ≡ w
+
+stepped_is : (o : Option StepFault) (r : List Entry × World) (lines : List Entry) (w : World) → step_unless o r ≡ world.Stepped lines w → IsStepped o r w
+stepped_is None r lines w e = let is : r.1 ≡ w = cc in record { clear = refl; world = is }
+stepped_is (Some fault) r lines w e = absurd cc
+
+pub event_kept : (answer : List ℕ → List ℕ) (c : Calls) (e : WorldEvent) (lines : List Entry) (w : World) → CourseFacts answer c → IsNoSendOrRead e → world_step c.world e ≡ world.Stepped lines w → CourseFacts answer (record { world = w; calls = c.calls; flows = flows_after e c.flows })
+event_kept answer c e lines w course may is =
+    let h = stepped_is (first_refusal (refusals c.world e)) (after_event c.world e) lines w is in
+    subst (λ (v : World). CourseFacts answer (record { world = v; calls = c.calls; flows = flows_after e c.flows })) h.world (event_course answer c e course may h.clear)
+
+-- A CALL that was made
+pub record IsMade (answer : List ℕ → List ℕ) (d : Calls) : Type 0 where
+  pub course : CourseFacts answer d
+  pub few : length d.calls ≤ 2 ^ 64
+
+pub made_kept : (answer : List ℕ → List ℕ) (c d : Calls) (f : Flow) (payload : List ℕ) → CourseFacts answer c → length c.calls < 2 ^ 64 → IsFlow f → first_refusal (call_refusals c f) ≡ None → d ≡ (make f payload c).calls → IsMade answer d
+made_kept answer c d f payload course few flow fine is =
+    let made = made_on answer c f payload course few flow fine in
+    record { course = subst (CourseFacts answer) (sym is) made.facts; few = subst (λ (x : Calls). length x.calls ≤ 2 ^ 64) (sym is) made.few }
+
+-- A STEP that found memory
+module _ {L : Type 0} (tells : L → CallEntry → L → Type 0) (answer : List ℕ → List ℕ) (c : Calls) (e : step.CallEvent) (l m : L) (facts : CallFacts answer c) (few : length c.calls < 2 ^ 64) (may : law.MayCome e) (new : Calls) where
+  same_facts : new ≡ c → CallFacts answer new
+  same_facts same = subst (CallFacts answer) (sym same) facts
+
+  pub facts_after : {U : Type 0} (result : Result U StepFault) → StepsTo tells answer c e l m result new → lacks_memory result ≡ false → CallFacts answer new
+  facts_after (Ok done) h fine = step_facts answer c e h.told new facts few may h.step
+  facts_after (Err fault.BadFlow) h fine = same_facts h.same
+  facts_after (Err (fault.NoStation n)) h fine = same_facts h.same
+  facts_after (Err (fault.NoCopy n)) h fine = same_facts h.same
+  facts_after (Err (fault.Lost n)) h fine = same_facts h.same
+  facts_after (Err (fault.TooLate held charge)) h fine = same_facts h.same
+  facts_after (Err fault.NoMemory) h fine = absurd cc

@@ -1,0 +1,80 @@
+-- The sides of all flows are read one after another.
+use Rattle.std.proofs.Common.{ℕ, zero, suc, ◌+◌, ◌≡◌, ◌<◌, ◌≤◌, List, [], ◌∷◌, ◌++◌, fold, length, map, drop, Option, Some, None, refl, ap, sym, subst, ◌∙◌, arith, append_assoc, append-nil, add-one}
+use Rattle.std.specs.Prelude.{slice_get}
+use Rattle.dt_units.specs.declared.endpoints.Flow.{Flow}
+use Rattle.dt_calls_model.specs.Calls.{Calls, Side}
+use Rattle.dt_calls_model.specs.CallTold.{CallEntry}
+use Rattle.dt_calls_model.specs.Reads.{Course, read_side, read_sides}
+use Rattle.dt_calls.specs.Courses.{HasGoneOn, HasStopped, from_calls}
+use Rattle.dt_calls.specs.Parts.{keys_in}
+use Rattle.dt_calls.specs.Telling.{TellsCalls}
+use Rattle.dt_calls.proofs.Courses.{adds_fold, behind, behind_behind, at, tells_then}
+
+-- the key at a place, and those behind it
+key_behind : {A : Type 0} (es : List (Flow × A)) (i : ℕ) (e : Flow × A) → slice_get es i ≡ Some e → drop i (keys_in es) ≡ e.0 ∷ drop (suc i) (keys_in es)
+key_behind [] i e h = absurd cc
+key_behind {A} (x ∷ xs) zero e h = let same : x ≡ e = cc in ap (λ (y : Flow × A). y.0 ∷ keys_in xs) same
+key_behind (x ∷ xs) (suc i) e h = key_behind xs i e h
+
+pub key_at : {A : Type 0} (es : List (Flow × A)) (i : ℕ) (e : Flow × A) → slice_get es i ≡ Some e → drop i (keys_in es) ≡ e.0 ∷ drop (i + 1) (keys_in es)
+key_at es i e h = key_behind es i e h ∙ ap (λ (k : ℕ). e.0 ∷ drop k (keys_in es)) (sym (add-one i))
+
+none_behind : (keys : List Flow) (i : ℕ) → length keys ≤ i → drop i keys ≡ []
+none_behind [] zero h = refl
+none_behind [] (suc i) h = refl
+none_behind (k ∷ ks) zero h = absurd (omega arith)
+none_behind (k ∷ ks) (suc i) h = none_behind ks i (omega arith)
+
+module _ {L : Type 0} (tells : L → CallEntry → L → Type 0) (answer : List ℕ → List ℕ) (side : Side) (c : Calls) (l : L) where
+  abbrev Rest : Calls → List Flow → Course
+  Rest d keys = fold (read_side answer side) (from_calls d) keys
+
+  -- the flows before this place were read
+  pub record SidesOn (i : ℕ) (d : Calls) (m : L) : Type 0 where
+    pub so_far : List CallEntry
+    pub goes : read_sides answer side (from_calls c) ≡ behind so_far (Rest d (drop i (keys_in c.flows)))
+    pub lines : TellsCalls tells so_far l m
+
+  pub begun : SidesOn 0 c l
+  begun = record { so_far = []; goes = refl; lines = refl }
+
+  module _ (i : ℕ) (d : Calls) (m : L) (on : SidesOn i d m) where
+    pub ended : length (keys_in c.flows) ≤ i → HasGoneOn tells (read_sides answer side) c l m d
+    ended past =
+        let is : read_sides answer side (from_calls c) ≡ at on.so_far d =
+        on.goes ∙ ap (λ (keys : List Flow). behind on.so_far (Rest d keys)) (none_behind (keys_in c.flows) i past) ∙ ap (λ (ls : List CallEntry). at ls d) (append-nil on.so_far) in
+        record {
+          lines = subst (λ (r : Course). TellsCalls tells r.told l m) (sym is) on.lines;
+          calls = ap (λ (r : Course). r.calls) (sym is);
+        }
+
+    module _ (f : Flow) (here : drop i (keys_in c.flows) ≡ f ∷ drop (i + 1) (keys_in c.flows)) where
+      abbrev one : Course
+      one = read_side answer side (from_calls d) f
+
+      abbrev keys : List Flow
+      keys = drop (i + 1) (keys_in c.flows)
+
+      split : read_sides answer side (from_calls c) ≡ behind (on.so_far ++ one.told) (Rest one.calls keys)
+      split =
+          on.goes
+          ∙ ap (λ (ks : List Flow). behind on.so_far (Rest d ks)) here
+          ∙ ap (behind on.so_far) (adds_fold answer side keys one.told one.calls)
+          ∙ sym (behind_behind on.so_far one.told (Rest one.calls keys))
+
+      pub next : (n : L) (e : Calls) → HasGoneOn tells (λ r. read_side answer side r f) d m n e → SidesOn (i + 1) e n
+      next n e gone = subst (λ (x : Calls). SidesOn (i + 1) x n) (sym gone.calls) (record { so_far = on.so_far ++ one.told; goes = split; lines = tells_then tells on.so_far one.told l m n on.lines gone.lines })
+
+      pub stopped : (n : L) → HasStopped tells (λ r. read_side answer side r f) d m n → HasStopped tells (read_sides answer side) c l n
+      stopped n stop =
+          let more = (Rest one.calls keys).told in
+          record {
+            part = on.so_far ++ stop.part;
+            rest = stop.rest ++ more;
+            told =
+            append_assoc on.so_far stop.part (stop.rest ++ more)
+            ∙ ap (λ (ls : List CallEntry). on.so_far ++ ls) (sym (append_assoc stop.part stop.rest more) ∙ ap (λ (ls : List CallEntry). ls ++ more) stop.told)
+            ∙ sym (append_assoc on.so_far one.told more)
+            ∙ ap (λ (r : Course). r.told) (sym split);
+            lines = tells_then tells on.so_far stop.part l m n on.lines stop.lines;
+          }

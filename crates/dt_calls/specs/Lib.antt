@@ -1,0 +1,14 @@
+pub mod Telling
+pub mod Hearing
+pub mod Sides
+pub mod CallTexts
+pub mod Totals
+pub mod Writing
+pub mod Courses
+pub mod CallOutcomes
+pub mod Happening
+pub mod Flows
+pub mod Parts
+pub mod Going
+pub mod Resting
+pub mod Dues

@@ -1,0 +1,52 @@
+//! Which sides must be read behind an event.
+ghost use Rattle.std.specs.Prelude.{◌≡◌};
+ghost use Rattle.dt_world.specs.Worlds.{event_of};
+ghost use Rattle.dt_calls.specs.Dues.{due_after, due_behind};
+ghost use Rattle.dt_calls.specs.Flows.{flows_seen};
+
+use crate::flows::Flows;
+use crate::hearing::Heard;
+use crate::messages::reversed;
+use dt_units::Flow;
+use dt_world::Event;
+
+/// Which sides must be read. At all others nothing is unread, and their stations have done what is due,
+/// so that a read would tell nothing and change nothing.
+#[derive(Clone, Copy, Debug, PartialEq, Eq)]
+pub enum Due {
+    Nothing,
+    /// Both sides of this flow.
+    Flow(Flow),
+    All,
+}
+
+/// What must be read behind an event: all where time has passed, and else what it gave.
+pub fn due_behind(event: &Event<'_>, flows: &Flows, heard: &Heard) -> Due
+    ensures { result ≡ due_behind (event_of event.now) (flows_seen flows.now.entries) heard.now }
+{
+    match *event {
+        Event::Pass { .. } | Event::Send { .. } | Event::Read { .. } => Due::All,
+        Event::Tick { .. } | Event::Arrive { .. } | Event::Lose { .. } => due_after(flows, heard),
+        Event::Restart { .. } => Due::Nothing,
+    }
+}
+
+/// What must be read behind an event in which no time passed: both sides of the flow of which it
+/// accepted data, if that goes on the way of requests or of replies.
+fn due_after(flows: &Flows, heard: &Heard) -> Due
+    ensures { result ≡ due_after (flows_seen flows.now.entries) heard.now }
+{
+    if heard.piece().is_some() || heard.has_several() {
+        return Due::All;
+    }
+    let Some(flow) = heard.accepted() else {
+        return Due::Nothing;
+    };
+    let way = reversed(flow);
+    match (flows.contains_key(&flow), flows.contains_key(&way)) {
+        (false, false) => Due::Nothing,
+        (true, false) => Due::Flow(flow),
+        (false, true) => Due::Flow(way),
+        (true, true) => Due::All,
+    }
+}

@@ -1,0 +1,12 @@
+/// How the reading of an input of calls ends.
+#[derive(Clone, Copy, Debug, PartialEq, Eq)]
+pub enum CallsOutcome {
+    /// No line is refused, and all that is told is written.
+    Done,
+    /// A line is refused. What is told up to it is written, and then its fault.
+    Refused,
+    /// There was no memory. A first part of what is told is written.
+    NoMemory,
+    /// A put failed. A first part of what is told is written.
+    WriteFault,
+}

@@ -1,0 +1,299 @@
+//! Messages are handed in, and read out of the world.
+ghost use Rattle.std.specs.Prelude.{◌≡◌, ◌<◌, ◌≤◌, ◌^◌, true, false, fold, length, IfOk, IsSome, MatchOption, MatchResult, OnOk, Some, option_map, vec_len};
+ghost use Rattle.dt_units.specs.Flows.{IsFlow};
+ghost use Rattle.dt_world.specs.Worlds.{MayStep, event_of};
+ghost use Rattle.dt_world_model.specs.Tables.{has_key, same_flow};
+ghost use Rattle.dt_calls_model.specs.CallFacts.{CourseFacts};
+ghost use Rattle.dt_calls_model.specs.Calls.{call_in, is_call_in};
+ghost use Rattle.dt_calls_model.specs.Messages.{message_of, reversed};
+ghost use Rattle.dt_calls_model.specs.Reads as reads;
+ghost use Rattle.dt_calls_model.specs.Reads.{answered_if, read_all, read_side, read_sides, serve_call, take_whole};
+ghost use Rattle.dt_calls.specs.Courses.{GoesOn, HasGoneOn};
+ghost use Rattle.dt_calls.specs.Dues.{IsDue};
+ghost use Rattle.dt_calls.specs.Flows.{flows_seen};
+ghost use Rattle.dt_calls.specs.Happening.{Happens, ended};
+ghost use Rattle.dt_calls.specs.Parts.{HasJoined, IsWhole, Posts, calls_seen, keys_in};
+ghost use Rattle.dt_calls.specs.Sides.{side_seen};
+ghost use Rattle.dt_calls.specs.declared.dues.Due.TheVariants as due;
+
+use crate::call_lines::{CallLine, CallLines};
+use crate::dues::Due;
+use crate::flow_sides::Side;
+use crate::flows;
+use crate::handlers::{Handler, MOST_CARRIED};
+use crate::hearing::Heard;
+use crate::messages::{read_message, reversed, write_message};
+use crate::totals::is_waiting;
+use crate::world_calls::Parts;
+use dt_calls_model::{Call, CallState, Posted};
+use dt_items::NoMemory;
+use dt_reports::StepFault;
+use dt_units::Flow;
+use dt_world::{Event, World};
+
+/// The most octets of a read.
+const MOST_READ: u32 = 65_536;
+
+/// An event of the world within a step. Where it is refused, nothing happens.
+pub fn happen(world: &mut World, heard: &mut Heard, event: &Event<'_>) -> Result<(), NoMemory>
+    requires unspent { world.old.spent ≡ false }
+    requires may { MayStep (event_of event.now) }
+    ensures { Happens result (event_of event.now) world.old heard.old world.new heard.new }
+{
+    heard.begin_event();
+    let answer = world.step(event, heard);
+    ended(answer, heard.has_failed())
+}
+
+/// What an event says whose step answered so.
+fn ended(answer: Result<(), StepFault>, failed: bool) -> Result<(), NoMemory>
+    ensures { result ≡ ended answer failed }
+{
+    if failed {
+        return Err(NoMemory);
+    }
+    match answer {
+        Err(StepFault::NoMemory) => Err(NoMemory),
+        Ok(()) | Err(_) => Ok(()),
+    }
+}
+
+/// Hands in the message that stands ready, along the flow.
+pub fn post<H>(parts: &mut Parts<H>, flow: Flow) -> Result<Posted, NoMemory>
+    requires unspent { parts.old.world.spent ≡ false }
+    requires heard { parts.old.heard.failed ≡ false }
+    requires some { 1 ≤ vec_len parts.old.message }
+    requires few { vec_len parts.old.message ≤ 65536 }
+    ensures { Posts result flow parts.old parts.new }
+{
+    let place = parts.world.ledger().taken_count(&flow);
+    let count = parts.message.len() as u32;
+    let event = Event::Send {
+        flow,
+        octets: &parts.message,
+        begin: true,
+        end: true,
+    };
+    happen(&mut parts.world, &mut parts.heard, &event)?;
+    if parts.heard.is_refused() {
+        return Ok(Posted::Refused);
+    }
+    Ok(Posted::Taken { place, count })
+}
+
+/// The server's sides are read of the flows that are due, in the order of first calls, and then the
+/// clients'.
+pub fn read_due<H: Handler, L: CallLines>(
+    parts: &mut Parts<H>,
+    due: Due,
+    lines: &mut L,
+) -> Result<(), NoMemory>
+    requires whole { IsWhole parts.old }
+    requires course { CourseFacts (H.answer parts.old.handler) (calls_seen parts.old) }
+    requires few { length parts.old.calls.items ≤ 2 ^ 64 }
+    requires due { IsDue due parts.old.world.state (flows_seen parts.old.flows.entries) }
+    ensures goes { GoesOn L.tells (read_all (H.answer parts.old.handler)) (calls_seen parts.old) lines.old lines.new result (calls_seen parts.new) }
+    ensures whole { OnOk result (IsWhole parts.new) }
+    ensures handler { parts.new.handler ≡ parts.old.handler }
+{
+    match due {
+        Due::Nothing => Ok(()),
+        Due::Flow(flow) => read_both(parts, &flow, lines),
+        Due::All => {
+            read_sides(parts, Side::Server, lines)?;
+            read_sides(parts, Side::Client, lines)
+        }
+    }
+}
+
+/// Both sides are read of the one flow that is due.
+fn read_both<H: Handler, L: CallLines>(
+    parts: &mut Parts<H>,
+    flow: &Flow,
+    lines: &mut L,
+) -> Result<(), NoMemory>
+    requires whole { IsWhole parts.old }
+    requires course { CourseFacts (H.answer parts.old.handler) (calls_seen parts.old) }
+    requires few { length parts.old.calls.items ≤ 2 ^ 64 }
+    requires due { IsDue (due.Flow flow.now) parts.old.world.state (flows_seen parts.old.flows.entries) }
+    ensures goes { GoesOn L.tells (read_all (H.answer parts.old.handler)) (calls_seen parts.old) lines.old lines.new result (calls_seen parts.new) }
+    ensures whole { OnOk result (IsWhole parts.new) }
+    ensures handler { parts.new.handler ≡ parts.old.handler }
+{
+    read_side(parts, flow, Side::Server, lines)?;
+    read_side(parts, flow, Side::Client, lines)
+}
+
+/// One of the sides is read of all flows with a call.
+fn read_sides<H: Handler, L: CallLines>(
+    parts: &mut Parts<H>,
+    side: Side,
+    lines: &mut L,
+) -> Result<(), NoMemory>
+    requires whole { IsWhole parts.old }
+    ensures goes { GoesOn L.tells (read_sides (H.answer parts.old.handler) (side_seen side)) (calls_seen parts.old) lines.old lines.new result (calls_seen parts.new) }
+    ensures whole { OnOk result (IsWhole parts.new) }
+    ensures keys { OnOk result (keys_in parts.new.flows.entries ≡ keys_in parts.old.flows.entries) }
+    ensures handler { parts.new.handler ≡ parts.old.handler }
+{
+    for place in 0..parts.flows.len() {
+        let flow = match parts.flows.get_index(place) {
+            Some((flow, _)) => *flow,
+            None => unreachable!(),
+        };
+        read_side(parts, &flow, side, lines)?;
+    }
+    Ok(())
+}
+
+/// Reads a side of the flow until nothing is there, and takes each message that becomes whole right
+/// after the read that completes it.
+fn read_side<H: Handler, L: CallLines>(
+    parts: &mut Parts<H>,
+    flow: &Flow,
+    side: Side,
+    lines: &mut L,
+) -> Result<(), NoMemory>
+    requires there { has_key same_flow flow.now (flows_seen parts.old.flows.entries) ≡ true }
+    requires whole { IsWhole parts.old }
+    ensures goes { GoesOn L.tells (λ c. read_side (H.answer parts.old.handler) (side_seen side) c flow.now) (calls_seen parts.old) lines.old lines.new result (calls_seen parts.new) }
+    ensures whole { OnOk result (IsWhole parts.new) }
+    ensures keys { OnOk result (keys_in parts.new.flows.entries ≡ keys_in parts.old.flows.entries) }
+    ensures handler { parts.new.handler ≡ parts.old.handler }
+{
+    let read = Event::Read {
+        flow: side.flow_read(*flow),
+        max: MOST_READ,
+    };
+    loop {
+        happen(&mut parts.world, &mut parts.heard, &read)?;
+        if parts.heard.piece().is_none() {
+            return Ok(());
+        }
+        if let Some(message) = join(parts, flow, side)? {
+            take_message(parts, flow, side, &message, lines)?;
+        }
+    }
+}
+
+/// The piece that was read goes on what the side has begun. Answers the message that it makes whole.
+fn join<H>(parts: &mut Parts<H>, flow: &Flow, side: Side) -> Result<Option<Vec<u8>>, NoMemory>
+    requires piece { IsSome parts.old.heard.piece }
+    requires there { has_key same_flow flow.now (flows_seen parts.old.flows.entries) ≡ true }
+    ensures joined { MatchResult result (λ whole. HasJoined (side_seen side) flow.now parts.old (option_map (λ message. message.items) whole) parts.new) (λ _. parts.new ≡ record parts.old { flows = parts.new.flows }) }
+{
+    let Some((marks, octets)) = parts.heard.piece() else {
+        unreachable!();
+    };
+    flows::join(&mut parts.flows, flow, side, parts.alloc, marks, octets)
+}
+
+/// A whole message of a call of the flow is taken.
+fn take_message<H: Handler, L: CallLines>(
+    parts: &mut Parts<H>,
+    flow: &Flow,
+    side: Side,
+    message: &[u8],
+    lines: &mut L,
+) -> Result<(), NoMemory>
+    requires unspent { parts.old.world.spent ≡ false }
+    requires heard { parts.old.heard.failed ≡ false }
+    ensures goes { GoesOn L.tells (take_whole (H.answer parts.old.handler) (side_seen side) flow.now (Some message.now)) (calls_seen parts.old) lines.old lines.new result (calls_seen parts.new) }
+    ensures unspent { OnOk result (parts.new.world.spent ≡ false) }
+    ensures heard { OnOk result (parts.new.heard.failed ≡ false) }
+    ensures flows { parts.new.flows ≡ parts.old.flows }
+    ensures handler { parts.new.handler ≡ parts.old.handler }
+{
+    let Some((number, carried)) = read_message(message) else {
+        return Ok(());
+    };
+    let Some(call) = call_on(&parts.calls, number, flow) else {
+        return Ok(());
+    };
+    match side {
+        Side::Server => serve(parts, flow, call, carried, lines),
+        Side::Client => {
+            answer(parts, call, carried, lines);
+            Ok(())
+        }
+    }
+}
+
+/// The place of the call of this number, where there is one, and on this flow.
+fn call_on(calls: &[Call], number: u64, flow: &Flow) -> Option<usize>
+    ensures { MatchOption result (is_call_in calls.now flow.now number ≡ false) (λ place. (place ≡ number) × (is_call_in calls.now flow.now number ≡ true)) }
+{
+    if number >= calls.len() as u64 {
+        return None;
+    }
+    let place = number as usize;
+    (calls[place].flow == *flow).then_some(place)
+}
+
+/// A request is served: its answer goes back with its number. No request of a call has more octets than
+/// a handler takes, so the want of memory that would be told of a longer one isn't met.
+fn serve<H: Handler, L: CallLines>(
+    parts: &mut Parts<H>,
+    flow: &Flow,
+    call: usize,
+    payload: &[u8],
+    lines: &mut L,
+) -> Result<(), NoMemory>
+    requires call { call < vec_len parts.old.calls }
+    requires unspent { parts.old.world.spent ≡ false }
+    requires heard { parts.old.heard.failed ≡ false }
+    ensures goes { GoesOn L.tells (serve_call (H.answer parts.old.handler) flow.now call payload.now) (calls_seen parts.old) lines.old lines.new result (calls_seen parts.new) }
+    ensures unspent { OnOk result (parts.new.world.spent ≡ false) }
+    ensures heard { OnOk result (parts.new.heard.failed ≡ false) }
+    ensures flows { parts.new.flows ≡ parts.old.flows }
+    ensures handler { parts.new.handler ≡ parts.old.handler }
+{
+    let number = call as u64;
+    lines.line(parts.world.now(), &CallLine::Served { call: number });
+    let reply = reply(parts, flow, number, payload)?;
+    let served = &mut parts.calls[call];
+    served.served = served.served.checked_add(1).ok_or(NoMemory)?;
+    served.reply = Some(reply);
+    Ok(())
+}
+
+/// The answer to a payload is handed in on the way of the replies, with the number of its call.
+fn reply<H: Handler>(
+    parts: &mut Parts<H>,
+    flow: &Flow,
+    number: u64,
+    payload: &[u8],
+) -> Result<Posted, NoMemory>
+    requires unspent { parts.old.world.spent ≡ false }
+    requires heard { parts.old.heard.failed ≡ false }
+    ensures posts { IfOk result (λ posted. reads.post (reversed flow.now) (message_of number (H.answer parts.old.handler payload.now)) parts.old.world.state ≡ (posted, parts.new.world.state)) }
+    ensures unspent { OnOk result (parts.new.world.spent ≡ false) }
+    ensures heard { OnOk result (parts.new.heard.failed ≡ false) }
+    ensures calls { parts.new.calls ≡ parts.old.calls }
+    ensures flows { parts.new.flows ≡ parts.old.flows }
+    ensures handler { parts.new.handler ≡ parts.old.handler }
+{
+    if payload.len() > MOST_CARRIED {
+        return Err(NoMemory);
+    }
+    parts.handler.serve(payload, &mut parts.answer)?;
+    write_message(number, &parts.answer, &mut parts.message)?;
+    post(parts, reversed(*flow))
+}
+
+/// A reply answers its call, if that waits.
+fn answer<H, L: CallLines>(parts: &mut Parts<H>, call: usize, octets: &[u8], lines: &mut L)
+    requires { call < vec_len parts.old.calls }
+    ensures goes { HasGoneOn L.tells (answered_if (call_in parts.old.calls.items call).state call octets.now) (calls_seen parts.old) lines.old lines.new (calls_seen parts.new) }
+    ensures same { parts.new ≡ record parts.old { calls = parts.new.calls } }
+{
+    if !is_waiting(parts.calls[call].state) {
+        return;
+    }
+    let line = CallLine::Answered {
+        call: call as u64,
+        payload: octets,
+    };
+    lines.line(parts.world.now(), &line);
+    parts.calls[call].state = CallState::Answered;
+}
