@@ -13,7 +13,7 @@ use Rattle.dt_replay.specs.Schedules.{Empty, Prepares, Runs, Scene, by_params, b
 use Rattle.dt_calls.specs.CallInputs.{CallScene, Sets, by_schedule, opened}
 
 -- the line leads to no world
-abbrev IsSetUp : Result (Turned Scene) Fault → Type 0
+abbrev pub IsSetUp : Result (Turned Scene) Fault → Type 0
 IsSetUp (Ok turned) = opened turned.state ≡ Sets turned.state
 IsSetUp (Err fault) = Unit {0}
 
@@ -25,7 +25,7 @@ leads (Err why) (Ok (Some fault)) before after is h = let e = h.0 in let same : 
 leads (Ok turned) (Err fault) before after is h = tt
 leads (Err why) (Err fault) before after is h = tt
 
-params_set : (p : Params) (field : Option Field) → IsSetUp (by_params p field)
+pub params_set : (p : Params) (field : Option Field) → IsSetUp (by_params p field)
 params_set p None = refl
 params_set p (Some field) = tt
 
@@ -33,7 +33,7 @@ call_set : (r : Result Setup SetupFault) → IsSetUp (by_setup r)
 call_set (Ok setup) = refl
 call_set (Err fault) = tt
 
-setup_set : (scene : Scene) (call : SetupCall) → IsSetUp (in_setup scene (λ setup. by_setup (setup_call setup call)))
+pub setup_set : (scene : Scene) (call : SetupCall) → IsSetUp (in_setup scene (λ setup. by_setup (setup_call setup call)))
 setup_set Empty call = tt
 setup_set (Prepares setup) call = call_set (setup_call setup call)
 setup_set (Runs w) call = tt

@@ -16,3 +16,8 @@ pub mod DuesLeft
 pub mod Kept
 pub mod ReadSides
 pub mod DoubtParts
+pub mod CallWriting
+pub mod CallTurns
+pub mod CallScenes
+pub mod CallFolds
+pub mod CallEnds

@@ -3,7 +3,8 @@ use Rattle.dt_world_model.specs.WorldFacts.{SafeWorld}
 use Rattle.dt_replay.specs.Schedules.{world_after_lines}
 use Rattle.dt_replay.proofs.Scenes.{lines_safe}
 use Rattle.dt_audit.proofs.Agreement.{log_is_safe}
-use Rattle.dt_replay_audit.proofs.Turning.{lines_count, schedule_passes}
+use Rattle.dt_replay.proofs.LineCounts.{lines_count}
+use Rattle.dt_replay_audit.proofs.Turning.{schedule_passes}
 use Rattle.dt_top.specs.Serving.{Ends}
 use Rattle.dt_top.specs.Streams.{Streams, effects}
 use Rattle.dt_top.proofs.NodeRuns.{node_completes}
