@@ -94,12 +94,20 @@ impl CallInput {
             }
             Line::Pass { by } => happen(part, &CallEvent::World(Event::Pass { by }), out),
             Line::Tick { n } => {
-                happen(part, &CallEvent::World(Event::Tick { station: NodeId(n) }), out)
+                happen(
+                    part,
+                    &CallEvent::World(Event::Tick { station: NodeId(n) }),
+                    out,
+                )
             }
             Line::Arrive { copy } => happen(part, &CallEvent::World(Event::Arrive { copy }), out),
             Line::Lose { copy } => happen(part, &CallEvent::World(Event::Lose { copy }), out),
             Line::Restart { n } => {
-                happen(part, &CallEvent::World(Event::Restart { station: NodeId(n) }), out)
+                happen(
+                    part,
+                    &CallEvent::World(Event::Restart { station: NodeId(n) }),
+                    out,
+                )
             }
             Line::Send { .. }
             | Line::Read { .. }
@@ -223,7 +231,9 @@ fn open(part: &mut CallPart, alloc: Global) -> Result<Option<Fault>, NoMemory>
             *part = CallPart::Calling(calls);
             Ok(None)
         }
-        CallPart::Setting(Part::Nothing | Part::Running(_)) | CallPart::Calling(_) => Ok(Some(MISPLACED)),
+        CallPart::Setting(Part::Nothing | Part::Running(_)) | CallPart::Calling(_) => Ok(Some(
+            MISPLACED,
+        )),
     }
 }
 
