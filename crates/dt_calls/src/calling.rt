@@ -1,8 +1,9 @@
 //! What happens to the calls of an input.
-ghost use Rattle.std.specs.Prelude.{◌≡◌, false};
+ghost use Rattle.std.specs.Prelude.{◌≡◌, false, reverse};
 ghost use Rattle.dt_fold.specs.Logging.{TurnsTo};
-ghost use Rattle.std.specs.Prelude.{reverse};
-ghost use Rattle.dt_calls_model.specs.CallStep.{call_step};
+ghost use Rattle.dt_calls_model.specs.CallStep.{Happens, call_step};
+ghost use Rattle.dt_calls_laws.specs.Grown.{IsNoSendOrRead};
+ghost use Rattle.dt_world.specs.Worlds.{event_of};
 ghost use Rattle.dt_calls.specs.CallInputs.{Runs, by_calls, in_calls};
 ghost use Rattle.dt_calls.specs.CallOutcomes.{MayCome, call_event};
 ghost use Rattle.dt_calls.specs.CallScenes.{call_scene};
@@ -16,6 +17,7 @@ use dt_edges::Sink;
 use dt_fold::Stop;
 use dt_replay::{MISPLACED, stepped};
 use dt_reports::Fault;
+use dt_world::Event;
 
 /// Something happens to the calls, and its lines are written.
 pub fn happen<K: Sink>(
@@ -30,6 +32,18 @@ pub fn happen<K: Sink>(
         CallPart::Calling(calls) => step(calls, event, out),
         CallPart::Setting(_) => Ok(Some(MISPLACED)),
     }
+}
+
+/// An event of the world comes that is no send and no read.
+pub fn come<K: Sink>(
+    part: &mut CallPart,
+    event: Event<'_>,
+    out: &mut K,
+) -> Result<Option<Fault>, Stop>
+    requires { IsNoSendOrRead (event_of event) }
+    ensures { TurnsTo K.sight (in_calls (call_scene part.old) (Happens (event_of event.entry))) result (call_scene part.old) (call_scene part.new) out.old out.new }
+{
+    happen(part, &CallEvent::World(event), out)
 }
 
 /// A step of the calls. Calls that are spent find no memory any more.

@@ -14,7 +14,7 @@ ghost use Rattle.dt_calls.specs.CallInputs.{Sets, close, done_by, in_setup, last
 ghost use Rattle.dt_calls.specs.CallScenes.{call_scene};
 
 use crate::call_events::CallEvent;
-use crate::calling::happen;
+use crate::calling::{come, happen};
 use crate::handlers::Reversing;
 use crate::world_calls::Calls;
 use crate::writing::put_totals;
@@ -92,23 +92,11 @@ impl CallInput {
                 let payload = &self.payload;
                 happen(part, &CallEvent::Call { flow, payload }, out)
             }
-            Line::Pass { by } => happen(part, &CallEvent::World(Event::Pass { by }), out),
-            Line::Tick { n } => {
-                happen(
-                    part,
-                    &CallEvent::World(Event::Tick { station: NodeId(n) }),
-                    out,
-                )
-            }
-            Line::Arrive { copy } => happen(part, &CallEvent::World(Event::Arrive { copy }), out),
-            Line::Lose { copy } => happen(part, &CallEvent::World(Event::Lose { copy }), out),
-            Line::Restart { n } => {
-                happen(
-                    part,
-                    &CallEvent::World(Event::Restart { station: NodeId(n) }),
-                    out,
-                )
-            }
+            Line::Pass { by } => come(part, Event::Pass { by }, out),
+            Line::Tick { n } => come(part, Event::Tick { station: NodeId(n) }, out),
+            Line::Arrive { copy } => come(part, Event::Arrive { copy }, out),
+            Line::Lose { copy } => come(part, Event::Lose { copy }, out),
+            Line::Restart { n } => come(part, Event::Restart { station: NodeId(n) }, out),
             Line::Send { .. }
             | Line::Read { .. }
             | Line::Me { .. }
