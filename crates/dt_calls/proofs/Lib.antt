@@ -21,3 +21,4 @@ pub mod CallTurns
 pub mod CallScenes
 pub mod CallFolds
 pub mod CallEnds
+pub mod CallClosing

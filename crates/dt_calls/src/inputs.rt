@@ -236,7 +236,6 @@ fn first_calls(alloc: Global, setup: &Setup) -> Result<Calls<Reversing>, NoMemor
 }
 
 /// Writes the totals of the calls, and the end. The cost is the calls.
-#[tactic(auto, using(dt_edges::proofs::Puts::two_parts))]
 fn close_calls<K: Sink>(calls: &Calls<Reversing>, out: &mut K) -> Result<(), Failed>
     ensures { Puts K.sight (last_text calls.now.calls) result out.old out.new }
 {
