@@ -25,11 +25,11 @@ pub world_kept : (answer : List ℕ → List ℕ) (c : Calls) → CourseFacts an
 world_kept answer c h = record { limits = h.limits; facts = h.world }
 
 -- AN EVENT of the world that was done
-record IsStepped (o : Option StepFault) (r : List Entry × World) (w : World) : Type 0 where
-  clear : o ≡ None
-  world : r.1 ≡ w
+pub record IsStepped (o : Option StepFault) (r : List Entry × World) (w : World) : Type 0 where
+  pub clear : o ≡ None
+  pub world : r.1 ≡ w
 
-stepped_is : (o : Option StepFault) (r : List Entry × World) (lines : List Entry) (w : World) → step_unless o r ≡ world.Stepped lines w → IsStepped o r w
+pub stepped_is : (o : Option StepFault) (r : List Entry × World) (lines : List Entry) (w : World) → step_unless o r ≡ world.Stepped lines w → IsStepped o r w
 stepped_is None r lines w e = let is : r.1 ≡ w = cc in record { clear = refl; world = is }
 stepped_is (Some fault) r lines w e = absurd cc
 

@@ -16,3 +16,6 @@ pub mod DuesLeft
 pub mod Kept
 pub mod ReadSides
 pub mod DoubtParts
+pub mod Makings
+pub mod Goings
+pub mod Beginnings

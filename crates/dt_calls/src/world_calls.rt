@@ -8,9 +8,9 @@ ghost use Rattle.dt_units.specs.Flows.{IsFlow};
 ghost use Rattle.dt_calls_laws.specs.Grown.{IsNoSendOrRead};
 ghost use Rattle.dt_calls_laws.specs.MayCome as law;
 ghost use Rattle.dt_calls_model.specs.CallFacts.{CallFacts, CourseFacts};
-ghost use Rattle.dt_calls_model.specs.Calls.{call_at, new_calls};
+ghost use Rattle.dt_calls_model.specs.Calls.{call_at, new_calls, with_flow};
 ghost use Rattle.dt_calls_model.specs.CallRuns.{totals_of};
-ghost use Rattle.dt_calls_model.specs.CallStep.{call_refusals, finish, make};
+ghost use Rattle.dt_calls_model.specs.CallStep.{Happens, Makes, call_refusals, finish, make, make_with, state_of};
 ghost use Rattle.dt_calls_model.specs.Messages.{reversed};
 ghost use Rattle.dt_calls_model.specs.Promises.{AreServedOnce};
 ghost use Rattle.dt_calls.specs.CallOutcomes.{Answers, CallsValue, IsNew, MayCome, StepsTo, call_event, lacks_memory};
@@ -19,6 +19,7 @@ ghost use Rattle.dt_calls.specs.Dues.{IsDue};
 ghost use Rattle.dt_calls.specs.Flows.{flows_seen};
 ghost use Rattle.dt_calls.specs.Going.{WorldGoesOn, then_made};
 ghost use Rattle.dt_calls.specs.Parts.{IsWhole, calls_seen};
+ghost use Rattle.dt_calls.specs.Telling.{TellsCalls};
 ghost use Rattle.dt_calls.specs.Totals.{totals_seen};
 ghost use Rattle.dt_calls.specs.declared.dues.Due.TheVariants as due;
 
@@ -180,6 +181,7 @@ fn lacks_memory(answer: Result<(), StepFault>) -> bool
     matches!(answer, Err(StepFault::NoMemory))
 }
 
+/// What happens to the parts of calls that aren't spent.
 fn step<H: Handler, L: CallLines>(
     parts: &mut Parts<H>,
     event: &CallEvent<'_>,
@@ -194,17 +196,51 @@ fn step<H: Handler, L: CallLines>(
     ensures few { length parts.old.calls.items < 2 ^ 64 }
     ensures handler { parts.new.handler ≡ parts.old.handler }
 {
-    parts.heard.begin_step();
-    let due = match *event {
-        CallEvent::Call { flow, payload } => {
-            if let Some(fault) = refusal(parts, flow) {
-                return Err(fault);
-            }
-            make(parts, flow, payload, lines)?;
-            Due::Flow(flow)
-        }
-        CallEvent::World(event) => go_on(parts, &event)?,
-    };
+    match *event {
+        CallEvent::Call { flow, payload } => step_call(parts, flow, payload, lines),
+        CallEvent::World(event) => step_world(parts, &event, lines),
+    }
+}
+
+/// A call is made, unless it is refused, and then what is due is read.
+fn step_call<H: Handler, L: CallLines>(
+    parts: &mut Parts<H>,
+    flow: Flow,
+    payload: &[u8],
+    lines: &mut L,
+) -> Result<(), StepFault>
+    requires whole { IsWhole parts.old }
+    requires facts { CallFacts (H.answer parts.old.handler) (calls_seen parts.old) }
+    requires few { length payload.now ≤ 65528 }
+    ensures steps { StepsTo L.tells (H.answer parts.old.handler) (calls_seen parts.old) (Makes flow payload.now) lines.old lines.new result (calls_seen parts.new) }
+    ensures whole { lacks_memory result ≡ false → IsWhole parts.new }
+    ensures range { IsFlow flow }
+    ensures few { length parts.old.calls.items < 2 ^ 64 }
+    ensures handler { parts.new.handler ≡ parts.old.handler }
+{
+    if let Some(fault) = refusal(parts, flow) {
+        return Err(fault);
+    }
+    make(parts, flow, payload, lines)?;
+    finish(parts, Due::Flow(flow), lines)?;
+    Ok(())
+}
+
+/// An event of the world comes, and then what is due is read.
+fn step_world<H: Handler, L: CallLines>(
+    parts: &mut Parts<H>,
+    event: &Event<'_>,
+    lines: &mut L,
+) -> Result<(), StepFault>
+    requires whole { IsWhole parts.old }
+    requires facts { CallFacts (H.answer parts.old.handler) (calls_seen parts.old) }
+    requires may { IsNoSendOrRead (event_of event.now) }
+    ensures steps { StepsTo L.tells (H.answer parts.old.handler) (calls_seen parts.old) (Happens (event_of event.now)) lines.old lines.new result (calls_seen parts.new) }
+    ensures whole { lacks_memory result ≡ false → IsWhole parts.new }
+    ensures few { length parts.old.calls.items < 2 ^ 64 }
+    ensures handler { parts.new.handler ≡ parts.old.handler }
+{
+    let due = go_on(parts, event)?;
     finish(parts, due, lines)?;
     Ok(())
 }
@@ -273,23 +309,61 @@ fn make<H, L: CallLines>(
     let count = payload.len() as u32;
     write_message(call, payload, &mut parts.message)?;
     let request = post(parts, flow)?;
-    let moment = parts.world.now();
-    lines.line(moment, &CallLine::Call { call, flow, count });
-    let state = match request {
-        Posted::Taken { .. } => CallState::Waiting,
-        Posted::Refused => {
-            lines.line(moment, &CallLine::Declined { call });
-            CallState::Declined
-        }
-    };
+    add_call(parts, flow, count, request, lines)
+}
+
+/// A call whose request was handed in, and came to this, is told, and gets its number, and its flow an
+/// entry.
+fn add_call<H, L: CallLines>(
+    parts: &mut Parts<H>,
+    flow: Flow,
+    count: u32,
+    request: Posted,
+    lines: &mut L,
+) -> Result<(), NoMemory>
+    ensures goes { GoesOn L.tells (λ c. then_made c (make_with flow count (request, c.calls.world) c.calls)) (calls_seen parts.old) lines.old lines.new result (calls_seen parts.new) }
+    ensures flows { OnOk result (flows_seen parts.new.flows.entries ≡ with_flow flow (flows_seen parts.old.flows.entries)) }
+    ensures same { parts.new ≡ record parts.old { calls = parts.new.calls; flows = parts.new.flows } }
+    ensures range { IsFlow flow }
+{
+    tell_made(parts, flow, count, request, lines);
     parts.calls.push(Call {
         flow,
-        state,
+        state: state_of(request),
         served: 0,
         request,
         reply: None,
     })?;
     add_flow(&mut parts.flows, parts.alloc, flow)
+}
+
+/// A call that is made is told, and that it is declined where its request was refused.
+fn tell_made<H, L: CallLines>(
+    parts: &Parts<H>,
+    flow: Flow,
+    count: u32,
+    request: Posted,
+    lines: &mut L,
+)
+    ensures { TellsCalls L.tells (make_with flow count (request, parts.now.world.state) (calls_seen parts.now)).told lines.old lines.new }
+{
+    let call = parts.calls.len() as u64;
+    let moment = parts.world.now();
+    lines.line(moment, &CallLine::Call { call, flow, count });
+    match request {
+        Posted::Taken { .. } => {}
+        Posted::Refused => lines.line(moment, &CallLine::Declined { call }),
+    }
+}
+
+/// What a call is whose request came to this.
+fn state_of(request: Posted) -> CallState
+    ensures { result ≡ state_of request }
+{
+    match request {
+        Posted::Taken { .. } => CallState::Waiting,
+        Posted::Refused => CallState::Declined,
+    }
 }
 
 /// An event of the world. Answers what must be read behind it.
