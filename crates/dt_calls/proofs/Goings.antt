@@ -68,12 +68,12 @@ module _ {H : Type 0} (e : WorldEvent) (p : Parts H) (whole : IsWhole p) (world 
   goes_wrong (fault.NoCopy n) d = refused_by (fault.NoCopy n) d
   goes_wrong (fault.Lost n) d = refused_by (fault.Lost n) d
   goes_wrong (fault.TooLate held charge) d = refused_by (fault.TooLate held charge) d
-  goes_wrong fault.NoMemory d = record { begun = d.begun; handler = refl }
+  goes_wrong fault.NoMemory d = record { begun = d.begun; calls = refl; handler = refl }
 
   module _ (done : IsDone Hears p.world e (for_event p.heard) t world) where
     -- IT IS DONE, and a line wasn't heard for want of memory
     pub not_heard : HasNoMemory e p after
-    not_heard = record { begun = (stepped_is (first_refusal (refusals p.world.state e)) (after_event p.world.state e) done.told world.state done.step).clear; handler = refl }
+    not_heard = record { begun = (stepped_is (first_refusal (refusals p.world.state e)) (after_event p.world.state e) done.told world.state done.step).clear; calls = refl; handler = refl }
 
     -- IT IS DONE, and all was heard
     module _ (may : IsNoSendOrRead e) (heard : t.failed ≡ false) where

@@ -19,3 +19,4 @@ pub mod DoubtParts
 pub mod Makings
 pub mod Goings
 pub mod Beginnings
+pub mod CoursesOn

@@ -1,5 +1,6 @@
 -- What a step of calls answers, by what its event did and what was read behind it.
 use Rattle.std.proofs.Common.{ℕ, ◌≡◌, Bool, true, false, List, [], ◌∷◌, ◌++◌, Option, Some, None, Result, Ok, Err, refl, ap, sym, subst, ◌∙◌}
+use Rattle.std.specs.List.{All}
 use Rattle.dt_units.specs.declared.endpoints.Flow.{Flow}
 use Rattle.dt_reports.specs.Entries.{Entry}
 use Rattle.dt_reports.specs.declared.faults.StepFault.{StepFault}
@@ -14,6 +15,7 @@ use Rattle.dt_calls_model.specs.Calls.{Begun, Calls}
 use Rattle.dt_calls_model.specs.CallTold.{CallEntry}
 use Rattle.dt_calls_model.specs.CallStep as step
 use Rattle.dt_calls_model.specs.CallStep.{Faulty, Happens, Makes, Outcome, Stepped, call_refusals, call_step, finish, flows_after, go_on, is_way_of_replies, make, make_unless}
+use Rattle.dt_calls_model.specs.Promises.{AreServedOnce, IsServedOnce}
 use Rattle.dt_calls_model.specs.Reads.{Course}
 use Rattle.dt_calls.specs.CallOutcomes.{FailsWith, IsDone, IsRefused, IsStopped, StepsTo, is_memory}
 use Rattle.dt_calls.specs.Courses.{HasGoneOn, HasStopped, from_calls}
@@ -124,6 +126,18 @@ module _ {H : Type 0} (e : WorldEvent) (p after : Parts H) where
   wrong_whole (fault.Lost n) h plain = h.whole
   wrong_whole (fault.TooLate held charge) h plain = h.whole
   wrong_whole fault.NoMemory h plain = absurd cc
+
+  -- no call has changed
+  same_once : calls_seen after ≡ calls_seen p → AreServedOnce (calls_seen p) → AreServedOnce (calls_seen after)
+  same_once same once = subst AreServedOnce (sym same) once
+
+  pub wrong_once : (why : StepFault) → GoesWrong e p after why → AreServedOnce (calls_seen p) → AreServedOnce (calls_seen after)
+  wrong_once fault.BadFlow h once = same_once h.same once
+  wrong_once (fault.NoStation n) h once = same_once h.same once
+  wrong_once (fault.NoCopy n) h once = same_once h.same once
+  wrong_once (fault.Lost n) h once = same_once h.same once
+  wrong_once (fault.TooLate held charge) h once = same_once h.same once
+  wrong_once fault.NoMemory h once = subst (All IsServedOnce) (sym (ap (λ v. v.items) h.calls)) once
 
   module _ {L : Type 0} (tells : L → CallEntry → L → Type 0) (answer : List ℕ → List ℕ) (l : L) where
     refused_for : (why : StepFault) → is_memory why ≡ false → IsRefusedBy e p after why → FailsWith tells answer (calls_seen p) (Happens e) l l why (calls_seen after)

@@ -1,5 +1,5 @@
 //! The calls of a world.
-ghost use Rattle.std.specs.Prelude.{◌≡◌, ◌<◌, ◌≤◌, ◌^◌, false, length, OnOk, IfOk, None, vec_len};
+ghost use Rattle.std.specs.Prelude.{◌≡◌, ◌<◌, ◌≤◌, ◌^◌, false, length, OnErr, OnOk, IfOk, None, vec_len};
 ghost use Rattle.std.specs.List.{list_any};
 ghost use Rattle.dt_world.specs.Worlds.{event_of};
 ghost use Rattle.dt_world_model.specs.Tables.{same_flow};
@@ -67,16 +67,15 @@ pub struct Calls<H: Handler> {
 }
 
 impl<H: Handler> Model for Calls<H> {
-    ghost use Rattle.std.specs.Prelude.{◌≡◌, false};
     ghost use Rattle.dt_calls.specs.CallOutcomes.{CallsValue};
     ghost use Rattle.dt_calls.specs.Parts.{calls_seen};
-    ghost use Rattle.dt_calls.specs.Going.{IsSettled};
+    ghost use Rattle.dt_calls.specs.Going.{IsKeptCalls};
 
     ghost Value = { CallsValue H };
 
     ghost view = { λ c. record { calls = calls_seen c.parts; handler = c.parts.handler; spent = c.spent } };
 
-    ghost invariant = { λ c. c.spent ≡ false → IsSettled (H.answer c.parts.handler) c.parts };
+    ghost invariant = { λ c. IsKeptCalls (H.answer c.parts.handler) c.spent c.parts };
 }
 
 impl<H: Handler> Calls<H> {
@@ -108,7 +107,7 @@ impl<H: Handler> Calls<H> {
     /// or goes on the way of an earlier call's replies; then `NoStation`, of a call the flow's first
     /// station isn't there, or else its last; and what the world refuses. `NoMemory` comes for want of
     /// memory, and where a count would pass its end. Then the first of the lines were told, and the
-    /// calls are used no more.
+    /// calls are used no more; each was still served at most once.
     ///
     /// The cost is that of the world's events, the octets that are read, all calls, and the octets of
     /// those that wait; after a `Pass` also two reads of each flow with a call, after a restart all
@@ -130,7 +129,7 @@ impl<H: Handler> Calls<H> {
     /// How many calls were made.
     pub fn calls(&self) -> u64
         ensures count { result ≡ length self.now.calls.calls }
-        ensures once { self.now.spent ≡ false → AreServedOnce self.now.calls }
+        ensures once { AreServedOnce self.now.calls }
     {
         self.parts.calls.len() as u64
     }
@@ -139,7 +138,7 @@ impl<H: Handler> Calls<H> {
     pub fn served_at(&self, i: u64) -> u32
         requires { i < length self.now.calls.calls }
         ensures served { result ≡ (call_at self.now.calls i).served }
-        ensures at_most_once { self.now.spent ≡ false → result ≤ 1 }
+        ensures at_most_once { result ≤ 1 }
     {
         self.parts.calls[i as usize].served
     }
@@ -191,6 +190,7 @@ fn step<H: Handler, L: CallLines>(
     requires facts { CallFacts (H.answer parts.old.handler) (calls_seen parts.old) }
     requires may { MayCome (call_event event.now) }
     ensures steps { StepsTo L.tells (H.answer parts.old.handler) (calls_seen parts.old) (call_event event.now) lines.old lines.new result (calls_seen parts.new) }
+    ensures once { AreServedOnce (calls_seen parts.new) }
     ensures whole { lacks_memory result ≡ false → IsWhole parts.new }
     ensures come { law.MayCome (call_event event.now) }
     ensures few { length parts.old.calls.items < 2 ^ 64 }
@@ -213,6 +213,7 @@ fn step_call<H: Handler, L: CallLines>(
     requires facts { CallFacts (H.answer parts.old.handler) (calls_seen parts.old) }
     requires few { length payload.now ≤ 65528 }
     ensures steps { StepsTo L.tells (H.answer parts.old.handler) (calls_seen parts.old) (Makes flow payload.now) lines.old lines.new result (calls_seen parts.new) }
+    ensures once { AreServedOnce (calls_seen parts.new) }
     ensures whole { lacks_memory result ≡ false → IsWhole parts.new }
     ensures range { IsFlow flow }
     ensures few { length parts.old.calls.items < 2 ^ 64 }
@@ -236,6 +237,7 @@ fn step_world<H: Handler, L: CallLines>(
     requires facts { CallFacts (H.answer parts.old.handler) (calls_seen parts.old) }
     requires may { IsNoSendOrRead (event_of event.now) }
     ensures steps { StepsTo L.tells (H.answer parts.old.handler) (calls_seen parts.old) (Happens (event_of event.now)) lines.old lines.new result (calls_seen parts.new) }
+    ensures once { AreServedOnce (calls_seen parts.new) }
     ensures whole { lacks_memory result ≡ false → IsWhole parts.new }
     ensures few { length parts.old.calls.items < 2 ^ 64 }
     ensures handler { parts.new.handler ≡ parts.old.handler }
@@ -256,6 +258,7 @@ fn finish<H: Handler, L: CallLines>(
     requires few { length parts.old.calls.items ≤ 2 ^ 64 }
     requires due { IsDue due parts.old.world.state (flows_seen parts.old.flows.entries) }
     ensures goes { GoesOn L.tells (finish (H.answer parts.old.handler)) (calls_seen parts.old) lines.old lines.new result (calls_seen parts.new) }
+    ensures once { OnErr result (AreServedOnce (calls_seen parts.new)) }
     ensures whole { OnOk result (IsWhole parts.new) }
     ensures handler { parts.new.handler ≡ parts.old.handler }
 {
@@ -301,6 +304,7 @@ fn make<H, L: CallLines>(
     requires fine { first_refusal (call_refusals (calls_seen parts.old) flow) ≡ None }
     requires few { length payload.now ≤ 65528 }
     ensures goes { GoesOn L.tells (λ c. then_made c (make flow payload.now c.calls)) (calls_seen parts.old) lines.old lines.new result (calls_seen parts.new) }
+    ensures once { AreServedOnce (calls_seen parts.old) → AreServedOnce (calls_seen parts.new) }
     ensures whole { OnOk result (IsWhole parts.new) }
     ensures due { OnOk result (IsDue (due.Flow flow) parts.new.world.state (flows_seen parts.new.flows.entries)) }
     ensures handler { parts.new.handler ≡ parts.old.handler }
@@ -322,6 +326,7 @@ fn add_call<H, L: CallLines>(
     lines: &mut L,
 ) -> Result<(), NoMemory>
     ensures goes { GoesOn L.tells (λ c. then_made c (make_with flow count (request, c.calls.world) c.calls)) (calls_seen parts.old) lines.old lines.new result (calls_seen parts.new) }
+    ensures once { AreServedOnce (calls_seen parts.old) → AreServedOnce (calls_seen parts.new) }
     ensures flows { OnOk result (flows_seen parts.new.flows.entries ≡ with_flow flow (flows_seen parts.old.flows.entries)) }
     ensures same { parts.new ≡ record parts.old { calls = parts.new.calls; flows = parts.new.flows } }
     ensures range { IsFlow flow }

@@ -6,7 +6,7 @@ use Rattle.dt_calls_model.specs.CallStep.{Makes, call_refusals, finish}
 use Rattle.dt_calls.specs.Courses.{HasGoneOn, HasStopped}
 use Rattle.dt_calls.specs.Parts.{calls_seen}
 use Rattle.dt_calls.proofs.DuesLeft.{nothing_due}
-use Rattle.dt_calls.proofs.Kept.{made_kept}
+use Rattle.dt_calls.proofs.Kept.{made_kept, once_done}
 use Rattle.dt_calls.proofs.Steps.{call_cut, call_cut_late, call_ends, lacked}
 use Rattle.dt_calls.proofs.world_calls.step_call.Goals as goal
 
@@ -55,3 +55,20 @@ returns-clause-steps g c =
     let fine : first_refusal (call_refusals first f) ≡ None = sym c.refusal.ensures.refusal ∙ c.in_default.is in
     let gone = subst (λ h. HasGoneOn tells (finish (g.H.Handler.answer h)) (calls_seen c.make.new.parts) c.make.new.lines c.finish.new.lines (calls_seen c.finish.new.parts)) c.make.ensures.handler c.in_ok-finish.ensures.goes in
     call_ends tells answer first c.args.lines.now f c.args.payload.now fine (calls_seen c.make.new.parts) c.make.new.lines c.finish.new.lines c.in_ok-make.ensures.goes (calls_seen c.finish.new.parts) gone
+
+pub returns-clause-once : goal.returns-clause-once
+returns-clause-once g c =
+    let tells = g.L.CallLines.tells in
+    let answer = g.H.Handler.answer c.args.parts.now.handler in
+    let first = calls_seen c.args.parts.now in
+    let made = calls_seen c.make.new.parts in
+    let new = calls_seen c.finish.new.parts in
+    let f = c.args.flow in
+    let payload = c.args.payload.now in
+    let l = c.args.lines.now in
+    let m = c.make.new.lines in
+    let n = c.finish.new.lines in
+    let fine : first_refusal (call_refusals first f) ≡ None = sym c.refusal.ensures.refusal ∙ c.in_default.is in
+    let few : length c.args.parts.now.calls.items < 2 ^ 64 = search rules in
+    let gone = subst (λ h. HasGoneOn tells (finish (g.H.Handler.answer h)) made m n new) c.make.ensures.handler c.in_ok-finish.ensures.goes in
+    once_done tells answer first new (Makes f payload) l n c.requires.facts few c.refusal.ensures.range (call_ends tells answer first l f payload fine made m n c.in_ok-make.ensures.goes new gone)
