@@ -22,3 +22,7 @@ pub mod CallScenes
 pub mod CallFolds
 pub mod CallEnds
 pub mod CallClosing
+pub mod Makings
+pub mod Goings
+pub mod Beginnings
+pub mod CoursesOn
