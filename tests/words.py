@@ -9,7 +9,7 @@ import sys
 import tempfile
 import time
 
-USAGE = b"usage: deltat replay | node | make N | trace | retrace | audit\n"
+USAGE = b"usage: deltat replay | node | make N | trace | retrace | calls | audit\n"
 ONE = b"""params 1000 3000 200 500 800 100 4096 4096 512 2147483648
 station 1 0
 station 2 0

@@ -35,7 +35,7 @@ module _ {H L : Type 0} (tells : L → CallEntry → L → Type 0) (fn loop afte
   pub sure_next : becomes_unsure loop.world.state x ≡ false → after.calls.items ≡ loop.calls.items → n ≡ m → Next tells fn l (i + 1) after n
   sure_next sure items lines = record {
     on = subst (λ (k : L). DoubtsOn tells fn.world.state fn.calls.items l (i + 1) after.calls.items k) (sym lines)
-    (subst (λ (cs : List Call). DoubtsOn tells fn.world.state fn.calls.items l (i + 1) cs m) (sym items) (next_sure tells fn.world.state fn.calls.items l i loop.calls.items m on x there is (ap (λ (w : World). becomes_unsure w x) (sym world_is) ∙ sure)));
+        (subst (λ (cs : List Call). DoubtsOn tells fn.world.state fn.calls.items l (i + 1) cs m) (sym items) (next_sure tells fn.world.state fn.calls.items l i loop.calls.items m on x there is (ap (λ (w : World). becomes_unsure w x) (sym world_is) ∙ sure)));
     same = still;
     long = ap length items ∙ long;
   }
@@ -44,7 +44,7 @@ module _ {H L : Type 0} (tells : L → CallEntry → L → Type 0) (fn loop afte
       → tells m (record { moment = moment; told = told.Unsure i }) n → Next tells fn l (i + 1) after n
   unsure_next moment unsure items count at tell = record {
     on = subst (λ (cs : List Call). DoubtsOn tells fn.world.state fn.calls.items l (i + 1) cs n) (sym items)
-    (next_unsure tells fn.world.state fn.calls.items l i loop.calls.items m on x there is (ap (λ (w : World). becomes_unsure w x) (sym world_is) ∙ unsure) n (subst (λ (k : ℕ). tells m (record { moment = k; told = told.Unsure i }) n) at tell));
+        (next_unsure tells fn.world.state fn.calls.items l i loop.calls.items m on x there is (ap (λ (w : World). becomes_unsure w x) (sym world_is) ∙ unsure) n (subst (λ (k : ℕ). tells m (record { moment = k; told = told.Unsure i }) n) at tell));
     same = still;
     long = ap length items ∙ count ∙ long;
   }

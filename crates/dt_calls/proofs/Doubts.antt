@@ -97,7 +97,7 @@ module _ {L : Type 0} (tells : L → CallEntry → L → Type 0) (w : World) (al
         record {
           lines = subst (λ (v : World). TellsCalls tells (doubts_from v 0 c.calls) l m) (sym is_world) (subst (λ (cs : List Call). TellsCalls tells (doubts_from w 0 cs) l m) before_is on.lines);
           calls = ap (λ (cs : List Call). record c { calls = cs })
-          (on.now ∙ ap (λ (r : List Call). map (doubted w) on.before ++ r) none ∙ append-nil (map (doubted w) on.before) ∙ ap (map (doubted w)) before_is ∙ ap (λ (v : World). map (doubted v) c.calls) (sym is_world));
+              (on.now ∙ ap (λ (r : List Call). map (doubted w) on.before ++ r) none ∙ append-nil (map (doubted w) on.before) ∙ ap (map (doubted w)) before_is ∙ ap (λ (v : World). map (doubted v) c.calls) (sym is_world));
         }
       where
         none_left : (rest : List Call) → calls ≡ map (doubted w) on.before ++ rest → rest ≡ []

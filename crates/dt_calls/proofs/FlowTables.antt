@@ -93,7 +93,6 @@ pub keys_seen : (es : List (Flow × FlowSides)) → keys_in (flows_seen es) ≡ 
 keys_seen [] = refl
 keys_seen (e ∷ es) = ap (λ (gs : List Flow). e.0 ∷ gs) (keys_seen es)
 
-
 pub key_written : (f : Flow) (b : model.Begun) (es : List (Flow × model.Begun)) → has_key same_flow f (write same_flow f b es) ≡ true
 key_written f b es = ap is_some (look_write Flow model.Begun same_flow flow_self flow_is f b es)
 
@@ -149,12 +148,11 @@ pub restarted_next : (n : ℕ) (first now after : List (Flow × FlowSides)) (i :
 restarted_next n first now after i h seen long is =
     let there : i < length (flows_seen first) = (let long = seen_long first in omega arith) in
     let count : length after ≡ length now =
-    sym (seen_long after) ∙ ap length is ∙ length-set (flows_seen now) i (without_reader n (slice_index_or (flows_seen now) i no_entry)) ∙ seen_long now in
-    (
+    sym (seen_long after) ∙ ap length is ∙ length-set (flows_seen now) i (without_reader n (slice_index_or (flows_seen now) i no_entry)) ∙ seen_long now in (
       is
-      ∙ ap (λ (xs : List (Flow × model.Begun)). set xs i (without_reader n (slice_index_or xs i no_entry))) seen
-      ∙ set_next (without_reader n) (flows_seen first) i there
-      ∙ ap (λ (k : ℕ). map (without_reader n) (take k (flows_seen first)) ++ drop k (flows_seen first)) (sym (add-one i)),
+          ∙ ap (λ (xs : List (Flow × model.Begun)). set xs i (without_reader n (slice_index_or xs i no_entry))) seen
+          ∙ set_next (without_reader n) (flows_seen first) i there
+          ∙ ap (λ (k : ℕ). map (without_reader n) (take k (flows_seen first)) ++ drop k (flows_seen first)) (sym (add-one i)),
       count ∙ long,
     )
 

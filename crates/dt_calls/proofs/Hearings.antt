@@ -92,7 +92,7 @@ refused_is : (e : WorldEvent) (w : World) (why : StepFault) → world_step w e �
 refused_is e w why h = ap (then_step ([], w)) h
 
 module _ (e : WorldEvent) (w new : WorldValue) (h t : HeardValue) where
-  done_happened : IsDone Hears w e (for_event h) t new → t.failed ≡ false → HasHappened e w h new t
+  pub done_happened : IsDone Hears w e (for_event h) t new → t.failed ≡ false → HasHappened e w h new t
   done_happened d whole =
       let is = done_is e w.state new.state d.told d.step in
       let all = heard_of_all d.told (for_event h) t d.lines whole in

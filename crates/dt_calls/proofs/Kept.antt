@@ -11,13 +11,14 @@ use Rattle.dt_world_model.specs.WorldStep.{WorldEvent, after_event, first_refusa
 use Rattle.dt_calls_laws.specs.Grown.{IsNoSendOrRead}
 use Rattle.dt_calls_laws.specs.MayCome as law
 use Rattle.dt_calls_laws.proofs.Happening.{event_course}
-use Rattle.dt_calls_laws.proofs.Stepping.{made_on, step_facts}
+use Rattle.dt_calls_laws.proofs.Stepping.{made_on, step_answers, step_facts}
 use Rattle.dt_calls_model.specs.CallFacts.{CallFacts, CourseFacts}
 use Rattle.dt_calls_model.specs.Calls.{Calls}
 use Rattle.dt_calls_model.specs.CallStep as step
 use Rattle.dt_calls_model.specs.CallStep.{call_refusals, flows_after, make}
 use Rattle.dt_calls_model.specs.CallTold.{CallEntry}
-use Rattle.dt_calls.specs.CallOutcomes.{StepsTo, lacks_memory}
+use Rattle.dt_calls_model.specs.Promises.{AreServedOnce}
+use Rattle.dt_calls.specs.CallOutcomes.{Answers, CallsValue, IsDone, StepsTo, lacks_memory}
 use Rattle.dt_calls.specs.Parts.{IsKeptWorld}
 
 -- the world of calls
@@ -25,11 +26,11 @@ pub world_kept : (answer : List ℕ → List ℕ) (c : Calls) → CourseFacts an
 world_kept answer c h = record { limits = h.limits; facts = h.world }
 
 -- AN EVENT of the world that was done
-record IsStepped (o : Option StepFault) (r : List Entry × World) (w : World) : Type 0 where
-  clear : o ≡ None
-  world : r.1 ≡ w
+pub record IsStepped (o : Option StepFault) (r : List Entry × World) (w : World) : Type 0 where
+  pub clear : o ≡ None
+  pub world : r.1 ≡ w
 
-stepped_is : (o : Option StepFault) (r : List Entry × World) (lines : List Entry) (w : World) → step_unless o r ≡ world.Stepped lines w → IsStepped o r w
+pub stepped_is : (o : Option StepFault) (r : List Entry × World) (lines : List Entry) (w : World) → step_unless o r ≡ world.Stepped lines w → IsStepped o r w
 stepped_is None r lines w e = let is : r.1 ≡ w = cc in record { clear = refl; world = is }
 stepped_is (Some fault) r lines w e = absurd cc
 
@@ -61,3 +62,18 @@ module _ {L : Type 0} (tells : L → CallEntry → L → Type 0) (answer : List 
   facts_after (Err (fault.Lost n)) h fine = same_facts h.same
   facts_after (Err (fault.TooLate held charge)) h fine = same_facts h.same
   facts_after (Err fault.NoMemory) h fine = absurd cc
+
+-- a step that is done
+pub once_done : {L : Type 0} (tells : L → CallEntry → L → Type 0) (answer : List ℕ → List ℕ) (c new : Calls) (e : step.CallEvent) (l m : L) → CallFacts answer c → length c.calls < 2 ^ 64 → law.MayCome e → IsDone tells answer c e l m new → AreServedOnce new
+once_done tells answer c new e l m facts few may h = (step_facts answer c e h.told new facts few may h.step).course.once
+
+-- WHAT A STEP ANSWERS, by what it told and left
+module _ {L H U : Type 0} (tells : L → CallEntry → L → Type 0) (answer : H → List ℕ → List ℕ) (v new : CallsValue H) (e : step.CallEvent) (l m : L) (result : Result U StepFault) (facts : CallFacts (answer v.handler) v.calls) (few : length v.calls.calls < 2 ^ 64) (may : law.MayCome e) where
+  pub answers_so : StepsTo tells (answer v.handler) v.calls e l m result new.calls → new.handler ≡ v.handler → new.spent ≡ lacks_memory result → AreServedOnce new.calls → Answers tells answer v e l m new result
+  answers_so steps handler spent once = record {
+    steps = steps;
+    handler = handler;
+    spent = spent;
+    once = once;
+    answers = λ told after is. step_answers (answer v.handler) v.calls e told after facts few may is;
+  }

@@ -16,3 +16,13 @@ pub mod DuesLeft
 pub mod Kept
 pub mod ReadSides
 pub mod DoubtParts
+pub mod CallWriting
+pub mod CallTurns
+pub mod CallScenes
+pub mod CallFolds
+pub mod CallEnds
+pub mod CallClosing
+pub mod Makings
+pub mod Goings
+pub mod Beginnings
+pub mod CoursesOn

@@ -40,5 +40,6 @@ module _ {H : Type 0} (flow : Flow) (p : Parts H) (octets : List ℕ) (world : W
   posted_taken place count same sent e at many = record {
     posts = told_is same sent false e ∙ ap (λ (n : ℕ). answer_if n (length p.message.items) world.state false) (sym at) ∙ ap (λ (n : ℕ). answer_if place n world.state false) (sym many);
     same = refl;
-    unspent = sent.unspent; heard = sent.whole;
+    unspent = sent.unspent;
+    heard = sent.whole;
   }

@@ -102,10 +102,10 @@ module _ {L : Type 0} (tells : L → CallEntry → L → Type 0) (answer : List 
             part = so_far ++ stop.part;
             rest = stop.rest ++ more;
             told =
-            append_assoc so_far stop.part (stop.rest ++ more)
-            ∙ ap (λ (ls : List CallEntry). so_far ++ ls) (sym (append_assoc stop.part stop.rest more) ∙ ap (λ (ls : List CallEntry). ls ++ more) stop.told)
-            ∙ sym (append_assoc so_far taken.told more)
-            ∙ all;
+                append_assoc so_far stop.part (stop.rest ++ more)
+                ∙ ap (λ (ls : List CallEntry). so_far ++ ls) (sym (append_assoc stop.part stop.rest more) ∙ ap (λ (ls : List CallEntry). ls ++ more) stop.told)
+                ∙ sym (append_assoc so_far taken.told more)
+                ∙ all;
             lines = tells_then tells so_far stop.part l m n lines stop.lines;
           }
 

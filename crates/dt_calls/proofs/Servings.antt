@@ -1,4 +1,4 @@
--- Requests are served, replies answer their calls, and calls are made: what the code leaves is what the definitions say.
+-- Requests are served, and replies answer their calls: what the code leaves is what the definitions say.
 use Rattle.std.proofs.Common.{ℕ, ◌+◌, ◌≡◌, ◌<◌, Bool, true, false, if◌then◌else◌, List, [], ◌∷◌, ◌++◌, length, set, get_or, Option, Some, None, refl, ap, sym, subst, ◌∙◌, append-nil}
 use Rattle.std.specs.Prelude.{◌&&◌, slice_index_or}
 use Rattle.std.proofs.lemmas.List.{get_or_default}
@@ -33,8 +33,8 @@ module _ {L : Type 0} (tells : L → CallEntry → L → Type 0) (answer : List 
     served posted w x is there = record {
       lines = (m, tell, refl);
       calls =
-      ap (λ (y : Call). let d : Calls = record { world = w; calls = set c.calls n (record y { served = y.served + 1; reply = Some posted }); flows = c.flows } in d) there
-      ∙ ap (λ (r : Posted × World). let d : Calls = record { world = r.1; calls = set c.calls n (record (call_in c.calls n) { served = (call_in c.calls n).served + 1; reply = Some r.0 }); flows = c.flows } in d) (sym is);
+          ap (λ (y : Call). let d : Calls = record { world = w; calls = set c.calls n (record y { served = y.served + 1; reply = Some posted }); flows = c.flows } in d) there
+          ∙ ap (λ (r : Posted × World). let d : Calls = record { world = r.1; calls = set c.calls n (record (call_in c.calls n) { served = (call_in c.calls n).served + 1; reply = Some r.0 }); flows = c.flows } in d) (sym is);
     }
 
   -- A REPLY ANSWERS
@@ -98,43 +98,3 @@ module _ {L : Type 0} (tells : L → CallEntry → L → Type 0) (f g : Course �
 
   pub stopped_as : HasStopped tells g c l m → HasStopped tells f c l m
   stopped_as h = record { part = h.part; rest = h.rest; told = h.told ∙ ap (λ (r : Course). r.told) (sym same); lines = h.lines }
-
--- A CALL IS MADE
-abbrev pub Making : Flow → List ℕ → Course → Course
-Making f payload r = let made = make f payload r.calls in record { told = r.told ++ made.told; calls = made.calls }
-
-module _ {L : Type 0} (tells : L → CallEntry → L → Type 0) (c : Calls) (l m : L) (f : Flow) (payload : List ℕ) where
-  abbrev pub request : Posted × World
-  request = post f (message_of (length c.calls) payload) c.world
-
-  abbrev made_line : World → CallEntry
-  made_line w = record { moment = w.now; told = told.Made (length c.calls) f (length payload) }
-
-  abbrev declined_line : World → CallEntry
-  declined_line w = record { moment = w.now; told = told.Declined (length c.calls) }
-
-  abbrev pub after_making : Posted → World → Calls
-  after_making posted w = record { world = w; calls = c.calls ++ (record { flow = f; state = state_of posted; served = 0; request = posted; reply = None }) ∷ []; flows = with_flow f c.flows }
-
-  abbrev lines_made : Posted → World → List CallEntry
-  lines_made (Taken place count) w = made_line w ∷ []
-  lines_made Refused w = made_line w ∷ declined_line w ∷ []
-
-  made_is : (posted : Posted) (w : World) → request ≡ (posted, w) → Making f payload (from_calls c) ≡ record { told = lines_made posted w; calls = after_making posted w }
-  made_is (Taken place count) w is = ap (λ (r : Posted × World). let made = make_with f (length payload) r c in let d : Course = record { told = [] ++ made.told; calls = made.calls } in d) is
-  made_is Refused w is = ap (λ (r : Posted × World). let made = make_with f (length payload) r c in let d : Course = record { told = [] ++ made.told; calls = made.calls } in d) is
-
-  module _ (w : World) where
-    pub made_taken : (place count : ℕ) → request ≡ (Taken place count, w) → tells l (made_line w) m → HasGoneOn tells (Making f payload) c l m (after_making (Taken place count) w)
-    made_taken place count is tell =
-        let e = made_is (Taken place count) w is in
-        record { lines = subst (λ (r : Course). TellsCalls tells r.told l m) (sym e) (m, tell, refl); calls = ap (λ (r : Course). r.calls) (sym e) }
-
-    pub made_refused : (k : L) → request ≡ (Refused, w) → tells l (made_line w) k → tells k (declined_line w) m → HasGoneOn tells (Making f payload) c l m (after_making Refused w)
-    made_refused k is tell more =
-        let e = made_is Refused w is in
-        record { lines = subst (λ (r : Course). TellsCalls tells r.told l m) (sym e) (k, tell, (m, more, refl)); calls = ap (λ (r : Course). r.calls) (sym e) }
-
-  -- all of its lines were told, and then memory was wanted
-  pub made_stops : (after : Calls) → HasGoneOn tells (Making f payload) c l m after → HasStopped tells (Making f payload) c l m
-  made_stops after h = record { part = (Making f payload (from_calls c)).told; rest = []; told = append-nil (Making f payload (from_calls c)).told; lines = h.lines }

@@ -72,9 +72,9 @@ module _ {L : Type 0} (tells : L → CallEntry → L → Type 0) (answer : List 
             part = on.so_far ++ stop.part;
             rest = stop.rest ++ more;
             told =
-            append_assoc on.so_far stop.part (stop.rest ++ more)
-            ∙ ap (λ (ls : List CallEntry). on.so_far ++ ls) (sym (append_assoc stop.part stop.rest more) ∙ ap (λ (ls : List CallEntry). ls ++ more) stop.told)
-            ∙ sym (append_assoc on.so_far one.told more)
-            ∙ ap (λ (r : Course). r.told) (sym split);
+                append_assoc on.so_far stop.part (stop.rest ++ more)
+                ∙ ap (λ (ls : List CallEntry). on.so_far ++ ls) (sym (append_assoc stop.part stop.rest more) ∙ ap (λ (ls : List CallEntry). ls ++ more) stop.told)
+                ∙ sym (append_assoc on.so_far one.told more)
+                ∙ ap (λ (r : Course). r.told) (sym split);
             lines = tells_then tells on.so_far stop.part l m n on.lines stop.lines;
           }

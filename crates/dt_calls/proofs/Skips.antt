@@ -58,6 +58,7 @@ has_with k f es h = by_old (has_key same_flow f es) refl
           | inl y ↦ inr (rw y refl)
           | inr n ↦ let rest : has_key same_flow k (gs ++ (f, b) ∷ []) ≡ true = rw n at h in elim (behind_all b gs rest) [ inl e ↦ inl e | inr t ↦ inr (rw n t) ]
         ]
+
     by_old : (old : Bool) → has_key same_flow f es ≡ old → (k ≡ f) ⊎ (has_key same_flow k es ≡ true)
     by_old true e = inr (rw e at h)
     by_old false e = behind_all _ es (rw e at h)
@@ -68,6 +69,7 @@ has_added f es = by_old (has_key same_flow f es) refl
     at_end : (b : Begun) (gs : List (Flow × Begun)) → has_key same_flow f (gs ++ (f, b) ∷ []) ≡ true
     at_end b [] = rw (flow_self f) refl
     at_end b (g ∷ gs) = elim (cases_Bool (same_flow g.0 f)) [ inl y ↦ rw y refl | inr n ↦ rw n (at_end b gs) ]
+
     by_old : (old : Bool) → has_key same_flow f es ≡ old → has_key same_flow f (with_flow f es) ≡ true
     by_old true e = rw e e
     by_old false e = rw e (at_end _ es)

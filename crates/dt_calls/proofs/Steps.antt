@@ -1,5 +1,6 @@
 -- What a step of calls answers, by what its event did and what was read behind it.
 use Rattle.std.proofs.Common.{ℕ, ◌≡◌, Bool, true, false, List, [], ◌∷◌, ◌++◌, Option, Some, None, Result, Ok, Err, refl, ap, sym, subst, ◌∙◌}
+use Rattle.std.specs.List.{All}
 use Rattle.dt_units.specs.declared.endpoints.Flow.{Flow}
 use Rattle.dt_reports.specs.Entries.{Entry}
 use Rattle.dt_reports.specs.declared.faults.StepFault.{StepFault}
@@ -7,15 +8,26 @@ use Rattle.dt_reports.specs.declared.faults.StepFault.TheVariants as fault
 use Rattle.dt_world_model.specs.World.{World}
 use Rattle.dt_world_model.specs.WorldStep as world
 use Rattle.dt_world_model.specs.WorldStep.{WorldEvent, after_event, first_refusal, is_own, lacks_station, refusals, step_unless, world_step}
-use Rattle.dt_calls_model.specs.Calls.{Calls}
+use Rattle.dt_calls_laws.specs.Grown.{IsNoSendOrRead}
+use Rattle.dt_calls_model.specs.declared.calls.Call.{Call}
+use Rattle.dt_calls_model.specs.CallFacts.{CourseFacts}
+use Rattle.dt_calls_model.specs.Calls.{Begun, Calls}
 use Rattle.dt_calls_model.specs.CallTold.{CallEntry}
 use Rattle.dt_calls_model.specs.CallStep as step
 use Rattle.dt_calls_model.specs.CallStep.{Faulty, Happens, Makes, Outcome, Stepped, call_refusals, call_step, finish, flows_after, go_on, is_way_of_replies, make, make_unless}
+use Rattle.dt_calls_model.specs.Promises.{AreServedOnce, IsServedOnce}
 use Rattle.dt_calls_model.specs.Reads.{Course}
-use Rattle.dt_calls.specs.CallOutcomes.{FailsWith, IsDone, IsRefused, IsStopped, is_memory}
+use Rattle.dt_calls.specs.CallOutcomes.{FailsWith, IsDone, IsRefused, IsStopped, StepsTo, is_memory}
 use Rattle.dt_calls.specs.Courses.{HasGoneOn, HasStopped, from_calls}
+use Rattle.dt_calls.specs.declared.dues.Due.{Due}
+use Rattle.dt_calls.specs.declared.world_calls.Parts.{Parts}
+use Rattle.dt_calls.specs.Flows.{flows_seen}
+use Rattle.dt_calls.specs.Going.{GoesWrong, HasGone, IsRefusedBy}
+use Rattle.dt_calls.specs.Parts.{IsWhole, calls_seen}
 use Rattle.dt_calls.specs.Telling.{TellsCalls}
-use Rattle.dt_calls.proofs.Servings.{Making}
+use Rattle.dt_calls.proofs.Courses.{adds_finish, gone_stop, gone_then, stop_then}
+use Rattle.dt_calls.proofs.Kept.{event_kept}
+use Rattle.dt_calls.proofs.Makings.{Making}
 
 -- a call is refused for no want of memory
 first_plain : (a b c d : Bool) (m n : ℕ) (why : StepFault) → first_refusal ((a, fault.BadFlow) ∷ (b, fault.BadFlow) ∷ (c, fault.NoStation m) ∷ (d, fault.NoStation n) ∷ []) ≡ Some why → is_memory why ≡ false
@@ -84,3 +96,81 @@ module _ {L : Type 0} (tells : L → CallEntry → L → Type 0) (answer : List 
         let is : world_step c.world e ≡ world.Stepped r.0 r.1 = ap (λ (o : Option StepFault). step_unless o r) begun in
         let all = finish answer (from_calls (after r.1)) in
         record { part = []; rest = all.told; then = all.calls; step = ap (go_on answer e c) is; lines = sym still }
+
+-- A CALL, by its parts
+module _ {L : Type 0} (tells : L → CallEntry → L → Type 0) (answer : List ℕ → List ℕ) (c : Calls) (l : L) (f : Flow) (payload : List ℕ) (fine : first_refusal (call_refusals c f) ≡ None) where
+  pub call_cut : (m : L) → HasStopped tells (Making f payload) c l m → IsStopped tells answer c (Makes f payload) l m
+  call_cut m stop = call_stopped tells answer c l m f payload fine (stop_then tells (Making f payload) (finish answer) (adds_finish answer) c l m stop)
+
+  module _ (d : Calls) (m n : L) (made : HasGoneOn tells (Making f payload) c l m d) where
+    pub call_ends : (new : Calls) → HasGoneOn tells (finish answer) d m n new → IsDone tells answer c (Makes f payload) l n new
+    call_ends new gone = call_done tells answer c l n f payload fine new (gone_then tells (Making f payload) (finish answer) (adds_finish answer) c d new l m n made gone)
+
+    pub call_cut_late : HasStopped tells (finish answer) d m n → IsStopped tells answer c (Makes f payload) l n
+    call_cut_late stop = call_stopped tells answer c l n f payload fine (gone_stop tells (Making f payload) (finish answer) (adds_finish answer) c d l m n made stop)
+
+-- AN EVENT OF THE WORLD, by its parts
+module _ {H : Type 0} (e : WorldEvent) (p after : Parts H) where
+  pub wrong_handler : (why : StepFault) → GoesWrong e p after why → after.handler ≡ p.handler
+  wrong_handler fault.BadFlow h = h.handler
+  wrong_handler (fault.NoStation n) h = h.handler
+  wrong_handler (fault.NoCopy n) h = h.handler
+  wrong_handler (fault.Lost n) h = h.handler
+  wrong_handler (fault.TooLate held charge) h = h.handler
+  wrong_handler fault.NoMemory h = h.handler
+
+  pub wrong_whole : (why : StepFault) → GoesWrong e p after why → is_memory why ≡ false → IsWhole after
+  wrong_whole fault.BadFlow h plain = h.whole
+  wrong_whole (fault.NoStation n) h plain = h.whole
+  wrong_whole (fault.NoCopy n) h plain = h.whole
+  wrong_whole (fault.Lost n) h plain = h.whole
+  wrong_whole (fault.TooLate held charge) h plain = h.whole
+  wrong_whole fault.NoMemory h plain = absurd cc
+
+  -- no call has changed
+  same_once : calls_seen after ≡ calls_seen p → AreServedOnce (calls_seen p) → AreServedOnce (calls_seen after)
+  same_once same once = subst AreServedOnce (sym same) once
+
+  pub wrong_once : (why : StepFault) → GoesWrong e p after why → AreServedOnce (calls_seen p) → AreServedOnce (calls_seen after)
+  wrong_once fault.BadFlow h once = same_once h.same once
+  wrong_once (fault.NoStation n) h once = same_once h.same once
+  wrong_once (fault.NoCopy n) h once = same_once h.same once
+  wrong_once (fault.Lost n) h once = same_once h.same once
+  wrong_once (fault.TooLate held charge) h once = same_once h.same once
+  wrong_once fault.NoMemory h once = subst (All IsServedOnce) (sym (ap (λ v. v.items) h.calls)) once
+
+  module _ {L : Type 0} (tells : L → CallEntry → L → Type 0) (answer : List ℕ → List ℕ) (l : L) where
+    refused_for : (why : StepFault) → is_memory why ≡ false → IsRefusedBy e p after why → FailsWith tells answer (calls_seen p) (Happens e) l l why (calls_seen after)
+    refused_for why plain h = refused_with tells answer (calls_seen p) l l (Happens e) why (calls_seen after) plain (event_refused tells answer (calls_seen p) l l e why h.step) h.same refl
+
+    pub event_wrong : (why : StepFault) → GoesWrong e p after why → FailsWith tells answer (calls_seen p) (Happens e) l l why (calls_seen after)
+    event_wrong fault.BadFlow h = refused_for fault.BadFlow refl h
+    event_wrong (fault.NoStation n) h = refused_for (fault.NoStation n) refl h
+    event_wrong (fault.NoCopy n) h = refused_for (fault.NoCopy n) refl h
+    event_wrong (fault.Lost n) h = refused_for (fault.Lost n) refl h
+    event_wrong (fault.TooLate held charge) h = refused_for (fault.TooLate held charge) refl h
+    event_wrong fault.NoMemory h = event_stops tells answer (calls_seen p) l l e h.begun refl
+
+    module _ (d : Due) (g : HasGone e p after d) where
+      seen_after : calls_seen after ≡ record { world = after.world.state; calls = p.calls.items; flows = flows_after e (flows_seen p.flows.entries) }
+      seen_after =
+          ap (λ (cs : List Call). let x : Calls = record { world = after.world.state; calls = cs; flows = flows_seen after.flows.entries } in x) (ap (λ v. v.items) g.calls)
+          ∙ ap (λ (fs : List (Flow × Begun)). let x : Calls = record { world = after.world.state; calls = p.calls.items; flows = fs } in x) g.flows
+
+      pub event_course : CourseFacts answer (calls_seen p) → IsNoSendOrRead e → CourseFacts answer (calls_seen after)
+      event_course course may = subst (CourseFacts answer) (sym seen_after) (event_kept answer (calls_seen p) e g.lines after.world.state course may g.step)
+
+      module _ (m : L) where
+        pub event_ends : (new : Calls) → HasGoneOn tells (finish answer) (calls_seen after) l m new → IsDone tells answer (calls_seen p) (Happens e) l m new
+        event_ends new gone = event_done tells answer (calls_seen p) l m e g.lines after.world.state g.step new (subst (λ (x : Calls). HasGoneOn tells (finish answer) x l m new) seen_after gone)
+
+        pub event_cut : HasStopped tells (finish answer) (calls_seen after) l m → IsStopped tells answer (calls_seen p) (Happens e) l m
+        event_cut stop = event_stopped tells answer (calls_seen p) l m e g.lines after.world.state g.step (subst (λ (x : Calls). HasStopped tells (finish answer) x l m) seen_after stop)
+
+-- the result of a `?` that found no memory
+module _ {L U : Type 0} (tells : L → CallEntry → L → Type 0) (answer : List ℕ → List ℕ) (c : Calls) (e : step.CallEvent) (l m : L) (new : Calls) (r : Result U StepFault) where
+  pub fails_with : (why : StepFault) → r ≡ Err why → FailsWith tells answer c e l m why new → StepsTo tells answer c e l m r new
+  fails_with why is h = subst (λ (x : Result U StepFault). StepsTo tells answer c e l m x new) (sym is) h
+
+  pub lacked : (why : StepFault) → r ≡ Err why → why ≡ fault.NoMemory → IsStopped tells answer c e l m → StepsTo tells answer c e l m r new
+  lacked why is none h = fails_with fault.NoMemory (is ∙ ap (λ (x : StepFault). let y : Result U StepFault = Err x in y) none) h

@@ -92,6 +92,6 @@ pub record Answers {L H U : Type 0} (tells : L → CallEntry → L → Type 0) (
   pub steps : StepsTo tells (answer c.handler) c.calls e before after result new.calls
   pub handler : new.handler ≡ c.handler
   pub spent : new.spent ≡ lacks_memory result
-  -- Each call is served at most once, and each answer that the step tells is the handler's to the call's payload.
-  pub once : lacks_memory result ≡ false → AreServedOnce new.calls
+  -- Each call is served at most once, also where memory was wanted, and each answer that the step tells is the handler's to the call's payload.
+  pub once : AreServedOnce new.calls
   pub answers : (told : List CallEntry) (after : Calls) → call_step (answer c.handler) c.calls e ≡ Stepped told after → AreItsAnswers (answer c.handler) after told

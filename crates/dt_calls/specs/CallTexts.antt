@@ -16,8 +16,8 @@ told_words moment (told.Unsure call) = decimal moment ∷ codes "unsure" ∷ dec
 abbrev pub call_text : CallEntry → Text
 call_text entry = row_text (told_words entry.moment entry.told)
 
-abbrev pub calls_text : List CallEntry → Text
-calls_text entries = flat_map call_text entries
+abbrev pub entries_text : List CallEntry → Text
+entries_text entries = flat_map call_text entries
 
 -- the line of the totals
 abbrev pub totals_words : CallTotals → List Text

@@ -1,11 +1,12 @@
 -- What an event of the world leaves of the parts, before anything is read.
-use Rattle.std.specs.Prelude.{ℕ, ◌≡◌, List, ◌++◌, None, Result, Ok, Err}
+use Rattle.std.specs.Prelude.{ℕ, ◌≡◌, false, Bool, List, ◌++◌, None, Result, Ok, Err}
 use Rattle.dt_reports.specs.Entries.{Entry}
 use Rattle.dt_reports.specs.declared.faults.StepFault.{StepFault}
 use Rattle.dt_reports.specs.declared.faults.StepFault.TheVariants as fault
 use Rattle.dt_world_model.specs.WorldStep.{Refused, Stepped, WorldEvent, first_refusal, refusals, world_step}
 use Rattle.dt_calls_model.specs.CallFacts.{CallFacts}
 use Rattle.dt_calls_model.specs.CallStep.{flows_after}
+use Rattle.dt_calls_model.specs.Promises.{AreServedOnce}
 use Rattle.dt_calls_model.specs.Reads.{Course}
 use Rattle.dt_calls.specs.declared.world_calls.Parts.{Parts}
 use Rattle.dt_calls.specs.declared.dues.Due.{Due}
@@ -22,6 +23,11 @@ then_made c made = record { told = c.told ++ made.told; calls = made.calls }
 pub record IsSettled {H : Type 0} (answer : List ℕ → List ℕ) (p : Parts H) : Type 0 where
   pub whole : IsWhole p
   pub facts : CallFacts answer (calls_seen p)
+
+-- WHAT IS KEPT of calls: also of spent ones each was served at most once, and one that is answered was served once.
+pub record IsKeptCalls {H : Type 0} (answer : List ℕ → List ℕ) (spent : Bool) (p : Parts H) : Type 0 where
+  pub once : AreServedOnce (calls_seen p)
+  pub settled : spent ≡ false → IsSettled answer p
 
 module _ {H : Type 0} (e : WorldEvent) (p after : Parts H) where
   pub record HasGone (d : Due) : Type 0 where
@@ -41,6 +47,7 @@ module _ {H : Type 0} (e : WorldEvent) (p after : Parts H) where
 
   pub record HasNoMemory : Type 0 where
     pub begun : first_refusal (refusals p.world.state e) ≡ None
+    pub calls : after.calls ≡ p.calls
     pub handler : after.handler ≡ p.handler
 
   abbrev pub GoesWrong : StepFault → Type 0

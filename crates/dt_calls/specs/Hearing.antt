@@ -1,4 +1,4 @@
--- What is heard of the world's lines: of an event, and since a step began.
+-- What is heard of the world's lines in an event.
 use Rattle.std.specs.Prelude.{ℕ, ◌≡◌, ◌||◌, not, Bool, true, false, List, [], ◌∷◌, ◌++◌, Option, Some, None, option_map}
 use Rattle.dt_units.specs.declared.endpoints.Flow.{Flow}
 use Rattle.dt_world_model.specs.Tables.{same_flow}
@@ -13,8 +13,7 @@ pub record HeardValue : Type 0 where
   pub refused : Bool
   pub accepted : Option Flow
   pub several : Bool
-  -- of the step: whether octets were given up
-  pub lost : Bool
+  -- whether there was no memory for a line
   pub failed : Bool
 
 abbrev pub piece_with : Marks → List ℕ → Piece
@@ -23,12 +22,9 @@ piece_with marks octets = record { run = marks.run; begin = marks.begin; end = m
 abbrev pub piece_seen : List ℕ → Option Marks → Option Piece
 piece_seen octets marks = option_map (λ m. piece_with m octets) marks
 
--- as an event begins, and as a step does
+-- as an event begins
 abbrev pub for_event : HeardValue → HeardValue
-for_event h = record { piece = None; refused = false; accepted = None; several = false; lost = h.lost; failed = h.failed }
-
-abbrev pub for_step : HeardValue → HeardValue
-for_step h = record { piece = None; refused = false; accepted = None; several = false; lost = false; failed = h.failed }
+for_event h = record { piece = None; refused = false; accepted = None; several = false; failed = h.failed }
 
 -- the first piece of an event is kept
 abbrev pub first_piece : Piece → Option Piece → Option Piece
@@ -46,7 +42,7 @@ heard_with (APiece piece) h = record h { piece = first_piece piece h.piece }
 heard_with ATaking h = h
 heard_with ARefusal h = record h { refused = true }
 heard_with (AnAcceptance flow) h = record h { accepted = Some flow; several = h.several || is_other flow h.accepted }
-heard_with (ALoss flow) h = record h { lost = true }
+heard_with (ALoss flow) h = h
 heard_with NoMessage h = h
 
 -- A line is heard, unless there was no memory for it, or for one before it.
@@ -57,4 +53,3 @@ pub record Hears (s : HeardValue) (e : Entry) (t : HeardValue) : Type 0 where
 abbrev pub heard_all : List Entry → HeardValue → HeardValue
 heard_all [] h = h
 heard_all (e ∷ es) h = heard_all es (heard_with (heard e.told) h)
-

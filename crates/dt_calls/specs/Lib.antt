@@ -12,3 +12,6 @@ pub mod Parts
 pub mod Going
 pub mod Resting
 pub mod Dues
+pub mod CallInputs
+pub mod CallScenes
+pub mod CallEnds

@@ -58,7 +58,9 @@ fn is_posted_in_vain(world: &World, flow: &Flow, posted: Posted) -> bool
     };
     let life = world.life(flow.from);
     let ledger = world.ledger();
-    let end = place.saturating_add(u64::from(count)).min(ledger.taken_count(flow));
+    let end = place
+        .saturating_add(u64::from(count))
+        .min(ledger.taken_count(flow));
     for at in place..end {
         if is_doubtful(life, &ledger.taken_at(flow, at)) {
             return true;

@@ -1,7 +1,7 @@
 //! What the world's events tell of messages.
 ghost use Rattle.std.specs.Prelude.{◌≡◌, true, false, [], None, Some, MatchOption};
 ghost use Rattle.dt_calls_model.specs.Heard.{AnAcceptance};
-ghost use Rattle.dt_calls.specs.Hearing.{first_piece, for_event, for_step, heard_with, piece_with};
+ghost use Rattle.dt_calls.specs.Hearing.{first_piece, for_event, heard_with, piece_with};
 
 use dt_reports::{LogLine, Report};
 use dt_units::Flow;
@@ -28,8 +28,6 @@ pub struct Heard {
     /// The last flow of which the last event accepted data, and whether it did of several.
     accepted: Option<Flow>,
     several: bool,
-    /// Whether octets were given up since the step began.
-    lost: bool,
     failed: bool,
 }
 
@@ -38,13 +36,13 @@ impl Model for Heard {
 
     ghost Value = { HeardValue };
 
-    ghost view = { λ h. record { piece = piece_seen h.octets.items h.piece; refused = h.refused; accepted = h.accepted; several = h.several; lost = h.lost; failed = h.failed } };
+    ghost view = { λ h. record { piece = piece_seen h.octets.items h.piece; refused = h.refused; accepted = h.accepted; several = h.several; failed = h.failed } };
 }
 
 impl Heard {
     /// Nothing was told yet.
     pub fn new(alloc: Global) -> Heard
-        ensures { result ≡ record { piece = None; refused = false; accepted = None; several = false; lost = false; failed = false } }
+        ensures { result ≡ record { piece = None; refused = false; accepted = None; several = false; failed = false } }
     {
         Heard {
             piece: None,
@@ -52,17 +50,8 @@ impl Heard {
             refused: false,
             accepted: None,
             several: false,
-            lost: false,
             failed: false,
         }
-    }
-
-    /// A step begins.
-    pub fn begin_step(&mut self)
-        ensures { self.new ≡ for_step self.old }
-    {
-        self.lost = false;
-        self.begin_event();
     }
 
     /// An event begins.
@@ -113,13 +102,6 @@ impl Heard {
         self.several
     }
 
-    /// Whether octets were given up since the step began.
-    pub fn has_lost(&self) -> bool
-        ensures { result ≡ self.now.lost }
-    {
-        self.lost
-    }
-
     /// Data of the flow was accepted.
     fn accept(&mut self, flow: Flow)
         ensures { self.new ≡ heard_with (AnAcceptance flow) self.old }
@@ -165,7 +147,6 @@ impl Lines for Heard {
             } => self.keep_piece(Marks { run, begin, end }, octets),
             Report::Refused { .. } => self.refused = true,
             Report::Accepted { flow, .. } => self.accept(flow),
-            Report::Uncertain { .. } => self.lost = true,
             _ => {}
         }
     }

@@ -5,6 +5,7 @@
 
 mod call_events;
 mod call_lines;
+mod calling;
 mod doubting;
 mod dues;
 mod flow_sides;
@@ -12,6 +13,7 @@ mod flows;
 mod handlers;
 mod hearing;
 mod inputs;
+mod laws;
 mod messages;
 mod outcomes;
 mod reading;
@@ -24,6 +26,7 @@ pub use call_events::CallEvent;
 pub use call_lines::{CallLine, CallLines};
 pub use dt_calls_model::{Call, CallState};
 pub use handlers::{Handler, Reversing};
+pub use laws::calls_of_an_input_are_served_at_most_once;
 pub use outcomes::CallsOutcome;
 pub use totals::CallTotals;
 pub use world_calls::Calls;

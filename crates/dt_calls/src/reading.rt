@@ -1,11 +1,12 @@
 //! Messages are handed in, and read out of the world.
-ghost use Rattle.std.specs.Prelude.{◌≡◌, ◌<◌, ◌≤◌, ◌^◌, true, false, fold, length, IfOk, IsSome, MatchOption, MatchResult, OnOk, Some, option_map, vec_len};
+ghost use Rattle.std.specs.Prelude.{◌≡◌, ◌<◌, ◌≤◌, ◌^◌, true, false, fold, length, IfOk, IsSome, MatchOption, MatchResult, OnErr, OnOk, Some, option_map, vec_len};
 ghost use Rattle.dt_units.specs.Flows.{IsFlow};
 ghost use Rattle.dt_world.specs.Worlds.{MayStep, event_of};
 ghost use Rattle.dt_world_model.specs.Tables.{has_key, same_flow};
 ghost use Rattle.dt_calls_model.specs.CallFacts.{CourseFacts};
 ghost use Rattle.dt_calls_model.specs.Calls.{call_in, is_call_in};
 ghost use Rattle.dt_calls_model.specs.Messages.{message_of, reversed};
+ghost use Rattle.dt_calls_model.specs.Promises.{AreServedOnce};
 ghost use Rattle.dt_calls_model.specs.Reads as reads;
 ghost use Rattle.dt_calls_model.specs.Reads.{answered_if, read_all, read_side, read_sides, serve_call, take_whole};
 ghost use Rattle.dt_calls.specs.Courses.{GoesOn, HasGoneOn};
@@ -93,6 +94,7 @@ pub fn read_due<H: Handler, L: CallLines>(
     requires few { length parts.old.calls.items ≤ 2 ^ 64 }
     requires due { IsDue due parts.old.world.state (flows_seen parts.old.flows.entries) }
     ensures goes { GoesOn L.tells (read_all (H.answer parts.old.handler)) (calls_seen parts.old) lines.old lines.new result (calls_seen parts.new) }
+    ensures once { OnErr result (AreServedOnce (calls_seen parts.new)) }
     ensures whole { OnOk result (IsWhole parts.new) }
     ensures handler { parts.new.handler ≡ parts.old.handler }
 {
@@ -117,6 +119,7 @@ fn read_both<H: Handler, L: CallLines>(
     requires few { length parts.old.calls.items ≤ 2 ^ 64 }
     requires due { IsDue (due.Flow flow.now) parts.old.world.state (flows_seen parts.old.flows.entries) }
     ensures goes { GoesOn L.tells (read_all (H.answer parts.old.handler)) (calls_seen parts.old) lines.old lines.new result (calls_seen parts.new) }
+    ensures once { OnErr result (AreServedOnce (calls_seen parts.new)) }
     ensures whole { OnOk result (IsWhole parts.new) }
     ensures handler { parts.new.handler ≡ parts.old.handler }
 {
@@ -131,7 +134,10 @@ fn read_sides<H: Handler, L: CallLines>(
     lines: &mut L,
 ) -> Result<(), NoMemory>
     requires whole { IsWhole parts.old }
+    requires course { CourseFacts (H.answer parts.old.handler) (calls_seen parts.old) }
+    requires few { length parts.old.calls.items ≤ 2 ^ 64 }
     ensures goes { GoesOn L.tells (read_sides (H.answer parts.old.handler) (side_seen side)) (calls_seen parts.old) lines.old lines.new result (calls_seen parts.new) }
+    ensures once { OnErr result (AreServedOnce (calls_seen parts.new)) }
     ensures whole { OnOk result (IsWhole parts.new) }
     ensures keys { OnOk result (keys_in parts.new.flows.entries ≡ keys_in parts.old.flows.entries) }
     ensures handler { parts.new.handler ≡ parts.old.handler }
@@ -156,7 +162,10 @@ fn read_side<H: Handler, L: CallLines>(
 ) -> Result<(), NoMemory>
     requires there { has_key same_flow flow.now (flows_seen parts.old.flows.entries) ≡ true }
     requires whole { IsWhole parts.old }
+    requires course { CourseFacts (H.answer parts.old.handler) (calls_seen parts.old) }
+    requires few { length parts.old.calls.items ≤ 2 ^ 64 }
     ensures goes { GoesOn L.tells (λ c. read_side (H.answer parts.old.handler) (side_seen side) c flow.now) (calls_seen parts.old) lines.old lines.new result (calls_seen parts.new) }
+    ensures once { OnErr result (AreServedOnce (calls_seen parts.new)) }
     ensures whole { OnOk result (IsWhole parts.new) }
     ensures keys { OnOk result (keys_in parts.new.flows.entries ≡ keys_in parts.old.flows.entries) }
     ensures handler { parts.new.handler ≡ parts.old.handler }
@@ -199,6 +208,7 @@ fn take_message<H: Handler, L: CallLines>(
     requires unspent { parts.old.world.spent ≡ false }
     requires heard { parts.old.heard.failed ≡ false }
     ensures goes { GoesOn L.tells (take_whole (H.answer parts.old.handler) (side_seen side) flow.now (Some message.now)) (calls_seen parts.old) lines.old lines.new result (calls_seen parts.new) }
+    ensures stays { OnErr result (parts.new.calls.items ≡ parts.old.calls.items) }
     ensures unspent { OnOk result (parts.new.world.spent ≡ false) }
     ensures heard { OnOk result (parts.new.heard.failed ≡ false) }
     ensures flows { parts.new.flows ≡ parts.old.flows }
@@ -243,6 +253,7 @@ fn serve<H: Handler, L: CallLines>(
     requires unspent { parts.old.world.spent ≡ false }
     requires heard { parts.old.heard.failed ≡ false }
     ensures goes { GoesOn L.tells (serve_call (H.answer parts.old.handler) flow.now call payload.now) (calls_seen parts.old) lines.old lines.new result (calls_seen parts.new) }
+    ensures stays { OnErr result (parts.new.calls.items ≡ parts.old.calls.items) }
     ensures unspent { OnOk result (parts.new.world.spent ≡ false) }
     ensures heard { OnOk result (parts.new.heard.failed ≡ false) }
     ensures flows { parts.new.flows ≡ parts.old.flows }

@@ -1,11 +1,13 @@
 //! An input of calls, read from its first line to its last.
+ghost use Rattle.std.specs.Prelude.{ℕ, ◌≡◌, ◌≤◌, length, IfSome};
+ghost use Rattle.dt_calls_model.specs.Promises.{AreServedOnce};
+ghost use Rattle.dt_calls.specs.CallEnds.{CallsEnd, outcome_of};
+ghost use Rattle.dt_calls.specs.CallInputs.{AnswersAreReversed, calls_after_lines};
+
 use crate::inputs::CallInput;
 use crate::outcomes::CallsOutcome;
-use dt_edges::{Buffer, Buffered, Sink};
-use dt_fold::Stop;
-use dt_log::write_line;
-use dt_reports::{Fault, LogLine, Report};
-use dt_text::split_line;
+use dt_edges::Sink;
+use dt_fold::{Stop, fold_behind_buffer};
 use std::alloc::Global;
 
 /// Reads an input of at most 16,777,216 octets: its lines set up a world, calls are made in it and
@@ -17,61 +19,26 @@ use std::alloc::Global;
 /// - `NoMemory`: there was none. `out` has a first part of what is told, and no put failed.
 /// - `WriteFault`: a put on `out` failed. It has a first part of what is told.
 ///
-/// Each call is served at most once.
-pub fn calls<K: Sink>(alloc: Global, bytes: &[u8], out: &mut K) -> CallsOutcome {
-    match fold_behind_buffer(alloc, bytes, out) {
+/// After each line each call was served at most once, and whatever comes next, each answer that is told
+/// is that of its call.
+pub fn calls<K: Sink>(alloc: Global, bytes: &[u8], out: &mut K) -> CallsOutcome
+    requires few { length bytes.now ≤ 16777216 }
+    ensures ends { CallsEnd result bytes.now (K.sight out.old) (K.sight out.new) }
+    ensures once { (count : ℕ) → IfSome (calls_after_lines count bytes.now) (λ c. AreServedOnce c) }
+    ensures answers { (count : ℕ) → IfSome (calls_after_lines count bytes.now) (λ c. AnswersAreReversed c) }
+{
+    let mut input = CallInput::new(alloc);
+    outcome_of(fold_behind_buffer(alloc, &mut input, bytes, out))
+}
+
+/// How calls end whose lines were read so.
+fn outcome_of(folded: Result<bool, Stop>) -> CallsOutcome
+    ensures { result ≡ outcome_of folded }
+{
+    match folded {
         Ok(true) => CallsOutcome::Done,
         Ok(false) => CallsOutcome::Refused,
         Err(Stop::NoMemory) => CallsOutcome::NoMemory,
         Err(Stop::WriteFault) => CallsOutcome::WriteFault,
     }
-}
-
-fn fold_behind_buffer<K: Sink>(alloc: Global, bytes: &[u8], out: &mut K) -> Result<bool, Stop> {
-    let mut buffer = Buffer::new(alloc)?;
-    let folded = fold_into(alloc, bytes, &mut buffer, out);
-    if let Err(Stop::WriteFault) = folded {
-        return folded;
-    }
-    buffer.pass_on(out)?;
-    folded
-}
-
-fn fold_into<K: Sink>(
-    alloc: Global,
-    bytes: &[u8],
-    buffer: &mut Buffer,
-    out: &mut K,
-) -> Result<bool, Stop> {
-    let mut log = Buffered { out, buffer };
-    fold_input(alloc, bytes, &mut log)
-}
-
-/// Reads an input up to its end, or to the first line that is refused, which is told with its number.
-fn fold_input<K: Sink>(alloc: Global, bytes: &[u8], out: &mut K) -> Result<bool, Stop> {
-    let mut input = CallInput::new(alloc);
-    let mut rest = bytes;
-    let mut number = 1;
-    while !rest.is_empty() {
-        let (line, more) = split_line(rest);
-        if let Some(fault) = input.turn(line, out)? {
-            return refuse(number, fault, out);
-        }
-        rest = more;
-        number += 1;
-    }
-    match input.close(out)? {
-        Some(fault) => refuse(number, fault, out),
-        None => Ok(true),
-    }
-}
-
-fn refuse<K: Sink>(line: u64, fault: Fault, out: &mut K) -> Result<bool, Stop> {
-    let refusal = LogLine {
-        moment: 0,
-        node: None,
-        report: Report::Fault { line, fault },
-    };
-    write_line(&refusal, out)?;
-    Ok(false)
 }

@@ -1,5 +1,5 @@
 //! The calls of a world.
-ghost use Rattle.std.specs.Prelude.{◌≡◌, ◌<◌, ◌≤◌, ◌^◌, false, length, OnOk, IfOk, None, vec_len};
+ghost use Rattle.std.specs.Prelude.{◌≡◌, ◌<◌, ◌≤◌, ◌^◌, false, length, OnErr, OnOk, IfOk, None, vec_len};
 ghost use Rattle.std.specs.List.{list_any};
 ghost use Rattle.dt_world.specs.Worlds.{event_of};
 ghost use Rattle.dt_world_model.specs.Tables.{same_flow};
@@ -8,9 +8,9 @@ ghost use Rattle.dt_units.specs.Flows.{IsFlow};
 ghost use Rattle.dt_calls_laws.specs.Grown.{IsNoSendOrRead};
 ghost use Rattle.dt_calls_laws.specs.MayCome as law;
 ghost use Rattle.dt_calls_model.specs.CallFacts.{CallFacts, CourseFacts};
-ghost use Rattle.dt_calls_model.specs.Calls.{call_at, new_calls};
+ghost use Rattle.dt_calls_model.specs.Calls.{call_at, new_calls, with_flow};
 ghost use Rattle.dt_calls_model.specs.CallRuns.{totals_of};
-ghost use Rattle.dt_calls_model.specs.CallStep.{call_refusals, finish, make};
+ghost use Rattle.dt_calls_model.specs.CallStep.{Happens, Makes, call_refusals, finish, make, make_with, state_of};
 ghost use Rattle.dt_calls_model.specs.Messages.{reversed};
 ghost use Rattle.dt_calls_model.specs.Promises.{AreServedOnce};
 ghost use Rattle.dt_calls.specs.CallOutcomes.{Answers, CallsValue, IsNew, MayCome, StepsTo, call_event, lacks_memory};
@@ -19,6 +19,7 @@ ghost use Rattle.dt_calls.specs.Dues.{IsDue};
 ghost use Rattle.dt_calls.specs.Flows.{flows_seen};
 ghost use Rattle.dt_calls.specs.Going.{WorldGoesOn, then_made};
 ghost use Rattle.dt_calls.specs.Parts.{IsWhole, calls_seen};
+ghost use Rattle.dt_calls.specs.Telling.{TellsCalls};
 ghost use Rattle.dt_calls.specs.Totals.{totals_seen};
 ghost use Rattle.dt_calls.specs.declared.dues.Due.TheVariants as due;
 
@@ -66,16 +67,15 @@ pub struct Calls<H: Handler> {
 }
 
 impl<H: Handler> Model for Calls<H> {
-    ghost use Rattle.std.specs.Prelude.{◌≡◌, false};
     ghost use Rattle.dt_calls.specs.CallOutcomes.{CallsValue};
     ghost use Rattle.dt_calls.specs.Parts.{calls_seen};
-    ghost use Rattle.dt_calls.specs.Going.{IsSettled};
+    ghost use Rattle.dt_calls.specs.Going.{IsKeptCalls};
 
     ghost Value = { CallsValue H };
 
     ghost view = { λ c. record { calls = calls_seen c.parts; handler = c.parts.handler; spent = c.spent } };
 
-    ghost invariant = { λ c. c.spent ≡ false → IsSettled (H.answer c.parts.handler) c.parts };
+    ghost invariant = { λ c. IsKeptCalls (H.answer c.parts.handler) c.spent c.parts };
 }
 
 impl<H: Handler> Calls<H> {
@@ -107,7 +107,7 @@ impl<H: Handler> Calls<H> {
     /// or goes on the way of an earlier call's replies; then `NoStation`, of a call the flow's first
     /// station isn't there, or else its last; and what the world refuses. `NoMemory` comes for want of
     /// memory, and where a count would pass its end. Then the first of the lines were told, and the
-    /// calls are used no more.
+    /// calls are used no more; each was still served at most once.
     ///
     /// The cost is that of the world's events, the octets that are read, all calls, and the octets of
     /// those that wait; after a `Pass` also two reads of each flow with a call, after a restart all
@@ -129,7 +129,7 @@ impl<H: Handler> Calls<H> {
     /// How many calls were made.
     pub fn calls(&self) -> u64
         ensures count { result ≡ length self.now.calls.calls }
-        ensures once { self.now.spent ≡ false → AreServedOnce self.now.calls }
+        ensures once { AreServedOnce self.now.calls }
     {
         self.parts.calls.len() as u64
     }
@@ -138,7 +138,7 @@ impl<H: Handler> Calls<H> {
     pub fn served_at(&self, i: u64) -> u32
         requires { i < length self.now.calls.calls }
         ensures served { result ≡ (call_at self.now.calls i).served }
-        ensures at_most_once { self.now.spent ≡ false → result ≤ 1 }
+        ensures at_most_once { result ≤ 1 }
     {
         self.parts.calls[i as usize].served
     }
@@ -180,6 +180,7 @@ fn lacks_memory(answer: Result<(), StepFault>) -> bool
     matches!(answer, Err(StepFault::NoMemory))
 }
 
+/// What happens to the parts of calls that aren't spent.
 fn step<H: Handler, L: CallLines>(
     parts: &mut Parts<H>,
     event: &CallEvent<'_>,
@@ -189,22 +190,59 @@ fn step<H: Handler, L: CallLines>(
     requires facts { CallFacts (H.answer parts.old.handler) (calls_seen parts.old) }
     requires may { MayCome (call_event event.now) }
     ensures steps { StepsTo L.tells (H.answer parts.old.handler) (calls_seen parts.old) (call_event event.now) lines.old lines.new result (calls_seen parts.new) }
+    ensures once { AreServedOnce (calls_seen parts.new) }
     ensures whole { lacks_memory result ≡ false → IsWhole parts.new }
     ensures come { law.MayCome (call_event event.now) }
     ensures few { length parts.old.calls.items < 2 ^ 64 }
     ensures handler { parts.new.handler ≡ parts.old.handler }
 {
-    parts.heard.begin_step();
-    let due = match *event {
-        CallEvent::Call { flow, payload } => {
-            if let Some(fault) = refusal(parts, flow) {
-                return Err(fault);
-            }
-            make(parts, flow, payload, lines)?;
-            Due::Flow(flow)
-        }
-        CallEvent::World(event) => go_on(parts, &event)?,
-    };
+    match *event {
+        CallEvent::Call { flow, payload } => step_call(parts, flow, payload, lines),
+        CallEvent::World(event) => step_world(parts, &event, lines),
+    }
+}
+
+/// A call is made, unless it is refused, and then what is due is read.
+fn step_call<H: Handler, L: CallLines>(
+    parts: &mut Parts<H>,
+    flow: Flow,
+    payload: &[u8],
+    lines: &mut L,
+) -> Result<(), StepFault>
+    requires whole { IsWhole parts.old }
+    requires facts { CallFacts (H.answer parts.old.handler) (calls_seen parts.old) }
+    requires few { length payload.now ≤ 65528 }
+    ensures steps { StepsTo L.tells (H.answer parts.old.handler) (calls_seen parts.old) (Makes flow payload.now) lines.old lines.new result (calls_seen parts.new) }
+    ensures once { AreServedOnce (calls_seen parts.new) }
+    ensures whole { lacks_memory result ≡ false → IsWhole parts.new }
+    ensures range { IsFlow flow }
+    ensures few { length parts.old.calls.items < 2 ^ 64 }
+    ensures handler { parts.new.handler ≡ parts.old.handler }
+{
+    if let Some(fault) = refusal(parts, flow) {
+        return Err(fault);
+    }
+    make(parts, flow, payload, lines)?;
+    finish(parts, Due::Flow(flow), lines)?;
+    Ok(())
+}
+
+/// An event of the world comes, and then what is due is read.
+fn step_world<H: Handler, L: CallLines>(
+    parts: &mut Parts<H>,
+    event: &Event<'_>,
+    lines: &mut L,
+) -> Result<(), StepFault>
+    requires whole { IsWhole parts.old }
+    requires facts { CallFacts (H.answer parts.old.handler) (calls_seen parts.old) }
+    requires may { IsNoSendOrRead (event_of event.now) }
+    ensures steps { StepsTo L.tells (H.answer parts.old.handler) (calls_seen parts.old) (Happens (event_of event.now)) lines.old lines.new result (calls_seen parts.new) }
+    ensures once { AreServedOnce (calls_seen parts.new) }
+    ensures whole { lacks_memory result ≡ false → IsWhole parts.new }
+    ensures few { length parts.old.calls.items < 2 ^ 64 }
+    ensures handler { parts.new.handler ≡ parts.old.handler }
+{
+    let due = go_on(parts, event)?;
     finish(parts, due, lines)?;
     Ok(())
 }
@@ -220,6 +258,7 @@ fn finish<H: Handler, L: CallLines>(
     requires few { length parts.old.calls.items ≤ 2 ^ 64 }
     requires due { IsDue due parts.old.world.state (flows_seen parts.old.flows.entries) }
     ensures goes { GoesOn L.tells (finish (H.answer parts.old.handler)) (calls_seen parts.old) lines.old lines.new result (calls_seen parts.new) }
+    ensures once { OnErr result (AreServedOnce (calls_seen parts.new)) }
     ensures whole { OnOk result (IsWhole parts.new) }
     ensures handler { parts.new.handler ≡ parts.old.handler }
 {
@@ -265,6 +304,7 @@ fn make<H, L: CallLines>(
     requires fine { first_refusal (call_refusals (calls_seen parts.old) flow) ≡ None }
     requires few { length payload.now ≤ 65528 }
     ensures goes { GoesOn L.tells (λ c. then_made c (make flow payload.now c.calls)) (calls_seen parts.old) lines.old lines.new result (calls_seen parts.new) }
+    ensures once { AreServedOnce (calls_seen parts.old) → AreServedOnce (calls_seen parts.new) }
     ensures whole { OnOk result (IsWhole parts.new) }
     ensures due { OnOk result (IsDue (due.Flow flow) parts.new.world.state (flows_seen parts.new.flows.entries)) }
     ensures handler { parts.new.handler ≡ parts.old.handler }
@@ -273,23 +313,62 @@ fn make<H, L: CallLines>(
     let count = payload.len() as u32;
     write_message(call, payload, &mut parts.message)?;
     let request = post(parts, flow)?;
-    let moment = parts.world.now();
-    lines.line(moment, &CallLine::Call { call, flow, count });
-    let state = match request {
-        Posted::Taken { .. } => CallState::Waiting,
-        Posted::Refused => {
-            lines.line(moment, &CallLine::Declined { call });
-            CallState::Declined
-        }
-    };
+    add_call(parts, flow, count, request, lines)
+}
+
+/// A call whose request was handed in, and came to this, is told, and gets its number, and its flow an
+/// entry.
+fn add_call<H, L: CallLines>(
+    parts: &mut Parts<H>,
+    flow: Flow,
+    count: u32,
+    request: Posted,
+    lines: &mut L,
+) -> Result<(), NoMemory>
+    ensures goes { GoesOn L.tells (λ c. then_made c (make_with flow count (request, c.calls.world) c.calls)) (calls_seen parts.old) lines.old lines.new result (calls_seen parts.new) }
+    ensures once { AreServedOnce (calls_seen parts.old) → AreServedOnce (calls_seen parts.new) }
+    ensures flows { OnOk result (flows_seen parts.new.flows.entries ≡ with_flow flow (flows_seen parts.old.flows.entries)) }
+    ensures same { parts.new ≡ record parts.old { calls = parts.new.calls; flows = parts.new.flows } }
+    ensures range { IsFlow flow }
+{
+    tell_made(parts, flow, count, request, lines);
     parts.calls.push(Call {
         flow,
-        state,
+        state: state_of(request),
         served: 0,
         request,
         reply: None,
     })?;
     add_flow(&mut parts.flows, parts.alloc, flow)
+}
+
+/// A call that is made is told, and that it is declined where its request was refused.
+fn tell_made<H, L: CallLines>(
+    parts: &Parts<H>,
+    flow: Flow,
+    count: u32,
+    request: Posted,
+    lines: &mut L,
+)
+    ensures { TellsCalls L.tells (make_with flow count (request, parts.now.world.state) (calls_seen parts.now)).told lines.old lines.new }
+{
+    let call = parts.calls.len() as u64;
+    let moment = parts.world.now();
+    lines.line(moment, &CallLine::Call { call, flow, count });
+    match request {
+        Posted::Taken { .. } => {}
+        Posted::Refused => lines.line(moment, &CallLine::Declined { call }),
+    }
+}
+
+/// What a call is whose request came to this.
+fn state_of(request: Posted) -> CallState
+    ensures { result ≡ state_of request }
+{
+    match request {
+        Posted::Taken { .. } => CallState::Waiting,
+        Posted::Refused => CallState::Declined,
+    }
 }
 
 /// An event of the world. Answers what must be read behind it.

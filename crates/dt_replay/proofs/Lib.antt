@@ -3,3 +3,4 @@ pub mod Writing
 pub mod Steps
 pub mod Closing
 pub mod Ends
+pub mod LineCounts

@@ -36,11 +36,11 @@ IsScene Empty = Unit {0}
 IsScene (Prepares setup) = IsWithinLimits setup.params
 IsScene (Runs w) = IsWithinLimits w.params × WorldFacts w
 
-abbrev IsKeptBy : Result (Turned Scene) Fault → Type 0
+abbrev pub IsKeptBy : Result (Turned Scene) Fault → Type 0
 IsKeptBy (Ok turned) = IsScene turned.state
 IsKeptBy (Err fault) = Unit {0}
 
-params_kept : (p : Params) (field : Option Field) → first_out_of_range p ≡ field → IsKeptBy (by_params p field)
+pub params_kept : (p : Params) (field : Option Field) → first_out_of_range p ≡ field → IsKeptBy (by_params p field)
 params_kept p None h = within_limits p h
 params_kept p (Some field) h = tt
 
@@ -93,7 +93,7 @@ read_flow : (line : Said) (octets : List ℕ) → (line ≡ said.Blank) ⊎ (IsL
 read_flow line octets (inl blank) = subst HasFlow (sym blank) tt
 read_flow line octets (inr read) = line_flow line read.0
 
-setup_turn : (scene : Scene) (call : SetupCall) → IsScene scene → IsKeptBy (in_setup scene (λ setup. by_setup (setup_call setup call)))
+pub setup_turn : (scene : Scene) (call : SetupCall) → IsScene scene → IsKeptBy (in_setup scene (λ setup. by_setup (setup_call setup call)))
 setup_turn Empty call h = tt
 setup_turn (Prepares setup) call h = setup_kept setup call (first_refusal (setup_refusals setup call)) h
 setup_turn (Runs w) call h = tt

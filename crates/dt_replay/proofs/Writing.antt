@@ -8,7 +8,7 @@ use Rattle.dt_world.specs.Tellers.{TellsAll}
 use Rattle.dt_replay.specs.declared.logs.Log.{Log}
 use Rattle.dt_replay.specs.Writing.{Writes, WroteBy}
 
-wrote_then : (failed : Bool) (xs ys : List ℕ) (a b c : SinkSight) → Takes xs a b → WroteBy failed ys b c → WroteBy failed (xs ++ ys) a c
+pub wrote_then : (failed : Bool) (xs ys : List ℕ) (a b c : SinkSight) → Takes xs a b → WroteBy failed ys b c → WroteBy failed (xs ++ ys) a c
 wrote_then false xs ys a b c p q = takes_then xs ys a b c p q
 wrote_then true xs ys a b c p q = takes_part_then xs ys a b c p q
 

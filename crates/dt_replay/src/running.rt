@@ -62,7 +62,7 @@ fn step_logged<K: Sink>(
 
 /// What a step says of its line. Where a put failed that is what is answered, also where memory was
 /// wanted behind it.
-fn stepped(answer: Result<(), StepFault>, failed: bool) -> Result<Option<Fault>, Stop>
+pub fn stepped(answer: Result<(), StepFault>, failed: bool) -> Result<Option<Fault>, Stop>
     ensures { result ≡ stepped answer failed }
 {
     if failed {

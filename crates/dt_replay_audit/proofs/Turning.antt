@@ -1,6 +1,5 @@
 -- What each line of a schedule tells passes.
 use Rattle.std.proofs.Common.{ℕ, zero, suc, ◌+◌, ◌<◌, ◌≤◌, ◌^◌, ◌≡◌, ◌==◌, false, List, [], ◌∷◌, ◌++◌, length, map, Option, Some, None, Result, Ok, Err, refl, ap, sym, subst, ◌∙◌, append-nil, inl, inr, ◌⊎◌, arith}
-use Rattle.std.proofs.lemmas.Bool.{cases_Bool}
 use Rattle.std.proofs.lemmas.List.{map-append}
 use Rattle.std.proofs.lemmas.List.Concat.{flat_map-append}
 use Rattle.dt_units.specs.declared.parameters.Params.{Params}
@@ -15,7 +14,7 @@ use Rattle.dt_reports.specs.declared.faults.LineFault.{LineFault}
 use Rattle.dt_reports.specs.declared.faults.SetupFault.{SetupFault}
 use Rattle.dt_text.specs.declared.lines.Form.TheVariants.{Schedule}
 use Rattle.dt_text.specs.declared.stages.Stage.{Stage}
-use Rattle.dt_text.specs.InputLines.{in_front, lines_of}
+use Rattle.dt_text.specs.InputLines.{lines_of}
 use Rattle.dt_text.specs.Hexadecimal.{octets_of_hex}
 use Rattle.dt_text.specs.Said as said
 use Rattle.dt_text.specs.Said.{Said}
@@ -232,17 +231,6 @@ fold_passes count number book scene [] few h = closed_passes count number book s
 fold_passes count number book scene (line ∷ lines) few h =
     on_passes count number book scene (λ next. fold_from schedule_turns (suc number) next lines) (turn scene line) (turn_passes count book scene line (line_of Schedule line) refl (omega arith) h)
     (λ after next logged. fold_passes (suc count) (suc number) next after lines (omega arith) logged)
-
--- there are no more lines than octets
-in_front_count : (octet : ℕ) (lines : List (List ℕ)) → length (in_front octet lines) ≤ suc (length lines)
-in_front_count octet [] = omega arith
-in_front_count octet (line ∷ lines) = omega arith
-
-pub lines_count : (octets : List ℕ) → length (lines_of octets) ≤ length octets
-lines_count [] = omega arith
-lines_count (octet ∷ octets) =
-    let rest = lines_count octets in
-    elim (cases_Bool (octet == 10)) [ inl y ↦ rw y (omega (arith, rest)) | inr n ↦ rw n (let one = in_front_count octet (lines_of octets) in omega (arith, rest, one)) ]
 
 -- THE LOG OF A SCHEDULE HAS NO FLAW
 pub schedule_passes : (octets : List ℕ) → length (lines_of octets) < 2 ^ 32 → has_flaw (replay_text octets) ≡ false

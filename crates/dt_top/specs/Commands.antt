@@ -5,7 +5,7 @@ use Rattle.dt_make.specs.Schedules.{most_rounds}
 use Rattle.dt_top.specs.declared.command.Command.{Command}
 use Rattle.dt_top.specs.declared.command.Command.TheVariants.{Serve, Make}
 use Rattle.dt_top.specs.declared.job.Job.{Job}
-use Rattle.dt_top.specs.declared.job.Job.TheVariants.{Replay, Node, Trace, Retrace, Audit}
+use Rattle.dt_top.specs.declared.job.Job.TheVariants.{Replay, Node, Trace, Retrace, Calls, Audit}
 use Rattle.dt_top.specs.Words.{without_mark, rounds_of}
 
 -- the job that a word names
@@ -15,6 +15,7 @@ job_of word =
     else if bytes_eq word (codes "node") then Some Node
     else if bytes_eq word (codes "trace") then Some Trace
     else if bytes_eq word (codes "retrace") then Some Retrace
+    else if bytes_eq word (codes "calls") then Some Calls
     else if bytes_eq word (codes "audit") then Some Audit
     else None
 
@@ -60,6 +61,7 @@ job_uses_wire Replay = false
 job_uses_wire Node = true
 job_uses_wire Trace = true
 job_uses_wire Retrace = false
+job_uses_wire Calls = false
 job_uses_wire Audit = false
 
 abbrev pub uses_wire : Option Command → Bool

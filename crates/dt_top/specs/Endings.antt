@@ -2,6 +2,8 @@
 use Rattle.std.specs.Prelude.{ℕ, List, [], codes}
 use Rattle.dt_audit.specs.declared.outcomes.AuditOutcome.{AuditOutcome}
 use Rattle.dt_audit.specs.declared.outcomes.AuditOutcome.TheVariants as verdict
+use Rattle.dt_calls.specs.declared.outcomes.CallsOutcome.{CallsOutcome}
+use Rattle.dt_calls.specs.declared.outcomes.CallsOutcome.TheVariants as called
 use Rattle.dt_node.specs.declared.outcomes.NodeOutcome.{NodeOutcome}
 use Rattle.dt_node.specs.declared.outcomes.NodeOutcome.TheVariants as node
 use Rattle.dt_replay.specs.declared.outcomes.Outcome.{Outcome}
@@ -24,7 +26,7 @@ status_of WriteFault = 8
 
 abbrev pub text_of : Ending → List ℕ
 text_of Done = []
-text_of Usage = codes "usage: deltat replay | node | make N | trace | retrace | audit\n"
+text_of Usage = codes "usage: deltat replay | node | make N | trace | retrace | calls | audit\n"
 text_of TooLong = codes "input longer than 16777216 octets\n"
 text_of Refused = codes "input refused\n"
 text_of NoMemory = codes "out of memory\n"
@@ -39,7 +41,7 @@ lacking faults.TooLong = TooLong
 lacking faults.NoMemory = NoMemory
 lacking faults.ReadFault = ReadFault
 
--- how a run ends whose replay, node or audit does
+-- how a run ends whose replay, node, calls or audit do
 abbrev pub replay_ending : Outcome → Ending
 replay_ending outcome.Done = Done
 replay_ending outcome.Refused = Refused
@@ -53,6 +55,12 @@ node_ending node.NoMemory = NoMemory
 node_ending node.WireFault = WireFault
 node_ending node.ClockStill = ClockStill
 node_ending node.WriteFault = WriteFault
+
+abbrev pub calls_ending : CallsOutcome → Ending
+calls_ending called.Done = Done
+calls_ending called.Refused = Refused
+calls_ending called.NoMemory = NoMemory
+calls_ending called.WriteFault = WriteFault
 
 -- a log with a flaw is a refused input
 abbrev pub audit_ending : AuditOutcome → Ending

@@ -3,6 +3,8 @@ use Rattle.std.specs.Prelude.{ℕ, ◌≡◌, ◌⊎◌, ◌<◌, ◌≤◌, Lis
 use Rattle.std.specs.Io.KnownBytes.{Appends}
 use Rattle.dt_audit.specs.declared.outcomes.AuditOutcome.TheVariants as verdict
 use Rattle.dt_audit.specs.Audits.{Audits}
+use Rattle.dt_calls.specs.declared.outcomes.CallsOutcome.TheVariants as called
+use Rattle.dt_calls.specs.CallEnds.{CallsEnd}
 use Rattle.dt_edges.specs.Counts.{HasRisen}
 use Rattle.dt_edges.specs.Sinks.{SinkSight, Takes, TakesPart}
 use Rattle.dt_make.specs.Schedules.{make_text}
@@ -19,7 +21,7 @@ use Rattle.dt_retrace.specs.Retracing.{Retraces}
 use Rattle.dt_top.specs.declared.command.Command.{Command}
 use Rattle.dt_top.specs.declared.command.Command.TheVariants.{Serve, Make}
 use Rattle.dt_top.specs.declared.job.Job.{Job}
-use Rattle.dt_top.specs.declared.job.Job.TheVariants.{Replay, Node, Trace, Retrace, Audit}
+use Rattle.dt_top.specs.declared.job.Job.TheVariants.{Replay, Node, Trace, Retrace, Calls, Audit}
 use Rattle.dt_top.specs.declared.ending.Ending.{Ending}
 use Rattle.dt_top.specs.declared.ending.Ending.TheVariants.{Done, Usage, TooLong, Refused, NoMemory, WireFault, ClockStill, ReadFault, WriteFault}
 use Rattle.dt_top.specs.Endings.{node_ending, status_of}
@@ -72,6 +74,18 @@ retrace_owes ClockStill octets e = Retraces octets node.ClockStill e.out_before 
 retrace_owes ReadFault octets e = ⊥
 retrace_owes WriteFault octets e = Retraces octets node.WriteFault e.out_before e.out_after
 
+-- for an input of calls: what is told of them
+abbrev pub calls_owes : Ending → List ℕ → Effects → Type 0
+calls_owes Done octets e = CallsEnd called.Done octets e.out_before e.out_after
+calls_owes Usage octets e = ⊥
+calls_owes TooLong octets e = ⊥
+calls_owes Refused octets e = CallsEnd called.Refused octets e.out_before e.out_after
+calls_owes NoMemory octets e = CallsEnd called.NoMemory octets e.out_before e.out_after
+calls_owes WireFault octets e = ⊥
+calls_owes ClockStill octets e = ⊥
+calls_owes ReadFault octets e = ⊥
+calls_owes WriteFault octets e = CallsEnd called.WriteFault octets e.out_before e.out_after
+
 -- for a log: the verdict on it
 abbrev pub audit_owes : Ending → List ℕ → Effects → Type 0
 audit_owes Done octets e = Audits verdict.Yes octets e.out_before e.out_after
@@ -102,6 +116,7 @@ job_owes Replay ending octets e = replay_owes ending octets e
 job_owes Node ending octets e = node_owes forms.Log ending octets e
 job_owes Trace ending octets e = node_owes forms.Trace ending octets e
 job_owes Retrace ending octets e = retrace_owes ending octets e
+job_owes Calls ending octets e = calls_owes ending octets e
 job_owes Audit ending octets e = audit_owes ending octets e
 
 -- What is true of a failing wire: its count of faults rose, or it is a recorded failure that was met.
@@ -110,6 +125,7 @@ WireFailed Replay left e = ⊥
 WireFailed Node left e = HasRisen e.wire_before.take_faults e.wire_after.take_faults
 WireFailed Trace left e = HasRisen e.wire_before.take_faults e.wire_after.take_faults
 WireFailed Retrace left e = IfSome left (λ octets. Retraces octets node.WireFault e.out_before e.out_after)
+WireFailed Calls left e = ⊥
 WireFailed Audit left e = ⊥
 
 -- what `retrace` leaves over the script and the trace of a run that left this log and this answer: the same, but where memory was wanted, or its own source or sink failed

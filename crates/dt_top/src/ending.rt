@@ -4,8 +4,8 @@ ghost use Rattle.dt_top.specs.Endings.{status_of, text_of};
 /// How a run ends.
 #[derive(Clone, Copy, Debug, PartialEq, Eq)]
 pub enum Ending {
-    /// All was served: a schedule and its log, a script or a run up to its stop, a generated schedule, or
-    /// a log without a flaw.
+    /// All was served: a schedule and its log, a script or a run up to its stop, a generated schedule, an
+    /// input of calls, or a log without a flaw.
     Done,
     /// The words aren't those of a command.
     Usage,
@@ -48,7 +48,8 @@ impl Ending {
     {
         match self {
             Ending::Done => b"",
-            Ending::Usage => b"usage: deltat replay | node | make N | trace | retrace | audit\n",
+            Ending::Usage =>
+                b"usage: deltat replay | node | make N | trace | retrace | calls | audit\n",
             Ending::TooLong => b"input longer than 16777216 octets\n",
             Ending::Refused => b"input refused\n",
             Ending::NoMemory => b"out of memory\n",

@@ -12,6 +12,8 @@ pub enum Job {
     Trace,
     /// It is a script and a trace, whose run is run again.
     Retrace,
+    /// It is a setup and calls, and what is told of them is written.
+    Calls,
     /// It is a log, which is checked.
     Audit,
 }
@@ -26,6 +28,7 @@ impl Job {
             "node" => Some(Job::Node),
             "trace" => Some(Job::Trace),
             "retrace" => Some(Job::Retrace),
+            "calls" => Some(Job::Calls),
             "audit" => Some(Job::Audit),
             _ => None,
         }

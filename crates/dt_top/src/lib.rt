@@ -4,6 +4,8 @@
 
 ghost use Rattle.std.specs.Prelude.{ℕ, ◌≡◌, ◌≤◌, ◌<◌, ◌^◌, ◌⊎◌, true, false, List, [], length, IfOk, IfSome, Some, None};
 ghost use Rattle.dt_audit.specs.Audits.{AreSafe, audit_text, has_flaw, ledger_of};
+ghost use Rattle.dt_calls.specs.CallInputs.{AnswersAreReversed, are_calls_accepted, calls_after_lines, calls_text};
+ghost use Rattle.dt_calls_model.specs.Promises.{AreServedOnce};
 ghost use Rattle.dt_edges.specs.Counts.{HasRisen};
 ghost use Rattle.dt_edges.specs.Sinks.{Takes};
 ghost use Rattle.dt_fold.specs.Logging.{HasAll, HasPart};
@@ -30,7 +32,7 @@ ghost use Rattle.dt_top.specs.declared.command.Command.TheVariants.{Serve, Make}
 ghost use Rattle.dt_top.specs.declared.ending.Ending.{Ending};
 ghost use Rattle.dt_top.specs.declared.ending.Ending.TheVariants.{ClockStill, NoMemory, WireFault, WriteFault};
 ghost use Rattle.dt_top.specs.declared.job.Job.{Job};
-ghost use Rattle.dt_top.specs.declared.job.Job.TheVariants.{Replay, Node, Trace, Retrace, Audit};
+ghost use Rattle.dt_top.specs.declared.job.Job.TheVariants.{Replay, Node, Trace, Retrace, Calls, Audit};
 
 mod command;
 mod command_line;
@@ -55,14 +57,17 @@ use std::alloc::Global;
 ///   that again, and writes the log.
 /// - `make` and a decimal number from 1 to 50,000 without a leading zero: writes the generator's
 ///   schedule of so many rounds on `out`, and leaves the source as it was.
+/// - `calls`: reads a setup and calls from the source to its end, and writes what is told of the calls on
+///   `out`. A call is answered with its payload in reversed order.
 /// - `audit`: reads a log of `replay` from the source to its end, checks it, and writes the verdict.
 ///
 /// All but `node` and `trace` leave wire and clock as they were. The cost of `replay` is the input, the log, and
 /// what the schedule asks of its world; that of `node`, `trace` and `retrace` is the turns; that of `make` is what it writes;
-/// that of `audit` is the log.
+/// that of `calls` is the input and the text, what is asked of the world, and all calls at each event; that of `audit` is the
+/// log.
 ///
-/// - 0: all was served, and `out` has the whole log, trace, schedule or verdict; a log that is audited has no
-///   flaw.
+/// - 0: all was served, and `out` has the whole log, trace, schedule, text of calls or verdict; a log that is
+///   audited has no flaw.
 /// - 2: the words are none of these. Nothing was read and nothing was written.
 /// - 3: the input has more than 16,777,216 octets, and nothing was written; or a line of it is refused,
 ///   and what was written ends with its fault; or a line of a log has a flaw, which is the verdict.
@@ -106,6 +111,11 @@ pub fn run<S: Source, K: Sink, E: Sink, W: Wire, C: Clock>(
         → RunsAgain (log_text (log_lines o.setup.me first.deeds)) outcome result (K.sight out.old) (K.sight out.new)) }
     // The generator's schedule, whole.
     ensures made { (n : ℕ) → command_of words.now ≡ Some (Make n) → result ≡ 0 → Takes (make_text n) (K.sight out.old) (K.sight out.new) }
+    // Calls: all that is told of those of an accepted input. After each line of any input that isn't too
+    // long each call was served at most once, and each answer that is told next is that of its call.
+    ensures called { command_of words.now ≡ Some (Serve Calls) → result ≡ 0 → IfSome (S.sight source.old).left (λ octets. (are_calls_accepted octets ≡ true) × HasAll (calls_text octets) (K.sight out.old) (K.sight out.new)) }
+    ensures called_once { (octets : List ℕ) → length octets ≤ limit → (count : ℕ) → IfSome (calls_after_lines count octets) (λ c. AreServedOnce c) }
+    ensures called_answers { (octets : List ℕ) → length octets ≤ limit → (count : ℕ) → IfSome (calls_after_lines count octets) (λ c. AnswersAreReversed c) }
     // A log without a flaw. Of any such log each flow of the ledger is safe.
     ensures passed { command_of words.now ≡ Some (Serve Audit) → result ≡ 0 → IfSome (S.sight source.old).left (λ octets. (has_flaw octets ≡ false) × Takes (audit_text octets) (K.sight out.old) (K.sight out.new)) }
     ensures audited { (octets : List ℕ) → IfOk (ledger_of octets) AreSafe }
@@ -140,6 +150,10 @@ pub fn run<S: Source, K: Sink, E: Sink, W: Wire, C: Clock>(
     // So is `make`: no memory is wanted but for the words, before anything is written.
     ensures complete_make { (n : ℕ) → command_of words.now ≡ Some (Make n) → (HasRisen (K.sight out.old).faults (K.sight out.new).faults → ⊥)
         → (result ≡ 0) ⊎ ((result ≡ 4) × (K.sight out.new ≡ K.sight out.old)) }
+    // So is an accepted input of calls.
+    ensures complete_calls { command_of words.now ≡ Some (Serve Calls) → IfSome (S.sight source.old).left (λ octets. length octets ≤ limit → are_calls_accepted octets ≡ true
+        → (HasRisen (S.sight source.old).faults (S.sight source.new).faults → ⊥) → (HasRisen (K.sight out.old).faults (K.sight out.new).faults → ⊥)
+        → (result ≡ 0) ⊎ (result ≡ 4)) }
     // So is a log without a flaw.
     ensures complete_audit { command_of words.now ≡ Some (Serve Audit) → IfSome (S.sight source.old).left (λ octets. length octets ≤ limit → has_flaw octets ≡ false
         → (HasRisen (S.sight source.old).faults (S.sight source.new).faults → ⊥) → (HasRisen (K.sight out.old).faults (K.sight out.new).faults → ⊥)

@@ -1,7 +1,7 @@
 //! What the commands do.
 ghost use Rattle.std.specs.Prelude.{◌≡◌, ◌≤◌, false, length, Some};
 ghost use Rattle.dt_top.specs.Commands.{IsInRange, command_of, job_uses_wire, reads_source, uses_wire};
-ghost use Rattle.dt_top.specs.Endings.{audit_ending, lacking, node_ending, replay_ending};
+ghost use Rattle.dt_top.specs.Endings.{audit_ending, calls_ending, lacking, node_ending, replay_ending};
 ghost use Rattle.dt_top.specs.Inputs.{limit};
 ghost use Rattle.dt_top.specs.Serving.{Ends, Owes, job_owes};
 ghost use Rattle.dt_top.specs.Streams.{OwesFor, effects};
@@ -12,6 +12,8 @@ use crate::ending::Ending;
 use crate::input::{InputFault, read_input};
 use crate::job::Job;
 use dt_audit::{AuditOutcome, audit};
+use dt_calls::CallsOutcome;
+use dt_calls::running::calls;
 use dt_edges::{Clock, Failed, Sink, Source, Wire};
 use dt_items::NoMemory;
 use dt_make::make;
@@ -57,6 +59,18 @@ fn node_ending(outcome: NodeOutcome) -> Ending
     }
 }
 
+/// How a run ends whose calls do.
+fn calls_ending(outcome: CallsOutcome) -> Ending
+    ensures { result ≡ calls_ending outcome }
+{
+    match outcome {
+        CallsOutcome::Done => Ending::Done,
+        CallsOutcome::Refused => Ending::Refused,
+        CallsOutcome::NoMemory => Ending::NoMemory,
+        CallsOutcome::WriteFault => Ending::WriteFault,
+    }
+}
+
 /// How a run ends whose audit does: a log with a flaw is a refused input.
 fn audit_ending(outcome: AuditOutcome) -> Ending
     ensures { result ≡ audit_ending outcome }
@@ -88,6 +102,7 @@ fn serve_input<K: Sink, W: Wire, C: Clock>(
         Job::Node => node_ending(serve(alloc, input, wire, clock, out)),
         Job::Trace => node_ending(serve_traced(alloc, input, wire, clock, out)),
         Job::Retrace => node_ending(retrace(alloc, input, out)),
+        Job::Calls => calls_ending(calls(alloc, input, out)),
         Job::Audit => audit_ending(audit(alloc, input, out)),
     }
 }

@@ -31,7 +31,7 @@ struct Hinder<'a> {
 const FREELY: Hinder<'static> = Hinder {
     takes: &[],
     out: 4096,
-    err: 64,
+    err: 128,
 };
 
 /// One run of the program.
@@ -239,6 +239,7 @@ fn other_words_are_no_command(rt: HostRuntime) -> Result<(), Fail> {
         "node 5",
         "trace 5",
         "retrace 5",
+        "calls 5",
         "audit 5",
         "replay -- --",
         "-- -- replay",
@@ -265,7 +266,7 @@ fn other_words_are_no_command(rt: HostRuntime) -> Result<(), Fail> {
         assert_eq!(rt; left.out.as_slice(), b"".as_slice());
         assert_eq!(rt;
             left.err.as_slice(),
-            b"usage: deltat replay | node | make N | trace | retrace | audit\n".as_slice()
+            b"usage: deltat replay | node | make N | trace | retrace | calls | audit\n".as_slice()
         );
     }
     Ok(())
@@ -523,6 +524,32 @@ fn a_trace_is_run_again(rt: HostRuntime) -> Result<(), Fail> {
     let closed = after_run(alloc, &["retrace"], open.as_bytes(), FREELY)?;
     assert_eq!(rt; closed.status, 5);
     assert!(rt; closed.out.as_slice().is_empty());
+    Ok(())
+}
+
+/// A call that is answered, and one that goes on the way of its replies.
+const CALL: &str = "call 1:10>2:20 010203\narrive 0\narrive 2\n";
+
+const CALL_TEXT: &str = "0 call 0 1:10>2:20 3\n0 served 0\n0 answered 0 030201\n";
+
+#[test]
+fn calls_are_made(rt: HostRuntime) -> Result<(), Fail> {
+    let cases = [
+        (
+            "",
+            0,
+            "calls 1 served 1 answered 1 unsure 0 declined 0 waiting 0\nend 0\n",
+        ),
+        ("call 2:20>1:10 01\n", 3, "line 12: bad flow\n"),
+        ("read 1:10>2:20 1\n", 3, "line 12: word\n"),
+    ];
+    for (more, status, rest) in &cases {
+        let input = joined(rt.alloc(), &[PARAMS, SETUP, CALL, *more])?;
+        let left = after_run(rt.alloc(), &["calls"], input.as_bytes(), FREELY)?;
+        let text = joined(rt.alloc(), &[CALL_TEXT, *rest])?;
+        assert_eq!(rt; left.out.as_slice(), text.as_bytes(), "after {more:?}");
+        assert_eq!(rt; left.status, *status);
+    }
     Ok(())
 }
 

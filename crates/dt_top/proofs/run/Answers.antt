@@ -3,7 +3,9 @@ use Rattle.dt_world_model.specs.WorldFacts.{SafeWorld}
 use Rattle.dt_replay.specs.Schedules.{world_after_lines}
 use Rattle.dt_replay.proofs.Scenes.{lines_safe}
 use Rattle.dt_audit.proofs.Agreement.{log_is_safe}
-use Rattle.dt_replay_audit.proofs.Turning.{lines_count, schedule_passes}
+use Rattle.dt_calls.proofs.CallFolds.{answers_reversed, served_once}
+use Rattle.dt_replay.proofs.LineCounts.{lines_count}
+use Rattle.dt_replay_audit.proofs.Turning.{schedule_passes}
 use Rattle.dt_top.specs.Serving.{Ends}
 use Rattle.dt_top.specs.Streams.{Streams, effects}
 use Rattle.dt_top.proofs.NodeRuns.{node_completes}
@@ -17,6 +19,12 @@ left_safe (Some octets) = λ count. lines_safe count octets
 
 pub returns-clause-safe : goal.returns-clause-safe
 returns-clause-safe g c = left_safe (g.S.Source.sight c.args.source.now).left
+
+pub returns-clause-called_once : goal.returns-clause-called_once
+returns-clause-called_once g c octets short = λ count. served_once count octets short
+
+pub returns-clause-called_answers : goal.returns-clause-called_answers
+returns-clause-called_answers g c octets short = λ count. answers_reversed count octets short
 
 pub returns-clause-audited : goal.returns-clause-audited
 returns-clause-audited g c octets = log_is_safe octets

@@ -34,5 +34,5 @@ returns c =
     let rows = (ledger_of w.ledgers f).taken in
     let long : c.taken_count.result ≡ length rows = c.taken_count.ensures ∙ ap (λ rows. length (ledger_in rows f).taken) c.ledger-ledger.ensures.rows in
     let none = none_there (is_doubtful c.life-life.result) rows c.in-Taken.place c.in-Taken.count (λ k from less there. c.loop-at.invariant k from
-      (let a = c.min-end.ensures in let b = c.saturating_add.ensures in let d = c.from.ensures in let e = c.loop-at-test.false in let h = c.taken_count.type_inv in omega arith)) in
+    (let a = c.min-end.ensures in let b = c.saturating_add.ensures in let d = c.from.ensures in let e = c.loop-at-test.false in let h = c.taken_count.type_inv in omega arith)) in
     sym (ap (is_posted_in_vain w f) c.in-Taken.is ∙ subst (λ (life : ℕ). list_any (is_doubtful life) (take c.in-Taken.count (drop c.in-Taken.place rows)) ≡ false) c.life-life.ensures none)

@@ -1,6 +1,7 @@
-use Rattle.std.proofs.Common.{subst}
+use Rattle.std.proofs.Common.{subst, sym}
 use Rattle.std.proofs.lemmas.Result.{err_from_is_err_and}
-use Rattle.dt_calls_model.specs.Calls.{Client}
+use Rattle.dt_calls_model.specs.Calls.{Client, Server}
+use Rattle.dt_calls_model.specs.CallFacts.{CourseFacts}
 use Rattle.dt_calls_model.specs.Reads.{Course, read_all, read_sides}
 use Rattle.dt_calls.specs.declared.dues.Due.{Due}
 use Rattle.dt_calls.specs.Courses.{GoesOn}
@@ -8,6 +9,7 @@ use Rattle.dt_calls.specs.Dues.{IsDue}
 use Rattle.dt_calls.specs.Flows.{flows_seen}
 use Rattle.dt_calls.specs.Parts.{calls_seen}
 use Rattle.dt_calls.proofs.Boths.{none_goes, sides_go, sides_stop}
+use Rattle.dt_calls.proofs.CoursesOn.{sides_on, starts_on}
 use Rattle.dt_calls.proofs.ReadSides.{stopped_with}
 use Rattle.dt_calls.proofs.reading.read_due.Goals as goal
 
@@ -32,3 +34,11 @@ returns-in_ok-read_sides-in-All-clause-goes g c =
     let first = calls_seen c.args.parts.now in
     let two = subst (λ h. GoesOn tells (read_sides (g.H.Handler.answer h) Client) (calls_seen c.read_sides.new.parts) c.read_sides.new.lines c.read_sides-in-All.new.lines c.read_sides-in-All.result (calls_seen c.read_sides-in-All.new.parts)) c.read_sides.ensures.handler c.read_sides-in-All.ensures.goes in
     sides_go tells answer first c.args.lines.now c.read_sides.new.lines c.read_sides-in-All.new.lines (calls_seen c.read_sides.new.parts) (calls_seen c.read_sides-in-All.new.parts) c.read_sides-in-All.result c.in_ok-read_sides-in-All.ensures.goes two
+
+pub read_sides-requires-in-All-clause-course : goal.read_sides-requires-in-All-clause-course
+read_sides-requires-in-All-clause-course g c =
+    let answer = g.H.Handler.answer c.args.parts.now.handler in
+    let first = calls_seen c.args.parts.now in
+    let next = calls_seen c.read_sides.new.parts in
+    let on = sides_on answer g.L.CallLines.tells Server first next c.args.lines.now c.read_sides.new.lines (starts_on answer first c.requires.course c.requires.few) c.in_ok-read_sides-in-All.ensures.goes in
+    subst (λ h. CourseFacts (g.H.Handler.answer h) next) (sym c.read_sides.ensures.handler) on.facts

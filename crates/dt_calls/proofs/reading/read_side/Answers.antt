@@ -10,6 +10,7 @@ use Rattle.dt_calls.specs.Courses.{HasGoneOn, HasStopped}
 use Rattle.dt_calls.specs.Flows.{flows_seen}
 use Rattle.dt_calls.specs.Parts.{calls_seen, keys_in}
 use Rattle.dt_calls.specs.Sides.{side_seen}
+use Rattle.dt_calls.proofs.CoursesOn.{piece_on, starts_on}
 use Rattle.dt_calls.proofs.ReadSides.{ends_seen, gone_seen, is_read, keys_joined, none_seen, piece_is, piece_lost, read_seen, stop_seen, stopped_with, there_joined, world_read}
 use Rattle.dt_calls.proofs.Readings.{begins, falls, reads_on, still_kept, stops_at_message}
 use Rattle.dt_calls.proofs.reading.read_side.Goals as goal
@@ -21,6 +22,7 @@ loop-parts-init g c = record {
   there = c.requires.there;
   whole = c.requires.whole;
   handler = refl;
+  course = starts_on (g.H.Handler.answer c.args.parts.now.handler) (calls_seen c.args.parts.now) c.requires.course c.requires.few;
 }
 
 pub returns-then-is_none-clause-goes : goal.returns-then-is_none-clause-goes
@@ -125,6 +127,7 @@ loop-parts-preserved-in-Some g c =
       there = ap (λ fs. has_key same_flow f (flows_seen fs.entries)) c.take_message.ensures.flows ∙ there_joined tells answer side f _ c.join.new.parts _ j d seen;
       whole = record { unspent = c.in_ok-take_message.ensures.unspent; heard = c.in_ok-take_message.ensures.heard; world = still_kept tells answer side f first l0 d l j.piece is flow c.loop-parts.invariant.whole.world c.take_message.new.lines (calls_seen c.take_message.new.parts) all };
       handler = c.take_message.ensures.handler ∙ hand;
+      course = piece_on answer tells side d (calls_seen c.take_message.new.parts) l c.take_message.new.lines c.loop-parts.invariant.course f c.loop-parts.invariant.there j.piece is all;
     }
 
 pub loop-parts-smaller : goal.loop-parts-smaller
@@ -175,4 +178,5 @@ loop-parts-preserved g c =
         world = still_kept tells answer side f first l0 d l j.piece is flow c.loop-parts.invariant.whole.world l (calls_seen c.join.new.parts) all;
       };
       handler = ap (λ x. x.handler) j.same ∙ c.loop-parts.invariant.handler;
+      course = piece_on answer tells side d (calls_seen c.join.new.parts) l l c.loop-parts.invariant.course f c.loop-parts.invariant.there j.piece is all;
     }

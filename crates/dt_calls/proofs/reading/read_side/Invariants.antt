@@ -1,5 +1,7 @@
 use Rattle.std.proofs.Common.{◌≡◌, true}
 use Rattle.dt_world_model.specs.Tables.{has_key, same_flow}
+use Rattle.dt_calls_laws.specs.Told.{IsOn}
+use Rattle.dt_calls.specs.Courses.{from_calls}
 use Rattle.dt_calls.specs.Flows.{flows_seen}
 use Rattle.dt_calls.specs.Parts.{IsWhole, calls_seen, keys_in}
 use Rattle.dt_calls.specs.Sides.{side_seen}
@@ -13,6 +15,7 @@ invariant-loop-parts g l = record {
   there : has_key same_flow l.flow (flows_seen l.parts.flows.entries) ≡ true;
   whole : IsWhole l.parts;
   handler : l.parts.handler ≡ l.fn.parts.handler;
+  course : IsOn (g.H.Handler.answer l.fn.parts.handler) (from_calls (calls_seen l.parts));
 }
 
 abbrev pub decreases-loop-parts : goal.decreases-loop-parts

@@ -2,11 +2,13 @@ use Rattle.std.proofs.Common.{◌+◌, ◌≡◌, ◌∷◌, List, drop, ap, sym
 use Rattle.std.specs.Prelude.{is_some}
 use Rattle.std.proofs.lemmas.Result.{err_from_is_err_and}
 use Rattle.dt_units.specs.declared.endpoints.Flow.{Flow}
+use Rattle.dt_calls_model.specs.CallFacts.{CourseFacts}
 use Rattle.dt_calls_model.specs.Reads.{Course, read_side, read_sides}
 use Rattle.dt_calls.specs.Courses.{HasGoneOn, HasStopped}
 use Rattle.dt_calls.specs.Flows.{flows_seen}
 use Rattle.dt_calls.specs.Parts.{calls_seen, keys_in}
 use Rattle.dt_calls.specs.Sides.{side_seen}
+use Rattle.dt_calls.proofs.CoursesOn.{side_on}
 use Rattle.dt_calls.proofs.FlowTables.{key_found, keys_seen}
 use Rattle.dt_calls.proofs.ReadSides.{stopped_with}
 use Rattle.dt_calls.proofs.SidesRead.{key_at, next, stopped}
@@ -14,6 +16,9 @@ use Rattle.dt_calls.proofs.reading.read_sides.Goals as goal
 
 pub read_side-requires-clause-there : goal.read_side-requires-clause-there
 read_side-requires-clause-there g c = key_found c.in-Some.flow.now c.loop-place.parts.flows.entries ∙ ap is_some c.in-Some.ensures.value
+
+pub read_side-requires-clause-course : goal.read_side-requires-clause-course
+read_side-requires-clause-course g c = subst (λ h. CourseFacts (g.H.Handler.answer h) (calls_seen c.loop-place.parts)) (sym c.loop-place.invariant.handler) c.loop-place.invariant.course.facts
 
 pub returns-in_err-read_side-clause-goes : goal.returns-in_err-read_side-clause-goes
 returns-in_err-read_side-clause-goes g c =
@@ -46,4 +51,5 @@ loop-place-preserved g c =
       keys = c.in_ok-read_side.ensures.keys ∙ c.loop-place.invariant.keys;
       whole = c.in_ok-read_side.ensures.whole;
       handler = c.read_side.ensures.handler ∙ c.loop-place.invariant.handler;
+      course = side_on answer tells side (calls_seen c.loop-place.parts) (calls_seen c.read_side.new.parts) c.loop-place.lines c.read_side.new.lines c.loop-place.invariant.course f (key_found f es ∙ ap is_some c.in-Some.ensures.value) gone;
     }

@@ -1,4 +1,6 @@
 use Rattle.std.proofs.Common.{◌≡◌}
+use Rattle.dt_calls_laws.specs.Told.{IsOn}
+use Rattle.dt_calls.specs.Courses.{from_calls}
 use Rattle.dt_calls.specs.Parts.{IsWhole, calls_seen, keys_in}
 use Rattle.dt_calls.specs.Sides.{side_seen}
 use Rattle.dt_calls.proofs.SidesRead.{SidesOn}
@@ -10,4 +12,5 @@ invariant-loop-place g l = record {
   keys : keys_in l.parts.flows.entries ≡ keys_in l.fn.parts.flows.entries;
   whole : IsWhole l.parts;
   handler : l.parts.handler ≡ l.fn.parts.handler;
+  course : IsOn (g.H.Handler.answer l.fn.parts.handler) (from_calls (calls_seen l.parts));
 }

@@ -1,0 +1,29 @@
+-- Calls over a world that has made no step are settled.
+use Rattle.std.proofs.Common.{ℕ, ◌≡◌, false, List, [], ap, sym, subst, ◌∙◌}
+use Rattle.dt_units.specs.declared.endpoints.Flow.{Flow}
+use Rattle.dt_world_model.specs.Setup.{new_world}
+use Rattle.dt_world_model.specs.World.{World}
+use Rattle.dt_calls_laws.proofs.Starting.{new_calls_facts}
+use Rattle.dt_calls_model.specs.declared.calls.Call.{Call}
+use Rattle.dt_calls_model.specs.CallFacts.{CallFacts}
+use Rattle.dt_calls_model.specs.Calls.{Calls, new_calls}
+use Rattle.dt_calls.specs.declared.flow_sides.FlowSides.{FlowSides}
+use Rattle.dt_calls.specs.declared.world_calls.Parts.{Parts}
+use Rattle.dt_calls.specs.CallOutcomes.{IsNew}
+use Rattle.dt_calls.specs.Flows.{flows_seen}
+use Rattle.dt_calls.specs.Going.{IsSettled}
+use Rattle.dt_calls.specs.Parts.{calls_seen}
+use Rattle.dt_calls.proofs.Kept.{world_kept}
+
+module _ {H : Type 0} (answer : List ℕ → List ℕ) (p : Parts H) (new : IsNew p.world.state) (no_calls : p.calls.items ≡ []) (no_flows : p.flows.entries ≡ []) where
+  seen : calls_seen p ≡ new_calls (new_world new.setup)
+  seen =
+      ap (λ (w : World). let c : Calls = record { world = w; calls = p.calls.items; flows = flows_seen p.flows.entries } in c) new.new
+      ∙ ap (λ (cs : List Call). let c : Calls = record { world = new_world new.setup; calls = cs; flows = flows_seen p.flows.entries } in c) no_calls
+      ∙ ap (λ (es : List (Flow × FlowSides)). let c : Calls = record { world = new_world new.setup; calls = []; flows = flows_seen es } in c) no_flows
+
+  facts : CallFacts answer (calls_seen p)
+  facts = subst (CallFacts answer) (sym seen) (new_calls_facts answer new.setup new.limits)
+
+  pub begins_settled : p.world.spent ≡ false → p.heard.failed ≡ false → IsSettled answer p
+  begins_settled unspent heard = record { whole = record { unspent = unspent; heard = heard; world = world_kept answer (calls_seen p) facts.course }; facts = facts }

@@ -1,0 +1,8 @@
+use Rattle.std.proofs.Common.{ap}
+use Rattle.dt_calls.proofs.Beginnings.{begins_settled}
+use Rattle.dt_calls.proofs.world_calls.Calls.new.Goals as goal
+
+pub invariant_of-result : goal.invariant_of-result
+invariant_of-result g c =
+    let settled = begins_settled (g.H.Handler.answer c.args.handler) _ c.requires.new c.new.ensures.items c.new-2.ensures.empty c.requires.unspent (ap (λ h. h.failed) c.new-3.ensures) in
+    record { once = settled.facts.course.once; settled = λ unspent. settled }

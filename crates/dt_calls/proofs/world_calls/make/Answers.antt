@@ -1,0 +1,41 @@
+use Rattle.std.proofs.Common.{◌≡◌, List, ℕ, length, refl, sym, ap, subst, ◌∙◌, rules}
+use Rattle.std.proofs.lemmas.Result.{on_ok_weaker}
+use Rattle.dt_world_model.specs.World.{World}
+use Rattle.dt_calls_model.specs.declared.calls.Posted.{Posted}
+use Rattle.dt_calls_model.specs.Calls.{with_flow}
+use Rattle.dt_calls_model.specs.Messages.{message_of}
+use Rattle.dt_calls_model.specs.Reads.{post}
+use Rattle.dt_calls.specs.Flows.{flows_seen}
+use Rattle.dt_calls.specs.Parts.{IsKeptWorld, calls_seen}
+use Rattle.dt_calls.proofs.Makings.{made_due_in, made_world, on_ok}
+use Rattle.dt_calls.proofs.world_calls.make.Goals as goal
+
+pub returns-clause-whole : goal.returns-clause-whole
+returns-clause-whole g c =
+    let p = c.args.parts.now in
+    let f = c.args.flow in
+    let posted = c.in_ok-request.ensures in
+    let w = c.post.new.parts.world.state in
+    let same = c.add_call.ensures.same in
+    let number : c.len-call.result ≡ length p.calls.items = search rules in
+    let octets : c.write_message.new.message.items ≡ message_of (length p.calls.items) c.args.payload.now = c.in_ok-write_message.ensures ∙ ap (λ (n : ℕ). message_of n c.args.payload.now) number in
+    let is : post f (message_of (length p.calls.items) c.args.payload.now) p.world.state ≡ (c.in_ok-request.request, w) = ap (λ (os : List ℕ). post f os p.world.state) (sym octets) ∙ posted.posts in
+    on_ok _ c.add_call.result (record {
+      unspent = ap (λ x. x.world.spent) same ∙ posted.unspent;
+      heard = ap (λ x. x.heard.failed) same ∙ posted.heard;
+      world = subst IsKeptWorld (sym (ap (λ x. x.world.state) same)) (made_world f c.args.payload.now (calls_seen p) c.in_ok-request.request w is c.add_call.ensures.range c.requires.whole.world);
+    })
+
+pub returns-clause-due : goal.returns-clause-due
+returns-clause-due g c =
+    let p = c.args.parts.now in
+    let f = c.args.flow in
+    let posted = c.in_ok-request.ensures in
+    let w = c.post.new.parts.world.state in
+    let same = c.add_call.ensures.same in
+    let number : c.len-call.result ≡ length p.calls.items = search rules in
+    let octets : c.write_message.new.message.items ≡ message_of (length p.calls.items) c.args.payload.now = c.in_ok-write_message.ensures ∙ ap (λ (n : ℕ). message_of n c.args.payload.now) number in
+    let is : post f (message_of (length p.calls.items) c.args.payload.now) p.world.state ≡ (c.in_ok-request.request, w) = ap (λ (os : List ℕ). post f os p.world.state) (sym octets) ∙ posted.posts in
+    on_ok_weaker c.add_call.result
+    (λ named. made_due_in f c.args.payload.now (calls_seen p) c.in_ok-request.request w is c.add_call.new.parts.world.state (flows_seen c.add_call.new.parts.flows.entries) (ap (λ x. x.world.state) same) (named ∙ ap (λ x. with_flow f (flows_seen x.flows.entries)) posted.same) c.add_call.ensures.range c.requires.whole.world c.requires.rest)
+    c.add_call.ensures.flows
