@@ -20,3 +20,5 @@ pub mod Makings
 pub mod Goings
 pub mod Beginnings
 pub mod CoursesOn
+pub mod Waiting
+pub mod DoubtWaiting

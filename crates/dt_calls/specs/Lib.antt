@@ -12,3 +12,4 @@ pub mod Parts
 pub mod Going
 pub mod Resting
 pub mod Dues
+pub mod Waiting
