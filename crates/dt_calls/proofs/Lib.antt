@@ -26,3 +26,5 @@ pub mod Makings
 pub mod Goings
 pub mod Beginnings
 pub mod CoursesOn
+pub mod Waiting
+pub mod DoubtWaiting

@@ -21,6 +21,7 @@ ghost use Rattle.dt_calls.specs.Going.{WorldGoesOn, then_made};
 ghost use Rattle.dt_calls.specs.Parts.{IsWhole, calls_seen};
 ghost use Rattle.dt_calls.specs.Telling.{TellsCalls};
 ghost use Rattle.dt_calls.specs.Totals.{totals_seen};
+ghost use Rattle.dt_calls.specs.Waiting.{Covers};
 ghost use Rattle.dt_calls.specs.declared.dues.Due.TheVariants as due;
 
 use crate::call_events::CallEvent;
@@ -50,6 +51,8 @@ pub struct Parts<H> {
     pub handler: H,
     /// By their numbers.
     pub calls: Vec<Call>,
+    /// The numbers of those that wait are among these, in their order: a step doubts no others.
+    pub waiting: Vec<usize>,
     pub flows: Flows,
     pub heard: Heard,
     /// Room for a message that is handed in, and for an answer.
@@ -91,6 +94,7 @@ impl<H: Handler> Calls<H> {
                 world,
                 handler,
                 calls: Vec::new(alloc),
+                waiting: Vec::new(alloc),
                 flows: IndexMap::new(alloc),
                 heard: Heard::new(alloc),
                 message: Vec::new(alloc),
@@ -109,8 +113,8 @@ impl<H: Handler> Calls<H> {
     /// memory, and where a count would pass its end. Then the first of the lines were told, and the
     /// calls are used no more; each was still served at most once.
     ///
-    /// The cost is that of the world's events, the octets that are read, all calls, and the octets of
-    /// those that wait; after a `Pass` also two reads of each flow with a call, after a restart all
+    /// The cost is that of the world's events, the octets that are read, for a call all calls, and the
+    /// octets of those that wait; after a `Pass` also two reads of each flow with a call, after a restart all
     /// flows.
     pub fn step<L: CallLines>(
         &mut self,
@@ -328,10 +332,12 @@ fn add_call<H, L: CallLines>(
     ensures goes { GoesOn L.tells (λ c. then_made c (make_with flow count (request, c.calls.world) c.calls)) (calls_seen parts.old) lines.old lines.new result (calls_seen parts.new) }
     ensures once { AreServedOnce (calls_seen parts.old) → AreServedOnce (calls_seen parts.new) }
     ensures flows { OnOk result (flows_seen parts.new.flows.entries ≡ with_flow flow (flows_seen parts.old.flows.entries)) }
-    ensures same { parts.new ≡ record parts.old { calls = parts.new.calls; flows = parts.new.flows } }
+    ensures waiting { OnOk result (Covers 0 parts.old.waiting.items parts.old.calls.items → Covers 0 parts.new.waiting.items parts.new.calls.items) }
+    ensures same { parts.new ≡ record parts.old { calls = parts.new.calls; waiting = parts.new.waiting; flows = parts.new.flows } }
     ensures range { IsFlow flow }
 {
     tell_made(parts, flow, count, request, lines);
+    parts.waiting.push(parts.calls.len())?;
     parts.calls.push(Call {
         flow,
         state: state_of(request),
