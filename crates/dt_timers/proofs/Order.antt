@@ -1,7 +1,8 @@
 -- The order of deadlines, and the sooner of two.
-use Rattle.std.proofs.Common.{ℕ, ◌≡◌, ◌<◌, ◌≤◌, ◌⊎◌, inl, inr, Bool, true, false, Option, Some, None, refl, sym, subst, arith}
-use Rattle.std.specs.Prelude.{◌==◌, ◌&&◌, ◌||◌, nat_lt, if◌then◌else◌}
-use Rattle.std.proofs.lemmas.Bool.{cases_Bool}
+use Rattle.std.proofs.Common.{ℕ, ◌≡◌, ◌⊎◌, inl, inr, Bool, true, false, Option, Some, None, refl, ap, sym, ◌∙◌, arith}
+use Rattle.std.specs.Option.{option_eq}
+use Rattle.std.specs.Prelude.{◌&&◌, nat_eq, if◌then◌else◌}
+use Rattle.std.proofs.lemmas.Bool.{and_parts, cases_Bool, eqb-true}
 use Rattle.std.proofs.lemmas.Bool.Decides.{nat_tests}
 use Rattle.dt_timers.specs.declared.deadline.Deadline.{Deadline}
 use Rattle.dt_timers.specs.Order.{IsBy, IsNoLater, goes_first, sooner_of}
@@ -49,3 +50,15 @@ by_second (Some d) (Some e) =
       | inl y ↦ rw y (by_itself (Some e))
       | inr n ↦ rw n (no_later d e n)
     ]
+
+-- what is compared field by field, and is equal in both, is the same
+pub same_deadline : (a b : Deadline) → (nat_eq a.moment b.moment && nat_eq a.key b.key) ≡ true → a ≡ b
+same_deadline a b h =
+    let both = and_parts (nat_eq a.moment b.moment) (nat_eq a.key b.key) h in
+    ap (λ (m : ℕ). record a { moment = m }) (eqb-true a.moment b.moment both.0) ∙ ap (λ (k : ℕ). record b { key = k }) (eqb-true a.key b.key both.1)
+
+pub same_place : (one other : Option Deadline) → true ≡ option_eq (λ (a b : Deadline). nat_eq a.moment b.moment && nat_eq a.key b.key) one other → one ≡ other
+same_place None None h = refl
+same_place None (Some b) h = absurd cc
+same_place (Some a) None h = absurd cc
+same_place (Some a) (Some b) h = ap (λ (d : Deadline). Some d) (same_deadline a b (sym h))

@@ -1,5 +1,5 @@
 -- Nodes that are played again one after another, and the soonest of all places.
-use Rattle.std.proofs.Common.{ℕ, zero, suc, ◌≡◌, ◌≢◌, ◌+◌, ◌/◌, ◌<◌, ◌≤◌, ◌⊎◌, inl, inr, List, length, get_or, set, drop, Option, Some, None, refl, sym, ap, subst, ◌∙◌, arith, ◌-◌, length-drop, get_or-set_same, get_or-set_other}
+use Rattle.std.proofs.Common.{ℕ, zero, suc, ◌≡◌, ◌≢◌, ◌+◌, ◌/◌, ◌<◌, ◌≤◌, ◌⊎◌, inl, inr, List, length, get_or, set, drop, Option, None, sym, ap, subst, ◌∙◌, arith, ◌-◌, length-drop, get_or-set_same, get_or-set_other}
 use Rattle.std.proofs.lemmas.List.{drop-set-add, ext_get_or, get_or-drop, get_or_past, length-set}
 use Rattle.std.proofs.lemmas.Bool.{cases_eq, cases_lt}
 use Rattle.dt_timers.specs.declared.deadline.Deadline.{Deadline}
@@ -52,6 +52,14 @@ module _ (nodes : List (Option Deadline)) where
           | inl same ↦ subst (λ (n : ℕ). node after n ≡ sooner_of (node after (n + n)) (node after (n + n + 1))) (sym same) here
           | inr other ↦ there k k_some k_within apart other
         ]
+
+  -- WHERE THE NODE THAT MAY BE WRONG IS RIGHT, none is wrong
+  pub all_right : (at : ℕ) → node nodes at ≡ sooner_of (node nodes (at + at)) (node nodes (at + at + 1)) → ArePlayedBut at nodes → ArePlayed nodes
+  all_right at right played = λ k some within apart.
+      elim (cases_eq k at) [
+        | inl same ↦ subst (λ (n : ℕ). node nodes n ≡ sooner_of (node nodes (n + n)) (node nodes (n + n + 1))) (sym same) right
+        | inr other ↦ played k some within other
+      ]
 
   -- THE SOONEST
   module _ (half : ℕ) (even : length nodes ≡ half + half) (played : ArePlayed nodes) where

@@ -1,5 +1,5 @@
 -- The order of deadlines: by moment, ties by the lesser key. No deadline comes after any.
-use Rattle.std.specs.Prelude.{ℕ, ◌≡◌, ◌<◌, ◌≤◌, ◌⊎◌, ◌==◌, ◌&&◌, ◌||◌, Bool, nat_lt, if◌then◌else◌, Option, Some, None}
+use Rattle.std.specs.Prelude.{◌≡◌, ◌<◌, ◌≤◌, ◌⊎◌, ◌==◌, ◌&&◌, ◌||◌, Bool, nat_lt, if◌then◌else◌, Option, Some, None}
 use Rattle.dt_timers.specs.declared.deadline.Deadline.{Deadline}
 
 abbrev pub goes_first : Deadline → Deadline → Bool

@@ -70,7 +70,8 @@ impl Tournament {
         })
     }
 
-    /// Puts a deadline into a place, or none. The cost is that of the tree's height.
+    /// Puts a deadline into a place, or none. The cost is that of the tree's height at most, and doesn't
+    /// grow where the place has that deadline already.
     pub fn place(&mut self, place: usize, deadline: Option<Deadline>)
         requires { place < length self.old }
         ensures { self.new ≡ set self.old place deadline }
@@ -88,7 +89,8 @@ impl Tournament {
     }
 }
 
-/// Plays again the nodes above one whose deadline changed.
+/// Plays again the nodes above one whose deadline changed, up to the first that stays as it was: those
+/// above it stay too.
 fn play_from(nodes: &mut [Option<Deadline>], leaf: usize)
     requires within { leaf < length nodes.old }
     requires some { 1 ≤ leaf }
@@ -100,6 +102,10 @@ fn play_from(nodes: &mut [Option<Deadline>], leaf: usize)
     let mut at = leaf;
     while at > 1 {
         at /= 2;
-        nodes[at] = sooner(nodes[2 * at], nodes[2 * at + 1]);
+        let winner = sooner(nodes[2 * at], nodes[2 * at + 1]);
+        if nodes[at] == winner {
+            return;
+        }
+        nodes[at] = winner;
     }
 }

@@ -1,12 +1,10 @@
-use Rattle.std.proofs.Common.{ℕ, ◌≡◌, ◌≢◌, ◌<◌, ◌≤◌, inl, inr, List, Option, None, Some, length, set, ap, sym, subst, ◌∙◌, arith}
+use Rattle.std.proofs.Common.{ℕ, Option, None, length, set, ap, sym, subst, ◌∙◌, arith}
 use Rattle.std.specs.Prelude.{is_some}
 use Rattle.std.specs.Ordering.{nat_cmp}
 use Rattle.std.specs.FinMap.{FinMap, contains_key, remove}
-use Rattle.std.proofs.lemmas.Bool.{cases_lt, false≢true}
-use Rattle.dt_timers.specs.declared.deadline.Deadline.{Deadline}
-use Rattle.dt_timers.specs.Tournaments.{node}
-use Rattle.dt_timers.specs.Deadlines.{AreEntered, deadline_at, entry_at}
-use Rattle.dt_timers.proofs.Entries.{Filled, filled, held, index_within, left, swapped, went}
+use Rattle.std.proofs.lemmas.Bool.{false≢true}
+use Rattle.dt_timers.specs.Deadlines.{AreEntered}
+use Rattle.dt_timers.proofs.Entries.{filled, held, index_within, left, swapped, went}
 use Rattle.dt_timers.proofs.deadlines.Deadlines.forget.Goals as goal
 
 pub unreachable-requires : goal.unreachable-requires

@@ -1,4 +1,4 @@
-use Rattle.std.proofs.Common.{ℕ, ◌≡◌, ◌<◌, ◌≤◌, List, Option, None, Some, length, set, ap, sym, subst, ◌∙◌, arith}
+use Rattle.std.proofs.Common.{ℕ, ◌<◌, Option, length, ap, sym, subst, ◌∙◌, arith}
 use Rattle.std.specs.Prelude.{nat_eq}
 use Rattle.std.specs.FinMap.{FinMap, contains_key, insert}
 use Rattle.std.specs.Ordering.{nat_cmp}
@@ -8,8 +8,7 @@ use Rattle.std.proofs.lemmas.Cmp.{nat_eq_equiv}
 use Rattle.indexmap.proofs.CallerLemmas.{keys-with_value_at, updates-with_value_at}
 use Rattle.indexmap.specs.Layout.{length-set_value_at}
 use Rattle.indexmap.specs.IndexMap.{set_value_at}
-use Rattle.dt_timers.specs.declared.deadline.Deadline.{Deadline}
-use Rattle.dt_timers.specs.Deadlines.{AreEntered, deadline_at, entry_at}
+use Rattle.dt_timers.specs.Deadlines.{AreEntered, entry_at}
 use Rattle.dt_timers.proofs.Entries.{entry_there, held, moved, wrote}
 use Rattle.dt_timers.proofs.deadlines.Deadlines.set.Goals as goal
 
