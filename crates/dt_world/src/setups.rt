@@ -134,7 +134,8 @@ impl Setup {
         }
     }
 
-    pub(crate) fn rules(&self) -> &Rules
+    /// The parameters, each in its range.
+    pub fn rules(&self) -> &Rules
         ensures same { result.now ≡ self.now.params }
         ensures within { IsWithinLimits self.now.params }
     {
