@@ -88,6 +88,33 @@ const UNSENT_LOG: &[u8] = b"0 1 took 1:10>2:20 5
 end 100
 ";
 
+/// A call is made, served and answered.
+const ASKED: &[u8] = b"params 1000 3000 200 500 800 100 4096 4096 512 2147483648
+station 1 0
+station 2 0
+link 1 1 2 50 0
+link 2 2 1 50 0
+route 1 2 1
+route 2 1 2
+go
+call 1:10>2:20 010203
+arrive 0
+arrive 2
+";
+
+const ANSWERS: &[u8] = b"0 call 0 1:10>2:20 3
+0 served 0
+0 answered 0 030201
+calls 1 served 1 answered 1 unsure 0 declined 0 waiting 0
+end 0
+";
+
+const CALLS: Trial<'static> = Trial {
+    word: "calls",
+    input: ASKED,
+    ..FREELY
+};
+
 const AUDIT: Trial<'static> = Trial {
     word: "audit",
     input: SHORT_LOG,
@@ -99,12 +126,13 @@ fn nothing_fails(rt: HostRuntime) {
     let alloc = rt.alloc();
     assert!(rt; ends(alloc, &REPLAY, 0, SHORT_LOG, b""));
     assert!(rt; ends(alloc, &NODE, 0, NODE_LOG, b""));
+    assert!(rt; ends(alloc, &CALLS, 0, ANSWERS, b""));
     assert!(rt; ends(alloc, &AUDIT, 0, b"audit yes\n", b""));
 }
 
 #[test]
 fn a_read_fails(rt: HostRuntime) {
-    for trial in &[REPLAY, NODE, AUDIT] {
+    for trial in &[REPLAY, NODE, CALLS, AUDIT] {
         for read in 1..=2 {
             let failing = Trial {
                 failing_reads: &[read],
@@ -123,6 +151,7 @@ fn a_log_finds_no_room(rt: HostRuntime) {
     let rows = [
         (REPLAY, SHORT_LOG),
         (NODE, NODE_LOG),
+        (CALLS, ANSWERS),
         (AUDIT, b"audit yes\n".as_slice()),
     ];
     for (trial, log) in &rows {

@@ -45,7 +45,7 @@ fn a_message_is_too_long(rt: HostRuntime) -> Result<(), Fail> {
 #[test]
 fn an_input_is_too_long(rt: HostRuntime) -> Result<(), Fail> {
     let input = vec![in rt.alloc(); b'x'; 16_777_217]?;
-    for word in &["replay", "node", "audit"] {
+    for word in &["replay", "node", "calls", "audit"] {
         let trial = Trial {
             word,
             input: &input,
