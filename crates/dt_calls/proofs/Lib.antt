@@ -22,3 +22,4 @@ pub mod Beginnings
 pub mod CoursesOn
 pub mod Waiting
 pub mod DoubtWaiting
+pub mod Ways
