@@ -28,3 +28,4 @@ pub mod Beginnings
 pub mod CoursesOn
 pub mod Waiting
 pub mod DoubtWaiting
+pub mod Ways

@@ -113,8 +113,8 @@ impl<H: Handler> Calls<H> {
     /// memory, and where a count would pass its end. Then the first of the lines were told, and the
     /// calls are used no more; each was still served at most once.
     ///
-    /// The cost is that of the world's events, the octets that are read, for a call all calls, and the
-    /// octets of those that wait; after a `Pass` also two reads of each flow with a call, after a restart all
+    /// The cost is that of the world's events, the octets that are read, and the octets of the calls
+    /// that wait; after a `Pass` also two reads of each flow with a call, after a restart all
     /// flows.
     pub fn step<L: CallLines>(
         &mut self,
@@ -271,12 +271,13 @@ fn finish<H: Handler, L: CallLines>(
     Ok(())
 }
 
-/// The fault with which a call is refused, if it is. The cost is all calls.
-fn refusal<H>(parts: &Parts<H>, flow: Flow) -> Option<StepFault>
+/// The fault with which a call is refused, if it is.
+fn refusal<H: Handler>(parts: &Parts<H>, flow: Flow) -> Option<StepFault>
+    requires course { CourseFacts (H.answer parts.now.handler) (calls_seen parts.now) }
     ensures refusal { result ≡ first_refusal (call_refusals (calls_seen parts.now) flow) }
     ensures range { IsFlow flow }
 {
-    if flow.from == flow.to || is_way_of_replies(&parts.calls, &flow) {
+    if flow.from == flow.to || is_way_of_replies(parts, flow) {
         return Some(StepFault::BadFlow);
     }
     if !parts.world.has_station(flow.from) {
@@ -288,12 +289,12 @@ fn refusal<H>(parts: &Parts<H>, flow: Flow) -> Option<StepFault>
     None
 }
 
-/// Whether replies of an earlier call go along this flow.
-fn is_way_of_replies(calls: &[Call], flow: &Flow) -> bool
-    ensures { result ≡ list_any (λ call. same_flow call.flow (reversed flow.now)) calls.now }
+/// Whether replies of an earlier call go along this flow: then the reversed flow has a call.
+fn is_way_of_replies<H: Handler>(parts: &Parts<H>, flow: Flow) -> bool
+    requires { CourseFacts (H.answer parts.now.handler) (calls_seen parts.now) }
+    ensures { result ≡ list_any (λ call. same_flow call.flow (reversed flow)) parts.now.calls.items }
 {
-    let way = reversed(*flow);
-    calls.iter().any(|call| call.flow == way)
+    parts.flows.contains_key(&reversed(flow))
 }
 
 /// A call is made: its request is handed in.
