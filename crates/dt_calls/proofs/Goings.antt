@@ -5,7 +5,7 @@ use Rattle.dt_reports.specs.declared.faults.StepFault.{StepFault}
 use Rattle.dt_reports.specs.declared.faults.StepFault.TheVariants as fault
 use Rattle.dt_world_model.specs.World.{World}
 use Rattle.dt_world_model.specs.WorldFacts.{CanHappen}
-use Rattle.dt_world_model.specs.WorldStep.{Arrives, Loses, Passes, Reads, Restarts, Sends, Ticks, WorldEvent, after_event, first_refusal, refusals}
+use Rattle.dt_world_model.specs.WorldStep.{Arrives, Loses, Passes, Reads, Restarts, Sends, Ticks, WorldEvent}
 use Rattle.dt_world.specs.Outcomes.{FailsWith, IsDone, IsRefused}
 use Rattle.dt_world.specs.Worlds.{MayStep, WorldValue}
 use Rattle.dt_calls_laws.specs.Grown.{IsNoSendOrRead}
@@ -17,13 +17,12 @@ use Rattle.dt_calls.specs.declared.dues.Due.TheVariants as due
 use Rattle.dt_calls.specs.declared.world_calls.Parts.{Parts}
 use Rattle.dt_calls.specs.Dues.{IsDue, due_behind}
 use Rattle.dt_calls.specs.Flows.{flows_seen}
-use Rattle.dt_calls.specs.Going.{GoesWrong, HasNoMemory, IsRefusedBy}
+use Rattle.dt_calls.specs.Going.{GoesWrong, IsRefusedBy}
 use Rattle.dt_calls.specs.Happening.{HasHappened}
 use Rattle.dt_calls.specs.Hearing.{HeardValue, Hears, for_event, heard_all}
 use Rattle.dt_calls.specs.Parts.{IsKeptWorld, IsWhole, calls_seen}
 use Rattle.dt_calls.proofs.DuesLeft.{due_left}
 use Rattle.dt_calls.proofs.Hearings.{done_happened}
-use Rattle.dt_calls.proofs.Kept.{stepped_is}
 use Rattle.dt_calls.proofs.Worlds.{happens_keeps}
 
 -- an event that is no send and no read may step, and can happen
@@ -72,10 +71,6 @@ module _ {H : Type 0} (e : WorldEvent) (p : Parts H) (whole : IsWhole p) (world 
   goes_wrong fault.NoMemory d = record { begun = d.begun; calls = refl; handler = refl }
 
   module _ (done : IsDone Hears p.world e (for_event p.heard) t world) where
-    -- IT IS DONE, and a line wasn't heard for want of memory
-    pub not_heard : HasNoMemory e p after
-    not_heard = record { begun = (stepped_is (first_refusal (refusals p.world.state e)) (after_event p.world.state e) done.told world.state done.step).clear; calls = refl; handler = refl }
-
     -- IT IS DONE, and all was heard
     module _ (may : IsNoSendOrRead e) (heard : t.failed ≡ false) where
       has_happened : HasHappened e p.world p.heard world t
