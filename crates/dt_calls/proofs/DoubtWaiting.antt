@@ -1,5 +1,5 @@
 -- Only the calls whose numbers are kept are looked at: the others don't wait.
-use Rattle.std.proofs.Common.{ℕ, zero, suc, ◌+◌, ◌≡◌, ◌<◌, ◌≤◌, Bool, true, false, List, [], ◌∷◌, ◌++◌, length, set, get_or, take, drop, Some, None, refl, ap, sym, subst, ◌∙◌, inl, inr, ◌⊎◌, arith, add-one, append_assoc, append-nil}
+use Rattle.std.proofs.Common.{ℕ, zero, suc, ◌+◌, ◌≡◌, ◌<◌, ◌≤◌, Bool, true, false, List, [], ◌∷◌, ◌++◌, length, set, get_or, take, drop, refl, ap, sym, subst, ◌∙◌, inl, inr, arith, add-one, append_assoc}
 use Rattle.std.specs.Prelude.{◌&&◌, ◌||◌}
 use Rattle.std.proofs.lemmas.List.{get_or_default}
 use Rattle.dt_world_model.specs.World.{World}
@@ -155,6 +155,3 @@ module _ (calls : List Call) (xs : List ℕ) (kept place : ℕ) (number : ℕ) (
       let found : get_or calls number d ≡ call_in calls number = get_or_default calls number d no_call number_there in
       let here_not : is_waiting (call_in calls number).state ≡ false = subst (λ (x : Call). is_waiting x.state ≡ false) found not in
       covers_drop 0 (take kept xs) number (drop (place + 1) xs) calls here (λ i e. let same : i ≡ number = omega arith in subst (λ (k : ℕ). is_waiting (call_in calls k).state ≡ false) (sym same) here_not)
-
-pub numbers_left : (calls : List Call) (xs : List ℕ) (kept place : ℕ) → length xs ≤ place → Covers 0 (take kept xs ++ drop place xs) calls → Covers 0 (take kept xs) calls
-numbers_left calls xs kept place past h = subst (λ (r : List ℕ). Covers 0 r calls) (ap (λ (r : List ℕ). take kept xs ++ r) (none_from xs place past) ∙ append-nil (take kept xs)) h

@@ -1,5 +1,5 @@
 -- The facts of calls over the parts of a step, as the code comes to them.
-use Rattle.std.proofs.Common.{ℕ, ◌≡◌, ◌<◌, ◌≤◌, ◌^◌, Bool, true, false, List, ◌++◌, length, Option, None, Some, Result, Ok, Err, refl, ap, sym, subst, ◌∙◌}
+use Rattle.std.proofs.Common.{ℕ, ◌≡◌, ◌<◌, ◌≤◌, ◌^◌, false, List, length, Option, None, Some, Result, Ok, Err, refl, sym, subst}
 use Rattle.dt_units.specs.declared.endpoints.Flow.{Flow}
 use Rattle.dt_units.specs.Flows.{IsFlow}
 use Rattle.dt_reports.specs.Entries.{Entry}

@@ -1,20 +1,16 @@
 -- A call that is made: its request is handed in, its lines are told, and it gets its number.
-use Rattle.std.proofs.Common.{ℕ, ◌≡◌, ◌≤◌, arith, List, [], ◌∷◌, ◌++◌, length, None, Result, Ok, Err, refl, ap, sym, subst, ◌∙◌, append-nil}
+use Rattle.std.proofs.Common.{ℕ, ◌≡◌, List, [], ◌∷◌, ◌++◌, length, None, Result, Ok, Err, refl, ap, sym, subst, ◌∙◌, append-nil}
 use Rattle.std.specs.Prelude.{OnOk}
-use Rattle.std.specs.List.{All}
-use Rattle.std.proofs.lemmas.List.Elements.{All-push}
 use Rattle.dt_units.specs.declared.endpoints.Flow.{Flow}
 use Rattle.dt_units.specs.Flows.{IsFlow}
 use Rattle.dt_world_model.specs.World.{World}
 use Rattle.dt_calls_model.specs.declared.calls.Call.{Call}
-use Rattle.dt_calls_model.specs.declared.calls.CallState.TheVariants as state
 use Rattle.dt_calls_model.specs.declared.calls.Posted.{Posted}
 use Rattle.dt_calls_model.specs.declared.calls.Posted.TheVariants.{Refused, Taken}
 use Rattle.dt_calls_model.specs.Calls.{Begun, Calls, with_flow}
 use Rattle.dt_calls_model.specs.CallStep.{make, make_with, state_of}
 use Rattle.dt_calls_model.specs.CallTold.{CallEntry}
 use Rattle.dt_calls_model.specs.Messages.{message_of}
-use Rattle.dt_calls_model.specs.Promises.{IsServedOnce}
 use Rattle.dt_calls_model.specs.Reads.{Course, in_world, post}
 use Rattle.dt_calls.specs.declared.dues.Due.TheVariants as due
 use Rattle.dt_calls.specs.Courses.{GoesOn, HasGoneOn, HasStopped, from_calls}
@@ -33,14 +29,6 @@ on_ok P (Err e) h = tt
 -- the call that is added for a request that came to this
 abbrev pub call_for : Flow → Posted → Call
 call_for f posted = record { flow = f; state = state_of posted; served = 0; request = posted; reply = None }
-
--- it wasn't served, and isn't answered
-never_answered : (posted : Posted) → state_of posted ≡ state.Answered → ⊥
-never_answered (Taken place many) e = cc
-never_answered Refused e = cc
-
-pub added_once : (f : Flow) (posted : Posted) (calls : List Call) → All IsServedOnce calls → All IsServedOnce (calls ++ call_for f posted ∷ [])
-added_once f posted calls h = All-push IsServedOnce calls (call_for f posted) h (record { at_most_once = omega arith; answered_once = λ e. absurd (never_answered posted e) })
 
 abbrev pub Adding : Flow → ℕ → Posted → Course → Course
 Adding f count posted r = then_made r (make_with f count (posted, r.calls.world) r.calls)

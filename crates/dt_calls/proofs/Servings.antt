@@ -1,6 +1,6 @@
 -- Requests are served, and replies answer their calls: what the code leaves is what the definitions say.
-use Rattle.std.proofs.Common.{ℕ, ◌+◌, ◌≡◌, ◌<◌, Bool, true, false, if◌then◌else◌, List, [], ◌∷◌, ◌++◌, length, set, get_or, Option, Some, None, refl, ap, sym, subst, ◌∙◌, append-nil}
-use Rattle.std.specs.Prelude.{◌&&◌, slice_index_or}
+use Rattle.std.proofs.Common.{ℕ, ◌+◌, ◌≡◌, ◌<◌, Bool, true, false, if◌then◌else◌, List, [], ◌∷◌, length, set, get_or, Some, refl, ap, sym, subst, ◌∙◌}
+use Rattle.std.specs.Prelude.{◌&&◌}
 use Rattle.std.proofs.lemmas.List.{get_or_default}
 use Rattle.dt_units.specs.declared.endpoints.Flow.{Flow}
 use Rattle.dt_world_model.specs.World.{World}
@@ -8,12 +8,10 @@ use Rattle.dt_calls_model.specs.declared.calls.Call.{Call}
 use Rattle.dt_calls_model.specs.declared.calls.CallState.{CallState}
 use Rattle.dt_calls_model.specs.declared.calls.CallState.TheVariants as state
 use Rattle.dt_calls_model.specs.declared.calls.Posted.{Posted}
-use Rattle.dt_calls_model.specs.declared.calls.Posted.TheVariants.{Refused, Taken}
-use Rattle.dt_calls_model.specs.Calls.{Begun, Calls, Client, Server, Side, call_in, is_call_in, no_call, with_flow}
-use Rattle.dt_calls_model.specs.CallStep.{make, make_with, state_of}
+use Rattle.dt_calls_model.specs.Calls.{Calls, Side, call_in, is_call_in, no_call}
 use Rattle.dt_calls_model.specs.CallTold as told
 use Rattle.dt_calls_model.specs.CallTold.{CallEntry}
-use Rattle.dt_calls_model.specs.Messages.{carried_in, has_number, message_of, number_in, reversed}
+use Rattle.dt_calls_model.specs.Messages.{has_number, message_of, number_in, reversed}
 use Rattle.dt_calls_model.specs.Reads.{Course, answered_if, post, serve_call, take_message, take_whole}
 use Rattle.dt_calls.specs.Courses.{HasGoneOn, HasStopped, from_calls}
 use Rattle.dt_calls.specs.Telling.{TellsCalls}

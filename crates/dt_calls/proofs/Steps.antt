@@ -1,44 +1,30 @@
 -- What a step of calls answers, by what its event did and what was read behind it.
-use Rattle.std.proofs.Common.{ℕ, ◌≡◌, Bool, true, false, List, [], ◌∷◌, ◌++◌, Option, Some, None, Result, Ok, Err, refl, ap, sym, subst, ◌∙◌}
-use Rattle.std.specs.List.{All}
+use Rattle.std.proofs.Common.{ℕ, ◌≡◌, false, List, [], Option, None, Result, Err, refl, ap, sym, subst, ◌∙◌}
 use Rattle.dt_units.specs.declared.endpoints.Flow.{Flow}
 use Rattle.dt_reports.specs.Entries.{Entry}
 use Rattle.dt_reports.specs.declared.faults.StepFault.{StepFault}
 use Rattle.dt_reports.specs.declared.faults.StepFault.TheVariants as fault
 use Rattle.dt_world_model.specs.World.{World}
 use Rattle.dt_world_model.specs.WorldStep as world
-use Rattle.dt_world_model.specs.WorldStep.{WorldEvent, after_event, first_refusal, is_own, lacks_station, refusals, step_unless, world_step}
+use Rattle.dt_world_model.specs.WorldStep.{WorldEvent, after_event, first_refusal, refusals, step_unless, world_step}
 use Rattle.dt_calls_laws.specs.Grown.{IsNoSendOrRead}
 use Rattle.dt_calls_model.specs.declared.calls.Call.{Call}
 use Rattle.dt_calls_model.specs.CallFacts.{CourseFacts}
 use Rattle.dt_calls_model.specs.Calls.{Begun, Calls}
 use Rattle.dt_calls_model.specs.CallTold.{CallEntry}
 use Rattle.dt_calls_model.specs.CallStep as step
-use Rattle.dt_calls_model.specs.CallStep.{Faulty, Happens, Makes, Outcome, Stepped, call_refusals, call_step, finish, flows_after, go_on, is_way_of_replies, make, make_unless}
-use Rattle.dt_calls_model.specs.Promises.{AreServedOnce, IsServedOnce}
+use Rattle.dt_calls_model.specs.CallStep.{Faulty, Happens, Makes, Stepped, call_refusals, call_step, finish, flows_after, go_on, make, make_unless}
 use Rattle.dt_calls_model.specs.Reads.{Course}
-use Rattle.dt_calls.specs.CallOutcomes.{FailsWith, IsDone, IsRefused, IsStopped, StepsTo, is_memory}
+use Rattle.dt_calls.specs.CallOutcomes.{FailsWith, IsDone, IsStopped, StepsTo, is_memory}
 use Rattle.dt_calls.specs.Courses.{HasGoneOn, HasStopped, from_calls}
 use Rattle.dt_calls.specs.declared.dues.Due.{Due}
 use Rattle.dt_calls.specs.declared.world_calls.Parts.{Parts}
 use Rattle.dt_calls.specs.Flows.{flows_seen}
 use Rattle.dt_calls.specs.Going.{GoesWrong, HasGone, IsRefusedBy}
-use Rattle.dt_calls.specs.Parts.{IsWhole, calls_seen}
-use Rattle.dt_calls.specs.Telling.{TellsCalls}
+use Rattle.dt_calls.specs.Parts.{calls_seen}
 use Rattle.dt_calls.proofs.Courses.{adds_finish, gone_stop, gone_then, stop_then}
 use Rattle.dt_calls.proofs.Kept.{event_kept}
 use Rattle.dt_calls.proofs.Makings.{Making}
-
--- a call is refused for no want of memory
-first_plain : (a b c d : Bool) (m n : ℕ) (why : StepFault) → first_refusal ((a, fault.BadFlow) ∷ (b, fault.BadFlow) ∷ (c, fault.NoStation m) ∷ (d, fault.NoStation n) ∷ []) ≡ Some why → is_memory why ≡ false
-first_plain true b c d m n why e = let is : fault.BadFlow ≡ why = cc in subst (λ (f : StepFault). is_memory f ≡ false) is refl
-first_plain false true c d m n why e = let is : fault.BadFlow ≡ why = cc in subst (λ (f : StepFault). is_memory f ≡ false) is refl
-first_plain false false true d m n why e = let is : fault.NoStation m ≡ why = cc in subst (λ (f : StepFault). is_memory f ≡ false) is refl
-first_plain false false false true m n why e = let is : fault.NoStation n ≡ why = cc in subst (λ (f : StepFault). is_memory f ≡ false) is refl
-first_plain false false false false m n why e = absurd cc
-
-pub plain_refusal : (c : Calls) (f : Flow) (why : StepFault) → first_refusal (call_refusals c f) ≡ Some why → is_memory why ≡ false
-plain_refusal c f why e = first_plain (is_own f).0 (is_way_of_replies c f).0 (lacks_station c.world f.from.0).0 (lacks_station c.world f.to.0).0 f.from.0 f.to.0 why e
 
 module _ {L : Type 0} (tells : L → CallEntry → L → Type 0) (answer : List ℕ → List ℕ) (c : Calls) (l m : L) where
   -- what is refused changes nothing
@@ -52,9 +38,6 @@ module _ {L : Type 0} (tells : L → CallEntry → L → Type 0) (answer : List 
 
   -- A CALL
   module _ (f : Flow) (payload : List ℕ) where
-    pub call_refused : (why : StepFault) → first_refusal (call_refusals c f) ≡ Some why → call_step answer c (Makes f payload) ≡ Faulty why
-    call_refused why e = ap (λ (o : Option StepFault). make_unless answer o f payload c) e
-
     module _ (fine : first_refusal (call_refusals c f) ≡ None) where
       abbrev all : Course
       all = finish answer (make f payload c)
@@ -111,34 +94,6 @@ module _ {L : Type 0} (tells : L → CallEntry → L → Type 0) (answer : List 
 
 -- AN EVENT OF THE WORLD, by its parts
 module _ {H : Type 0} (e : WorldEvent) (p after : Parts H) where
-  pub wrong_handler : (why : StepFault) → GoesWrong e p after why → after.handler ≡ p.handler
-  wrong_handler fault.BadFlow h = h.handler
-  wrong_handler (fault.NoStation n) h = h.handler
-  wrong_handler (fault.NoCopy n) h = h.handler
-  wrong_handler (fault.Lost n) h = h.handler
-  wrong_handler (fault.TooLate held charge) h = h.handler
-  wrong_handler fault.NoMemory h = h.handler
-
-  pub wrong_whole : (why : StepFault) → GoesWrong e p after why → is_memory why ≡ false → IsWhole after
-  wrong_whole fault.BadFlow h plain = h.whole
-  wrong_whole (fault.NoStation n) h plain = h.whole
-  wrong_whole (fault.NoCopy n) h plain = h.whole
-  wrong_whole (fault.Lost n) h plain = h.whole
-  wrong_whole (fault.TooLate held charge) h plain = h.whole
-  wrong_whole fault.NoMemory h plain = absurd cc
-
-  -- no call has changed
-  same_once : calls_seen after ≡ calls_seen p → AreServedOnce (calls_seen p) → AreServedOnce (calls_seen after)
-  same_once same once = subst AreServedOnce (sym same) once
-
-  pub wrong_once : (why : StepFault) → GoesWrong e p after why → AreServedOnce (calls_seen p) → AreServedOnce (calls_seen after)
-  wrong_once fault.BadFlow h once = same_once h.same once
-  wrong_once (fault.NoStation n) h once = same_once h.same once
-  wrong_once (fault.NoCopy n) h once = same_once h.same once
-  wrong_once (fault.Lost n) h once = same_once h.same once
-  wrong_once (fault.TooLate held charge) h once = same_once h.same once
-  wrong_once fault.NoMemory h once = subst (All IsServedOnce) (sym (ap (λ v. v.items) h.calls)) once
-
   module _ {L : Type 0} (tells : L → CallEntry → L → Type 0) (answer : List ℕ → List ℕ) (l : L) where
     refused_for : (why : StepFault) → is_memory why ≡ false → IsRefusedBy e p after why → FailsWith tells answer (calls_seen p) (Happens e) l l why (calls_seen after)
     refused_for why plain h = refused_with tells answer (calls_seen p) l l (Happens e) why (calls_seen after) plain (event_refused tells answer (calls_seen p) l l e why h.step) h.same refl

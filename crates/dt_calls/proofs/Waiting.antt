@@ -1,13 +1,13 @@
 -- What keeps the numbers of the calls that wait.
-use Rattle.std.proofs.Common.{ℕ, zero, suc, ◌+◌, ◌≡◌, ◌<◌, ◌≤◌, Bool, true, false, if◌then◌else◌, List, [], ◌∷◌, ◌++◌, length, set, get_or, take, drop, Option, Some, None, refl, ap, sym, subst, ◌∙◌, inl, inr, ◌⊎◌, arith, add-one}
+use Rattle.std.proofs.Common.{ℕ, zero, suc, ◌+◌, ◌≡◌, ◌<◌, Bool, true, false, if◌then◌else◌, List, [], ◌∷◌, ◌++◌, length, set, Option, Some, None, refl, sym, subst, ◌∙◌, inl, inr, arith}
 use Rattle.std.specs.Prelude.{◌&&◌}
 use Rattle.dt_units.specs.declared.endpoints.Flow.{Flow}
 use Rattle.dt_calls_model.specs.declared.calls.Call.{Call}
 use Rattle.dt_calls_model.specs.declared.calls.CallState.{CallState}
 use Rattle.dt_calls_model.specs.declared.calls.CallState.TheVariants as state
-use Rattle.dt_calls_model.specs.Calls.{Calls, Client, Server, Side, call_at, call_in, is_call, no_call}
+use Rattle.dt_calls_model.specs.Calls.{Client, Server, Side, call_at, call_in, is_call}
 use Rattle.dt_calls_model.specs.CallStep.{is_waiting}
-use Rattle.dt_calls_model.specs.Messages.{carried_in, has_number, message_of, number_in, reversed}
+use Rattle.dt_calls_model.specs.Messages.{carried_in, has_number, number_in}
 use Rattle.dt_calls_model.specs.Reads.{Course, answered_if, take_message, take_whole}
 use Rattle.dt_calls.specs.Waiting.{Covers}
 

@@ -1,4 +1,4 @@
-use Rattle.std.proofs.Common.{ℕ, ◌+◌, ◌∷◌, ◌≡◌, ◌<◌, ◌≤◌, [], List, drop, length, get_or, refl, sym, ap, subst, ◌∙◌, arith, rules}
+use Rattle.std.proofs.Common.{ℕ, ◌+◌, ◌≡◌, ◌<◌, ◌≤◌, List, drop, length, get_or, refl, sym, ap, subst, ◌∙◌, arith, rules}
 use Rattle.dt_calls_model.specs.CallStep.{becomes_unsure}
 use Rattle.dt_calls.specs.Parts.{calls_seen}
 use Rattle.dt_calls.proofs.DoubtParts.{same_read, sure_next, unsure_next}

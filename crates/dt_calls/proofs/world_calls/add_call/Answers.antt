@@ -1,4 +1,4 @@
-use Rattle.std.proofs.Common.{ℕ, ◌≡◌, ◌++◌, ◌∷◌, [], List, length, sym, ap, subst, ◌∙◌, rules}
+use Rattle.std.proofs.Common.{ℕ, ◌≡◌, ◌++◌, ◌∷◌, [], List, length, sym, subst, rules}
 use Rattle.dt_calls_model.specs.declared.calls.Call.{Call}
 use Rattle.dt_calls.specs.Waiting.{Covers}
 use Rattle.dt_calls.proofs.Makings.{call_for, on_ok}

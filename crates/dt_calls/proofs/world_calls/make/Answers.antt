@@ -1,7 +1,5 @@
-use Rattle.std.proofs.Common.{◌≡◌, List, ℕ, length, refl, sym, ap, subst, ◌∙◌, rules}
+use Rattle.std.proofs.Common.{◌≡◌, List, ℕ, length, sym, ap, subst, ◌∙◌, rules}
 use Rattle.std.proofs.lemmas.Result.{on_ok_weaker}
-use Rattle.dt_world_model.specs.World.{World}
-use Rattle.dt_calls_model.specs.declared.calls.Posted.{Posted}
 use Rattle.dt_calls_model.specs.Calls.{with_flow}
 use Rattle.dt_calls_model.specs.Messages.{message_of}
 use Rattle.dt_calls_model.specs.Reads.{post}

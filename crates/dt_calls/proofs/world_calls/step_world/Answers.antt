@@ -1,4 +1,4 @@
-use Rattle.std.proofs.Common.{◌≡◌, ◌<◌, ◌^◌, length, sym, subst, ◌∙◌, rules}
+use Rattle.std.proofs.Common.{◌<◌, ◌^◌, length, sym, subst, rules}
 use Rattle.std.proofs.lemmas.Result.{err_from_is_err_and}
 use Rattle.dt_reports.specs.declared.faults.StepFault.{StepFault}
 use Rattle.dt_world.specs.Worlds.{event_of}
