@@ -10,7 +10,9 @@ use Rattle.dt_units.proofs.Within.{within_limits}
 use Rattle.dt_reports.specs.Entries.{Entry}
 use Rattle.dt_log.specs.Logs.{entry_text, log_text}
 use Rattle.dt_reports.specs.declared.faults.Fault.{Fault}
+use Rattle.dt_reports.specs.declared.faults.Fault.TheVariants as faults
 use Rattle.dt_reports.specs.declared.faults.LineFault.{LineFault}
+use Rattle.dt_reports.specs.declared.faults.LineFault.TheVariants.{Order}
 use Rattle.dt_reports.specs.declared.faults.SetupFault.{SetupFault}
 use Rattle.dt_text.specs.declared.lines.Form.TheVariants.{Schedule}
 use Rattle.dt_text.specs.declared.stages.Stage.{Stage}
@@ -208,8 +210,8 @@ refused_passes number book scene fault =
     }
 
 closed_passes : (count number : ℕ) (book : Book FlowLog) (scene : Scene) → count < 2 ^ 32 → IsSceneLogged count scene book → FoldPasses book (closed number scene (close scene)).text
-closed_passes count number book Empty small h = refused_passes number book Empty _
-closed_passes count number book (Prepares setup) small h = refused_passes number book (Prepares setup) _
+closed_passes count number book Empty small h = refused_passes number book Empty (faults.Line Order)
+closed_passes count number book (Prepares setup) small h = refused_passes number book (Prepares setup) (faults.Line Order)
 closed_passes count number book (Runs w) small h = record { told = last_lines w; logs = refl; next = book; passes = last_pass w book; written = last_written w (omega (arith, h.within.now, small)) }
 
 on_passes : (count number : ℕ) (book : Book FlowLog) (scene : Scene) (rest : Scene → Folded Scene) (r : Result (Turned Scene) Fault) → TurnPasses (suc count) book r
