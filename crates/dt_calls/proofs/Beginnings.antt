@@ -13,9 +13,10 @@ use Rattle.dt_calls.specs.CallOutcomes.{IsNew}
 use Rattle.dt_calls.specs.Flows.{flows_seen}
 use Rattle.dt_calls.specs.Going.{IsSettled}
 use Rattle.dt_calls.specs.Parts.{calls_seen}
+use Rattle.dt_calls.specs.Waiting.{Covers}
 use Rattle.dt_calls.proofs.Kept.{world_kept}
 
-module _ {H : Type 0} (answer : List ℕ → List ℕ) (p : Parts H) (new : IsNew p.world.state) (no_calls : p.calls.items ≡ []) (no_flows : p.flows.entries ≡ []) where
+module _ {H : Type 0} (answer : List ℕ → List ℕ) (p : Parts H) (new : IsNew p.world.state) (no_calls : p.calls.items ≡ []) (no_waiting : p.waiting.items ≡ []) (no_flows : p.flows.entries ≡ []) where
   seen : calls_seen p ≡ new_calls (new_world new.setup)
   seen =
       ap (λ (w : World). let c : Calls = record { world = w; calls = p.calls.items; flows = flows_seen p.flows.entries } in c) new.new
@@ -25,5 +26,8 @@ module _ {H : Type 0} (answer : List ℕ → List ℕ) (p : Parts H) (new : IsNe
   facts : CallFacts answer (calls_seen p)
   facts = subst (CallFacts answer) (sym seen) (new_calls_facts answer new.setup new.limits)
 
+  covered : Covers 0 p.waiting.items p.calls.items
+  covered = subst (λ (ks : List ℕ). Covers 0 ks p.calls.items) (sym no_waiting) (subst (λ (cs : List Call). Covers 0 [] cs) (sym no_calls) tt)
+
   pub begins_settled : p.world.spent ≡ false → p.heard.failed ≡ false → IsSettled answer p
-  begins_settled unspent heard = record { whole = record { unspent = unspent; heard = heard; world = world_kept answer (calls_seen p) facts.course }; facts = facts }
+  begins_settled unspent heard = record { whole = record { unspent = unspent; heard = heard; world = world_kept answer (calls_seen p) facts.course; waiting = covered }; facts = facts }

@@ -12,41 +12,43 @@ use Rattle.dt_calls_model.specs.CallStep.{becomes_unsure}
 use Rattle.dt_calls_model.specs.CallTold as told
 use Rattle.dt_calls_model.specs.CallTold.{CallEntry}
 use Rattle.dt_calls.specs.declared.world_calls.Parts.{Parts}
-use Rattle.dt_calls.proofs.Doubts.{DoubtsOn, next_sure, next_unsure}
+use Rattle.dt_calls.specs.Waiting.{Covers}
+use Rattle.dt_calls.proofs.DoubtWaiting.{DoubtsTo, looked_sure, looked_unsure}
+use Rattle.dt_calls.proofs.Waiting.{covers_set}
 
 -- one item, read twice
 pub same_read : (xs : List Call) (i : ℕ) (x y : Call) → i < length xs → x ≡ get_or xs i x → y ≡ get_or xs i y → x ≡ y
 same_read xs i x y h e f = e ∙ get_or_default xs i x y h ∙ sym f
 
-pub record Next {H L : Type 0} (tells : L → CallEntry → L → Type 0) (fn : Parts H) (l : L) (i : ℕ) (after : Parts H) (n : L) : Type 0 where
-  pub on : DoubtsOn tells fn.world.state fn.calls.items l i after.calls.items n
+pub record Next {H L : Type 0} (tells : L → CallEntry → L → Type 0) (fn : Parts H) (l : L) (ks : List ℕ) (after : Parts H) (n : L) : Type 0 where
+  pub to : DoubtsTo tells fn.world.state fn.calls.items l ks after.calls.items n
   pub same : after ≡ record fn { calls = after.calls }
-  pub long : length after.calls.items ≡ length fn.calls.items
+  pub covers : Covers 0 fn.waiting.items after.calls.items
 
-module _ {H L : Type 0} (tells : L → CallEntry → L → Type 0) (fn loop after : Parts H) (l m n : L) (i : ℕ) (x : Call)
-    (on : DoubtsOn tells fn.world.state fn.calls.items l i loop.calls.items m) (same : loop ≡ record fn { calls = loop.calls }) (long : length loop.calls.items ≡ length fn.calls.items)
-    (there : i < length loop.calls.items) (is : x ≡ get_or loop.calls.items i x) (changed : after ≡ record loop { calls = after.calls }) where
+module _ {H L : Type 0} (tells : L → CallEntry → L → Type 0) (fn loop after : Parts H) (l m n : L) (k : ℕ) (ks : List ℕ) (x : Call)
+    (to : DoubtsTo tells fn.world.state fn.calls.items l (k ∷ ks) loop.calls.items m) (same : loop ≡ record fn { calls = loop.calls }) (covers : Covers 0 fn.waiting.items loop.calls.items)
+    (is : x ≡ get_or loop.calls.items k x) (changed : after ≡ record loop { calls = after.calls }) where
   still : after ≡ record fn { calls = after.calls }
   still = changed ∙ ap (λ (p : Parts H). let q : Parts H = record p { calls = after.calls } in q) same
 
   world_is : loop.world.state ≡ fn.world.state
   world_is = ap (λ (p : Parts H). p.world.state) same
 
-  pub sure_next : becomes_unsure loop.world.state x ≡ false → after.calls.items ≡ loop.calls.items → n ≡ m → Next tells fn l (i + 1) after n
+  pub sure_next : becomes_unsure loop.world.state x ≡ false → after.calls.items ≡ loop.calls.items → n ≡ m → Next tells fn l ks after n
   sure_next sure items lines = record {
-    on = subst (λ (k : L). DoubtsOn tells fn.world.state fn.calls.items l (i + 1) after.calls.items k) (sym lines)
-        (subst (λ (cs : List Call). DoubtsOn tells fn.world.state fn.calls.items l (i + 1) cs m) (sym items) (next_sure tells fn.world.state fn.calls.items l i loop.calls.items m on x there is (ap (λ (w : World). becomes_unsure w x) (sym world_is) ∙ sure)));
+    to = subst (λ (o : L). DoubtsTo tells fn.world.state fn.calls.items l ks after.calls.items o) (sym lines)
+        (subst (λ (cs : List Call). DoubtsTo tells fn.world.state fn.calls.items l ks cs m) (sym items)
+        (looked_sure tells fn.world.state fn.calls.items l loop.calls.items m k ks to x is (ap (λ (w : World). becomes_unsure w x) (sym world_is) ∙ sure)));
     same = still;
-    long = ap length items ∙ long;
+    covers = subst (λ (cs : List Call). Covers 0 fn.waiting.items cs) (sym items) covers;
   }
 
-  pub unsure_next : (moment : ℕ) → becomes_unsure loop.world.state x ≡ true → after.calls.items ≡ set loop.calls.items i (record x { state = state.Unsure }) → length (set loop.calls.items i (record x { state = state.Unsure })) ≡ length loop.calls.items → moment ≡ fn.world.state.now
-      → tells m (record { moment = moment; told = told.Unsure i }) n → Next tells fn l (i + 1) after n
-  unsure_next moment unsure items count at tell = record {
-    on = subst (λ (cs : List Call). DoubtsOn tells fn.world.state fn.calls.items l (i + 1) cs n) (sym items)
-        (next_unsure tells fn.world.state fn.calls.items l i loop.calls.items m on x there is (ap (λ (w : World). becomes_unsure w x) (sym world_is) ∙ unsure) n (subst (λ (k : ℕ). tells m (record { moment = k; told = told.Unsure i }) n) at tell));
+  pub unsure_next : (moment : ℕ) → becomes_unsure loop.world.state x ≡ true → after.calls.items ≡ set loop.calls.items k (record x { state = state.Unsure }) → moment ≡ fn.world.state.now → tells m (record { moment = moment; told = told.Unsure k }) n → Next tells fn l ks after n
+  unsure_next moment unsure items at tell = record {
+    to = subst (λ (cs : List Call). DoubtsTo tells fn.world.state fn.calls.items l ks cs n) (sym items)
+        (looked_unsure tells fn.world.state fn.calls.items l loop.calls.items m k ks to x is (ap (λ (w : World). becomes_unsure w x) (sym world_is) ∙ unsure) n (subst (λ (t : ℕ). tells m (record { moment = t; told = told.Unsure k }) n) at tell));
     same = still;
-    long = ap length items ∙ count ∙ long;
+    covers = subst (λ (cs : List Call). Covers 0 fn.waiting.items cs) (sym items) (covers_set 0 fn.waiting.items loop.calls.items k (record x { state = state.Unsure }) (λ e. absurd cc) covers);
   }
 
 -- WHETHER SOME OCTET of a message passes a test, looked at one by one

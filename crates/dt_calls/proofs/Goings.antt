@@ -59,6 +59,7 @@ module _ {H : Type 0} (e : WorldEvent) (p : Parts H) (whole : IsWhole p) (world 
       unspent = ap (λ (v : WorldValue). v.spent) d.same ∙ whole.unspent;
       heard = ap (λ (h : HeardValue). h.failed) d.lines ∙ whole.heard;
       world = subst (λ (v : WorldValue). IsKeptWorld v.state) (sym d.same) whole.world;
+      waiting = whole.waiting;
     };
   }
 

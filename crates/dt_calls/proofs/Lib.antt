@@ -26,3 +26,6 @@ pub mod Makings
 pub mod Goings
 pub mod Beginnings
 pub mod CoursesOn
+pub mod Waiting
+pub mod DoubtWaiting
+pub mod Ways

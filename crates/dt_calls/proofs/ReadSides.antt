@@ -8,6 +8,7 @@ use Rattle.dt_world_model.specs.Tables.{has_key, same_flow}
 use Rattle.dt_world_model.specs.World.{World}
 use Rattle.dt_world_model.specs.WorldStep.{Reads}
 use Rattle.dt_world.specs.Worlds.{WorldValue}
+use Rattle.dt_calls_model.specs.declared.calls.Call.{Call}
 use Rattle.dt_calls_model.specs.Calls as model
 use Rattle.dt_calls_model.specs.Calls.{Begun, Calls, Side, flow_read}
 use Rattle.dt_calls_model.specs.CallTold.{CallEntry}
@@ -15,13 +16,15 @@ use Rattle.dt_calls_model.specs.Heard.{piece_in}
 use Rattle.dt_calls_model.specs.Messages.{Piece}
 use Rattle.dt_calls_model.specs.Reads.{Course, happens, most_read, read_side, take_whole}
 use Rattle.dt_calls.specs.declared.world_calls.Parts.{Parts}
-use Rattle.dt_calls.specs.Courses.{GoesOn, HasGoneOn, HasStopped}
+use Rattle.dt_calls.specs.Courses.{GoesOn, HasGoneOn, HasStopped, from_calls}
 use Rattle.dt_calls.specs.Flows.{flows_seen}
 use Rattle.dt_calls.specs.Happening.{HasHappened}
 use Rattle.dt_calls.specs.Hearing.{HeardValue, heard_all, for_event}
+use Rattle.dt_calls.specs.Waiting.{Covers}
 use Rattle.dt_calls.specs.Parts.{HasJoined, IsKeptWorld, calls_seen, keys_in}
 use Rattle.dt_calls.proofs.FlowTables.{key_written, keys_seen, keys_written}
 use Rattle.dt_calls.proofs.Hearings.{piece_heard}
+use Rattle.dt_calls.proofs.Waiting.{whole_covers}
 use Rattle.dt_calls.proofs.Worlds.{happens_keeps}
 use Rattle.dt_calls.proofs.Readings.{ReadsOn, ends_here, has_joined, has_read, made_whole, piece_read}
 
@@ -102,3 +105,14 @@ module _ {L : Type 0} (tells : L → CallEntry → L → Type 0) (answer : List 
     none_seen m is =
         subst (λ (o : Option (List ℕ)). HasGoneOn tells (take_whole answer side f o) (has_joined tells answer side f j.piece (has_read tells answer side f d)) m m (calls_seen after)) (sym is ∙ whole_seen)
         (record { lines = refl; calls = joined_seen })
+
+    -- the numbers of calls that wait stay
+    pub still_covers : Covers 0 p.waiting.items p.calls.items → (m n : L) (next : Parts H) → next.waiting ≡ after.waiting
+        → HasGoneOn tells (take_whole answer side f (made_whole tells answer side f j.piece (has_read tells answer side f d))) (has_joined tells answer side f j.piece (has_read tells answer side f d)) m n (calls_seen next) → Covers 0 next.waiting.items next.calls.items
+    still_covers h m n next same gone =
+        let e = has_joined tells answer side f j.piece (has_read tells answer side f d) in
+        let whole_is = made_whole tells answer side f j.piece (has_read tells answer side f d) in
+        let here : Covers 0 p.waiting.items e.calls = subst (λ (cs : List Call). Covers 0 p.waiting.items cs) (ap (λ (x : Calls). x.calls) seen) h in
+        let there : Covers 0 p.waiting.items next.calls.items = subst (λ (cs : List Call). Covers 0 p.waiting.items cs) (ap (λ (x : Calls). x.calls) (sym gone.calls)) (whole_covers answer p.waiting.items side f whole_is (from_calls e) here) in
+        let kept : next.waiting.items ≡ p.waiting.items = ap (λ v. v.items) same ∙ ap (λ x. x.waiting.items) j.same in
+        subst (λ (ks : List ℕ). Covers 0 ks next.calls.items) (sym kept) there

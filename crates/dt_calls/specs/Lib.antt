@@ -15,3 +15,4 @@ pub mod Dues
 pub mod CallInputs
 pub mod CallScenes
 pub mod CallEnds
+pub mod Waiting

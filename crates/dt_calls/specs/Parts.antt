@@ -12,6 +12,7 @@ use Rattle.dt_calls_model.specs.Reads as reads
 use Rattle.dt_calls.specs.declared.flow_sides.FlowSides.{FlowSides}
 use Rattle.dt_calls.specs.declared.world_calls.Parts.{Parts}
 use Rattle.dt_calls.specs.Flows.{flows_seen}
+use Rattle.dt_calls.specs.Waiting.{Covers}
 
 -- what is kept of the world, by which each read takes octets that were unread
 pub record IsKeptWorld (w : World) : Type 0 where
@@ -31,6 +32,7 @@ module _ {H : Type 0} where
     pub unspent : p.world.spent ≡ false
     pub heard : p.heard.failed ≡ false
     pub world : IsKeptWorld p.world.state
+    pub waiting : Covers 0 p.waiting.items p.calls.items
 
   -- A MESSAGE WAS HANDED IN: only the world and what was heard of it have changed. Where memory was wanted the calls are what they were.
   pub record HasPosted (flow : Flow) (p : Parts H) (posted : Posted) (after : Parts H) : Type 0 where

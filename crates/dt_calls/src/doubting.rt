@@ -4,6 +4,7 @@ ghost use Rattle.dt_calls_model.specs.CallStep.{becomes_unsure, doubt_all, is_do
 ghost use Rattle.dt_calls_model.specs.Messages.{reversed};
 ghost use Rattle.dt_calls.specs.Courses.{HasGoneOn};
 ghost use Rattle.dt_calls.specs.Parts.{calls_seen};
+ghost use Rattle.dt_calls.specs.Waiting.{Covers};
 
 use crate::call_lines::{CallLine, CallLines};
 use crate::messages::reversed;
@@ -14,20 +15,51 @@ use dt_flow_model::{Fate, Taken};
 use dt_units::Flow;
 use dt_world::World;
 
-/// The calls that wait and whose answers may never come become unsure, in their order. The cost is all
-/// calls, and the octets of the messages of those that wait.
+/// The calls that wait and whose answers may never come become unsure, in their order. The cost is the
+/// calls that waited after the step before or were made in this one, and the octets of the messages of
+/// those that wait.
 pub fn doubt<H, L: CallLines>(parts: &mut Parts<H>, lines: &mut L)
+    requires { Covers 0 parts.old.waiting.items parts.old.calls.items }
     ensures goes { HasGoneOn L.tells doubt_all (calls_seen parts.old) lines.old lines.new (calls_seen parts.new) }
+    ensures covers { Covers 0 parts.new.waiting.items parts.new.calls.items }
+    ensures same { parts.new ≡ record parts.old { calls = parts.new.calls; waiting = parts.new.waiting } }
+{
+    doubt_waiting(parts, lines);
+    drop_settled(&mut parts.waiting, &parts.calls);
+}
+
+/// The calls become unsure.
+fn doubt_waiting<H, L: CallLines>(parts: &mut Parts<H>, lines: &mut L)
+    requires { Covers 0 parts.old.waiting.items parts.old.calls.items }
+    ensures goes { HasGoneOn L.tells doubt_all (calls_seen parts.old) lines.old lines.new (calls_seen parts.new) }
+    ensures covers { Covers 0 parts.old.waiting.items parts.new.calls.items }
     ensures same { parts.new ≡ record parts.old { calls = parts.new.calls } }
 {
     let moment = parts.world.now();
-    for number in 0..parts.calls.len() {
+    for place in 0..parts.waiting.len() {
+        let number = parts.waiting[place];
         if becomes_unsure(&parts.world, &parts.calls[number]) {
             parts.calls[number].state = CallState::Unsure;
             let call = number as u64;
             lines.line(moment, &CallLine::Unsure { call });
         }
     }
+}
+
+/// The numbers of calls that wait no more are dropped.
+fn drop_settled(waiting: &mut Vec<usize>, calls: &[Call])
+    requires { Covers 0 waiting.old.items calls.now }
+    ensures { Covers 0 waiting.new.items calls.now }
+{
+    let mut kept = 0;
+    for place in 0..waiting.len() {
+        let number = waiting[place];
+        if is_waiting(calls[number].state) {
+            waiting[kept] = number;
+            kept += 1;
+        }
+    }
+    waiting.truncate(kept);
 }
 
 /// Whether the call waits, and its answer may never come.

@@ -211,6 +211,7 @@ fn take_message<H: Handler, L: CallLines>(
     ensures stays { OnErr result (parts.new.calls.items ≡ parts.old.calls.items) }
     ensures unspent { OnOk result (parts.new.world.spent ≡ false) }
     ensures heard { OnOk result (parts.new.heard.failed ≡ false) }
+    ensures waiting { parts.new.waiting ≡ parts.old.waiting }
     ensures flows { parts.new.flows ≡ parts.old.flows }
     ensures handler { parts.new.handler ≡ parts.old.handler }
 {
@@ -256,6 +257,7 @@ fn serve<H: Handler, L: CallLines>(
     ensures stays { OnErr result (parts.new.calls.items ≡ parts.old.calls.items) }
     ensures unspent { OnOk result (parts.new.world.spent ≡ false) }
     ensures heard { OnOk result (parts.new.heard.failed ≡ false) }
+    ensures waiting { parts.new.waiting ≡ parts.old.waiting }
     ensures flows { parts.new.flows ≡ parts.old.flows }
     ensures handler { parts.new.handler ≡ parts.old.handler }
 {
@@ -281,6 +283,7 @@ fn reply<H: Handler>(
     ensures unspent { OnOk result (parts.new.world.spent ≡ false) }
     ensures heard { OnOk result (parts.new.heard.failed ≡ false) }
     ensures calls { parts.new.calls ≡ parts.old.calls }
+    ensures waiting { parts.new.waiting ≡ parts.old.waiting }
     ensures flows { parts.new.flows ≡ parts.old.flows }
     ensures handler { parts.new.handler ≡ parts.old.handler }
 {

@@ -21,6 +21,7 @@ ghost use Rattle.dt_calls.specs.Going.{WorldGoesOn, then_made};
 ghost use Rattle.dt_calls.specs.Parts.{IsWhole, calls_seen};
 ghost use Rattle.dt_calls.specs.Telling.{TellsCalls};
 ghost use Rattle.dt_calls.specs.Totals.{totals_seen};
+ghost use Rattle.dt_calls.specs.Waiting.{Covers};
 ghost use Rattle.dt_calls.specs.declared.dues.Due.TheVariants as due;
 
 use crate::call_events::CallEvent;
@@ -50,6 +51,8 @@ pub struct Parts<H> {
     pub handler: H,
     /// By their numbers.
     pub calls: Vec<Call>,
+    /// The numbers of those that wait are among these, in their order: a step doubts no others.
+    pub waiting: Vec<usize>,
     pub flows: Flows,
     pub heard: Heard,
     /// Room for a message that is handed in, and for an answer.
@@ -91,6 +94,7 @@ impl<H: Handler> Calls<H> {
                 world,
                 handler,
                 calls: Vec::new(alloc),
+                waiting: Vec::new(alloc),
                 flows: IndexMap::new(alloc),
                 heard: Heard::new(alloc),
                 message: Vec::new(alloc),
@@ -109,8 +113,8 @@ impl<H: Handler> Calls<H> {
     /// memory, and where a count would pass its end. Then the first of the lines were told, and the
     /// calls are used no more; each was still served at most once.
     ///
-    /// The cost is that of the world's events, the octets that are read, all calls, and the octets of
-    /// those that wait; after a `Pass` also two reads of each flow with a call, after a restart all
+    /// The cost is that of the world's events, the octets that are read, and the octets of the calls
+    /// that wait; after a `Pass` also two reads of each flow with a call, after a restart all
     /// flows.
     pub fn step<L: CallLines>(
         &mut self,
@@ -267,12 +271,13 @@ fn finish<H: Handler, L: CallLines>(
     Ok(())
 }
 
-/// The fault with which a call is refused, if it is. The cost is all calls.
-fn refusal<H>(parts: &Parts<H>, flow: Flow) -> Option<StepFault>
+/// The fault with which a call is refused, if it is.
+fn refusal<H: Handler>(parts: &Parts<H>, flow: Flow) -> Option<StepFault>
+    requires course { CourseFacts (H.answer parts.now.handler) (calls_seen parts.now) }
     ensures refusal { result ≡ first_refusal (call_refusals (calls_seen parts.now) flow) }
     ensures range { IsFlow flow }
 {
-    if flow.from == flow.to || is_way_of_replies(&parts.calls, &flow) {
+    if flow.from == flow.to || is_way_of_replies(parts, flow) {
         return Some(StepFault::BadFlow);
     }
     if !parts.world.has_station(flow.from) {
@@ -284,12 +289,12 @@ fn refusal<H>(parts: &Parts<H>, flow: Flow) -> Option<StepFault>
     None
 }
 
-/// Whether replies of an earlier call go along this flow.
-fn is_way_of_replies(calls: &[Call], flow: &Flow) -> bool
-    ensures { result ≡ list_any (λ call. same_flow call.flow (reversed flow.now)) calls.now }
+/// Whether replies of an earlier call go along this flow: then the reversed flow has a call.
+fn is_way_of_replies<H: Handler>(parts: &Parts<H>, flow: Flow) -> bool
+    requires { CourseFacts (H.answer parts.now.handler) (calls_seen parts.now) }
+    ensures { result ≡ list_any (λ call. same_flow call.flow (reversed flow)) parts.now.calls.items }
 {
-    let way = reversed(*flow);
-    calls.iter().any(|call| call.flow == way)
+    parts.flows.contains_key(&reversed(flow))
 }
 
 /// A call is made: its request is handed in.
@@ -328,10 +333,12 @@ fn add_call<H, L: CallLines>(
     ensures goes { GoesOn L.tells (λ c. then_made c (make_with flow count (request, c.calls.world) c.calls)) (calls_seen parts.old) lines.old lines.new result (calls_seen parts.new) }
     ensures once { AreServedOnce (calls_seen parts.old) → AreServedOnce (calls_seen parts.new) }
     ensures flows { OnOk result (flows_seen parts.new.flows.entries ≡ with_flow flow (flows_seen parts.old.flows.entries)) }
-    ensures same { parts.new ≡ record parts.old { calls = parts.new.calls; flows = parts.new.flows } }
+    ensures waiting { OnOk result (Covers 0 parts.old.waiting.items parts.old.calls.items → Covers 0 parts.new.waiting.items parts.new.calls.items) }
+    ensures same { parts.new ≡ record parts.old { calls = parts.new.calls; waiting = parts.new.waiting; flows = parts.new.flows } }
     ensures range { IsFlow flow }
 {
     tell_made(parts, flow, count, request, lines);
+    parts.waiting.push(parts.calls.len())?;
     parts.calls.push(Call {
         flow,
         state: state_of(request),

@@ -9,9 +9,10 @@ use Rattle.dt_units.specs.Flows.{IsFlow}
 use Rattle.dt_calls.specs.Courses.{HasGoneOn, HasStopped}
 use Rattle.dt_calls.specs.Flows.{flows_seen}
 use Rattle.dt_calls.specs.Parts.{calls_seen, keys_in}
+use Rattle.dt_calls.specs.Waiting.{Covers}
 use Rattle.dt_calls.specs.Sides.{side_seen}
 use Rattle.dt_calls.proofs.CoursesOn.{piece_on, starts_on}
-use Rattle.dt_calls.proofs.ReadSides.{ends_seen, gone_seen, is_read, keys_joined, none_seen, piece_is, piece_lost, read_seen, stop_seen, stopped_with, there_joined, world_read}
+use Rattle.dt_calls.proofs.ReadSides.{ends_seen, gone_seen, is_read, keys_joined, none_seen, piece_is, piece_lost, read_seen, still_covers, stop_seen, stopped_with, there_joined, world_read}
 use Rattle.dt_calls.proofs.Readings.{begins, falls, reads_on, still_kept, stops_at_message}
 use Rattle.dt_calls.proofs.reading.read_side.Goals as goal
 
@@ -46,7 +47,7 @@ returns-then-is_none-clause-whole g c =
     let on = c.loop-parts.invariant.on in
     let flow = subst IsFlow c.flow_read.ensures.flow c.flow_read.ensures.range in
     let read = is_read tells answer side f c.flow_read.result p.world c.happen.new.world p.heard c.happen.new.heard c.flow_read.ensures.flow c.in_ok-happen.ensures in
-    record { unspent = read.unspent; heard = read.heard; world = world_read tells answer side f p.world c.happen.new.world c.happen.new.heard flow c.loop-parts.invariant.whole.world read }
+    record { unspent = read.unspent; heard = read.heard; world = world_read tells answer side f p.world c.happen.new.world c.happen.new.heard flow c.loop-parts.invariant.whole.world read; waiting = c.loop-parts.invariant.whole.waiting }
 
 pub returns-in_err-take_message-clause-goes : goal.returns-in_err-take_message-clause-goes
 returns-in_err-take_message-clause-goes g c =
@@ -125,7 +126,7 @@ loop-parts-preserved-in-Some g c =
       on = reads_on tells answer side f first l0 d l j.piece is flow c.loop-parts.invariant.whole.world on c.take_message.new.lines (calls_seen c.take_message.new.parts) all;
       keys = ap (λ fs. keys_in fs.entries) c.take_message.ensures.flows ∙ keys_joined tells answer side f _ c.join.new.parts _ j d seen c.loop-parts.invariant.there ∙ c.loop-parts.invariant.keys;
       there = ap (λ fs. has_key same_flow f (flows_seen fs.entries)) c.take_message.ensures.flows ∙ there_joined tells answer side f _ c.join.new.parts _ j d seen;
-      whole = record { unspent = c.in_ok-take_message.ensures.unspent; heard = c.in_ok-take_message.ensures.heard; world = still_kept tells answer side f first l0 d l j.piece is flow c.loop-parts.invariant.whole.world c.take_message.new.lines (calls_seen c.take_message.new.parts) all };
+      whole = record { unspent = c.in_ok-take_message.ensures.unspent; heard = c.in_ok-take_message.ensures.heard; world = still_kept tells answer side f first l0 d l j.piece is flow c.loop-parts.invariant.whole.world c.take_message.new.lines (calls_seen c.take_message.new.parts) all; waiting = still_covers tells answer side f _ c.join.new.parts _ j d seen c.loop-parts.invariant.whole.waiting l c.take_message.new.lines c.take_message.new.parts c.take_message.ensures.waiting all };
       handler = c.take_message.ensures.handler ∙ hand;
       course = piece_on answer tells side d (calls_seen c.take_message.new.parts) l c.take_message.new.lines c.loop-parts.invariant.course f c.loop-parts.invariant.there j.piece is all;
     }
@@ -176,6 +177,7 @@ loop-parts-preserved g c =
         unspent = ap (λ x. x.world.spent) j.same ∙ read.unspent;
         heard = ap (λ x. x.heard.failed) j.same ∙ read.heard;
         world = still_kept tells answer side f first l0 d l j.piece is flow c.loop-parts.invariant.whole.world l (calls_seen c.join.new.parts) all;
+        waiting = subst (λ x. Covers 0 x.waiting.items x.calls.items) (sym j.same) c.loop-parts.invariant.whole.waiting;
       };
       handler = ap (λ x. x.handler) j.same ∙ c.loop-parts.invariant.handler;
       course = piece_on answer tells side d (calls_seen c.join.new.parts) l l c.loop-parts.invariant.course f c.loop-parts.invariant.there j.piece is all;

@@ -4,5 +4,5 @@ use Rattle.dt_calls.proofs.world_calls.Calls.new.Goals as goal
 
 pub invariant_of-result : goal.invariant_of-result
 invariant_of-result g c =
-    let settled = begins_settled (g.H.Handler.answer c.args.handler) _ c.requires.new c.new.ensures.items c.new-2.ensures.empty c.requires.unspent (ap (λ h. h.failed) c.new-3.ensures) in
+    let settled = begins_settled (g.H.Handler.answer c.args.handler) _ c.requires.new c.new.ensures.items c.new-2.ensures.items c.new-3.ensures.empty c.requires.unspent (ap (λ h. h.failed) c.new-4.ensures) in
     record { once = settled.facts.course.once; settled = λ unspent. settled }

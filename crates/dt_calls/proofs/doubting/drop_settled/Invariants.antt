@@ -1,0 +1,10 @@
+use Rattle.std.proofs.Common.{◌≡◌, ◌≤◌, ◌++◌, drop, length, take}
+use Rattle.dt_calls.specs.Waiting.{Covers}
+use Rattle.dt_calls.proofs.doubting.drop_settled.Given as goal
+
+abbrev pub invariant-loop-place : goal.invariant-loop-place
+invariant-loop-place l = record {
+  order : l.kept ≤ l.place;
+  long : length l.waiting.items ≡ length l.fn.waiting.items;
+  covers : Covers 0 (take l.kept l.waiting.items ++ drop l.place l.waiting.items) l.calls;
+}

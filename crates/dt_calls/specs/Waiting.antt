@@ -1,0 +1,11 @@
+-- The numbers that a step looks at when it doubts: those of all calls that wait are among them, in their order.
+use Rattle.std.specs.Prelude.{ℕ, suc, ◌≡◌, ◌⊎◌, false, List, [], ◌∷◌}
+use Rattle.dt_calls_model.specs.declared.calls.Call.{Call}
+use Rattle.dt_calls_model.specs.CallStep.{is_waiting}
+
+-- of the calls from a number on
+abbrev pub Covers : ℕ → List ℕ → List Call → Type 0
+Covers n [] [] = Unit {0}
+Covers n (k ∷ ks) [] = ⊥
+Covers n [] (call ∷ calls) = (is_waiting call.state ≡ false) × Covers (suc n) [] calls
+Covers n (k ∷ ks) (call ∷ calls) = ((k ≡ n) × Covers (suc n) ks calls) ⊎ ((is_waiting call.state ≡ false) × Covers (suc n) (k ∷ ks) calls)
