@@ -63,8 +63,8 @@ use std::alloc::Global;
 ///
 /// All but `node` and `trace` leave wire and clock as they were. The cost of `replay` is the input, the log, and
 /// what the schedule asks of its world; that of `node`, `trace` and `retrace` is the turns; that of `make` is what it writes;
-/// that of `calls` is the input and the text, what is asked of the world, and all calls at each event; that of `audit` is the
-/// log.
+/// that of `calls` is the input and the text, what is asked of the world, and at each event the calls that wait;
+/// that of `audit` is the log.
 ///
 /// - 0: all was served, and `out` has the whole log, trace, schedule, text of calls or verdict; a log that is
 ///   audited has no flaw.
