@@ -22,6 +22,7 @@ fn tells_after(
     text: &str,
 ) -> Result<(), Fail> {
     let input = format!(in alloc; "{setup}{lines}")?;
+    assert!(rt; input.len() < 16_777_216);
     let mut out = MemSink::new(alloc, ROOM, &[])?;
     let ended = calls(alloc, input.as_bytes(), &mut out);
     let told = String::from_utf8_lossy(alloc, out.as_slice())?;
