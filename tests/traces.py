@@ -4,13 +4,15 @@ machine's. `tests/traces.py crates/deltat/out/deltat`. Ends with 1 where one of 
 
 - pair: two nodes that write their traces send each other 20,000 octets through a third process that
   drops and repeats datagrams. Both traces are run again, and each log has read what the other sent.
-- cut: a trace that is cut off behind a line in its last 2,000 octets gives a first part of the log; one
-  that is cut off elsewhere does, or refuses the line, or reads it as another.
+- cut: a trace that is cut off behind a line in its last 2,000 octets gives a first part of the log, up
+  to a datagram behind which the reading is missing; one that is cut off elsewhere does, or refuses the
+  line, or reads it as another.
 - rows: so with two worked rows, cut off at each octet."""
 import os
 import random
 import subprocess
 import sys
+import tempfile
 import threading
 import time
 
@@ -19,11 +21,17 @@ from nodes import bound, free_port, read_of, relay, script
 FLOWS = ["1:10>2:20", "2:20>1:10"]
 
 
-def start(program, text):
-    node = subprocess.Popen([program, "trace"], stdin=subprocess.PIPE, stdout=subprocess.PIPE, stderr=subprocess.PIPE)
+def start(program, text, out):
+    """A node that is traced into a file: a pipe that nobody reads yet would stop it once it is full."""
+    node = subprocess.Popen([program, "trace"], stdin=subprocess.PIPE, stdout=out)
     node.stdin.write(text.encode())
     node.stdin.close()
     return node
+
+
+def all_of(out):
+    out.seek(0)
+    return out.read()
 
 
 def again(program, text, trace):
@@ -40,16 +48,27 @@ def traced(program):
     told = [0, 0, 0]
     passing = threading.Thread(target=relay, args=(chance, ends, ports, time.monotonic() + 15, told))
     passing.start()
-    texts, nodes = [], []
+    texts, nodes, outs = [], [], [tempfile.TemporaryFile(), tempfile.TemporaryFile()]
     for i in (0, 1):
         commands = [f"at 200 send {FLOWS[i]} be {messages[i].hex()}", f"at 11000 read {FLOWS[1 - i]} 65536", "at 11100 stop"]
         texts.append(script(i + 1, 2 - i, ports[i], ends[i].getsockname()[1], commands))
-        nodes.append(start(program, texts[i]))
-    traces = [node.stdout.read() for node in nodes]
+        nodes.append(start(program, texts[i], outs[i]))
     statuses = [node.wait() for node in nodes]
+    traces = [all_of(out) for out in outs]
     passing.join()
     print(f"{told[1]} datagrams passed, {told[0]} dropped, {told[2]} repeated; traces of {[len(it) for it in traces]} octets")
     return texts, traces, messages, statuses == [0, 0] and told[0] > 0 and told[2] > 0
+
+
+def is_first_part(program, script_of, part, log, written):
+    """Whether what is written of a trace that was cut off behind a line is a first part of the log. A
+    datagram is handed in at the next reading. Where that one is missing it is handed in at the last one
+    again, so only what was written before it is compared."""
+    last = part.rfind(b"\n", 0, len(part) - 1) + 1
+    if part[last:].startswith(b"< ") and part[last:] != b"< -\n":
+        before, _ = again(program, script_of, part[:last])
+        return log.startswith(before) and written.startswith(before)
+    return log.startswith(written)
 
 
 def pair(program, run):
@@ -70,7 +89,7 @@ def cut(program, run):
         written, status = again(program, text, part)
         line = last + part.count(b"\n") + 1
         whole = part.endswith(b"\n")
-        runs = status in (0, 6) and (not whole or log.startswith(written))
+        runs = status in (0, 6) and (not whole or is_first_part(program, text, part, log, written))
         refuses = not whole and status == 3 and written.startswith(b"line %d: " % line)
         if not runs and not refuses:
             print(f"cut at {length}: status {status}")
@@ -83,12 +102,15 @@ def rows(program, run):
     for name in ("17-node-give-fails", "node-closing"):
         with open(os.path.join(data, f"{name}.in"), "rb") as it:
             row = it.read()
-        log = subprocess.run([program, "retrace"], input=row, capture_output=True, check=False).stdout
-        behind = row.index(b"\ntrace\n") + 6
+        behind = row.index(b"\ntrace\n") + 7
+        text, trace = row[: behind - 6].decode(), row[behind:]
+        log, _ = again(program, text, trace)
         for length in range(len(row)):
             ran = subprocess.run([program, "retrace"], input=row[:length], capture_output=True, check=False)
-            runs = length >= behind and ran.returncode in (0, 6) and (row[length - 1 : length] != b"\n" or log.startswith(ran.stdout))
-            refuses = ran.returncode == 3 and ran.stdout.startswith(b"line ") and (length < behind or row[length - 1 : length] != b"\n")
+            whole, part = row[length - 1 : length] == b"\n", row[behind:length]
+            is_part = not whole or not part or is_first_part(program, text, part, log, ran.stdout)
+            runs = length >= behind - 1 and ran.returncode in (0, 6) and is_part
+            refuses = ran.returncode == 3 and ran.stdout.startswith(b"line ") and (length < behind or not whole)
             if not runs and not refuses:
                 print(f"{name} cut at {length}: status {ran.returncode}")
                 return False
