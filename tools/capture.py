@@ -85,13 +85,13 @@ def read_script(text: str) -> Script:
     return Script(text, node, local, peers, charges, routes, sends)
 
 
-def marked(script: Script, trace: str) -> tuple[str, list[Datagram | None], set[int]]:
-    """The trace with a turn more before each datagram, at the same reading, which is handed an empty one.
-    That is told by a line `bad short 0` and changes nothing, so the log shows where each datagram came.
-    Then: for each such line, in order, the datagram behind it, or None where it is of an empty one that
-    the run itself had; and the numbers of the gives that failed."""
+def marked(script: Script, trace: str) -> tuple[str, list[Datagram], set[int]]:
+    """An input of `retrace`: the run with one turn more before each datagram, at the same reading, which
+    is handed an empty datagram. That is told by a line `bad short 0` and changes nothing else, so the log
+    shows where each datagram came. Then the datagrams that came, one for each such line; an empty one of
+    the run itself has its own line. Last the numbers of the gives that failed."""
     lines: list[str] = []
-    wanted: list[tuple[int, bytes] | None] = []
+    wanted: list[tuple[int, bytes]] = []
     places: list[int] = []
     readings: list[int] = []
     failed: set[int] = set()
@@ -102,7 +102,7 @@ def marked(script: Script, trace: str) -> tuple[str, list[Datagram | None], set[
         elif words[0] == "!" and len(words) == 2 and words[1].isdigit():
             failed.add(int(words[1]))
         elif words[0] == "<" and len(words) in (2, 3) and words[1].isdigit() and int(words[1]) in script.peers:
-            octets = bytes.fromhex(words[2]) if len(words) == 3 else b""
+            octets = _octets(words[2]) if len(words) == 3 else b""
             wanted.append((int(words[1]), octets))
             places.append(len(readings))
             if octets:
@@ -110,17 +110,34 @@ def marked(script: Script, trace: str) -> tuple[str, list[Datagram | None], set[
         lines.append(line)
     first = readings[0] if readings else 0
     moments = [it - first for it in readings] or [0]
-    came = [Datagram(moments[min(at, len(moments) - 1)], *it) for it, at in zip(wanted, places) if it is not None]
-    return script.text + "trace\n" + "".join(f"{it}\n" for it in lines), list(came), failed
+    came = [Datagram(moments[min(at, len(moments) - 1)], *it) for it, at in zip(wanted, places)]
+    return script.text + "trace\n" + "".join(f"{it}\n" for it in lines), came, failed
 
 
-def run_again(program: str, text: str) -> list[str]:
-    """The lines of a run that is run again."""
+def _octets(word: str) -> bytes:
+    """The octets that a word spells; none where it spells none, which the program refuses."""
+    try:
+        return bytes.fromhex(word)
+    except ValueError:
+        return b""
+
+
+def run_again(program: str, text: str) -> tuple[int, list[str]]:
+    """The status and the lines of a run that is run again."""
     ran = subprocess.run([program, "retrace"], input=text.encode(), capture_output=True, check=False)
     lines = ran.stdout.decode().splitlines()
-    if ran.returncode not in (0, 5, 6):
-        last = lines[-1] if lines and lines[-1].startswith("line ") else ran.stderr.decode().strip()
-        raise Refused(f"the run can't be run again: {last} (status {ran.returncode})")
+    if ran.returncode in (0, 3, 5, 6):
+        return ran.returncode, lines
+    raise Refused(f"the run can't be run again: {ran.stderr.decode().strip()} (status {ran.returncode})")
+
+
+def log_of(program: str, script: Script, trace: str, text: str) -> list[str]:
+    """The log of the marked run. The line of a fault is that in the script, a line `trace` and the trace."""
+    status, lines = run_again(program, text)
+    if status == 3:
+        _, plain = run_again(program, script.text + "trace\n" + trace)
+        fault = plain[-1] if plain and plain[-1].startswith("line ") else "the input is too long"
+        raise Refused(f"the run can't be run again: {fault}")
     return lines
 
 
@@ -232,7 +249,7 @@ def split(log: list[str]) -> list[tuple[int, list[str]]]:
 def datagrams(script: Script, trace: str, program: str) -> Iterator[Event]:
     """The datagrams of a run, in their order. Refused where the program can't run it again."""
     text, came, failed = marked(script, trace)
-    lines = split(run_again(program, text))
+    lines = split(log_of(program, script, trace, text))
     node, left = Node(script, failed), deque(came)
     entering: dict[int, bytes] = {}
     for at, (moment, words) in enumerate(lines):
