@@ -118,6 +118,11 @@ class Node:
             subprocess.run([sys.executable, TOOL, "--program", self._program, self.script, self.trace], stdout=out, check=True)
         return packets_of(path, "-o", "udp.check_checksum:TRUE", "-o", "ip.check_checksum:TRUE", "-Y", 'udp.checksum.status == "Good" && ip.checksum.status == "Good"')
 
+    def log(self) -> list[str]:
+        """The log of the run."""
+        texts = [pathlib.Path(it).read_text("ascii") for it in (self.script, self.trace)]
+        return capture.run_again(self._program, "trace\n".join(texts))[1]
+
 
 def wait_for(port: int) -> None:
     """Waits until a port is bound, ten seconds at most."""
@@ -184,7 +189,7 @@ def crowd(program: str, folder: str) -> bool:
             octets = chance.randbytes(chance.choice([5, 900, 2900])).hex()
             lines.append(f"at {300 + 100 * i} send 3:30>{1 + i % 2}:10 {chance.choice(['be', 'b', 'e', '-'])} {octets}")
         lines.append(f"at {300 + 100 * i} read 1:10>3:30 65536")
-    node = Node(program, folder, 3, port, {i: it.getsockname()[1] for i, it in peers.items()}, [*lines, "at 4200 stop"], pace=8)
+    node = Node(program, folder, 3, port, {i: it.getsockname()[1] for i, it in peers.items()}, [*lines, "at 4200 stop"], pace=20)
     wait_for(port)
     time.sleep(0.3)
     for i in range(500):
@@ -195,7 +200,11 @@ def crowd(program: str, folder: str) -> bool:
         time.sleep(0.02 if i % 100 == 99 else 0.004 * chance.random())
     told = node.captured()
     seen_of_peers = [it for it in seen.packets() if it.sender != stranger.getsockname()[1]]
-    return agree("crowd", told, seen_of_peers, False)
+    lines = [" ".join(it[2:]) for it in map(str.split, node.log())]
+    missing = [it for it in ("full 2", "expired out 2", "noroute 7", "met ", "resent ", "bad ", "replied ") if not any(line.startswith(it) for line in lines)]
+    if missing:
+        print(f"crowd: its log has no line {missing}")
+    return agree("crowd", told, seen_of_peers, False) and not missing
 
 
 def noise(chance: random.Random, i: int, own: int, other: int) -> bytes:
@@ -211,7 +220,7 @@ def noise(chance: random.Random, i: int, own: int, other: int) -> bytes:
         return wire.packet(wire.Flow(own, 10, 3, 30), 400, chance.choice([wire.RENDEZVOUS, wire.CLOSING]), i)
     if kind == 4:
         return data(wire.Flow(own, 10, chance.choice([9, 7]), 1), i, b"far", life=chance.choice([1, 3, 400]))
-    return data(wire.Flow(own, 10, other, 20), i, chance.randbytes(chance.choice([1, 30, 1100])), life=chance.choice([2, 30, 400]))
+    return data(wire.Flow(own, 10, other, 20), i, chance.randbytes(chance.choice([1, 30, 1100])), life=chance.choice([2, 300, 60000]))
 
 
 def two(program: str, folder: str) -> bool:
