@@ -3,7 +3,7 @@
 
 A node that is traced talks to two peers over loopback, and passes on what they send each other. tshark
 captures that on the loopback interface. tools/capture.py writes the same datagrams, octet for octet, with
-the same addresses, each way in the same order, at the same moments to within 50 ms.
+the same addresses, each way in the same order, at the same moments to within 300 ms.
 
 - talk: the peers wait for the node and the node for them, so that the whole order is one.
 - crowd: a paced link whose queue fills, resends, a window that closes, packets that pass, octets that
@@ -11,7 +11,9 @@ the same addresses, each way in the same order, at the same moments to within 50
 - two: two nodes talk, and the captures of both traces have the same datagrams the other way round.
 - marks: the turns that the tool adds change nothing of the log.
 
-One line a case, and then how many hold. Status 1 where one fails, 77 where tshark can't capture."""
+One line a case, and then how many hold. Status 1 where one fails, 77 where tshark can't capture.
+
+In tests/all: PROGRAM, 200 s."""
 import argparse
 import os
 import pathlib
@@ -33,7 +35,8 @@ import wire  # noqa: E402
 
 HOST = "127.0.0.1"
 PARAMS = "params 400 700 60 150 250 1300 65536 65536 3000 2147483648"
-SLACK = 0.05
+NO_RESENDS = "params 400 700 60 2000 250 1300 65536 65536 3000 2147483648"
+SLACK = 0.3  # seconds: from a reading of the clock to the datagram, where other jobs run too
 
 
 class Packet(NamedTuple):
@@ -100,10 +103,11 @@ def packets_of(path: str, *options: str) -> list[Packet]:
 class Node:
     """A node that is traced, and how its run looks to the tool."""
 
-    def __init__(self, program: str, folder: str, number: int, port: int, peers: dict[int, int], lines: list[str], pace: int = 0) -> None:
+    def __init__(self, program: str, folder: str, number: int, port: int, peers: dict[int, int], lines: list[str],
+                 pace: int = 0, params: str = PARAMS) -> None:
         self.port, self._program = port, program
         links = [f"peer {link} {HOST}:{peer} 0 {pace if link == 2 else 0}" for link, peer in peers.items()]
-        head = [PARAMS, f"me {number} first", f"local {HOST}:{port}", *links]
+        head = [params, f"me {number} first", f"local {HOST}:{port}", *links]
         self.script, self.trace = (os.path.join(folder, f"{port}.{it}") for it in ("script", "trace"))
         pathlib.Path(self.script).write_text("\n".join(head + lines) + "\n", encoding="ascii")
         with open(self.script, "rb") as text, open(self.trace, "wb") as trace:
@@ -158,15 +162,16 @@ def talk(program: str, folder: str) -> bool:
     """Each waits for the other, and the node's own timers are far away."""
     peer, port = bound(), free_port()
     seen = Tshark([port], folder)
-    lines = ["route 1 1", "go", *(f"at {300 + 100 * i} send 3:30>1:10 be {bytes([i] * (1 + 400 * i)).hex()}" for i in range(8))]
-    node = Node(program, folder, 3, port, {1: peer.getsockname()[1]}, [*lines, "at 1500 read 1:10>3:30 65536", "at 1800 stop"])
-    number = 0
-    for _ in range(30):
+    lines = ["route 1 1", "go", *(f"at {300 + 250 * i} send 3:30>1:10 be {bytes([i] * (1 + 400 * i)).hex()}" for i in range(8))]
+    lines += ["at 3500 read 1:10>3:30 65536", "at 6000 stop"]
+    node = Node(program, folder, 3, port, {1: peer.getsockname()[1]}, lines, params=NO_RESENDS)
+    number, until = 0, time.monotonic() + 3
+    peer.settimeout(0.1)
+    while time.monotonic() < until:
         try:
-            peer.settimeout(1.0)
             frame = peer.recv(65536)
         except TimeoutError:
-            break
+            continue
         if frame[16] == wire.DATA:
             end = int.from_bytes(frame[22:26], "big") + len(frame) - 30
             time.sleep(0.02)
@@ -189,7 +194,7 @@ def crowd(program: str, folder: str) -> bool:
             octets = chance.randbytes(chance.choice([5, 900, 2900])).hex()
             lines.append(f"at {300 + 100 * i} send 3:30>{1 + i % 2}:10 {chance.choice(['be', 'b', 'e', '-'])} {octets}")
         lines.append(f"at {300 + 100 * i} read 1:10>3:30 65536")
-    node = Node(program, folder, 3, port, {i: it.getsockname()[1] for i, it in peers.items()}, [*lines, "at 4200 stop"], pace=20)
+    node = Node(program, folder, 3, port, {i: it.getsockname()[1] for i, it in peers.items()}, [*lines, "at 6000 stop"], pace=60)
     wait_for(port)
     time.sleep(0.3)
     for i in range(500):

@@ -10,7 +10,9 @@
 - noise: what is no line of a log is counted as that, and changes nothing else.
 - through: the log is passed on as it came, and a fault of the file or the port is told.
 
-One line a case, and then how many hold. Status 1 where one fails."""
+One line a case, and then how many hold. Status 1 where one fails.
+
+In tests/all: PROGRAM, 200 s."""
 import argparse
 import os
 import pathlib

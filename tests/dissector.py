@@ -7,7 +7,9 @@ octets) is what the dissector shows. The frames: the worked frame of docs/format
 each value (8,960 changes), each of its first parts, each kind in both versions, data of each length near
 a limit, and what relays and other nodes see.
 
-One line a case, and then how many hold. Status 1 where one fails, 77 where tshark isn't there."""
+One line a case, and then how many hold. Status 1 where one fails, 77 where tshark isn't there.
+
+In tests/all: PROGRAM, 300 s."""
 import argparse
 import os
 import pathlib

@@ -11,7 +11,9 @@
 - look: a screenshot is light where light is wanted and dark where dark is, and not empty.
 - alone: no page names anything that it would fetch.
 
-One line a case, and then how many hold. Status 1 where one fails, 77 where no Chromium is there."""
+One line a case, and then how many hold. Status 1 where one fails, 77 where no Chromium is there.
+
+In tests/all: PROGRAM, 900 s."""
 import argparse
 import html
 import json

@@ -30,6 +30,7 @@ class Refused(Exception):
 class Script(NamedTuple):
     """What a script says of a node's addresses and octets."""
     text: str
+    life: int
     node: int
     local: wire.Address
     peers: dict[int, wire.Address]
@@ -60,7 +61,7 @@ def _address(word: str) -> wire.Address:
 
 def read_script(text: str) -> Script:
     """The script of a node. A script that the program refuses is refused by the program later."""
-    node, local = 0, ("0.0.0.0", 0)
+    life, node, local = 0, 0, ("0.0.0.0", 0)
     peers: dict[int, wire.Address] = {}
     charges: dict[int, int] = {}
     routes: dict[int, int] = {}
@@ -68,7 +69,9 @@ def read_script(text: str) -> Script:
     for number, line in enumerate(text.split("\n"), 1):
         words = line.split(" ")
         try:
-            if words[0] == "me":
+            if words[0] == "params":
+                life = int(words[1])
+            elif words[0] == "me":
                 node = int(words[1])
             elif words[0] == "local":
                 local = _address(words[1])
@@ -82,7 +85,7 @@ def read_script(text: str) -> Script:
             raise Refused(f"line {number} of the script doesn't read: {line[:60]}") from None
     if not text.endswith("\n"):
         text += "\n"
-    return Script(text, node, local, peers, charges, routes, sends)
+    return Script(text, life, node, local, peers, charges, routes, sends)
 
 
 def marked(script: Script, trace: str) -> tuple[str, list[Datagram], set[int]]:
@@ -124,8 +127,8 @@ def _octets(word: str) -> bytes:
 
 def run_again(program: str, text: str) -> tuple[int, list[str]]:
     """The status and the lines of a run that is run again."""
-    ran = subprocess.run([program, "retrace"], input=text.encode(), capture_output=True, check=False)
-    lines = ran.stdout.decode().splitlines()
+    ran = subprocess.run([program, "retrace"], input=text.encode("latin-1"), capture_output=True, check=False)
+    lines = ran.stdout.decode("ascii").splitlines()
     if ran.returncode in (0, 3, 5, 6):
         return ran.returncode, lines
     raise Refused(f"the run can't be run again: {ran.stderr.decode().strip()} (status {ran.returncode})")
@@ -170,7 +173,6 @@ class Node:
 
     def __init__(self, script: Script, failed: set[int]) -> None:
         self._script, self._failed = script, failed
-        self._life = int(script.text.split("params ", 1)[1].split(" ", 1)[0])
         self._senders: dict[str, Sender] = {}
         self._queues: dict[int, deque[bytes]] = {link: deque() for link in script.peers}
         self._sends, self._gives = iter(script.sends), 0
@@ -215,13 +217,13 @@ class Node:
         """The frame of a line that tells that one was made."""
         flow, number = wire.Flow.read(words[1]), int(words[2])
         if word in ("acked", "replied"):
-            return wire.packet(flow.back(), self._life, wire.ACK, number, 0, int(words[3]))
+            return wire.packet(flow.back(), self._script.life, wire.ACK, number, 0, int(words[3]))
         if word == "met":
-            return wire.packet(flow, self._life, wire.RENDEZVOUS, number)
+            return wire.packet(flow, self._script.life, wire.RENDEZVOUS, number)
         sender = self._sender(words[1])
         octets = sender.cut(number, int(words[3])) if word == "sent" else sender.again(number)
         flags = sum(FLAGS[it] for it in words[4] if it in FLAGS)
-        return wire.packet(flow, self._life, wire.DATA, number, flags, 0, octets)
+        return wire.packet(flow, self._script.life, wire.DATA, number, flags, 0, octets)
 
 
 def entry(lines: list[tuple[int, list[str]]], start: int, moment: int) -> int:
@@ -284,10 +286,10 @@ def main() -> int:
     if sys.stdout.isatty():
         parser.error("the capture would go to a terminal: put > FILE.pcapng behind it")
     try:
-        texts = [pathlib.Path(it).read_text(encoding="ascii") for it in (given.script, given.trace)]
+        texts = [pathlib.Path(it).read_text(encoding="latin-1") for it in (given.script, given.trace)]
         script = read_script(texts[0])
         events = list(datagrams(script, texts[1], given.program))
-    except (OSError, UnicodeDecodeError, Refused) as fault:
+    except (OSError, Refused) as fault:
         print(f"capture.py: {fault}", file=sys.stderr)
         return 1
     capture = wire.Capture(sys.stdout.buffer, f"node {script.node}", "deltat tools/capture.py")
