@@ -100,18 +100,21 @@ def packets_of(path: str, *options: str) -> list[Packet]:
     return [Packet(float(at), int(sender), int(receiver), payload) for at, sender, receiver, payload in rows]
 
 
+def script(params: str, number: int, port: int, peers: dict[int, tuple[int, int]], lines: list[str]) -> str:
+    """The script of a node. Each link has the port of its peer and its pace."""
+    links = [f"peer {link} {HOST}:{peer} 0 {pace}" for link, (peer, pace) in peers.items()]
+    return "\n".join([params, f"me {number} first", f"local {HOST}:{port}", *links, *lines]) + "\n"
+
+
 class Node:
     """A node that is traced, and how its run looks to the tool."""
 
-    def __init__(self, program: str, folder: str, number: int, port: int, peers: dict[int, int], lines: list[str],
-                 pace: int = 0, params: str = PARAMS) -> None:
-        self.port, self._program = port, program
-        links = [f"peer {link} {HOST}:{peer} 0 {pace if link == 2 else 0}" for link, peer in peers.items()]
-        head = [params, f"me {number} first", f"local {HOST}:{port}", *links]
-        self.script, self.trace = (os.path.join(folder, f"{port}.{it}") for it in ("script", "trace"))
-        pathlib.Path(self.script).write_text("\n".join(head + lines) + "\n", encoding="ascii")
-        with open(self.script, "rb") as text, open(self.trace, "wb") as trace:
-            self._ran = subprocess.Popen([program, "trace"], stdin=text, stdout=trace)
+    def __init__(self, program: str, folder: str, name: str, text: str) -> None:
+        self._program = program
+        self.script, self.trace = (os.path.join(folder, f"{name}.{it}") for it in ("script", "trace"))
+        pathlib.Path(self.script).write_text(text, encoding="ascii")
+        with open(self.script, "rb") as its, open(self.trace, "wb") as trace:
+            self._ran = subprocess.Popen([program, "trace"], stdin=its, stdout=trace)
 
     def captured(self) -> list[Packet]:
         """The datagrams that tools/capture.py writes of the run, when it has ended."""
@@ -164,7 +167,7 @@ def talk(program: str, folder: str) -> bool:
     seen = Tshark([port], folder)
     lines = ["route 1 1", "go", *(f"at {300 + 250 * i} send 3:30>1:10 be {bytes([i] * (1 + 400 * i)).hex()}" for i in range(8))]
     lines += ["at 3500 read 1:10>3:30 65536", "at 6000 stop"]
-    node = Node(program, folder, 3, port, {1: peer.getsockname()[1]}, lines, params=NO_RESENDS)
+    node = Node(program, folder, "talk", script(NO_RESENDS, 3, port, {1: (peer.getsockname()[1], 0)}, lines))
     number, until = 0, time.monotonic() + 3
     peer.settimeout(0.1)
     while time.monotonic() < until:
@@ -194,7 +197,8 @@ def crowd(program: str, folder: str) -> bool:
             octets = chance.randbytes(chance.choice([5, 900, 2900])).hex()
             lines.append(f"at {300 + 100 * i} send 3:30>{1 + i % 2}:10 {chance.choice(['be', 'b', 'e', '-'])} {octets}")
         lines.append(f"at {300 + 100 * i} read 1:10>3:30 65536")
-    node = Node(program, folder, 3, port, {i: it.getsockname()[1] for i, it in peers.items()}, [*lines, "at 6000 stop"], pace=60)
+    ends = {1: (peers[1].getsockname()[1], 0), 2: (peers[2].getsockname()[1], 60)}
+    node = Node(program, folder, "crowd", script(PARAMS, 3, port, ends, [*lines, "at 6000 stop"]))
     wait_for(port)
     time.sleep(0.3)
     for i in range(500):
@@ -237,7 +241,7 @@ def two(program: str, folder: str) -> bool:
         way = f"{i + 1}:10>{2 - i}:20"
         sends = [f"at {500 + 150 * j} send {way} be {random.Random(j + 9 * i).randbytes(2000).hex()}" for j in range(5)]
         lines = [f"route {2 - i} 1", "go", *sends, f"at 1400 read {2 - i}:10>{i + 1}:20 65536", "at 2500 stop"]
-        nodes.append(Node(program, folder, i + 1, ports[i], {1: ports[1 - i]}, lines))
+        nodes.append(Node(program, folder, f"two-{i + 1}", script(PARAMS, i + 1, ports[i], {1: (ports[1 - i], 0)}, lines)))
     told = [node.captured() for node in nodes]
     theirs = seen.packets()
     good = agree("two, node 1", told[0], theirs, False)
