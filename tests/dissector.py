@@ -66,7 +66,7 @@ def tshark(path: str, names: list[str], *options: str) -> list[list[str]]:
     """The values of fields of each packet of a capture."""
     wanted = [it for name in names for it in ("-e", name)]
     command = ["tshark", "-n", "-X", f"lua_script:{LUA}", "-r", path, *options, "-T", "fields", "-E", "separator=/t", *wanted]
-    ran = subprocess.run(command, capture_output=True, text=True, check=True, env={**os.environ, "WIRESHARK_RUN_FROM_BUILD_DIRECTORY": ""})
+    ran = subprocess.run(command, capture_output=True, text=True, check=True)
     if "lua" in ran.stderr.lower():
         raise RuntimeError(ran.stderr)
     return [line.split("\t") for line in ran.stdout.splitlines()]
