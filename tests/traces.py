@@ -9,7 +9,7 @@ machine's. `tests/traces.py [PROGRAM]`. Ends with 1 where one of these fails:
   line, or reads it as another.
 - rows: so with two worked rows, cut off at each octet.
 
-In tests/all: PROGRAM, 300 s."""
+In tests/all: PROGRAM, 600 s."""
 import random
 import subprocess
 import sys
