@@ -123,10 +123,7 @@ class Place:
         return [it[2] for it in self.noted() if it[0] == "begins"]
 
     def change(self, name: str, text: str) -> None:
-        source = next((self.top / "crates" / name / "src").glob("*.rt"))
-        source.write_text(text)
-        later = time.time() + 5
-        os.utime(source, (later, later))
+        next((self.top / "crates" / name / "src").glob("*.rt")).write_text(text)
 
     def rooms(self) -> list[pathlib.Path]:
         """What is left of rooms and of the launcher's temporary folders."""
@@ -181,25 +178,26 @@ def failing_streams(place: Place) -> bool:
 
 
 def order(place: Place) -> bool:
-    """Those with the most work behind them begin first, side by side; then the program is used, and nothing is
-    built again."""
-    ran = place.run("./build", "--jobs", "2")
+    """With one processor that with the most work behind it comes first, and nothing stands beside another."""
+    ran = place.run("./build", "--jobs", "1")
     notes = place.noted()
     begun = [it[2] for it in notes if it[0] == "begins"]
-    at = {(it[0], it[2]): place_of for place_of, it in enumerate(notes)}
-    beside = at["begins", "short"] < at["ends", "long_one"]
-    right = begun in (["low", "long_one", "short", "long_two", "apex", "deltat"],) and beside
+    words = {tuple(it[3:]) for it in notes if it[:2] == ["begins", "lib"]}
+    return ran.returncode == 0 and [it[0] for it in notes] == ["begins", "ends"] * 6 and words == {("--jobs", "1")} \
+        and begun == ["low", "long_one", "long_two", "short", "apex", "deltat"] and "6 of 6: deltat" in ran.stdout
+
+
+def side_by_side(place: Place) -> bool:
+    """With two processors two crates are at work; then the program is used, and nothing is built again."""
+    ran = place.run("./build", "--jobs", "2", PRETENDED_SECONDS="0.5")
+    notes = place.noted()
+    at = {(it[0], it[2]): number for number, it in enumerate(notes)}
+    beside = at["begins", "short"] < at["ends", "long_one"] and at["begins", "long_one"] < at["ends", "short"]
+    below_first = all(at["ends", below] < at["begins", name] for name, below in (("short", "low"), ("long_two", "long_one"), ("apex", "short"), ("deltat", "apex")))
     used = place.run("./deltat", "replay", "--", "x")
     again = place.run("./build")
-    return right and ran.returncode == 0 and "6 of 6: deltat" in ran.stdout and (used.returncode, used.stdout, used.stderr) == (4, "program replay -- x\n", "") \
+    return ran.returncode == 0 and beside and below_first and (used.returncode, used.stdout, used.stderr) == (4, "program replay -- x\n", "") \
         and again.returncode == 0 and not place.built() and not place.rooms()
-
-
-def one_processor(place: Place) -> bool:
-    """With one processor nothing stands beside another."""
-    ran = place.run("./build", "--jobs", "1")
-    kinds = [it[0] for it in place.noted()]
-    return ran.returncode == 0 and kinds == ["begins", "ends"] * 6
 
 
 def changed(place: Place) -> bool:
@@ -212,9 +210,11 @@ def changed(place: Place) -> bool:
     first = place.run("./build").returncode == 0 and place.built() == ["short", "apex", "deltat"]
     place.change("long_one", "// long_one\n")
     os.utime(place.top / "crates" / "long_one" / "src" / "lib.rt")
-    second = place.run("./build").returncode == 0 and not place.built()
+    touched = place.run("./deltat", "replay")
+    place.noted()
+    second = place.run("./build").returncode == 0 and not place.built() and place.run("./deltat", "replay").stdout == "program replay\n"
     other_kit = place.run("./build", PRETENDED_VERSION="another kit").returncode == 0 and len(place.built()) == 6
-    return first and second and other_kit and "unproved" in tried.stderr
+    return first and second and other_kit and "unproved" in tried.stderr and "unproved" in touched.stderr
 
 
 def failure(place: Place) -> bool:
@@ -275,7 +275,7 @@ def two_builds(place: Place) -> bool:
     return [it.returncode for it in builds] == [0, 0] and len(place.built()) == 6 and any(b"waiting" in it for it in said)
 
 
-TESTS = (faulty_words, unproved_run, no_answer, failing_streams, order, one_processor, changed, failure, interrupt, live_output, only, two_builds)
+TESTS = (faulty_words, unproved_run, no_answer, failing_streams, order, side_by_side, changed, failure, interrupt, live_output, only, two_builds)
 
 
 def holds(test) -> bool:
