@@ -201,7 +201,8 @@ def side_by_side(place: Place) -> bool:
 
 
 def changed(place: Place) -> bool:
-    """Only what a change reaches is built again; what is touched alone isn't, and neither is what nothing needs."""
+    """Only what a change reaches is built again, and a library that somebody made anew since; what is touched
+    alone isn't, and neither is what nothing needs."""
     place.run("./build")
     place.noted()
     place.change("short", "// short, changed\n")
@@ -213,8 +214,12 @@ def changed(place: Place) -> bool:
     touched = place.run("./deltat", "replay")
     place.noted()
     second = place.run("./build").returncode == 0 and not place.built() and place.run("./deltat", "replay").stdout == "program replay\n"
+    library = place.top / "crates" / "low" / "out" / "rlib"
+    (library / "made").write_text("of other sources")
+    (library / "more").touch()
+    remade = place.run("./build").returncode == 0 and place.built() == ["low"]
     other_kit = place.run("./build", PRETENDED_VERSION="another kit").returncode == 0 and len(place.built()) == 6
-    return first and second and other_kit and "unproved" in tried.stderr and "unproved" in touched.stderr
+    return first and second and remade and other_kit and "unproved" in tried.stderr and "unproved" in touched.stderr
 
 
 def failure(place: Place) -> bool:
@@ -229,15 +234,31 @@ def failure(place: Place) -> bool:
     return failed and mended.returncode == 0 and place.built()[0] == "long_two" and "low" not in place.built() and not place.rooms()
 
 
+def wait_for(holds) -> None:
+    until = time.monotonic() + 20
+    while not holds() and time.monotonic() < until:
+        time.sleep(0.1)
+
+
+def killed(place: Place) -> bool:
+    """After a build that was killed the next one proves what is missing, and removes its rooms."""
+    build = subprocess.Popen(["./build"], cwd=place.top, env={**place.env, "PRETENDED_SECONDS": "1"}, stdout=subprocess.DEVNULL, stderr=subprocess.DEVNULL)
+    wait_for(place.log.exists)
+    build.kill()
+    build.wait()
+    left = len(place.rooms())
+    wait_for(lambda: not subprocess.run(["pgrep", "-f", str(place.top.parent)], capture_output=True, check=False).stdout)
+    place.noted()
+    return left == 1 and place.run("./build").returncode == 0 and len(place.built()) == 6 and not place.rooms()
+
+
 def interrupt(place: Place) -> bool:
     """An interrupted build ends at once and leaves no process; the next one goes on."""
     place.run("./build", "--only", "long_one")
     for number in (signal.SIGINT, signal.SIGTERM):
         build = subprocess.Popen(["./build"], cwd=place.top, env={**place.env, "PRETENDED_SECONDS": "60"}, stdout=subprocess.DEVNULL, stderr=subprocess.DEVNULL)
         place.noted()
-        until = time.monotonic() + 20
-        while not place.log.exists() and time.monotonic() < until:
-            time.sleep(0.1)
+        wait_for(place.log.exists)
         build.send_signal(number)
         begun = time.monotonic()
         status = build.wait(timeout=20)
@@ -275,7 +296,7 @@ def two_builds(place: Place) -> bool:
     return [it.returncode for it in builds] == [0, 0] and len(place.built()) == 6 and any(b"waiting" in it for it in said)
 
 
-TESTS = (faulty_words, unproved_run, no_answer, failing_streams, order, side_by_side, changed, failure, interrupt, live_output, only, two_builds)
+TESTS = (faulty_words, unproved_run, no_answer, failing_streams, order, side_by_side, changed, failure, interrupt, killed, live_output, only, two_builds)
 
 
 def holds(test) -> bool:
