@@ -5,7 +5,7 @@ so all of this takes seconds. `tests/launcher.py [TEST ..]`. Ends with 1 where a
 The pretended `rt` notes when it begins and ends with which crate, makes a library of the sources' sum, refuses one
 over libraries that aren't those of the sources below, and links a program that prints its words.
 
-In tests/all: no words, 120 s."""
+In tests/all: no words, 240 s."""
 import json
 import os
 import pathlib
