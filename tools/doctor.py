@@ -200,9 +200,30 @@ def carries(start: Script, other: Script, path: Path, back: Path, world: World) 
     return Finding(start.path, start.route(other.me).line, "note", text, "" if told else "that is the longest; give --round-trip for a usual one")
 
 
+def passes_on(scripts: list[Script]) -> set[tuple[str, int]]:
+    """The stations that pass packets for a node on, which others made: they need no way back."""
+    found = set()
+    for start in scripts:
+        for route in start.routes:
+            at, seen = start, [start]
+            while at and at.me != route.to and at.route(route.to):
+                at = neighbour(scripts, at, at.peer(at.route(route.to).link))
+                if at is None or at in seen:
+                    break
+                seen.append(at)
+            found |= {(it.path, route.to) for it in seen[1:]}
+    return found
+
+
+def speaks(script: Script, to: int) -> bool:
+    """Whether a node has something to send to another, or to read from it."""
+    return any(to in (it.flow.source, it.flow.target) for it in script.commands)
+
+
 def paths(scripts: list[Script], world: World) -> Iterator[Finding]:
     """Between the nodes there are ways and ways back, on which packets live long enough."""
     by_number = {it.me: it for it in reversed(scripts)}
+    through = passes_on(scripts)
     for start in scripts:
         for route in start.routes:
             other = by_number.get(route.to)
@@ -219,7 +240,7 @@ def paths(scripts: list[Script], world: World) -> Iterator[Finding]:
             yield from windows(start, other)
             if back is not None:
                 yield carries(start, other, path, back, world)
-            elif wrong_back:
+            elif wrong_back and (speaks(start, route.to) or (start.path, route.to) not in through):
                 text = f"node {route.to} has no way back here: {wrong_back.text}"
                 yield Finding(start.path, route.line, "warning", text, wrong_back.advice)
 

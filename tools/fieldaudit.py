@@ -18,6 +18,7 @@ Ends with 0 where there is an order and, with --deltat, the audit finds nothing;
 or it finds a flaw; with 2 where a log can't be read."""
 import argparse
 import heapq
+import statistics
 import subprocess
 import sys
 from dataclasses import dataclass, field
@@ -36,9 +37,12 @@ class Order:
     """What is known of the order of lines."""
 
     nodes: dict[int, Node]
-    # what each line stands behind, as the lines force it; and where it would stand if all is well
+    # what each line stands behind, as the lines force it; as it would be if all is well; and as is handy
     forced: dict[Place, set[Place]] = field(default_factory=dict)
     wished: dict[Place, set[Place]] = field(default_factory=dict)
+    handy: dict[Place, set[Place]] = field(default_factory=dict)
+    # of two runs of nodes, how long after a line of the first one that of the second was, by their clocks
+    samples: dict[tuple[Place, Place], list[int]] = field(default_factory=dict)
     # of two runs of nodes, how much the clock of the second is at most ahead of the first one's, in ms
     ahead: dict[tuple[Place, Place], tuple[int, Place, Place]] = field(default_factory=dict)
     broken: list[str] = field(default_factory=list)
@@ -57,6 +61,7 @@ class Order:
         self.forced.setdefault(then, set()).add(first)
         pair = (self.run_of(first), self.run_of(then))
         apart = self.entry(then).moment - self.entry(first).moment
+        self.samples.setdefault(pair, []).append(apart)
         if pair not in self.ahead or apart < self.ahead[pair][0]:
             self.ahead[pair] = (apart, first, then)
 
@@ -64,21 +69,32 @@ class Order:
         """The first line should stand before the other one."""
         self.wished.setdefault(then, set()).add(first)
 
+    def usual(self, first: Place, then: Place) -> float | None:
+        """About how long after a line of the first run one of the other is that it led to."""
+        found = [*self.samples.get((first, then), ()), *(-it for it in self.samples.get((then, first), ()))]
+        return statistics.median(found) if found else None
+
     def told(self, place: Place) -> str:
         """A line with its place, for people."""
         it = self.entry(place)
         return f"{it.place()}: {' '.join(it.words[2:])}"
 
 
-def follow_flow(order: Order, of: Flow) -> None:
-    """What the two logs of a flow say about the order of their lines."""
+def follow_flow(order: Order, of: Flow, fits: dict[Place, tuple[int, float]]) -> None:
+    """What the two logs of a flow say about the order of their lines; with what was found before of their
+    clocks."""
     sender, receiver = order.nodes[of.source], order.nodes[of.target]
     sending, receiving = sender.sending.get(of, Sending()), receiver.receiving.get(of, Receiving())
-    matched, broken = Matcher(sender, receiver, sending, receiving).match()
+
+    def ahead(life: int, other: int) -> float | None:
+        one, two = fits.get((of.source, life)), fits.get((of.target, other))
+        return two[1] - one[1] if one and two and one[0] == two[0] else None
+
+    matched, broken = Matcher(sender, receiver, sending, receiving, ahead).match()
     for i in broken:
         it = receiving.accepted[i]
-        before = next((place for place in reversed(matched[:i]) if place is not None), None)
-        order.broken.append(f"{order.told((of.target, it.line))}: {why_broken(it, matched[i], before, sending.segments)}")
+        last = next((place for place in reversed(matched[:i]) if place is not None), None)
+        order.broken.append(f"{order.told((of.target, it.line))}: {why_broken(it, matched[i], last, sending.segments)}")
     accepted: dict[int, int] = {}
     for it, place in zip(receiving.accepted, matched):
         if place is None:
@@ -87,7 +103,7 @@ def follow_flow(order: Order, of: Flow) -> None:
         line = (of.target, it.line)
         order.came((of.source, (segment.packet(it.is_run) or segment.packets[0]).line), line)
         if segment.run + 1 < len(sending.begins):
-            order.wish(line, (of.source, sending.begins[segment.run + 1]))
+            order.handy.setdefault((of.source, sending.begins[segment.run + 1]), set()).add(line)
         accepted.setdefault(place, it.line)
     follow_acknowledgements(order, of, sending, receiving, accepted)
 
@@ -116,11 +132,34 @@ def follow_acknowledgements(order: Order, of: Flow, sending: Sending, receiving:
             order.came((of.target, next((one for one in found if one >= behind), found[-1])), (of.source, it.line))
 
 
+def runs_of_all(order: Order) -> list[Place]:
+    """Each run of each node."""
+    return [(number, life) for number, node in order.nodes.items() for life in dict.fromkeys(node.lives)]
+
+
+def fitted(order: Order) -> dict[Place, tuple[int, float]]:
+    """For each run of a node the group of runs of which it is known how far their clocks are apart, and how
+    far this one is ahead of the first of the group; by what usually passes between two of them."""
+    found: dict[Place, tuple[int, float]] = {}
+    runs = runs_of_all(order)
+    for group, root in enumerate(runs):
+        front = [] if root in found else [root]
+        found.setdefault(root, (group, 0.0))
+        while front:
+            one = front.pop(0)
+            for other in runs:
+                apart = None if other in found else order.usual(one, other)
+                if apart is not None:
+                    found[other] = (group, found[one][1] + apart)
+                    front.append(other)
+    return found
+
+
 def clocks(order: Order) -> dict[Place, float]:
     """For each run of a node, what is added to its moments to fit those of the others; 0 where nothing
     passed between them. Clocks that no constant fits are noted."""
     added: dict[Place, float] = {}
-    runs = [(number, life) for number, node in order.nodes.items() for life in dict.fromkeys(node.lives)]
+    runs = runs_of_all(order)
     for root in runs:
         front = [root] if root not in added else []
         added.setdefault(root, 0.0)
@@ -137,9 +176,8 @@ def clocks(order: Order) -> dict[Place, float]:
     for (one, other), to in order.ahead.items():
         back = order.ahead.get((other, one))
         if back and one < other and to[0] + back[0] < -1:
-            apart = -to[0] - back[0]
             order.notes.append(
-                f"the clocks of node {one[0]} and node {other[0]} don't fit by {apart} ms: {order.told(to[1])} before {order.told(to[2])}, "
+                f"the clocks of node {one[0]} and node {other[0]} don't fit by {-to[0] - back[0]} ms: {order.told(to[1])} before {order.told(to[2])}, "
                 f"and {order.told(back[1])} before {order.told(back[2])}; one stood still, or goes at another rate"
             )
     return added
@@ -149,11 +187,12 @@ def merged(order: Order) -> list[Place]:
     """The lines in an order that they force; a line that can stand nowhere is told."""
     added = clocks(order)
     behind: dict[Place, list[Place]] = {}
-    for kind in (order.forced, order.wished):
+    kinds = (order.forced, order.wished, order.handy)
+    for kind in kinds:
         for then, firsts in kind.items():
             for first in firsts:
                 behind.setdefault(first, []).append(then)
-    wait = {place: len(order.forced.get(place, ())) + len(order.wished.get(place, ())) for place in {*order.forced, *order.wished}}
+    wait = {place: sum(len(kind.get(place, ())) for kind in kinds) for kind in kinds for place in kind}
     head = {number: 0 for number in order.nodes}
     done: set[Place] = set()
     out: list[Place] = []
@@ -174,10 +213,11 @@ def merged(order: Order) -> list[Place]:
             stuck = [(number, at) for number, at in head.items() if at < len(order.nodes[number].entries)]
             if not stuck:
                 return out
-            left = lambda place: [it for it in order.forced.get(place, ()) if it not in done]
-            place = min(stuck, key=lambda it: (bool(left(it)), moment(it)))
-            first = next(iter(sorted(left(place)) or sorted(it for it in order.wished.get(place, ()) if it not in done)))
-            order.broken.append(f"{order.told(place)}: it stands before what it rests on, {order.told(first)}")
+            left = lambda kind, place: [it for it in kind.get(place, ()) if it not in done]
+            place = min(stuck, key=lambda it: (bool(left(order.forced, it)), bool(left(order.wished, it)), moment(it)))
+            rests = left(order.forced, place) or left(order.wished, place)
+            if rests:
+                order.broken.append(f"{order.told(place)}: it stands before what it rests on, {order.told(min(rests))}")
             wait[place] = 0
         out.append(place)
         done.add(place)
@@ -192,15 +232,19 @@ def merged(order: Order) -> list[Place]:
 
 def order_of(nodes: dict[int, Node]) -> tuple[Order, set[Flow]]:
     """What is known of the order, and the flows of which a log is missing."""
-    order, missing = Order(nodes), set()
     flows = list(dict.fromkeys(of for node in nodes.values() for of in [*node.sending, *node.receiving]))
-    for of in flows:
-        gone = next((it for it in (of.source, of.target) if it not in nodes), None)
-        if gone is None:
-            follow_flow(order, of)
-        else:
-            missing.add(of)
-            order.notes.append(f"no log of node {gone} is given, so the flow {of} isn't judged")
+    missing = {of for of in flows if of.source not in nodes or of.target not in nodes}
+    # the first time without the clocks, which follow from it
+    order, fits = Order(nodes), {}
+    for _ in range(3):
+        order = Order(nodes)
+        for of in flows:
+            if of not in missing:
+                follow_flow(order, of, fits)
+        fits = fitted(order)
+    for of in sorted(missing, key=str):
+        gone = of.source if of.source not in nodes else of.target
+        order.notes.append(f"no log of node {gone} is given, so the flow {of} isn't judged")
     for node in nodes.values():
         for before, run in zip(node.runs, node.runs[1:]):
             ended = "stopped" if before.ended else "ended without its stop"

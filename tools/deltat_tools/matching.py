@@ -3,10 +3,13 @@
 The octets of a flow are accepted in the order in which they were sent, so what was accepted is matched to
 segments of the same number and length in their order, such that each that was acknowledged is matched, and
 those that are passed over were given up. Numbers come again in later data runs. Where more than one way is
-left, the one is taken in which the time between two acceptances is most like that between their packets.
-Where no way is left, one is taken that breaks as little as can be, and the lines are named at which it does."""
+left, the one is taken in which the time between two acceptances is most like that between their packets,
+and, once it is known how far apart the clocks of two nodes are, each acceptance is most soon behind its
+packet. Where no way is left, one is taken that breaks as little as can be, and the lines are named at which
+it does."""
 from bisect import bisect_left, bisect_right
 from dataclasses import dataclass
+from typing import Callable
 
 from deltat_tools.logs import Acceptance, Node, Receiving, Segment, Sending
 
@@ -31,8 +34,10 @@ class Way:
 class Matcher:
     """Matches the acceptances of one flow."""
 
-    def __init__(self, sender: Node, receiver: Node, sending: Sending, receiving: Receiving):
-        self.sender, self.receiver = sender, receiver
+    def __init__(self, sender: Node, receiver: Node, sending: Sending, receiving: Receiving, ahead: Callable[[int, int], float | None]):
+        """`ahead` of a life of the sender and one of the receiver: about how many ms the receiver's clock is
+        ahead, with the time that a packet takes, or None where that isn't known."""
+        self.sender, self.receiver, self.ahead = sender, receiver, ahead
         self.segments, self.accepted = sending.segments, receiving.accepted
         self.places: dict[tuple[int, int], list[int]] = {}
         self.settled, self.open, self.first_of_life = [0], [0], {}
@@ -55,13 +60,20 @@ class Matcher:
         settled = self.settled[place] - self.settled[before + 1]
         return settled + max(0, self.open[place] - self.open[min(own, place)])
 
-    def drift(self, i: int, before: int, place: int) -> float:
-        """How unlike the time between two acceptances is to that between their packets."""
-        one, other = self.accepted[i - 1], self.accepted[i]
-        if before < 0 or one.life != other.life or self.segments[before].life != self.segments[place].life:
+    def apart(self, i: int, place: int) -> int:
+        """How long after its packet the acceptance i is, by the two nodes' own clocks."""
+        it = self.accepted[i]
+        return self.receiver.entries[it.line].moment - self.moment(self.segments[place], it.is_run)
+
+    def unlike(self, i: int, way: Way | None, place: int) -> float:
+        """How unlike the clocks of the two nodes find it that the acceptance i is of this segment."""
+        it, segment = self.accepted[i], self.segments[place]
+        ahead = self.ahead(segment.life, it.life)
+        if ahead is not None:
+            return abs(self.apart(i, place) - ahead)
+        if way is None or not way.matched or self.accepted[i - 1].life != it.life or self.segments[way.place].life != segment.life:
             return 0.0
-        apart = self.receiver.entries[other.line].moment - self.receiver.entries[one.line].moment
-        return abs(apart - self.moment(self.segments[place], other.is_run) + self.moment(self.segments[before], one.is_run))
+        return abs(self.apart(i, place) - self.apart(i - 1, way.place))
 
     def step(self, i: int, way: Way | None, place: int) -> Way:
         """The acceptance i is of this segment, behind a way."""
@@ -74,7 +86,7 @@ class Matcher:
             wrong += 1
         if not it.is_run and (way is None or not way.matched or place != before + 1 or it.life != self.accepted[i - 1].life):
             wrong += 1
-        cost = (way.cost if way else 0.0) + wrong * BREAK + (self.drift(i, before, place) if way else 0.0)
+        cost = (way.cost if way else 0.0) + wrong * BREAK + self.unlike(i, way, place)
         return Way(cost, place, wrong > 0, way)
 
     def candidates(self, i: int, way: Way | None) -> list[int]:
