@@ -8,7 +8,7 @@ import sys
 import tempfile
 from pathlib import Path
 
-from field import HOST, TOP, free_port, program, tell
+from lib import HOST, TOP, free_port, program, tell
 
 PARAMS = "params 1000 3000 200 500 800 100 4096 4096 512 2147483648"
 ONE = [PARAMS, "me 1 first", "local 127.0.0.1:4001", "peer 1 127.0.0.1:4002 50 0", "route 2 1", "go", "at 0 send 1:1>2:2 be 00", "at 100 stop"]

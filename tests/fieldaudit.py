@@ -20,11 +20,18 @@ import tempfile
 from concurrent.futures import ThreadPoolExecutor
 from pathlib import Path
 
-from field import TOP, Between, program, script, start, tell, wait_for
+from lib import TOP, Between, node_script, params, program, start, tell, wait_for
 
 TOOL = TOP / "tools" / "fieldaudit.py"
 ROWS = TOP / "crates" / "deltat_rows"
 HELLO = "68656c6c6f"
+# a receive record lives 1,850 ms, and a node that starts again is silent for 2,450
+QUICK = params(times="300 1500 50 100 400")
+
+
+def script(me: int, life: str, local: int, peer: int, commands: list[str], line: str = QUICK) -> str:
+    """The script of node 1 or 2, whose peer is the other one."""
+    return node_script([line], (me, 3 - me), (local, peer), commands).replace(f"me {me} first", f"me {me} {life}")
 
 
 def audited(deltat: str, paths: list[Path]) -> tuple[int, str]:
@@ -183,7 +190,7 @@ def pair(deltat: str) -> tuple[bool, str]:
             commands += [(at, f"read {back} 4096") for at in range(400, 4200, 100)]
             lines = [f"at {at} {text}" for at, text in sorted(commands)]
             text = script(me, "first", between.nodes[me - 1], between.port(me), [*lines, "at 4500 stop"])
-            nodes.append(start(deltat, text.replace("go\n", "shelf 64\ngo\n", 1), path.open("wb")))
+            nodes.append(start(deltat, text.replace("go\n", "shelf 64\ngo\n", 1), out=path.open("wb")))
         for node in nodes:
             node.wait(20)
         status, said = audited(deltat, paths)
@@ -198,13 +205,13 @@ def restarted(deltat: str, life: str) -> tuple[int, str, int]:
         sender, first, second = (Path(folder) / name for name in ("1.log", "2.log", "2-second.log"))
         reads = [f"at {at} read 1:10>2:20 100" for at in range(20, 3500, 20)]
         text = script(2, "first", between.nodes[1], between.port(2), [*reads, "at 4000 stop"])
-        receiver = start(deltat, text, first.open("wb"))
+        receiver = start(deltat, text, out=first.open("wb"))
         sends = [f"at 300 send 1:10>2:20 be {HELLO}", "at 4500 stop"]
-        sending = start(deltat, script(1, "first", between.nodes[0], between.port(1), sends), sender.open("wb"))
+        sending = start(deltat, script(1, "first", between.nodes[0], between.port(1), sends), out=sender.open("wb"))
         wait_for(first, " read ", 5)
         receiver.kill()
         receiver.wait()
-        start(deltat, text.replace("me 2 first", f"me 2 {life}"), second.open("wb")).wait(20)
+        start(deltat, text.replace("me 2 first", f"me 2 {life}"), out=second.open("wb")).wait(20)
         sending.wait(20)
         status, said = audited(deltat, [sender, first, second])
         return status, said, (first.read_text() + second.read_text()).count(HELLO)
@@ -226,13 +233,13 @@ def sender(deltat: str) -> tuple[bool, str]:
     with tempfile.TemporaryDirectory() as folder, Between(lambda node, octets: 1) as between:
         first_log, second_log, receiver_log = (Path(folder) / name for name in ("1.log", "1-second.log", "2.log"))
         reads = [f"at {at} read 1:10>2:20 100" for at in range(20, 3500, 20)]
-        receiver = start(deltat, script(2, "first", between.nodes[1], between.port(2), [*reads, "at 3600 stop"]), receiver_log.open("wb"))
+        receiver = start(deltat, script(2, "first", between.nodes[1], between.port(2), [*reads, "at 3600 stop"]), out=receiver_log.open("wb"))
         text = script(1, "first", between.nodes[0], between.port(1), [f"at 300 send 1:10>2:20 be {HELLO}", "at 1500 stop"])
-        sending = start(deltat, text, first_log.open("wb"))
+        sending = start(deltat, text, out=first_log.open("wb"))
         wait_for(first_log, " settled ", 5)
         sending.kill()
         sending.wait()
-        start(deltat, text.replace(HELLO, "776f726c64"), second_log.open("wb")).wait(20)
+        start(deltat, text.replace(HELLO, "776f726c64"), out=second_log.open("wb")).wait(20)
         receiver.wait(20)
         status, said = audited(deltat, [first_log, second_log, receiver_log])
         flaw = re.search(r"1-second.log:\d+: breaks S4: ", said)

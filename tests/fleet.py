@@ -14,7 +14,7 @@ import sys
 import tempfile
 from pathlib import Path
 
-from field import HOST, TOP, free_port, program, tell
+from lib import HOST, TOP, free_port, program, tell
 
 TOOL, DOCTOR = (str(TOP / "tools" / name) for name in ("fleet.py", "doctor.py"))
 TWO = """[network]
@@ -124,7 +124,8 @@ def is_good(deltat: str, text: str) -> tuple[bool, str]:
         if status:
             return False, said
         scripts = sorted(map(str, (folder / "out").glob("*.script")))
-        found = subprocess.run([sys.executable, DOCTOR, *scripts], capture_output=True, text=True, check=False)
+        options = said.splitlines()[-1].split(" ")[3:-1]
+        found = subprocess.run([sys.executable, DOCTOR, *scripts, *options], capture_output=True, text=True, check=False)
         bad = [it for it in found.stdout.splitlines() if ": note: " not in it]
         schedule = (folder / "out" / "network.schedule").read_text()
         ran = subprocess.run([deltat, "replay"], input=schedule, capture_output=True, text=True, check=False)

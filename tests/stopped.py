@@ -1,17 +1,22 @@
 #!/usr/bin/env python3
-"""What a node does that is stopped, blocked, asleep or busy. `tests/stopped.py [PROGRAM] [--runs N]`, where N
-is 20 without it. Each part says what it found; it ends with 1 where octets were delivered twice, or where a
-part doesn't hold:
+"""What a node does that is stopped, blocked, asleep or busy. `tests/stopped.py [PROGRAM] [--runs N]
+[PART ..]`, where N is 20 without it, and all parts are tried without one. Each says what it found; it ends
+with 1 where octets were delivered twice, or where a part doesn't hold:
 
 - stopped: a receiver behind a process that repeats datagrams is stopped (SIGSTOP) for longer than its
   records live, while repeats of what it accepted wait in its socket. N runs. What is read twice is found by
   tools/fieldaudit.py, and nothing else is.
-- unread log: the same with a receiver whose log nobody reads, so that it blocks in a write. N runs.
-- unread trace: the same with one that writes its trace (`trace`), run again by `retrace`. N runs.
+- log: the same with a receiver whose log nobody reads, so that it blocks in a write. N runs.
+- trace: the same with one that writes its trace (`trace`), run again by `retrace`. N runs.
+- frames: a sender whose log nobody reads blocks between the reading of its turn and the frames of the
+  turn, for longer than its records live. What it is told to be acknowledged was delivered. N runs.
 - busy: 100,000 datagrams in a second; what was sent is what the log tells and what the kernel had no room
   for, so the node itself dropped none.
 - clock: which clock the node reads, seen by a few lines of C before the C library's `clock_gettime`, within
-  `unshare --time --boottime 1000`; and that an hour in which the machine sleeps counts for it."""
+  `unshare --time --boottime 1000`; and that an hour in which the machine sleeps counts for it.
+
+In tests/all: PROGRAM, 600 s."""
+import argparse
 import fcntl
 import shutil
 import socket
@@ -23,10 +28,11 @@ import time
 from concurrent.futures import ThreadPoolExecutor
 from pathlib import Path
 
-from field import HOST, TOP, Between, free_port, program, script, start, tell, wait_for
+from fieldaudit import script
+from lib import HOST, TOP, Between, free_port, params, program, skip, start, tell, wait_for
 
 # a receive record lives 820 ms, and a segment goes again for 600 ms
-SHORT = "params 200 600 20 50 300 1000 8192 8192 8192 2147483648"
+SHORT = params(1000, 8192, 8192, "200 600 20 50 300")
 HELLO = "68656c6c6f"
 STOPPED = 1.3
 F_SETPIPE_SZ = 1031
@@ -41,7 +47,7 @@ def receiver_script(between: Between, stop: int = 3500) -> str:
 
 
 def sender(deltat: str, between: Between, sends: list[str], log: Path) -> "subprocess.Popen[bytes]":
-    return start(deltat, script(1, "first", between.nodes[0], between.port(1), [*sends, "at 2500 stop"], SHORT), log.open("wb"))
+    return start(deltat, script(1, "first", between.nodes[0], between.port(1), [*sends, "at 2500 stop"], SHORT), out=log.open("wb"))
 
 
 def repeated(node: int, octets: bytes) -> int:
@@ -53,7 +59,7 @@ def stopped(deltat: str) -> tuple[int, bool]:
     """How often the octets were read, and whether the audit of both logs says so."""
     with tempfile.TemporaryDirectory() as folder, Between(repeated) as between:
         one, two = Path(folder) / "1.log", Path(folder) / "2.log"
-        receiver = start(deltat, receiver_script(between), two.open("wb"))
+        receiver = start(deltat, receiver_script(between), out=two.open("wb"))
         sending = sender(deltat, between, [f"at 250 send 1:10>2:20 be {HELLO}"], one)
         wait_for(two, HELLO, 5)
         receiver.send_signal(19)
@@ -80,7 +86,7 @@ def unread(deltat: str, word: str) -> tuple[int, bool]:
 
     with tempfile.TemporaryDirectory() as folder, Between(rule) as between:
         text = receiver_script(between)
-        receiver = start(deltat, text, subprocess.PIPE, word)
+        receiver = start(deltat, text, word)
         fcntl.fcntl(receiver.stdout.fileno(), F_SETPIPE_SZ, 4096)
         time.sleep(0.1)
         more = [f"at 350 send 1:11>2:21 be {'7a' * 8000}"] if word == "node" else []
@@ -94,6 +100,34 @@ def unread(deltat: str, word: str) -> tuple[int, bool]:
     if word == "trace":
         out = subprocess.run([deltat, "retrace"], input=text.encode() + b"trace\n" + out, capture_output=True, check=False).stdout
     return out.decode().count(HELLO), waits == 1
+
+
+def late(deltat: str) -> tuple[int, bool]:
+    """How often "world" was read where its acknowledgement was used, and whether that was used. Node 1 reads
+    8,000 octets into its log, and in the same turn sends "hello", so that its frame leaves late."""
+    began = threading.Event()
+
+    def rule(node: int, octets: bytes) -> int:
+        if node == 2:
+            began.set()
+        return 1
+
+    world = "776f726c64"
+    with tempfile.TemporaryDirectory() as folder, Between(rule) as between:
+        reads = [f"at {at} read 1:10>2:20 8192" for at in range(1000, 5000, 20)]
+        sends = [f"at 300 send 2:30>1:40 be {'7a' * 8000}"]
+        other = start(deltat, script(2, "first", between.nodes[1], between.port(2), [*sends, *reads, "at 5000 stop"], SHORT), out=(Path(folder) / "2.log").open("wb"))
+        tasks = ["at 600 read 2:30>1:40 8192", f"at 600 send 1:10>2:20 be {HELLO}", f"at 700 send 1:10>2:20 be {world}", "at 4000 stop"]
+        node = start(deltat, script(1, "first", between.nodes[0], between.port(1), tasks, SHORT))
+        fcntl.fcntl(node.stdout.fileno(), F_SETPIPE_SZ, 4096)
+        began.wait(5)
+        time.sleep(2.2)
+        log = node.stdout.read().decode()
+        node.wait(20)
+        other.wait(20)
+        settled = log.count(" settled 1:10>2:20 5 ")
+        read = (Path(folder) / "2.log").read_text().count(world)
+    return read, settled > 0 and "7a7a7a7a" in log
 
 
 def readable(pid: int) -> bool:
@@ -141,7 +175,7 @@ def busy(deltat: str) -> tuple[bool, str]:
     with socket.socket(socket.AF_INET, socket.SOCK_DGRAM) as source, tempfile.TemporaryDirectory() as folder:
         source.bind((HOST, 0))
         log = Path(folder) / "2.log"
-        node = start(deltat, script(2, "first", port, source.getsockname()[1], ["at 7000 stop"], SHORT), log.open("wb"))
+        node = start(deltat, script(2, "first", port, source.getsockname()[1], ["at 7000 stop"], SHORT), out=log.open("wb"))
         until = time.monotonic() + 5
         while kernel_drops(port) < 0 and time.monotonic() < until:
             time.sleep(0.01)
@@ -213,13 +247,24 @@ def clock(deltat: str) -> tuple[bool, str]:
 
 
 def main() -> int:
+    reads = argparse.ArgumentParser(description=__doc__, formatter_class=argparse.RawDescriptionHelpFormatter)
+    reads.add_argument("program", nargs="?", help="the program (crates/deltat/out/deltat)")
+    reads.add_argument("parts", nargs="*", metavar="PART", help="clock, busy, stopped, log, trace or frames (all)")
+    reads.add_argument("--runs", type=int, default=20, help="how often a node is stopped or blocked (20)")
+    asked = reads.parse_args()
     deltat = program()
-    runs = int(sys.argv[sys.argv.index("--runs") + 1]) if "--runs" in sys.argv else 20
-    cases = [("clock", *clock(deltat)), ("busy", *busy(deltat))]
-    cases.append(("stopped", *many(lambda: stopped(deltat), runs)))
-    cases.append(("unread log", *many(lambda: unread(deltat, "node"), runs)))
-    cases.append(("unread trace", *many(lambda: unread(deltat, "trace"), runs)))
-    return tell(cases)
+    parts = {
+        "clock": lambda: clock(deltat),
+        "busy": lambda: busy(deltat),
+        "stopped": lambda: many(lambda: stopped(deltat), asked.runs),
+        "log": lambda: many(lambda: unread(deltat, "node"), asked.runs),
+        "trace": lambda: many(lambda: unread(deltat, "trace"), asked.runs),
+        "frames": lambda: many(lambda: late(deltat), asked.runs),
+    }
+    strange = [it for it in asked.parts if it not in parts]
+    if strange:
+        reads.error(f"there is no part {strange[0]}; there are {', '.join(parts)}")
+    return tell([(name, *parts[name]()) for name in asked.parts or parts])
 
 
 if __name__ == "__main__":

@@ -30,7 +30,8 @@ The description:
 
 A packet goes to each node by the links of the least delay together. The parameters, the charges and the
 routes follow from the delays; host names are looked up once, here. FOLDER gets NAME.script for each node,
-and network.schedule for `deltat replay`, with what is sent and read, and no arrivals.
+and network.schedule for `deltat replay`, with what is sent and read, and no arrivals. The last line that is
+written says how tools/doctor.py looks at the scripts.
 
 Ends with 0, or with 2 where the description can't be read or has no such network."""
 import argparse
@@ -201,17 +202,18 @@ def resolve(nodes: dict[str, Node]) -> None:
 
 
 def ways(network: Network, start: str) -> dict[str, list[Link]]:
-    """The links by which packets go from a node to each of the others: those of the least delay together."""
+    """The links by which packets go from a node to each of the others: those of the least delay together,
+    and of these the fewest."""
     found: dict[str, list[Link]] = {}
-    front: list[tuple[float, int, str, list[Link]]] = [(0.0, 0, start, [])]
+    front: list[tuple[float, int, str, list[int]]] = [(0.0, 0, start, [])]
     while front:
         cost, steps, name, way = heapq.heappop(front)
         if name in found:
             continue
-        found[name] = way
+        found[name] = [network.links[it] for it in way]
         for link in network.links:
             if name in link.ends and link.other(name) not in found:
-                heapq.heappush(front, (cost + link.delay, steps + 1, link.other(name), [*way, link]))
+                heapq.heappush(front, (cost + link.delay, steps + 1, link.other(name), [*way, link.number]))
     del found[start]
     return found
 
@@ -314,13 +316,19 @@ def files_of(network: Network) -> dict[str, str]:
     return files
 
 
+def doctor_words(network: Network) -> str:
+    """What tools/doctor.py has to be told of the links, which the scripts don't say."""
+    return f"--drift {min(it.drift for it in network.links)} --mtu {min(it.mtu for it in network.links)}"
+
+
 def main() -> int:
     it = argparse.ArgumentParser(description=__doc__, formatter_class=argparse.RawDescriptionHelpFormatter)
     it.add_argument("network", metavar="NETWORK.toml", help="the description")
     it.add_argument("--out", metavar="FOLDER", required=True, help="where the files go; the folder is made where it is missing")
     asked = it.parse_args()
     try:
-        files = files_of(network_of(Path(asked.network).read_bytes()))
+        network = network_of(Path(asked.network).read_bytes())
+        files = files_of(network)
         Path(asked.out).mkdir(parents=True, exist_ok=True)
         for name, text in files.items():
             (Path(asked.out) / name).write_text(text)
@@ -331,6 +339,7 @@ def main() -> int:
         print(f"{asked.network}: {why}", file=sys.stderr)
         return 2
     print("\n".join(str(Path(asked.out) / name) for name in files))
+    print(f"see also: tools/doctor.py {doctor_words(network)} {Path(asked.out) / '*.script'}")
     return 0
 
 
