@@ -11,6 +11,9 @@ Ends with 1 where one of these fails:
 - first: the same, but started as `first`, which it may not be: the octets that were delivered twice are found.
 - sender: the sender is killed and started as `first`: the octets that were acknowledged and never delivered
   are found.
+- twins: two nodes of one number send at once; what is acknowledged and was never delivered is found.
+- stood, forged, missing: the clock of a node stands for a while; octets were accepted that nobody sent, and an
+  acknowledgement was used that nobody sent; a log is missing. Each is told.
 - bad input: what is told of files that aren't logs of nodes."""
 import random
 import re
@@ -20,7 +23,7 @@ import tempfile
 from concurrent.futures import ThreadPoolExecutor
 from pathlib import Path
 
-from lib import TOP, Between, node_script, params, program, start, tell, wait_for
+from lib import HOST, TOP, Between, free_port, node_script, params, program, start, tell, wait_for
 
 TOOL = TOP / "tools" / "fieldaudit.py"
 ROWS = TOP / "crates" / "deltat_rows"
@@ -247,6 +250,57 @@ def sender(deltat: str) -> tuple[bool, str]:
     return status == 1 and bool(flaw) and gone, said.splitlines()[-1].rpartition("/")[2]
 
 
+def twins(deltat: str) -> tuple[bool, str]:
+    """Two nodes of number 1, each with a link of its own to node 2, which answers on the first."""
+    with tempfile.TemporaryDirectory() as folder:
+        paths = [Path(folder) / name for name in ("1.log", "1-twin.log", "2.log")]
+        ports = [free_port(), free_port(), free_port()]
+        lines = [QUICK, "me 2 first", f"local {HOST}:{ports[2]}", f"peer 1 {HOST}:{ports[0]} 50 0", f"peer 2 {HOST}:{ports[1]} 50 0", "route 1 2", "go"]
+        receiver = start(deltat, "\n".join([*lines, "at 1900 read 1:10>2:20 100", "at 2000 stop"]) + "\n", out=paths[2].open("wb"))
+        nodes = []
+        sends = [f"at 300 send 1:10>2:20 be {HELLO}", "at 400 send 1:10>2:20 be 20796f75"], ["at 900 send 1:10>2:20 be 776f726c6477696465"]
+        for i in (0, 1):
+            text = script(1, "first", ports[i], ports[2], [*sends[i], "at 1500 stop"])
+            nodes.append(start(deltat, text, out=paths[i].open("wb")))
+        for node in [receiver, *nodes]:
+            node.wait(20)
+        status, said = audited(deltat, paths)
+        settled = " settled " in paths[1].read_text() and "776f726c64" not in paths[2].read_text()
+    return status == 1 and settled and "1-twin.log:" in said and "breaks S4" in said, said.splitlines()[-1].rpartition("/")[2]
+
+
+def told_of(paths: list[Path]) -> tuple[int, str]:
+    """The status of the tool without the program, and its notes."""
+    ran = subprocess.run([sys.executable, str(TOOL), *map(str, paths)], capture_output=True, text=True, check=False)
+    return ran.returncode, ran.stderr
+
+
+def notes(deltat: str) -> list[tuple[str, bool, str]]:
+    """What is told of logs of a world in which something is wrong that an audit doesn't see."""
+    schedule = subprocess.run([deltat, "make", "800"], capture_output=True, text=True, check=False).stdout
+    with tempfile.TemporaryDirectory() as folder:
+        paths = cut(replayed(deltat, schedule), random.Random(1), Path(folder))
+        lines = [line.split(" ", 1) for line in paths[1].read_text().splitlines()]
+        middle = int(lines[len(lines) // 2][0])
+        status, said = told_of(paths)
+        found = [("quiet", (status, said) == (0, ""), said)]
+        stands = [(int(at) if int(at) < middle else max(middle, int(at) - 5000), text) for at, text in lines]
+        paths[1].write_text("".join(f"{at} {text}\n" for at, text in stands))
+        status, said = told_of(paths)
+        right = re.search(r"^note: the clocks of node 1 and node 2 don't fit by 49[0-9]{2} ms: .*; one stood still, or goes at another rate$", said, re.MULTILINE)
+        found.append(("stood", status == 0 and bool(right), "" if right else said))
+        number = next(text.split(" ")[3] for _, text in lines if " acked " in text)
+        kept = [it for it in lines if not re.match(f"2 (acked|replied) 1:10>2:20 {number} ", it[1])]
+        forged = [*kept[:-1], [kept[-2][0], "2 accepted 1:10>2:20 77777777 5 on"], kept[-1]]
+        paths[1].write_text("".join(f"{at} {text}\n" for at, text in forged))
+        status, said = told_of(paths)
+        right = "accepted 1:10>2:20 77777777 5 on: nothing with this number and length was sent" in said and "no log has that acknowledgement" in said
+        found.append(("forged", status == 1 and right, "" if right else said[:300]))
+        status, said = told_of(paths[:1])
+        found.append(("missing", (status, said) == (0, "note: no log of node 2 is given, so the flow 1:10>2:20 isn't judged\n"), said.strip()))
+    return found
+
+
 BAD = {
     "a trace": ("@ 0\n< -\n", "x.log:1: a line of a trace; run it by `retrace`, and give its log"),
     "a replay": ("0 1 took 1:1>2:2 5\n0 lost 0\n", "x.log:2: a line of `replay`; its log goes to `deltat audit` as it is"),
@@ -273,11 +327,11 @@ def bad(deltat: str) -> list[tuple[str, bool, str]]:
 def main() -> int:
     deltat = program()
     count = int(sys.argv[sys.argv.index("--worlds") + 1]) if "--worlds" in sys.argv else 12
-    live = {"pair": pair, "again": again, "first": first, "sender": sender}
+    live = {"pair": pair, "again": again, "first": first, "sender": sender, "twins": twins}
     with ThreadPoolExecutor(len(live)) as pool:
         running = {name: pool.submit(it, deltat) for name, it in live.items()}
         found = [(name, *it.result()) for name, it in running.items()]
-    found += [("rows", *rows(deltat)), ("make", *made(deltat)), ("worlds", *worlds(deltat, count)), *changed(deltat), *bad(deltat)]
+    found += [("rows", *rows(deltat)), ("make", *made(deltat)), ("worlds", *worlds(deltat, count)), *changed(deltat), *notes(deltat), *bad(deltat)]
     return tell(found)
 
 

@@ -18,6 +18,7 @@ with 1 where octets were delivered twice, or where a part doesn't hold:
 In tests/all: PROGRAM, 600 s."""
 import argparse
 import fcntl
+import re
 import shutil
 import socket
 import subprocess
@@ -29,7 +30,7 @@ from concurrent.futures import ThreadPoolExecutor
 from pathlib import Path
 
 from fieldaudit import script
-from lib import HOST, TOP, Between, free_port, params, program, skip, start, tell, wait_for
+from lib import HOST, TOP, Between, free_port, params, program, start, tell, wait_for
 
 # a receive record lives 820 ms, and a segment goes again for 600 ms
 SHORT = params(1000, 8192, 8192, "200 600 20 50 300")
@@ -102,9 +103,9 @@ def unread(deltat: str, word: str) -> tuple[int, bool]:
     return out.decode().count(HELLO), waits == 1
 
 
-def late(deltat: str) -> tuple[int, bool]:
-    """How often "world" was read where its acknowledgement was used, and whether that was used. Node 1 reads
-    8,000 octets into its log, and in the same turn sends "hello", so that its frame leaves late."""
+def late(deltat: str) -> tuple[bool, bool, bool]:
+    """Whether "world" was acknowledged, whether it was read, and whether its sender was blocked: node 1 reads
+    8,000 octets into its log, which nobody reads, and in the same turn sends "hello", which so leaves late."""
     began = threading.Event()
 
     def rule(node: int, octets: bytes) -> int:
@@ -114,20 +115,31 @@ def late(deltat: str) -> tuple[int, bool]:
 
     world = "776f726c64"
     with tempfile.TemporaryDirectory() as folder, Between(rule) as between:
-        reads = [f"at {at} read 1:10>2:20 8192" for at in range(1000, 5000, 20)]
-        sends = [f"at 300 send 2:30>1:40 be {'7a' * 8000}"]
-        other = start(deltat, script(2, "first", between.nodes[1], between.port(2), [*sends, *reads, "at 5000 stop"], SHORT), out=(Path(folder) / "2.log").open("wb"))
-        tasks = ["at 600 read 2:30>1:40 8192", f"at 600 send 1:10>2:20 be {HELLO}", f"at 700 send 1:10>2:20 be {world}", "at 4000 stop"]
+        log = Path(folder) / "2.log"
+        reads = [f"at {at} read 1:10>2:20 8192" for at in range(1000, 5900, 20)]
+        commands = [f"at 300 send 2:30>1:40 be {'7a' * 8000}", *reads, "at 6000 stop"]
+        other = start(deltat, script(2, "first", between.nodes[1], between.port(2), commands, SHORT), out=log.open("wb"))
+        tasks = ["at 1300 read 2:30>1:40 8192", f"at 1300 send 1:10>2:20 be {HELLO}", f"at 1400 send 1:10>2:20 be {world}", "at 5000 stop"]
         node = start(deltat, script(1, "first", between.nodes[0], between.port(1), tasks, SHORT))
         fcntl.fcntl(node.stdout.fileno(), F_SETPIPE_SZ, 4096)
         began.wait(5)
-        time.sleep(2.2)
-        log = node.stdout.read().decode()
+        time.sleep(2.9)
+        told = node.stdout.read().decode()
         node.wait(20)
         other.wait(20)
-        settled = log.count(" settled 1:10>2:20 5 ")
-        read = (Path(folder) / "2.log").read_text().count(world)
-    return read, settled > 0 and "7a7a7a7a" in log
+        read = world in log.read_text()
+    sent = re.search(r"^([0-9]+) 1 sent 1:10>2:20 0 5 dbe\n(?:.*\n)*?([0-9]+) 1 sent 1:10>2:20 0 5 ", told, re.MULTILINE)
+    settled = sent is not None and " settled 1:10>2:20 5 " in told[sent.end() :]
+    return settled, read, "7a" * 4000 in told
+
+
+def frames(deltat: str, runs: int) -> tuple[bool, str]:
+    """So many runs of a sender whose frames leave late."""
+    with ThreadPoolExecutor(AT_ONCE) as pool:
+        found = list(pool.map(lambda _: late(deltat), range(runs)))
+    lost = sum(settled and not read for settled, read, _ in found)
+    blocked = sum(it for _, _, it in found)
+    return lost == 0 and blocked == runs, f"octets were acknowledged and never delivered in {lost} of {runs} runs, {blocked} of which blocked"
 
 
 def readable(pid: int) -> bool:
@@ -144,7 +156,7 @@ def many(run, runs: int) -> tuple[bool, str]:
         found = list(pool.map(lambda _: run(), range(runs)))
     twice, once = sum(count > 1 for count, _ in found), sum(count == 1 for count, _ in found)
     right = sum(well for _, well in found)
-    text = f"octets were read twice in {twice} of {runs} runs, once in {once}" + ("" if right == runs else f"; {runs - right} runs weren't as they should be")
+    text = f"octets were read twice in {twice} of {runs} runs, once in {once}, never in {runs - twice - once}" + ("" if right == runs else f"; {runs - right} runs weren't as they should be")
     return once == runs and right == runs, text
 
 
@@ -251,7 +263,7 @@ def main() -> int:
     reads.add_argument("program", nargs="?", help="the program (crates/deltat/out/deltat)")
     reads.add_argument("parts", nargs="*", metavar="PART", help="clock, busy, stopped, log, trace or frames (all)")
     reads.add_argument("--runs", type=int, default=20, help="how often a node is stopped or blocked (20)")
-    asked = reads.parse_args()
+    asked = reads.parse_intermixed_args()
     deltat = program()
     parts = {
         "clock": lambda: clock(deltat),
@@ -259,7 +271,7 @@ def main() -> int:
         "stopped": lambda: many(lambda: stopped(deltat), asked.runs),
         "log": lambda: many(lambda: unread(deltat, "node"), asked.runs),
         "trace": lambda: many(lambda: unread(deltat, "trace"), asked.runs),
-        "frames": lambda: many(lambda: late(deltat), asked.runs),
+        "frames": lambda: frames(deltat, asked.runs),
     }
     strange = [it for it in asked.parts if it not in parts]
     if strange:
