@@ -244,14 +244,23 @@ def check_clauses(page: Path) -> Iterator[Complaint]:
                     yield Complaint(page, number, f"{' and '.join(calls)} has no clause {clause}")
 
 
+def sentences_of_run() -> Iterator[str]:
+    """The clauses of `run`, and the named fields of the records that its main clause is made of."""
+    for it in functions():
+        if (it.crate, it.name) == ("dt_top", "run"):
+            yield from it.clauses
+    for record in re.split(r"^pub record ", text_of(TOP / "crates/dt_top/specs/Answering.antt"), flags=re.MULTILINE)[1:]:
+        # the first is the sentence `ends`, the other one has all of them
+        if not record.startswith(("IsEnded ", "Answers ")):
+            yield from re.findall(r"^  pub (\w+) :", record, re.MULTILINE)
+
+
 def check_run() -> Iterator[Complaint]:
     page = TOP / "docs" / "guarantees.md"
     named = set(re.findall(r"`(\w+)`", text_of(page)))
-    for it in functions():
-        if (it.crate, it.name) == ("dt_top", "run"):
-            for clause in it.clauses:
-                if clause not in named:
-                    yield Complaint(page, 1, f"the clause {clause} of `run` isn't named")
+    for clause in sentences_of_run():
+        if clause not in named:
+            yield Complaint(page, 1, f"the clause {clause} of `run` isn't named")
 
 
 # --- the table of crates
