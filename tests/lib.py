@@ -6,8 +6,9 @@ import select
 import socket
 import subprocess
 import sys
+import threading
 import time
-from collections.abc import Sequence
+from collections.abc import Callable, Sequence
 from random import Random
 
 TOP = pathlib.Path(__file__).resolve().parent.parent
@@ -95,3 +96,58 @@ def relay(chance: Random, ends: Sequence[socket.socket], ports: Sequence[int], u
             told[copies] += 1
             for _ in range(copies):
                 ends[other].sendto(octets, (HOST, ports[other]))
+
+
+def wait_for(path: pathlib.Path, word: str, seconds: float) -> bool:
+    """Waits until a file has a word, so long at most."""
+    until = time.monotonic() + seconds
+    while time.monotonic() < until:
+        if path.exists() and word in path.read_text():
+            return True
+        time.sleep(0.005)
+    return False
+
+
+class Between:
+    """Two sockets, one for each of two nodes, and what passes from one node to the other: as often as the
+    rule says of the node that it comes from and its octets."""
+
+    def __init__(self, rule: Callable[[int, bytes], int]):
+        self.rule = rule
+        self.ends = [bound(), bound()]
+        self.nodes = [free_port(), free_port()]
+        self.passed = [0, 0]
+        self.over = threading.Event()
+        self.thread = threading.Thread(target=self.run)
+
+    def port(self, node: int) -> int:
+        """Where node 1 or 2 sends to."""
+        return self.ends[node - 1].getsockname()[1]
+
+    def run(self) -> None:
+        while not self.over.is_set():
+            for end in select.select(self.ends, [], [], 0.02)[0]:
+                octets, _ = end.recvfrom(65_536)
+                at = self.ends.index(end)
+                for _ in range(self.rule(at + 1, octets)):
+                    self.passed[at] += 1
+                    self.ends[1 - at].sendto(octets, (HOST, self.nodes[1 - at]))
+
+    def __enter__(self) -> "Between":
+        self.thread.start()
+        return self
+
+    def __exit__(self, *_) -> None:
+        self.over.set()
+        self.thread.join()
+        for it in self.ends:
+            it.close()
+
+
+def tell(cases: Sequence[tuple[str, bool, str]]) -> int:
+    """One line a case, and a closing line; 1 where one failed."""
+    for name, holds, text in cases:
+        print(f"{name}: {'holds' if holds else 'FAILED'}{': ' if text else ''}{text}")
+    failed = sum(not holds for _, holds, _ in cases)
+    print(f"{len(cases) - failed} of {len(cases)} hold")
+    return 1 if failed or not cases else 0
