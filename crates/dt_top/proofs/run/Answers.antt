@@ -4,7 +4,7 @@ use Rattle.dt_replay.specs.Schedules.{world_after_lines}
 use Rattle.dt_replay.proofs.Scenes.{lines_safe}
 use Rattle.dt_audit.proofs.Agreement.{log_is_safe}
 use Rattle.dt_calls.proofs.CallFolds.{answers_reversed, served_once}
-use Rattle.dt_replay.proofs.LineCounts.{lines_count}
+use Rattle.dt_scenario.proofs.LineCounts.{lines_count}
 use Rattle.dt_replay_audit.proofs.Turning.{schedule_passes}
 use Rattle.dt_top.specs.Serving.{Ends}
 use Rattle.dt_top.specs.Streams.{Streams, effects}

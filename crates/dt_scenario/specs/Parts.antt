@@ -10,14 +10,20 @@ use Rattle.dt_reports.specs.declared.faults.StepFault.TheVariants as step_fault
 use Rattle.dt_fold.specs.declared.stops.Stop.{Stop}
 use Rattle.dt_fold.specs.declared.stops.Stop.TheVariants as stop
 use Rattle.dt_fold.specs.Folds.{Turned}
-use Rattle.dt_replay.specs.declared.schedules.Part.{Part}
-use Rattle.dt_replay.specs.declared.schedules.Part.TheVariants as part
-use Rattle.dt_replay.specs.Schedules.{Empty, Prepares, Runs, Scene}
+use Rattle.dt_scenario.specs.declared.parts.Part.{Part}
+use Rattle.dt_scenario.specs.declared.parts.Part.TheVariants as part
+use Rattle.dt_scenario.specs.declared.scenarios.Scenario.{Scenario}
+use Rattle.dt_scenario.specs.Scenes.{Empty, Prepares, Runs, Scene}
 
-abbrev pub scene_of : Part → Scene
-scene_of part.Nothing = Empty
-scene_of (part.Preparing setup) = Prepares setup
-scene_of (part.Running w) = Runs w.state
+-- the scene of a part, by what is seen of the simulation
+abbrev pub scene_of : {P S : Type 0} → (P → S) → Part P → Scene S
+scene_of state part.Nothing = Empty
+scene_of state (part.Preparing setup) = Prepares setup
+scene_of state (part.Running p) = Runs (state p)
+
+-- the scene that the lines of a scenario have led to
+abbrev pub scene_in : {P S : Type 0} → (P → S) → Scenario P → Scene S
+scene_in state s = scene_of state s.part
 
 -- what a step says of its line, unless a put failed
 abbrev pub stepped : Result (Unit {0}) StepFault → Bool → Result (Option Fault) Stop
