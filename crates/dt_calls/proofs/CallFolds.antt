@@ -15,7 +15,7 @@ use Rattle.dt_calls_model.specs.Promises.{AreServedOnce}
 use Rattle.dt_calls_laws.specs.MayCome.{MayCome}
 use Rattle.dt_calls_laws.proofs.Starting.{new_calls_facts}
 use Rattle.dt_calls_laws.proofs.Stepping.{Comes, step_answers, step_comes}
-use Rattle.dt_scenario.specs.Scenes.{IsLineOf}
+use Rattle.dt_scenario.specs.Parts.{IsLineOf}
 use Rattle.dt_scenario.proofs.Keeping.{IfTurned, facts_after}
 use Rattle.dt_scenario.proofs.LineCounts.{lines_count}
 use Rattle.dt_calls.specs.CallInputs.{AnswersAreReversed, by_calls, calls_after_lines, does, simulates_calls}

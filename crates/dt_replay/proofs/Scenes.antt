@@ -14,7 +14,7 @@ use Rattle.dt_world_model.specs.WorldStep.{Arrives, Loses, Passes, Reads, Restar
 use Rattle.dt_world_laws.proofs.Promise.{facts_are_safe}
 use Rattle.dt_world_laws.proofs.Running.{run_goes}
 use Rattle.dt_world_laws.proofs.Starts.{new_world_facts}
-use Rattle.dt_scenario.specs.Scenes.{IsLineOf}
+use Rattle.dt_scenario.specs.Parts.{IsLineOf}
 use Rattle.dt_scenario.proofs.Keeping.{IfTurned, facts_after}
 use Rattle.dt_replay.specs.Schedules.{by_step, does, replayed, simulates_world, world_after_lines, world_of}
 

@@ -19,7 +19,8 @@ use Rattle.dt_text.proofs.LineLaws.{line-only}
 use Rattle.dt_fold.specs.Folds.{Folded, Turned, closed, fold_from, fold_on}
 use Rattle.dt_world_model.specs.Setup.{AddLink, AddRoute, AddStation, Setup, SetupCall, added, new_world, setup_refusals, setup_unless}
 use Rattle.dt_world_model.specs.WorldStep.{first_refusal}
-use Rattle.dt_scenario.specs.Scenes.{Empty, IsLineOf, Prepares, Runs, Scene, Simulates, adds, by_params, by_run, by_setup, close, done_by, done_if, goes, happens, scenario_turns, simulated, stage_of, turn, turn_read}
+use Rattle.dt_scenario.specs.Parts.{IsLineOf}
+use Rattle.dt_scenario.specs.Scenes.{Empty, Prepares, Runs, Scene, Simulates, adds, by_params, by_run, by_setup, close, done_by, done_if, goes, happens, scenario_turns, simulated, stage_of, turn, turn_read}
 
 -- a line that is read is one of its form
 blank_line : (form : Form) → IsLine form said.Blank

@@ -14,7 +14,6 @@ use Rattle.dt_text.specs.declared.stages.Stage.TheVariants as stages
 use Rattle.dt_text.specs.Said as said
 use Rattle.dt_text.specs.Said.{Said}
 use Rattle.dt_text.specs.Lines.{line_of}
-use Rattle.dt_text.specs.Spelling.{IsLine}
 use Rattle.dt_text.specs.Stages.{stage_after}
 use Rattle.dt_fold.specs.Folds.{Turned, Turns}
 use Rattle.dt_world_model.specs.Setup.{AddLink, AddRoute, AddStation, Setup, SetupCall, new_setup, new_world, setup_call}
@@ -35,10 +34,6 @@ pub record Simulates (S : Type 0) : Type 0 where
   pub starts : World → S
   pub does : S → Said → Result (Turned S) Fault
   pub close : S → List ℕ
-
--- the line is one of the simulation's form
-abbrev pub IsLineOf : {S : Type 0} → Simulates S → Said → Type 0
-IsLineOf sim line = IsLine sim.form line
 
 abbrev pub stage_of : {S : Type 0} → Scene S → Stage
 stage_of Empty = stages.Start

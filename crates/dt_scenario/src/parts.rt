@@ -5,8 +5,8 @@ ghost use Rattle.dt_edges.specs.Sinks.{Puts};
 ghost use Rattle.dt_text.specs.Said.{said};
 ghost use Rattle.dt_fold.specs.Logging.{TurnsTo};
 ghost use Rattle.dt_world_model.specs.Setup.{AddLink, AddRoute, AddStation};
-ghost use Rattle.dt_scenario.specs.Parts.{LeadsTo, added, scene_of};
-ghost use Rattle.dt_scenario.specs.Scenes.{IsLineOf, adds, by_params, goes, happens, stage_of};
+ghost use Rattle.dt_scenario.specs.Parts.{IsLineOf, LeadsTo, added, scene_of};
+ghost use Rattle.dt_scenario.specs.Scenes.{adds, by_params, goes, happens, stage_of};
 
 use crate::simulations::Simulation;
 use dt_edges::Sink;
@@ -113,11 +113,7 @@ impl<S: Simulation> Part<S> {
 
     /// Something happens in the simulation.
     #[tactic(auto, using(crate::proofs::Happenings::happening_turns))]
-    pub fn happen<K: Sink>(
-        &mut self,
-        line: &Line<'_>,
-        out: &mut K,
-    ) -> Result<Option<Fault>, Stop>
+    pub fn happen<K: Sink>(&mut self, line: &Line<'_>, out: &mut K) -> Result<Option<Fault>, Stop>
         requires { IsLineOf S.simulates (said line.now) }
         ensures { TurnsTo K.sight (happens S.simulates (scene_of S.state self.old) (said line.now)) result (scene_of S.state self.old) (scene_of S.state self.new) out.old out.new }
     {

@@ -1,8 +1,8 @@
 ghost use Rattle.std.specs.Prelude.{◌≡◌};
 ghost use Rattle.dt_text.specs.Said.{said};
 ghost use Rattle.dt_fold.specs.Logging.{Closes, TurnsTo};
-ghost use Rattle.dt_scenario.specs.Parts.{scene_in};
-ghost use Rattle.dt_scenario.specs.Scenes.{Empty, IsLineOf, done_by};
+ghost use Rattle.dt_scenario.specs.Parts.{IsLineOf, scene_in};
+ghost use Rattle.dt_scenario.specs.Scenes.{Empty, done_by};
 
 use crate::parts::{MISPLACED, Part};
 use crate::simulations::Simulation;

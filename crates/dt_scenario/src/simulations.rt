@@ -3,7 +3,8 @@ ghost use Rattle.dt_edges.specs.Sinks.{Puts};
 ghost use Rattle.dt_fold.specs.Logging.{TurnsTo};
 ghost use Rattle.dt_text.specs.Said.{said};
 ghost use Rattle.dt_world_model.specs.Setup.{new_world};
-ghost use Rattle.dt_scenario.specs.Scenes.{IsLineOf, Simulates};
+ghost use Rattle.dt_scenario.specs.Parts.{IsLineOf};
+ghost use Rattle.dt_scenario.specs.Scenes.{Simulates};
 
 use dt_edges::{Failed, Sink};
 use dt_fold::Stop;

@@ -49,7 +49,10 @@ impl Simulation for StillWorld {
 #[test]
 fn lines_of_a_setup(rt: HostRuntime) -> Result<(), Fail> {
     for (lines, text) in [
-        ("station 1 0\nstation 2 7\nlink 1 1 2 50 0\nroute 1 2 1\ngo\n", ""),
+        (
+            "station 1 0\nstation 2 7\nlink 1 1 2 50 0\nroute 1 2 1\ngo\n",
+            "",
+        ),
         ("# nothing\n\ngo\n", ""),
         ("station 1 0\nstation 1 0\n", "line 3: twice 1\n"),
         ("station 1 0\nlink 1 1 2 50 0\n", "line 3: unknown 2\n"),
