@@ -1,4 +1,4 @@
--- What the code has of a scene, and what its calls say of a line.
+-- What the code has of a scene, what it asks of a line, and what its calls say of one.
 use Rattle.std.specs.Prelude.{◌≡◌, Bool, true, false, [], Option, Some, None, Result, Ok, Err, IsOkAnd}
 use Rattle.dt_items.specs.declared.memory.NoMemory.{NoMemory}
 use Rattle.dt_reports.specs.declared.faults.Fault.{Fault}
@@ -7,17 +7,29 @@ use Rattle.dt_reports.specs.declared.faults.SetupFault.{SetupFault}
 use Rattle.dt_reports.specs.declared.faults.SetupFault.TheVariants as setup_fault
 use Rattle.dt_reports.specs.declared.faults.StepFault.{StepFault}
 use Rattle.dt_reports.specs.declared.faults.StepFault.TheVariants as step_fault
+use Rattle.dt_text.specs.Said.{Said}
+use Rattle.dt_text.specs.Spelling.{IsLine}
 use Rattle.dt_fold.specs.declared.stops.Stop.{Stop}
 use Rattle.dt_fold.specs.declared.stops.Stop.TheVariants as stop
 use Rattle.dt_fold.specs.Folds.{Turned}
-use Rattle.dt_replay.specs.declared.schedules.Part.{Part}
-use Rattle.dt_replay.specs.declared.schedules.Part.TheVariants as part
-use Rattle.dt_replay.specs.Schedules.{Empty, Prepares, Runs, Scene}
+use Rattle.dt_scenario.specs.declared.parts.Part.{Part}
+use Rattle.dt_scenario.specs.declared.parts.Part.TheVariants as part
+use Rattle.dt_scenario.specs.declared.scenarios.Scenario.{Scenario}
+use Rattle.dt_scenario.specs.Scenes.{Empty, Prepares, Runs, Scene, Simulates}
 
-abbrev pub scene_of : Part → Scene
-scene_of part.Nothing = Empty
-scene_of (part.Preparing setup) = Prepares setup
-scene_of (part.Running w) = Runs w.state
+-- the scene of a part, by what is seen of the simulation
+abbrev pub scene_of : {P S : Type 0} → (P → S) → Part P → Scene S
+scene_of state part.Nothing = Empty
+scene_of state (part.Preparing setup) = Prepares setup
+scene_of state (part.Running p) = Runs (state p)
+
+-- the scene that the lines of a scenario have led to
+abbrev pub scene_in : {P S : Type 0} → (P → S) → Scenario P → Scene S
+scene_in state s = scene_of state s.part
+
+-- the line is one of the simulation's form
+abbrev pub IsLineOf : {S : Type 0} → Simulates S → Said → Type 0
+IsLineOf sim line = IsLine sim.form line
 
 -- what a step says of its line, unless a put failed
 abbrev pub stepped : Result (Unit {0}) StepFault → Bool → Result (Option Fault) Stop
