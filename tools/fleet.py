@@ -10,7 +10,7 @@ The description:
     drift = 100          # how wrong a clock may be, in parts in a million
     tries = 5            # how often a segment goes out before it is given up
     room = 65536         # the octets that a flow may have under way, and unread
-    shelf = 64           # packets that come too early are kept; 0 for none
+    shelf = 64           # packets that come too early are kept, and live long enough for it; 0 for none
     stop = 60000         # when the nodes stop, in ms
 
     [[node]]
@@ -51,6 +51,8 @@ from deltat_tools import scripts
 WAIT = 2
 # a link has a number for each direction in the schedule
 MOST_LINKS = 128
+# the packets that nodes keep which came too early, and how often the lost one before them may go again meanwhile
+SHELF, SHELVED = 64, 2
 NETWORK = {"round_trip": (float, 0, par.DAY), "drift": (float, 0, 100_000), "tries": (int, 1, 1000), "room": (int, 1, par.MOST_ROOM), "shelf": (int, 0, 64), "stop": (int, 0, 2**32 - 1)}
 LINK = {"delay": (float, 0, par.DAY), "mtu": (int, 1, 65_535), "drift": (float, 0, 100_000), "pace": (int, 0, par.DAY), "queue": (int, 0, 64)}
 
@@ -240,9 +242,8 @@ def plan_of(network: Network) -> Plan:
     paths = [way for each in routes.values() for way in each.values()]
     longest = max(sum(link.delay for link in way) for way in paths)
     wishes = network.wishes
-    wanted = par.Wishes(
-        wishes.get("round_trip", 2 * longest), wishes.get("tries", 5), min(link.mtu for link in network.links), wishes.get("room", par.MOST_ROOM)
-    )
+    mtu, shelved = min(link.mtu for link in network.links), SHELVED if wishes.get("shelf", SHELF) else 0
+    wanted = par.Wishes(wishes.get("round_trip", 2 * longest), wishes.get("tries", 5), mtu, wishes.get("room", par.MOST_ROOM), shelved)
     try:
         return Plan(network, par.suited([[link.hop() for link in way] for way in paths], wanted), routes)
     except par.Unsuited as why:
@@ -259,7 +260,7 @@ def script_of(plan: Plan, node: Node) -> str:
             lines += [f"# {other.name}", f"peer {link.number} {other.place} {plan.charge(link)} {link.pace}"]
     for name, way in plan.ways[node.name].items():
         lines.append(f"route {network.nodes[name].number} {way[0].number}")
-    shelf = network.wishes.get("shelf", 64)
+    shelf = network.wishes.get("shelf", SHELF)
     lines += [f"shelf {shelf}"] if shelf else []
     lines += ["go", *node.commands, f"at {stop} stop"]
     return "\n".join(lines) + "\n"

@@ -1,7 +1,7 @@
 #!/usr/bin/env python3
 """A `params` line for a network, the charge of its links, and what follows from them.
 
-    tools/params.py DELAY ROUND-TRIP [--hops N] [--drift PPM] [--tries N] [--mtu N] [--room N] [--wait MS]
+    tools/params.py DELAY ROUND-TRIP [--hops N] [--drift PPM] [--tries N] [--mtu N] [--room N] [--wait MS] [--shelf N]
 
 DELAY is the longest that a packet may be under way on one link, in ms, with all queues of the network;
 ROUND-TRIP is a usual round trip from end to end, in ms. All nodes of a network get the same line.
@@ -24,13 +24,14 @@ def arguments() -> argparse.Namespace:
     it.add_argument("--mtu", type=number(1, 65_535, int), default=1500, help="the least MTU of the links (1500)")
     it.add_argument("--room", type=number(1, par.MOST_ROOM, int), default=par.MOST_ROOM, help="octets of a flow that are under way, or unread (65536)")
     it.add_argument("--wait", type=number(0, par.DAY, int), default=2, help="the longest that a packet may wait at a station, in ms (2)")
+    it.add_argument("--shelf", type=number(0, 1000, int), default=0, metavar="N", help="how often a lost packet may go again while those behind it lie on a shelf (0: nodes have none)")
     return it.parse_args()
 
 
 def lines(asked: argparse.Namespace) -> list[str]:
     """What is told."""
     hop = par.Hop(asked.delay, asked.wait, asked.drift)
-    params = par.suited([[hop] * asked.hops], par.Wishes(asked.round_trip, asked.tries, asked.mtu, asked.room))
+    params = par.suited([[hop] * asked.hops], par.Wishes(asked.round_trip, asked.tries, asked.mtu, asked.room, asked.shelf))
     charge = par.link_charge(hop, params)
     network = charge - par.machine_charge(asked.drift, params.spacing)
     drift = par.drift_cost(asked.drift, params.spacing)

@@ -131,6 +131,8 @@ class Wishes:
     mtu: int = 1_500
     # the octets that a flow may have under way, and unread
     room: int = MOST_ROOM
+    # how often a lost packet may go again while those behind it lie on a shelf
+    shelved: int = 0
 
 
 class Unsuited(Exception):
@@ -148,7 +150,7 @@ def suited(paths: Sequence[Sequence[Hop]], wishes: Wishes) -> Params:
     mpl = 2
     while mpl <= DAY:
         params = Params(mpl, r, a, rto, 1, seg, wishes.room, wishes.room, wishes.room, 2**31)
-        most = max((path_life(path, params) for path in paths), default=0)
+        most = max((path_life(path, params) for path in paths), default=0) + wishes.shelved * rto
         if most <= mpl:
             probe = min(2 * rto, params.send - 1)
             chosen = Params(mpl, r, a, rto, probe, seg, wishes.room, wishes.room, wishes.room, 2**31)

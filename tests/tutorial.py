@@ -1,0 +1,224 @@
+#!/usr/bin/env python3
+"""Every block of the pages for users is run: README, and the tutorial, the parameters and operating below docs/.
+
+Usage: tests/tutorial.py [PROGRAM] [--page NAME] [--write]
+
+Each page gets a copy of the repository of its own, in which `./deltat` is the program, and its blocks are run in
+order, at the top of that copy. A block is told by the words behind its fence:
+
+- `sh`: commands, which have to end with 0.
+- `sh first terminal`, `sh second terminal`: commands of one of two terminals. They run while the page goes on;
+  the next block of the same terminal waits for their end.
+- `text first terminal`, `text second terminal`: what the last commands of that terminal wrote.
+- nothing: what an `sh` before it wrote, or a file of examples/.
+- `ini`: a file of release/; `conf`: an example of a file that isn't here.
+
+What is shown has to be what was written, octet for octet. Of what comes from a node, whose moments are the
+machine's, the shape is compared: each moment counts as any other, and lines of packets that may go once more on a
+busy machine are left out (BUSY). Commands that prove, test or install all of it are not run (NOT_RUN).
+
+Prints a line for each page; ends with 1 where a block isn't as it is shown. With --write the shown blocks of the
+pages are written anew. Takes two minutes, nearly all of it waiting for nodes.
+
+In tests/all: PROGRAM, 300 s."""
+import argparse
+import os
+import re
+import shutil
+import signal
+import subprocess
+import sys
+import tempfile
+from dataclasses import dataclass
+from pathlib import Path
+
+from lib import PROGRAM, TOP
+
+PAGES = ["README.md", "docs/tutorial.md", "docs/parameters.md", "docs/operating.md"]
+# what a page tells people to run and this doesn't: the whole build and its tests, and what changes the machine
+NOT_RUN = ("./build", "rt ci", "tests/all", "bench/all", "sudo ", "release/build.sh")
+# reports that come more often, or not at all, where a machine is busy
+BUSY = {"put", "resent", "replied", "ignored", "quiet"}
+SECONDS = 120
+# how `Reader.finish` marks commands that ended otherwise than with 0
+BADLY = re.compile(r"\((status \d+|stopped after \d+ s)\)\n$")
+
+
+@dataclass
+class Block:
+    """A block of a page: the words behind its fence, its text, and the lines of the page that its text takes."""
+
+    words: list[str]
+    text: str
+    first: int
+    last: int
+
+    @property
+    def is_run(self) -> bool:
+        return self.words[:1] == ["sh"]
+
+    @property
+    def terminal(self) -> str:
+        return self.words[1] if len(self.words) == 3 and self.words[2] == "terminal" else ""
+
+
+def blocks(page: str) -> list[Block]:
+    """The blocks of a page."""
+    found, begun, words = [], 0, []
+    lines = page.splitlines(keepends=True)
+    for number, line in enumerate(lines, 1):
+        if line.startswith("```"):
+            if begun:
+                found.append(Block(words, "".join(lines[begun : number - 1]), begun + 1, number - 1))
+                begun = 0
+            else:
+                begun, words = number, line[3:].split()
+    if begun:
+        raise SystemExit(f"the block at line {begun} has no end")
+    return found
+
+
+def is_left_out(text: str) -> bool:
+    """Whether these are commands that aren't run here."""
+    lines = [it for it in text.splitlines() if it.strip() and not it.startswith("#")]
+    return all(it.startswith(NOT_RUN) for it in lines)
+
+
+def shape(text: str) -> list[str]:
+    """What doesn't depend on the moments of a node."""
+    kept = []
+    for line in text.splitlines():
+        words = line.split(" ")
+        if words[0].isdigit() and len(words) > 2:
+            if words[2] in BUSY:
+                continue
+            words[0] = "MOMENT"
+        elif words[0] == "end" and len(words) == 2:
+            words[1] = "MOMENT"
+        kept.append(" ".join(words))
+    return kept
+
+
+class Reader:
+    """One who does what a page says, in a copy of the repository."""
+
+    def __init__(self, top: Path, program: str) -> None:
+        self.top = top
+        # what the commands of the page wrote, the last ones first, and whether a node did
+        self.outputs: list[tuple[str, bool]] = []
+        self.terminals: dict[str, subprocess.Popen[str]] = {}
+        self.written: dict[str, str] = {}
+        self.ended_badly: list[str] = []
+        shutil.copytree(TOP, top, ignore=shutil.ignore_patterns("out", ".git", "__pycache__", "target"))
+        (top / "deltat").write_text(f'#!/bin/sh\nexec "{program}" "$@"\n')
+        (top / "deltat").chmod(0o755)
+
+    def start(self, text: str) -> "subprocess.Popen[str]":
+        return subprocess.Popen(["bash", "-euc", "set -o pipefail\n" + text], cwd=self.top, stdin=subprocess.DEVNULL, stdout=subprocess.PIPE,
+                                stderr=subprocess.STDOUT, text=True, start_new_session=True)
+
+    def finish(self, process: "subprocess.Popen[str]") -> str:
+        """What it wrote, once it has ended; a status other than 0 is written behind that."""
+        try:
+            text, _ = process.communicate(timeout=SECONDS)
+        except subprocess.TimeoutExpired:
+            os.killpg(process.pid, signal.SIGKILL)
+            text, _ = process.communicate()
+            return f"{text}(stopped after {SECONDS} s)\n"
+        return text if process.returncode == 0 else f"{text}(status {process.returncode})\n"
+
+    def wait(self, terminal: str) -> None:
+        if terminal in self.terminals:
+            given = self.written[terminal] = self.finish(self.terminals.pop(terminal))
+            if BADLY.search(given):
+                self.ended_badly.append(f"the {terminal} terminal: {given[-200:]}")
+
+    def do(self, block: Block) -> str:
+        """Runs a block, and returns what is wrong with it, or nothing."""
+        if is_left_out(block.text):
+            return ""
+        if block.terminal:
+            self.wait(block.terminal)
+            self.terminals[block.terminal] = self.start(block.text)
+            return ""
+        given = self.finish(self.start(block.text))
+        self.outputs.insert(0, (given, bool(re.search(r"deltat (node|trace)\b", block.text))))
+        return f"it ended badly: {given[-300:]}" if BADLY.search(given) else ""
+
+    def shown(self, block: Block) -> str:
+        """What a block shows, as it was written here."""
+        if block.terminal:
+            self.wait(block.terminal)
+            return self.written.get(block.terminal, "")
+        return self.outputs[0][0] if self.outputs else ""
+
+    def is_as_shown(self, block: Block) -> bool:
+        if block.terminal:
+            return shape(self.shown(block)) == shape(block.text)
+        return any(shape(given) == shape(block.text) if is_live else given == block.text for given, is_live in self.outputs)
+
+    def is_a_file(self, block: Block, folder: str) -> bool:
+        return any(it.read_text(errors="replace") == block.text for it in (self.top / folder).rglob("*") if it.is_file())
+
+    def close(self) -> list[str]:
+        """Waits for both terminals; which of their commands ended badly."""
+        for terminal in list(self.terminals):
+            self.wait(terminal)
+        return self.ended_badly
+
+
+def why_not(reader: Reader, block: Block) -> str:
+    """What is wrong with a block, or nothing."""
+    if block.is_run:
+        return reader.do(block)
+    if block.words == ["conf"]:
+        return ""
+    if block.words == ["ini"]:
+        return "" if reader.is_a_file(block, "release") else "no file has this text"
+    if block.words and not block.terminal:
+        return f"nothing is known of blocks of {' '.join(block.words)}"
+    if reader.is_as_shown(block) or not block.terminal and reader.is_a_file(block, "examples"):
+        return ""
+    return f"it was:\n{reader.shown(block)}"
+
+
+def read(name: str, program: str, writes: bool) -> list[str]:
+    """Follows a page, and returns what isn't as it says. Where it writes, the page gets what was written."""
+    text = (TOP / name).read_text()
+    lines, wrong = text.splitlines(keepends=True), []
+    with tempfile.TemporaryDirectory() as folder:
+        reader = Reader(Path(folder) / "copy", program)
+        anew: list[tuple[Block, str]] = []
+        for block in blocks(text):
+            why = why_not(reader, block)
+            if why and writes and not block.is_run and (block.terminal or not block.words):
+                anew.append((block, reader.shown(block)))
+            elif why:
+                wrong.append(f"{name}:{block.first}: {why}")
+        wrong += [f"{name}: {it}" for it in reader.close()]
+    for block, shown in reversed(anew):
+        lines[block.first - 1 : block.last] = [shown]
+    if anew:
+        (TOP / name).write_text("".join(lines))
+    return wrong
+
+
+def main() -> int:
+    reads = argparse.ArgumentParser(description="Runs every block of the pages for users.")
+    reads.add_argument("program", nargs="?", default=str(PROGRAM), help="the program that is tried")
+    reads.add_argument("--page", choices=PAGES, action="append", help="this page alone")
+    reads.add_argument("--write", action="store_true", help="write the shown blocks anew")
+    given = reads.parse_args()
+    failed = 0
+    for name in given.page or [it for it in PAGES if (TOP / it).exists()]:
+        wrong = read(name, os.path.abspath(given.program), given.write)
+        count = len(blocks((TOP / name).read_text()))
+        print(f"{name}: {count} blocks, {'as shown' if not wrong else 'FAILED'}")
+        print("".join(f"  {it}\n" for it in wrong), end="", flush=True)
+        failed += bool(wrong)
+    print("all pages are as shown" if not failed else f"{failed} pages aren't as shown")
+    return 1 if failed else 0
+
+
+if __name__ == "__main__":
+    sys.exit(main())
