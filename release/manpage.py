@@ -1,0 +1,120 @@
+#!/usr/bin/env python3
+"""Makes deltat-formats(5) from docs/formats.md: `release/manpage.py PAGE VERSION DATE > deltat-formats.5`.
+
+It reads what that page is made of: headings, paragraphs, lists, tables, blocks, `words`, *stressed* words and links.
+A row of a table becomes an entry: the first cell, and below it the others, each behind its heading. Ends with 1 at a
+line that it doesn't know."""
+import re
+import sys
+from collections.abc import Iterator
+from pathlib import Path
+
+NAME = "deltat-formats"
+ABOUT = "octets, lines, texts and statuses of deltat"
+
+
+def escaped(text: str) -> str:
+    """Text as roff takes it: nothing of it is a request."""
+    text = text.replace("\\", "\\e").replace("-", "\\-").replace("'", "\\(aq").replace("^", "\\(ha").replace("~", "\\(ti").replace("`", "\\(ga")
+    return "\\&" + text if text.startswith((".", "\\(aq")) else text
+
+
+def spelled(text: str) -> str:
+    """A line of a page with its marks: what stands in backticks bold, what is stressed in italics, links as texts."""
+    text = re.sub(r"\[([^\]]+)\]\([^)]+\)", r"\1", text).replace("\\|", "|")
+    parts = []
+    for part in re.split(r"(`[^`]+`|\*[^*]+\*)", text):
+        mark = part[:1] if len(part) > 2 and part[:1] in "`*" and part[-1:] == part[:1] else ""
+        parts.append(escaped(part) if not mark else f"\\f{'B' if mark == '`' else 'I'}{escaped(part[1:-1])}\\fR")
+    return "".join(parts).replace("·", "\\(pc").replace("→", "\\(->")
+
+
+def cells(line: str) -> list[str]:
+    """The cells of a row. A bar behind a backslash is none between cells."""
+    return [it.strip() for it in re.split(r"(?<!\\)\|", line.strip()[1:-1])]
+
+
+def table(lines: list[str]) -> Iterator[str]:
+    head = cells(lines[0])
+    for line in lines[2:]:
+        row = cells(line)
+        others = [(name, it) for name, it in zip(head[1:], row[1:]) if it]
+        yield ".TP"
+        yield f"\\fB{spelled(row[0])}\\fR" if "`" not in row[0] else spelled(row[0])
+        if len(head) == 2:
+            yield spelled(row[1]) or "\\&"
+            continue
+        for number, (name, it) in enumerate(others):
+            if number:
+                yield ".br"
+            yield f"\\fI{spelled(name)}:\\fR {spelled(it)}" if name else spelled(it)
+        if not others:
+            yield "\\&"
+    yield ".PP"
+
+
+def blocks(lines: list[str]) -> Iterator[str]:
+    """The requests of a page, block by block."""
+    at = 0
+    while at < len(lines):
+        line, first = lines[at], at
+        at += 1
+        if not line.strip():
+            continue
+        if line.startswith("```"):
+            while not lines[at].startswith("```"):
+                at += 1
+            yield from [".PP", ".EX", *("    " + escaped(it) for it in lines[first + 1 : at]), ".EE"]
+            at += 1
+        elif line.startswith("## "):
+            yield f".SH {escaped(line[3:].upper())}"
+        elif line.startswith("### "):
+            yield f".SS {spelled(line[4:])}"
+        elif line.startswith("|"):
+            while at < len(lines) and lines[at].startswith("|"):
+                at += 1
+            yield from table(lines[first:at])
+        elif found := re.match(r"(- |\d+\. )(.*)", line):
+            yield ".IP " + ("\\(bu 2" if found[1] == "- " else f"{found[1].strip()} 3")
+            yield spelled(found[2])
+        elif re.match(r"[#>]|    ", line):
+            raise ValueError(f"line {first + 1} is nothing that is known here: {line}")
+        else:
+            while at < len(lines) and lines[at].strip() and not re.match(r"[|#`-]|\d+\. ", lines[at]):
+                at += 1
+            yield from [".PP", *(spelled(it) for it in lines[first:at])]
+
+
+def tidy(requests: list[str]) -> Iterator[str]:
+    """Leaves out a paragraph that begins where nothing follows it, or right below a heading."""
+    for number, it in enumerate(requests):
+        before = requests[number - 1] if number else ""
+        behind = requests[number + 1] if number + 1 < len(requests) else ".SH"
+        if it == ".PP" and (before.startswith((".SH", ".SS")) or behind.startswith((".PP", ".SH", ".SS", ".IP", ".TP"))):
+            continue
+        yield it
+
+
+def page(text: str, version: str, date: str) -> str:
+    lines = text.splitlines()
+    if not lines[0].startswith("# "):
+        raise ValueError("the page has no heading")
+    head = [f".TH DELTAT\\-FORMATS 5 {date} \"deltat {version}\" \"File Formats\"", ".SH NAME", f"{escaped(NAME)} \\- {ABOUT}", ".SH DESCRIPTION"]
+    ends = [".SH SEE ALSO", ".BR deltat (1)"]
+    return "\n".join(tidy([*head, *blocks(lines[1:]), *ends])) + "\n"
+
+
+def main(words: list[str]) -> int:
+    if words in (["-h"], ["--help"]) or len(words) != 3:
+        print(__doc__, file=sys.stdout if len(words) == 1 else sys.stderr)
+        return 0 if len(words) == 1 else 2
+    try:
+        sys.stdout.write(page(Path(words[0]).read_text(), *words[1:]))
+    except (OSError, ValueError) as why:
+        print(f"manpage.py: {why}", file=sys.stderr)
+        return 1
+    return 0
+
+
+if __name__ == "__main__":
+    sys.exit(main(sys.argv[1:]))
