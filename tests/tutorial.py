@@ -1,5 +1,5 @@
 #!/usr/bin/env python3
-"""Every block of the pages for users is run: README, and the tutorial, the parameters and operating below docs/.
+"""Every block of the pages for users is run: README, and some below docs/ (PAGES).
 
 Usage: tests/tutorial.py [PROGRAM] [--page NAME] [--write]
 
@@ -34,12 +34,14 @@ from pathlib import Path
 
 from lib import PROGRAM, TOP
 
-PAGES = ["README.md", "docs/tutorial.md", "docs/parameters.md", "docs/operating.md"]
+PAGES = ["README.md", "docs/tutorial.md", "docs/parameters.md", "docs/operating.md", "docs/building.md"]
 # what a page tells people to run and this doesn't: the whole build and its tests, and what changes the machine
 NOT_RUN = ("./build", "rt ci", "tests/all", "bench/all", "sudo ", "release/build.sh")
 # reports that come more often, or not at all, where a machine is busy
 BUSY = {"put", "resent", "replied", "ignored", "quiet"}
 SECONDS = 120
+# README is for a first look
+MOST_WORDS = {"README.md": 1_200}
 # how `Reader.finish` marks commands that ended otherwise than with 0
 BADLY = re.compile(r"\((status \d+|stopped after \d+ s)\)\n$")
 
@@ -186,6 +188,8 @@ def read(name: str, program: str, writes: bool) -> list[str]:
     """Follows a page, and returns what isn't as it says. Where it writes, the page gets what was written."""
     text = (TOP / name).read_text()
     lines, wrong = text.splitlines(keepends=True), []
+    if len(text.split()) > MOST_WORDS.get(name, len(text)):
+        wrong.append(f"{name}: {len(text.split())} words, and {MOST_WORDS[name]} are the most")
     with tempfile.TemporaryDirectory() as folder:
         reader = Reader(Path(folder) / "copy", program)
         anew: list[tuple[Block, str]] = []
