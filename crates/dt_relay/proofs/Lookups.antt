@@ -154,3 +154,20 @@ module _ {A : Type 0} (key : A → ℕ) where
 
   pub found_key : (k n : ℕ) (xs : List A) (x : A) → Some n ≡ place_of key k xs → x ≡ get_or xs n x → key x ≡ k
   found_key k n xs x h is = found_from 0 k n n xs x (omega arith) (sym h) is
+
+-- a link stands at the place that is told of it
+module _ {T : Type 0} where
+  link_step : (b : Bool) (i k j n : ℕ) (rest : Option ℕ) (o : Out T) (outs : List (Out T)) → (link_of o == k) ≡ b → (rest ≡ Some j → i + 1 ≤ j) →
+      ((m : ℕ) → j ≡ i + 1 + m → rest ≡ Some j → link_in outs m ≡ k) →
+      j ≡ i + n → cond b (Some i) rest ≡ Some j → link_in (o ∷ outs) n ≡ k
+  link_step true i k j zero rest o outs test later ih e h = let same : link_of o ≡ k = grind (arith, nat_tests) in same
+  link_step true i k j (suc n) rest o outs test later ih e h = let same : i ≡ j = cc in absurd (omega arith)
+  link_step false i k j zero rest o outs test later ih e h = let after : i + 1 ≤ j = later h in absurd (omega arith)
+  link_step false i k j (suc n) rest o outs test later ih e h = ih n (omega arith) h
+
+  link_from : (i k j n : ℕ) (outs : List (Out T)) → j ≡ i + n → place_from link_of i k outs ≡ Some j → link_in outs n ≡ k
+  link_from i k j n [] e h = absurd (cc)
+  link_from i k j n (o ∷ outs) e h = link_step (link_of o == k) i k j n (place_from link_of (i + 1) k outs) o outs refl (place_after link_of (i + 1) k j outs) (λ m. link_from (i + 1) k j m outs) e h
+
+  pub link_found : (link place : ℕ) (outs : List (Out T)) → Some place ≡ place_of link_of link outs → link_in outs place ≡ link
+  link_found link place outs h = link_from 0 link place place outs (omega arith) (sym h)

@@ -10,7 +10,7 @@ use Rattle.dt_world_model.specs.declared.links.Entered.TheVariants as entered
 use Rattle.dt_world_model.specs.Relay.{Expired, Goes, IsOutUpTo, Left, Out, Parcel, Relay, Waiting, enter, leave, left_of, lower_parcel, may_leave_from, most_on_link, on_link, push, route_to, with_outs, with_waits}
 use Rattle.dt_relay.specs.declared.passages.Passage.{Passage}
 use Rattle.dt_relay.specs.declared.passages.Passage.TheVariants as passage
-use Rattle.dt_relay.specs.Passages.{GoesStraight, Passes, Stays, passage_by, passage_on, passed_on}
+use Rattle.dt_relay.specs.Passages.{GoesStraight, IsTurnedAway, Passes, WouldWait, passage_by, passage_on, passed_on}
 use Rattle.dt_relay.specs.Places.{link_of, place_of}
 use Rattle.dt_relay.specs.Ways.{queue_of, way_to}
 use Rattle.dt_relay.proofs.Links.{enter_nowhere, enter_there, on_link_at, past_at, put_at, put_in, unchanged}
@@ -49,7 +49,7 @@ module _ {T : Type 0} (parcel : Parcel T) (now life : ℕ) (same : life_of parce
   Meant (passage.Expired link) out = At link Expired out out
   Meant (passage.Waits link) out = (push parcel now out).0 ≡ entered.Queued link
   Meant (passage.NoRoute to) out = ⊥
-  Meant (passage.Full link) out = (push parcel now out).0 ≡ entered.Full link
+  Meant (passage.Full link) out = push parcel now out ≡ (entered.Full link, out)
 
   meant : (room waits keeps short : Bool) (out : Out T) → nat_lt (length out.waits) most_on_link ≡ room → nat_lt 0 (length out.waits) ≡ waits → nat_lt now (may_leave_from out.pace out.last) ≡ keeps → nat_le life 1 ≡ short →
       Meant (cond room (cond waits (passage.Waits out.link) (cond keeps (passage.Waits out.link) (cond short (passage.Expired out.link) (passage.Leaves out.link)))) (passage.Full out.link)) out
@@ -93,18 +93,24 @@ module _ {T : Type 0} (parcel : Parcel T) (now life : ℕ) (same : life_of parce
           others = refl;
         }
 
-    stays : (answer : Entered) (new : Relay T) → (push parcel now out).0 ≡ answer → new ≡ with_outs relay (slice_set relay.outs k out) → Stays parcel now answer relay new
-    stays answer new h e = record {
-      same = e ∙ ap (with_outs relay) (ap (slice_set relay.outs k) is ∙ set-get_or relay.outs k out);
-      would = ap (λ (r : Entered × Relay T). r.0) entered_there ∙ h;
+    put_back : with_outs relay (slice_set relay.outs k out) ≡ relay
+    put_back = ap (with_outs relay) (ap (slice_set relay.outs k) is ∙ set-get_or relay.outs k out)
+
+    waits : (l : ℕ) (new : Relay T) → (push parcel now out).0 ≡ entered.Queued l → new ≡ with_outs relay (slice_set relay.outs k out) → WouldWait parcel now l relay new
+    waits l new h e = record { same = e ∙ put_back; queued = ap (λ (r : Entered × Relay T). r.0) entered_there ∙ h; }
+
+    turned_away : (answer : Entered) (new : Relay T) → push parcel now out ≡ (answer, out) → new ≡ with_outs relay (slice_set relay.outs k out) → IsTurnedAway parcel now answer relay new
+    turned_away answer new h e = record {
+      same = e ∙ put_back;
+      answered = entered_there ∙ ap (λ (r : Entered × Out T). put_in relay (put_at relay.outs k r)) h ∙ ap (λ (r : Relay T). (answer, r)) (sym e);
     }
 
     by_answer : (answer : Passage) (new : Relay T) → Meant answer out → new ≡ with_outs relay (slice_set relay.outs k (passed_on answer now out)) → Passes parcel now answer relay new
     by_answer (passage.Leaves l) new m e = subst (λ (r : Relay T). GoesStraight parcel now l (Goes (lower_parcel 1 parcel)) relay r) (sym e) (straight l (Goes (lower_parcel 1 parcel)) (with_waits out out.waits (Some now)) m refl)
     by_answer (passage.Expired l) new m e = subst (λ (r : Relay T). GoesStraight parcel now l Expired relay r) (sym e) (straight l Expired out m refl)
-    by_answer (passage.Waits l) new m e = stays (entered.Queued l) new m e
+    by_answer (passage.Waits l) new m e = waits l new m e
     by_answer (passage.NoRoute t) new m e = absurd m
-    by_answer (passage.Full l) new m e = stays (entered.Full l) new m e
+    by_answer (passage.Full l) new m e = turned_away (entered.Full l) new m e
 
     -- a queue's answer is that of the relay
     pub passes_there : (answer : Passage) (queue : Out T) (new : Relay T) → answer ≡ passage_on life now out → queue ≡ passed_on answer now out → new ≡ with_outs relay (slice_set relay.outs k queue) → Passes parcel now answer relay new
@@ -114,7 +120,7 @@ module _ {T : Type 0} (parcel : Parcel T) (now life : ℕ) (same : life_of parce
   pub passes_nowhere : (to link : ℕ) (relay : Relay T) → to ≡ to_of parcel.octets → Some link ≡ route_to to relay.routes → None ≡ place_of link_of link relay.outs → Passes parcel now (passage.NoRoute to) relay relay
   passes_nowhere to link relay names way none = record {
     same = refl;
-    would = ap (λ (r : Entered × Relay T). r.0) (enter_nowhere parcel to now link relay names way none) ∙ ap entered.NoRoute (sym names);
+    answered = enter_nowhere parcel to now link relay names way none ∙ ap (λ (t : ℕ). (entered.NoRoute t, relay)) (sym names);
   }
 
 -- which answer comes

@@ -1,5 +1,5 @@
 -- A packet that goes straight on: it enters, and as the first that waits on its link it leaves at once.
-use Rattle.std.specs.Prelude.{◌≡◌, ℕ, List, length, Option, Some, None, nat_lt, nat_le, if◌then◌else◌}
+use Rattle.std.specs.Prelude.{◌≡◌, ◌<◌, ℕ, List, length, Option, Some, None, nat_lt, nat_le, if◌then◌else◌}
 use Rattle.dt_world_model.specs.declared.links.Entered.{Entered}
 use Rattle.dt_world_model.specs.declared.links.Entered.TheVariants as entered
 use Rattle.dt_world_model.specs.Relay.{Expired, Goes, Left, Out, Parcel, Relay, enter, leave, lower_parcel, may_leave_from, most_on_link, on_link, with_outs, with_waits}
@@ -20,6 +20,14 @@ abbrev pub passage_by : {T : Type 0} → ℕ → ℕ → ℕ → Option (Out T) 
 passage_by to life now None = passage.NoRoute to
 passage_by to life now (Some out) = passage_on life now out
 
+-- what leaves has the life for its charge
+abbrev pub HasLife : ℕ → Passage → Type 0
+HasLife life (passage.Leaves link) = 1 < life
+HasLife life (passage.Expired link) = Unit {0}
+HasLife life (passage.Waits link) = Unit {0}
+HasLife life (passage.NoRoute to) = Unit {0}
+HasLife life (passage.Full link) = Unit {0}
+
 -- the queue after it
 abbrev pub passed_on : {T : Type 0} → Passage → ℕ → Out T → Out T
 passed_on (passage.Leaves link) now out = with_waits out out.waits (Some now)
@@ -35,15 +43,20 @@ pub record GoesStraight {T : Type 0} (parcel : Parcel T) (now link : ℕ) (left 
   pub ends : on_link link None (leave now) new.outs ≡ (None, new.outs)
   pub others : new ≡ with_outs old new.outs
 
--- It doesn't enter: the relay stays, and the packet would be answered this.
-pub record Stays {T : Type 0} (parcel : Parcel T) (now : ℕ) (answer : Entered) (old new : Relay T) : Type 0 where
+-- The relay stays. The packet would be queued,
+pub record WouldWait {T : Type 0} (parcel : Parcel T) (now link : ℕ) (old new : Relay T) : Type 0 where
   pub same : new ≡ old
-  pub would : (enter parcel now old).0 ≡ answer
+  pub queued : (enter parcel now old).0 ≡ entered.Queued link
+
+-- or be answered this, and nothing else.
+pub record IsTurnedAway {T : Type 0} (parcel : Parcel T) (now : ℕ) (answer : Entered) (old new : Relay T) : Type 0 where
+  pub same : new ≡ old
+  pub answered : enter parcel now old ≡ (answer, new)
 
 -- WHAT A PASSAGE MEANS, in the words of entering and leaving.
 abbrev pub Passes : {T : Type 0} → Parcel T → ℕ → Passage → Relay T → Relay T → Type 0
 Passes parcel now (passage.Leaves link) old new = GoesStraight parcel now link (Goes (lower_parcel 1 parcel)) old new
 Passes parcel now (passage.Expired link) old new = GoesStraight parcel now link Expired old new
-Passes parcel now (passage.Waits link) old new = Stays parcel now (entered.Queued link) old new
-Passes parcel now (passage.NoRoute to) old new = Stays parcel now (entered.NoRoute to) old new
-Passes parcel now (passage.Full link) old new = Stays parcel now (entered.Full link) old new
+Passes parcel now (passage.Waits link) old new = WouldWait parcel now link old new
+Passes parcel now (passage.NoRoute to) old new = IsTurnedAway parcel now (entered.NoRoute to) old new
+Passes parcel now (passage.Full link) old new = IsTurnedAway parcel now (entered.Full link) old new

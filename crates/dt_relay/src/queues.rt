@@ -3,7 +3,7 @@ ghost use Rattle.dt_layout.specs.Carried.{IsGram};
 ghost use Rattle.dt_flow_model.specs.Keeping.{most_moment};
 ghost use Rattle.dt_world_model.specs.Relay.{IsOutUpTo, empty_out, leave, may_leave_from, out_wake, push};
 ghost use Rattle.dt_relay.specs.Carrying.{IfOut, left_seen, parcel_seen};
-ghost use Rattle.dt_relay.specs.Passages.{passage_on, passed_on};
+ghost use Rattle.dt_relay.specs.Passages.{HasLife, passage_on, passed_on};
 
 use crate::carrying::Carry;
 use crate::passages::Passage;
@@ -120,6 +120,7 @@ impl<P: Carry> Queue<P> {
     pub(crate) fn pass(&mut self, life: u32, now: u64) -> Passage
         requires moment { now ≤ most_moment }
         ensures passage { result ≡ passage_on life now self.old }
+        ensures life { HasLife life result }
         ensures queue { self.new ≡ passed_on result now self.old }
     {
         let link = self.link;

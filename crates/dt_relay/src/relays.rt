@@ -5,7 +5,7 @@ ghost use Rattle.dt_flow_model.specs.Keeping.{most_moment};
 ghost use Rattle.dt_flow_model.specs.SendActs.{earlier};
 ghost use Rattle.dt_world_model.specs.Relay.{IsOutUpTo, Parcel, admit, charge_of, empty_out, enter, leave, new_relay, on_link, relay_wake, route_to, with_outs};
 ghost use Rattle.dt_relay.specs.Carrying.{IfOut, left_seen, parcel_seen};
-ghost use Rattle.dt_relay.specs.Passages.{Passes, passage_by};
+ghost use Rattle.dt_relay.specs.Passages.{HasLife, Passes, passage_by};
 ghost use Rattle.dt_relay.specs.Places.{link_in, link_of, place_of};
 ghost use Rattle.dt_relay.specs.Ways.{StaysUnlessQueued, entered_by, way_to};
 
@@ -162,6 +162,7 @@ impl<P: Carry> Relay<P> {
         ensures passes { (parcel : Parcel P.Tag) → to_of parcel.octets ≡ to → life_of parcel.octets ≡ life → Passes parcel now result self.old self.new }
         // Which answer comes, and where: each cause exactly.
         ensures cause { result ≡ passage_by to life now (way_to to self.old) }
+        ensures life { HasLife life result }
         ensures others { self.new ≡ with_outs self.old self.new.outs }
         ensures past { All (IsOutUpTo now) self.new.outs }
     {
