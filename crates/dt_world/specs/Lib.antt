@@ -1,5 +1,6 @@
 pub mod Copies
 pub mod Effects
+pub mod LocalEvents
 pub mod Marked
 pub mod Notes
 pub mod Occasions

@@ -5,6 +5,7 @@ mod copies;
 mod doing;
 mod effects;
 mod events;
+mod local_events;
 mod marked;
 mod marks;
 mod notes;

@@ -32,7 +32,7 @@ pub struct World {
     /// Into which octets are read, 65,536 of them.
     buf: Vec<u8>,
     /// In which a copy that comes is read.
-    frame: Frame,
+    frame: Box<Frame>,
     spent: bool,
 }
 
@@ -70,6 +70,7 @@ impl World {
         };
         let mut buf = Vec::new(alloc);
         buf.resize(MOST_READ, 0)?;
+        let frame = Box::new(alloc, Frame::new())?;
         Ok(World {
             parts: Parts {
                 rules,
@@ -79,7 +80,7 @@ impl World {
                 notes,
             },
             buf,
-            frame: Frame::new(),
+            frame,
             spent: false,
         })
     }
