@@ -19,6 +19,7 @@ use dt_units::{NodeId, Params};
 use dt_world::{Event, Setup, World};
 use std::alloc::Global;
 use std::marker::Model;
+use std::mem::size_of;
 
 /// A line that isn't allowed where it stands.
 pub const MISPLACED: Fault = Fault::Line(LineFault::Order);
@@ -39,6 +40,9 @@ pub struct Schedule {
     /// Room for the octets of a send.
     octets: Vec<u8>,
 }
+
+// It is moved when it begins.
+const _: () = prove!(size_of::<Schedule>() <= 512);
 
 impl Model for Schedule {
     ghost use Rattle.dt_replay.specs.Schedules.{Scene};

@@ -15,10 +15,10 @@ ghost use Rattle.dt_world.specs.Outcomes.{Happens, HasHappened};
 ghost use Rattle.dt_world.specs.Steps.{BringsPacket, most_now};
 ghost use Rattle.dt_world.specs.Worlds.{IsStationOf, IsWhole, world_seen};
 
-use crate::local_events::LocalEvent;
 use crate::marked::Mark;
 use crate::parts::{Parts, event_at};
 use crate::placed::{Brought, start_again};
+use crate::placed_events::PlacedEvent;
 use crate::refusals::link_of;
 use crate::tellers::Lines;
 use dt_items::NoMemory;
@@ -46,7 +46,7 @@ pub fn send<L: Lines>(
     ensures now { parts.new.now ≡ parts.old.now }
     ensures links { parts.new.links ≡ parts.old.links }
 {
-    let event = LocalEvent::Send {
+    let event = PlacedEvent::Send {
         flow,
         octets,
         begin,
@@ -78,7 +78,7 @@ pub fn read<L: Lines>(
     ensures now { parts.new.now ≡ parts.old.now }
     ensures links { parts.new.links ≡ parts.old.links }
 {
-    let event = LocalEvent::Read { flow, buf };
+    let event = PlacedEvent::Read { flow, buf };
     event_at(parts, flow.to.0, event, no_octets(0), lines)
 }
 
@@ -92,7 +92,7 @@ pub fn tick<L: Lines>(parts: &mut Parts, node: u32, lines: &mut L) -> Result<(),
     ensures now { parts.new.now ≡ parts.old.now }
     ensures links { parts.new.links ≡ parts.old.links }
 {
-    event_at(parts, node, LocalEvent::Tick, no_octets(0), lines)
+    event_at(parts, node, PlacedEvent::Tick, no_octets(0), lines)
 }
 
 /// A copy comes to the station at its link's end.
@@ -125,7 +125,7 @@ pub fn arrive<L: Lines>(
     let mark = Mark::new(seen.birth, place);
     let to = link_of(parts, link).to;
     let brought = brought_by(frame, place, buf);
-    let event = LocalEvent::Arrive { link, frame, mark };
+    let event = PlacedEvent::Arrive { link, frame, mark };
     event_at(parts, to, event, brought, lines)
 }
 

@@ -76,10 +76,13 @@ impl<'a, 'o, L: Lines> Visitor<MarkedFrame> for Teller<'a, 'o, L> {
     }
 
     fn out(&mut self, link: u16, packet: MarkedFrame) -> Result<(), NoMemory> {
+        self.out_at_once(link, &packet.frame, packet.mark)
+    }
+
+    fn out_at_once(&mut self, link: u16, frame: &Frame, mark: Mark) -> Result<(), NoMemory> {
         if self.failed {
             return Err(NoMemory);
         }
-        let MarkedFrame { frame, mark } = packet;
         let put = self.occasion.now;
         self.notes
             .copies

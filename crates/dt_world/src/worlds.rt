@@ -24,6 +24,7 @@ use dt_units::NodeId;
 use indexmap::IndexMap;
 use std::alloc::Global;
 use std::marker::Model;
+use std::mem::size_of;
 
 /// Stations and links, the copies of packets on the links, and what became of each octet.
 #[derive(Drop)]
@@ -35,6 +36,9 @@ pub struct World {
     frame: Box<Frame>,
     spent: bool,
 }
+
+// It is moved when it begins.
+const _: () = prove!(size_of::<World>() <= 512);
 
 impl Model for World {
     ghost use Rattle.dt_world.specs.Worlds.{WorldValue};

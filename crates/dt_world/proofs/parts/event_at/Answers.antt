@@ -9,7 +9,7 @@ use Rattle.dt_world_model.specs.World.{Placed, World}
 use Rattle.dt_world_laws.proofs.Worlds.{placed_is}
 use Rattle.dt_world.specs.declared.placed.Plan.{Plan}
 use Rattle.dt_world.specs.declared.placed.PlacedStation.{PlacedStation}
-use Rattle.dt_world.specs.LocalEvents.{MayCome, local_seen}
+use Rattle.dt_world.specs.PlacedEvents.{MayCome, event_seen}
 use Rattle.dt_world.specs.Notes.{ledgers_seen}
 use Rattle.dt_world.specs.Steps.{noted_in, occasion_with}
 use Rattle.dt_world.specs.Worlds.{IsStationOf, placed_seen, stations_seen, world_seen}
@@ -25,7 +25,7 @@ returns-in-None-clause-happens g c =
     let w = world_seen p in
     let n = c.args.node in
     let same = ap (λ (m : List (ℕ × PlacedStation)). stations_seen m) (ap (λ m. m.entries) c.get_mut.follows.holds-at-none) in
-    nothing_happened g.L.Lines.tells w n (local_seen c.args.event) c.args.lines.now _
+    nothing_happened g.L.Lines.tells w n (event_seen c.args.event) c.args.lines.now _
     (look_seen n p.stations.entries ∙ ap (λ o. option_map placed_seen o) (sym c.in-None.ensures.value))
     (ap (λ (st : List (ℕ × Placed)). let u : World = record { params = p.rules; now = p.now; stations = st; links = w.links; copies = w.copies; ledgers = w.ledgers } in u) same)
 
@@ -55,7 +55,7 @@ returns-in-Some-clause-happens g c =
     let n = c.args.node in
     let s = c.in-Some.placed.now in
     let after = c.happen.new.placed in
-    let e = local_seen c.args.event in
+    let e = event_seen c.args.event in
     let found = sym c.in-Some.ensures.value in
     let kept = (all_at (IsStationOf p.rules p.now) n s p.stations.entries found c.requires.whole.stations).1 in
     let there : look ◌==◌ n w.stations ≡ Some (placed_seen s) = look_seen n p.stations.entries ∙ ap (λ o. option_map placed_seen o) found in

@@ -6,7 +6,7 @@ use dt_units::Flow;
 /// What happens to a station of the world. What is large is lent: a packet that comes stays in the
 /// frame that it is read from.
 #[derive(Drop)]
-pub enum LocalEvent<'a> {
+pub enum PlacedEvent<'a> {
     /// Octets are sent on a flow from this node to another.
     Send {
         flow: Flow,
