@@ -1,14 +1,20 @@
 ghost use Rattle.std.specs.Prelude.{None};
 
+use crate::uptime::uptime;
 use dt_edges::Clock;
 use std::time;
-use std::time::Instant;
 
-/// The machine's clock: its readings are the milliseconds since the first one. It tells no readings.
+/// How many nanoseconds a millisecond has.
+const MILLISECOND: u64 = 1_000_000;
+
+/// The machine's clock: its readings are the milliseconds since the first one, also those for which the
+/// machine was suspended, where it counts them. It tells no readings.
 #[derive(Drop)]
 pub struct MachineClock<'a, R> {
     rt: &'a R,
-    first: Option<Instant>,
+    /// In nanoseconds since the machine was started.
+    first: Option<u64>,
+    /// In milliseconds.
     last: u64,
 }
 
@@ -26,15 +32,12 @@ impl<'a, R: time::Clock> MachineClock<'a, R> {
 impl<'a, R: time::Clock> Clock for MachineClock<'a, R> {
     ghost sight = { λ c. record { readings = None; plan = None } };
 
-    /// The milliseconds since the first reading. Where the machine's clock fails it is the last reading
+    /// The milliseconds since the first reading. Where the machine's clocks fail it is the last reading
     /// again, or 0 where there was none.
     fn now(&mut self) -> u64 {
-        if let Ok(now) = Instant::now(self.rt) {
+        if let Some(now) = uptime(self.rt) {
             match self.first {
-                Some(first) => {
-                    let since = now.duration_since(first).as_millis();
-                    self.last = u64::try_from(since).unwrap_or(u64::MAX);
-                }
+                Some(first) => self.last = now.saturating_sub(first) / MILLISECOND,
                 None => self.first = Some(now),
             }
         }
