@@ -12,7 +12,7 @@ ghost use Rattle.dt_node.specs.Logging.{LogEnds, failed_by, fixed_of, log_sight}
 ghost use Rattle.dt_node.specs.Shelving.{datagram, inside, plain};
 ghost use Rattle.dt_node.specs.Turns.{comes, do_due, event_of, finish, hand_in, turn};
 
-use crate::arriving::{Came, arrive, tell};
+use crate::arriving::{arrive, tell};
 use crate::drafts::has_link;
 use crate::logs::Log;
 use crate::nodes::Node;
@@ -51,12 +51,21 @@ fn happen<W: Wire, K: Sink>(
     }
 }
 
-/// Octets that came on a link: they arrive, or give their `bad` line.
+/// Makes the slot hold these octets, for which it has room.
+fn fill(slot: &mut Frame, octets: &[u8])
+    requires { length octets.now ≤ 8222 }
+    ensures { slot.new ≡ octets.now }
+{
+    slot.refill(octets);
+}
+
+/// Octets that came on a link: they arrive, in the slot, or give their `bad` line.
 fn comes<W: Wire, K: Sink>(
     station: &mut Station<Frame>,
     shelf: &mut Option<Shelf>,
     link: u16,
     octets: &[u8],
+    slot: &mut Frame,
     log: &mut Log<'_, '_, W, K>,
 ) -> Result<(), Stop>
     requires past { IfSome shelf.old (IsShelfUpTo log.old.moment) }
@@ -71,20 +80,21 @@ fn comes<W: Wire, K: Sink>(
 {
     match read_deltagram(octets) {
         Err(fault) => tell(&Report::Bad { fault }, log),
-        Ok(_) => match Frame::from_bytes(octets) {
-            Some(frame) => arrive(station, shelf, Came { link, frame }, log),
-            None => unreachable!(),
-        },
+        Ok(_) => {
+            fill(slot, octets);
+            arrive(station, shelf, link, slot, log)
+        }
     }
 }
 
-/// Hands in what the last turn took.
+/// Hands in what the last turn took, in the slot.
 fn hand_in<W: Wire, K: Sink>(
     station: &mut Station<Frame>,
     shelf: &mut Option<Shelf>,
     ins: &[InLink],
     came: Option<(u16, usize)>,
     octets: &[u8],
+    slot: &mut Frame,
     log: &mut Log<'_, '_, W, K>,
 ) -> Result<(), Stop>
     requires ins { station.old.state.relay.ins ≡ ins.now }
@@ -101,7 +111,7 @@ fn hand_in<W: Wire, K: Sink>(
 {
     match came {
         Some((link, len)) if has_link(link, ins) => {
-            comes(station, shelf, link, &octets[..len], log)
+            comes(station, shelf, link, &octets[..len], slot, log)
         }
         _ => Ok(()),
     }
@@ -221,7 +231,8 @@ pub fn turn<W: Wire, K: Sink>(
     ensures going { IfOk result (λ stopped. stopped ≡ false → log.old.moment < orders.now.stop) }
 {
     let ins = &orders.setup.ins;
-    hand_in(&mut node.station, &mut node.shelf, ins, came, octets, log)?;
+    let slot = &mut *node.frame;
+    hand_in(&mut node.station, &mut node.shelf, ins, came, octets, slot, log)?;
     do_due(orders, node, log)?;
     finish(orders, node, log)
 }
