@@ -58,16 +58,16 @@ impl Intake {
     }
 
     /// The first datagram of the backlog that can't have waited longer than 20 ms by the moment `now`.
-    /// Those before it are dropped.
-    fn fresh(&mut self, now: u64, buf: &mut [u8]) -> Option<(u16, usize)>
-        ensures link { IfSome result (λ d. d.0 ≤ 255) }
-        ensures within { IfSome result (λ d. d.1 ≤ length buf.old) }
+    /// Those before it are dropped. With it goes that moment.
+    fn fresh(&mut self, now: u64, buf: &mut [u8]) -> Option<(u64, u16, usize)>
+        ensures link { IfSome result (λ d. d.1 ≤ 255) }
+        ensures within { IfSome result (λ d. d.2 ≤ length buf.old) }
         ensures same_room { length buf.new ≡ length buf.old }
     {
         for _ in 0..MOST_PASSED {
             let arrival = self.backlog.next(buf)?;
             if !may_have_waited(arrival.empty, now) {
-                return Some((arrival.link, arrival.count));
+                return Some((now, arrival.link, arrival.count));
             }
         }
         None
@@ -113,10 +113,10 @@ impl Intake {
         peers: &[Peer],
         now: u64,
         buf: &mut [u8],
-    ) -> io::Result<Option<(u16, usize)>>
+    ) -> io::Result<Option<(u64, u16, usize)>>
         requires { All (λ p. p.link ≤ 255) peers.now }
-        ensures link { IfOk result (λ t. IfSome t (λ d. d.0 ≤ 255)) }
-        ensures within { IfOk result (λ t. IfSome t (λ d. d.1 ≤ length buf.old)) }
+        ensures link { IfOk result (λ t. IfSome t (λ d. d.1 ≤ 255)) }
+        ensures within { IfOk result (λ t. IfSome t (λ d. d.2 ≤ length buf.old)) }
         ensures same_room { length buf.new ≡ length buf.old }
     {
         if let Some(found) = self.fresh(now, buf) {
@@ -136,24 +136,25 @@ impl Intake {
         socket: &Socket<'_, R>,
         peers: &[Peer],
         buf: &mut [u8],
-    ) -> io::Result<Option<(u16, usize)>>
+    ) -> io::Result<Option<(u64, u16, usize)>>
         requires { All (λ p. p.link ≤ 255) peers.now }
-        ensures link { IfOk result (λ t. IfSome t (λ d. d.0 ≤ 255)) }
-        ensures within { IfOk result (λ t. IfSome t (λ d. d.1 ≤ length buf.old)) }
+        ensures link { IfOk result (λ t. IfSome t (λ d. d.1 ≤ 255)) }
+        ensures within { IfOk result (λ t. IfSome t (λ d. d.2 ≤ length buf.old)) }
         ensures same_room { length buf.new ≡ length buf.old }
     {
         let Look::Datagram { from, count } = socket.look(buf)? else {
             return Ok(None);
         };
-        if may_have_waited(self.empty, socket.now()) {
+        let now = socket.now();
+        if may_have_waited(self.empty, now) {
             self.crowded = true;
             return Ok(None);
         }
-        Ok(link_of(peers, from).map(|link| (link, count)))
+        Ok(link_of(peers, from).map(|link| (now, link, count)))
     }
 
-    /// Waits for a datagram, so many milliseconds, which aren't 0: its link, and how many of its octets
-    /// stand first in the buffer. None where none came, where a stranger's came, or where all that came
+    /// Waits for a datagram, so many milliseconds, which aren't 0: the moment at which it is handed over,
+    /// in nanoseconds, its link, and how many of its octets stand first in the buffer. None where none came, where a stranger's came, or where all that came
     /// may have waited longer than 20 ms. Fails where the machine's call does.
     pub fn take<R: Net + time::Clock>(
         &mut self,
@@ -161,10 +162,10 @@ impl Intake {
         peers: &[Peer],
         wait_ms: u32,
         buf: &mut [u8],
-    ) -> io::Result<Option<(u16, usize)>>
+    ) -> io::Result<Option<(u64, u16, usize)>>
         requires { All (λ p. p.link ≤ 255) peers.now }
-        ensures link { IfOk result (λ t. IfSome t (λ d. d.0 ≤ 255)) }
-        ensures within { IfOk result (λ t. IfSome t (λ d. d.1 ≤ length buf.old)) }
+        ensures link { IfOk result (λ t. IfSome t (λ d. d.1 ≤ 255)) }
+        ensures within { IfOk result (λ t. IfSome t (λ d. d.2 ≤ length buf.old)) }
     {
         let mut now = socket.now();
         let until = now.saturating_add(u64::from(wait_ms) * MILLISECOND);

@@ -6,6 +6,7 @@
 mod backlogs;
 mod intakes;
 mod machine_clock;
+mod moments;
 mod peers;
 mod sockets;
 mod udp_wire;
@@ -13,6 +14,7 @@ mod uptime;
 mod waits;
 
 pub use machine_clock::MachineClock;
+pub use moments::Moments;
 pub use udp_wire::UdpWire;
 
 #[cfg(test)]

@@ -1,5 +1,6 @@
 ghost use Rattle.std.specs.Prelude.{None};
 
+use crate::moments::Moments;
 use crate::uptime::uptime;
 use dt_edges::Clock;
 use std::time;
@@ -12,6 +13,7 @@ const MILLISECOND: u64 = 1_000_000;
 #[derive(Drop)]
 pub struct MachineClock<'a, R> {
     rt: &'a R,
+    moments: &'a Moments,
     /// In nanoseconds since the machine was started.
     first: Option<u64>,
     /// In milliseconds.
@@ -19,10 +21,11 @@ pub struct MachineClock<'a, R> {
 }
 
 impl<'a, R: time::Clock> MachineClock<'a, R> {
-    /// A clock that wasn't read.
-    pub fn new(rt: &'a R) -> Self {
+    /// A clock that wasn't read, beside the wire that has the same moments.
+    pub fn new(rt: &'a R, moments: &'a Moments) -> Self {
         MachineClock {
             rt,
+            moments,
             first: None,
             last: 0,
         }
@@ -32,10 +35,13 @@ impl<'a, R: time::Clock> MachineClock<'a, R> {
 impl<'a, R: time::Clock> Clock for MachineClock<'a, R> {
     ghost sight = { λ c. record { readings = None; plan = None } };
 
-    /// The milliseconds since the first reading. Where the machine's clocks fail it is the last reading
+    /// The milliseconds since the first reading. The first reading after the wire handed a datagram over
+    /// is that of the moment at which it did. Where the machine's clocks fail it is the last reading
     /// again, or 0 where there was none.
     fn now(&mut self) -> u64 {
-        if let Some(now) = uptime(self.rt) {
+        let found = self.moments.take_found();
+        if let Some(now) = found.or(uptime(self.rt)) {
+            self.moments.note_read(now);
             match self.first {
                 Some(first) => self.last = now.saturating_sub(first) / MILLISECOND,
                 None => self.first = Some(now),

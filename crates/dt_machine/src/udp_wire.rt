@@ -1,8 +1,11 @@
-ghost use Rattle.std.specs.Prelude.{◌≡◌, ◌≤◌, None, length, All, IfOk, IfSome};
+ghost use Rattle.std.specs.Prelude.{ℕ, ◌≡◌, ◌≤◌, None, Some, false, length, All, IfOk, IfSome};
+ghost use Rattle.dt_machine.specs.Waits.{may_have_waited};
 
 use crate::intakes::Intake;
+use crate::moments::Moments;
 use crate::peers::address_of;
 use crate::sockets::Socket;
+use crate::waits::may_have_waited;
 use dt_edges::{Address, Failed, Peer, Wire};
 use dt_items::NoMemory;
 use std::alloc::Global;
@@ -16,10 +19,11 @@ const PEERS: usize = 256;
 /// A wire over a UDP socket. It tells how it was opened, how often it was called and how often a call
 /// failed, and nothing of what passes. What it hands over has waited in this machine for at most 20 ms,
 /// by the moments at which it found the socket empty; what may have waited longer is dropped, as a link
-/// may lose it.
+/// may lose it. So is what is given later than 20 ms after the last reading of the clock.
 #[derive(Drop)]
 pub struct UdpWire<'a, R> {
     rt: &'a R,
+    moments: &'a Moments,
     socket: Option<Socket<'a, R>>,
     intake: Intake,
     local: Option<Address>,
@@ -33,11 +37,12 @@ pub struct UdpWire<'a, R> {
 impl<'a, R: Net + time::Clock> UdpWire<'a, R> {
     /// A wire that isn't open. Takes memory at once for 256 peers, and for 262,144 octets and 512
     /// datagrams that wait.
-    pub fn new(alloc: Global, rt: &'a R) -> Result<Self, NoMemory>
+    pub fn new(alloc: Global, rt: &'a R, moments: &'a Moments) -> Result<Self, NoMemory>
         ensures { IfOk result (λ wire. wire ≡ record { opening = None; takes = 0; gives = 0; take_faults = 0; give_faults = 0 }) }
     {
         Ok(UdpWire {
             rt,
+            moments,
             socket: None,
             intake: Intake::new(alloc)?,
             local: None,
@@ -47,6 +52,17 @@ impl<'a, R: Net + time::Clock> UdpWire<'a, R> {
             take_faults: 0,
             give_faults: 0,
         })
+    }
+}
+
+/// Whether the moment of a turn, if there is one, is longer past than 20 ms.
+fn is_late(read: Option<u64>, now: u64) -> bool
+    ensures some { (moment : ℕ) → read ≡ Some moment → result ≡ may_have_waited moment now }
+    ensures none { read ≡ None → result ≡ false }
+{
+    match read {
+        Some(read) => may_have_waited(read, now),
+        None => false,
     }
 }
 
@@ -137,7 +153,11 @@ impl<'a, R: Net + time::Clock> Wire for UdpWire<'a, R> {
             None => None,
         };
         match taken {
-            Some(found) => Ok(found),
+            Some(Some((moment, link, count))) => {
+                self.moments.note_found(moment);
+                Ok(Some((link, count)))
+            }
+            Some(None) => Ok(None),
             None => {
                 self.take_faults = self.take_faults.saturating_add(1);
                 Err(Failed)
@@ -145,12 +165,14 @@ impl<'a, R: Net + time::Clock> Wire for UdpWire<'a, R> {
         }
     }
 
-    /// Sends a datagram. Fails where the wire isn't open, the link has no peer, or the machine's call
-    /// fails.
+    /// Sends a datagram. Fails where the wire isn't open, the link has no peer, the machine's call fails,
+    /// or the last reading of the clock is longer past than 20 ms.
     fn give(&mut self, link: u16, octets: &[u8]) -> Result<(), Failed> {
         self.gives = self.gives.saturating_add(1);
         let sent = match (&self.socket, address_of(&self.peers, link)) {
-            (Some(socket), Some(address)) => socket.send(address, octets),
+            (Some(socket), Some(address)) => {
+                !is_late(self.moments.last_read(), socket.now()) && socket.send(address, octets)
+            }
             _ => false,
         };
         if sent {
