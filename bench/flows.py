@@ -1,13 +1,17 @@
 #!/usr/bin/env python3
 """What many flows cost `replay`: a schedule on 20,000 flows beside one of the same lines on 20, in
 seconds, peak memory and the factor between their times, for two sizes of the records' rooms. Each
-flow's records stand to the end, so each event finds its act among those of all flows. Needs the built
-program: `bench/flows.py crates/deltat/out/deltat`. Ends with 1 where a schedule isn't accepted."""
+flow's records stand to the end, so each event finds its act among those of all flows. `bench/flows.py
+[PROGRAM]`. Ends with 1 where a schedule isn't accepted."""
 import os
 import subprocess
 import sys
 import tempfile
 import time
+
+sys.path.insert(0, os.path.join(os.path.dirname(os.path.abspath(__file__)), "..", "tests"))
+
+from lib import params, program, two_stations
 
 FEW = 20
 MANY = 20_000
@@ -17,17 +21,9 @@ RUNS = 3
 OCTETS = "".join(f"{i:02x}" for i in range(16))
 
 
-def setup(room):
+def setup(room: int) -> str:
     """Two nodes with a link each way, where a record has room for so many octets."""
-    return f"""params 1000 3000 200 500 800 16 {room} {room} {room} 2147483648
-station 1 0
-station 2 0
-link 1 1 2 50 0
-link 2 2 1 50 0
-route 1 2 1
-route 2 1 2
-go
-"""
+    return two_stations(params(16, room, room))
 
 
 def schedule(flows, room, out):
@@ -48,21 +44,21 @@ def schedule(flows, room, out):
     return setup(room).count("\n") + ROUNDS * (4 * FEW + 4)
 
 
-def run(program, path):
+def run(binary, path):
     """The seconds, the peak memory in octets and the status of one run."""
     begun = time.monotonic()
     with open(path, encoding="ascii") as source, open(os.devnull, "wb") as sink:
-        child = subprocess.Popen([program, "replay"], stdin=source, stdout=sink)
+        child = subprocess.Popen([binary, "replay"], stdin=source, stdout=sink)
         _, status, usage = os.wait4(child.pid, 0)
     return time.monotonic() - begun, usage.ru_maxrss * 1024, os.waitstatus_to_exitcode(status)
 
 
-def measure(program, flows, room):
+def measure(binary, flows, room):
     """The least seconds of some runs, or None where one isn't accepted. Prints a row."""
     with tempfile.NamedTemporaryFile("w", suffix=".schedule") as file:
         lines = schedule(flows, room, file)
         file.flush()
-        runs = [run(program, file.name) for _ in range(RUNS)]
+        runs = [run(binary, file.name) for _ in range(RUNS)]
     seconds = min(seconds for seconds, _, _ in runs)
     peak = max(peak for _, peak, _ in runs)
     statuses = {status for _, _, status in runs}
@@ -71,14 +67,15 @@ def measure(program, flows, room):
 
 
 def main():
-    program = sys.argv[1]
+    binary = program()
     print("room  flows  lines   seconds  peak MB  status")
     for room in ROOMS:
-        few, many = measure(program, FEW, room), measure(program, MANY, room)
+        few, many = measure(binary, FEW, room), measure(binary, MANY, room)
         if few is None or many is None:
             return 1
         print(f"factor {many / few:.2f}")
     return 0
 
 
-sys.exit(main())
+if __name__ == "__main__":
+    sys.exit(main())

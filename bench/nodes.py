@@ -1,46 +1,37 @@
 #!/usr/bin/env python3
 """How fast a node is on this machine's loopback, beside a plain loop of UDP sockets with datagrams of the
-same sizes (`bench/plain.rs`, built by `rustc -O -o /tmp/plain bench/plain.rs`).
-`bench/nodes.py crates/deltat/out/deltat /tmp/plain`.
+same sizes (`bench/plain.rs`, which `rustc` builds where no PLAIN is given). `bench/nodes.py [PROGRAM [PLAIN]]`.
 
 - requests: a client sends a message of 100 octets in one packet and waits for what answers it.
 - octets: one node sends another messages of 65,536 octets, one after another, each from its taking to
   its last acknowledgement; the plain client sends as many datagrams of the same size and waits for an
   answer to every 64."""
+import os
+import pathlib
 import socket
 import struct
 import subprocess
 import sys
+import tempfile
 import time
 
-HOST = "127.0.0.1"
+sys.path.insert(0, os.path.join(os.path.dirname(os.path.abspath(__file__)), "..", "tests"))
+
+from lib import HOST, bound, free_port, node_script, params, program, start
+
 REQUESTS, FLOWS = 500, 20
 MESSAGES = 40
 SEG = 1024
 
 
-def params(seg):
-    return f"params 1000 3000 200 500 800 {seg} 65536 65536 65536 2147483648"
+SETUP = (params(SEG, 65536, 65536),)
 
 
-def bound():
-    it = socket.socket(socket.AF_INET, socket.SOCK_DGRAM)
-    it.setsockopt(socket.SOL_SOCKET, socket.SO_RCVBUF, 1 << 22)
-    it.bind((HOST, 0))
+def client_socket() -> socket.socket:
+    """A socket that gives up after five seconds."""
+    it = bound()
     it.settimeout(5)
     return it
-
-
-def free_port():
-    with bound() as it:
-        return it.getsockname()[1]
-
-
-def start(program, lines, out=subprocess.DEVNULL):
-    node = subprocess.Popen([program, "node"], stdin=subprocess.PIPE, stdout=out)
-    node.stdin.write(("\n".join(lines) + "\n").encode())
-    node.stdin.close()
-    return node
 
 
 def data(port, number, drf):
@@ -58,10 +49,10 @@ def exchange(client, port, datagrams):
     return len(datagrams) / (time.monotonic() - begun)
 
 
-def requests(program, plain):
-    client, port = bound(), free_port()
-    node = start(program, [params(SEG), "me 1 first", f"local {HOST}:{port}", f"peer 1 {HOST}:{client.getsockname()[1]} 50 0",
-                           "route 2 1", "go", "at 15000 stop"])
+def requests(path, plain):
+    client, port = client_socket(), free_port()
+    text = node_script(SETUP, (1, 2), (port, client.getsockname()[1]), ["at 15000 stop"])
+    node = start(path, text, out=subprocess.DEVNULL)
     time.sleep(0.3)
     datagrams = [data(flow, 100 * i, i == 0) for flow in range(FLOWS) for i in range(REQUESTS)]
     by_node = exchange(client, port, datagrams)
@@ -90,18 +81,17 @@ def spans(node):
     return [last[flow] - first[flow] for flow in first], sent
 
 
-def octets(program, plain):
+def octets(path, plain):
     ports = free_port(), free_port()
     nodes = []
     for me, other, mine, theirs in ((2, 1, ports[1], ports[0]), (1, 2, ports[0], ports[1])):
-        lines = [params(SEG), f"me {me} first", f"local {HOST}:{mine}", f"peer 1 {HOST}:{theirs} 50 0", f"route {other} 1", "go"]
-        if me == 1:
-            lines += [f"at {500 + 100 * i} send 1:{i}>2:20 be {'61' * 65536}" for i in range(MESSAGES)]
-        nodes.append(start(program, lines + ["at 8000 stop"], subprocess.PIPE if me == 1 else subprocess.DEVNULL))
+        sends = [f"at {500 + 100 * i} send 1:{i}>2:20 be {'61' * 65536}" for i in range(MESSAGES)] if me == 1 else []
+        text = node_script(SETUP, (me, other), (mine, theirs), [*sends, "at 8000 stop"])
+        nodes.append(start(path, text, out=subprocess.PIPE if me == 1 else subprocess.DEVNULL))
     seconds, sent = spans(nodes[1])
     by_nodes = MESSAGES * 65536 / sum(seconds)
     print(f"  (the sender sent {sent} packets of {MESSAGES * 65536 // SEG})")
-    client, port, count = bound(), free_port(), MESSAGES * 65536 // SEG
+    client, port, count = client_socket(), free_port(), MESSAGES * 65536 // SEG
     loop = subprocess.Popen([plain, str(port), str(count)])
     time.sleep(0.3)
     begun = time.monotonic()
@@ -115,10 +105,13 @@ def octets(program, plain):
     return by_nodes, by_loop
 
 
-def main():
-    program, plain = sys.argv[1:3]
-    print("requests of 100 octets a second: node %.0f, plain loop %.0f" % requests(program, plain))
-    print("octets a second of messages of 65,536: two nodes %.0f, plain loop %.0f" % octets(program, plain))
+def main() -> None:
+    with tempfile.TemporaryDirectory() as folder:
+        plain = sys.argv[2] if len(sys.argv) > 2 else os.path.join(folder, "plain")
+        if len(sys.argv) <= 2:
+            subprocess.run(["rustc", "-O", "-o", plain, pathlib.Path(__file__).with_name("plain.rs")], check=True)
+        print("requests of 100 octets a second: node %.0f, plain loop %.0f" % requests(program(), plain))
+        print("octets a second of messages of 65,536: two nodes %.0f, plain loop %.0f" % octets(program(), plain))
 
 
 if __name__ == "__main__":

@@ -1,7 +1,8 @@
 #!/usr/bin/env python3
 """What a shelf is worth: octets a second of one message of 65,536 octets between two nodes, over a link
 that swaps every tenth pair of datagrams, each way. Without a shelf, and with one for 64 packets.
-`bench/swapped.py crates/deltat/out/deltat [RUNS]`."""
+`bench/swapped.py [PROGRAM [RUNS]]`."""
+import os
 import select
 import socket
 import subprocess
@@ -9,9 +10,11 @@ import sys
 import threading
 import time
 
-from nodes import HOST, bound, free_port, params, start
+sys.path.insert(0, os.path.join(os.path.dirname(os.path.abspath(__file__)), "..", "tests"))
 
-SEG = 1024
+from lib import HOST, bound, free_port, node_script, params, program, start
+
+SETUP = params(1024, 65536, 65536)
 FLOW = "1:10>2:20"
 
 
@@ -61,18 +64,16 @@ def settled_after(log):
     return None
 
 
-def run(program, shelf):
+def run(path, shelf):
     one, two = bound(), bound()
     ports = [free_port(), free_port()]
     ended = threading.Event()
     link = threading.Thread(target=relay, args=(one, two, ports, ended))
     link.start()
     octets = "ab" * 65536
-    receiver = [params(SEG), "me 2 first", f"local {HOST}:{ports[1]}", f"peer 1 {HOST}:{two.getsockname()[1]} 50 0", "route 1 1"]
-    receiver += shelf + ["go", "at 9000 stop"]
-    sender = [params(SEG), "me 1 first", f"local {HOST}:{ports[0]}", f"peer 1 {HOST}:{one.getsockname()[1]} 50 0", "route 2 1"]
-    sender += ["go", f"at 500 send {FLOW} be {octets}", "at 8000 stop"]
-    nodes = [start(program, receiver, subprocess.PIPE), start(program, sender, subprocess.PIPE)]
+    receiver = node_script([SETUP, *shelf], (2, 1), (ports[1], two.getsockname()[1]), ["at 9000 stop"])
+    sender = node_script([SETUP], (1, 2), (ports[0], one.getsockname()[1]), [f"at 500 send {FLOW} be {octets}", "at 8000 stop"])
+    nodes = [start(path, receiver), start(path, sender)]
     log = nodes[1].stdout.read()
     nodes[0].stdout.read()
     for node in nodes:
@@ -84,10 +85,10 @@ def run(program, shelf):
     return settled_after(log)
 
 
-def main():
-    program, runs = sys.argv[1], int(sys.argv[2]) if len(sys.argv) > 2 else 3
+def main() -> None:
+    path, runs = program(), int(sys.argv[2]) if len(sys.argv) > 2 else 3
     for name, shelf in (("without a shelf", []), ("with a shelf", ["shelf 64"])):
-        found = [run(program, shelf) for _ in range(runs)]
+        found = [run(path, shelf) for _ in range(runs)]
         times = sorted(it for it in found if it is not None)
         middle = 65536 * 1000 // times[len(times) // 2] if times else 0
         print(f"{name}: {times} ms, in the middle {middle} octets a second; {runs - len(times)} runs lost octets")

@@ -1,6 +1,6 @@
 #!/usr/bin/env python3
-"""The list of definitions in headline.md: those that the clauses of `run` rest on, lowest first, with
-their lines. Without a word it compares the page with the sources and ends with 1 where they differ;
+"""The list of definitions in headline.md: those that the clauses of `run` and the laws beside it rest
+on, lowest first, with their lines. Without a word it compares the page with the sources and ends with 1 where they differ;
 with `write` it writes the list."""
 import os
 import re
@@ -36,6 +36,7 @@ def lines(path):
 def table():
     found = {}
     collect("crates/dt_top/src/lib.rt", found)
+    collect("crates/dt_top/src/laws.rt", found)
     rows = ["| file | lines |\n", "|---|---|\n"]
     rows += [f"| {path} | {lines(path)} |\n" for path in found]
     rows.append(f"| all {len(found)} | {sum(map(lines, found))} |\n")

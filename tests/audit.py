@@ -1,14 +1,16 @@
 #!/usr/bin/env python3
 """The audit of logs against a plain reading of its rule, outside the gate: the log of each worked row that
 was accepted, and that log with one line doubled, left out, or swapped with the next, at each of its lines.
-Ends with 1 where a verdict or a status differs.
-`tests/audit.py crates/deltat/out/deltat`."""
-import pathlib
+Ends with 1 where a verdict or a status differs. `tests/audit.py [PROGRAM]`.
+
+In tests/all: PROGRAM, 600 s."""
 import re
 import subprocess
 import sys
 
-ROWS = pathlib.Path(__file__).parent.parent / "crates" / "deltat_rows"
+from lib import TOP, program
+
+ROWS = TOP / "crates" / "deltat_rows"
 ROUND = 2**32
 LETTERS = {"dbe", "db", "de", "d", "be", "b", "e", "-"}
 WORDS = {"took": 5, "sent": 7, "settled": 6, "uncertain": 5, "accepted": 7, "restarted": 4}
@@ -164,10 +166,9 @@ def logs():
 
 
 def main():
-    program = sys.argv[1]
-    tried, wrong = 0, 0
+    path, tried, wrong = program(), 0, 0
     for name, log, whole in logs():
-        run = subprocess.run([program, "audit"], input="".join(f"{line}\n" for line in log), capture_output=True, text=True, check=False)
+        run = subprocess.run([path, "audit"], input="".join(f"{line}\n" for line in log), capture_output=True, text=True, check=False)
         right = verdict(log)
         tried += 1
         if run.stdout != right + "\n" or run.returncode != (0 if right == "audit yes" else 3) or whole and right != "audit yes":

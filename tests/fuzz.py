@@ -1,24 +1,22 @@
 #!/usr/bin/env python3
 """Inputs that are mutated for a number of minutes, outside the gate. Each is run twice: the program doesn't
 crash, it ends with a status of the table, and it writes the same both times; and the log of a schedule
-that was accepted passes the audit. `tests/fuzz.py crates/deltat/out/deltat MINUTES [SEED]`. Ends with 1
-where one of this isn't so, and leaves the input in /tmp/fuzz.input."""
-import glob
-import os
+that was accepted passes the audit. `tests/fuzz.py PROGRAM MINUTES [SEED]`. Ends with 1 where one of this
+isn't so, and leaves the input in /tmp/fuzz.input.
+
+In tests/all: PROGRAM 0.5, 90 s."""
 import random
 import subprocess
 import sys
 import time
 
-TOP = os.path.dirname(os.path.dirname(os.path.abspath(__file__)))
+from lib import TOP, program
 
 
 def texts():
     """The schedules to begin with."""
-    paths = glob.glob(os.path.join(TOP, "examples", "*.schedule")) + glob.glob(os.path.join(TOP, "crates", "deltat_rows", "data", "*.in"))
-    for path in sorted(paths):
-        with open(path, "rb") as file:
-            yield file.read()
+    for path in sorted([*TOP.glob("examples/*.schedule"), *TOP.glob("crates/deltat_rows/data/*.in")]):
+        yield path.read_bytes()
 
 
 def mutated(chance, text):
@@ -46,40 +44,40 @@ def mutated(chance, text):
     return b"\n".join(lines)
 
 
-def ran(program, word, text):
-    run = subprocess.run([program, word], input=text, capture_output=True, check=False)
+def ran(path, word, text):
+    run = subprocess.run([path, word], input=text, capture_output=True, check=False)
     return run.returncode, run.stdout, run.stderr
 
 
-def fault(program, text):
+def fault(path, text):
     """What is wrong with the program's runs on a text, or None."""
     for word in ("replay", "audit"):
-        first = ran(program, word, text)
+        first = ran(path, word, text)
         if first[0] not in (0, 3):
             return f"{word}: status {first[0]}"
-        if ran(program, word, text) != first:
+        if ran(path, word, text) != first:
             return f"{word}: another output"
-        if word == "replay" and first[0] == 0 and ran(program, "audit", first[1])[0] != 0:
+        if word == "replay" and first[0] == 0 and ran(path, "audit", first[1])[0] != 0:
             return "the log doesn't pass the audit"
     return None
 
 
 def main():
-    program, until = os.path.abspath(sys.argv[1]), time.monotonic() + 60 * float(sys.argv[2])
+    path, until = program(), time.monotonic() + 60 * float(sys.argv[2])
     chance = random.Random(int(sys.argv[3]) if len(sys.argv) > 3 else 1)
     pool, count, accepted = list(texts()), 0, 0
     while time.monotonic() < until:
         text = chance.choice(pool)
         for _ in range(chance.randrange(1, 6)):
             text = mutated(chance, text)
-        why = fault(program, text)
+        why = fault(path, text)
         if why:
             with open("/tmp/fuzz.input", "wb") as file:
                 file.write(text)
             print(why)
             return 1
         count += 1
-        if ran(program, "replay", text)[0] == 0:
+        if ran(path, "replay", text)[0] == 0:
             accepted += 1
             if len(text) < 100_000:
                 pool.append(text)

@@ -2,7 +2,7 @@
 """Memory that is refused, outside the gate: the built program runs a row again and again, and the first
 call for memory is refused, then the second, and so on, until a run makes no more calls than that. Each run
 in which one was refused ends with status 4, with a first part of the log, and says so on standard error.
-`tests/memory.py crates/deltat/out/deltat [ROW ..]`, where a ROW is 01-short-exchange, 12-quiet-time,
+`tests/memory.py [PROGRAM [ROW ..]]`, where a ROW is 01-short-exchange, 12-quiet-time,
 17-node or make-5; without one all four are run. Ends with 1 where a run ends otherwise.
 
 One call may be refused and the run be served all the same: the words are collected into a vector that asks
@@ -11,16 +11,18 @@ with the whole log.
 
 The calls are counted and refused by a few lines of C before the C library's own, which `cc` builds into a
 temporary folder. `rt try --fail-alloc N -- replay` in crates/deltat refuses one call without a built
-program; it compiles for a minute or two each time."""
+program; it compiles for a minute or two each time.
+
+In tests/all: PROGRAM, 300 s."""
 import os
-import pathlib
-import socket
 import subprocess
 import sys
 import tempfile
 import threading
 
-DATA = pathlib.Path(__file__).parent.parent / "crates" / "deltat_rows" / "data"
+from lib import TOP, bound, free_port, node_script, params, program
+
+DATA = TOP / "crates" / "deltat_rows" / "data"
 
 # the call for memory with the number in REFUSED_CALL is refused, which one octet on REFUSED_FD tells
 BEFORE_LIBC = r"""
@@ -44,16 +46,6 @@ int posix_memalign(void **made, size_t align, size_t size) {
     *made = __libc_memalign(align, size);
     return *made ? 0 : ENOMEM;
 }
-"""
-
-SCRIPT = """params 1000 3000 200 500 800 100 4096 4096 512 2147483648
-me 1 first
-local 127.0.0.1:{here}
-peer 1 127.0.0.1:{there} 50 0
-route 2 1
-go
-at 0 send 1:10>2:20 be 68656c6c6f
-at 300 stop
 """
 
 # the acknowledgement of the five octets
@@ -83,13 +75,10 @@ def acknowledge(there):
 
 def node_row():
     """Node 1 against a peer that acknowledges what it sends."""
-    here, there = (socket.socket(socket.AF_INET, socket.SOCK_DGRAM) for _ in range(2))
-    for end in (here, there):
-        end.bind(("127.0.0.1", 0))
-    port = here.getsockname()[1]
-    here.close()
+    port, there = free_port(), bound()
     threading.Thread(target=acknowledge, args=(there,), daemon=True).start()
-    script = SCRIPT.format(here=port, there=there.getsockname()[1])
+    commands = ["at 0 send 1:10>2:20 be 68656c6c6f", "at 300 stop"]
+    script = node_script([params()], (1, 2), (port, there.getsockname()[1]), commands)
     return Row(["node"], script.encode(), without_moments)
 
 
@@ -101,26 +90,26 @@ ROWS = {
 }
 
 
-def ran(program, row, library, call):
+def ran(path, row, library, call):
     """The row where this call for memory is refused: whether it was, and how the run ended."""
     reading, writing = os.pipe()
     env = {**os.environ, "LD_PRELOAD": library, "REFUSED_CALL": str(call), "REFUSED_FD": str(writing)}
-    run = subprocess.run([program, *row.words], input=row.given, capture_output=True, env=env, pass_fds=(writing,), check=False)
+    run = subprocess.run([path, *row.words], input=row.given, capture_output=True, env=env, pass_fds=(writing,), check=False)
     os.close(writing)
     was_refused = os.read(reading, 1) == b"r"
     os.close(reading)
     return was_refused, run.returncode, row.compared(run.stdout), run.stderr
 
 
-def wrong_runs(program, name, library):
+def wrong_runs(path, name, library):
     """Runs a row with each call refused in turn, and gives a line for each run that ends otherwise."""
     row = ROWS[name]()
-    _, status, whole, _ = ran(program, row, library, 0)
+    _, status, whole, _ = ran(path, row, library, 0)
     if status != 0 or not whole:
         return [f"{name}: status {status} where nothing is refused"]
     wrong, served, call = [], [], 1
     while True:
-        was_refused, status, log, said = ran(program, row, library, call)
+        was_refused, status, log, said = ran(path, row, library, call)
         if not was_refused:
             break
         if (status, log, said) == (0, whole, b""):
@@ -137,11 +126,11 @@ def wrong_runs(program, name, library):
 
 
 def main():
-    program, names = os.path.abspath(sys.argv[1]), sys.argv[2:] or list(ROWS)
+    path, names = program(), sys.argv[2:] or list(ROWS)
     with tempfile.TemporaryDirectory() as folder:
         library = os.path.join(folder, "refuses.so")
         subprocess.run(["cc", "-shared", "-fPIC", "-O1", "-o", library, "-x", "c", "-"], input=BEFORE_LIBC.encode(), check=True)
-        wrong = [line for name in names for line in wrong_runs(program, name, library)]
+        wrong = [line for name in names for line in wrong_runs(path, name, library)]
     for line in wrong:
         print(line)
     return 1 if wrong else 0

@@ -1,71 +1,24 @@
 #!/usr/bin/env python3
 """Nodes over real sockets on this machine, outside the gate, since ports and time are the machine's.
-`tests/nodes.py crates/deltat/out/deltat`. Ends with 1 where one of these fails:
+`tests/nodes.py [PROGRAM [TEST ..]]`. Ends with 1 where one of these fails:
 
 - pair: two nodes send each other 20,000 octets through a third process that drops and repeats
   datagrams. What each has read is what the other sent.
 - strangers: a node is sent 100,000 random datagrams by strangers and by its peer's address. It
   neither stops nor grows.
-- port: a node whose port is in use ends with status 5."""
-import os
+- port: a node whose port is in use ends with status 5.
+
+In tests/all: PROGRAM, 180 s."""
 import random
-import select
-import socket
 import subprocess
 import sys
 import threading
 import time
 
-PARAMS = "params 1000 8000 200 200 800 1000 65536 65536 65536 2147483648"
-HOST = "127.0.0.1"
+from lib import HOST, bound, free_port, program, read_of, relay, script, start
 
 
-def bound():
-    """A socket at a port that the machine chooses."""
-    it = socket.socket(socket.AF_INET, socket.SOCK_DGRAM)
-    it.setsockopt(socket.SOL_SOCKET, socket.SO_RCVBUF, 1 << 22)
-    it.bind((HOST, 0))
-    return it
-
-
-def free_port():
-    with bound() as it:
-        return it.getsockname()[1]
-
-
-def script(me, other, local, peer, commands):
-    """The script of a node with one peer."""
-    lines = [PARAMS, f"me {me} first", f"local {HOST}:{local}", f"peer 1 {HOST}:{peer} 50 0", f"route {other} 1", "go"]
-    return "\n".join(lines + commands) + "\n"
-
-
-def start(program, text):
-    node = subprocess.Popen([program, "node"], stdin=subprocess.PIPE, stdout=subprocess.PIPE, stderr=subprocess.PIPE)
-    node.stdin.write(text.encode())
-    node.stdin.close()
-    return node
-
-
-def read_of(log, flow):
-    """The octets that a log has read of a flow."""
-    words = [line.split() for line in log.splitlines()]
-    return bytes.fromhex("".join(it[5] for it in words if it[2:4] == ["read", flow]))
-
-
-def relay(chance, ends, ports, until, told):
-    """Passes datagrams from each end to the port of the other node, and drops and repeats some."""
-    while time.monotonic() < until:
-        for at in select.select(ends, [], [], 0.05)[0]:
-            octets, _ = at.recvfrom(65536)
-            other = 1 - ends.index(at)
-            kind = chance.random()
-            copies = 0 if kind < 0.1 else 2 if kind < 0.25 else 1
-            told[copies] += 1
-            for _ in range(copies):
-                ends[other].sendto(octets, (HOST, ports[other]))
-
-
-def pair(program):
+def pair(path: str) -> bool:
     chance = random.Random(7)
     messages = [chance.randbytes(20000), chance.randbytes(20000)]
     ports, ends = [free_port(), free_port()], [bound(), bound()]
@@ -76,7 +29,7 @@ def pair(program):
     nodes = []
     for i in (0, 1):
         commands = [f"at 200 send {flows[i]} be {messages[i].hex()}", f"at 11000 read {flows[1 - i]} 65536", "at 11100 stop"]
-        nodes.append(start(program, script(i + 1, 2 - i, ports[i], ends[i].getsockname()[1], commands)))
+        nodes.append(start(path, script(i + 1, 2 - i, ports[i], ends[i].getsockname()[1], commands), err=subprocess.DEVNULL))
     logs = [node.stdout.read().decode() for node in nodes]
     statuses = [node.wait() for node in nodes]
     passing.join()
@@ -84,13 +37,13 @@ def pair(program):
     return statuses == [0, 0] and told[0] > 0 and told[2] > 0 and all(read_of(logs[i], flows[1 - i]) == messages[1 - i] for i in (0, 1))
 
 
-def memory_of(pid):
+def memory_of(pid: int) -> int:
     """The resident memory of a process, in KB."""
     with open(f"/proc/{pid}/status") as it:
         return next(int(line.split()[1]) for line in it if line.startswith("VmRSS:"))
 
 
-def noise(chance, number):
+def noise(chance: random.Random, number: int) -> bytes:
     """Random octets; of some the head is that of a Deltagram, or of a packet."""
     octets = chance.randbytes(chance.randrange(0, 200))
     if number % 3 == 0:
@@ -99,10 +52,10 @@ def noise(chance, number):
     return b"\x01\x01" + len(body).to_bytes(2, "big") + b"\x00\x00\x03\xe7" + b"\x00\x00\x00\x02\x00\x00\x00\x01" + body
 
 
-def strangers(program):
+def strangers(path: str) -> bool:
     chance = random.Random(11)
     peer, stranger, port = bound(), bound(), free_port()
-    node = start(program, script(1, 2, port, peer.getsockname()[1], ["at 30000 stop"]))
+    node = start(path, script(1, 2, port, peer.getsockname()[1], ["at 30000 stop"]), err=subprocess.DEVNULL)
     lines = []
     draining = threading.Thread(target=lambda: lines.extend(node.stdout))
     draining.start()
@@ -121,17 +74,19 @@ def strangers(program):
     return status_then is None and node.wait() == 0 and bad > 10_000 and sizes[-1] - sizes[1] <= 1024
 
 
-def port(program):
+def port(path: str) -> bool:
     with bound() as taken:
         text = script(1, 2, taken.getsockname()[1], free_port(), ["at 100 stop"])
-        ran = subprocess.run([program, "node"], input=text.encode(), capture_output=True, check=False)
+        ran = subprocess.run([path, "node"], input=text.encode(), capture_output=True, check=False)
     return (ran.returncode, ran.stdout, ran.stderr) == (5, b"", b"wire failed\n")
 
 
-def main():
-    tests = [pair, strangers, port]
-    chosen = [it for it in tests if it.__name__ in sys.argv[2:] or len(sys.argv) == 2]
-    failed = [it.__name__ for it in chosen if not it(os.path.abspath(sys.argv[1]))]
+TESTS = (pair, strangers, port)
+
+
+def main() -> int:
+    chosen = [it for it in TESTS if it.__name__ in sys.argv[2:] or len(sys.argv) <= 2]
+    failed = [it.__name__ for it in chosen if not it(program())]
     for name in failed:
         print(f"{name} failed")
     print(f"{len(chosen) - len(failed)} of {len(chosen)} hold")

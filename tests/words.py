@@ -1,24 +1,20 @@
 #!/usr/bin/env python3
 """The words of the command line through the built program, outside the gate: which are accepted, also one
 that isn't UTF-8, and what a large schedule and its replay take. Ends with 1 where one differs.
-`tests/words.py crates/deltat/out/deltat [ROUNDS ..]`: with numbers of rounds, each is made and replayed
-too, and its seconds and greatest memory are printed."""
+`tests/words.py [PROGRAM [ROUNDS ..]]`: with numbers of rounds, each is made and replayed too, and its seconds
+and greatest memory are printed.
+
+In tests/all: PROGRAM 2000, 180 s."""
 import os
 import subprocess
 import sys
 import tempfile
 import time
 
+from lib import program, two_stations
+
 USAGE = b"usage: deltat replay | node | make N | trace | retrace | calls | audit\n"
-ONE = b"""params 1000 3000 200 500 800 100 4096 4096 512 2147483648
-station 1 0
-station 2 0
-link 1 1 2 50 0
-link 2 2 1 50 0
-route 1 2 1
-route 2 1 2
-go
-send 1:10>2:20 be 0001
+ONE = two_stations().encode() + b"""send 1:10>2:20 be 0001
 lose 0
 pass 500
 tick 1
@@ -36,24 +32,24 @@ NO_COMMAND = [
 ]
 
 
-def answered(program, words):
+def answered(path, words):
     """The status, standard output and standard error of a run on an input of one line."""
-    run = subprocess.run([program, *words], input=b"hop\n", capture_output=True, check=False)
+    run = subprocess.run([path, *words], input=b"hop\n", capture_output=True, check=False)
     return run.returncode, run.stdout, run.stderr
 
 
-def wrong(program):
+def wrong(path):
     """What is wrong, by the words."""
     cases = [(words, (0, ONE, b"")) for words in MAKE_ONE]
     cases += [(words, (2, b"", USAGE)) for words in NO_COMMAND]
     cases += [(words, (3, b"line 1: word\n", b"input refused\n")) for words in ([b"replay"], [b"--", b"replay"])]
-    return [words for words, want in cases if answered(program, words) != want]
+    return [words for words, want in cases if answered(path, words) != want]
 
 
-def timed(program, words, source, out):
+def timed(path, words, source, out):
     """The status, the seconds and the greatest memory of a run, in mebioctets: at least this script's own."""
     begun = time.monotonic()
-    child = subprocess.Popen([program, *words], stdin=source, stdout=out)
+    child = subprocess.Popen([path, *words], stdin=source, stdout=out)
     _, status, used = os.wait4(child.pid, 0)
     return os.waitstatus_to_exitcode(status), time.monotonic() - begun, used.ru_maxrss / 1024
 
@@ -69,12 +65,12 @@ def summary(rounds):
     return f"flow 1:10>2:20 taken {taken} acked {taken} uncertain 0 open 0 given {taken} read {taken}\nend {end}\n".encode()
 
 
-def large(program, rounds):
+def large(path, rounds):
     """Makes and replays so many rounds, and says whether the log ends as it has to."""
     with tempfile.TemporaryFile() as schedule, tempfile.TemporaryFile() as log:
-        runs = [timed(program, ["make", str(rounds)], subprocess.DEVNULL, schedule)]
+        runs = [timed(path, ["make", str(rounds)], subprocess.DEVNULL, schedule)]
         schedule.seek(0)
-        runs.append(timed(program, ["replay"], schedule, log))
+        runs.append(timed(path, ["replay"], schedule, log))
         sizes = [file.seek(0, os.SEEK_END) for file in (schedule, log)]
         end = b"\n" + summary(rounds)
         log.seek(-len(end), os.SEEK_END)
@@ -85,11 +81,11 @@ def large(program, rounds):
 
 
 def main():
-    program = sys.argv[1]
-    bad = wrong(program)
+    path = program()
+    bad = wrong(path)
     for words in bad:
         print(f"{words}: another answer")
-    short = [rounds for rounds in map(int, sys.argv[2:]) if not large(program, rounds)]
+    short = [rounds for rounds in map(int, sys.argv[2:]) if not large(path, rounds)]
     for rounds in short:
         print(f"{rounds} rounds: another log")
     print("words hold" if not bad and not short else "words don't hold")

@@ -22,19 +22,24 @@ fn words(rt: &HostRuntime) -> Result<Vec<String>, NoMemory> {
     }
 }
 
-/// Runs over standard input, standard output and standard error, with a UDP socket and the machine's
-/// clock.
-fn serve(rt: &HostRuntime) -> Result<u8, NoMemory> {
-    let words = words(rt)?;
-    Ok(run(
+/// Runs over standard input, standard output and standard error, with this wire and the machine's clock.
+fn serve_words(rt: &HostRuntime, words: &[String], wire: &mut UdpWire<'_, HostRuntime>) -> u8 {
+    run(
         rt.alloc(),
-        &words,
+        words,
         &mut ReaderSource::new(rt.stdin()),
         &mut WriterSink::new(rt.stdout()),
         &mut WriterSink::new(rt.stderr()),
-        &mut UdpWire::new(rt.alloc(), rt)?,
+        wire,
         &mut MachineClock::new(rt),
-    ))
+    )
+}
+
+/// Serves the words of the command line, with a UDP socket that isn't open yet.
+fn serve(rt: &HostRuntime) -> Result<u8, NoMemory> {
+    let words = words(rt)?;
+    let mut wire = UdpWire::new(rt.alloc(), rt)?;
+    Ok(serve_words(rt, &words, &mut wire))
 }
 
 /// The whole program: runs, and ends with the status that was answered.

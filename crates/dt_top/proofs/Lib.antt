@@ -2,3 +2,4 @@ pub mod Positionals
 pub mod Naming
 pub mod NodeRuns
 pub mod Reruns
+pub mod Answering

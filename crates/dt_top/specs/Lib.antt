@@ -4,3 +4,5 @@ pub mod Words
 pub mod Commands
 pub mod Streams
 pub mod Serving
+pub mod Runs
+pub mod Answering

@@ -1,5 +1,5 @@
-//! The top call over the forms in memory: worked schedules, and each way in which reading and writing
-//! can fail.
+//! The top call over the forms in memory: worked inputs of each command, each a row of a table, and each
+//! way in which reading and writing can fail.
 use crate::run;
 use dt_edges::{MemClock, MemSink, MemSource, MemWire};
 use std::alloc::Global;
@@ -12,6 +12,28 @@ const PARAMS: &str = "params 1000 3000 200 500 800 100 4096 4096 512 2147483648\
 const SETUP: &str =
     "station 1 0\nstation 2 0\nlink 1 1 2 50 0\nlink 2 2 1 50 0\nroute 1 2 1\nroute 2 1 2\ngo\n";
 
+/// What is run: the words and the input. The rest says by which readings, of which there is one at least,
+/// which reads fail, and how much room there is.
+#[derive(Clone, Copy)]
+struct Trial<'a> {
+    words: &'a [&'a str],
+    input: &'a [u8],
+    readings: &'a [u64],
+    failing_reads: &'a [u32],
+    out_room: usize,
+    err_room: usize,
+}
+
+/// A replay of no input, where nothing fails.
+const FREELY: Trial<'static> = Trial {
+    words: &["replay"],
+    input: b"",
+    readings: &[0],
+    failing_reads: &[],
+    out_room: 4096,
+    err_room: 128,
+};
+
 /// What a run left: the status, and what the sinks hold.
 #[derive(Drop)]
 struct Left {
@@ -20,50 +42,74 @@ struct Left {
     err: MemSink,
 }
 
-/// How a run is hindered.
-#[derive(Clone, Copy)]
-struct Hinder<'a> {
-    takes: &'a [u32],
-    out: usize,
-    err: usize,
+/// The words of a trial.
+fn words_of(alloc: Global, trial: &Trial<'_>) -> Option<Vec<String>> {
+    let mut words = Vec::new(alloc);
+    for word in trial.words {
+        words.push(String::from_str(alloc, word).ok()?).ok()?;
+    }
+    Some(words)
 }
 
-const FREELY: Hinder<'static> = Hinder {
-    takes: &[],
-    out: 4096,
-    err: 128,
-};
-
-/// One run of the program.
-fn after_run(
-    alloc: Global,
-    words: &[&str],
-    input: &[u8],
-    hinder: Hinder<'_>,
-) -> Result<Left, Fail> {
-    let mut line = Vec::new(alloc);
-    for word in words {
-        line.push(String::from_str(alloc, word)?)?;
+/// The trial over a wire, where there is memory for it and a reading.
+fn tried_over(alloc: Global, trial: &Trial<'_>, wire: &mut MemWire) -> Option<Left> {
+    if trial.readings.is_empty() {
+        return None;
     }
-    let mut source = MemSource::new(alloc, input, hinder.takes)
-        .ok()
-        .ok_or("memory")?;
-    let mut out = MemSink::new(alloc, hinder.out, &[]).ok().ok_or("memory")?;
-    let mut err = MemSink::new(alloc, hinder.err, &[]).ok().ok_or("memory")?;
-    let mut wire = MemWire::new(alloc, false, &[], &[], None)
-        .ok()
-        .ok_or("memory")?;
-    let mut clock = MemClock::new(alloc, &[0]).ok().ok_or("memory")?;
+    let words = words_of(alloc, trial)?;
+    let mut clock = MemClock::new(alloc, trial.readings).ok()?;
+    let mut source = MemSource::new(alloc, trial.input, trial.failing_reads).ok()?;
+    let mut out = MemSink::new(alloc, trial.out_room, &[]).ok()?;
+    let mut err = MemSink::new(alloc, trial.err_room, &[]).ok()?;
     let status = run(
         alloc,
-        &line,
+        &words,
         &mut source,
         &mut out,
         &mut err,
-        &mut wire,
+        wire,
         &mut clock,
     );
-    Ok(Left { status, out, err })
+    Some(Left { status, out, err })
+}
+
+/// The trial over a wire on which nothing comes and nothing fails.
+fn tried(alloc: Global, trial: &Trial<'_>) -> Option<Left> {
+    let mut wire = MemWire::new(alloc, false, &[], &[], None).ok()?;
+    tried_over(alloc, trial, &mut wire)
+}
+
+/// Whether a run ended with this status, this output and this text on standard error.
+fn is_left(left: &Option<Left>, status: u8, out: &[u8], said: &[u8]) -> bool {
+    match left {
+        Some(left) => {
+            left.status == status && left.out.as_slice() == out && left.err.as_slice() == said
+        }
+        None => false,
+    }
+}
+
+/// Whether the trial ends so.
+fn ends(alloc: Global, trial: &Trial<'_>, status: u8, out: &[u8], said: &[u8]) -> bool {
+    is_left(&tried(alloc, trial), status, out, said)
+}
+
+/// What is said where an input is served or refused.
+fn said_of(status: u8) -> &'static [u8] {
+    match status {
+        0 => b"",
+        _ => b"input refused\n",
+    }
+}
+
+/// Whether a command does so with an input.
+fn does(alloc: Global, command: &str, input: &str, status: u8, out: &str) -> bool {
+    let trial = Trial {
+        words: &[command],
+        input: input.as_bytes(),
+        ..FREELY
+    };
+    ends(alloc, &trial, status, out.as_bytes(), said_of(status))
 }
 
 /// These texts, one after another.
@@ -138,136 +184,146 @@ flow 1:10>2:20 taken 5 acked 5 uncertain 0 open 0 given 5 read 5
 end 70
 ";
 
+/// The parameters of a schedule, what stands behind its setup, its log and its status.
+const SCHEDULES: [(&str, &str, &str, u8); 15] = [
+    (PARAMS, "", "end 0\n", 0),
+    (PARAMS, "\n# nothing\n", "end 0\n", 0),
+    (
+        "params 1000 3000 200 500 800 100 8 4096 512 2147483648\n",
+        "send 1:10>2:20 - 6161616161616161\nsend 1:10>2:20 - 61\n",
+        FULL_LOG,
+        0,
+    ),
+    (
+        "params 1000 3000 200 500 800 4 4096 4096 512 2147483648 4294967292\n",
+        "send 1:10>2:20 be 61616161616161616161\n",
+        ROUND_LOG,
+        0,
+    ),
+    (
+        "params 1000 3000 200 500 800 100 4096 4096 512 8\n",
+        "send 1:10>2:20 be 61616161616161616161\n",
+        QUANTUM_LOG,
+        0,
+    ),
+    (
+        "params 1 3000 200 500 800 100 4096 4096 512 2147483648\n",
+        "",
+        "line 1: param mpl 1\n",
+        3,
+    ),
+    (
+        "params 1000 3000 200 500 800 100 4096 4096 512 2147483648 0 0\n",
+        "",
+        "line 1: count\n",
+        3,
+    ),
+    (
+        "params 4294967296 3000 200 500 800 100 4096 4096 512 2147483648\n",
+        "",
+        "line 1: number\n",
+        3,
+    ),
+    (PARAMS, "pass 01\n", "line 9: number\n", 3),
+    (PARAMS, "pass 1\n", "end 1\n", 0),
+    (PARAMS, SHORT, SHORT_LOG, 0),
+    (PARAMS, "send 1:10>2:20 be 68656c6c6\n", "line 9: hex\n", 3),
+    (PARAMS, "hop 1\n", "line 9: word\n", 3),
+    (PARAMS, "station 3 0\n", "line 9: order\n", 3),
+    (PARAMS, "send 1:10>2:20 be 6", "line 9: hex\n", 3),
+];
+
 #[test]
 fn worked_schedules(rt: HostRuntime) -> Result<(), Fail> {
-    let long = long_send(rt.alloc())?;
-    let long = long.as_str();
-    let small = "params 1000 3000 200 500 800 100 8 4096 512 2147483648\n";
-    let cases = [
-        (PARAMS, "", "end 0\n", 0),
-        (PARAMS, "\n# nothing\n", "end 0\n", 0),
-        (PARAMS, long, LONG_LOG, 0),
-        (
-            small,
-            "send 1:10>2:20 - 6161616161616161\nsend 1:10>2:20 - 61\n",
-            FULL_LOG,
-            0,
-        ),
-        (
-            "params 1000 3000 200 500 800 4 4096 4096 512 2147483648 4294967292\n",
-            "send 1:10>2:20 be 61616161616161616161\n",
-            ROUND_LOG,
-            0,
-        ),
-        (
-            "params 1000 3000 200 500 800 100 4096 4096 512 8\n",
-            "send 1:10>2:20 be 61616161616161616161\n",
-            QUANTUM_LOG,
-            0,
-        ),
-        (
-            "params 1 3000 200 500 800 100 4096 4096 512 2147483648\n",
-            "",
-            "line 1: param mpl 1\n",
-            3,
-        ),
-        (
-            "params 1000 3000 200 500 800 100 4096 4096 512 2147483648 0 0\n",
-            "",
-            "line 1: count\n",
-            3,
-        ),
-        (
-            "params 4294967296 3000 200 500 800 100 4096 4096 512 2147483648\n",
-            "",
-            "line 1: number\n",
-            3,
-        ),
-        (PARAMS, "pass 01\n", "line 9: number\n", 3),
-        (PARAMS, "pass 1\n", "end 1\n", 0),
-        (PARAMS, SHORT, SHORT_LOG, 0),
-        (PARAMS, "send 1:10>2:20 be 68656c6c6\n", "line 9: hex\n", 3),
-        (PARAMS, "hop 1\n", "line 9: word\n", 3),
-        (PARAMS, "station 3 0\n", "line 9: order\n", 3),
-        (PARAMS, "send 1:10>2:20 be 6", "line 9: hex\n", 3),
-    ];
-    for (params, rest, log, status) in &cases {
+    for (params, rest, log, status) in &SCHEDULES {
         let input = joined(rt.alloc(), &[*params, SETUP, *rest])?;
-        let left = after_run(rt.alloc(), &["replay"], input.as_bytes(), FREELY)?;
-        assert_eq!(rt; left.out.as_slice(), log.as_bytes(), "after {rest:?}");
-        assert_eq!(rt; left.status, *status);
-        let text = if *status == 0 { "" } else { "input refused\n" };
-        assert_eq!(rt; left.err.as_slice(), text.as_bytes());
+        let does = does(rt.alloc(), "replay", input.as_str(), *status, log);
+        assert!(rt; does, "after {rest:?}");
     }
     Ok(())
 }
+
+/// A command and its whole input, what is written and the status. An input of `replay` that ends early is
+/// refused; of the two logs that are audited one has a flaw.
+const INPUTS: [(&str, &str, &str, u8); 7] = [
+    ("replay", "", "line 1: order\n", 3),
+    ("replay", "params 1000", "line 1: count\n", 3),
+    ("replay", "station 1 0\n", "line 1: order\n", 3),
+    ("replay", PARAMS, "line 2: order\n", 3),
+    (
+        "replay",
+        "params 1000 3000 200 500 800 100 4096 4096 512 2147483648\nstation 2 0\n",
+        "line 3: order\n",
+        3,
+    ),
+    ("audit", SHORT_LOG, "audit yes\n", 0),
+    (
+        "audit",
+        "0 2 accepted 1:10>2:20 0 5 run\n",
+        "line 1: stray\n",
+        3,
+    ),
+];
 
 #[test]
-fn inputs_that_end_early(rt: HostRuntime) -> Result<(), Fail> {
-    let cases = [
-        ("", "line 1: order\n"),
-        ("params 1000", "line 1: count\n"),
-        ("station 1 0\n", "line 1: order\n"),
-        (PARAMS, "line 2: order\n"),
-        (
-            "params 1000 3000 200 500 800 100 4096 4096 512 2147483648\nstation 2 0\n",
-            "line 3: order\n",
-        ),
-    ];
-    for (input, log) in &cases {
-        let left = after_run(rt.alloc(), &["replay"], input.as_bytes(), FREELY)?;
-        assert_eq!(rt; left.out.as_slice(), log.as_bytes(), "of {input:?}");
-        assert_eq!(rt; left.status, 3);
+fn worked_inputs(rt: HostRuntime) {
+    for (command, input, out, status) in &INPUTS {
+        assert!(rt;
+            does(rt.alloc(), command, input, *status, out),
+            "{command} of {input:?}"
+        );
     }
-    Ok(())
 }
 
-/// One run of the program on no input, with the words of a line, between which stand spaces.
-fn after_line(alloc: Global, line: &str) -> Result<Left, Fail> {
+/// Lines of words that name no command.
+const NO_COMMANDS: &str = "
+-
+--
+Replay
+replay 5
+node 5
+trace 5
+retrace 5
+calls 5
+audit 5
+replay -- --
+-- -- replay
+--help
+-h
+--version
+make
+make 
+make 0
+make 01
+make +1
+make -1
+make 50001
+make 1 1
+make -- -- 1
+--make 1
+--count 1";
+
+const USAGE: &[u8] = b"usage: deltat replay | node | make N | trace | retrace | calls | audit\n";
+
+/// Whether the words of a line, between which stand spaces, end so with no input.
+fn line_ends(alloc: Global, line: &str, status: u8, out: &[u8], said: &[u8]) -> Result<bool, Fail> {
     let words: Vec<&str> = line.split(' ').collect(alloc)?;
-    after_run(alloc, &words, b"", FREELY)
+    let trial = Trial {
+        words: &words,
+        ..FREELY
+    };
+    Ok(ends(alloc, &trial, status, out, said))
 }
 
 #[test]
 fn other_words_are_no_command(rt: HostRuntime) -> Result<(), Fail> {
-    let cases = [
-        "",
-        "-",
-        "--",
-        "Replay",
-        "replay 5",
-        "node 5",
-        "trace 5",
-        "retrace 5",
-        "calls 5",
-        "audit 5",
-        "replay -- --",
-        "-- -- replay",
-        "--help",
-        "-h",
-        "--version",
-        "make",
-        "make ",
-        "make 0",
-        "make 01",
-        "make +1",
-        "make -1",
-        "make 50001",
-        "make 1 1",
-        "make -- -- 1",
-        "--make 1",
-        "--count 1",
-    ];
-    let none = after_run(rt.alloc(), &[], b"", FREELY)?;
-    assert_eq!(rt; none.status, 2);
-    for line in cases {
-        let left = after_line(rt.alloc(), line)?;
-        assert_eq!(rt; left.status, 2, "of {line:?}");
-        assert_eq!(rt; left.out.as_slice(), b"".as_slice());
-        assert_eq!(rt;
-            left.err.as_slice(),
-            b"usage: deltat replay | node | make N | trace | retrace | calls | audit\n".as_slice()
-        );
+    let none = Trial {
+        words: &[],
+        ..FREELY
+    };
+    assert!(rt; ends(rt.alloc(), &none, 2, b"", USAGE));
+    for line in NO_COMMANDS.split('\n') {
+        assert!(rt; line_ends(rt.alloc(), line, 2, b"", USAGE)?, "{line:?}");
     }
     Ok(())
 }
@@ -287,59 +343,59 @@ read 1:10>2:20 65536
 #[test]
 fn the_first_mark_is_left_out(rt: HostRuntime) -> Result<(), Fail> {
     let one = joined(rt.alloc(), &[PARAMS, SETUP, ONE_ROUND])?;
-    for line in ["make 1", "-- make 1", "make -- 1", "make 1 --"] {
-        let left = after_line(rt.alloc(), line)?;
-        assert_eq!(rt; left.status, 0, "of {line:?}");
-        assert_eq!(rt; left.out.as_slice(), one.as_bytes());
-        assert_eq!(rt; left.err.as_slice(), b"".as_slice());
+    for line in "make 1,-- make 1,make -- 1,make 1 --".split(',') {
+        let ends = line_ends(rt.alloc(), line, 0, one.as_bytes(), b"")?;
+        assert!(rt; ends, "{line}");
     }
-    for line in ["-- replay", "replay --"] {
-        let left = after_line(rt.alloc(), line)?;
-        assert_eq!(rt; left.status, 3);
-        assert_eq!(rt; left.out.as_slice(), b"line 1: order\n".as_slice());
+    for line in "-- replay,replay --".split(',') {
+        let ends = line_ends(rt.alloc(), line, 3, b"line 1: order\n", b"input refused\n")?;
+        assert!(rt; ends, "{line}");
     }
     Ok(())
 }
 
 /// Room for a schedule of 5,000 rounds, and for its log.
-const AMPLE: Hinder<'static> = Hinder {
-    out: 4_194_304,
+const AMPLE: Trial<'static> = Trial {
+    out_room: 4_194_304,
     ..FREELY
 };
 
-/// The log of the schedule of so many rounds.
-fn log_of_made(alloc: Global, rounds: &str) -> Result<Left, Fail> {
-    let made = after_run(alloc, &["make", rounds], b"", AMPLE)?;
-    after_run(alloc, &["replay"], made.out.as_slice(), AMPLE)
+/// What the replay of the schedule of so many rounds leaves.
+fn replay_of_made(alloc: Global, rounds: &str) -> Option<Left> {
+    let trial = Trial {
+        words: &["make", rounds],
+        ..AMPLE
+    };
+    let made = tried(alloc, &trial)?;
+    let replay = Trial {
+        input: made.out.as_slice(),
+        ..AMPLE
+    };
+    tried(alloc, &replay)
 }
 
-#[test]
-fn made_schedules_are_replayed(rt: HostRuntime) -> Result<(), Fail> {
-    let cases = [
-        (
-            "1",
-            "520 2 read 1:10>2:20 rbe 0001
+/// Whether a run ended with status 0 and an output that ends so.
+fn is_done_with(left: &Option<Left>, end: &str) -> bool {
+    match left {
+        Some(left) => left.status == 0 && left.out.as_slice().ends_with(end.as_bytes()),
+        None => false,
+    }
+}
+
+const ONE_END: &str = "520 2 read 1:10>2:20 rbe 0001
 flow 1:10>2:20 taken 2 acked 2 uncertain 0 open 0 given 2 read 2
 end 520
-",
-        ),
-        (
-            "3",
-            "1060 2 read 1:10>2:20 be 02
+";
+
+const THREE_END: &str = "1060 2 read 1:10>2:20 be 02
 flow 1:10>2:20 taken 19 acked 19 uncertain 0 open 0 given 19 read 19
 end 1060
-",
-        ),
-    ];
-    for (rounds, end) in &cases {
-        let left = log_of_made(rt.alloc(), rounds)?;
-        assert_eq!(rt; left.status, 0);
-        assert!(rt;
-            left.out.as_slice().ends_with(end.as_bytes()),
-            "of {rounds}"
-        );
-    }
-    Ok(())
+";
+
+#[test]
+fn made_schedules_are_replayed(rt: HostRuntime) {
+    assert!(rt; is_done_with(&replay_of_made(rt.alloc(), "1"), ONE_END));
+    assert!(rt; is_done_with(&replay_of_made(rt.alloc(), "3"), THREE_END));
 }
 
 /// The last two lines of the log of so many rounds, from the numbers that the rounds are drawn from:
@@ -358,35 +414,46 @@ fn summary(alloc: Global, rounds: u32) -> Result<String, Fail> {
     )?)
 }
 
+/// Whether two runs left the same output.
+fn is_same(first: &Option<Left>, again: &Option<Left>) -> bool {
+    match (first, again) {
+        (Some(first), Some(again)) => first.out.as_slice() == again.out.as_slice(),
+        _ => false,
+    }
+}
+
 #[test]
 fn five_thousand_rounds(rt: HostRuntime) -> Result<(), Fail> {
-    let first = log_of_made(rt.alloc(), "5000")?;
-    assert_eq!(rt; first.status, 0);
     let end = summary(rt.alloc(), 5000)?;
-    assert!(rt; first.out.as_slice().ends_with(end.as_bytes()));
-    let again = log_of_made(rt.alloc(), "5000")?;
-    assert!(rt; again.out.as_slice() == first.out.as_slice());
+    let first = replay_of_made(rt.alloc(), "5000");
+    let again = replay_of_made(rt.alloc(), "5000");
+    assert!(rt; is_done_with(&first, end.as_str()));
+    assert!(rt; is_same(&first, &again));
     Ok(())
+}
+
+/// Whether the trial is cut off at each room below that for what it writes.
+fn is_cut_off(alloc: Global, trial: &Trial<'_>, whole: &[u8]) -> bool {
+    for room in 0..whole.len() {
+        let full = Trial {
+            out_room: room,
+            ..*trial
+        };
+        if !ends(alloc, &full, 8, &whole[..room], b"write failed\n") {
+            return false;
+        }
+    }
+    true
 }
 
 #[test]
 fn a_schedule_that_finds_no_room(rt: HostRuntime) -> Result<(), Fail> {
     let one = joined(rt.alloc(), &[PARAMS, SETUP, ONE_ROUND])?;
-    for room in 0..one.as_bytes().len() {
-        let left = after_run(
-            rt.alloc(),
-            &["make", "1"],
-            b"",
-            Hinder {
-                out: room,
-                ..FREELY
-            },
-        )?;
-        assert_eq!(rt; left.status, 8);
-        assert!(rt; one.as_bytes().starts_with(left.out.as_slice()));
-        assert_eq!(rt; left.out.as_slice().len(), room);
-        assert_eq!(rt; left.err.as_slice(), b"write failed\n".as_slice());
-    }
+    let make = Trial {
+        words: &["make", "1"],
+        ..FREELY
+    };
+    assert!(rt; is_cut_off(rt.alloc(), &make, one.as_bytes()));
     Ok(())
 }
 
@@ -394,46 +461,59 @@ fn a_schedule_that_finds_no_room(rt: HostRuntime) -> Result<(), Fail> {
 fn failing_reads_and_writes(rt: HostRuntime) -> Result<(), Fail> {
     let long = long_send(rt.alloc())?;
     let input = joined(rt.alloc(), &[PARAMS, SETUP, long.as_str()])?;
-    let input = input.as_bytes();
-    for takes in &[[1], [2]] {
-        let left = after_run(rt.alloc(), &["replay"], input, Hinder { takes, ..FREELY })?;
-        assert_eq!(rt; left.status, 7);
-        assert_eq!(rt; left.out.as_slice(), b"".as_slice());
-        assert_eq!(rt; left.err.as_slice(), b"read failed\n".as_slice());
+    let trial = Trial {
+        input: input.as_bytes(),
+        ..FREELY
+    };
+    assert!(rt; ends(rt.alloc(), &trial, 0, LONG_LOG.as_bytes(), b""));
+    for failing_reads in &[[1], [2]] {
+        let failing = Trial {
+            failing_reads,
+            ..trial
+        };
+        assert!(rt; ends(rt.alloc(), &failing, 7, b"", b"read failed\n"));
     }
-    for room in 0..LONG_LOG.len() {
-        let left = after_run(
-            rt.alloc(),
-            &["replay"],
-            input,
-            Hinder {
-                out: room,
-                ..FREELY
-            },
-        )?;
-        assert_eq!(rt; left.status, 8);
-        assert!(rt; LONG_LOG.as_bytes().starts_with(left.out.as_slice()));
-        assert_eq!(rt; left.err.as_slice(), b"write failed\n".as_slice());
-    }
-    let left = after_run(rt.alloc(), &["replay"], b"", Hinder { err: 0, ..FREELY })?;
-    assert_eq!(rt; left.status, 3);
-    assert_eq!(rt; left.out.as_slice(), b"line 1: order\n".as_slice());
+    assert!(rt; is_cut_off(rt.alloc(), &trial, LONG_LOG.as_bytes()));
     Ok(())
 }
 
 #[test]
+fn the_text_of_the_status_finds_no_room(rt: HostRuntime) {
+    let empty = Trial {
+        err_room: 0,
+        ..FREELY
+    };
+    assert!(rt; ends(rt.alloc(), &empty, 3, b"line 1: order\n", b""));
+}
+
+#[test]
 fn the_limit_of_the_input(rt: HostRuntime) -> Result<(), Fail> {
-    let mut input = vec![in rt.alloc(); b'x'; 16_777_216]?;
-    let longest = after_run(rt.alloc(), &["replay"], &input, FREELY)?;
-    assert_eq!(rt; longest.status, 3);
-    assert_eq!(rt; longest.out.as_slice(), b"line 1: word\n".as_slice());
-    input.push(b'x')?;
-    let longer = after_run(rt.alloc(), &["replay"], &input, FREELY)?;
-    assert_eq!(rt; longer.status, 3);
-    assert_eq!(rt; longer.out.as_slice(), b"".as_slice());
-    assert_eq!(rt;
-        longer.err.as_slice(),
-        b"input longer than 16777216 octets\n".as_slice()
+    let input = vec![in rt.alloc(); b'x'; 16_777_217]?;
+    let longer = Trial {
+        input: &input,
+        ..FREELY
+    };
+    let longest = Trial {
+        input: input.get(1..).unwrap_or(b""),
+        ..FREELY
+    };
+    assert!(rt;
+        ends(
+            rt.alloc(),
+            &longer,
+            3,
+            b"",
+            b"input longer than 16777216 octets\n"
+        )
+    );
+    assert!(rt;
+        ends(
+            rt.alloc(),
+            &longest,
+            3,
+            b"line 1: word\n",
+            b"input refused\n"
+        )
     );
     Ok(())
 }
@@ -452,78 +532,65 @@ at 100 stop
 /// Its first three lines.
 const SENDS: &str = "0 1 took 1:10>2:20 5\n0 1 sent 1:10>2:20 0 5 dbe\n0 1 put 1 999\n";
 
-/// A run of the node, which the word names, over a wire and by these readings, of which there is one at
-/// least.
-fn after_node(
-    alloc: Global,
-    word: &str,
-    wire: &mut MemWire,
-    readings: &[u64],
-) -> Result<Left, Fail> {
-    let mut words = Vec::new(alloc);
-    words.push(String::from_str(alloc, word)?)?;
-    let mut source = MemSource::new(alloc, SCRIPT.as_bytes(), &[])
-        .ok()
-        .ok_or("memory")?;
-    let mut out = MemSink::new(alloc, 4096, &[]).ok().ok_or("memory")?;
-    let mut err = MemSink::new(alloc, 64, &[]).ok().ok_or("memory")?;
-    if readings.is_empty() {
-        return Err(Fail::from("no readings"));
+/// Its log, where it meets its stop.
+const NODE_LOG: &str = "0 1 took 1:10>2:20 5\n0 1 sent 1:10>2:20 0 5 dbe\n0 1 put 1 999\nend 100\n";
+
+/// Whether the wire fails to open, the node's readings, its status, its log, and what is said.
+const NODE_ENDS: [(bool, [u64; 2], u8, &str, &str); 3] = [
+    (false, [1000, 1100], 0, NODE_LOG, ""),
+    (true, [1000, 1100], 5, "", "wire failed\n"),
+    (false, [1000, 1000], 6, SENDS, "clock stands still\n"),
+];
+
+/// The node of the script, whose log or trace is written, by these readings.
+fn node_trial<'a>(words: &'a [&'a str], readings: &'a [u64]) -> Trial<'a> {
+    Trial {
+        words,
+        input: SCRIPT.as_bytes(),
+        readings,
+        ..FREELY
     }
-    let mut clock = MemClock::new(alloc, readings).ok().ok_or("memory")?;
-    let status = run(
-        alloc,
-        &words,
-        &mut source,
-        &mut out,
-        &mut err,
-        wire,
-        &mut clock,
-    );
-    Ok(Left { status, out, err })
 }
 
 #[test]
 fn a_node_ends_by_its_stop_its_wire_or_its_clock(rt: HostRuntime) -> Result<(), Fail> {
-    let cases = [
-        (false, [1000, 1100], 0, "end 100\n", ""),
-        (true, [1000, 1100], 5, "", "wire failed\n"),
-        (false, [1000, 1000], 6, "", "clock stands still\n"),
-    ];
-    for (open_fails, readings, status, end, said) in &cases {
+    for (open_fails, readings, status, log, said) in &NODE_ENDS {
         let mut wire = MemWire::new(rt.alloc(), *open_fails, &[], &[], Some(64))
             .ok()
             .ok_or("memory")?;
-        let left = after_node(rt.alloc(), "node", &mut wire, readings)?;
-        assert_eq!(rt; left.status, *status);
-        let begun = if *open_fails { "" } else { SENDS };
-        let log = joined(rt.alloc(), &[begun, *end])?;
-        assert_eq!(rt; left.out.as_slice(), log.as_bytes());
-        assert_eq!(rt; left.err.as_slice(), said.as_bytes());
+        let left = tried_over(rt.alloc(), &node_trial(&["node"], readings), &mut wire);
+        assert!(rt;
+            is_left(&left, *status, log.as_bytes(), said.as_bytes()),
+            "{status}"
+        );
         assert_eq!(rt; wire.given(0).is_some(), !*open_fails);
     }
     Ok(())
 }
 
+const TRACE: &str = "@ 1000\n! 1\n< -\n@ 1100\n";
+
 #[test]
 fn a_trace_is_run_again(rt: HostRuntime) -> Result<(), Fail> {
-    let alloc = rt.alloc();
-    let mut wire = MemWire::new(alloc, false, &[], &[1], None)
+    let mut wire = MemWire::new(rt.alloc(), false, &[], &[1], None)
         .ok()
         .ok_or("memory")?;
-    let left = after_node(alloc, "trace", &mut wire, &[1000, 1100])?;
-    assert_eq!(rt; left.status, 0);
-    let trace = "@ 1000\n! 1\n< -\n@ 1100\n";
-    assert_eq!(rt; left.out.as_slice(), trace.as_bytes());
-    let input = joined(alloc, &[SCRIPT, "trace\n", trace])?;
-    let again = after_run(alloc, &["retrace"], input.as_bytes(), FREELY)?;
-    assert_eq!(rt; again.status, 0);
-    let log = joined(alloc, &[SENDS, "0 1 unsent 1\nend 100\n"])?;
-    assert_eq!(rt; again.out.as_slice(), log.as_bytes());
-    let open = joined(alloc, &[SCRIPT, "trace\n! 0\n"])?;
-    let closed = after_run(alloc, &["retrace"], open.as_bytes(), FREELY)?;
-    assert_eq!(rt; closed.status, 5);
-    assert!(rt; closed.out.as_slice().is_empty());
+    let left = tried_over(
+        rt.alloc(),
+        &node_trial(&["trace"], &[1000, 1100]),
+        &mut wire,
+    );
+    assert!(rt; is_left(&left, 0, TRACE.as_bytes(), b""));
+    let input = joined(rt.alloc(), &[SCRIPT, "trace\n", TRACE])?;
+    let log = joined(rt.alloc(), &[SENDS, "0 1 unsent 1\nend 100\n"])?;
+    assert!(rt; does(rt.alloc(), "retrace", input.as_str(), 0, log.as_str()));
+    let closed = joined(rt.alloc(), &[SCRIPT, "trace\n! 0\n"])?;
+    let retrace = Trial {
+        words: &["retrace"],
+        input: closed.as_bytes(),
+        ..FREELY
+    };
+    assert!(rt; ends(rt.alloc(), &retrace, 5, b"", b"wire failed\n"));
     Ok(())
 }
 
@@ -532,37 +599,24 @@ const CALL: &str = "call 1:10>2:20 010203\narrive 0\narrive 2\n";
 
 const CALL_TEXT: &str = "0 call 0 1:10>2:20 3\n0 served 0\n0 answered 0 030201\n";
 
-#[test]
-fn calls_are_made(rt: HostRuntime) -> Result<(), Fail> {
-    let cases = [
-        (
-            "",
-            0,
-            "calls 1 served 1 answered 1 unsure 0 declined 0 waiting 0\nend 0\n",
-        ),
-        ("call 2:20>1:10 01\n", 3, "line 12: bad flow\n"),
-        ("read 1:10>2:20 1\n", 3, "line 12: word\n"),
-    ];
-    for (more, status, rest) in &cases {
-        let input = joined(rt.alloc(), &[PARAMS, SETUP, CALL, *more])?;
-        let left = after_run(rt.alloc(), &["calls"], input.as_bytes(), FREELY)?;
-        let text = joined(rt.alloc(), &[CALL_TEXT, *rest])?;
-        assert_eq!(rt; left.out.as_slice(), text.as_bytes(), "after {more:?}");
-        assert_eq!(rt; left.status, *status);
-    }
-    Ok(())
-}
+/// What stands behind these, what is told of it, and the status.
+const CALLS: [(&str, &str, u8); 3] = [
+    (
+        "",
+        "calls 1 served 1 answered 1 unsure 0 declined 0 waiting 0\nend 0\n",
+        0,
+    ),
+    ("call 2:20>1:10 01\n", "line 12: bad flow\n", 3),
+    ("read 1:10>2:20 1\n", "line 12: word\n", 3),
+];
 
 #[test]
-fn logs_are_audited(rt: HostRuntime) -> Result<(), Fail> {
-    let cases = [
-        (SHORT_LOG, 0, "audit yes\n"),
-        ("0 2 accepted 1:10>2:20 0 5 run\n", 3, "line 1: stray\n"),
-    ];
-    for (log, status, verdict) in &cases {
-        let left = after_run(rt.alloc(), &["audit"], log.as_bytes(), FREELY)?;
-        assert_eq!(rt; left.status, *status);
-        assert_eq!(rt; left.out.as_slice(), verdict.as_bytes());
+fn calls_are_made(rt: HostRuntime) -> Result<(), Fail> {
+    for (more, rest, status) in &CALLS {
+        let input = joined(rt.alloc(), &[PARAMS, SETUP, CALL, *more])?;
+        let text = joined(rt.alloc(), &[CALL_TEXT, *rest])?;
+        let does = does(rt.alloc(), "calls", input.as_str(), *status, text.as_str());
+        assert!(rt; does, "after {more:?}");
     }
     Ok(())
 }

@@ -1,0 +1,29 @@
+//! What is true of every input, whatever the program does with it. Each law is the contract of a public
+//! function with an empty body.
+ghost use Rattle.std.specs.Prelude.{ℕ, ◌≡◌, ◌≤◌, false, List, length, IfOk, IfSome};
+ghost use Rattle.dt_audit.specs.Audits.{AreSafe, has_flaw, ledger_of};
+ghost use Rattle.dt_calls.specs.CallInputs.{AnswersAreReversed, calls_after_lines};
+ghost use Rattle.dt_calls_model.specs.Promises.{AreServedOnce};
+ghost use Rattle.dt_replay.specs.Schedules.{replay_text, world_after_lines};
+ghost use Rattle.dt_world_model.specs.WorldFacts.{SafeWorld};
+ghost use Rattle.dt_top.specs.Inputs.{limit};
+
+/// Each flow of the world of any schedule is safe after each of its lines, those of a schedule that is
+/// refused among them.
+pub fn each_schedule_is_safe()
+    ensures safe { (octets : List ℕ) → (count : ℕ) → IfSome (world_after_lines count octets) (λ w. SafeWorld w) }
+{}
+
+/// After each line of any input that isn't too long each call was served at most once, and each answer
+/// that is told next is that of its call.
+pub fn each_call_is_served_once()
+    ensures called_once { (octets : List ℕ) → length octets ≤ limit → (count : ℕ) → IfSome (calls_after_lines count octets) (λ c. AreServedOnce c) }
+    ensures called_answers { (octets : List ℕ) → length octets ≤ limit → (count : ℕ) → IfSome (calls_after_lines count octets) (λ c. AnswersAreReversed c) }
+{}
+
+/// Of any log without a flaw each flow of the ledger is safe. The log that `replay` writes of any input
+/// that isn't too long has no flaw.
+pub fn each_log_without_a_flaw_is_safe()
+    ensures audited { (octets : List ℕ) → IfOk (ledger_of octets) AreSafe }
+    ensures log_passes { (octets : List ℕ) → length octets ≤ limit → has_flaw (replay_text octets) ≡ false }
+{}

@@ -1,0 +1,393 @@
+#!/usr/bin/env python3
+"""Compares the pages with the sources, and ends with 1 where a page says what isn't there.
+
+It refuses, each with page and line:
+- a link that leads nowhere: a file that isn't there, or a heading that the page doesn't have;
+- a name in backticks that nothing has: a file, a crate, a clause of a function's table, a function,
+  a type, a definition;
+- a crate's row in the table of crates whose "stands on" differs from crates.txt, and a crate
+  without a row;
+- a clause of `run` that docs/guarantees.md doesn't name;
+- a word of a line that is written or read and that docs/formats.md doesn't name.
+
+Usage: docs/check.py            compares
+       docs/check.py write      writes the "stands on" column anew
+       docs/check.py clauses    prints each public function with the names of its clauses
+"""
+
+import re
+import sys
+from functools import cache
+from pathlib import Path
+from typing import Iterator, NamedTuple
+
+TOP = Path(__file__).resolve().parent.parent
+PAGES = sorted([TOP / "README.md", *(TOP / "docs").glob("*.md")])
+ARCHITECTURE = TOP / "docs" / "architecture.md"
+
+# What pages name of the language, the toolchain and the system, and of no file here.
+FOREIGN = set(
+    """alloca bash cargo clang gcc git memmove memset nproc perf python3 rt rustc strace sudo taskset
+    tshark unshare valgrind main self Self u8 u16 u32 u64 usize str bool i64 Box Vec String Option
+    Some None Ok Err Result true false BufWriter final get_by to_vec""".split()
+)
+
+
+class Complaint(NamedTuple):
+    page: Path
+    line: int
+    text: str
+
+    def __str__(self) -> str:
+        return f"{self.page.relative_to(TOP)}:{self.line}: {self.text}"
+
+
+def sources(*kinds: str) -> Iterator[Path]:
+    """The files of the crates of these kinds (src, specs, proofs, must-fail)."""
+    for kind in kinds:
+        for path in sorted(TOP.glob(f"crates/*/{kind}")):
+            yield from (it for it in sorted(path.rglob("*")) if it.is_file())
+
+
+@cache
+def text_of(path: Path) -> str:
+    return path.read_text(errors="replace")
+
+
+@cache
+def files() -> tuple[str, ...]:
+    """Every file and folder of the repository that isn't made by a tool, below the top."""
+    kept = []
+    for path in TOP.rglob("*"):
+        name = path.relative_to(TOP)
+        if not {".git", "out", "__pycache__", "target"} & set(name.parts):
+            kept.append(name.as_posix())
+    return tuple(kept)
+
+
+@cache
+def known_words() -> frozenset[str]:
+    """Every name that stands in a source, a script or a list of the repository, and the files' stems."""
+    words: set[str] = set(FOREIGN)
+    paths = [*sources("src", "specs", "proofs"), TOP / "crates.txt", TOP / "deltat"]
+    for folder in ("bench", "docs", "tests", "tools", "bindings", "include", "lib", "examples"):
+        for path in (TOP / folder).rglob("*") if (TOP / folder).is_dir() else ():
+            if path.is_file() and path.suffix != ".md" and path != Path(__file__).resolve():
+                paths.append(path)
+    for path in paths:
+        words.update(re.findall(r"[A-Za-z_][A-Za-z0-9_]*", text_of(path)))
+    for name in files():
+        words.add(Path(name).stem)
+        words.add(Path(name).name)
+    return frozenset(words)
+
+
+# --- headings and links
+
+
+def slug(heading: str) -> str:
+    """The anchor of a heading, as GitHub makes it."""
+    plain = re.sub(r"[`*]", "", heading.strip().lower())
+    return re.sub(r"[^\w\- ]", "", plain).replace(" ", "-")
+
+
+def outside_code(page: Path) -> Iterator[tuple[int, str]]:
+    """The lines of a page that stand in no block of code, with their numbers."""
+    fenced = False
+    for number, line in enumerate(text_of(page).splitlines(), 1):
+        if line.lstrip().startswith("```"):
+            fenced = not fenced
+        elif not fenced:
+            yield number, line
+
+
+@cache
+def anchors(page: Path) -> frozenset[str]:
+    return frozenset(slug(line.lstrip("#")) for _, line in outside_code(page) if re.match(r"#+ ", line))
+
+
+def check_links(page: Path) -> Iterator[Complaint]:
+    for number, line in outside_code(page):
+        for target in re.findall(r"\]\(([^)\s]+)\)", line):
+            if re.match(r"[a-z]+:", target):
+                continue
+            path, _, anchor = target.partition("#")
+            where = (page.parent / path).resolve() if path else page
+            if not where.exists():
+                yield Complaint(page, number, f"the link leads to no file: {target}")
+            elif anchor and anchor not in anchors(where):
+                yield Complaint(page, number, f"the link leads to no heading: {target}")
+
+
+# --- names in backticks
+
+
+FILE = re.compile(r"[\w./*-]+\.(rt|antt|py|md|txt|lua|sh|toml|schedule|script|calls|h|c)")
+NAME = re.compile(r"[A-Za-z_][\w]*(::[A-Za-z_]\w*)*(\(\))?")
+
+
+def is_file(name: str) -> bool:
+    """Whether a file, a folder or a module has this path, from the top or from a folder on the way. A
+    word in capitals, as CRATE, stands for any name, and so does `*`."""
+    name = re.sub(r"\b[A-Z]+\b(?=/)|\.\.(?=/)", "*", name)
+    if "*" in name:
+        return any(Path(it).match(name) for it in files())
+    ends = (name, name + ".antt", name + ".rt")
+    return any(it in ends or it.endswith(tuple("/" + end for end in ends)) for it in files())
+
+
+def is_known(name: str) -> bool:
+    return all(part in known_words() for part in name.removesuffix("()").split("::"))
+
+
+def check_names(page: Path) -> Iterator[Complaint]:
+    for number, line in outside_code(page):
+        for name in re.findall(r"`([^`]+)`", line):
+            if FILE.fullmatch(name):
+                if not is_file(name):
+                    yield Complaint(page, number, f"no such file: {name}")
+            elif re.fullmatch(r"\w+/[\w/.-]*", name):
+                if not is_file(name.rstrip("/")):
+                    yield Complaint(page, number, f"no such folder: {name}")
+            elif NAME.fullmatch(name) and not name.isupper() and not is_known(name):
+                yield Complaint(page, number, f"nothing has this name: {name}")
+
+
+# --- clauses of functions
+
+
+class Function(NamedTuple):
+    crate: str
+    name: str
+    clauses: tuple[str, ...]
+    says: str
+
+
+FUNCTION = re.compile(
+    r"(?P<doc>(?:^[ \t]*///[^\n]*\n)*)(?:^[ \t]*(?:#\[[^\n]*|//[^\n]*)\n)*"
+    r"^(?P<indent>[ \t]*)(?P<pub>pub(?:\([a-z]+\))? )?(?:const )?fn (?P<name>\w+)",
+    re.MULTILINE,
+)
+OWNER = re.compile(r"^(?:impl(?:<[^{]*?>)? (?:\w+(?:<[^{]*?>)? for )?|pub trait |trait )(\w+)", re.MULTILINE)
+
+
+def contract(text: str, start: int) -> str:
+    """From a function's name to the line that begins its body or ends its declaration."""
+    lines, depth = [], 0
+    for line in text[start:].splitlines():
+        begins_body = line.rstrip().endswith("{") and not re.match(r"\s*(ensures|requires)\b", line)
+        lines.append(line)
+        if depth == 0 and begins_body:
+            break
+        depth += line.count("{") - line.count("}")
+        if depth == 0 and line.rstrip().endswith(";"):
+            break
+    return "\n".join(lines)
+
+
+@cache
+def functions() -> tuple[Function, ...]:
+    """Every function of the crates' code, tests left out, with the names of its clauses."""
+    found = []
+    for path in sources("src"):
+        if path.suffix != ".rt" or "tests" in path.name:
+            continue
+        text, crate = text_of(path), path.relative_to(TOP).parts[1]
+        owners = [(it.start(), it[1]) for it in OWNER.finditer(text)]
+        for it in FUNCTION.finditer(text):
+            part = contract(text, it.start("name"))
+            clauses = re.findall(r"^\s*(?:ensures|requires)\*? (\w+)? ?\{", part, re.MULTILINE)
+            owner = [name for at, name in owners if at < it.start()] if it["indent"] else []
+            name = f"{owner[-1]}::{it['name']}" if owner else it["name"]
+            said = " ".join(re.sub(r"^[ \t]*/// ?", "", line) for line in it["doc"].splitlines())
+            first = re.split(r"(?<=[.:]) ", said + " ")[0].strip()
+            found.append(Function(crate, name, tuple(filter(None, clauses)), first if it["pub"] else ""))
+    return tuple(found)
+
+
+@cache
+def declared() -> frozenset[str]:
+    """The types, traits and modules of the crates."""
+    words = re.compile(r"^\s*(?:pub(?:\([a-z]+\))? )?(?:struct|enum|trait|mod|type) (\w+)", re.MULTILINE)
+    return frozenset(name for path in sources("src") for name in words.findall(text_of(path)))
+
+
+def clauses_of(name: str) -> set[str] | None:
+    """The clauses of all functions of that name, or None where there is no such function."""
+    parts = name.removesuffix("()").split("::")
+    found: set[str] | None = None
+    for it in functions():
+        own = it.name.split("::")
+        same = own[-1] == parts[-1] and (len(parts) == 1 or parts[-2] in (*own[:-1], it.crate) or len(own) == 1)
+        if same:
+            found = (found or set()) | set(it.clauses)
+    return found
+
+
+def check_clauses(page: Path) -> Iterator[Complaint]:
+    """The rows of a table with the columns call and clause: the call has the clauses."""
+    inside, calls = False, []
+    for number, line in outside_code(page):
+        cells = [it.strip() for it in line.strip().strip("|").split("|")] if line.startswith("|") else []
+        if not cells:
+            inside = False
+        elif cells[:2] == ["call", "clause"]:
+            inside, calls = True, []
+        elif inside and not set(line) <= set("|- "):
+            calls = re.findall(r"`([\w:]+)`", cells[0]) or calls
+            known = [clauses_of(it) for it in calls]
+            for it, has in zip(calls, known):
+                if has is None and ("::" in it or it not in declared()):
+                    yield Complaint(page, number, f"no such function: {it}")
+            for clause in re.findall(r"`([a-z]\w*)`", cells[1]) if len(cells) > 1 else []:
+                if any(has is not None for has in known) and not any(clause in (has or ()) for has in known):
+                    yield Complaint(page, number, f"{' and '.join(calls)} has no clause {clause}")
+
+
+def sentences_of_run() -> Iterator[str]:
+    """The clauses of `run`, and the named fields of the records that its main clause is made of."""
+    for it in functions():
+        if (it.crate, it.name) == ("dt_top", "run"):
+            yield from it.clauses
+    for record in re.split(r"^pub record ", text_of(TOP / "crates/dt_top/specs/Answering.antt"), flags=re.MULTILINE)[1:]:
+        # the first is the sentence `ends`, the other one has all of them
+        if not record.startswith(("IsEnded ", "Answers ")):
+            yield from re.findall(r"^  pub (\w+) :", record, re.MULTILINE)
+
+
+def check_run() -> Iterator[Complaint]:
+    page = TOP / "docs" / "guarantees.md"
+    named = set(re.findall(r"`(\w+)`", text_of(page)))
+    for clause in sentences_of_run():
+        if clause not in named:
+            yield Complaint(page, 1, f"the clause {clause} of `run` isn't named")
+
+
+# --- the table of crates
+
+
+def crates() -> dict[str, list[str]]:
+    """Each crate of crates.txt, with the libraries on its line."""
+    below = {}
+    for line in text_of(TOP / "crates.txt").splitlines():
+        line = line.partition("#")[0]
+        if line.strip():
+            name, _, names = line.partition(":")
+            below[name.split()[0]] = names.split()
+    return below
+
+
+def stands_on(crate: str) -> str:
+    """The crates right below a crate: those on its line that no other of them stands on, and then the
+    toolchain's."""
+    below = crates()
+
+    def all_below(name: str) -> set[str]:
+        return {it for dep in below.get(name, []) for it in (dep, *all_below(dep))}
+
+    own = [it for it in below[crate] if it in below]
+    covered = {it for dep in own for it in all_below(dep)}
+    right = [it for it in own if it not in covered]
+    kit = [it for it in below[crate] if it not in below]
+    return ", ".join([*right, *kit]) or "none"
+
+
+def rows_of_crates() -> Iterator[tuple[int, list[str]]]:
+    inside = False
+    for number, line in outside_code(ARCHITECTURE):
+        if not line.startswith("|"):
+            inside = False
+        elif re.match(r"\| crate \|.*\| stands on \|", line):
+            inside = True
+        elif inside and not set(line) <= set("|- "):
+            yield number, [it.strip() for it in line.strip().strip("|").split("|")]
+
+
+def check_crates() -> Iterator[Complaint]:
+    missing = set(crates())
+    for number, cells in rows_of_crates():
+        for name in cells[0].split(", "):
+            if name not in crates():
+                yield Complaint(ARCHITECTURE, number, f"crates.txt has no crate {name}")
+                continue
+            missing.discard(name)
+            if cells[-1] != stands_on(name):
+                yield Complaint(ARCHITECTURE, number, f"{name} stands on {stands_on(name)} by crates.txt")
+    for name in sorted(missing):
+        yield Complaint(ARCHITECTURE, 1, f"the crate {name} has no row")
+
+
+def write_crates() -> None:
+    lines = text_of(ARCHITECTURE).splitlines(keepends=True)
+    for number, cells in rows_of_crates():
+        name = cells[0].split(", ")[0]
+        if name in crates():
+            lines[number - 1] = f"| {' | '.join([*cells[:-1], stands_on(name)])} |\n"
+    ARCHITECTURE.write_text("".join(lines))
+
+
+# --- the words of lines
+
+
+def written_words() -> set[str]:
+    """The words that the table of written lines spells."""
+    rows = re.findall(r"^line_words .*$", text_of(TOP / "crates/dt_log/specs/LogLines.antt"), re.MULTILINE)
+    return {word for row in rows for word in re.findall(r'codes "(\w+)"', row)} | {"flow", "line"}
+
+
+def read_words() -> set[str]:
+    """The first words of the lines that are read."""
+    return set(re.findall(r'is\(name, "(\w+)"\)', text_of(TOP / "crates/dt_text/src/reading.rt")))
+
+
+def check_formats() -> Iterator[Complaint]:
+    page = TOP / "docs" / "formats.md"
+    spoken = {
+        word for _, line in outside_code(page) for part in re.findall(r"`([^`]+)`", line) for word in part.split()
+    }
+    for what, words in (("written", written_words()), ("read", read_words())):
+        if not words:
+            yield Complaint(page, 1, f"no words of lines that are {what} were found in the sources")
+        for word in sorted(words - spoken):
+            yield Complaint(page, 1, f"a line that is {what} has the word {word}, which isn't named")
+
+
+def complaints() -> Iterator[Complaint]:
+    for page in PAGES:
+        yield from check_links(page)
+        yield from check_names(page)
+        yield from check_clauses(page)
+    yield from check_run()
+    yield from check_crates()
+    yield from check_formats()
+
+
+def print_clauses() -> None:
+    for it in functions():
+        if it.says:
+            print(f"{it.crate} {it.name}: {', '.join(it.clauses) or '(one)'}")
+
+
+def main(words: list[str]) -> int:
+    match words:
+        case []:
+            found = list(complaints())
+            for it in found:
+                print(it)
+            print(f"docs/check.py: {len(PAGES)} pages, {len(found)} complaints")
+            return 1 if found else 0
+        case ["write"]:
+            write_crates()
+            return 0
+        case ["clauses"]:
+            print_clauses()
+            return 0
+        case ["-h" | "--help"]:
+            print(__doc__)
+            return 0
+    print(__doc__, file=sys.stderr)
+    return 2
+
+
+if __name__ == "__main__":
+    sys.exit(main(sys.argv[1:]))

@@ -1,0 +1,74 @@
+#!/usr/bin/env python3
+"""The pages are true to the sources, and docs/check.py sees where one isn't.
+
+Usage: tests/pages.py
+
+Runs docs/check.py, and again on a copy in which one sentence is spoilt, for each kind of sentence
+that it looks at. Prints a line a case; ends with 1 where one isn't as it should be. Takes 30 seconds.
+
+In tests/all: no words, 180 s.
+"""
+
+import shutil
+import subprocess
+import sys
+import tempfile
+from pathlib import Path
+
+TOP = Path(__file__).resolve().parent.parent
+
+# what is spoilt, on which page, from what to what
+SPOILT = [
+    ("a file that isn't there", "docs/architecture.md", "`dt_layout/src/limits.rt`", "`dt_layout/src/limit.rt`"),
+    ("a call that isn't there", "docs/guarantees.md", "| `Relay::new` |", "| `Relay::made` |"),
+    ("a clause that isn't there", "docs/guarantees.md", "| `all_along`, `whole` |", "| `all_long`, `whole` |"),
+    ("a clause of another call", "docs/guarantees.md", "| `all_along`, `whole` |", "| `safe`, `cut_off` |"),
+    ("a clause of run that isn't named", "docs/guarantees.md", "`stood_still`", "`stood`"),
+    ("a crate on another stand", "docs/architecture.md", " dt_host, dt_relay |", " dt_host |"),
+    ("a crate without a row", "docs/architecture.md", "| dt_shelf |", "| shelf |"),
+    ("a written line that isn't named", "docs/formats.md", "settled", "set"),
+    ("a read line that isn't named", "docs/formats.md", "`restart N`", "`again N`"),
+    ("a link that leads to no file", "README.md", "(docs/headline.md)", "(docs/headlin.md)"),
+    ("a link that leads to no heading", "docs/formats.md", "(#the-schedules-of-make)", "(#the-schedule-of-make)"),
+    ("a name that nothing has", "docs/protocol.md", "\n", "\nThe function `" + "_".join(["nobody", "wrote", "this"]) + "` does it.\n"),
+]
+
+
+def check(top: Path) -> subprocess.CompletedProcess[str]:
+    words = [sys.executable, str(top / "docs" / "check.py")]
+    return subprocess.run(words, capture_output=True, text=True, timeout=60)
+
+
+def is_refused(copy: Path, page: str, old: str, new: str) -> str:
+    """What is wrong with the answer to a page that is spoilt, or nothing."""
+    path = copy / page
+    text = path.read_text()
+    if old not in text:
+        return f"{page} has no {old!r}: name another sentence here"
+    path.write_text(text.replace(old, new) if old != "\n" else text.replace(old, new, 1))
+    try:
+        ran = check(copy)
+    finally:
+        path.write_text(text)
+    return "" if ran.returncode == 1 and page in ran.stdout else f"answers {ran.returncode}: {ran.stdout[-200:]}"
+
+
+def main() -> int:
+    failed = 0
+    ran = check(TOP)
+    print(f"pages as they are: {'ok' if ran.returncode == 0 else ran.stdout + ran.stderr}")
+    failed += ran.returncode != 0
+    with tempfile.TemporaryDirectory() as folder:
+        copy = Path(folder) / "copy"
+        skip = shutil.ignore_patterns("out", ".git", "__pycache__", "target")
+        shutil.copytree(TOP, copy, ignore=skip)
+        for what, page, old, new in SPOILT:
+            why = is_refused(copy, page, old, new)
+            print(f"{what}: {why or 'refused'}")
+            failed += bool(why)
+    print(f"{len(SPOILT) + 1 - failed} passed, {failed} failed")
+    return 1 if failed else 0
+
+
+if __name__ == "__main__":
+    sys.exit(main())

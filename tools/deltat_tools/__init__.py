@@ -1,0 +1,1 @@
+"""What the tools of deltat share: the formulas of its parameters, its scripts and its logs."""
