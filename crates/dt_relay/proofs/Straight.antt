@@ -97,7 +97,7 @@ module _ {T : Type 0} (parcel : Parcel T) (now life : ℕ) (same : life_of parce
     put_back = ap (with_outs relay) (ap (slice_set relay.outs k) is ∙ set-get_or relay.outs k out)
 
     waits : (l : ℕ) (new : Relay T) → (push parcel now out).0 ≡ entered.Queued l → new ≡ with_outs relay (slice_set relay.outs k out) → WouldWait parcel now l relay new
-    waits l new h e = record { same = e ∙ put_back; queued = ap (λ (r : Entered × Relay T). r.0) entered_there ∙ h; }
+    waits l new h e = record { same = e ∙ put_back; queued = ap (λ (r : Entered × Relay T). r.0) entered_there ∙ h }
 
     turned_away : (answer : Entered) (new : Relay T) → push parcel now out ≡ (answer, out) → new ≡ with_outs relay (slice_set relay.outs k out) → IsTurnedAway parcel now answer relay new
     turned_away answer new h e = record {
