@@ -101,7 +101,8 @@ impl<P: Carry> Station<P> {
     /// that, and the station is spent: [`Station::is_spent`].
     ///
     /// Its cost is that of a look at every record of the host for each act, and of the packets that
-    /// move.
+    /// move. The event itself has room for a packet and is moved whole: [`Station::local_event`] and
+    /// [`Station::arrive`] do the same and move none.
     pub fn event<V: Visitor<P>>(
         &mut self,
         now: u64,
@@ -218,7 +219,7 @@ impl<P: Carry> Station<P> {
         ensures latest { self.new.latest ≡ now }
     {
         self.latest = now;
-        let done = arrival_on::<P, V, Brand>(
+        let ended = arrival_on::<P, V, Brand>(
             &mut *self.host,
             &mut *self.relay,
             &mut *self.frame,
@@ -229,8 +230,8 @@ impl<P: Carry> Station<P> {
             Blank::new(1),
             visitor,
         );
-        self.spent = done.is_err();
-        done
+        self.spent = ended.is_err();
+        ended
     }
 
     /// The least moment at which an act of the host is due or a packet may leave, or none where there
