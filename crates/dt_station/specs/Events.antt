@@ -48,14 +48,13 @@ MayHappen octets p now station most (given.Read flow) = 0 < most
 MayHappen octets p now station most given.Tick = Unit {0}
 MayHappen octets p now station most (given.Arrive link packet) = IsGram (octets packet)
 
-abbrev pub MayHappenNow : {P : Type 0} → (P → List ℕ) → Params → ℕ → Host → ℕ → StationEvent P → Type 0
-MayHappenNow octets p now host most (given.Send flow sent begin end) = MaySendNow p now host flow (length sent.now)
-MayHappenNow octets p now host most (given.Read flow) = 0 < most
-MayHappenNow octets p now host most given.Tick = Unit {0}
-MayHappenNow octets p now host most (given.Arrive link packet) = IsGram (octets packet)
-
 -- the same of an event that brings no packet
 abbrev pub MayHappenHere : {T : Type 0} → Params → ℕ → Station T → ℕ → LocalEvent → Type 0
 MayHappenHere p now station most (local.Send flow sent begin end) = MaySend p now station flow (length sent.now)
 MayHappenHere p now station most (local.Read flow) = 0 < most
 MayHappenHere p now station most local.Tick = Unit {0}
+
+abbrev pub MayHappenHereNow : Params → ℕ → Host → ℕ → LocalEvent → Type 0
+MayHappenHereNow p now host most (local.Send flow sent begin end) = MaySendNow p now host flow (length sent.now)
+MayHappenHereNow p now host most (local.Read flow) = 0 < most
+MayHappenHereNow p now host most local.Tick = Unit {0}

@@ -11,7 +11,7 @@ ghost use Rattle.dt_station.specs.Events.{MayHappen, MayHappenHere, event_seen, 
 ghost use Rattle.dt_station.specs.Stations.{host_started, is_spent_by, station_started};
 
 use crate::events::{LocalEvent, StationEvent};
-use crate::happening::event_on;
+use crate::happening::{arrival_on, local_event_on};
 use crate::visitor::Visitor;
 use dt_host::Host;
 use dt_items::NoMemory;
@@ -101,7 +101,8 @@ impl<P: Carry> Station<P> {
     /// that, and the station is spent: [`Station::is_spent`].
     ///
     /// Its cost is that of a look at every record of the host for each act, and of the packets that
-    /// move.
+    /// move. The event itself has room for a packet and is moved whole: [`Station::local_event`] and
+    /// [`Station::arrive`] do the same and move none.
     pub fn event<V: Visitor<P>>(
         &mut self,
         now: u64,
@@ -124,19 +125,30 @@ impl<P: Carry> Station<P> {
         // What it keeps is past.
         ensures latest { self.new.latest ≡ now }
     {
-        self.latest = now;
-        let done = event_on::<P, V, Brand>(
-            &mut *self.host,
-            &mut *self.relay,
-            &mut *self.frame,
-            now,
-            event,
-            buf,
-            Blank::new(1),
-            visitor,
-        );
-        self.spent = done.is_err();
-        done
+        match event {
+            StationEvent::Send {
+                flow,
+                octets,
+                begin,
+                end,
+            } => {
+                let sends = LocalEvent::Send {
+                    flow,
+                    octets,
+                    begin,
+                    end,
+                };
+                self.local_event(now, sends, buf, visitor)
+            }
+            StationEvent::Read { flow } => {
+                self.local_event(now, LocalEvent::Read { flow }, buf, visitor)
+            }
+            StationEvent::Tick => self.local_event(now, LocalEvent::Tick, buf, visitor),
+            StationEvent::Arrive { link, packet } => {
+                let mut frame = Frame::make(packet.frame(), ());
+                self.arrive(now, link, &mut frame, packet.into_tag(), visitor)
+            }
+        }
     }
 
     /// The same as [`Station::event`] for an event that brings no packet, so that none is moved. `buf` is
@@ -162,22 +174,19 @@ impl<P: Carry> Station<P> {
         // What it keeps is past.
         ensures latest { self.new.latest ≡ now }
     {
-        let given = match event {
-            LocalEvent::Send {
-                flow,
-                octets,
-                begin,
-                end,
-            } => StationEvent::Send {
-                flow,
-                octets,
-                begin,
-                end,
-            },
-            LocalEvent::Read { flow } => StationEvent::Read { flow },
-            LocalEvent::Tick => StationEvent::Tick,
-        };
-        self.event(now, given, buf, visitor)
+        self.latest = now;
+        let done = local_event_on::<P, V, Brand>(
+            &mut *self.host,
+            &mut *self.relay,
+            &mut *self.frame,
+            now,
+            event,
+            buf,
+            Blank::new(1),
+            visitor,
+        );
+        self.spent = done.is_err();
+        done
     }
 
     /// The same as [`Station::event`] for a packet that comes on a link, of which the frame has the
@@ -209,8 +218,20 @@ impl<P: Carry> Station<P> {
         // What it keeps is past.
         ensures latest { self.new.latest ≡ now }
     {
-        let packet = P::make(frame, tag);
-        self.event(now, StationEvent::Arrive { link, packet }, &mut [], visitor)
+        self.latest = now;
+        let ended = arrival_on::<P, V, Brand>(
+            &mut *self.host,
+            &mut *self.relay,
+            &mut *self.frame,
+            now,
+            link,
+            frame,
+            tag,
+            Blank::new(1),
+            visitor,
+        );
+        self.spent = ended.is_err();
+        ended
     }
 
     /// The least moment at which an act of the host is due or a packet may leave, or none where there
