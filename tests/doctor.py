@@ -8,7 +8,7 @@ import sys
 import tempfile
 from pathlib import Path
 
-from lib import HOST, TOP, free_port, program, tell
+from lib import HOST, TOP, own_port, program, tell
 
 PARAMS = "params 1000 3000 200 500 800 100 4096 4096 512 2147483648"
 ONE = [PARAMS, "me 1 first", "local 127.0.0.1:4001", "peer 1 127.0.0.1:4002 50 0", "route 2 1", "go", "at 0 send 1:1>2:2 be 00", "at 100 stop"]
@@ -188,7 +188,7 @@ def refused(deltat: str, lines: list[str], fault: str) -> tuple[bool, str]:
 
 def served(deltat: str) -> tuple[bool, str]:
     """The scripts of the examples, at free ports, are read by both."""
-    ports = {"4001": str(free_port()), "4002": str(free_port())}
+    ports = {"4001": str(own_port()), "4002": str(own_port())}
     scripts = [(TOP / "examples" / f"node-{n}.script").read_text() for n in (1, 2)]
     status, said = doctor([it.splitlines() for it in scripts])
     text = scripts[0].replace("12000", "100").replace("13000", "200").replace("at 1000", "at 50")

@@ -14,7 +14,7 @@ import sys
 import tempfile
 from pathlib import Path
 
-from lib import HOST, TOP, free_port, program, tell
+from lib import HOST, TOP, own_port, program, tell
 
 TOOL, DOCTOR = (str(TOP / "tools" / name) for name in ("fleet.py", "doctor.py"))
 TWO = """[network]
@@ -163,7 +163,7 @@ def live(deltat: str) -> tuple[bool, str]:
     """The nodes of the example, at ports that are free."""
     text = (TOP / "examples" / "network.toml").read_text()
     for port in ("4001", "4002", "4003"):
-        text = text.replace(f"localhost:{port}", f"{HOST}:{free_port()}")
+        text = text.replace(f"localhost:{port}", f"{HOST}:{own_port()}")
     for old, new in (("stop = 20000", "stop = 4000"), ("at 10000", "at 1500"), ("at 15000", "at 3500"), ("at 1000 ", "at 800 ")):
         text = text.replace(old, new)
     with tempfile.TemporaryDirectory() as name:
