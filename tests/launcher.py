@@ -5,7 +5,7 @@ so all of this takes seconds. `tests/launcher.py [TEST ..]`. Ends with 1 where a
 The pretended `rt` notes when it begins and ends with which crate, makes a library of the sources' sum, refuses one
 over libraries that aren't those of the sources below, and links a program that prints its words.
 
-In tests/all: no words, 120 s."""
+In tests/all: no words, 240 s."""
 import json
 import os
 import pathlib
@@ -123,10 +123,7 @@ class Place:
         return [it[2] for it in self.noted() if it[0] == "begins"]
 
     def change(self, name: str, text: str) -> None:
-        source = next((self.top / "crates" / name / "src").glob("*.rt"))
-        source.write_text(text)
-        later = time.time() + 5
-        os.utime(source, (later, later))
+        next((self.top / "crates" / name / "src").glob("*.rt")).write_text(text)
 
     def rooms(self) -> list[pathlib.Path]:
         """What is left of rooms and of the launcher's temporary folders."""
@@ -181,29 +178,31 @@ def failing_streams(place: Place) -> bool:
 
 
 def order(place: Place) -> bool:
-    """Those with the most work behind them begin first, side by side; then the program is used, and nothing is
-    built again."""
-    ran = place.run("./build", "--jobs", "2")
+    """With one processor that with the most work behind it comes first, and nothing stands beside another."""
+    ran = place.run("./build", "--jobs", "1")
     notes = place.noted()
     begun = [it[2] for it in notes if it[0] == "begins"]
-    at = {(it[0], it[2]): place_of for place_of, it in enumerate(notes)}
-    beside = at["begins", "short"] < at["ends", "long_one"]
-    right = begun in (["low", "long_one", "short", "long_two", "apex", "deltat"],) and beside
+    words = {tuple(it[3:]) for it in notes if it[:2] == ["begins", "lib"]}
+    return ran.returncode == 0 and [it[0] for it in notes] == ["begins", "ends"] * 6 and words == {("--jobs", "1")} \
+        and begun == ["low", "long_one", "long_two", "short", "apex", "deltat"] and "6 of 6: deltat" in ran.stdout
+
+
+def side_by_side(place: Place) -> bool:
+    """With two processors two crates are at work; then the program is used, and nothing is built again."""
+    ran = place.run("./build", "--jobs", "2", PRETENDED_SECONDS="0.5")
+    notes = place.noted()
+    at = {(it[0], it[2]): number for number, it in enumerate(notes)}
+    beside = at["begins", "short"] < at["ends", "long_one"] and at["begins", "long_one"] < at["ends", "short"]
+    below_first = all(at["ends", below] < at["begins", name] for name, below in (("short", "low"), ("long_two", "long_one"), ("apex", "short"), ("deltat", "apex")))
     used = place.run("./deltat", "replay", "--", "x")
     again = place.run("./build")
-    return right and ran.returncode == 0 and "6 of 6: deltat" in ran.stdout and (used.returncode, used.stdout, used.stderr) == (4, "program replay -- x\n", "") \
+    return ran.returncode == 0 and beside and below_first and (used.returncode, used.stdout, used.stderr) == (4, "program replay -- x\n", "") \
         and again.returncode == 0 and not place.built() and not place.rooms()
 
 
-def one_processor(place: Place) -> bool:
-    """With one processor nothing stands beside another."""
-    ran = place.run("./build", "--jobs", "1")
-    kinds = [it[0] for it in place.noted()]
-    return ran.returncode == 0 and kinds == ["begins", "ends"] * 6
-
-
 def changed(place: Place) -> bool:
-    """Only what a change reaches is built again; what is touched alone isn't, and neither is what nothing needs."""
+    """Only what a change reaches is built again, and a library that somebody made anew since; what is touched
+    alone isn't, and neither is what nothing needs."""
     place.run("./build")
     place.noted()
     place.change("short", "// short, changed\n")
@@ -212,9 +211,15 @@ def changed(place: Place) -> bool:
     first = place.run("./build").returncode == 0 and place.built() == ["short", "apex", "deltat"]
     place.change("long_one", "// long_one\n")
     os.utime(place.top / "crates" / "long_one" / "src" / "lib.rt")
-    second = place.run("./build").returncode == 0 and not place.built()
+    touched = place.run("./deltat", "replay")
+    place.noted()
+    second = place.run("./build").returncode == 0 and not place.built() and place.run("./deltat", "replay").stdout == "program replay\n"
+    library = place.top / "crates" / "low" / "out" / "rlib"
+    (library / "made").write_text("of other sources")
+    (library / "more").touch()
+    remade = place.run("./build").returncode == 0 and place.built() == ["low"]
     other_kit = place.run("./build", PRETENDED_VERSION="another kit").returncode == 0 and len(place.built()) == 6
-    return first and second and other_kit and "unproved" in tried.stderr
+    return first and second and remade and other_kit and "unproved" in tried.stderr and "unproved" in touched.stderr
 
 
 def failure(place: Place) -> bool:
@@ -229,15 +234,31 @@ def failure(place: Place) -> bool:
     return failed and mended.returncode == 0 and place.built()[0] == "long_two" and "low" not in place.built() and not place.rooms()
 
 
+def wait_for(holds) -> None:
+    until = time.monotonic() + 20
+    while not holds() and time.monotonic() < until:
+        time.sleep(0.1)
+
+
+def killed(place: Place) -> bool:
+    """After a build that was killed the next one proves what is missing, and removes its rooms."""
+    build = subprocess.Popen(["./build"], cwd=place.top, env={**place.env, "PRETENDED_SECONDS": "1"}, stdout=subprocess.DEVNULL, stderr=subprocess.DEVNULL)
+    wait_for(place.log.exists)
+    build.kill()
+    build.wait()
+    left = len(place.rooms())
+    wait_for(lambda: not subprocess.run(["pgrep", "-f", str(place.top.parent)], capture_output=True, check=False).stdout)
+    place.noted()
+    return left == 1 and place.run("./build").returncode == 0 and len(place.built()) == 6 and not place.rooms()
+
+
 def interrupt(place: Place) -> bool:
     """An interrupted build ends at once and leaves no process; the next one goes on."""
     place.run("./build", "--only", "long_one")
     for number in (signal.SIGINT, signal.SIGTERM):
         build = subprocess.Popen(["./build"], cwd=place.top, env={**place.env, "PRETENDED_SECONDS": "60"}, stdout=subprocess.DEVNULL, stderr=subprocess.DEVNULL)
         place.noted()
-        until = time.monotonic() + 20
-        while not place.log.exists() and time.monotonic() < until:
-            time.sleep(0.1)
+        wait_for(place.log.exists)
         build.send_signal(number)
         begun = time.monotonic()
         status = build.wait(timeout=20)
@@ -275,7 +296,7 @@ def two_builds(place: Place) -> bool:
     return [it.returncode for it in builds] == [0, 0] and len(place.built()) == 6 and any(b"waiting" in it for it in said)
 
 
-TESTS = (faulty_words, unproved_run, no_answer, failing_streams, order, one_processor, changed, failure, interrupt, live_output, only, two_builds)
+TESTS = (faulty_words, unproved_run, no_answer, failing_streams, order, side_by_side, changed, failure, interrupt, killed, live_output, only, two_builds)
 
 
 def holds(test) -> bool:

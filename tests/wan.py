@@ -14,6 +14,8 @@ status is 124. Else it is the greater of the two commands' statuses. The last li
 counts what went, was dropped, repeated and late.
 
 `impaired_link(..)` does the same for a test in Python.
+
+In tests/all: not a test.
 """
 
 import argparse
