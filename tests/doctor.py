@@ -35,6 +35,7 @@ def changed(number: int, value: int) -> str:
 DEFECTS: dict[str, tuple[list[list[str]], list[str], int]] = {
     "a good pair": ([ONE, TWO], [], 0),
     "a good relay": ([FAR_ONE, FAR_TWO, MIDDLE], [], 0),
+    "any address of a machine": ([with_line(ONE, 3, "local 0.0.0.0:4001"), TWO], [], 0),
     "another mpl": (
         [ONE, with_line(TWO, 1, changed(1, 1100))],
         ["2:1: danger: mpl is 1100 here and 1000 at 1:1; give all nodes the same mpl, r and a, and restart each as `again`"],
