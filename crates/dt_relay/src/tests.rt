@@ -240,6 +240,10 @@ impl Carry for Marked {
     fn frame(&self) -> &Frame {
         &self.frame
     }
+
+    fn into_tag(self) -> u64 {
+        self.mark
+    }
 }
 
 #[test]

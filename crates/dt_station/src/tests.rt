@@ -59,6 +59,24 @@ impl Audience<'_> {
             self.place += 1;
         }
     }
+
+    fn hand(&mut self, link: u16, life: u32) -> Result<(), NoMemory> {
+        if self.memory == 0 {
+            return Err(NoMemory);
+        }
+        self.memory -= 1;
+        let fits = match self.wanted.get(self.place) {
+            Some(
+                Seen::Handed {
+                    link: wanted_link,
+                    life: wanted_life,
+                },
+            ) => *wanted_link == link && *wanted_life == life,
+            _ => false,
+        };
+        self.see(fits);
+        Ok(())
+    }
 }
 
 impl Visitor<Frame> for Audience<'_> {
@@ -87,22 +105,11 @@ impl Visitor<Frame> for Audience<'_> {
     }
 
     fn out(&mut self, link: u16, packet: Frame) -> Result<(), NoMemory> {
-        if self.memory == 0 {
-            return Err(NoMemory);
-        }
-        self.memory -= 1;
-        let life = packet.life();
-        let fits = match self.wanted.get(self.place) {
-            Some(
-                Seen::Handed {
-                    link: wanted_link,
-                    life: wanted_life,
-                },
-            ) => *wanted_link == link && *wanted_life == life,
-            _ => false,
-        };
-        self.see(fits);
-        Ok(())
+        self.hand(link, packet.life())
+    }
+
+    fn out_at_once(&mut self, link: u16, frame: &Frame, _tag: ()) -> Result<(), NoMemory> {
+        self.hand(link, frame.life())
     }
 }
 
