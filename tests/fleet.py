@@ -41,15 +41,15 @@ delay = 250
 pace = 3
 queue = 4
 """
-# a packet may wait 2 + 3 * 4 ms, and one more: mpl is 274 + 15 + 5
-NUMBERS = "params 294 450 5 90 180 1442 65536 65536 65536 2147483648"
+# a packet may wait 2 + 3 * 4 ms, and one more: mpl is 294 + 15 + 5
+NUMBERS = "params 314 450 5 90 180 1442 65536 65536 65536 2147483648"
 FILES = {
     "a.script": f"""# Node 1, a: made by tools/fleet.py
 {NUMBERS}
 me 1 first
 local 127.0.0.1:4001
 # b
-peer 0 127.0.0.1:4002 274 3
+peer 0 127.0.0.1:4002 294 3
 route 2 0
 go
 at 10 send 1:10>2:20 be 68
@@ -60,7 +60,7 @@ at 100 stop
 me 2 again
 local 127.0.0.1:4002
 # a
-peer 0 127.0.0.1:4001 274 3
+peer 0 127.0.0.1:4001 294 3
 route 1 0
 go
 # what came
@@ -71,8 +71,8 @@ at 100 stop
 {NUMBERS}
 station 1 0
 station 2 0
-link 0 2 1 274 3
-link 1 1 2 274 3
+link 0 2 1 294 3
+link 1 1 2 294 3
 route 1 2 1
 route 2 1 0
 go
