@@ -62,9 +62,9 @@ module _ {T : Type 0} where
   straight_goes parcel left now link old new s =
       let entered = (enter parcel now old).1 in
       let first : flush_at link now entered.outs ≡ Tell (report.Put link (life_of left.octets)) (Hand link left (flush_at link now new.outs)) =
-          flush_goes link now entered.outs new.outs (sym (ap (λ (r : Option (Left T) × List (Out T)). r.1) s.leaves)) left (sym (ap (λ (r : Option (Left T) × List (Out T)). r.0) s.leaves)) in
+      flush_goes link now entered.outs new.outs (sym (ap (λ (r : Option (Left T) × List (Out T)). r.1) s.leaves)) left (sym (ap (λ (r : Option (Left T) × List (Out T)). r.0) s.leaves)) in
       let rest : flush_at link now new.outs ≡ Done new.outs =
-          flush_none link now new.outs new.outs (sym (ap (λ (r : Option (Left T) × List (Out T)). r.1) s.ends)) (sym (ap (λ (r : Option (Left T) × List (Out T)). r.0) s.ends)) in
+      flush_none link now new.outs new.outs (sym (ap (λ (r : Option (Left T) × List (Out T)). r.1) s.ends)) (sym (ap (λ (r : Option (Left T) × List (Out T)). r.0) s.ends)) in
       pass_queued parcel now old entered refl link (sym s.enters)
       ∙ ap (λ (f : Script T (List (Out T))). f >>= λ outs. Done (with_outs entered outs)) (first ∙ ap (λ (f : Script T (List (Out T))). Tell (report.Put link (life_of left.octets)) (Hand link left f)) rest)
       ∙ ap (λ (r : Relay T). Tell (report.Put link (life_of left.octets)) (Hand link left (Done r))) (rejoins parcel now old new s.others)
@@ -74,9 +74,9 @@ module _ {T : Type 0} where
   straight_expires parcel now link old new s =
       let entered = (enter parcel now old).1 in
       let first : flush_at link now entered.outs ≡ Tell (report.ExpiredOut link) (flush_at link now new.outs) =
-          flush_expired link now entered.outs new.outs (sym (ap (λ (r : Option (Left T) × List (Out T)). r.1) s.leaves)) (sym (ap (λ (r : Option (Left T) × List (Out T)). r.0) s.leaves)) in
+      flush_expired link now entered.outs new.outs (sym (ap (λ (r : Option (Left T) × List (Out T)). r.1) s.leaves)) (sym (ap (λ (r : Option (Left T) × List (Out T)). r.0) s.leaves)) in
       let rest : flush_at link now new.outs ≡ Done new.outs =
-          flush_none link now new.outs new.outs (sym (ap (λ (r : Option (Left T) × List (Out T)). r.1) s.ends)) (sym (ap (λ (r : Option (Left T) × List (Out T)). r.0) s.ends)) in
+      flush_none link now new.outs new.outs (sym (ap (λ (r : Option (Left T) × List (Out T)). r.1) s.ends)) (sym (ap (λ (r : Option (Left T) × List (Out T)). r.0) s.ends)) in
       pass_queued parcel now old entered refl link (sym s.enters)
       ∙ ap (λ (f : Script T (List (Out T))). f >>= λ outs. Done (with_outs entered outs)) (first ∙ ap (λ (f : Script T (List (Out T))). Tell (report.ExpiredOut link) f) rest)
       ∙ ap (λ (r : Relay T). Tell (report.ExpiredOut link) (Done r)) (rejoins parcel now old new s.others)
