@@ -1,4 +1,4 @@
-use Rattle.std.proofs.Common.{◌≡◌, Option, refl, subst, ℕ}
+use Rattle.std.proofs.Common.{Option, refl, subst, ℕ}
 use Rattle.dt_flow_model.specs.SendActs.{IsBefore}
 use Rattle.dt_node.specs.Logging.{log_fails, log_hands, log_sight, log_tags, log_tells}
 use Rattle.dt_node.proofs.Turning.{no_tick}
