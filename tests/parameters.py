@@ -110,6 +110,11 @@ def main() -> int:
     program, table = os.path.abspath(given.program), rows(PAGE.read_text())
     cases = [(f"the row {row[0]}", row[2:] == cells(row[1].strip("`")), "") for _, row in table]
     cases.append(("rows", len(table) >= 5, f"{len(table)}"))
+    rack, satellite = (cells(next(row[1].strip("`") for _, row in table if row[0].startswith(name))) for name in ("a rack", "a geo"))
+    says = f"that is {rack[2].removesuffix(' ms')} and {rack[3].removesuffix(' ms')} milliseconds"
+    says_too = f"over a satellite {satellite[2].removesuffix(' s')} and {satellite[3].removesuffix(' s')} seconds"
+    answers = (TOP / "docs" / "faq.md").read_text()
+    cases.append(("the numbers of docs/faq.md", says in answers and says_too in answers, f"{says}; {says_too}"))
     bare, shelved = (told(next(row[1].strip("`") for _, row in table if row[0].startswith(name))) for name in ("the Internet", "the same"))
     charge = shelved[1].split()[1].rstrip(":")
     for name in ("node-1.script", "node-2.script"):

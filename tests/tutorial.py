@@ -38,7 +38,7 @@ PAGES = ["README.md", "docs/tutorial.md", "docs/parameters.md", "docs/operating.
 # what a page tells people to run and this doesn't: the whole build and its tests, and what changes the machine
 NOT_RUN = ("./build", "rt ci", "tests/all", "bench/all", "sudo ", "release/build.sh")
 # reports that come more often, or not at all, where a machine is busy
-BUSY = {"put", "resent", "replied", "ignored", "quiet"}
+BUSY = {"put", "resent", "replied", "ignored", "quiet", "unsent"}
 SECONDS = 120
 # README is for a first look
 MOST_WORDS = {"README.md": 1_200}

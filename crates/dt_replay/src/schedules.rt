@@ -4,11 +4,12 @@ use dt_edges::{Failed, Sink};
 use dt_fold::Stop;
 use dt_items::NoMemory;
 use dt_reports::Fault;
-use dt_scenario::{MISPLACED, Simulation};
+use dt_scenario::{MISPLACED, Scenario, Simulation};
 use dt_text::{Form, Line, decode_hex};
 use dt_units::NodeId;
 use dt_world::{Event, Setup, World};
 use std::alloc::Global;
+use std::mem::size_of;
 
 /// The world of a schedule, in which its lines make things happen.
 #[derive(Drop)]
@@ -17,6 +18,9 @@ pub struct ScheduledWorld {
     /// Room for the octets of a send.
     octets: Vec<u8>,
 }
+
+// It is moved when it begins.
+const _: () = prove!(size_of::<Scenario<ScheduledWorld>>() <= 512);
 
 impl Simulation for ScheduledWorld {
     ghost use Rattle.dt_world_model.specs.World.{World};

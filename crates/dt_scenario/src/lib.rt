@@ -11,6 +11,3 @@ pub use logs::{Log, stepped};
 pub use parts::MISPLACED;
 pub use scenarios::Scenario;
 pub use simulations::Simulation;
-
-#[cfg(test)]
-mod tests;

@@ -1,6 +1,6 @@
 use Rattle.dt_node.specs.Logging.{log_sight}
 use Rattle.dt_node.proofs.Logged.{ends_fixed, ends_stops}
-use Rattle.dt_node.proofs.arriving.answer.Goals as goal
+use Rattle.dt_node.proofs.arriving.answer_to.Goals as goal
 
 pub returns-then-log-clause-ends : goal.returns-then-log-clause-ends
 returns-then-log-clause-ends g c = ends_stops (log_sight g.W.Wire.sight g.K.Sink.sight) c.hear-heard.result _ _ _ _ c.hear-heard.ensures.ends
