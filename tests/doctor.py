@@ -92,6 +92,12 @@ DEFECTS: dict[str, tuple[list[list[str]], list[str], int]] = {
         0,
     ),
     "a life that isn't": ([FAR_ONE, with_line(FAR_TWO, 4, "peer 1 127.0.0.1:4003 947 0"), MIDDLE], [], 0),
+    "a shelf that life doesn't pay for": (
+        [ONE, with_line(TWO, 4, "peer 1 127.0.0.1:4001 498 0\nshelf 1")],
+        ["1:5: warning: packets for node 2 have 501 ms of life left for its shelf, and a lost one before them goes again after 500; give all nodes an mpl that is greater by two rto"],
+        0,
+    ),
+    "a shelf that it pays for": ([ONE, with_line(TWO, 4, "peer 1 127.0.0.1:4001 497 0\nshelf 1")], [], 0),
     "a small charge": (
         [with_line(ONE, 4, "peer 1 127.0.0.1:4002 44 0"), TWO],
         ["1:4: danger: link 1 charges 44 ms, and 45 may pass: 20 ms in the sending machine, 20 in the socket, 3 of whole milliseconds, 2 of drift; let it charge the link's longest delay and 45 ms"],

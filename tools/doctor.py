@@ -184,6 +184,15 @@ def lives(start: Script, to: int, path: Path) -> Iterator[Finding]:
         yield Finding(start.path, start.route(to).line, "warning", text, "give all nodes a greater mpl")
 
 
+def shelved(start: Script, other: Script, path: Path) -> Iterator[Finding]:
+    """A packet lives long enough for a shelf at its end: until the lost one before it went again, and for the
+    millisecond more that this costs."""
+    left = start.params.mpl - path.life()
+    if other.shelf and 0 < left < start.params.rto + 2:
+        text = f"packets for node {other.me} have {left} ms of life left for its shelf, and a lost one before them goes again after {start.params.rto}"
+        yield Finding(start.path, start.route(other.me).line, "warning", text, "give all nodes an mpl that is greater by two rto")
+
+
 def windows(start: Script, other: Script) -> Iterator[Finding]:
     """A new flow sends no more than there is room for at the other node."""
     if start.params.window > other.params.rcap:
@@ -237,6 +246,7 @@ def paths(scripts: list[Script], world: World) -> Iterator[Finding]:
             if path is None:
                 continue
             yield from lives(start, route.to, path)
+            yield from shelved(start, other, path)
             yield from windows(start, other)
             if back is not None:
                 yield carries(start, other, path, back, world)
