@@ -1,13 +1,15 @@
 #!/usr/bin/env python3
 """The Debian package: release/build.sh makes it of the program that is given, and what is in it works.
 
-Usage: tests/package.py [PROGRAM]
+Usage: tests/package.py [PROGRAM] [DEBIAN]
 
 It is built twice and has to be the same octets; of a gate's log that failed, of faulty words and of no program there
 is none. Its control data, files and man pages are looked at (man and mandoc, where they are, without a warning),
 lintian finds no error, and the completions complete. Extracted into a folder, the pages' folder is copied and README's
 first example is run there, without the toolchain; and as root in a folder that has the package and the C library
-alone. Wants dpkg-deb, and is skipped where it isn't there.
+alone. With DEBIAN, a folder that debootstrap made (`debootstrap --variant=minbase bookworm DEBIAN`), root installs it
+there, runs the same example and a pair of nodes by their stamps, and removes it. Wants dpkg-deb, and is skipped where
+it isn't there.
 
 In tests/all: PROGRAM, 120 s."""
 import gzip
@@ -152,6 +154,35 @@ def used(root: Path, room: Path) -> list[Case]:
     return [*cases, ("with the C library alone", (ran.returncode, ran.stdout) == (0, log), ran.stderr)]
 
 
+# in a Debian that has nothing else: README's first example, two nodes started by stamps, and which stamps there are
+INSTALLED = """set -e
+dpkg -i /package.deb >/dev/null
+! command -v rt gcc python3 >/dev/null
+cp -rL /usr/share/doc/deltat /root/pages
+cd /root/pages
+%s
+mkdir stamps
+timeout 30 tools/run-node stamps examples/node-2.script >two &
+tools/run-node stamps examples/node-1.script >one
+grep -q 'read 2:20>1:10 rbe 776f726c64' one
+wait
+ls stamps
+cd /
+rm -r /root/pages
+dpkg -r deltat >/dev/null
+test ! -e /usr/bin/deltat
+"""
+
+
+def installed(package: str, debian: Path) -> Case:
+    """The package in a Debian of its own."""
+    command, _, log = example()
+    shutil.copy2(package, debian / "package.deb")
+    ran = run("chroot", str(debian), "sh", "-c", INSTALLED % command)
+    right = ran.stdout == log + "node-1.script\nnode-1.stamp\nnode-2.script\nnode-2.stamp\n"
+    return "installed in a Debian of its own", right and ran.returncode == 0, ran.stderr[-300:]
+
+
 def main() -> int:
     if not shutil.which("dpkg-deb"):
         skip("there is no dpkg-deb")
@@ -167,6 +198,8 @@ def main() -> int:
             cases.append(("lintian finds no error", not re.search("^E:", said, re.MULTILINE), said.strip()))
         else:
             cases.append(("lintian", True, "not tried: it isn't installed"))
+        if len(sys.argv) > 2:
+            cases.append(installed(package, Path(sys.argv[2])))
         return tell([*cases, *used(root, room)])
 
 
