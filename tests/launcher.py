@@ -166,6 +166,27 @@ def no_answer(place: Place) -> bool:
     return all(it.returncode == 70 and it.stdout == "" and word in it.stderr for it, word in answers) and not place.rooms()
 
 
+def installed(place: Place) -> bool:
+    """Without rt an installed program is run, with the words as they are; but not this launcher, by whatever name."""
+    tools = place.top.parent / "tools"
+    tools.mkdir()
+    for name in ("bash", "dirname", "env", "find"):
+        (tools / name).symlink_to(shutil.which(name))
+    other, answers = tools / "deltat", []
+    for text in ('#!/usr/bin/env bash\necho "installed $*"\nexit 5\n', f'#!/usr/bin/env bash\nexec {place.top}/deltat "$@"\n'):
+        other.write_text(text)
+        other.chmod(0o755)
+        answers.append(place.run("./deltat", "--", "replay", PATH=str(tools)))
+    other.unlink()
+    other.symlink_to(place.top / "deltat")
+    answers.append(place.run("./deltat", "replay", PATH=str(tools)))
+    shutil.rmtree(tools)
+    first, *others = answers
+    says = first.stderr.startswith("deltat: ") and str(other) in first.stderr and "installed" in first.stderr
+    return says and (first.returncode, first.stdout) == (5, "installed -- replay\n") and all((it.returncode, it.stdout) == (70, "") for it in others) \
+        and not place.noted() and not place.rooms()
+
+
 def failing_streams(place: Place) -> bool:
     """No input is 7, and no room for the output 8, as of the program."""
     lines = [("replay < /", 7, "read failed\n"), ("replay <&-", 7, "read failed\n"), ("replay < crates.txt > /dev/full", 8, "write failed\n")]
@@ -307,7 +328,7 @@ def two_builds(place: Place) -> bool:
     return [it.returncode for it in builds] == [0, 0] and len(place.built()) == 6 and any(b"waiting" in it for it in said)
 
 
-TESTS = (faulty_words, unproved_run, no_answer, failing_streams, order, side_by_side, changed, failure, interrupt, killed, seconds, live_output, only, two_builds)
+TESTS = (faulty_words, unproved_run, no_answer, installed, failing_streams, order, side_by_side, changed, failure, interrupt, killed, seconds, live_output, only, two_builds)
 
 
 def holds(test) -> bool:
