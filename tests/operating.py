@@ -113,6 +113,22 @@ def unit() -> list[tuple[str, bool, str]]:
     """The unit, by systemd's own check where there is one, with programs that are there."""
     text = UNIT.read_text()
     cases = [("the unit starts by run-node", "/usr/lib/deltat/run-node %S/deltat/%i" in text and "Restart=on-failure" in text, "")]
+    line = re.findall(r"^ExecStart=/bin/sh -c '(.*)'$", text, re.MULTILINE)[0]
+    with tempfile.TemporaryDirectory() as folder:
+        for name in ("S/deltat/a", "L/deltat/a", "etc"):
+            (Path(folder) / name).mkdir(parents=True)
+        (Path(folder) / "etc/a.script").write_text(script(2, "first", ("at 0 send 2:1>99:1 be 00", "at 10 stop")))
+        # as systemd spells it, with this copy's programs
+        spelled = {"$$": "$", "%%": "%", "%S": f"{folder}/S", "%L": f"{folder}/L", "%i": "a"}
+        line = re.sub(r"\$\$|%.", lambda it: spelled[it[0]], line.replace("/etc/deltat", f"{folder}/etc"))
+        line = line.replace("/usr/lib/deltat/run-node", RUN_NODE).replace("/usr/bin/deltat", program())
+        statuses = []
+        for _ in range(2):
+            statuses.append(subprocess.run(["sh", "-c", line], capture_output=True, text=True, check=False, timeout=30).returncode)
+            time.sleep(1.1)
+        logs = [it.read_text() for it in sorted((Path(folder) / "L/deltat/a").glob("*.log"))]
+        right = len(logs) == 2 and "took 2:1>99:1" in logs[0] and "quiet" not in logs[0] and "refused 2:1>99:1 quiet" in logs[1]
+        cases.append(("its command starts twice, with a log each", right and statuses == [0, 0], f"{statuses}"))
     if not shutil.which("systemd-analyze"):
         return [*cases, ("the unit by systemd-analyze", True, "not tried: it isn't installed")]
     with tempfile.TemporaryDirectory() as folder:
