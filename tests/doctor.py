@@ -8,7 +8,7 @@ import sys
 import tempfile
 from pathlib import Path
 
-from lib import HOST, TOP, free_port, program, tell
+from lib import HOST, TOP, own_port, program, tell
 
 PARAMS = "params 1000 3000 200 500 800 100 4096 4096 512 2147483648"
 ONE = [PARAMS, "me 1 first", "local 127.0.0.1:4001", "peer 1 127.0.0.1:4002 50 0", "route 2 1", "go", "at 0 send 1:1>2:2 be 00", "at 100 stop"]
@@ -35,6 +35,7 @@ def changed(number: int, value: int) -> str:
 DEFECTS: dict[str, tuple[list[list[str]], list[str], int]] = {
     "a good pair": ([ONE, TWO], [], 0),
     "a good relay": ([FAR_ONE, FAR_TWO, MIDDLE], [], 0),
+    "any address of a machine": ([with_line(ONE, 3, "local 0.0.0.0:4001"), TWO], [], 0),
     "another mpl": (
         [ONE, with_line(TWO, 1, changed(1, 1100))],
         ["2:1: danger: mpl is 1100 here and 1000 at 1:1; give all nodes the same mpl, r and a, and restart each as `again`"],
@@ -92,11 +93,11 @@ DEFECTS: dict[str, tuple[list[list[str]], list[str], int]] = {
     ),
     "a life that isn't": ([FAR_ONE, with_line(FAR_TWO, 4, "peer 1 127.0.0.1:4003 947 0"), MIDDLE], [], 0),
     "a small charge": (
-        [with_line(ONE, 4, "peer 1 127.0.0.1:4002 24 0"), TWO],
-        ["1:4: danger: link 1 charges 24 ms, and 25 may pass: 20 ms in the socket, 3 of whole milliseconds, 2 of drift; let it charge the link's longest delay and 25 ms"],
+        [with_line(ONE, 4, "peer 1 127.0.0.1:4002 44 0"), TWO],
+        ["1:4: danger: link 1 charges 44 ms, and 45 may pass: 20 ms in the sending machine, 20 in the socket, 3 of whole milliseconds, 2 of drift; let it charge the link's longest delay and 45 ms"],
         1,
     ),
-    "a charge that will do": ([with_line(ONE, 4, "peer 1 127.0.0.1:4002 25 0"), TWO], [], 0),
+    "a charge that will do": ([with_line(ONE, 4, "peer 1 127.0.0.1:4002 45 0"), TWO], [], 0),
     "a long segment": (
         [with_line(ONE, 1, changed(6, 1443)), TWO],
         ["1:1: warning: a segment of 1443 octets makes packets of 1501, and the MTU is 1500, so they go in fragments, which may be put together wrongly; let seg be at most 1442"],
@@ -188,7 +189,7 @@ def refused(deltat: str, lines: list[str], fault: str) -> tuple[bool, str]:
 
 def served(deltat: str) -> tuple[bool, str]:
     """The scripts of the examples, at free ports, are read by both."""
-    ports = {"4001": str(free_port()), "4002": str(free_port())}
+    ports = {"4001": str(own_port()), "4002": str(own_port())}
     scripts = [(TOP / "examples" / f"node-{n}.script").read_text() for n in (1, 2)]
     status, said = doctor([it.splitlines() for it in scripts])
     text = scripts[0].replace("12000", "100").replace("13000", "200").replace("at 1000", "at 50")
@@ -209,13 +210,13 @@ def params(deltat: str) -> list[tuple[str, bool, str]]:
         found.append((f"params {' '.join(words)}", ran.returncode == 0 and taken.returncode == 0, line))
     ran = subprocess.run([*tool, "250", "50"], capture_output=True, text=True, check=False)
     right = [
-        "params 282 450 5 90 180 1442 65536 65536 65536 2147483648",
-        "charge 274: 250 ms of the link, 20 of the socket, 3 of whole milliseconds, 1 of drift",
-        "uncertain 1019 ms after the first transmission, at the latest",
-        "silent for 1301 ms after a restart",
+        "params 302 450 5 90 180 1442 65536 65536 65536 2147483648",
+        "charge 294: 250 ms of the link, 20 ms in the sending machine, 20 in the socket, 3 of whole milliseconds, 1 of drift",
+        "uncertain 1059 ms after the first transmission, at the latest",
+        "silent for 1361 ms after a restart",
         "a flow carries at most 1.31 MB/s by its room each round trip",
         "a flow carries at most 1.85 MB/s by 64 segments each round trip",
-        "a flow carries at most 307 MB/s by 536870912 octets each spacing of 1751 ms",
+        "a flow carries at most 296 MB/s by 536870912 octets each spacing of 1811 ms",
         "a flow takes about 263586 octets of memory at its sender, 262144 at its receiver",
     ]
     found.append(("params follow", ran.stdout.splitlines() == right, ""))
@@ -244,8 +245,8 @@ def main() -> int:
         status, said = doctor([with_line(ONE, 1, line), with_line(TWO, 1, line)], *options)
         text = f"1:5: note: a flow to node 2 carries at most {right}"
         cases.append((f"ceiling {right.split(',', maxsplit=1)[0]}", status == 0 and text in said, "" if text in said else "\n".join(said)))
-    status, said = doctor([ONE, TWO], "--delay", "26")
-    more = "26 of the link; let it charge the link's longest delay and 25 ms"
+    status, said = doctor([ONE, TWO], "--delay", "6")
+    more = "6 of the link; let it charge the link's longest delay and 45 ms"
     cases.append(("a delay that is known", status == 1 and len([it for it in said if it.endswith(more)]) == 2, ""))
     cases += [(f"refused {fault}", *refused(deltat, lines, fault)) for lines, fault in REFUSED]
     status, said = doctor([ONE], "missing.script")

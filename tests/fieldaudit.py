@@ -23,7 +23,7 @@ import tempfile
 from concurrent.futures import ThreadPoolExecutor
 from pathlib import Path
 
-from lib import HOST, TOP, Between, free_port, node_script, params, program, start, tell, wait_for
+from lib import HOST, TOP, Between, node_script, own_port, params, program, start, tell, wait_for
 
 TOOL = TOP / "tools" / "fieldaudit.py"
 ROWS = TOP / "crates" / "deltat_rows"
@@ -254,7 +254,7 @@ def twins(deltat: str) -> tuple[bool, str]:
     """Two nodes of number 1, each with a link of its own to node 2, which answers on the first."""
     with tempfile.TemporaryDirectory() as folder:
         paths = [Path(folder) / name for name in ("1.log", "1-twin.log", "2.log")]
-        ports = [free_port(), free_port(), free_port()]
+        ports = [own_port(), own_port(), own_port()]
         lines = [QUICK, "me 2 first", f"local {HOST}:{ports[2]}", f"peer 1 {HOST}:{ports[0]} 50 0", f"peer 2 {HOST}:{ports[1]} 50 0", "route 1 2", "go"]
         receiver = start(deltat, "\n".join([*lines, "at 1900 read 1:10>2:20 100", "at 2000 stop"]) + "\n", out=paths[2].open("wb"))
         nodes = []

@@ -14,7 +14,7 @@ import sys
 import tempfile
 from pathlib import Path
 
-from lib import HOST, TOP, free_port, program, tell
+from lib import HOST, TOP, own_port, program, tell
 
 TOOL, DOCTOR = (str(TOP / "tools" / name) for name in ("fleet.py", "doctor.py"))
 TWO = """[network]
@@ -41,15 +41,15 @@ delay = 250
 pace = 3
 queue = 4
 """
-# a packet may wait 2 + 3 * 4 ms, and one more: mpl is 274 + 15 + 5
-NUMBERS = "params 294 450 5 90 180 1442 65536 65536 65536 2147483648"
+# a packet may wait 2 + 3 * 4 ms, and one more: mpl is 294 + 15 + 5
+NUMBERS = "params 314 450 5 90 180 1442 65536 65536 65536 2147483648"
 FILES = {
     "a.script": f"""# Node 1, a: made by tools/fleet.py
 {NUMBERS}
 me 1 first
 local 127.0.0.1:4001
 # b
-peer 0 127.0.0.1:4002 274 3
+peer 0 127.0.0.1:4002 294 3
 route 2 0
 go
 at 10 send 1:10>2:20 be 68
@@ -60,7 +60,7 @@ at 100 stop
 me 2 again
 local 127.0.0.1:4002
 # a
-peer 0 127.0.0.1:4001 274 3
+peer 0 127.0.0.1:4001 294 3
 route 1 0
 go
 # what came
@@ -71,8 +71,8 @@ at 100 stop
 {NUMBERS}
 station 1 0
 station 2 0
-link 0 2 1 274 3
-link 1 1 2 274 3
+link 0 2 1 294 3
+link 1 1 2 294 3
 route 1 2 1
 route 2 1 0
 go
@@ -163,7 +163,7 @@ def live(deltat: str) -> tuple[bool, str]:
     """The nodes of the example, at ports that are free."""
     text = (TOP / "examples" / "network.toml").read_text()
     for port in ("4001", "4002", "4003"):
-        text = text.replace(f"localhost:{port}", f"{HOST}:{free_port()}")
+        text = text.replace(f"localhost:{port}", f"{HOST}:{own_port()}")
     for old, new in (("stop = 20000", "stop = 4000"), ("at 10000", "at 1500"), ("at 15000", "at 3500"), ("at 1000 ", "at 800 ")):
         text = text.replace(old, new)
     with tempfile.TemporaryDirectory() as name:

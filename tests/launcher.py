@@ -29,7 +29,7 @@ apex: short long_two
 deltat: apex
 side: low
 """
-SECONDS = "low 1\nshort 1\nlong_one 5\nlong_two 5\napex 1\ndeltat 1\n"
+SECONDS = "# seconds\nlow 1\nshort 1\nlong_one 5\nlong_two 5\napex 1\ndeltat 1\n"
 
 RT = r"""#!{python}
 import hashlib, json, os, pathlib, stat, sys, time
@@ -240,6 +240,17 @@ def wait_for(holds) -> None:
         time.sleep(0.1)
 
 
+def seconds(place: Place) -> bool:
+    """--seconds writes what was measured below the head of the file, and builds nothing."""
+    place.run("./build", "--only", "long_one")
+    place.noted()
+    ran = place.run("./build", "--seconds")
+    head, *lines = (place.top / "crates" / "seconds.txt").read_text().splitlines()
+    told = {name: int(number) for name, number in map(str.split, lines)}
+    return ran.returncode == 0 and not place.noted() and head == "# seconds" and list(told) == ["low", "short", "long_one", "long_two", "apex", "deltat"] \
+        and told["long_one"] < 5 and told["long_two"] == 5
+
+
 def killed(place: Place) -> bool:
     """After a build that was killed the next one proves what is missing, and removes its rooms."""
     build = subprocess.Popen(["./build"], cwd=place.top, env={**place.env, "PRETENDED_SECONDS": "1"}, stdout=subprocess.DEVNULL, stderr=subprocess.DEVNULL)
@@ -296,7 +307,7 @@ def two_builds(place: Place) -> bool:
     return [it.returncode for it in builds] == [0, 0] and len(place.built()) == 6 and any(b"waiting" in it for it in said)
 
 
-TESTS = (faulty_words, unproved_run, no_answer, failing_streams, order, side_by_side, changed, failure, interrupt, killed, live_output, only, two_builds)
+TESTS = (faulty_words, unproved_run, no_answer, failing_streams, order, side_by_side, changed, failure, interrupt, killed, seconds, live_output, only, two_builds)
 
 
 def holds(test) -> bool:

@@ -2,6 +2,7 @@
 the built program. Tests stand beside this file; a bench puts this folder into its path first."""
 import os
 import pathlib
+import random
 import select
 import socket
 import subprocess
@@ -138,6 +139,24 @@ def wait_for(path: pathlib.Path, word: str, seconds: float) -> bool:
     return False
 
 
+HANDED_OUT: set[int] = set()
+
+
+def own_port() -> int:
+    """A port that nobody has, below those that machines choose by themselves, and handed out once: for nodes
+    that run side by side."""
+    while True:
+        port = random.randrange(12_000, 32_000)
+        with socket.socket(socket.AF_INET, socket.SOCK_DGRAM) as it:
+            try:
+                it.bind((HOST, port))
+            except OSError:
+                continue
+        if port not in HANDED_OUT:
+            HANDED_OUT.add(port)
+            return port
+
+
 class Between:
     """Two sockets, one for each of two nodes, and what passes from one node to the other: as often as the
     rule says of the node that it comes from and its octets."""
@@ -145,7 +164,7 @@ class Between:
     def __init__(self, rule: Callable[[int, bytes], int]):
         self.rule = rule
         self.ends = [bound(), bound()]
-        self.nodes = [free_port(), free_port()]
+        self.nodes = [own_port(), own_port()]
         self.passed = [0, 0]
         self.over = threading.Event()
         self.thread = threading.Thread(target=self.run)

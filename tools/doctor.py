@@ -106,10 +106,10 @@ def numbers(scripts: list[Script]) -> Iterator[Finding]:
 
 
 def charges(script: Script, world: World) -> Iterator[Finding]:
-    """A charge covers the link, the socket, whole milliseconds, and drift."""
+    """A charge covers the link, the machines at its ends, whole milliseconds, and drift."""
     own = par.machine_charge(world.drift, script.params.spacing)
     least = own + math.ceil(world.delay)
-    parts = f"{par.SOCKET_WAIT} ms in the socket, {par.CLOCK_STEPS} of whole milliseconds, {own - par.SOCKET_WAIT - par.CLOCK_STEPS} of drift"
+    parts = par.machine_parts(world.drift, script.params.spacing)
     link = f", {least - own} of the link" if least > own else ""
     for peer in script.peers:
         if peer.charge < least:

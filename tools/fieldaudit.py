@@ -183,51 +183,72 @@ def clocks(order: Order) -> dict[Place, float]:
     return added
 
 
-def merged(order: Order) -> list[Place]:
-    """The lines in an order that they force; a line that can stand nowhere is told."""
-    added = clocks(order)
-    behind: dict[Place, list[Place]] = {}
-    kinds = (order.forced, order.wished, order.handy)
-    for kind in kinds:
-        for then, firsts in kind.items():
-            for first in firsts:
-                behind.setdefault(first, []).append(then)
-    wait = {place: sum(len(kind.get(place, ())) for kind in kinds) for kind in kinds for place in kind}
-    head = {number: 0 for number in order.nodes}
-    done: set[Place] = set()
-    out: list[Place] = []
-    moment = lambda place: order.entry(place).moment + added[order.run_of(place)]
-    ready: list[tuple[float, Place]] = []
+class Merging:
+    """Takes the lines of all nodes one after another: of those that may be next the one of the earliest
+    moment."""
 
-    def offer(number: int) -> None:
-        place = (number, head[number])
-        if place[1] < len(order.nodes[number].entries) and wait.get(place, 0) == 0:
-            heapq.heappush(ready, (moment(place), place))
+    def __init__(self, order: Order):
+        self.order, self.added = order, clocks(order)
+        self.kinds = (order.forced, order.wished, order.handy)
+        # for each line how many stand before it and aren't taken, and those that stand behind it
+        self.wait = {place: sum(len(kind.get(place, ())) for kind in self.kinds) for kind in self.kinds for place in kind}
+        self.behind: dict[Place, list[Place]] = {}
+        for kind in self.kinds:
+            for then, firsts in kind.items():
+                for first in firsts:
+                    self.behind.setdefault(first, []).append(then)
+        self.heads = {number: 0 for number in order.nodes}
+        self.done: set[Place] = set()
+        self.ready: list[tuple[float, Place]] = []
 
-    for number in order.nodes:
-        offer(number)
-    while True:
-        if ready:
-            _, place = heapq.heappop(ready)
-        else:
-            stuck = [(number, at) for number, at in head.items() if at < len(order.nodes[number].entries)]
-            if not stuck:
+    def moment(self, place: Place) -> float:
+        """When a line was, by one clock for all."""
+        return self.order.entry(place).moment + self.added[self.order.run_of(place)]
+
+    def is_there(self, place: Place) -> bool:
+        return place[1] < len(self.order.nodes[place[0]].entries)
+
+    def offer(self, place: Place) -> None:
+        """The line is the next one of its node: it may be taken where nothing stands before it."""
+        if self.is_there(place) and self.wait.get(place, 0) == 0:
+            heapq.heappush(self.ready, (self.moment(place), place))
+
+    def forced(self) -> Place | None:
+        """No line may be next: the one that rests on the least is, and that is told. None at the end."""
+        stuck = [place for place in self.heads.items() if self.is_there(place)]
+        if not stuck:
+            return None
+        left = lambda kind, place: sorted(it for it in kind.get(place, ()) if it not in self.done)
+        place = min(stuck, key=lambda it: (bool(left(self.order.forced, it)), bool(left(self.order.wished, it)), self.moment(it)))
+        rests = left(self.order.forced, place) or left(self.order.wished, place)
+        if rests:
+            self.order.broken.append(f"{self.order.told(place)}: it stands before what it rests on, {self.order.told(rests[0])}")
+        self.wait[place] = 0
+        return place
+
+    def take(self, place: Place) -> None:
+        """The line is the next one."""
+        self.done.add(place)
+        self.heads[place[0]] += 1
+        for then in self.behind.get(place, ()):
+            if then not in self.done:
+                self.wait[then] = max(0, self.wait[then] - 1)
+                if then[0] != place[0] and self.heads[then[0]] == then[1]:
+                    self.offer(then)
+        self.offer((place[0], place[1] + 1))
+
+    def lines(self) -> list[Place]:
+        """All lines in their order."""
+        for place in self.heads.items():
+            self.offer(place)
+        out = []
+        while True:
+            place = heapq.heappop(self.ready)[1] if self.ready else self.forced()
+            if place is None:
                 return out
-            left = lambda kind, place: [it for it in kind.get(place, ()) if it not in done]
-            place = min(stuck, key=lambda it: (bool(left(order.forced, it)), bool(left(order.wished, it)), moment(it)))
-            rests = left(order.forced, place) or left(order.wished, place)
-            if rests:
-                order.broken.append(f"{order.told(place)}: it stands before what it rests on, {order.told(min(rests))}")
-            wait[place] = 0
-        out.append(place)
-        done.add(place)
-        head[place[0]] += 1
-        for then in behind.get(place, ()):
-            if then not in done:
-                wait[then] = max(0, wait[then] - 1)
-                if wait[then] == 0 and head[then[0]] == then[1] and then[0] != place[0]:
-                    heapq.heappush(ready, (moment(then), then))
-        offer(place[0])
+            if place not in self.done:
+                out.append(place)
+                self.take(place)
 
 
 def order_of(nodes: dict[int, Node]) -> tuple[Order, set[Flow]]:
@@ -256,7 +277,7 @@ def order_of(nodes: dict[int, Node]) -> tuple[Order, set[Flow]]:
 def facts(order: Order, missing: set[Flow]) -> list[Entry]:
     """The lines that an audit judges, in their order."""
     left_out = {str(it) for it in missing}
-    entries = [order.entry(place) for place in merged(order)]
+    entries = [order.entry(place) for place in Merging(order).lines()]
     return [it for it in entries if it.words[2] in FACTS and it.words[3] not in left_out]
 
 

@@ -33,10 +33,9 @@ def lines(asked: argparse.Namespace) -> list[str]:
     params = par.suited([[hop] * asked.hops], par.Wishes(asked.round_trip, asked.tries, asked.mtu, asked.room))
     charge = par.link_charge(hop, params)
     network = charge - par.machine_charge(asked.drift, params.spacing)
-    drift = par.drift_cost(asked.drift, params.spacing)
     told = [
         params.line(),
-        f"charge {charge}: {network} ms of the link, {par.SOCKET_WAIT} of the socket, {par.CLOCK_STEPS} of whole milliseconds, {drift} of drift",
+        f"charge {charge}: {network} ms of the link, {par.machine_parts(asked.drift, params.spacing)}",
         f"uncertain {params.give} ms after the first transmission, at the latest",
         f"silent for {params.quiet} ms after a restart",
     ]

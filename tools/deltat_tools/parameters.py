@@ -5,9 +5,11 @@ import math
 from dataclasses import dataclass
 from typing import Iterator, Sequence
 
-# a datagram's wait in the socket of this machine, by which it is dropped
+# a packet that hasn't left its machine so long after its turn's reading is lost
+SENDING_WAIT = 20
+# a datagram that may have waited so long in the socket of its machine is dropped
 SOCKET_WAIT = 20
-# clocks tell whole milliseconds, and a turn takes some time from its reading to its frames
+# clocks tell whole milliseconds: what is lost by that at either end, and one more
 CLOCK_STEPS = 3
 # a packet has at most this many octets of headers: IPv4 and UDP, the Deltagram, and the packet
 HEADERS = 28 + 16 + 14
@@ -97,8 +99,13 @@ def drift_cost(drift: float, spacing: int) -> int:
 
 
 def machine_charge(drift: float, spacing: int) -> int:
-    """The part of a charge that isn't the network's: the socket, whole milliseconds, and drift."""
-    return SOCKET_WAIT + CLOCK_STEPS + drift_cost(drift, spacing)
+    """The part of a charge that isn't the network's: the two machines, whole milliseconds, and drift."""
+    return SENDING_WAIT + SOCKET_WAIT + CLOCK_STEPS + drift_cost(drift, spacing)
+
+
+def machine_parts(drift: float, spacing: int) -> str:
+    """The same in its parts, for people."""
+    return f"{SENDING_WAIT} ms in the sending machine, {SOCKET_WAIT} in the socket, {CLOCK_STEPS} of whole milliseconds, {drift_cost(drift, spacing)} of drift"
 
 
 def life_used(charges: Sequence[int], waits: Sequence[int]) -> int:

@@ -5,11 +5,12 @@ use Rattle.dt_fold.specs.declared.stops.Stop.{Stop}
 use Rattle.dt_fold.specs.declared.stops.Stop.TheVariants as stops
 use Rattle.dt_fold.specs.Folds.{Folded, fold_input}
 use Rattle.dt_fold.specs.Logging.{Fills}
-use Rattle.dt_replay.specs.Schedules.{Empty}
+use Rattle.dt_calls_model.specs.Calls.{Calls}
+use Rattle.dt_scenario.specs.Scenes.{Empty, Scene, scenario_turns}
 use Rattle.dt_calls.specs.CallEnds.{CallsEnd, outcome_of}
-use Rattle.dt_calls.specs.CallInputs.{CallScene, Sets, call_turns, calls_read}
+use Rattle.dt_calls.specs.CallInputs.{calls_read, simulates_calls}
 
-calls_read_is : (octets : List ℕ) → fold_input call_turns (Sets Empty) octets ≡ calls_read octets
+calls_read_is : (octets : List ℕ) → fold_input (scenario_turns simulates_calls) Empty octets ≡ calls_read octets
 unfolding calls_read
 calls_read_is octets = refl
 
@@ -19,6 +20,6 @@ ends_by octets (Ok false) a b f = (sym f.0, f.1, f.2)
 ends_by octets (Err stops.NoMemory) a b f = f
 ends_by octets (Err stops.WriteFault) a b f = f
 
-pub calls_end : (octets : List ℕ) (scene : CallScene) (r : Result Bool Stop) (a b : SinkSight) → scene ≡ Sets Empty → Fills (fold_input call_turns scene octets) r a b → CallsEnd (outcome_of r) octets a b
+pub calls_end : (octets : List ℕ) (scene : Scene Calls) (r : Result Bool Stop) (a b : SinkSight) → scene ≡ Empty → Fills (fold_input (scenario_turns simulates_calls) scene octets) r a b → CallsEnd (outcome_of r) octets a b
 calls_end octets scene r a b e f =
-    ends_by octets r a b (subst (λ (all : Folded CallScene). Fills all r a b) (ap (λ (s : CallScene). fold_input call_turns s octets) e ∙ calls_read_is octets) f)
+    ends_by octets r a b (subst (λ (all : Folded (Scene Calls)). Fills all r a b) (ap (λ (s : Scene Calls). fold_input (scenario_turns simulates_calls) s octets) e ∙ calls_read_is octets) f)

@@ -16,9 +16,7 @@ pub mod DuesLeft
 pub mod Kept
 pub mod ReadSides
 pub mod DoubtParts
-pub mod CallWriting
 pub mod CallTurns
-pub mod CallScenes
 pub mod CallFolds
 pub mod CallEnds
 pub mod CallClosing

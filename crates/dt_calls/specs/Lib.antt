@@ -3,7 +3,6 @@ pub mod Hearing
 pub mod Sides
 pub mod CallTexts
 pub mod Totals
-pub mod Writing
 pub mod Courses
 pub mod CallOutcomes
 pub mod Happening
@@ -13,6 +12,5 @@ pub mod Going
 pub mod Resting
 pub mod Dues
 pub mod CallInputs
-pub mod CallScenes
 pub mod CallEnds
 pub mod Waiting

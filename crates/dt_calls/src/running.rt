@@ -4,10 +4,11 @@ ghost use Rattle.dt_calls_model.specs.Promises.{AreServedOnce};
 ghost use Rattle.dt_calls.specs.CallEnds.{CallsEnd, outcome_of};
 ghost use Rattle.dt_calls.specs.CallInputs.{AnswersAreReversed, calls_after_lines};
 
-use crate::inputs::CallInput;
+use crate::inputs::InputCalls;
 use crate::outcomes::CallsOutcome;
 use dt_edges::Sink;
 use dt_fold::{Stop, fold_behind_buffer};
+use dt_scenario::Scenario;
 use std::alloc::Global;
 
 /// Reads an input of at most 16,777,216 octets: its lines set up a world, calls are made in it and
@@ -27,7 +28,7 @@ pub fn calls<K: Sink>(alloc: Global, bytes: &[u8], out: &mut K) -> CallsOutcome
     ensures once { (count : ℕ) → IfSome (calls_after_lines count bytes.now) (λ c. AreServedOnce c) }
     ensures answers { (count : ℕ) → IfSome (calls_after_lines count bytes.now) (λ c. AnswersAreReversed c) }
 {
-    let mut input = CallInput::new(alloc);
+    let mut input: Scenario<InputCalls> = Scenario::new(alloc);
     outcome_of(fold_behind_buffer(alloc, &mut input, bytes, out))
 }
 

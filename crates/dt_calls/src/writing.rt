@@ -10,18 +10,13 @@ use crate::totals::CallTotals;
 use dt_edges::{Failed, Sink};
 use dt_log::Word::{Flow, Hex, Long, Number, Text};
 use dt_log::put_row;
+use dt_scenario::Log;
 
-/// Writes the lines of calls on a sink. After a put that failed it writes nothing more.
-#[derive(Drop)]
-pub struct CallLog<'a, K> {
-    pub out: &'a mut K,
-    pub failed: bool,
-}
+impl<'a, K: Sink> CallLines for Log<'a, K> {
+    ghost use Rattle.dt_scenario.specs.Writing.{Writes};
+    ghost use Rattle.dt_calls.specs.CallTexts.{call_text};
 
-impl<'a, K: Sink> CallLines for CallLog<'a, K> {
-    ghost use Rattle.dt_calls.specs.Writing.{WritesCall};
-
-    ghost tells = { λ s entry t. WritesCall K.sight s entry t };
+    ghost tells = { λ s entry t. Writes K.sight (call_text entry) s t };
 
     fn line(&mut self, moment: u64, line: &CallLine<'_>) {
         if !self.failed {

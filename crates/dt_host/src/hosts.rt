@@ -30,6 +30,7 @@ use dt_units::{Flow, NodeId, Rules, Steps};
 use indexmap::IndexMap;
 use std::alloc::Global;
 use std::marker::Model;
+use std::mem::size_of;
 use std::sync::ledger::Ledger;
 
 /// All records of one node: its senders and its receivers, each in the order of their making. A sender
@@ -47,10 +48,14 @@ pub struct Host {
     /// The greatest moment that it was given.
     latest: u64,
     senders: Senders,
-    send_agenda: SendAgenda,
+    /// In a box, as the other is: an agenda is large.
+    send_agenda: Box<SendAgenda>,
     receivers: Receivers,
-    recv_agenda: RecvAgenda,
+    recv_agenda: Box<RecvAgenda>,
 }
+
+// It is moved by value where a station is made.
+const _: () = prove!(size_of::<Host>() <= 512);
 
 impl Model for Host {
     ghost use Rattle.dt_host.specs.Hosts.{AreReceiveEntries, AreSendEntries, HostValue, receivers_of, send_records};
@@ -60,12 +65,13 @@ impl Model for Host {
 
     ghost view = { λ h. record { rules = h.rules; latest = h.latest; state = record { me = h.me.0; until = h.until; senders = send_records h.senders.entries; receivers = receivers_of h.receivers.entries } } };
 
-    ghost invariant = { λ h. AreSendEntries h.rules h.senders.entries × AreReceiveEntries h.rules h.receivers.entries × AreNoted (IsSendNoted h.rules h.latest) (send_records h.senders.entries) h.send_agenda × AreNoted (IsRecvNoted h.rules) (receivers_of h.receivers.entries) h.recv_agenda };
+    ghost invariant = { λ h. AreSendEntries h.rules h.senders.entries × AreReceiveEntries h.rules h.receivers.entries × AreNoted (IsSendNoted h.rules h.latest) (send_records h.senders.entries) h.send_agenda.value × AreNoted (IsRecvNoted h.rules) (receivers_of h.receivers.entries) h.recv_agenda.value };
 }
 
 impl Host {
-    /// The host of a node that starts for the first time: no records, and it isn't silent. What later
-    /// calls take is taken of `alloc`. `NoMemory` where there is none.
+    /// The host of a node that starts for the first time: no records, and it isn't silent. It takes the
+    /// room of its agendas, and what later calls take is taken of `alloc` too. `NoMemory` where there is
+    /// none.
     pub fn first(alloc: Global, rules: &Rules, me: NodeId) -> Result<Host, NoMemory>
         ensures { IfOk result (λ host. host ≡ record { rules = rules.now; latest = 0; state = first_host me.0 }) }
     {
@@ -75,15 +81,15 @@ impl Host {
             until: 0,
             latest: 0,
             senders: IndexMap::new(alloc),
-            send_agenda: SendAgenda::new(alloc),
+            send_agenda: Box::new(alloc, SendAgenda::new(alloc))?,
             receivers: IndexMap::new(alloc),
-            recv_agenda: RecvAgenda::new(alloc),
+            recv_agenda: Box::new(alloc, RecvAgenda::new(alloc))?,
         })
     }
 
     /// The host of a node that starts again at `now`: no records, and it is silent until `quiet` after
-    /// now, by when the packets and records of its former lives are gone. `NoMemory` where there is
-    /// none.
+    /// now, by when the packets and records of its former lives are gone. It takes the room of its
+    /// agendas; `NoMemory` where there is none.
     pub fn restarted(alloc: Global, rules: &Rules, me: NodeId, now: u64) -> Result<Host, NoMemory>
         requires moment { now ≤ most_moment }
         ensures { IfOk result (λ host. host ≡ record { rules = rules.now; latest = now; state = restarted_host rules.now me.0 now }) }
@@ -146,7 +152,7 @@ impl Host {
         let asked = Octets { octets, begin, end };
         send_side::put(
             &mut self.senders,
-            &mut self.send_agenda,
+            &mut *self.send_agenda,
             &self.rules,
             flow,
             &asked,
@@ -185,7 +191,7 @@ impl Host {
         self.latest = now;
         recv_side::read(
             &mut self.receivers,
-            &mut self.recv_agenda,
+            &mut *self.recv_agenda,
             &self.rules,
             flow,
             buf,
@@ -255,7 +261,7 @@ impl Host {
                     octets,
                 };
                 let receivers = &mut self.receivers;
-                let agenda = &mut self.recv_agenda;
+                let agenda = &mut *self.recv_agenda;
                 recv_side::take(
                     receivers,
                     agenda,
@@ -269,7 +275,7 @@ impl Host {
             }
             Packet::Ack { number, window, .. } => {
                 let senders = &mut self.senders;
-                let agenda = &mut self.send_agenda;
+                let agenda = &mut *self.send_agenda;
                 Ok(send_side::acknowledge(
                     senders,
                     agenda,
@@ -283,7 +289,7 @@ impl Host {
             }
             Packet::Meet { number, .. } => {
                 let receivers = &mut self.receivers;
-                let agenda = &mut self.recv_agenda;
+                let agenda = &mut *self.recv_agenda;
                 Ok(recv_side::meet(
                     receivers,
                     agenda,
@@ -355,9 +361,9 @@ impl Host {
         let _receivers = self.receivers.len();
         upcoming(
             &self.senders,
-            &mut self.send_agenda,
+            &mut *self.send_agenda,
             &self.receivers,
-            &self.recv_agenda,
+            &*self.recv_agenda,
             &self.rules,
             now,
             steps,
@@ -389,7 +395,7 @@ impl Host {
         let DueAct { kind, flow, .. } = due;
         let act = match kind {
             DueKind::Send(_) => {
-                let agenda = &mut self.send_agenda;
+                let agenda = &mut *self.send_agenda;
                 Act::Send(send_side::act(
                     &mut self.senders,
                     agenda,
@@ -401,7 +407,7 @@ impl Host {
                 ))
             }
             DueKind::Recv(_) => {
-                let agenda = &mut self.recv_agenda;
+                let agenda = &mut *self.recv_agenda;
                 Act::Recv(recv_side::act(
                     &mut self.receivers,
                     agenda,

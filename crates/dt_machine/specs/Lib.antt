@@ -1,1 +1,4 @@
+pub mod Backlogs
+pub mod Looks
+pub mod Waits
 pub mod Wires

@@ -1,12 +1,20 @@
-//! The machine's own wire and clock: a UDP socket and the time since the first reading. No contract
-//! can say what a socket gives or takes, so these adapters are trusted, and tell nothing but counts.
+//! The machine's own wire and clock: a UDP socket, whose datagrams wait at most 20 ms in this machine,
+//! and the time since the first reading. No contract can say what a socket gives or takes, so these
+//! adapters are trusted, and tell nothing but counts.
 #![tactic(auto)]
 
+mod backlogs;
+mod intakes;
 mod machine_clock;
+mod moments;
 mod peers;
+mod sockets;
 mod udp_wire;
+mod uptime;
+mod waits;
 
 pub use machine_clock::MachineClock;
+pub use moments::Moments;
 pub use udp_wire::UdpWire;
 
 #[cfg(test)]

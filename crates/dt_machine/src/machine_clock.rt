@@ -1,22 +1,31 @@
 ghost use Rattle.std.specs.Prelude.{None};
 
+use crate::moments::Moments;
+use crate::uptime::uptime;
 use dt_edges::Clock;
 use std::time;
-use std::time::Instant;
 
-/// The machine's clock: its readings are the milliseconds since the first one. It tells no readings.
+/// How many nanoseconds a millisecond has.
+const MILLISECOND: u64 = 1_000_000;
+
+/// The machine's clock: its readings are the milliseconds since the first one, also those for which the
+/// machine was suspended, where it counts them. It tells no readings.
 #[derive(Drop)]
 pub struct MachineClock<'a, R> {
     rt: &'a R,
-    first: Option<Instant>,
+    moments: &'a Moments,
+    /// In nanoseconds since the machine was started.
+    first: Option<u64>,
+    /// In milliseconds.
     last: u64,
 }
 
 impl<'a, R: time::Clock> MachineClock<'a, R> {
-    /// A clock that wasn't read.
-    pub fn new(rt: &'a R) -> Self {
+    /// A clock that wasn't read, beside the wire that has the same moments.
+    pub fn new(rt: &'a R, moments: &'a Moments) -> Self {
         MachineClock {
             rt,
+            moments,
             first: None,
             last: 0,
         }
@@ -26,15 +35,15 @@ impl<'a, R: time::Clock> MachineClock<'a, R> {
 impl<'a, R: time::Clock> Clock for MachineClock<'a, R> {
     ghost sight = { λ c. record { readings = None; plan = None } };
 
-    /// The milliseconds since the first reading. Where the machine's clock fails it is the last reading
+    /// The milliseconds since the first reading. The first reading after the wire handed a datagram over
+    /// is that of the moment at which it did. Where the machine's clocks fail it is the last reading
     /// again, or 0 where there was none.
     fn now(&mut self) -> u64 {
-        if let Ok(now) = Instant::now(self.rt) {
+        let found = self.moments.take_found();
+        if let Some(now) = found.or(uptime(self.rt)) {
+            self.moments.note_read(now);
             match self.first {
-                Some(first) => {
-                    let since = now.duration_since(first).as_millis();
-                    self.last = u64::try_from(since).unwrap_or(u64::MAX);
-                }
+                Some(first) => self.last = now.saturating_sub(first) / MILLISECOND,
                 None => self.first = Some(now),
             }
         }

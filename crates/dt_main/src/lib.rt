@@ -3,7 +3,7 @@
 
 use dt_edges::{ReaderSource, WriterSink, put_all};
 use dt_items::NoMemory;
-use dt_machine::{MachineClock, UdpWire};
+use dt_machine::{MachineClock, Moments, UdpWire};
 use dt_top::run;
 use std::env;
 use std::io::ErrorKind;
@@ -22,19 +22,32 @@ fn words(rt: &HostRuntime) -> Result<Vec<String>, NoMemory> {
     }
 }
 
-/// Runs over standard input, standard output and standard error, with a UDP socket and the machine's
-/// clock.
-fn serve(rt: &HostRuntime) -> Result<u8, NoMemory> {
-    let words = words(rt)?;
-    Ok(run(
+/// Runs over standard input, standard output and standard error, with this wire and this clock.
+fn serve_words(
+    rt: &HostRuntime,
+    words: &[String],
+    wire: &mut UdpWire<'_, HostRuntime>,
+    clock: &mut MachineClock<'_, HostRuntime>,
+) -> u8 {
+    run(
         rt.alloc(),
-        &words,
+        words,
         &mut ReaderSource::new(rt.stdin()),
         &mut WriterSink::new(rt.stdout()),
         &mut WriterSink::new(rt.stderr()),
-        &mut UdpWire::new(rt.alloc(), rt)?,
-        &mut MachineClock::new(rt),
-    ))
+        wire,
+        clock,
+    )
+}
+
+/// Serves the words of the command line, with a UDP socket that isn't open yet and a clock that has the
+/// same moments.
+fn serve(rt: &HostRuntime) -> Result<u8, NoMemory> {
+    let words = words(rt)?;
+    let moments = Moments::new();
+    let mut wire = UdpWire::new(rt.alloc(), rt, &moments)?;
+    let mut clock = MachineClock::new(rt, &moments);
+    Ok(serve_words(rt, &words, &mut wire, &mut clock))
 }
 
 /// The whole program: runs, and ends with the status that was answered.

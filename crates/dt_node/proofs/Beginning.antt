@@ -3,9 +3,9 @@ use Rattle.std.proofs.Common.{◌≡◌, ℕ, ◌+◌, List, [], ◌++◌, lengt
 use Rattle.std.specs.Io.KnownBytes.{Appends}
 use Rattle.std.proofs.KnownBytes.{Appends-trans}
 use Rattle.std.proofs.Math.Seq.{take-append-add}
-use Rattle.dt_edges.specs.Sinks.{Grows, SinkSight, Takes, TakesPart}
+use Rattle.dt_edges.specs.Sinks.{SinkSight, Takes, TakesPart}
 use Rattle.dt_edges.specs.Wires.{WireSight}
-use Rattle.dt_edges.proofs.Puts.{grows_then, takes_nothing, takes_part_first}
+use Rattle.dt_edges.proofs.Puts.{takes_nothing, takes_part_first}
 use Rattle.dt_fold.specs.declared.stops.Stop.{Stop}
 use Rattle.dt_fold.specs.declared.stops.Stop.TheVariants as stops
 use Rattle.dt_trace.specs.Inputs.{Input}

@@ -10,13 +10,12 @@ use Rattle.dt_edges.specs.Telling.{NotesAll}
 use Rattle.dt_edges.specs.Wires.{Datagram, Plan, SameTaking, WireSight}
 use Rattle.dt_edges.proofs.Puts.{takes_as, takes_nothing, takes_then}
 use Rattle.dt_reports.specs.Told.{Told}
-use Rattle.dt_reports.specs.declared.reports.Report.TheVariants.{Unsent}
 use Rattle.dt_log.specs.Logs.{entry_text, log_text}
 use Rattle.dt_fold.specs.Logging.{StopsIn}
 use Rattle.dt_fold.proofs.Stopping.{stops_after, stops_as, stops_more}
 use Rattle.dt_node.specs.Acts.{Act, Tells, Hands, Deed, Says, Gives, act_of, log_lines, lines_of_deed, sent_frames, sent_by, node_frames, frames_of_act, fates, fates_by}
 use Rattle.dt_node.specs.Logging.{Fixed, GaveBy, HandsIf, LogHands, LogSight, LogTells, TellsIf, UnsentIf, WroteBy, lost_text, told_text}
-use Rattle.dt_trace.specs.Inputs.{FailedGive, Input, input_text, trace_text}
+use Rattle.dt_trace.specs.Inputs.{FailedGive, input_text, trace_text}
 use Rattle.dt_node.specs.declared.forms.Form.{Form}
 use Rattle.dt_node.specs.declared.forms.Form.TheVariants as forms
 use Rattle.dt_node.specs.Deeds.{counted, deeds_text, lost_numbers, lost, count_true, FatesFrom, Gave, GaveSome, Did, DidSome, Sublist, stop_by, unlost}

@@ -1,10 +1,9 @@
 -- How a run ends.
-use Rattle.std.proofs.Common.{◌≡◌, ◌+◌, ◌*◌, ◌^◌, ◌<◌, ◌≤◌, ◌==◌, ℕ, Bool, true, false, List, [], ◌∷◌, ◌++◌, length, map, take, Option, Some, None, Ok, Err, refl, sym, ap, subst, ◌∙◌, arith, min, length-append, inl, inr}
+use Rattle.std.proofs.Common.{◌≡◌, ◌+◌, ◌*◌, ◌^◌, ◌<◌, ◌≤◌, ◌==◌, ℕ, Bool, true, false, List, [], ◌∷◌, ◌++◌, length, map, Option, Some, None, Ok, Err, refl, sym, ap, subst, ◌∙◌, arith, min, length-append, inl, inr}
 use Rattle.std.specs.Option.{IfSome}
 use Rattle.std.proofs.lemmas.List.{append-nil, map-append}
 use Rattle.std.specs.Io.KnownBytes.{Appends}
 use Rattle.std.proofs.KnownBytes.{Appends-nil, Appends-trans}
-use Rattle.std.proofs.Math.Seq.{take-append-add}
 use Rattle.dt_edges.specs.Clocks.{ClockSight}
 use Rattle.dt_edges.specs.Counts.{HasRisen, is_planned, last_count}
 use Rattle.dt_edges.specs.Sinks.{SinkSight, Takes}
@@ -36,7 +35,7 @@ use Rattle.dt_node.specs.InOrder.{InOrder, UnsentInOrder, without_unsent_lines}
 use Rattle.dt_node.specs.Serving.{AppendsPart, Edges, FailsAs, GivesSome, IsFresh, IsWhole, Logs, NoneFails, Serves, SinkFaults, TakeFaults, Written, first_entries, edges, first_readings, most_taken}
 use Rattle.dt_node.specs.Answering.{Answers, AnswersBy, RefusesAs}
 use Rattle.dt_node.proofs.Noting.{notes_none, notes_then, nothing_notes, sub_none, sub_then}
-use Rattle.dt_node.proofs.Doing.{acts_more, log_more, lost_more, sent_sub}
+use Rattle.dt_node.proofs.Doing.{acts_more, lost_more, sent_sub}
 use Rattle.dt_node.proofs.RunsOn.{came_of, run_cut, run_nothing, run_still, run_stopped, run_taken, run_unfinished}
 use Rattle.dt_node.proofs.Again.{again_is_old}
 use Rattle.dt_node.proofs.Keeping.{Given, PlannedTakes, Read, Taken, given_on, taken_more, taken_on}

@@ -5,12 +5,11 @@ use Rattle.std.proofs.lemmas.List.{map-append}
 use Rattle.dt_reports.specs.Told.{Told}
 use Rattle.std.specs.Io.KnownBytes.{Appends}
 use Rattle.dt_edges.specs.Sinks.{Grows, SinkSight}
-use Rattle.dt_log.specs.Logs.{log_text}
 use Rattle.dt_fold.specs.Logging.{StopsIn}
 use Rattle.dt_world_model.specs.Script.{Script, Done, Tell, Ask, Hand, Plays, Stops}
 use Rattle.dt_fold.specs.declared.stops.Stop.{Stop}
 use Rattle.dt_fold.specs.declared.stops.Stop.TheVariants as stops
-use Rattle.dt_node.specs.Acts.{Act, Tells, Hands, Deed, Says, Gives, act_of, acts_of, answer_of, log_lines}
+use Rattle.dt_node.specs.Acts.{Act, Tells, Hands, Deed, Says, Gives, act_of, acts_of, answer_of}
 use Rattle.dt_node.specs.Logging.{Fixed, LogSight, LogTells, LogHands, HandsIf, TellsIf, log_tells, log_tags, log_hands, log_fails, LogEnds, failed_by}
 use Rattle.dt_node.specs.Deeds.{deeds_text, Did, DidSome, FaultsBy, TurnEnds, WroteSome, scene, stop_by, unlost}
 use Rattle.dt_node.proofs.Doing.{did_none, did_then, did_then_some, some_more, some_none, acts_unlost, told_did, told_some, handed}

@@ -1,7 +1,7 @@
 -- The lines of a trace, as the run goes on.
-use Rattle.std.proofs.Common.{◌≡◌, ℕ, ◌+◌, ◌-◌, ◌<◌, ◌≤◌, ◌^◌, suc, Bool, true, false, nat_lt, List, [], ◌∷◌, ◌++◌, length, map, Option, Some, None, Ok, refl, sym, ap, subst, ◌∙◌, arith, min, length-append, append_assoc, inl, inr}
+use Rattle.std.proofs.Common.{◌≡◌, ℕ, ◌+◌, ◌-◌, ◌<◌, ◌≤◌, suc, Bool, true, false, List, [], ◌∷◌, ◌++◌, length, map, Option, Ok, refl, sym, ap, subst, ◌∙◌, arith, length-append, append_assoc, inl, inr}
 use Rattle.std.specs.Prelude.{slice_index_or}
-use Rattle.std.proofs.lemmas.List.{append-nil, map-append}
+use Rattle.std.proofs.lemmas.List.{append-nil}
 use Rattle.std.proofs.lemmas.List.Concat.{flat_map-append}
 use borrow.Author.Tests.{lt-ltb}
 use Rattle.dt_edges.specs.Counts.{last_count, next_count}
@@ -20,7 +20,7 @@ use Rattle.dt_node.specs.Acts.{Deed, fates, log_lines}
 use Rattle.dt_node.specs.Deeds.{counted, deeds_text, lost_numbers}
 use Rattle.dt_node.specs.Logging.{noted_text}
 use Rattle.dt_node.specs.Serving.{HasFailed, IsTrace, Traced, Written, recorded}
-use Rattle.dt_node.proofs.Doing.{counted_more, fates_more, log_more, number_more, numbers_more}
+use Rattle.dt_node.proofs.Doing.{fates_more, log_more, number_more, numbers_more}
 
 -- THE NUMBERS OF GIVES THAT FAILED rise, where there are fewer than 2^64 gives
 

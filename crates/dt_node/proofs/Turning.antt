@@ -10,7 +10,9 @@ use Rattle.dt_reports.specs.declared.reports.Report.TheVariants.{End}
 use Rattle.dt_world_model.specs.Host.{Host}
 use Rattle.dt_world_model.specs.Relay.{Parcel}
 use Rattle.dt_world_model.specs.Script.{Script, Done, Tell, ◌>>=◌, Plays, Stops, Concludes}
-use Rattle.dt_world_model.specs.Station.{Station, station_event, Tick}
+use Rattle.dt_flow_model.specs.SendActs.{IsBefore}
+use Rattle.dt_world_model.specs.Station.{Station, station_event, station_wake, Tick}
+use Rattle.dt_world_laws.proofs.Wakes.{tick_before_wake}
 use Rattle.dt_station.proofs.Playing.{Leads, leads_after, plays_bind, stops_within, stops_after, ends_after}
 use Rattle.dt_shelf.specs.Shelves.{Shelf}
 use Rattle.dt_node.specs.declared.orders.Command as code
@@ -100,3 +102,8 @@ module _ {V : Type 0} (tells : V → Told → V → Type 0) (tags : V → Host �
         ends_after tells tags hands fails (hand_in o.setup.params now came node.station node.shelf) (λ r. do_due o.setup.params now r.1 node.commands r.0 >>= λ done. finish o now done) v m w r b result
         (subst (λ (q : Params). Plays tells tags hands (hand_in q now came node.station node.shelf) v m r) params h)
         (ends_after tells tags hands fails (do_due o.setup.params now r.1 node.commands r.0) (λ done. finish o now done) m n w done b result k l)
+
+  -- before its wake a station's tick does nothing
+  pub no_tick : (p : Params) (now : ℕ) (st : Station (Unit {0})) (v : V) → IsBefore now (station_wake p st) → Plays tells tags hands (station_event p now Tick st) v v st
+  no_tick p now st v h =
+      subst (λ (s : Script (Unit {0}) (Station (Unit {0}))). Plays tells tags hands s v v st) (sym (tick_before_wake p now st h)) (refl, refl)

@@ -137,10 +137,6 @@ octets_sent (Read flow most) = 0
 octets_sent Tick = 0
 octets_sent (Arrive link parcel) = 0
 
--- the octets of a frame
-abbrev pub frame_octets : List ℕ → List ℕ
-frame_octets octets = octets
-
 -- a node that can do what its orders say, at a moment
 pub record IsReady (o : Orders) (now : ℕ) (node : Node) : Type 0 where
   pub rules : node.station.rules ≡ o.setup.rules

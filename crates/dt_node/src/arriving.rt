@@ -11,7 +11,7 @@ ghost use Rattle.dt_node.specs.declared.heard.Heard.TheVariants.{Nothing};
 ghost use Rattle.dt_node.specs.Codes.{GoesOn, MayGo, came_seen, fetched_seen, next_seen};
 ghost use Rattle.dt_node.specs.Hearing.{heard_in};
 ghost use Rattle.dt_node.specs.Logging.{LogEnds, failed_by, fixed_of, log_sight, log_tells};
-ghost use Rattle.dt_node.specs.Shelving.{arrive, data_number, early_number, fetch, first_round, hold_if, inside, is_early, plain, round, round_with, rounds};
+ghost use Rattle.dt_node.specs.Shelving.{arrive, data_number, datagram, early_number, fetch, first_round, hold_if, inside, is_early, plain, round, round_with, rounds};
 
 use crate::heard::{Heard, hear};
 use crate::logs::Log;
@@ -47,24 +47,25 @@ pub fn tell<W: Wire, K: Sink>(report: &Report<'_>, log: &mut Log<'_, '_, W, K>) 
     Ok(())
 }
 
-/// A packet arrives at the station, and is answered.
-fn answer<W: Wire, K: Sink>(
+/// A packet arrives at the station, and is answered. The frame is the station's to change.
+fn answer_to<W: Wire, K: Sink>(
     station: &mut Station<Frame>,
-    came: &Came,
+    link: u16,
+    frame: &mut Frame,
     log: &mut Log<'_, '_, W, K>,
 ) -> Result<Heard, Stop>
-    requires gram { IsGram came.now.frame }
+    requires gram { IsGram frame.old }
     requires go { MayGo log.old.moment station.old }
     requires fine { log.old.failed ≡ false }
-    ensures ends { let script = station_event station.old.rules log.old.moment (Arrive came.now.link (plain came.now.frame)) station.old.state in
+    ensures ends { let script = station_event station.old.rules log.old.moment (Arrive link (plain frame.old)) station.old.state in
         LogEnds (log_sight W.sight K.sight) result script log.old log.new station.new.state }
-    ensures heard { let script = station_event station.old.rules log.old.moment (Arrive came.now.link (plain came.now.frame)) station.old.state in
+    ensures heard { let script = station_event station.old.rules log.old.moment (Arrive link (plain frame.old)) station.old.state in
         IfOk result (λ heard. heard ≡ heard_in script Nothing) }
     ensures failed { log.new.failed ≡ failed_by result }
     ensures fixed { fixed_of log.new ≡ fixed_of log.old }
     ensures on { OnOk result (GoesOn log.old.moment 0 station.old station.new) }
 {
-    let heard = hear(station, log.moment, came.link, &came.frame, log);
+    let heard = hear(station, log.moment, link, frame, log);
     if log.failed {
         return Err(Stop::WriteFault);
     }
@@ -173,12 +174,42 @@ fn fetch<W: Wire, K: Sink>(
     Ok(None)
 }
 
+/// The same for a packet that stays as it is: it is copied into the slot, which is the station's.
+fn answer<W: Wire, K: Sink>(
+    station: &mut Station<Frame>,
+    came: &Came,
+    slot: &mut Frame,
+    log: &mut Log<'_, '_, W, K>,
+) -> Result<Heard, Stop>
+    requires gram { IsGram came.now.frame }
+    requires go { MayGo log.old.moment station.old }
+    requires fine { log.old.failed ≡ false }
+    ensures ends { let script = station_event station.old.rules log.old.moment (Arrive came.now.link (plain came.now.frame)) station.old.state in
+        LogEnds (log_sight W.sight K.sight) result script log.old log.new station.new.state }
+    ensures heard { let script = station_event station.old.rules log.old.moment (Arrive came.now.link (plain came.now.frame)) station.old.state in
+        IfOk result (λ heard. heard ≡ heard_in script Nothing) }
+    ensures failed { log.new.failed ≡ failed_by result }
+    ensures fixed { fixed_of log.new ≡ fixed_of log.old }
+    ensures on { OnOk result (GoesOn log.old.moment 0 station.old station.new) }
+{
+    copy(&came.frame, slot);
+    answer_to(station, came.link, slot, log)
+}
+
+/// Copies a frame into another.
+fn copy(frame: &Frame, into: &mut Frame)
+    ensures { into.new ≡ frame.now }
+{
+    into.refill(frame.as_slice());
+}
+
 /// A packet arrives, and then the shelf is used: it is held where it came too early, and what waits
-/// for it is taken where it was accepted. It answers what is handed in next.
+/// for it is taken where it was accepted. It answers what is handed in next. The slot is the station's.
 fn round<W: Wire, K: Sink>(
     station: &mut Station<Frame>,
     shelf: &mut Shelf,
     came: &Came,
+    slot: &mut Frame,
     log: &mut Log<'_, '_, W, K>,
 ) -> Result<Option<Came>, Stop>
     requires gram { IsGram came.now.frame }
@@ -193,7 +224,7 @@ fn round<W: Wire, K: Sink>(
     ensures past { IsShelfUpTo log.old.moment shelf.new }
     ensures fewer { IfOk result (λ next. IfSome next (λ came. IsGram came.frame × (length shelf.new.held < length shelf.old.held))) }
 {
-    match answer(station, came, log)? {
+    match answer(station, came, slot, log)? {
         Heard::Nothing => Ok(None),
         Heard::Accepted { flow, next } => fetch(shelf, flow, next, log),
         Heard::Refused { flow, replied } => {
@@ -203,11 +234,12 @@ fn round<W: Wire, K: Sink>(
     }
 }
 
-/// Round after round, until nothing is handed in next.
+/// Round after round, until nothing is handed in next. The slot is the station's.
 fn rounds<W: Wire, K: Sink>(
     station: &mut Station<Frame>,
     shelf: &mut Shelf,
     first: Came,
+    slot: &mut Frame,
     log: &mut Log<'_, '_, W, K>,
 ) -> Result<(), Stop>
     requires gram { IsGram first.frame }
@@ -222,24 +254,61 @@ fn rounds<W: Wire, K: Sink>(
     ensures past { IsShelfUpTo log.old.moment shelf.new }
 {
     let mut came = first;
-    'rounds: while let Some(next) = round(station, shelf, &came, log)? {
+    'rounds: while let Some(next) = round(station, shelf, &came, slot, log)? {
         came = next;
     }
     Ok(())
 }
 
-/// A packet arrives at a node. Without a shelf that is one event of its station.
+/// A packet that came on a link, copied.
+fn came_of(link: u16, frame: &Frame) -> Came
+    requires { IsGram frame.now }
+    ensures { came_seen result ≡ datagram link frame.now }
+{
+    let mut copied = Frame::new();
+    copy(frame, &mut copied);
+    Came {
+        link,
+        frame: copied,
+    }
+}
+
+/// A packet arrives at a node that has a shelf. The frame is the station's to change.
+fn arrive_shelved<W: Wire, K: Sink>(
+    station: &mut Station<Frame>,
+    shelf: &mut Shelf,
+    link: u16,
+    frame: &mut Frame,
+    log: &mut Log<'_, '_, W, K>,
+) -> Result<(), Stop>
+    requires gram { IsGram frame.old }
+    requires past { IsShelfUpTo log.old.moment shelf.old }
+    requires go { MayGo log.old.moment station.old }
+    requires fine { log.old.failed ≡ false }
+    ensures ends { let script = rounds (suc (length shelf.old.held)) station.old.rules log.old.moment (first_round (datagram link frame.old) station.old.state shelf.old) in
+        LogEnds (log_sight W.sight K.sight) result script log.old log.new (round_with station.new.state shelf.new None) }
+    ensures failed { log.new.failed ≡ failed_by result }
+    ensures fixed { fixed_of log.new ≡ fixed_of log.old }
+    ensures on { OnOk result (GoesOn log.old.moment 0 station.old station.new) }
+    ensures past { IsShelfUpTo log.old.moment shelf.new }
+{
+    rounds(station, shelf, came_of(link, frame), frame, log)
+}
+
+/// A packet arrives at a node. Without a shelf that is one event of its station, and nothing is copied.
+/// The frame is the station's to change.
 pub fn arrive<W: Wire, K: Sink>(
     station: &mut Station<Frame>,
     shelf: &mut Option<Shelf>,
-    came: Came,
+    link: u16,
+    frame: &mut Frame,
     log: &mut Log<'_, '_, W, K>,
 ) -> Result<(), Stop>
-    requires gram { IsGram came.frame }
+    requires gram { IsGram frame.old }
     requires past { IfSome shelf.old (IsShelfUpTo log.old.moment) }
     requires go { MayGo log.old.moment station.old }
     requires fine { log.old.failed ≡ false }
-    ensures ends { let script = arrive station.old.rules log.old.moment (came_seen came) station.old.state shelf.old in
+    ensures ends { let script = arrive station.old.rules log.old.moment (datagram link frame.old) station.old.state shelf.old in
         LogEnds (log_sight W.sight K.sight) result script log.old log.new (inside station.new.state shelf.new) }
     ensures failed { log.new.failed ≡ failed_by result }
     ensures fixed { fixed_of log.new ≡ fixed_of log.old }
@@ -247,9 +316,9 @@ pub fn arrive<W: Wire, K: Sink>(
     ensures past { IfSome shelf.new (IsShelfUpTo log.old.moment) }
 {
     match shelf {
-        Some(shelf) => rounds(station, shelf, came, log),
+        Some(shelf) => arrive_shelved(station, shelf, link, frame, log),
         None => {
-            answer(station, &came, log)?;
+            answer_to(station, link, frame, log)?;
             Ok(())
         }
     }

@@ -12,9 +12,8 @@ ghost use Rattle.dt_node.specs.Shelving.{plain};
 use dt_host::Host;
 use dt_items::NoMemory;
 use dt_layout::Frame;
-use dt_relay::Carry;
 use dt_reports::Report;
-use dt_station::{Station, StationEvent, Visitor};
+use dt_station::{Station, Visitor};
 use dt_units::Flow;
 
 /// What a station answered to a packet, as far as it concerns a shelf.
@@ -57,6 +56,10 @@ impl<'v, V: Visitor<Frame>> Visitor<Frame> for Listener<'v, V> {
 
     fn out(&mut self, link: u16, packet: Frame) -> Result<(), NoMemory> {
         self.visitor.out(link, packet)
+    }
+
+    fn out_at_once(&mut self, link: u16, frame: &Frame, tag: ()) -> Result<(), NoMemory> {
+        self.visitor.out_at_once(link, frame, tag)
     }
 }
 
@@ -117,43 +120,41 @@ fn heard_after(report: &Report<'_>, before: Heard) -> Heard
     }
 }
 
-/// A packet that came on a link arrives at a station, before a listener. The frame, which must read as a
-/// Deltagram, is copied.
+/// A packet that came on a link arrives at a station, before a listener. The frame must read as a
+/// Deltagram, and is the station's to change.
 fn listen<V: Visitor<Frame>>(
     station: &mut Station<Frame>,
     now: u64,
     link: u16,
-    frame: &Frame,
+    frame: &mut Frame,
     listener: &mut Listener<'_, V>,
 ) -> Result<(), NoMemory>
-    requires gram { IsGram frame.now }
+    requires gram { IsGram frame.old }
     requires go { MayGo now station.old }
-    ensures ends { let script = station_event station.old.rules now (Arrive link (plain frame.now)) station.old.state in
+    ensures ends { let script = station_event station.old.rules now (Arrive link (plain frame.old)) station.old.state in
         Concludes V.tells V.tags V.hands V.fails result script listener.old.visitor.now listener.new.visitor.now station.new.state }
-    ensures heard { let script = station_event station.old.rules now (Arrive link (plain frame.now)) station.old.state in
+    ensures heard { let script = station_event station.old.rules now (Arrive link (plain frame.old)) station.old.state in
         OnOk result (listener.new.heard ≡ heard_in script listener.old.heard) }
     ensures same { listener.new.visitor.ghost_name ≡ listener.old.visitor.ghost_name }
     ensures on { OnOk result (GoesOn now 0 station.old station.new) }
 {
-    let packet = Frame::make(frame, ());
-    let event = StationEvent::Arrive { link, packet };
-    station.event(now, event, &mut [], listener)
+    station.arrive(now, link, frame, (), listener)
 }
 
 /// A packet that came on a link arrives at a station. It answers what the station told, as far as that
-/// concerns a shelf. The frame, which must read as a Deltagram, is copied.
+/// concerns a shelf. The frame must read as a Deltagram, and is the station's to change.
 pub fn hear<V: Visitor<Frame>>(
     station: &mut Station<Frame>,
     now: u64,
     link: u16,
-    frame: &Frame,
+    frame: &mut Frame,
     visitor: &mut V,
 ) -> Result<Heard, NoMemory>
-    requires gram { IsGram frame.now }
+    requires gram { IsGram frame.old }
     requires go { MayGo now station.old }
-    ensures ends { let script = station_event station.old.rules now (Arrive link (plain frame.now)) station.old.state in
+    ensures ends { let script = station_event station.old.rules now (Arrive link (plain frame.old)) station.old.state in
         Concludes V.tells V.tags V.hands V.fails result script visitor.old visitor.new station.new.state }
-    ensures heard { let script = station_event station.old.rules now (Arrive link (plain frame.now)) station.old.state in
+    ensures heard { let script = station_event station.old.rules now (Arrive link (plain frame.old)) station.old.state in
         IfOk result (λ answer. answer ≡ heard_in script heard.Nothing) }
     ensures on { OnOk result (GoesOn now 0 station.old station.new) }
 {

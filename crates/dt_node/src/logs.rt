@@ -95,4 +95,9 @@ impl<'w, 'o, W: Wire, K: Sink> Visitor<Frame> for Log<'w, 'o, W, K> {
         self.give(link, packet.as_slice());
         Ok(())
     }
+
+    fn out_at_once(&mut self, link: u16, frame: &Frame, _tag: ()) -> Result<(), NoMemory> {
+        self.give(link, frame.as_slice());
+        Ok(())
+    }
 }

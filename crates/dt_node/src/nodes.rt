@@ -10,6 +10,7 @@ use dt_layout::Frame;
 use dt_shelf::Shelf;
 use dt_station::Station;
 use std::alloc::Global;
+use std::mem::size_of;
 
 /// How many octets a read takes at most.
 const MOST_READ: usize = 65_536;
@@ -22,9 +23,14 @@ pub struct Node {
     pub next: usize,
     /// Room for what a read takes.
     pub buf: Vec<u8>,
+    /// In which a datagram is handed to the station.
+    pub frame: Box<Frame>,
     /// Where packets are kept that came too early, if its script asks for that.
     pub shelf: Option<Shelf>,
 }
+
+// It holds neither packets nor tables in place.
+const _: () = prove!(size_of::<Node>() <= 512);
 
 impl Node {
     /// The node before its first turn. Takes the room for what may wait on its links
@@ -51,6 +57,7 @@ impl Node {
             station,
             next: 0,
             buf,
+            frame: Box::new(alloc, Frame::new())?,
             shelf,
         })
     }

@@ -1,18 +1,20 @@
 //! A turn of a node.
-ghost use Rattle.std.specs.Prelude.{◌≡◌, ◌*◌, ◌<◌, ◌≤◌, All, IfOk, IfSome, OnOk, false, length, vec_len};
+ghost use Rattle.std.specs.Prelude.{◌≡◌, ◌*◌, ◌<◌, ◌≤◌, All, IfOk, IfSome, OnOk, false, length, true, vec_len};
 ghost use Rattle.dt_edges.specs.Wires.{handed};
+ghost use Rattle.std.specs.Option.{ForSome};
 ghost use Rattle.dt_flow_model.specs.Keeping.{most_moment};
+ghost use Rattle.dt_flow_model.specs.SendActs.{IsBefore};
 ghost use Rattle.dt_layout.specs.Reading.{gram_fault};
 ghost use Rattle.dt_shelf.specs.Shelves.{IsShelfUpTo};
-ghost use Rattle.dt_station.specs.Events.{MayHappen, event_seen};
-ghost use Rattle.dt_world_model.specs.Station.{station_event};
-ghost use Rattle.dt_node.specs.Codes.{GoesOn, HasTakenAtMost, IsCommandOf, IsReady, IsTaskOf, MayGo, MayTurn, frame_octets, left_of, most_commands, most_octets, node_seen, octets_sent, orders_seen, task_seen, turned};
+ghost use Rattle.dt_station.specs.Events.{MayHappenHere, local_seen};
+ghost use Rattle.dt_world_model.specs.Station.{Tick, station_event};
+ghost use Rattle.dt_node.specs.Codes.{GoesOn, HasTakenAtMost, IsCommandOf, IsReady, IsTaskOf, MayGo, MayTurn, left_of, most_commands, most_octets, node_seen, octets_sent, orders_seen, task_seen, turned};
 ghost use Rattle.dt_node.specs.Drafts.{has_link};
 ghost use Rattle.dt_node.specs.Logging.{LogEnds, failed_by, fixed_of, log_sight};
-ghost use Rattle.dt_node.specs.Shelving.{datagram, inside, plain};
+ghost use Rattle.dt_node.specs.Shelving.{datagram, inside};
 ghost use Rattle.dt_node.specs.Turns.{comes, do_due, event_of, finish, hand_in, turn};
 
-use crate::arriving::{Came, arrive, tell};
+use crate::arriving::{arrive, tell};
 use crate::drafts::has_link;
 use crate::logs::Log;
 use crate::nodes::Node;
@@ -23,25 +25,25 @@ use dt_items::NoMemory;
 use dt_layout::{Frame, read_deltagram};
 use dt_reports::Report;
 use dt_shelf::Shelf;
-use dt_station::{InLink, Station, StationEvent};
+use dt_station::{InLink, LocalEvent, Station};
 
 /// One event of the station, with its lines.
 fn happen<W: Wire, K: Sink>(
     station: &mut Station<Frame>,
-    event: StationEvent<'_, Frame>,
+    event: LocalEvent<'_>,
     buf: &mut [u8],
     log: &mut Log<'_, '_, W, K>,
 ) -> Result<(), Stop>
-    requires may { MayHappen frame_octets station.old.rules log.old.moment station.old.state (length buf.old) event }
+    requires may { MayHappenHere station.old.rules log.old.moment station.old.state (length buf.old) event }
     requires go { MayGo log.old.moment station.old }
     requires fine { log.old.failed ≡ false }
-    ensures ends { let script = station_event station.old.rules log.old.moment (event_seen plain (length buf.old) event.entry) station.old.state in
+    ensures ends { let script = station_event station.old.rules log.old.moment (local_seen (length buf.old) event.entry) station.old.state in
         LogEnds (log_sight W.sight K.sight) result script log.old log.new station.new.state }
     ensures failed { log.new.failed ≡ failed_by result }
     ensures fixed { fixed_of log.new ≡ fixed_of log.old }
-    ensures on { OnOk result (GoesOn log.old.moment (octets_sent (event_seen plain (length buf.old) event.entry)) station.old station.new) }
+    ensures on { OnOk result (GoesOn log.old.moment (octets_sent (local_seen (length buf.old) event.entry)) station.old station.new) }
 {
-    let done = station.event(log.moment, event, buf, log);
+    let done = station.local_event(log.moment, event, buf, log);
     if log.failed {
         return Err(Stop::WriteFault);
     }
@@ -51,12 +53,21 @@ fn happen<W: Wire, K: Sink>(
     }
 }
 
-/// Octets that came on a link: they arrive, or give their `bad` line.
+/// Makes the slot hold these octets, for which it has room.
+fn fill(slot: &mut Frame, octets: &[u8])
+    requires { length octets.now ≤ 8222 }
+    ensures { slot.new ≡ octets.now }
+{
+    slot.refill(octets);
+}
+
+/// Octets that came on a link: they arrive, in the slot, or give their `bad` line.
 fn comes<W: Wire, K: Sink>(
     station: &mut Station<Frame>,
     shelf: &mut Option<Shelf>,
     link: u16,
     octets: &[u8],
+    slot: &mut Frame,
     log: &mut Log<'_, '_, W, K>,
 ) -> Result<(), Stop>
     requires past { IfSome shelf.old (IsShelfUpTo log.old.moment) }
@@ -71,20 +82,21 @@ fn comes<W: Wire, K: Sink>(
 {
     match read_deltagram(octets) {
         Err(fault) => tell(&Report::Bad { fault }, log),
-        Ok(_) => match Frame::from_bytes(octets) {
-            Some(frame) => arrive(station, shelf, Came { link, frame }, log),
-            None => unreachable!(),
-        },
+        Ok(_) => {
+            fill(slot, octets);
+            arrive(station, shelf, link, slot, log)
+        }
     }
 }
 
-/// Hands in what the last turn took.
+/// Hands in what the last turn took, in the slot.
 fn hand_in<W: Wire, K: Sink>(
     station: &mut Station<Frame>,
     shelf: &mut Option<Shelf>,
     ins: &[InLink],
     came: Option<(u16, usize)>,
     octets: &[u8],
+    slot: &mut Frame,
     log: &mut Log<'_, '_, W, K>,
 ) -> Result<(), Stop>
     requires ins { station.old.state.relay.ins ≡ ins.now }
@@ -101,7 +113,7 @@ fn hand_in<W: Wire, K: Sink>(
 {
     match came {
         Some((link, len)) if has_link(link, ins) => {
-            comes(station, shelf, link, &octets[..len], log)
+            comes(station, shelf, link, &octets[..len], slot, log)
         }
         _ => Ok(()),
     }
@@ -133,7 +145,7 @@ fn do_task<W: Wire, K: Sink>(
             end,
             octets,
         } => {
-            let event = StationEvent::Send {
+            let event = LocalEvent::Send {
                 flow: *flow,
                 octets,
                 begin: *begin,
@@ -143,7 +155,7 @@ fn do_task<W: Wire, K: Sink>(
         }
         Task::Read { flow, max } => {
             let room = *max as usize;
-            let event = StationEvent::Read { flow: *flow };
+            let event = LocalEvent::Read { flow: *flow };
             happen(station, event, &mut buf[..room], log)
         }
     }
@@ -177,6 +189,38 @@ fn do_due<W: Wire, K: Sink>(
     Ok(())
 }
 
+/// Whether a moment is due by now.
+fn is_due(moment: Option<u64>, now: u64) -> bool
+    ensures due { result ≡ true → ForSome moment (λ m. m ≤ now) }
+    ensures later { result ≡ false → IsBefore now moment }
+{
+    match moment {
+        Some(moment) => moment <= now,
+        None => false,
+    }
+}
+
+/// Lets the station tick where something is due. Before its wake a tick would tell nothing and change
+/// nothing.
+#[tactic(auto, using(crate::proofs::Readying::goes_first))]
+fn tick<W: Wire, K: Sink>(
+    station: &mut Station<Frame>,
+    log: &mut Log<'_, '_, W, K>,
+) -> Result<(), Stop>
+    requires go { MayGo log.old.moment station.old }
+    requires fine { log.old.failed ≡ false }
+    ensures ends { let script = station_event station.old.rules log.old.moment Tick station.old.state in
+        LogEnds (log_sight W.sight K.sight) result script log.old log.new station.new.state }
+    ensures failed { log.new.failed ≡ failed_by result }
+    ensures fixed { fixed_of log.new ≡ fixed_of log.old }
+    ensures on { OnOk result (GoesOn log.old.moment 0 station.old station.new) }
+{
+    if !is_due(station.wake(), log.moment) {
+        return Ok(());
+    }
+    happen(station, LocalEvent::Tick, &mut [], log)
+}
+
 /// Ends the run where the stop is due, and ticks else. It says whether the stop was due.
 fn finish<W: Wire, K: Sink>(
     orders: &Orders,
@@ -197,7 +241,7 @@ fn finish<W: Wire, K: Sink>(
         tell(&Report::End, log)?;
         return Ok(true);
     }
-    happen(&mut node.station, StationEvent::Tick, &mut [], log)?;
+    tick(&mut node.station, log)?;
     Ok(false)
 }
 
@@ -221,7 +265,16 @@ pub fn turn<W: Wire, K: Sink>(
     ensures going { IfOk result (λ stopped. stopped ≡ false → log.old.moment < orders.now.stop) }
 {
     let ins = &orders.setup.ins;
-    hand_in(&mut node.station, &mut node.shelf, ins, came, octets, log)?;
+    let slot = &mut *node.frame;
+    hand_in(
+        &mut node.station,
+        &mut node.shelf,
+        ins,
+        came,
+        octets,
+        slot,
+        log,
+    )?;
     do_due(orders, node, log)?;
     finish(orders, node, log)
 }

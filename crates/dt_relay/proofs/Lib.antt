@@ -3,3 +3,4 @@ pub mod Links
 pub mod Lookups
 pub mod Past
 pub mod Queueing
+pub mod Straight

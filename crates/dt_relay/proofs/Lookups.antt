@@ -1,11 +1,14 @@
 -- What tables of places tell.
-use Rattle.std.proofs.Common.{◌≡◌, ℕ, zero, suc, ◌+◌, ◌<◌, ◌≤◌, ◌==◌, List, [], ◌∷◌, Bool, true, false, cond, Option, Some, None, get_or, length, refl, take, arith, if◌then◌else◌, add-zero, add-one, sym, ap, map, IfSome, slice_set, ◌∙◌}
+use Rattle.std.proofs.Math.Seq.{map-set_same}
+use Rattle.std.proofs.lemmas.List.{get_or-map, length-map}
+use Rattle.std.proofs.Common.{◌≡◌, ℕ, zero, suc, ◌+◌, ◌<◌, ◌≤◌, ◌==◌, List, [], ◌∷◌, Bool, true, false, cond, Option, Some, None, get_or, length, refl, take, arith, if◌then◌else◌, add-zero, add-one, sym, ap, map, IfSome, slice_set, ◌∙◌, nat_eq}
+use Rattle.std.proofs.lemmas.Bool.Decides.{nat_tests}
 use Rattle.dt_world_model.specs.declared.links.InLink.{InLink}
 use Rattle.dt_world_model.specs.declared.links.Route.{Route}
 use Rattle.dt_world_model.specs.declared.links.OutLink.{OutLink}
 use Rattle.dt_world_model.specs.Relay.{Out, charge_of, empty_out, route_to}
-use Rattle.dt_relay.specs.Places.{TellsPlaces, link_of, place_from, place_of}
-use Rattle.std.specs.HashMap.{HashMap}
+use Rattle.dt_relay.specs.Places.{AreFirsts, TellsPlaces, link_in, link_of, place_from, place_of}
+use Rattle.std.specs.HashMap.{HashMap, get}
 use Rattle.std.specs.declared.hash.FoldHasher.{FoldHasher}
 use Rattle.std.specs.declared.hash.BuildHasherDefault.{BuildHasherDefault}
 use Rattle.dt_relay.proofs.Links.{place_after}
@@ -99,10 +102,72 @@ all_within key k None xs h = tt
 all_within key k (Some j) xs h = place_within key k j xs h
 
 -- an element that keeps its key keeps its place
-place_set : {A : Type 0} (key : A → ℕ) (i k n : ℕ) (xs : List A) (x y : A) → x ≡ get_or xs n x → key y ≡ key x → place_from key i k (slice_set xs n y) ≡ place_from key i k xs
+pub place_set : {A : Type 0} (key : A → ℕ) (i k n : ℕ) (xs : List A) (x y : A) → x ≡ get_or xs n x → key y ≡ key x → place_from key i k (slice_set xs n y) ≡ place_from key i k xs
 place_set key i k n [] x y is same = refl
 place_set key i k zero (z ∷ zs) x y is same = let e : key y ≡ key z = same ∙ ap key is in rw e refl
 place_set key i k (suc n) (z ∷ zs) x y is same = rw (place_set key (i + 1) k n zs x y is same) refl
 
 pub tells_set : {A : Type 0} (key : A → ℕ) (n : ℕ) (xs : List A) (x y : A) (table : HashMap ℕ ℕ (BuildHasherDefault FoldHasher)) → x ≡ get_or xs n x → key y ≡ key x → TellsPlaces key xs table → TellsPlaces key (slice_set xs n y) table
 tells_set key n xs x y table is same tells = λ k. rw (place_set key 0 k n xs x y is same) (tells k)
+
+-- for each place the first of its link
+module _ {T : Type 0} where
+  places_set : (n : ℕ) (outs : List (Out T)) (x y : Out T) (links : List ℕ) → x ≡ get_or outs n x → link_of y ≡ link_of x →
+      map (λ link. place_of link_of link (slice_set outs n y)) links ≡ map (λ link. place_of link_of link outs) links
+  places_set n outs x y [] is same = refl
+  places_set n outs x y (link ∷ links) is same = rw (place_set link_of 0 link n outs x y is same, places_set n outs x y links is same) refl
+
+  pub firsts_set : (n : ℕ) (outs : List (Out T)) (x y : Out T) (firsts : List (Option ℕ)) → x ≡ get_or outs n x → link_of y ≡ link_of x → AreFirsts outs firsts → AreFirsts (slice_set outs n y) firsts
+  firsts_set n outs x y firsts is same h =
+      h ∙ sym (places_set n outs x y (map link_of outs) is same)
+      ∙ ap (map (λ link. place_of link_of link (slice_set outs n y))) (sym (map-set_same link_of outs n y x (same ∙ ap link_of is)))
+
+  told_firsts : (outs : List OutLink) (queues : List (Out T)) (table : HashMap ℕ ℕ (BuildHasherDefault FoldHasher)) → TellsPlaces link_of queues table →
+      map (λ (o : OutLink). get nat_eq table o.link) outs ≡ map (λ link. place_of link_of link queues) (map link_of (map (λ (o : OutLink). empty_out {T = T} o.link o.pace) outs))
+  told_firsts [] queues table tells = refl
+  told_firsts (o ∷ outs) queues table tells = rw (tells o.link, told_firsts outs queues table tells) refl
+
+  pub firsts_queues : (outs : List OutLink) (queues : List (Out T)) (firsts : List (Option ℕ)) (table : HashMap ℕ ℕ (BuildHasherDefault FoldHasher)) → queues ≡ map (λ (o : OutLink). empty_out o.link o.pace) outs →
+      TellsPlaces link_of queues table → firsts ≡ map (λ (o : OutLink). get nat_eq table o.link) outs → AreFirsts queues firsts
+  firsts_queues outs queues firsts table same tells h =
+      h ∙ told_firsts outs queues table tells ∙ ap (λ (qs : List (Out T)). map (λ link. place_of link_of link queues) (map link_of qs)) (sym same)
+
+  pub first_at : (outs : List (Out T)) (firsts : List (Option ℕ)) (place : ℕ) (told : Option ℕ) → AreFirsts outs firsts → place < length outs → told ≡ get_or firsts place told →
+      told ≡ place_of link_of (link_in outs place) outs
+  first_at outs firsts place told h small is =
+      is ∙ ap (λ (fs : List (Option ℕ)). get_or fs place told) h
+      ∙ get_or-map (λ (link : ℕ). place_of link_of link outs) (map link_of outs) place 0 told (rw (length-map outs link_of) small)
+
+-- an element at the place that is told has the key
+module _ {A : Type 0} (key : A → ℕ) where
+  found_step : (b : Bool) (i k j n : ℕ) (rest : Option ℕ) (y x : A) (ys : List A) → (key y == k) ≡ b → (rest ≡ Some j → i + 1 ≤ j) →
+      ((m : ℕ) → j ≡ i + 1 + m → rest ≡ Some j → x ≡ get_or ys m x → key x ≡ k) →
+      j ≡ i + n → cond b (Some i) rest ≡ Some j → x ≡ get_or (y ∷ ys) n x → key x ≡ k
+  found_step true i k j zero rest y x ys test later ih e h is = let same : key y ≡ k = grind (arith, nat_tests) in ap key is ∙ same
+  found_step true i k j (suc n) rest y x ys test later ih e h is = let same : i ≡ j = cc in absurd (omega arith)
+  found_step false i k j zero rest y x ys test later ih e h is = let after : i + 1 ≤ j = later h in absurd (omega arith)
+  found_step false i k j (suc n) rest y x ys test later ih e h is = ih n (omega arith) h is
+
+  found_from : (i k j n : ℕ) (xs : List A) (x : A) → j ≡ i + n → place_from key i k xs ≡ Some j → x ≡ get_or xs n x → key x ≡ k
+  found_from i k j n [] x e h is = absurd (cc)
+  found_from i k j n (y ∷ ys) x e h is = found_step (key y == k) i k j n (place_from key (i + 1) k ys) y x ys refl (place_after key (i + 1) k j ys) (λ m. found_from (i + 1) k j m ys x) e h is
+
+  pub found_key : (k n : ℕ) (xs : List A) (x : A) → Some n ≡ place_of key k xs → x ≡ get_or xs n x → key x ≡ k
+  found_key k n xs x h is = found_from 0 k n n xs x (omega arith) (sym h) is
+
+-- a link stands at the place that is told of it
+module _ {T : Type 0} where
+  link_step : (b : Bool) (i k j n : ℕ) (rest : Option ℕ) (o : Out T) (outs : List (Out T)) → (link_of o == k) ≡ b → (rest ≡ Some j → i + 1 ≤ j) →
+      ((m : ℕ) → j ≡ i + 1 + m → rest ≡ Some j → link_in outs m ≡ k) →
+      j ≡ i + n → cond b (Some i) rest ≡ Some j → link_in (o ∷ outs) n ≡ k
+  link_step true i k j zero rest o outs test later ih e h = let same : link_of o ≡ k = grind (arith, nat_tests) in same
+  link_step true i k j (suc n) rest o outs test later ih e h = let same : i ≡ j = cc in absurd (omega arith)
+  link_step false i k j zero rest o outs test later ih e h = let after : i + 1 ≤ j = later h in absurd (omega arith)
+  link_step false i k j (suc n) rest o outs test later ih e h = ih n (omega arith) h
+
+  link_from : (i k j n : ℕ) (outs : List (Out T)) → j ≡ i + n → place_from link_of i k outs ≡ Some j → link_in outs n ≡ k
+  link_from i k j n [] e h = absurd (cc)
+  link_from i k j n (o ∷ outs) e h = link_step (link_of o == k) i k j n (place_from link_of (i + 1) k outs) o outs refl (place_after link_of (i + 1) k j outs) (λ m. link_from (i + 1) k j m outs) e h
+
+  pub link_found : (link place : ℕ) (outs : List (Out T)) → Some place ≡ place_of link_of link outs → link_in outs place ≡ link
+  link_found link place outs h = link_from 0 link place place outs (omega arith) (sym h)

@@ -1,4 +1,5 @@
 pub mod Carrying
+pub mod Passages
 pub mod Places
 pub mod Queues
 pub mod Ways

@@ -41,6 +41,10 @@ pub trait Carry: Drop {
     /// The frame.
     fn frame(&self) -> &Frame
         ensures { result.now ≡ octets self.now };
+
+    /// The tag alone. The frame is let go.
+    fn into_tag(self) -> Self::Tag
+        ensures { result ≡ label self };
 }
 
 /// A frame alone has nothing written on it.
@@ -72,6 +76,8 @@ impl Carry for Frame {
     fn frame(&self) -> &Frame {
         self
     }
+
+    fn into_tag(self) {}
 }
 
 // The Deltagram that the octets spell. Its cost doesn't depend on the body.

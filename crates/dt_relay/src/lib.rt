@@ -2,12 +2,14 @@
 #![tactic(auto)]
 
 mod carrying;
+mod passages;
 mod places;
 mod queues;
 mod relays;
 
 pub use carrying::Carry;
 pub use dt_world_model::{Entered, InLink, OutLink, Route};
+pub use passages::Passage;
 pub use queues::Left;
 pub use relays::{Relay, earlier};
 

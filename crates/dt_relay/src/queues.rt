@@ -1,10 +1,12 @@
-ghost use Rattle.std.specs.Prelude.{◌≡◌, ◌≤◌, IfOk, IfSome};
+ghost use Rattle.std.specs.Prelude.{◌≡◌, ◌≤◌, IfOk, IfSome, is_some};
 ghost use Rattle.dt_layout.specs.Carried.{IsGram};
 ghost use Rattle.dt_flow_model.specs.Keeping.{most_moment};
 ghost use Rattle.dt_world_model.specs.Relay.{IsOutUpTo, empty_out, leave, may_leave_from, out_wake, push};
 ghost use Rattle.dt_relay.specs.Carrying.{IfOut, left_seen, parcel_seen};
+ghost use Rattle.dt_relay.specs.Passages.{HasLife, passage_on, passed_on};
 
 use crate::carrying::Carry;
+use crate::passages::Passage;
 use circular_buffer::HeapCircularBuffer;
 use dt_items::NoMemory;
 use dt_world_model::Entered;
@@ -104,6 +106,36 @@ impl<P: Carry> Queue<P> {
         packet.lower(charge as u32);
         self.last = Some(now);
         Some(Left::Out(packet))
+    }
+
+    /// Whether the first that waits may leave: something waits, and the link doesn't keep its pace.
+    pub(crate) fn is_ready(&self, now: u64) -> bool
+        ensures { result ≡ is_some (leave now self.now).0 }
+    {
+        !self.ring.is_empty() && now >= self.may_leave_from()
+    }
+
+    /// Lets a packet of this life go straight on, where nothing waits and the link doesn't keep its pace.
+    /// Only a packet that leaves changes the queue.
+    pub(crate) fn pass(&mut self, life: u32, now: u64) -> Passage
+        requires moment { now ≤ most_moment }
+        ensures passage { result ≡ passage_on life now self.old }
+        ensures life { HasLife life result }
+        ensures queue { self.new ≡ passed_on result now self.old }
+    {
+        let link = self.link;
+        let waiting = self.ring.len();
+        if waiting >= MOST_ON_LINK {
+            return Passage::Full { link };
+        }
+        if waiting > 0 || now < self.may_leave_from() {
+            return Passage::Waits { link };
+        }
+        if life <= 1 {
+            return Passage::Expired { link };
+        }
+        self.last = Some(now);
+        Passage::Leaves { link }
     }
 
     /// The moment from which on the next may leave.

@@ -1,16 +1,20 @@
-ghost use Rattle.std.specs.Prelude.{ℕ, ◌≡◌, ◌≤◌, ◌<◌, All, IfOk, IfSome, length, map, option_map, slice_index};
-ghost use Rattle.dt_layout.specs.Carried.{IsGram, to_of};
+ghost use Rattle.std.specs.Prelude.{ℕ, ◌≡◌, ◌≤◌, ◌<◌, All, IfOk, IfSome, None, Some, false, if◌then◌else◌, is_some, length, map, nat_eq, option_map};
+ghost use Rattle.std.specs.HashMap.{get};
+ghost use Rattle.dt_layout.specs.Carried.{IsGram, life_of, to_of};
 ghost use Rattle.dt_flow_model.specs.Keeping.{most_moment};
 ghost use Rattle.dt_flow_model.specs.SendActs.{earlier};
-ghost use Rattle.dt_world_model.specs.Relay.{IsOutUpTo, admit, charge_of, empty_out, enter, leave, new_relay, on_link, relay_wake, route_to, with_outs};
+ghost use Rattle.dt_world_model.specs.Relay.{IsOutUpTo, Parcel, admit, charge_of, empty_out, enter, leave, new_relay, on_link, relay_wake, route_to, with_outs};
 ghost use Rattle.dt_relay.specs.Carrying.{IfOut, left_seen, parcel_seen};
-ghost use Rattle.dt_relay.specs.Places.{link_of, place_of};
+ghost use Rattle.dt_relay.specs.Passages.{HasLife, Passes, passage_by};
+ghost use Rattle.dt_relay.specs.Places.{link_in, link_of, place_of};
 ghost use Rattle.dt_relay.specs.Ways.{StaysUnlessQueued, entered_by, way_to};
 
 use crate::carrying::Carry;
+use crate::passages::Passage;
 use crate::places::{Places, place_in, places_in};
 use crate::queues::{Left, Queue};
 use dt_items::NoMemory;
+use dt_layout::Frame;
 use dt_world_model::{Entered, InLink, OutLink, Route};
 use std::alloc::Global;
 use std::marker::Model;
@@ -29,6 +33,8 @@ pub struct Relay<P: Carry> {
     out_places: Places,
     in_places: Places,
     route_places: Places,
+    /// For each out link, where the first stands that has its number.
+    firsts: Vec<Option<usize>>,
 }
 
 impl<P: Carry> Model for Relay<P> {
@@ -39,7 +45,7 @@ impl<P: Carry> Model for Relay<P> {
 
     ghost view = { λ r. record { outs = r.outs.items; ins = r.ins.items; routes = r.routes.items } };
 
-    ghost invariant = { λ r. ArePlaces r.outs.items r.ins.items r.routes.items r.out_places r.in_places r.route_places };
+    ghost invariant = { λ r. ArePlaces r.outs.items r.ins.items r.routes.items r.out_places r.in_places r.route_places r.firsts.items };
 }
 
 impl<P: Carry> Relay<P> {
@@ -59,13 +65,16 @@ impl<P: Carry> Relay<P> {
         // Nothing that it keeps is past.
         ensures past { (now : ℕ) → IfOk result (λ relay. All (IsOutUpTo now) relay.outs) }
     {
+        let out_places = places_in(alloc, outs)?;
+        let firsts = firsts_of(alloc, outs, &out_places)?;
         Ok(Relay {
             outs: empty_queues(alloc, outs)?,
             ins: Vec::from_slice(alloc, ins)?,
             routes: Vec::from_slice(alloc, routes)?,
-            out_places: places_in(alloc, outs)?,
+            out_places,
             in_places: places_in(alloc, ins)?,
             route_places: places_in(alloc, routes)?,
+            firsts,
         })
     }
 
@@ -85,6 +94,23 @@ impl<P: Carry> Relay<P> {
         let mut admitted = packet;
         admitted.lower(charge);
         Some(admitted)
+    }
+
+    /// The same for a packet that stays where it is: its octets are in the frame, which must read as a
+    /// Deltagram. It is false exactly where the packet isn't admitted, and then the frame is as it was.
+    /// Else its life is less by the charge.
+    pub fn admit_frame(&self, link: u16, frame: &mut Frame) -> bool
+        requires { IsGram frame.old }
+        ensures admitted { (tag : P.Tag) → admit link (record { octets = frame.old; tag = tag }) self.now ≡ (if result then Some (record { octets = frame.new; tag = tag }) else None) }
+        ensures gram { IsGram frame.new }
+        ensures stays { result ≡ false → frame.new ≡ frame.old }
+    {
+        let charge = self.charge(link);
+        if Carry::life(frame) <= charge {
+            return false;
+        }
+        frame.lower(charge);
+        true
     }
 
     /// A packet, which must read as a Deltagram, is to wait from `now` on:
@@ -118,6 +144,40 @@ impl<P: Carry> Relay<P> {
         }
     }
 
+    /// A packet to this node, with so many milliseconds of life, comes to its link at `now`, which is at
+    /// most 2^62, and goes straight on if it can. No packet is moved: this is [`Relay::enter`] and
+    /// then [`Relay::leave`] for any packet that tells this node and this life.
+    ///
+    /// - `NoRoute`, `Full`: as [`Relay::enter`] answers. Nothing changes.
+    /// - `Waits`: others wait before it on its link, or a packet has left the link before and that was
+    ///   less than `pace` ago. Nothing changes, and [`Relay::enter`] would let it wait.
+    /// - `Expired`: it has no more than one millisecond to live. It is gone, and the last moment out stays.
+    /// - `Leaves`: it is to be handed over, with its life less by one millisecond, and the last moment out
+    ///   is `now`.
+    ///
+    /// Its cost is that of two look-ups.
+    pub fn pass(&mut self, to: u32, life: u32, now: u64) -> Passage
+        requires past { All (IsOutUpTo now) self.old.outs }
+        requires moment { now ≤ most_moment }
+        ensures passes { (parcel : Parcel P.Tag) → to_of parcel.octets ≡ to → life_of parcel.octets ≡ life → Passes parcel now result self.old self.new }
+        // Which answer comes, and where: each cause exactly.
+        ensures cause { result ≡ passage_by to life now (way_to to self.old) }
+        ensures life { HasLife life result }
+        ensures others { self.new ≡ with_outs self.old self.new.outs }
+        ensures past { All (IsOutUpTo now) self.new.outs }
+    {
+        match self.route(to) {
+            None => Passage::NoRoute { to },
+            Some(link) => match self.place(link) {
+                None => Passage::NoRoute { to },
+                Some(i) => {
+                    let queue = &mut self.outs[i];
+                    queue.pass(life, now)
+                }
+            },
+        }
+    }
+
     /// The first that waits on the link is taken at `now`, which is at most 2^62, and no moment that the
     /// relay keeps is after it.
     ///
@@ -135,6 +195,44 @@ impl<P: Carry> Relay<P> {
         ensures gram { IfOut result (λ packet. IsGram (P.octets packet)) }
     {
         match self.place(link) {
+            None => None,
+            Some(i) => {
+                let queue = &mut self.outs[i];
+                queue.leave(now)
+            }
+        }
+    }
+
+    /// Whether a packet may leave at `now` on the out link at this place, counted from 0 in the order of
+    /// `outs`: something waits there, and the link doesn't keep its pace. It looks no number up.
+    pub fn is_ready(&self, place: usize, now: u64) -> bool
+        requires { place < length self.now.outs }
+        ensures { let link = link_in self.now.outs place in
+            result ≡ is_some (on_link link None (leave now) self.now.outs).0 }
+    {
+        match self.first(place) {
+            None => false,
+            Some(i) => {
+                let queue = &self.outs[i];
+                queue.is_ready(now)
+            }
+        }
+    }
+
+    /// [`Relay::leave`] on the out link at this place, counted from 0 in the order of `outs`. It looks no
+    /// number up.
+    pub fn leave_at(&mut self, place: usize, now: u64) -> Option<Left<P>>
+        requires place { place < length self.old.outs }
+        requires past { All (IsOutUpTo now) self.old.outs }
+        requires moment { now ≤ most_moment }
+        ensures left { let link = link_in self.old.outs place in
+            left_seen P.octets P.label result ≡ (on_link link None (leave now) self.old.outs).0 }
+        ensures after { let link = link_in self.old.outs place in
+            self.new ≡ with_outs self.old (on_link link None (leave now) self.old.outs).1 }
+        ensures past { All (IsOutUpTo now) self.new.outs }
+        ensures gram { IfOut result (λ packet. IsGram (P.octets packet)) }
+    {
+        match self.first(place) {
             None => None,
             Some(i) => {
                 let queue = &mut self.outs[i];
@@ -166,7 +264,7 @@ impl<P: Carry> Relay<P> {
     /// The number of the out link at this place, counted from 0 in the order of `outs`.
     pub fn link_at(&self, place: usize) -> u16
         requires { place < length self.now.outs }
-        ensures { result ≡ slice_index (map (λ out. out.link) self.now.outs) place }
+        ensures { result ≡ link_in self.now.outs place }
     {
         self.outs[place].link()
     }
@@ -189,7 +287,19 @@ impl<P: Carry> Relay<P> {
         }
     }
 
-    fn place(&self, link: u16) -> Option<usize>
+    /// The place of the first out link with the number of the one at this place.
+    fn first(&self, place: usize) -> Option<usize>
+        requires { place < length self.now.outs }
+        ensures first { result ≡ place_of link_of (link_in self.now.outs place) self.now.outs }
+        ensures within { IfSome result (λ i. i < length self.now.outs) }
+    {
+        let first = self.firsts[place];
+        first
+    }
+
+    /// The place of an out link, counted from 0 in the order of `outs`: of the first that has this
+    /// number, or none where none has it. Its cost is that of a look-up.
+    pub fn place(&self, link: u16) -> Option<usize>
         ensures place { result ≡ place_of link_of link self.now.outs }
         ensures within { IfSome result (λ i. i < length self.now.outs) }
     {
@@ -206,6 +316,21 @@ fn empty_queues<P: Carry>(alloc: Global, outs: &[OutLink]) -> Result<Vec<Queue<P
         queues.push(Queue::new(alloc, out.link, out.pace)?)?;
     }
     Ok(queues)
+}
+
+// For each out link the place of the first that has its number.
+fn firsts_of(
+    alloc: Global,
+    outs: &[OutLink],
+    places: &Places,
+) -> Result<Vec<Option<usize>>, NoMemory>
+    ensures { IfOk result (λ firsts. firsts.items ≡ map (λ o. get nat_eq places.now o.link) outs.now) }
+{
+    let mut firsts = Vec::with_capacity(alloc, outs.len())?;
+    for out in outs {
+        firsts.push(place_in(places, u32::from(out.link)))?;
+    }
+    Ok(firsts)
 }
 
 /// The earlier of two moments, each of which may be none.

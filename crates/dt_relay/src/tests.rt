@@ -2,7 +2,7 @@ ghost use Rattle.std.specs.Prelude.{◌≡◌, ◌≤◌, ◌<◌, ◌^◌, All}
 ghost use Rattle.dt_layout.specs.Carried.{IsGram, life_of};
 ghost use Rattle.dt_world_model.specs.Relay.{IsOutUpTo};
 
-use crate::{Carry, Entered, InLink, Left, OutLink, Relay, Route};
+use crate::{Carry, Entered, InLink, Left, OutLink, Passage, Relay, Route};
 use dt_items::NoMemory;
 use dt_layout::{Frame, Packet, write_frame};
 use std::alloc::Global;
@@ -17,8 +17,12 @@ enum Step {
     Admits(u16, u32, Option<u32>),
     // A packet to a node is to wait.
     Enters(u32, u32, Entered),
+    // A packet to a node with this life goes straight on if it can.
+    GoesOn(u32, u32, Passage),
     // The first leaves a link with this life, or expires with none left, or nothing does.
     Leaves(u16, Option<u32>),
+    // The same on the link at a place, and whether something may leave there.
+    LeavesAt(usize, bool),
     Wakes(Option<u64>),
     Passes(u64),
 }
@@ -98,8 +102,22 @@ impl Bench {
         }
     }
 
+    fn goes_on(&mut self, rt: &impl Abort, life: u32, to: u32, wanted: Passage) {
+        let passage = self.relay.pass(to, life, self.now);
+        assert_eq!(rt; passage, wanted);
+    }
+
+    fn leaves_at(&mut self, rt: &impl Abort, place: usize, wanted: bool) {
+        assert!(rt; place < self.relay.links());
+        assert_eq!(rt; self.relay.is_ready(place, self.now), wanted);
+        let left = self.relay.leave_at(place, self.now);
+        assert_eq!(rt; left.is_some(), wanted);
+    }
+
     fn step(&mut self, rt: &impl Abort, step: Step) {
         match step {
+            Step::GoesOn(life, to, wanted) => self.goes_on(rt, life, to, wanted),
+            Step::LeavesAt(place, wanted) => self.leaves_at(rt, place, wanted),
             Step::Admits(link, life, wanted) => self.admits(rt, link, life, wanted),
             Step::Enters(life, to, wanted) => self.enters(rt, life, to, wanted),
             Step::Leaves(link, wanted) => self.leaves(rt, link, wanted),
@@ -178,6 +196,41 @@ fn packets_pay_and_wait(rt: HostRuntime) -> Result<(), Fail> {
     Ok(())
 }
 
+const GOES_ON: Passage = Passage::Leaves { link: 5 };
+
+const HAS_TO_WAIT: Passage = Passage::Waits { link: 5 };
+
+// Straight on goes what needs not wait, and it sets the pace. A link is named by its place, and the
+// second of a number stands for the first.
+const STRAIGHT_STEPS: [Step; 16] = [
+    Step::GoesOn(5000, 4, Passage::NoRoute { to: 4 }),
+    Step::GoesOn(1, 2, Passage::Expired { link: 5 }),
+    Step::GoesOn(2, 2, GOES_ON),
+    Step::GoesOn(5000, 2, HAS_TO_WAIT),
+    Step::Wakes(None),
+    Step::Enters(5000, 2, QUEUED),
+    Step::LeavesAt(0, false),
+    Step::Passes(999),
+    Step::LeavesAt(2, false),
+    Step::Passes(1),
+    Step::GoesOn(5000, 2, HAS_TO_WAIT),
+    Step::LeavesAt(1, false),
+    Step::LeavesAt(2, true),
+    Step::LeavesAt(0, false),
+    Step::Passes(1000),
+    Step::GoesOn(5000, 2, GOES_ON),
+];
+
+#[test]
+fn what_needs_not_wait_goes_straight_on(rt: HostRuntime) -> Result<(), Fail> {
+    let again = OutLink { link: 5, pace: 7 };
+    let mut bench = Bench::new(rt.alloc(), &[OUTS[0], OUTS[1], again], &INS, &ROUTES)?;
+    for step in STRAIGHT_STEPS {
+        bench.step(&rt, step);
+    }
+    Ok(())
+}
+
 #[test]
 fn sixty_four_wait_and_no_more(rt: HostRuntime) -> Result<(), Fail> {
     let mut bench = Bench::new(rt.alloc(), &OUTS, &INS, &ROUTES)?;
@@ -187,6 +240,7 @@ fn sixty_four_wait_and_no_more(rt: HostRuntime) -> Result<(), Fail> {
         bench.step(&rt, Step::Enters(5000 + waiting, 2, QUEUED));
     }
     bench.step(&rt, Step::Enters(9000, 2, Entered::Full { link: 5 }));
+    bench.step(&rt, Step::GoesOn(9000, 2, Passage::Full { link: 5 }));
     bench.step(&rt, Step::Leaves(5, None));
     bench.step(&rt, Step::Wakes(Some(1000)));
     bench.step(&rt, Step::Passes(1000));
@@ -239,6 +293,10 @@ impl Carry for Marked {
 
     fn frame(&self) -> &Frame {
         &self.frame
+    }
+
+    fn into_tag(self) -> u64 {
+        self.mark
     }
 }
 

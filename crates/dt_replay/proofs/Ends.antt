@@ -6,9 +6,11 @@ use Rattle.dt_fold.specs.declared.stops.Stop.TheVariants as stops
 use Rattle.dt_fold.specs.Folds.{Folded, fold_input}
 use Rattle.dt_fold.specs.Logging.{Fills}
 use Rattle.dt_replay.specs.Replays.{Replays, outcome_of}
-use Rattle.dt_replay.specs.Schedules.{Empty, Scene, replayed, schedule_turns}
+use Rattle.dt_world_model.specs.World.{World}
+use Rattle.dt_scenario.specs.Scenes.{Empty, Scene, scenario_turns}
+use Rattle.dt_replay.specs.Schedules.{replayed, simulates_world}
 
-replayed_is : (octets : List ℕ) → fold_input schedule_turns Empty octets ≡ replayed octets
+replayed_is : (octets : List ℕ) → fold_input (scenario_turns simulates_world) Empty octets ≡ replayed octets
 unfolding replayed
 replayed_is octets = refl
 
@@ -18,6 +20,6 @@ ends_by octets (Ok false) a b f = (sym f.0, f.1, f.2)
 ends_by octets (Err stops.NoMemory) a b f = f
 ends_by octets (Err stops.WriteFault) a b f = f
 
-pub replay_ends : (octets : List ℕ) (scene : Scene) (r : Result Bool Stop) (a b : SinkSight) → scene ≡ Empty → Fills (fold_input schedule_turns scene octets) r a b → Replays (outcome_of r) octets a b
+pub replay_ends : (octets : List ℕ) (scene : Scene World) (r : Result Bool Stop) (a b : SinkSight) → scene ≡ Empty → Fills (fold_input (scenario_turns simulates_world) scene octets) r a b → Replays (outcome_of r) octets a b
 replay_ends octets scene r a b e f =
-    ends_by octets r a b (subst (λ (all : Folded Scene). Fills all r a b) (ap (λ (s : Scene). fold_input schedule_turns s octets) e ∙ replayed_is octets) f)
+    ends_by octets r a b (subst (λ (all : Folded (Scene World)). Fills all r a b) (ap (λ (s : Scene World). fold_input (scenario_turns simulates_world) s octets) e ∙ replayed_is octets) f)

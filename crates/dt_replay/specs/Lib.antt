@@ -1,4 +1,2 @@
 pub mod Schedules
-pub mod Scenes
-pub mod Writing
 pub mod Replays

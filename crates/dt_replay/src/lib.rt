@@ -3,7 +3,6 @@
 #![tactic(auto)]
 
 mod laws;
-mod logs;
 mod outcomes;
 mod replaying;
 mod running;
@@ -12,5 +11,3 @@ mod schedules;
 pub use laws::world_of_a_schedule_is_safe;
 pub use outcomes::Outcome;
 pub use replaying::replay;
-pub use running::stepped;
-pub use schedules::{MISPLACED, Part, add_link, add_route, add_station, begin, configure};

@@ -4,9 +4,10 @@ ghost use Rattle.dt_replay.specs.Replays.{Replays, outcome_of};
 ghost use Rattle.dt_replay.specs.Schedules.{world_after_lines};
 
 use crate::outcomes::Outcome;
-use crate::schedules::Schedule;
+use crate::schedules::ScheduledWorld;
 use dt_edges::Sink;
 use dt_fold::{Stop, fold_behind_buffer};
+use dt_scenario::Scenario;
 use std::alloc::Global;
 
 /// Replays a schedule of at most 16,777,216 octets: its lines set up a world and make things happen in
@@ -24,7 +25,7 @@ pub fn replay<K: Sink>(alloc: Global, bytes: &[u8], out: &mut K) -> Outcome
     ensures ends { Replays result bytes.now (K.sight out.old) (K.sight out.new) }
     ensures safe { (count : ℕ) → IfSome (world_after_lines count bytes.now) (λ w. SafeWorld w) }
 {
-    let mut schedule = Schedule::new(alloc);
+    let mut schedule: Scenario<ScheduledWorld> = Scenario::new(alloc);
     outcome_of(fold_behind_buffer(alloc, &mut schedule, bytes, out))
 }
 

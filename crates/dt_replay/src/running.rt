@@ -7,36 +7,23 @@ ghost use Rattle.dt_reports.specs.Told.{told};
 ghost use Rattle.dt_world.specs.Worlds.{MayStep, event_of};
 ghost use Rattle.dt_world_model.specs.World.{last_lines};
 ghost use Rattle.dt_world_model.specs.WorldStep.{world_step};
-ghost use Rattle.dt_replay.specs.Schedules.{Runs, by_step, in_world};
-ghost use Rattle.dt_replay.specs.Scenes.{scene_of, stepped};
+ghost use Rattle.dt_replay.specs.Schedules.{by_step};
 
-use crate::logs::Log;
-use crate::schedules::{MISPLACED, Part};
 use dt_edges::{Failed, Sink};
 use dt_fold::Stop;
 use dt_log::write_line;
-use dt_reports::{Fault, LogLine, Report, StepFault};
+use dt_reports::{Fault, LogLine, Report};
+use dt_scenario::{Log, stepped};
 use dt_world::{Event, World};
 
-/// Something happens in the world, and its lines are logged.
-pub fn happen<K: Sink>(
-    part: &mut Part,
+/// A step of the world, and its lines are logged. A world that is spent finds no memory any more.
+pub fn step<K: Sink>(
+    world: &mut World,
     event: &Event<'_>,
     out: &mut K,
 ) -> Result<Option<Fault>, Stop>
     requires { MayStep (event_of event.now) }
-    ensures { TurnsTo K.sight (in_world (scene_of part.old) (λ w. by_step (world_step w (event_of event.now)))) result (scene_of part.old) (scene_of part.new) out.old out.new }
-{
-    match part {
-        Part::Running(world) => step(world, event, out),
-        Part::Nothing | Part::Preparing(_) => Ok(Some(MISPLACED)),
-    }
-}
-
-/// A step of the world. One that is spent finds no memory any more.
-fn step<K: Sink>(world: &mut World, event: &Event<'_>, out: &mut K) -> Result<Option<Fault>, Stop>
-    requires { MayStep (event_of event.now) }
-    ensures { TurnsTo K.sight (by_step (world_step world.old.state (event_of event.now))) result (Runs world.old.state) (Runs world.new.state) out.old out.new }
+    ensures { TurnsTo K.sight (by_step (world_step world.old.state (event_of event.now))) result world.old.state world.new.state out.old out.new }
 {
     if world.is_spent() {
         return Err(Stop::NoMemory);
@@ -53,26 +40,11 @@ fn step_logged<K: Sink>(
     requires event { MayStep (event_of event.now) }
     requires unspent { world.old.spent ≡ false }
     requires fine { log.old.failed ≡ false }
-    ensures turns { TurnsTo K.sight (by_step (world_step world.old.state (event_of event.now))) result (Runs world.old.state) (Runs world.new.state) log.old.out.now log.new.out.now }
+    ensures turns { TurnsTo K.sight (by_step (world_step world.old.state (event_of event.now))) result world.old.state world.new.state log.old.out.now log.new.out.now }
     ensures same { log.new.out.ghost_name ≡ log.old.out.ghost_name }
 {
     let answer = world.step(event, log);
     stepped(answer, log.failed)
-}
-
-/// What a step says of its line. Where a put failed that is what is answered, also where memory was
-/// wanted behind it.
-pub fn stepped(answer: Result<(), StepFault>, failed: bool) -> Result<Option<Fault>, Stop>
-    ensures { result ≡ stepped answer failed }
-{
-    if failed {
-        return Err(Stop::WriteFault);
-    }
-    match answer {
-        Ok(()) => Ok(None),
-        Err(StepFault::NoMemory) => Err(Stop::NoMemory),
-        Err(fault) => Ok(Some(Fault::Step(fault))),
-    }
 }
 
 /// Logs the totals of each flow, and the end. The cost is the lines.

@@ -1,11 +1,10 @@
 -- What each line of a schedule tells passes.
-use Rattle.std.proofs.Common.{ℕ, zero, suc, ◌+◌, ◌<◌, ◌≤◌, ◌^◌, ◌≡◌, ◌==◌, false, List, [], ◌∷◌, ◌++◌, length, map, Option, Some, None, Result, Ok, Err, refl, ap, sym, subst, ◌∙◌, append-nil, inl, inr, ◌⊎◌, arith}
+use Rattle.std.proofs.Common.{ℕ, zero, suc, ◌+◌, ◌<◌, ◌≤◌, ◌^◌, ◌≡◌, ◌==◌, false, List, [], ◌∷◌, ◌++◌, length, map, Option, Some, None, Result, Ok, Err, refl, ap, sym, subst, ◌∙◌, append-nil, arith}
 use Rattle.std.proofs.lemmas.List.{map-append}
 use Rattle.std.proofs.lemmas.List.Concat.{flat_map-append}
 use Rattle.dt_units.specs.declared.parameters.Params.{Params}
 use Rattle.dt_units.specs.declared.parameters.Field.{Field}
 use Rattle.dt_units.specs.Limits.{first_out_of_range}
-use Rattle.dt_units.specs.Flows.{IsFlow}
 use Rattle.dt_units.proofs.Within.{within_limits}
 use Rattle.dt_reports.specs.Entries.{Entry}
 use Rattle.dt_log.specs.Logs.{entry_text, log_text}
@@ -21,16 +20,17 @@ use Rattle.dt_text.specs.Hexadecimal.{octets_of_hex}
 use Rattle.dt_text.specs.Said as said
 use Rattle.dt_text.specs.Said.{Said}
 use Rattle.dt_text.specs.Lines.{line_of}
-use Rattle.dt_text.specs.Spelling.{IsLine, IsSpelling}
+use Rattle.dt_text.specs.Spelling.{IsLine}
 use Rattle.dt_text.specs.Stages.{stage_after}
-use Rattle.dt_text.proofs.LineLaws.{line-only}
 use Rattle.dt_fold.specs.Folds.{Folded, Turned, closed, fold_from, fold_on, refusal, refusal_entry, refused}
-use Rattle.dt_world_model.specs.Setup.{AddLink, AddRoute, AddStation, Setup, SetupCall, added, new_world, setup_call, setup_refusals, setup_unless}
+use Rattle.dt_world_model.specs.Setup.{AddLink, AddRoute, AddStation, Setup, SetupCall, added, new_world, setup_refusals, setup_unless}
 use Rattle.dt_world_model.specs.Tables.{AllEntries}
 use Rattle.dt_world_model.specs.World.{World, last_lines}
 use Rattle.dt_world_model.specs.WorldFacts.{CanHappen}
 use Rattle.dt_world_model.specs.WorldStep.{Arrives, Loses, Outcome, Passes, Reads, Refused, Restarts, Sends, Stepped, Ticks, WorldEvent, first_refusal, world_step}
-use Rattle.dt_replay.specs.Schedules.{Empty, Prepares, Runs, Scene, by_params, by_setup, by_step, close, done_by, done_if, in_setup, in_world, replay_text, replayed, schedule_turns, stage_of, to_scene, turn, turn_read}
+use Rattle.dt_scenario.specs.Scenes.{Empty, Prepares, Runs, Scene, adds, by_params, by_run, by_setup, close, done_by, done_if, goes, happens, scenario_turns, stage_of, turn, turn_read}
+use Rattle.dt_scenario.proofs.Keeping.{read_line}
+use Rattle.dt_replay.specs.Schedules.{by_step, does, replay_text, replayed, simulates_world}
 use Rattle.dt_audit.specs.declared.facts.Fact.{Fact}
 use Rattle.dt_audit.specs.Audits.{has_flaw}
 use Rattle.dt_audit.specs.Books.{Book, begun}
@@ -44,13 +44,13 @@ use Rattle.dt_audit_laws.proofs.Lines.{passes_then}
 use Rattle.dt_audit_laws.proofs.Running.{begun_logged, logged_more, step_passes}
 
 -- Before the world nothing was told, and its stations have numbers of 32 bits. The world's log passes, up to now.
-abbrev IsSceneLogged : ℕ → Scene → Book FlowLog → Type 0
+abbrev IsSceneLogged : ℕ → Scene World → Book FlowLog → Type 0
 IsSceneLogged count Empty book = book ≡ begun by_rows
 IsSceneLogged count (Prepares setup) book = CanBeSetUp setup × (book ≡ begun by_rows)
 IsSceneLogged count (Runs w) book = IsLogged count w book
 
 -- a text that was logged is that of lines that are read back and pass, and lead to what a scene has
-record TellsTo (count : ℕ) (text : List ℕ) (scene : Scene) (book : Book FlowLog) : Type 0 where
+record TellsTo (count : ℕ) (text : List ℕ) (scene : Scene World) (book : Book FlowLog) : Type 0 where
   told : List Entry
   logs : text ≡ log_text told
   next : Book FlowLog
@@ -58,14 +58,14 @@ record TellsTo (count : ℕ) (text : List ℕ) (scene : Scene) (book : Book Flow
   written : AreWritten told
   logged : IsSceneLogged count scene next
 
-abbrev TurnPasses : ℕ → Book FlowLog → Result (Turned Scene) Fault → Type 0
+abbrev TurnPasses : ℕ → Book FlowLog → Result (Turned (Scene World)) Fault → Type 0
 TurnPasses count book (Ok turned) = TellsTo count turned.text turned.state book
 TurnPasses count book (Err fault) = Unit {0}
 
-tells_nothing : (count : ℕ) (scene : Scene) (book : Book FlowLog) → IsSceneLogged count scene book → TellsTo count [] scene book
+tells_nothing : (count : ℕ) (scene : Scene World) (book : Book FlowLog) → IsSceneLogged count scene book → TellsTo count [] scene book
 tells_nothing count scene book h = record { told = []; logs = refl; next = book; passes = refl; written = tt; logged = h }
 
-scene_more : (count : ℕ) (scene : Scene) (book : Book FlowLog) → IsSceneLogged count scene book → IsSceneLogged (suc count) scene book
+scene_more : (count : ℕ) (scene : Scene World) (book : Book FlowLog) → IsSceneLogged count scene book → IsSceneLogged (suc count) scene book
 scene_more count Empty book h = h
 scene_more count (Prepares setup) book h = h
 scene_more count (Runs w) book h = logged_more count w book h
@@ -94,7 +94,7 @@ setup_passes : (count : ℕ) (book : Book FlowLog) (setup : Setup) (call : Setup
 setup_passes count book setup call None small h = tells_nothing count _ book (added_can setup call small h.0, h.1)
 setup_passes count book setup call (Some fault) small h = tt
 
-setup_turn : (count : ℕ) (book : Book FlowLog) (scene : Scene) (call : SetupCall) → IsCallSmall call → IsSceneLogged count scene book → TurnPasses count book (in_setup scene (λ setup. by_setup (setup_call setup call)))
+setup_turn : (count : ℕ) (book : Book FlowLog) (scene : Scene World) (call : SetupCall) → IsCallSmall call → IsSceneLogged count scene book → TurnPasses count book (adds scene call)
 setup_turn count book Empty call small h = tt
 setup_turn count book (Prepares setup) call small h = setup_passes count book setup call (first_refusal (setup_refusals setup call)) small h
 setup_turn count book (Runs w) call small h = tt
@@ -104,91 +104,59 @@ begins_more : (count : ℕ) (w : World) (book : Book FlowLog) → IsLogged 0 w b
 begins_more zero w book h = h
 begins_more (suc count) w book h = logged_more count w book (begins_more count w book h)
 
-go_turn : (count : ℕ) (book : Book FlowLog) (scene : Scene) → IsSceneLogged count scene book → TurnPasses count book (in_setup scene (λ setup. to_scene [] (Runs (new_world setup))))
+go_turn : (count : ℕ) (book : Book FlowLog) (scene : Scene World) → IsSceneLogged count scene book → TurnPasses count book (goes simulates_world scene)
 go_turn count book Empty h = tt
 go_turn count book (Prepares setup) h = tells_nothing count (Runs (new_world setup)) book (begins_more count (new_world setup) book (subst (λ (b : Book FlowLog). IsLogged 0 (new_world setup) b) (sym h.1) (begun_logged setup h.0)))
 go_turn count book (Runs w) h = tt
 
 -- A STEP
-step_turn : (count : ℕ) (book : Book FlowLog) (w : World) (e : WorldEvent) (o : Outcome) → world_step w e ≡ o → suc count < 2 ^ 32 → CanHappen e → IsShort e → IsLogged count w book → TurnPasses (suc count) book (by_step o)
+step_turn : (count : ℕ) (book : Book FlowLog) (w : World) (e : WorldEvent) (o : Outcome) → world_step w e ≡ o → suc count < 2 ^ 32 → CanHappen e → IsShort e → IsLogged count w book → TurnPasses (suc count) book (by_run (by_step o))
 step_turn count book w e (Refused fault) is small can short h = tt
 step_turn count book w e (Stepped lines after) is small can short h =
     let one = step_passes count w book e lines after small can short h is in
     record { told = lines; logs = refl; next = one.next; passes = one.passes; written = one.written; logged = one.logged }
 
-world_turn : (count : ℕ) (book : Book FlowLog) (scene : Scene) (e : WorldEvent) → suc count < 2 ^ 32 → CanHappen e → IsShort e → IsSceneLogged count scene book → TurnPasses (suc count) book (in_world scene (λ w. by_step (world_step w e)))
-world_turn count book Empty e small can short h = tt
-world_turn count book (Prepares setup) e small can short h = tt
-world_turn count book (Runs w) e small can short h = step_turn count book w e (world_step w e) refl small can short h
+happens_turn : (count : ℕ) (book : Book FlowLog) (scene : Scene World) (line : Said) → ((w : World) → IsLogged count w book → TurnPasses (suc count) book (by_run (does w line))) → IsSceneLogged count scene book → TurnPasses (suc count) book (happens simulates_world scene line)
+happens_turn count book Empty line on h = tt
+happens_turn count book (Prepares setup) line on h = tt
+happens_turn count book (Runs w) line on h = on w h
 
--- A LINE: its numbers are in their ranges
-abbrev HasRanges : Said → Type 0
-HasRanges (said.Station n ahead) = n < 2 ^ 32
-HasRanges (said.Pass by) = by < 2 ^ 32
-HasRanges (said.Send flow begin end hex) = IsFlow flow
-HasRanges (said.Read flow max) = IsFlow flow
-HasRanges line = Unit {0}
+event_turn : (count : ℕ) (book : Book FlowLog) (e : WorldEvent) → suc count < 2 ^ 32 → CanHappen e → IsShort e → (w : World) → IsLogged count w book → TurnPasses (suc count) book (by_run (by_step (world_step w e)))
+event_turn count book e small can short w h = step_turn count book w e (world_step w e) refl small can short h
 
-line_ranges : (line : Said) → IsLine Schedule line → HasRanges line
-line_ranges (said.Station n ahead) h = omega (arith, h.1.0.1)
-line_ranges (said.Pass by) h = omega (arith, h.1.0.1)
-line_ranges (said.Send flow begin end hex) h = h.1.0
-line_ranges (said.Read flow max) h = h.1.0
-line_ranges said.Blank h = tt
-line_ranges (said.Params p) h = tt
-line_ranges (said.Link link from to charge pace) h = tt
-line_ranges (said.Route at to link) h = tt
-line_ranges said.Go h = tt
-line_ranges (said.Tick n) h = tt
-line_ranges (said.Arrive copy) h = tt
-line_ranges (said.Lose copy) h = tt
-line_ranges (said.Restart n) h = tt
-line_ranges (said.Me n again) h = tt
-line_ranges (said.Local address) h = tt
-line_ranges (said.Peer link address charge pace) h = tt
-line_ranges (said.AtSend at flow begin end hex) h = tt
-line_ranges (said.AtRead at flow max) h = tt
-line_ranges (said.AtStop at) h = tt
-line_ranges (said.Shelf room) h = tt
-line_ranges (said.Call flow hex) h = tt
+-- A LINE: what it does where it is allowed. `params` is allowed before a world alone
+done_passes : (count : ℕ) (book : Book FlowLog) (scene : Scene World) (line : Said) (stage : Stage) → stage_after Schedule (stage_of scene) line ≡ Some stage → suc count < 2 ^ 32 → IsLine Schedule line → IsSceneLogged count scene book → TurnPasses (suc count) book (done_by simulates_world scene line)
+done_passes count book scene said.Blank stage on small is h = tells_nothing (suc count) scene book (scene_more count scene book h)
+done_passes count book Empty (said.Params p) stage on small is h = params_passes (suc count) book p (first_out_of_range p) refl h
+done_passes count book (Prepares setup) (said.Params p) stage on small is h = params_passes (suc count) book p (first_out_of_range p) refl h.1
+done_passes count book (Runs w) (said.Params p) stage on small is h = absurd cc
+done_passes count book scene (said.Station n ahead) stage on small is h = setup_turn (suc count) book scene (AddStation n ahead) (omega (arith, is.1.0.1)) (scene_more count scene book h)
+done_passes count book scene (said.Link link from to charge pace) stage on small is h = setup_turn (suc count) book scene (AddLink (record { link = link; from = from; to = to; charge = charge; pace = pace })) tt (scene_more count scene book h)
+done_passes count book scene (said.Route at to link) stage on small is h = setup_turn (suc count) book scene (AddRoute at (record { to = to; link = link })) tt (scene_more count scene book h)
+done_passes count book scene said.Go stage on small is h = go_turn (suc count) book scene (scene_more count scene book h)
+done_passes count book scene (said.Pass by) stage on small is h = happens_turn count book scene (said.Pass by) (event_turn count book (Passes by) small tt (omega (arith, is.1.0.1))) h
+done_passes count book scene (said.Send f begin end hex) stage on small is h = happens_turn count book scene (said.Send f begin end hex) (event_turn count book (Sends f (octets_of_hex hex) begin end) small is.1.0 tt) h
+done_passes count book scene (said.Read f max) stage on small is h = happens_turn count book scene (said.Read f max) (event_turn count book (Reads f max) small is.1.0 tt) h
+done_passes count book scene (said.Tick n) stage on small is h = happens_turn count book scene (said.Tick n) (event_turn count book (Ticks n) small tt tt) h
+done_passes count book scene (said.Arrive copy) stage on small is h = happens_turn count book scene (said.Arrive copy) (event_turn count book (Arrives copy) small tt tt) h
+done_passes count book scene (said.Lose copy) stage on small is h = happens_turn count book scene (said.Lose copy) (event_turn count book (Loses copy) small tt tt) h
+done_passes count book scene (said.Restart n) stage on small is h = happens_turn count book scene (said.Restart n) (event_turn count book (Restarts n) small tt tt) h
+done_passes count book scene (said.Me n again) stage on small is h = happens_turn count book scene (said.Me n again) (λ w logged. tt) h
+done_passes count book scene (said.Local address) stage on small is h = happens_turn count book scene (said.Local address) (λ w logged. tt) h
+done_passes count book scene (said.Peer link address charge pace) stage on small is h = happens_turn count book scene (said.Peer link address charge pace) (λ w logged. tt) h
+done_passes count book scene (said.AtSend at f begin end hex) stage on small is h = happens_turn count book scene (said.AtSend at f begin end hex) (λ w logged. tt) h
+done_passes count book scene (said.AtRead at f max) stage on small is h = happens_turn count book scene (said.AtRead at f max) (λ w logged. tt) h
+done_passes count book scene (said.AtStop at) stage on small is h = happens_turn count book scene (said.AtStop at) (λ w logged. tt) h
+done_passes count book scene (said.Shelf room) stage on small is h = happens_turn count book scene (said.Shelf room) (λ w logged. tt) h
+done_passes count book scene (said.Call f hex) stage on small is h = happens_turn count book scene (said.Call f hex) (λ w logged. tt) h
 
-read_ranges : (line : Said) (octets : List ℕ) → (line ≡ said.Blank) ⊎ (IsLine Schedule line × IsSpelling Schedule line octets) → HasRanges line
-read_ranges line octets (inl blank) = subst HasRanges (sym blank) tt
-read_ranges line octets (inr read) = line_ranges line read.0
+allowed_passes : (count : ℕ) (book : Book FlowLog) (scene : Scene World) (line : Said) (stage : Option Stage) → stage_after Schedule (stage_of scene) line ≡ stage → suc count < 2 ^ 32 → IsLine Schedule line → IsSceneLogged count scene book → TurnPasses (suc count) book (done_if simulates_world stage scene line)
+allowed_passes count book scene line None on small is h = tt
+allowed_passes count book scene line (Some stage) on small is h = done_passes count book scene line stage on small is h
 
--- what a line does where it is allowed. `params` is allowed before a world alone
-done_passes : (count : ℕ) (book : Book FlowLog) (scene : Scene) (line : Said) (stage : Stage) → stage_after Schedule (stage_of scene) line ≡ Some stage → suc count < 2 ^ 32 → HasRanges line → IsSceneLogged count scene book → TurnPasses (suc count) book (done_by scene line)
-done_passes count book scene said.Blank stage on small ranges h = tells_nothing (suc count) scene book (scene_more count scene book h)
-done_passes count book Empty (said.Params p) stage on small ranges h = params_passes (suc count) book p (first_out_of_range p) refl h
-done_passes count book (Prepares setup) (said.Params p) stage on small ranges h = params_passes (suc count) book p (first_out_of_range p) refl h.1
-done_passes count book (Runs w) (said.Params p) stage on small ranges h = absurd cc
-done_passes count book scene (said.Station n ahead) stage on small ranges h = setup_turn (suc count) book scene (AddStation n ahead) ranges (scene_more count scene book h)
-done_passes count book scene (said.Link link from to charge pace) stage on small ranges h = setup_turn (suc count) book scene (AddLink (record { link = link; from = from; to = to; charge = charge; pace = pace })) tt (scene_more count scene book h)
-done_passes count book scene (said.Route at to link) stage on small ranges h = setup_turn (suc count) book scene (AddRoute at (record { to = to; link = link })) tt (scene_more count scene book h)
-done_passes count book scene said.Go stage on small ranges h = go_turn (suc count) book scene (scene_more count scene book h)
-done_passes count book scene (said.Pass by) stage on small ranges h = world_turn count book scene (Passes by) small tt ranges h
-done_passes count book scene (said.Send f begin end hex) stage on small ranges h = world_turn count book scene (Sends f (octets_of_hex hex) begin end) small ranges tt h
-done_passes count book scene (said.Read f max) stage on small ranges h = world_turn count book scene (Reads f max) small ranges tt h
-done_passes count book scene (said.Tick n) stage on small ranges h = world_turn count book scene (Ticks n) small tt tt h
-done_passes count book scene (said.Arrive copy) stage on small ranges h = world_turn count book scene (Arrives copy) small tt tt h
-done_passes count book scene (said.Lose copy) stage on small ranges h = world_turn count book scene (Loses copy) small tt tt h
-done_passes count book scene (said.Restart n) stage on small ranges h = world_turn count book scene (Restarts n) small tt tt h
-done_passes count book scene (said.Me n again) stage on small ranges h = tt
-done_passes count book scene (said.Local address) stage on small ranges h = tt
-done_passes count book scene (said.Peer link address charge pace) stage on small ranges h = tt
-done_passes count book scene (said.AtSend at f begin end hex) stage on small ranges h = tt
-done_passes count book scene (said.AtRead at f max) stage on small ranges h = tt
-done_passes count book scene (said.AtStop at) stage on small ranges h = tt
-done_passes count book scene (said.Shelf room) stage on small ranges h = tt
-done_passes count book scene (said.Call f hex) stage on small ranges h = tt
-
-allowed_passes : (count : ℕ) (book : Book FlowLog) (scene : Scene) (line : Said) (stage : Option Stage) → stage_after Schedule (stage_of scene) line ≡ stage → suc count < 2 ^ 32 → HasRanges line → IsSceneLogged count scene book → TurnPasses (suc count) book (done_if stage scene line)
-allowed_passes count book scene line None on small ranges h = tt
-allowed_passes count book scene line (Some stage) on small ranges h = done_passes count book scene line stage on small ranges h
-
-turn_passes : (count : ℕ) (book : Book FlowLog) (scene : Scene) (octets : List ℕ) (r : Result Said LineFault) → line_of Schedule octets ≡ r → suc count < 2 ^ 32 → IsSceneLogged count scene book → TurnPasses (suc count) book (turn_read scene r)
+turn_passes : (count : ℕ) (book : Book FlowLog) (scene : Scene World) (octets : List ℕ) (r : Result Said LineFault) → line_of Schedule octets ≡ r → suc count < 2 ^ 32 → IsSceneLogged count scene book → TurnPasses (suc count) book (turn_read simulates_world scene r)
 turn_passes count book scene octets (Err fault) e small h = tt
-turn_passes count book scene octets (Ok line) e small h = allowed_passes count book scene line (stage_after Schedule (stage_of scene) line) refl small (read_ranges line octets (line-only Schedule octets line e)) h
+turn_passes count book scene octets (Ok line) e small h = allowed_passes count book scene line (stage_after Schedule (stage_of scene) line) refl small (read_line Schedule octets line e) h
 
 -- A WHOLE SCHEDULE, up to its first refused line, where it has one
 record FoldPasses (book : Book FlowLog) (text : List ℕ) : Type 0 where
@@ -199,7 +167,7 @@ record FoldPasses (book : Book FlowLog) (text : List ℕ) : Type 0 where
   written : AreWritten told
 
 -- what is told of a refused line says nothing of octets and lives
-refused_passes : (number : ℕ) (book : Book FlowLog) (scene : Scene) (fault : Fault) → FoldPasses book (refused number scene fault).text
+refused_passes : (number : ℕ) (book : Book FlowLog) (scene : Scene World) (fault : Fault) → FoldPasses book (refused number scene fault).text
 refused_passes number book scene fault =
     record {
       told = refusal_entry number fault ∷ [];
@@ -209,13 +177,13 @@ refused_passes number book scene fault =
       written = (record { moment = omega arith; node = tt; told = tt }, tt);
     }
 
-closed_passes : (count number : ℕ) (book : Book FlowLog) (scene : Scene) → count < 2 ^ 32 → IsSceneLogged count scene book → FoldPasses book (closed number scene (close scene)).text
+closed_passes : (count number : ℕ) (book : Book FlowLog) (scene : Scene World) → count < 2 ^ 32 → IsSceneLogged count scene book → FoldPasses book (closed number scene (close simulates_world scene)).text
 closed_passes count number book Empty small h = refused_passes number book Empty (faults.Line Order)
 closed_passes count number book (Prepares setup) small h = refused_passes number book (Prepares setup) (faults.Line Order)
 closed_passes count number book (Runs w) small h = record { told = last_lines w; logs = refl; next = book; passes = last_pass w book; written = last_written w (omega (arith, h.within.now, small)) }
 
-on_passes : (count number : ℕ) (book : Book FlowLog) (scene : Scene) (rest : Scene → Folded Scene) (r : Result (Turned Scene) Fault) → TurnPasses (suc count) book r
-    → ((after : Scene) (next : Book FlowLog) → IsSceneLogged (suc count) after next → FoldPasses next (rest after).text) → FoldPasses book (fold_on number scene rest r).text
+on_passes : (count number : ℕ) (book : Book FlowLog) (scene : Scene World) (rest : Scene World → Folded (Scene World)) (r : Result (Turned (Scene World)) Fault) → TurnPasses (suc count) book r
+    → ((after : Scene World) (next : Book FlowLog) → IsSceneLogged (suc count) after next → FoldPasses next (rest after).text) → FoldPasses book (fold_on number scene rest r).text
 on_passes count number book scene rest (Err fault) turned on = refused_passes number book scene fault
 on_passes count number book scene rest (Ok t) turned on =
     let more = on t.state turned.next turned.logged in
@@ -227,11 +195,11 @@ on_passes count number book scene rest (Ok t) turned on =
       written = written_then turned.told more.told turned.written more.written;
     }
 
-fold_passes : (count number : ℕ) (book : Book FlowLog) (scene : Scene) (lines : List (List ℕ)) → count + length lines < 2 ^ 32 → IsSceneLogged count scene book → FoldPasses book (fold_from schedule_turns number scene lines).text
+fold_passes : (count number : ℕ) (book : Book FlowLog) (scene : Scene World) (lines : List (List ℕ)) → count + length lines < 2 ^ 32 → IsSceneLogged count scene book → FoldPasses book (fold_from (scenario_turns simulates_world) number scene lines).text
 unfolding fold_from
 fold_passes count number book scene [] few h = closed_passes count number book scene (omega arith) h
 fold_passes count number book scene (line ∷ lines) few h =
-    on_passes count number book scene (λ next. fold_from schedule_turns (suc number) next lines) (turn scene line) (turn_passes count book scene line (line_of Schedule line) refl (omega arith) h)
+    on_passes count number book scene (λ next. fold_from (scenario_turns simulates_world) (suc number) next lines) (turn simulates_world scene line) (turn_passes count book scene line (line_of Schedule line) refl (omega arith) h)
     (λ after next logged. fold_passes (suc count) (suc number) next after lines (omega arith) logged)
 
 -- THE LOG OF A SCHEDULE HAS NO FLAW

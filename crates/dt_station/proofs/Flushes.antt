@@ -1,14 +1,16 @@
 -- A link that is flushed, one packet at a time.
-use Rattle.std.proofs.Common.{sym, subst, map, slice_index, drop, add-one, ◌≡◌, ℕ, zero, suc, ◌+◌, ◌<◌, ◌==◌, List, [], ◌∷◌, length, Bool, true, false, cond, Option, Some, None, refl, ◌∙◌, ap, arith, nat_lt, eq-eqb}
+use Rattle.std.proofs.Common.{sym, subst, map, slice_index, drop, add-one, ◌≡◌, ℕ, zero, suc, ◌+◌, ◌<◌, ◌==◌, List, [], ◌∷◌, length, Bool, true, false, cond, Option, Some, None, is_some, refl, ◌∙◌, ap, arith, nat_lt, eq-eqb}
 use Rattle.std.proofs.lemmas.Bool.Decides.{nat_tests}
 use Rattle.std.proofs.Math.Seq.{drop-cons}
 use Rattle.std.proofs.lemmas.List.{length-map}
 use Rattle.dt_layout.specs.Carried.{life_of}
 use Rattle.dt_reports.specs.declared.reports.Report.TheVariants.{ExpiredOut, Put}
-use Rattle.dt_relay.specs.Places.{link_of}
+use Rattle.dt_relay.specs.Places.{link_of, place_of}
+use Rattle.dt_relay.proofs.Links.{on_link_nowhere}
 use Rattle.dt_relay.proofs.Past.{leave_link}
 use Rattle.dt_world_model.specs.Relay.{Expired, Goes, Left, Out, Parcel, Relay, Waiting, last_out, leave, leave_first, left_of, may_leave_from, on_link, with_outs, with_waits}
 use Rattle.dt_world_model.specs.Script.{Done, Hand, Script, Tell, ◌>>=◌}
+use Rattle.dt_station.specs.Leaving.{let_out}
 use Rattle.dt_world_model.specs.Station.{flush, flush_at, flush_on, flush_turns}
 
 module _ {T : Type 0} where
@@ -124,6 +126,75 @@ module _ {T : Type 0} where
   pub leave_links : (link now : ℕ) (outs : List (Out T)) → map link_of (on_link link None (leave now) outs).1 ≡ map link_of outs
   leave_links link now [] = refl
   leave_links link now (out ∷ outs) = links_case (out.link == link) out outs (leave now out) (on_link link None (leave now) outs) (leave_link now out) (leave_links link now outs)
+
+  -- the first is let out, and the rest is left to flush
+  out_first : (link now : ℕ) (r : Option (Left T) × List (Out T)) → true ≡ is_some r.0 → flush_left link now r ≡ (let_out link r >>= flush_at link now)
+  out_first link now (None, outs) h = absurd (cc)
+  out_first link now (Some Expired, outs) h = refl
+  out_first link now (Some (Goes parcel), outs) h = refl
+
+  pub flush_first : (link now : ℕ) (outs : List (Out T)) → true ≡ is_some (on_link link None (leave now) outs).0 → flush_at link now outs ≡ (let_out link (on_link link None (leave now) outs) >>= flush_at link now)
+  flush_first link now outs h = at_unfolds link now outs ∙ out_first link now (on_link link None (leave now) outs) h
+
+  pub flush_on_link : (first link now : ℕ) (outs : List (Out T)) → link ≡ first → true ≡ is_some (on_link link None (leave now) outs).0 → flush_at first now outs ≡ (let_out link (on_link link None (leave now) outs) >>= flush_at first now)
+  flush_on_link first link now outs e h = subst (λ (l : ℕ). flush_at l now outs ≡ (let_out link (on_link link None (leave now) outs) >>= flush_at l now)) e (flush_first link now outs h)
+
+  some_falls : (o : Option (Left T)) (link now : ℕ) (outs : List (Out T)) → o ≡ (on_link link None (leave now) outs).0 → true ≡ is_some o → waiting_on (on_link link None (leave now) outs).1 < waiting_on outs
+  some_falls None link now outs e h = absurd (cc)
+  some_falls (Some x) link now outs e h = leave_falls link now outs x e
+
+  pub ready_falls : (link now : ℕ) (outs : List (Out T)) → true ≡ is_some (on_link link None (leave now) outs).0 → waiting_on (on_link link None (leave now) outs).1 < waiting_on outs
+  ready_falls link now outs h = some_falls (on_link link None (leave now) outs).0 link now outs refl h
+
+  -- where nothing leaves, nothing changes
+  first_stays : (b : Bool) (out later : Out T) (left : Left T) → None ≡ (cond {A = Option (Left T) × Out T} b (None, out) (Some left, later)).0 → (cond {A = Option (Left T) × Out T} b (None, out) (Some left, later)).1 ≡ out
+  first_stays true out later left h = refl
+  first_stays false out later left h = absurd (cc)
+
+  one_stays : (now : ℕ) (out : Out T) (ws : List (Waiting T)) → None ≡ (leave_first now out ws).0 → (leave_first now out ws).1 ≡ out
+  one_stays now out [] h = refl
+  one_stays now out (w ∷ ws) h = first_stays (nat_lt now (may_leave_from out.pace out.last)) out (with_waits out ws (last_out now out.last (left_of now w))) (left_of now w) h
+
+  stays_case : (b : Bool) (out : Out T) (outs : List (Out T)) (here : Option (Left T) × Out T) (later : Option (Left T) × List (Out T)) → (None ≡ here.0 → here.1 ≡ out) → (None ≡ later.0 → later.1 ≡ outs) →
+      None ≡ (cond {A = Option (Left T) × List (Out T)} b (here.0, here.1 ∷ outs) (later.0, out ∷ later.1)).0 →
+      (cond {A = Option (Left T) × List (Out T)} b (here.0, here.1 ∷ outs) (later.0, out ∷ later.1)).1 ≡ out ∷ outs
+  stays_case true out outs here later f g h = ap (λ (o : Out T). o ∷ outs) (f h)
+  stays_case false out outs here later f g h = ap (λ (os : List (Out T)). out ∷ os) (g h)
+
+  leave_stays : (link now : ℕ) (outs : List (Out T)) → None ≡ (on_link link None (leave now) outs).0 → (on_link link None (leave now) outs).1 ≡ outs
+  leave_stays link now [] h = refl
+  leave_stays link now (out ∷ outs) h = stays_case (out.link == link) out outs (leave now out) (on_link link None (leave now) outs) (one_stays now out out.waits) (leave_stays link now outs) h
+
+  not_some : (o : Option (Left T)) → false ≡ is_some o → None ≡ o
+  not_some None h = refl
+  not_some (Some x) h = absurd (cc)
+
+  pub flush_ends : (link now : ℕ) (outs : List (Out T)) → false ≡ is_some (on_link link None (leave now) outs).0 → flush_at link now outs ≡ Done outs
+  flush_ends link now outs h =
+      let none = not_some (on_link link None (leave now) outs).0 h in
+      flush_none link now outs outs (sym (leave_stays link now outs none)) none
+
+  pub flush_ends_on : (first link now : ℕ) (outs : List (Out T)) → link ≡ first → false ≡ is_some (on_link link None (leave now) outs).0 → flush_at first now outs ≡ Done outs
+  flush_ends_on first link now outs e h = subst (λ (l : ℕ). flush_at l now outs ≡ Done outs) e (flush_ends link now outs h)
+
+  pub flush_nowhere : (link now : ℕ) (outs : List (Out T)) → None ≡ place_of link_of link outs → flush_at link now outs ≡ Done outs
+  flush_nowhere link now outs h = at_unfolds link now outs ∙ ap (flush_left link now) (on_link_nowhere link None (leave now) outs h)
+
+  -- what a call of leave answered says what is told
+  module _ (link : ℕ) (outs : List (Out T)) where
+    pub out_none : (r : Option (Left T) × List (Out T)) → outs ≡ r.1 → None ≡ r.0 → let_out link r ≡ Done outs
+    out_none (None, rest) e h = ap Done (sym e)
+    out_none (Some left, rest) e h = absurd (cc)
+
+    pub out_expired : (r : Option (Left T) × List (Out T)) → outs ≡ r.1 → Some Expired ≡ r.0 → let_out link r ≡ Tell (ExpiredOut link) (Done outs)
+    out_expired (None, rest) e h = absurd (cc)
+    out_expired (Some (Goes parcel), rest) e h = absurd (cc)
+    out_expired (Some Expired, rest) e h = ap (λ (os : List (Out T)). Tell (ExpiredOut link) (Done os)) (sym e)
+
+    pub out_goes : (parcel : Parcel T) (r : Option (Left T) × List (Out T)) → outs ≡ r.1 → Some (Goes parcel) ≡ r.0 → let_out link r ≡ Tell (Put link (life_of parcel.octets)) (Hand link parcel (Done outs))
+    out_goes parcel (None, rest) e h = absurd (cc)
+    out_goes parcel (Some Expired, rest) e h = absurd (cc)
+    out_goes parcel (Some (Goes other), rest) e h = let same : parcel ≡ other = cc in rw (same, e) refl
 
 pub next_link : (links now_links : List ℕ) (i link : ℕ) → now_links ≡ links → i < length links → link ≡ slice_index now_links i → drop i links ≡ link ∷ drop (i + 1) links
 next_link links now_links i link same small at = rw (add-one, at, same) (drop-cons links i 0 small)

@@ -14,6 +14,9 @@ module _ {V T : Type 0} (tells : V → Told → V → Type 0) (tags : V → Host
   pub leads_here : {A : Type 0} (s : Script T A) (v : V) → Leads s v s v
   leads_here s v = record { plays = λ w b h. h; stops = λ w h. h }
 
+  pub leads_is : {A : Type 0} (whole rest s : Script T A) (first here : V) → rest ≡ s → Leads whole first rest here → Leads whole first s here
+  leads_is whole rest s first here e l = subst (λ (x : Script T _). Leads whole first x here) e l
+
   pub leads_tell : {A : Type 0} (whole rest s : Script T A) (first v m : V) (r : Told) → Leads whole first rest v → rest ≡ Tell r s → tells v r m → Leads whole first s m
   leads_tell whole rest s first v m r l e h = record {
     plays = λ w b p. l.plays w b (rw e (m, h, p));

@@ -9,9 +9,9 @@ use Rattle.dt_world_model.specs.Host.{Host, sender_at, work}
 use Rattle.dt_world_model.specs.Relay.{Out, Parcel, Relay, with_outs}
 use Rattle.dt_world_model.specs.Script.{Concludes, Plays, Stops, ◌>>=◌}
 use Rattle.dt_world_model.specs.Station.{Event, Station, do_turns, flush_links, happen, settle_station, station_event, station_with}
-use Rattle.dt_station.specs.declared.events.StationEvent.{StationEvent}
-use Rattle.dt_station.specs.declared.events.StationEvent.TheVariants as given
-use Rattle.dt_station.specs.Events.{MayHappen, MayHappenNow, MaySend, MaySendNow}
+use Rattle.dt_station.specs.declared.events.LocalEvent.{LocalEvent}
+use Rattle.dt_station.specs.declared.events.LocalEvent.TheVariants as local
+use Rattle.dt_station.specs.Events.{MayHappenHere, MayHappenHereNow, MaySend, MaySendNow}
 use Rattle.dt_station.proofs.Playing.{answers_hold, ends_after, stops_after, stops_within}
 
 module _ {V T : Type 0} (tells : V → Told → V → Type 0) (tags : V → Host → List ℕ → T → V → Type 0) (hands : V → ℕ → Parcel T → V → Type 0) (fails : V → V → Type 0) where
@@ -53,9 +53,8 @@ module _ {V T : Type 0} (tells : V → Told → V → Type 0) (tags : V → Host
   }
 
   -- what may happen to a station may happen to it once it has settled
-  pub may_now : {P : Type 0} (octets : P → List ℕ) (p q : Params) (now most : ℕ) (station settled : Station T) (first m : V) (event : StationEvent P) → q ≡ p → settled.host.me ≡ station.host.me →
-      Plays tells tags hands (settle_station p now station) first m settled → MayHappen octets p now station most event → MayHappenNow octets q now settled.host most event
-  may_now octets p q now most station settled first m (given.Send flow sent begin end) same me played may = may_send p q now station settled first m flow (length sent.now) same me played may
-  may_now octets p q now most station settled first m (given.Read flow) same me played may = may
-  may_now octets p q now most station settled first m given.Tick same me played may = tt
-  may_now octets p q now most station settled first m (given.Arrive link packet) same me played may = may
+  pub may_now : (p q : Params) (now most : ℕ) (station settled : Station T) (first m : V) (event : LocalEvent) → q ≡ p → settled.host.me ≡ station.host.me →
+      Plays tells tags hands (settle_station p now station) first m settled → MayHappenHere p now station most event → MayHappenHereNow q now settled.host most event
+  may_now p q now most station settled first m (local.Send flow sent begin end) same me played may = may_send p q now station settled first m flow (length sent.now) same me played may
+  may_now p q now most station settled first m (local.Read flow) same me played may = may
+  may_now p q now most station settled first m local.Tick same me played may = tt

@@ -9,6 +9,8 @@ use Rattle.dt_world_model.specs.Host.{Host, sender_at}
 use Rattle.dt_world_model.specs.Relay.{Parcel}
 use Rattle.dt_world_model.specs.Script.{Answers}
 use Rattle.dt_world_model.specs.Station.{Event, Send, Read, Tick, Arrive, Station, settle_station}
+use Rattle.dt_station.specs.declared.events.LocalEvent.{LocalEvent}
+use Rattle.dt_station.specs.declared.events.LocalEvent.TheVariants as local
 use Rattle.dt_station.specs.declared.events.StationEvent.{StationEvent}
 use Rattle.dt_station.specs.declared.events.StationEvent.TheVariants as given
 
@@ -18,6 +20,12 @@ event_seen parcel most (given.Send flow octets begin end) = Send flow octets.now
 event_seen parcel most (given.Read flow) = Read flow most
 event_seen parcel most given.Tick = Tick
 event_seen parcel most (given.Arrive link packet) = Arrive link (parcel packet)
+
+-- the same of an event that brings no packet
+abbrev pub local_seen : {T : Type 0} → ℕ → LocalEvent → Event T
+local_seen most (local.Send flow octets begin end) = Send flow octets.now begin end
+local_seen most (local.Read flow) = Read flow most
+local_seen most local.Tick = Tick
 
 -- OCTETS MAY BE SENT on a flow: it goes from this node to another, and those that its record has taken can be counted.
 pub record MaySendNow (p : Params) (now : ℕ) (host : Host) (flow : Flow) (count : ℕ) : Type 0 where
@@ -40,8 +48,13 @@ MayHappen octets p now station most (given.Read flow) = 0 < most
 MayHappen octets p now station most given.Tick = Unit {0}
 MayHappen octets p now station most (given.Arrive link packet) = IsGram (octets packet)
 
-abbrev pub MayHappenNow : {P : Type 0} → (P → List ℕ) → Params → ℕ → Host → ℕ → StationEvent P → Type 0
-MayHappenNow octets p now host most (given.Send flow sent begin end) = MaySendNow p now host flow (length sent.now)
-MayHappenNow octets p now host most (given.Read flow) = 0 < most
-MayHappenNow octets p now host most given.Tick = Unit {0}
-MayHappenNow octets p now host most (given.Arrive link packet) = IsGram (octets packet)
+-- the same of an event that brings no packet
+abbrev pub MayHappenHere : {T : Type 0} → Params → ℕ → Station T → ℕ → LocalEvent → Type 0
+MayHappenHere p now station most (local.Send flow sent begin end) = MaySend p now station flow (length sent.now)
+MayHappenHere p now station most (local.Read flow) = 0 < most
+MayHappenHere p now station most local.Tick = Unit {0}
+
+abbrev pub MayHappenHereNow : Params → ℕ → Host → ℕ → LocalEvent → Type 0
+MayHappenHereNow p now host most (local.Send flow sent begin end) = MaySendNow p now host flow (length sent.now)
+MayHappenHereNow p now host most (local.Read flow) = 0 < most
+MayHappenHereNow p now host most local.Tick = Unit {0}

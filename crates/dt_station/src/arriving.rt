@@ -3,7 +3,6 @@ ghost use Rattle.dt_flow_model.specs.Keeping.{most_moment};
 ghost use Rattle.dt_layout.specs.Carried.{IsGram, to_of};
 ghost use Rattle.dt_layout.specs.Reading.{gram_in, packet_read};
 ghost use Rattle.dt_layout.specs.Spelling.{KeepsRules, gram_of, packet_of};
-ghost use Rattle.dt_relay.specs.Carrying.{parcel_seen};
 ghost use Rattle.dt_world_model.specs.Host.{IsCurrentHost};
 ghost use Rattle.dt_world_model.specs.Relay.{IsOutUpTo, admit, with_outs};
 ghost use Rattle.dt_world_model.specs.Script.{Concludes};
@@ -21,36 +20,36 @@ use dt_reports::Report;
 use dt_units::{NodeId, Steps};
 use std::sync::ledger::Ledger;
 
-/// A packet comes on a link. It is admitted first, and told where it isn't.
+/// A packet comes on a link, and its octets are in the frame. It is admitted first, and told where it
+/// isn't.
 pub(crate) fn come_in<P: Carry, V: Visitor<P>, L: Ledger>(
     host: &mut Host,
     relay: &mut Relay<P>,
     reply: &mut Frame,
     link: u16,
-    packet: P,
+    frame: &mut Frame,
+    tag: P::Tag,
     now: u64,
     steps: &mut Steps<L>,
     visitor: &mut V,
 ) -> Result<(), NoMemory>
-    requires gram { IsGram (P.octets packet) }
+    requires gram { IsGram frame.old }
     requires latest { host.old.latest ≤ now }
     requires current { IsCurrentHost host.old.rules now host.old.state }
     requires past { All (IsOutUpTo now) relay.old.outs }
     requires moment { now ≤ most_moment }
-    ensures ends { Concludes V.tells V.tags V.hands V.fails result (come_in host.old.rules now link (admit link (parcel_seen P.octets P.label packet) relay.old) (station_with host.old.state relay.old)) visitor.old visitor.new (station_with host.new.state relay.new) }
+    ensures ends { Concludes V.tells V.tags V.hands V.fails result (come_in host.old.rules now link (admit link (record { octets = frame.old; tag = tag }) relay.old) (station_with host.old.state relay.old)) visitor.old visitor.new (station_with host.new.state relay.new) }
     ensures rules { host.new.rules ≡ host.old.rules }
     ensures me { host.new.state.me ≡ host.old.state.me }
     ensures others { relay.new ≡ with_outs relay.old relay.new.outs }
     ensures latest { host.new.latest ≤ now }
     ensures past { All (IsOutUpTo now) relay.new.outs }
 {
-    match relay.admit(link, packet) {
-        None => {
-            visitor.tell(&Report::ExpiredIn { link });
-            Ok(())
-        }
-        Some(admitted) => come(host, relay, reply, admitted, now, steps, visitor),
+    if !relay.admit_frame(link, frame) {
+        visitor.tell(&Report::ExpiredIn { link });
+        return Ok(());
     }
+    come(host, relay, reply, frame, tag, now, steps, visitor)
 }
 
 /// An admitted packet is for this node, or is passed on.
@@ -58,27 +57,28 @@ fn come<P: Carry, V: Visitor<P>, L: Ledger>(
     host: &mut Host,
     relay: &mut Relay<P>,
     reply: &mut Frame,
-    packet: P,
+    frame: &mut Frame,
+    tag: P::Tag,
     now: u64,
     steps: &mut Steps<L>,
     visitor: &mut V,
 ) -> Result<(), NoMemory>
-    requires gram { IsGram (P.octets packet) }
+    requires gram { IsGram frame.old }
     requires latest { host.old.latest ≤ now }
     requires current { IsCurrentHost host.old.rules now host.old.state }
     requires past { All (IsOutUpTo now) relay.old.outs }
     requires moment { now ≤ most_moment }
-    ensures ends { Concludes V.tells V.tags V.hands V.fails result (come host.old.rules now (to_of (P.octets packet) == host.old.state.me) (parcel_seen P.octets P.label packet) (station_with host.old.state relay.old)) visitor.old visitor.new (station_with host.new.state relay.new) }
+    ensures ends { Concludes V.tells V.tags V.hands V.fails result (come host.old.rules now (to_of frame.old == host.old.state.me) (record { octets = frame.old; tag = tag }) (station_with host.old.state relay.old)) visitor.old visitor.new (station_with host.new.state relay.new) }
     ensures rules { host.new.rules ≡ host.old.rules }
     ensures me { host.new.state.me ≡ host.old.state.me }
     ensures others { relay.new ≡ with_outs relay.old relay.new.outs }
     ensures latest { host.new.latest ≤ now }
     ensures past { All (IsOutUpTo now) relay.new.outs }
 {
-    if packet.to() != host.me().0 {
-        return pass_on(relay, packet, now, visitor);
+    if Carry::to(frame) != host.me().0 {
+        return pass_on(relay, frame, tag, now, visitor);
     }
-    let gram = gram_in(packet.frame());
+    let gram = gram_in(frame);
     deliver(host, relay, reply, &gram, now, steps, visitor)
 }
 

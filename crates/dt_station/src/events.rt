@@ -24,3 +24,23 @@ pub enum StationEvent<'a, P> {
         packet: P,
     },
 }
+
+/// What happens to a station without a packet that comes: [`StationEvent`] but for its last, so that
+/// it is small. It is given to [`Station::local_event`](crate::Station::local_event).
+#[derive(Clone, Copy, Drop)]
+pub enum LocalEvent<'a> {
+    /// Octets are sent on a flow from this node to another, 1 or more. The first begins a message and
+    /// the last ends one, where that is asked for.
+    Send {
+        flow: Flow,
+        octets: &'a [u8],
+        begin: bool,
+        end: bool,
+    },
+    /// Unread octets of a flow are read, at most as many as the buffer holds, which isn't empty.
+    Read {
+        flow: Flow,
+    },
+    /// Nothing but that time has passed.
+    Tick,
+}

@@ -1,17 +1,75 @@
-ghost use Rattle.std.specs.Prelude.{◌≡◌, ◌≤◌, All, map};
+ghost use Rattle.std.specs.Prelude.{◌≡◌, ◌<◌, ◌≤◌, None, All, length, map};
 ghost use Rattle.dt_flow_model.specs.Keeping.{most_moment};
-ghost use Rattle.dt_relay.specs.Places.{link_of};
-ghost use Rattle.dt_world_model.specs.Relay.{IsOutUpTo, with_outs};
+ghost use Rattle.dt_relay.specs.Places.{link_in, link_of};
+ghost use Rattle.dt_world_model.specs.Relay.{IsOutUpTo, leave, on_link, with_outs};
 ghost use Rattle.dt_world_model.specs.Script.{Concludes};
 ghost use Rattle.dt_world_model.specs.Station.{flush_at, flush_links};
+ghost use Rattle.dt_station.specs.Leaving.{let_out};
 
 use crate::visitor::Visitor;
 use dt_items::NoMemory;
 use dt_relay::{Carry, Left, Relay};
 use dt_reports::Report;
 
-/// Lets packets leave on a link until none does. Each is told, and handed out behind its report.
+/// Lets the first that may leave on the out link at a place leave: it is told, and handed out behind its
+/// report. It stands apart, so that only where something leaves a packet is among the locals.
+#[inline(never)]
+fn let_out<P: Carry, V: Visitor<P>>(
+    relay: &mut Relay<P>,
+    place: usize,
+    now: u64,
+    visitor: &mut V,
+) -> Result<(), NoMemory>
+    requires place { place < length relay.old.outs }
+    requires past { All (IsOutUpTo now) relay.old.outs }
+    requires moment { now ≤ most_moment }
+    ensures ends { let link = link_in relay.old.outs place in
+        Concludes V.tells V.tags V.hands V.fails result (let_out link (on_link link None (leave now) relay.old.outs)) visitor.old visitor.new relay.new.outs }
+    ensures after { let link = link_in relay.old.outs place in
+        relay.new ≡ with_outs relay.old (on_link link None (leave now) relay.old.outs).1 }
+    ensures past { All (IsOutUpTo now) relay.new.outs }
+{
+    let link = relay.link_at(place);
+    match relay.leave_at(place, now) {
+        None => Ok(()),
+        Some(Left::Expired) => {
+            visitor.tell(&Report::ExpiredOut { link });
+            Ok(())
+        }
+        Some(Left::Out(packet)) => {
+            visitor.tell(&Report::Put {
+                link,
+                life: packet.life(),
+            });
+            visitor.out(link, packet)
+        }
+    }
+}
+
+/// Lets packets leave on the out link at a place until none does. Each is told, and handed out behind its
+/// report.
 pub(crate) fn flush<P: Carry, V: Visitor<P>>(
+    relay: &mut Relay<P>,
+    place: usize,
+    now: u64,
+    visitor: &mut V,
+) -> Result<(), NoMemory>
+    requires place { place < length relay.old.outs }
+    requires past { All (IsOutUpTo now) relay.old.outs }
+    requires moment { now ≤ most_moment }
+    ensures ends { Concludes V.tells V.tags V.hands V.fails result (flush_at (link_in relay.old.outs place) now relay.old.outs) visitor.old visitor.new relay.new.outs }
+    ensures links { map link_of relay.new.outs ≡ map link_of relay.old.outs }
+    ensures others { relay.new ≡ with_outs relay.old relay.new.outs }
+    ensures past { All (IsOutUpTo now) relay.new.outs }
+{
+    'flush: while relay.is_ready(place, now) {
+        let_out(relay, place, now, visitor)?;
+    }
+    Ok(())
+}
+
+/// The same for the out link with a number. For a link that isn't there nothing leaves.
+pub(crate) fn flush_link<P: Carry, V: Visitor<P>>(
     relay: &mut Relay<P>,
     link: u16,
     now: u64,
@@ -20,23 +78,13 @@ pub(crate) fn flush<P: Carry, V: Visitor<P>>(
     requires past { All (IsOutUpTo now) relay.old.outs }
     requires moment { now ≤ most_moment }
     ensures ends { Concludes V.tells V.tags V.hands V.fails result (flush_at link now relay.old.outs) visitor.old visitor.new relay.new.outs }
-    ensures links { map link_of relay.new.outs ≡ map link_of relay.old.outs }
     ensures others { relay.new ≡ with_outs relay.old relay.new.outs }
     ensures past { All (IsOutUpTo now) relay.new.outs }
 {
-    'flush: while let Some(left) = relay.leave(link, now) {
-        match left {
-            Left::Expired => visitor.tell(&Report::ExpiredOut { link }),
-            Left::Out(packet) => {
-                visitor.tell(&Report::Put {
-                    link,
-                    life: packet.life(),
-                });
-                visitor.out(link, packet)?;
-            }
-        }
+    match relay.place(link) {
+        None => Ok(()),
+        Some(place) => flush(relay, place, now, visitor),
     }
-    Ok(())
 }
 
 /// Flushes each out link, in their order.
@@ -51,9 +99,8 @@ pub(crate) fn flush_all<P: Carry, V: Visitor<P>>(
     ensures others { relay.new ≡ with_outs relay.old relay.new.outs }
     ensures past { All (IsOutUpTo now) relay.new.outs }
 {
-    for i in 0..relay.links() {
-        let link = relay.link_at(i);
-        flush(relay, link, now, visitor)?;
+    for place in 0..relay.links() {
+        flush(relay, place, now, visitor)?;
     }
     Ok(())
 }

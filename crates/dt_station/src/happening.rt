@@ -1,15 +1,15 @@
 ghost use Rattle.std.specs.Prelude.{◌≡◌, ◌<◌, ◌≤◌, All, false, length, OnOk};
 ghost use Rattle.dt_items.specs.Unread.{marked, octets_of, piece_told};
 ghost use Rattle.dt_flow_model.specs.Keeping.{most_moment};
-ghost use Rattle.dt_relay.specs.Carrying.{parcel_seen};
+ghost use Rattle.dt_layout.specs.Carried.{IsGram};
 ghost use Rattle.dt_world_model.specs.Host.{IsCurrentHost, read_octets, send_octets};
-ghost use Rattle.dt_world_model.specs.Relay.{IsOutUpTo, with_outs};
+ghost use Rattle.dt_world_model.specs.Relay.{IsOutUpTo, Relay as RelayState, with_outs};
 ghost use Rattle.dt_world_model.specs.Script.{Concludes, Done, Tell};
-ghost use Rattle.dt_world_model.specs.Station.{happen, settle_station, station_event, station_with, told_piece, told_sent};
-ghost use Rattle.dt_station.specs.Events.{MayHappen, MayHappenNow, MaySendNow, event_seen};
+ghost use Rattle.dt_world_model.specs.Station.{Arrive, happen, settle_station, station_event, station_with, told_piece, told_sent};
+ghost use Rattle.dt_station.specs.Events.{MayHappenHere, MayHappenHereNow, MaySendNow, local_seen};
 
 use crate::arriving::come_in;
-use crate::events::StationEvent;
+use crate::events::LocalEvent;
 use crate::flushing::flush_all;
 use crate::turning::do_turns;
 use crate::visitor::Visitor;
@@ -21,13 +21,13 @@ use dt_reports::{Refusal, Report};
 use dt_units::{Flow, Steps};
 use std::sync::ledger::{Blank, Ledger};
 
-/// Settles, does the event, and settles again, with a count of looks of its own.
-pub(crate) fn event_on<P: Carry, V: Visitor<P>, L: Ledger>(
+/// Settles, does an event that brings no packet, and settles again, with a count of looks of its own.
+pub(crate) fn local_event_on<P: Carry, V: Visitor<P>, L: Ledger>(
     host: &mut Host,
     relay: &mut Relay<P>,
     frame: &mut Frame,
     now: u64,
-    event: StationEvent<'_, P>,
+    event: LocalEvent<'_>,
     buf: &mut [u8],
     ledger: Blank,
     visitor: &mut V,
@@ -35,11 +35,11 @@ pub(crate) fn event_on<P: Carry, V: Visitor<P>, L: Ledger>(
     requires name { ledger.name ≡ L.name }
     requires parts { ledger.parts ≡ L.parts }
     requires some { 0 < ledger.parts }
-    requires event { MayHappen P.octets host.old.rules now (station_with host.old.state relay.old) (length buf.old) event }
+    requires event { MayHappenHere host.old.rules now (station_with host.old.state relay.old) (length buf.old) event }
     requires latest { host.old.latest ≤ now }
     requires past { All (IsOutUpTo now) relay.old.outs }
     requires moment { now ≤ most_moment }
-    ensures ends { Concludes V.tells V.tags V.hands V.fails result (station_event host.old.rules now (event_seen (parcel_seen P.octets P.label) (length buf.old) event.entry) (station_with host.old.state relay.old)) visitor.old visitor.new (station_with host.new.state relay.new) }
+    ensures ends { Concludes V.tells V.tags V.hands V.fails result (station_event host.old.rules now (local_seen (length buf.old) event.entry) (station_with host.old.state relay.old)) visitor.old visitor.new (station_with host.new.state relay.new) }
     ensures current { OnOk result (IsCurrentHost host.new.rules now host.new.state) }
     ensures rules { host.new.rules ≡ host.old.rules }
     ensures me { host.new.state.me ≡ host.old.state.me }
@@ -49,8 +49,44 @@ pub(crate) fn event_on<P: Carry, V: Visitor<P>, L: Ledger>(
 {
     let mut steps = Steps::<L>::new(ledger);
     settle(host, relay, frame, now, &mut steps, visitor)?;
-    happen(host, relay, frame, now, event, buf, &mut steps, visitor)?;
+    happen(host, event, buf, now, &mut steps, visitor)?;
     settle(host, relay, frame, now, &mut steps, visitor)
+}
+
+/// Settles, takes in a packet whose octets are in the frame, and settles again, with a count of looks of
+/// its own. What the host makes is made in `reply`.
+pub(crate) fn arrival_on<P: Carry, V: Visitor<P>, L: Ledger>(
+    host: &mut Host,
+    relay: &mut Relay<P>,
+    reply: &mut Frame,
+    now: u64,
+    link: u16,
+    frame: &mut Frame,
+    tag: P::Tag,
+    ledger: Blank,
+    visitor: &mut V,
+) -> Result<(), NoMemory>
+    requires name { ledger.name ≡ L.name }
+    requires parts { ledger.parts ≡ L.parts }
+    requires some { 0 < ledger.parts }
+    requires gram { IsGram frame.old }
+    requires latest { host.old.latest ≤ now }
+    requires past { All (IsOutUpTo now) relay.old.outs }
+    requires moment { now ≤ most_moment }
+    ensures ends { Concludes V.tells V.tags V.hands V.fails result (station_event host.old.rules now (Arrive link (record { octets = frame.old; tag = tag })) (station_with host.old.state relay.old)) visitor.old visitor.new (station_with host.new.state relay.new) }
+    ensures current { OnOk result (IsCurrentHost host.new.rules now host.new.state) }
+    ensures rules { host.new.rules ≡ host.old.rules }
+    ensures me { host.new.state.me ≡ host.old.state.me }
+    ensures others { relay.new ≡ with_outs relay.old relay.new.outs }
+    ensures latest { host.new.latest ≤ now }
+    ensures past { All (IsOutUpTo now) relay.new.outs }
+{
+    let mut steps = Steps::<L>::new(ledger);
+    settle(host, relay, reply, now, &mut steps, visitor)?;
+    come_in(
+        host, relay, reply, link, frame, tag, now, &mut steps, visitor,
+    )?;
+    settle(host, relay, reply, now, &mut steps, visitor)
 }
 
 /// Flushes each link, in the order of the links, and does what the host has to do.
@@ -77,44 +113,36 @@ fn settle<P: Carry, V: Visitor<P>, L: Ledger>(
     do_turns(host, relay, frame, now, steps, visitor)
 }
 
-/// The event itself.
+/// The event itself, which brings no packet. The relay has no part in it.
 fn happen<P: Carry, V: Visitor<P>, L: Ledger>(
     host: &mut Host,
-    relay: &mut Relay<P>,
-    frame: &mut Frame,
-    now: u64,
-    event: StationEvent<'_, P>,
+    event: LocalEvent<'_>,
     buf: &mut [u8],
+    now: u64,
     steps: &mut Steps<L>,
     visitor: &mut V,
 ) -> Result<(), NoMemory>
-    requires event { MayHappenNow P.octets host.old.rules now host.old.state (length buf.old) event }
+    requires event { MayHappenHereNow host.old.rules now host.old.state (length buf.old) event }
     requires latest { host.old.latest ≤ now }
     requires current { IsCurrentHost host.old.rules now host.old.state }
-    requires past { All (IsOutUpTo now) relay.old.outs }
     requires moment { now ≤ most_moment }
-    ensures ends { Concludes V.tells V.tags V.hands V.fails result (happen host.old.rules now (event_seen (parcel_seen P.octets P.label) (length buf.old) event.entry) (station_with host.old.state relay.old)) visitor.old visitor.new (station_with host.new.state relay.new) }
+    ensures ends { (relay : RelayState P.Tag) → Concludes V.tells V.tags V.hands V.fails result (happen host.old.rules now (local_seen (length buf.old) event.entry) (station_with host.old.state relay)) visitor.old visitor.new (station_with host.new.state relay) }
     ensures rules { host.new.rules ≡ host.old.rules }
     ensures me { host.new.state.me ≡ host.old.state.me }
-    ensures others { relay.new ≡ with_outs relay.old relay.new.outs }
     ensures latest { host.new.latest ≤ now }
-    ensures past { All (IsOutUpTo now) relay.new.outs }
 {
     match event {
-        StationEvent::Send {
+        LocalEvent::Send {
             flow,
             octets,
             begin,
             end,
         } => send(host, &flow, octets, begin, end, now, steps, visitor),
-        StationEvent::Read { flow } => {
+        LocalEvent::Read { flow } => {
             read(host, &flow, buf, now, steps, visitor);
             Ok(())
         }
-        StationEvent::Tick => Ok(()),
-        StationEvent::Arrive { link, packet } => {
-            come_in(host, relay, frame, link, packet, now, steps, visitor)
-        }
+        LocalEvent::Tick => Ok(()),
     }
 }
 

@@ -13,7 +13,7 @@ mod turning;
 mod visitor;
 
 pub use dt_relay::{InLink, OutLink, Route};
-pub use events::StationEvent;
+pub use events::{LocalEvent, StationEvent};
 pub use laws::octets_that_do_not_read_change_nothing;
 pub use stations::Station;
 pub use visitor::Visitor;

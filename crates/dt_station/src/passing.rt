@@ -1,4 +1,4 @@
-ghost use Rattle.std.specs.Prelude.{◌≡◌, ◌≤◌, All};
+ghost use Rattle.std.specs.Prelude.{◌≡◌, ◌≤◌, All, Some};
 ghost use Rattle.dt_flow_model.specs.Keeping.{most_moment};
 ghost use Rattle.dt_layout.specs.Carried.{IsGram};
 ghost use Rattle.dt_relay.specs.Carrying.{parcel_seen};
@@ -6,16 +6,78 @@ ghost use Rattle.dt_world_model.specs.Relay.{IsOutUpTo, with_outs};
 ghost use Rattle.dt_world_model.specs.Script.{Concludes};
 ghost use Rattle.dt_world_model.specs.Station.{pass_on, send_off, station_with};
 
-use crate::flushing::flush;
+use crate::flushing::flush_link;
 use crate::visitor::Visitor;
 use dt_host::Host;
 use dt_items::NoMemory;
 use dt_layout::Frame;
-use dt_relay::{Carry, Entered, Relay};
+use dt_relay::{Carry, Entered, Passage, Relay};
 use dt_reports::Report;
 
-/// A packet enters the relay, and its link is flushed. One that doesn't enter is told.
+/// A packet whose octets are in the frame is passed on: it goes straight on from there, or enters the
+/// relay and its link is flushed. One that can't be passed on is told.
 pub(crate) fn pass_on<P: Carry, V: Visitor<P>>(
+    relay: &mut Relay<P>,
+    frame: &mut Frame,
+    tag: P::Tag,
+    now: u64,
+    visitor: &mut V,
+) -> Result<(), NoMemory>
+    requires gram { IsGram frame.old }
+    requires past { All (IsOutUpTo now) relay.old.outs }
+    requires moment { now ≤ most_moment }
+    ensures ends { Concludes V.tells V.tags V.hands V.fails result (pass_on (record { octets = frame.old; tag = tag }) now relay.old) visitor.old visitor.new relay.new }
+    ensures others { relay.new ≡ with_outs relay.old relay.new.outs }
+    ensures past { All (IsOutUpTo now) relay.new.outs }
+{
+    let life = Carry::life(frame);
+    match relay.pass(Carry::to(frame), life, now) {
+        Passage::Leaves { link } => {
+            frame.lower(1);
+            visitor.tell(&Report::Put {
+                link,
+                life: life - 1,
+            });
+            visitor.out_at_once(link, frame, tag)
+        }
+        Passage::Expired { link } => {
+            visitor.tell(&Report::ExpiredOut { link });
+            Ok(())
+        }
+        Passage::Waits { .. } => wait(relay, frame, tag, now, visitor),
+        Passage::NoRoute { to } => {
+            visitor.tell(&Report::NoRoute { to });
+            Ok(())
+        }
+        Passage::Full { link } => {
+            visitor.tell(&Report::Full { link });
+            Ok(())
+        }
+    }
+}
+
+/// A packet is made of the frame, and enters the relay. It stands apart, so that only where a packet
+/// has to wait it is among the locals.
+#[inline(never)]
+fn wait<P: Carry, V: Visitor<P>>(
+    relay: &mut Relay<P>,
+    frame: &Frame,
+    tag: P::Tag,
+    now: u64,
+    visitor: &mut V,
+) -> Result<(), NoMemory>
+    requires gram { IsGram frame.now }
+    requires past { All (IsOutUpTo now) relay.old.outs }
+    requires moment { now ≤ most_moment }
+    ensures ends { Concludes V.tells V.tags V.hands V.fails result (pass_on (record { octets = frame.now; tag = tag }) now relay.old) visitor.old visitor.new relay.new }
+    ensures others { relay.new ≡ with_outs relay.old relay.new.outs }
+    ensures past { All (IsOutUpTo now) relay.new.outs }
+{
+    line_up(relay, P::make(frame, tag), now, visitor)
+}
+
+/// A packet enters the relay, and its link is flushed. One that doesn't enter is told.
+fn line_up<P: Carry, V: Visitor<P>>(
     relay: &mut Relay<P>,
     packet: P,
     now: u64,
@@ -29,7 +91,7 @@ pub(crate) fn pass_on<P: Carry, V: Visitor<P>>(
     ensures past { All (IsOutUpTo now) relay.new.outs }
 {
     match relay.enter(packet, now) {
-        Entered::Queued { link } => flush(relay, link, now, visitor),
+        Entered::Queued { link } => flush_link(relay, link, now, visitor),
         Entered::NoRoute { to } => {
             visitor.tell(&Report::NoRoute { to });
             Ok(())
@@ -45,17 +107,17 @@ pub(crate) fn pass_on<P: Carry, V: Visitor<P>>(
 pub(crate) fn send_off<P: Carry, V: Visitor<P>>(
     host: &Host,
     relay: &mut Relay<P>,
-    frame: &Frame,
+    frame: &mut Frame,
     now: u64,
     visitor: &mut V,
 ) -> Result<(), NoMemory>
-    requires gram { IsGram frame.now }
+    requires gram { IsGram frame.old }
     requires past { All (IsOutUpTo now) relay.old.outs }
     requires moment { now ≤ most_moment }
-    ensures ends { Concludes V.tells V.tags V.hands V.fails result (send_off now host.now.state (Some frame.now) relay.old) visitor.old visitor.new (station_with host.now.state relay.new) }
+    ensures ends { Concludes V.tells V.tags V.hands V.fails result (send_off now host.now.state (Some frame.old) relay.old) visitor.old visitor.new (station_with host.now.state relay.new) }
     ensures others { relay.new ≡ with_outs relay.old relay.new.outs }
     ensures past { All (IsOutUpTo now) relay.new.outs }
 {
     let tag = visitor.tag(host, frame, now);
-    pass_on(relay, P::make(frame, tag), now, visitor)
+    pass_on(relay, frame, tag, now, visitor)
 }

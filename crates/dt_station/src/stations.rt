@@ -1,16 +1,17 @@
 ghost use Rattle.std.specs.Prelude.{◌≡◌, ◌≤◌, IfOk, OnOk, false, length, unwrap_or};
 ghost use Rattle.std.specs.Option.{ForSome};
 ghost use Rattle.dt_flow_model.specs.Keeping.{most_moment};
+ghost use Rattle.dt_layout.specs.Carried.{IsGram};
 ghost use Rattle.dt_relay.specs.Carrying.{parcel_seen};
 ghost use Rattle.dt_world_model.specs.Host.{IsCurrentHost};
 ghost use Rattle.dt_world_model.specs.Script.{Concludes};
 ghost use Rattle.dt_world_model.specs.Relay.{with_outs};
-ghost use Rattle.dt_world_model.specs.Station.{station_event, station_wake};
-ghost use Rattle.dt_station.specs.Events.{MayHappen, event_seen};
+ghost use Rattle.dt_world_model.specs.Station.{Arrive, station_event, station_wake};
+ghost use Rattle.dt_station.specs.Events.{MayHappen, MayHappenHere, event_seen, local_seen};
 ghost use Rattle.dt_station.specs.Stations.{host_started, is_spent_by, station_started};
 
-use crate::events::StationEvent;
-use crate::happening::event_on;
+use crate::events::{LocalEvent, StationEvent};
+use crate::happening::{arrival_on, local_event_on};
 use crate::visitor::Visitor;
 use dt_host::Host;
 use dt_items::NoMemory;
@@ -19,6 +20,7 @@ use dt_relay::{Carry, InLink, OutLink, Relay, Route, earlier};
 use dt_units::{NodeId, Rules};
 use std::alloc::Global;
 use std::marker::{Brand, Model};
+use std::mem::size_of;
 use std::sync::ledger::Blank;
 
 /// A node's host and its relay: what they do in one event.
@@ -27,15 +29,18 @@ use std::sync::ledger::Blank;
 /// given is at least that of the one before.
 #[derive(Drop)]
 pub struct Station<P: Carry> {
-    host: Host,
-    relay: Relay<P>,
+    host: Box<Host>,
+    relay: Box<Relay<P>>,
     /// In which the host makes its packets.
-    frame: Frame,
+    frame: Box<Frame>,
     /// The greatest moment that it was given.
     latest: u64,
     /// An event found no memory.
     spent: bool,
 }
+
+// It holds no packet in place, so that it is as small for any kind of packets.
+const _: () = prove!(size_of::<Station<Frame>>() <= 512);
 
 impl<P: Carry> Model for Station<P> {
     ghost use Rattle.dt_world_model.specs.Station.{station_with};
@@ -43,9 +48,9 @@ impl<P: Carry> Model for Station<P> {
 
     ghost Value = { StationValue P.Tag };
 
-    ghost view = { λ s. record { rules = s.host.rules; latest = s.latest; spent = s.spent; state = station_with s.host.state s.relay } };
+    ghost view = { λ s. record { rules = s.host.value.rules; latest = s.latest; spent = s.spent; state = station_with s.host.value.state s.relay.value } };
 
-    ghost invariant = { λ s. IsStation s.latest s.host s.relay };
+    ghost invariant = { λ s. IsStation s.latest s.host.value s.relay.value };
 }
 
 impl<P: Carry> Station<P> {
@@ -68,9 +73,9 @@ impl<P: Carry> Station<P> {
         let host = start_host(alloc, rules, me, again)?;
         let relay = Relay::new(alloc, outs, ins, routes)?;
         Ok(Station {
-            host,
-            relay,
-            frame: Frame::new(),
+            host: Box::new(alloc, host)?,
+            relay: Box::new(alloc, relay)?,
+            frame: Box::new(alloc, Frame::new())?,
             latest: again.unwrap_or(0),
             spent: false,
         })
@@ -96,7 +101,8 @@ impl<P: Carry> Station<P> {
     /// that, and the station is spent: [`Station::is_spent`].
     ///
     /// Its cost is that of a look at every record of the host for each act, and of the packets that
-    /// move.
+    /// move. The event itself has room for a packet and is moved whole: [`Station::local_event`] and
+    /// [`Station::arrive`] do the same and move none.
     pub fn event<V: Visitor<P>>(
         &mut self,
         now: u64,
@@ -119,11 +125,60 @@ impl<P: Carry> Station<P> {
         // What it keeps is past.
         ensures latest { self.new.latest ≡ now }
     {
+        match event {
+            StationEvent::Send {
+                flow,
+                octets,
+                begin,
+                end,
+            } => {
+                let sends = LocalEvent::Send {
+                    flow,
+                    octets,
+                    begin,
+                    end,
+                };
+                self.local_event(now, sends, buf, visitor)
+            }
+            StationEvent::Read { flow } => {
+                self.local_event(now, LocalEvent::Read { flow }, buf, visitor)
+            }
+            StationEvent::Tick => self.local_event(now, LocalEvent::Tick, buf, visitor),
+            StationEvent::Arrive { link, packet } => {
+                let mut frame = Frame::make(packet.frame(), ());
+                self.arrive(now, link, &mut frame, packet.into_tag(), visitor)
+            }
+        }
+    }
+
+    /// The same as [`Station::event`] for an event that brings no packet, so that none is moved. `buf` is
+    /// that of a read; any other event leaves it as it is.
+    pub fn local_event<V: Visitor<P>>(
+        &mut self,
+        now: u64,
+        event: LocalEvent<'_>,
+        buf: &mut [u8],
+        visitor: &mut V,
+    ) -> Result<(), NoMemory>
+        requires unspent { self.old.spent ≡ false }
+        requires event { MayHappenHere self.old.rules now self.old.state (length buf.old) event }
+        requires past { self.old.latest ≤ now }
+        requires moment { now ≤ most_moment }
+        ensures script { Concludes V.tells V.tags V.hands V.fails result (station_event self.old.rules now (local_seen (length buf.old) event.entry) self.old.state) visitor.old visitor.new self.new.state }
+        ensures current { OnOk result (IsCurrentHost self.new.rules now self.new.state.host) }
+        ensures spent { self.new.spent ≡ is_spent_by result }
+        // What never changes, after any answer.
+        ensures rules { self.new.rules ≡ self.old.rules }
+        ensures me { self.new.state.host.me ≡ self.old.state.host.me }
+        ensures links { self.new.state.relay ≡ with_outs self.old.state.relay self.new.state.relay.outs }
+        // What it keeps is past.
+        ensures latest { self.new.latest ≡ now }
+    {
         self.latest = now;
-        let done = event_on::<P, V, Brand>(
-            &mut self.host,
-            &mut self.relay,
-            &mut self.frame,
+        let done = local_event_on::<P, V, Brand>(
+            &mut *self.host,
+            &mut *self.relay,
+            &mut *self.frame,
             now,
             event,
             buf,
@@ -132,6 +187,51 @@ impl<P: Carry> Station<P> {
         );
         self.spent = done.is_err();
         done
+    }
+
+    /// The same as [`Station::event`] for a packet that comes on a link, of which the frame has the
+    /// octets and `tag` is the tag. They must read as a Deltagram.
+    ///
+    /// The packet stays where it is: its life is lowered in the frame, and where it goes straight on it
+    /// is handed out from there. So what the frame holds afterwards isn't told. A packet is made of it
+    /// only where it has to wait for its link.
+    pub fn arrive<V: Visitor<P>>(
+        &mut self,
+        now: u64,
+        link: u16,
+        frame: &mut Frame,
+        tag: P::Tag,
+        visitor: &mut V,
+    ) -> Result<(), NoMemory>
+        requires unspent { self.old.spent ≡ false }
+        requires gram { IsGram frame.old }
+        requires past { self.old.latest ≤ now }
+        requires moment { now ≤ most_moment }
+        ensures script { let arrives = Arrive link (record { octets = frame.old; tag = tag }) in
+            Concludes V.tells V.tags V.hands V.fails result (station_event self.old.rules now arrives self.old.state) visitor.old visitor.new self.new.state }
+        ensures current { OnOk result (IsCurrentHost self.new.rules now self.new.state.host) }
+        ensures spent { self.new.spent ≡ is_spent_by result }
+        // What never changes, after any answer.
+        ensures rules { self.new.rules ≡ self.old.rules }
+        ensures me { self.new.state.host.me ≡ self.old.state.host.me }
+        ensures links { self.new.state.relay ≡ with_outs self.old.state.relay self.new.state.relay.outs }
+        // What it keeps is past.
+        ensures latest { self.new.latest ≡ now }
+    {
+        self.latest = now;
+        let ended = arrival_on::<P, V, Brand>(
+            &mut *self.host,
+            &mut *self.relay,
+            &mut *self.frame,
+            now,
+            link,
+            frame,
+            tag,
+            Blank::new(1),
+            visitor,
+        );
+        self.spent = ended.is_err();
+        ended
     }
 
     /// The least moment at which an act of the host is due or a packet may leave, or none where there
@@ -148,7 +248,7 @@ impl<P: Carry> Station<P> {
         ensures rules { result.now.rules ≡ self.now.rules }
         ensures state { result.now.state ≡ self.now.state.host }
     {
-        &self.host
+        &*self.host
     }
 
     /// Whether an event found no memory. Then the station is used no more.

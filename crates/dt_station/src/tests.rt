@@ -35,12 +35,13 @@ const FLOW: Flow = Flow {
     to_port: 20,
 };
 
-// What a visitor sees: a report, a question for a tag, a packet with so much life.
+// What a visitor sees: a report, a question for a tag, a packet with so much life that waited or that
+// leaves at once.
 #[derive(Clone, Copy, Debug, PartialEq, Eq)]
 enum Seen {
     Told(Report<'static>),
     Asked,
-    Handed { link: u16, life: u32 },
+    Handed { link: u16, life: u32, at_once: bool },
 }
 
 // Compares what it sees with what is wanted, and has memory for so many packets.
@@ -58,6 +59,25 @@ impl Audience<'_> {
         if self.place < self.wanted.len() {
             self.place += 1;
         }
+    }
+
+    fn hand(&mut self, link: u16, life: u32, at_once: bool) -> Result<(), NoMemory> {
+        if self.memory == 0 {
+            return Err(NoMemory);
+        }
+        self.memory -= 1;
+        let fits = match self.wanted.get(self.place) {
+            Some(
+                Seen::Handed {
+                    link: wanted_link,
+                    life: wanted_life,
+                    at_once: wanted_at_once,
+                },
+            ) => *wanted_link == link && *wanted_life == life && *wanted_at_once == at_once,
+            _ => false,
+        };
+        self.see(fits);
+        Ok(())
     }
 }
 
@@ -87,22 +107,11 @@ impl Visitor<Frame> for Audience<'_> {
     }
 
     fn out(&mut self, link: u16, packet: Frame) -> Result<(), NoMemory> {
-        if self.memory == 0 {
-            return Err(NoMemory);
-        }
-        self.memory -= 1;
-        let life = packet.life();
-        let fits = match self.wanted.get(self.place) {
-            Some(
-                Seen::Handed {
-                    link: wanted_link,
-                    life: wanted_life,
-                },
-            ) => *wanted_link == link && *wanted_life == life,
-            _ => false,
-        };
-        self.see(fits);
-        Ok(())
+        self.hand(link, packet.life(), false)
+    }
+
+    fn out_at_once(&mut self, link: u16, frame: &Frame, _tag: ()) -> Result<(), NoMemory> {
+        self.hand(link, frame.life(), true)
     }
 }
 
@@ -239,6 +248,7 @@ fn flushes(rt: &impl Abort, station: &mut Station<Frame>) -> Result<(), NoMemory
         Seen::Handed {
             link: 5,
             life: 4949,
+            at_once: true,
         },
     ];
     arrive(rt, station, 0, rendezvous(rt, 5000, 2), &to_two)?;
@@ -250,6 +260,7 @@ fn flushes(rt: &impl Abort, station: &mut Station<Frame>) -> Result<(), NoMemory
         Seen::Handed {
             link: 1,
             life: 4949,
+            at_once: true,
         },
     ];
     arrive(rt, station, 0, rendezvous(rt, 5000, 3), &to_three)?;
@@ -266,6 +277,7 @@ fn flushes(rt: &impl Abort, station: &mut Station<Frame>) -> Result<(), NoMemory
         Seen::Handed {
             link: 5,
             life: 3949,
+            at_once: false,
         },
         Seen::Told(Report::Put {
             link: 1,
@@ -274,6 +286,7 @@ fn flushes(rt: &impl Abort, station: &mut Station<Frame>) -> Result<(), NoMemory
         Seen::Handed {
             link: 1,
             life: 3949,
+            at_once: false,
         },
     ];
     tick(rt, station, 1000, &both)?;
@@ -508,7 +521,11 @@ fn sends_and_reads(rt: &impl Abort, station: &mut Station<Frame>) -> Result<(), 
         }),
         Seen::Asked,
         Seen::Told(Report::Put { link: 5, life: 999 }),
-        Seen::Handed { link: 5, life: 999 },
+        Seen::Handed {
+            link: 5,
+            life: 999,
+            at_once: true,
+        },
     ];
     let event = StationEvent::Send {
         flow: FLOW,

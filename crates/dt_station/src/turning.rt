@@ -51,14 +51,14 @@ fn tell_act<P: Carry, V: Visitor<P>>(
     host: &Host,
     relay: &mut Relay<P>,
     done: &Done,
-    frame: &Frame,
+    frame: &mut Frame,
     now: u64,
     visitor: &mut V,
 ) -> Result<(), NoMemory>
-    requires gram { makes_frame done.now.act ≡ true → IsGram frame.now }
+    requires gram { makes_frame done.now.act ≡ true → IsGram frame.old }
     requires past { All (IsOutUpTo now) relay.old.outs }
     requires moment { now ≤ most_moment }
-    ensures ends { let made = if makes_frame done.now.act then Some frame.now else None in
+    ensures ends { let made = if makes_frame done.now.act then Some frame.old else None in
         Concludes V.tells V.tags V.hands V.fails result (Tell (told_done done.now) (send_off now host.now.state made relay.old)) visitor.old visitor.new (station_with host.now.state relay.new) }
     ensures others { relay.new ≡ with_outs relay.old relay.new.outs }
     ensures past { All (IsOutUpTo now) relay.new.outs }

@@ -38,10 +38,17 @@ pub trait Visitor<P: Carry> {
     fn tell(&mut self, report: &Report<'_>)
         ensures { tells self.old (told report.now) self.new };
 
-    /// Is given a packet that leaves on a link, after its report. An error ends the event, and the
-    /// station is used no more.
+    /// Is given a packet that leaves on a link after it waited for it, behind its report. An error ends
+    /// the event, and the station is used no more.
     fn out(&mut self, link: u16, packet: P) -> Result<(), NoMemory>
         requires gram { IsGram (P.octets packet) }
         ensures ok { OnOk result (hands self.old link (parcel_seen P.octets P.label packet) self.new) }
+        ensures err { OnErr result (fails self.old self.new) };
+
+    /// The same for a packet that leaves without having waited: its octets are in the frame, and `tag` is
+    /// its tag. So no packet is moved.
+    fn out_at_once(&mut self, link: u16, frame: &Frame, tag: P::Tag) -> Result<(), NoMemory>
+        requires gram { IsGram frame.now }
+        ensures ok { OnOk result (hands self.old link (record { octets = frame.now; tag = tag }) self.new) }
         ensures err { OnErr result (fails self.old self.new) };
 }

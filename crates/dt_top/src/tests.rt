@@ -292,7 +292,7 @@ replay -- --
 -h
 --version
 make
-make 
+make\x20
 make 0
 make 01
 make +1

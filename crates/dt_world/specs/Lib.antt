@@ -1,9 +1,9 @@
 pub mod Copies
 pub mod Effects
-pub mod Marked
 pub mod Notes
 pub mod Occasions
 pub mod Outcomes
+pub mod PlacedEvents
 pub mod Runs
 pub mod Setups
 pub mod Starts

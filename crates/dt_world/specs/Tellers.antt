@@ -1,5 +1,5 @@
 -- Who sees a station's event for the world, and what it may become when something is told, asked or handed out. It may fail for want of memory, and then it does nothing more.
-use Rattle.std.specs.Prelude.{ℕ, ◌≡◌, true, false, List, [], ◌∷◌, ◌++◌, length, Some}
+use Rattle.std.specs.Prelude.{ℕ, ◌≡◌, true, false, List, [], ◌∷◌, ◌++◌, length, Some, Result}
 use Rattle.dt_reports.specs.Told.{Told}
 use Rattle.dt_reports.specs.Entries.{Entry}
 use Rattle.dt_flow_model.specs.Frames.{Mark}
@@ -7,6 +7,8 @@ use Rattle.dt_world_model.specs.Host.{Host}
 use Rattle.dt_world_model.specs.Ledgers.{Ledgers, effect_of, ledgers_after, mark_of}
 use Rattle.dt_world_model.specs.Ledgers as ledgers
 use Rattle.dt_world_model.specs.Relay.{Parcel}
+use Rattle.dt_world_model.specs.Script.{Concludes, Script}
+use Rattle.dt_world_model.specs.Station.{Station}
 use Rattle.dt_world_model.specs.World.{Copy, world_told}
 use Rattle.dt_world.specs.declared.tellers.Teller.{Teller}
 use Rattle.dt_world.specs.Notes.{ledgers_seen}
@@ -70,6 +72,10 @@ module _ {L : Type 0} where
       pub same : IsSame s t
       pub done : t.failed ≡ false → HasTold s r t
       pub not : t.failed ≡ true → IsUnchanged s t
+
+    -- a station's script ends before a teller: the whole of it after Ok, else a part
+    abbrev pub Ends : {U E : Type 0} → Result U E → Script Mark (Station Mark) → Teller L → Teller L → Station Mark → Type 0
+    Ends result script before after station = Concludes (λ s r t. Tells s r t) (λ s host octets mark t. Marks s host octets mark t) (λ s link parcel t. Hands s link parcel t) (λ s t. Stays s t) result script before after station
 
 -- LINES TOLD ONE AFTER ANOTHER, from the first state of who is told to the last
 abbrev pub TellsAll : {L : Type 0} → (L → Entry → L → Type 0) → List Entry → L → L → Type 0

@@ -1,6 +1,7 @@
 //! What happens to the parts of a world in an event that isn't refused.
 ghost use Rattle.std.specs.Prelude.{◌≡◌, ◌≢◌, ◌+◌, ◌<◌, ◌≤◌, OnErr, OnOk, [], length, None};
 ghost use Rattle.dt_units.specs.Flows.{IsFlow};
+ghost use Rattle.dt_layout.specs.declared.limits.TheConstants.{MOST_DATA};
 ghost use Rattle.dt_layout.specs.Carried.{IsGram};
 ghost use Rattle.dt_layout.specs.Reading.{gram_in};
 ghost use Rattle.dt_layout.specs.Spelling.{Carries};
@@ -14,16 +15,15 @@ ghost use Rattle.dt_world.specs.Outcomes.{Happens, HasHappened};
 ghost use Rattle.dt_world.specs.Steps.{BringsPacket, most_now};
 ghost use Rattle.dt_world.specs.Worlds.{IsStationOf, IsWhole, world_seen};
 
-use crate::marked::{Mark, MarkedFrame};
+use crate::marked::Mark;
 use crate::parts::{Parts, event_at};
 use crate::placed::{Brought, start_again};
+use crate::placed_events::PlacedEvent;
 use crate::refusals::link_of;
 use crate::tellers::Lines;
 use dt_items::NoMemory;
 use dt_layout::{Frame, Packet, read_deltagram, read_packet};
-use dt_relay::Carry;
 use dt_reports::{LogLine, Report};
-use dt_station::StationEvent;
 use dt_units::Flow;
 
 /// Octets are sent at the station where their flow begins.
@@ -33,7 +33,6 @@ pub fn send<L: Lines>(
     octets: &[u8],
     begin: bool,
     end: bool,
-    buf: &mut [u8],
     lines: &mut L,
 ) -> Result<(), NoMemory>
     requires whole { IsWhole parts.old }
@@ -47,7 +46,7 @@ pub fn send<L: Lines>(
     ensures now { parts.new.now ≡ parts.old.now }
     ensures links { parts.new.links ≡ parts.old.links }
 {
-    let event = StationEvent::Send {
+    let event = PlacedEvent::Send {
         flow,
         octets,
         begin,
@@ -59,7 +58,7 @@ pub fn send<L: Lines>(
         end,
         place: 0,
     };
-    event_at(parts, flow.from.0, event, brought, buf, lines)
+    event_at(parts, flow.from.0, event, brought, lines)
 }
 
 /// Unread octets are read at the station where their flow ends, at most as many as the buffer holds.
@@ -79,23 +78,12 @@ pub fn read<L: Lines>(
     ensures now { parts.new.now ≡ parts.old.now }
     ensures links { parts.new.links ≡ parts.old.links }
 {
-    event_at(
-        parts,
-        flow.to.0,
-        StationEvent::Read { flow },
-        no_octets(0),
-        buf,
-        lines,
-    )
+    let event = PlacedEvent::Read { flow, buf };
+    event_at(parts, flow.to.0, event, no_octets(0), lines)
 }
 
 /// The station does what is due.
-pub fn tick<L: Lines>(
-    parts: &mut Parts,
-    node: u32,
-    buf: &mut [u8],
-    lines: &mut L,
-) -> Result<(), NoMemory>
+pub fn tick<L: Lines>(parts: &mut Parts, node: u32, lines: &mut L) -> Result<(), NoMemory>
     requires whole { IsWhole parts.old }
     ensures happens { let w = world_seen parts.old in
         Happens L.tells result w (at_station w node Tick) lines.old lines.new (world_seen parts.new) }
@@ -104,7 +92,7 @@ pub fn tick<L: Lines>(
     ensures now { parts.new.now ≡ parts.old.now }
     ensures links { parts.new.links ≡ parts.old.links }
 {
-    event_at(parts, node, StationEvent::Tick, no_octets(0), buf, lines)
+    event_at(parts, node, PlacedEvent::Tick, no_octets(0), lines)
 }
 
 /// A copy comes to the station at its link's end.
@@ -117,6 +105,7 @@ pub fn arrive<L: Lines>(
 ) -> Result<(), NoMemory>
     requires whole { IsWhole parts.old }
     requires begun { first_refusal (refusals (world_seen parts.old) (Arrives copy)) ≡ None }
+    requires room { MOST_DATA ≤ length buf.old }
     ensures happens { let w = world_seen parts.old in
         Happens L.tells result w (after_event w (Arrives copy)) lines.old lines.new (world_seen parts.new) }
     ensures stations { OnOk result (AllEntries (IsStationOf parts.old.rules parts.old.now) parts.new.stations.entries) }
@@ -135,22 +124,16 @@ pub fn arrive<L: Lines>(
     let place = seen.place;
     let mark = Mark::new(seen.birth, place);
     let to = link_of(parts, link).to;
-    let packet = MarkedFrame::make(frame, mark);
-    let brought = brought_by(frame, place);
-    event_at(
-        parts,
-        to,
-        StationEvent::Arrive { link, packet },
-        brought,
-        buf,
-        lines,
-    )
+    let brought = brought_by(frame, place, buf);
+    let event = PlacedEvent::Arrive { link, frame, mark };
+    event_at(parts, to, event, brought, lines)
 }
 
-/// What a packet brings: the octets of a data packet.
-fn brought_by(frame: &Frame, place: u64) -> Brought<'_>
+/// What the packet in a frame brings: the octets of a data packet, which are copied into `room`.
+fn brought_by<'a>(frame: &Frame, place: u64, room: &'a mut [u8]) -> Brought<'a>
     requires gram { IsGram frame.now }
     requires carries { Carries (gram_in frame.now) (value_in frame.now) }
+    requires room { MOST_DATA ≤ length room.old }
     ensures { BringsPacket frame.now place result }
 {
     let gram = match read_deltagram(frame.as_slice()) {
@@ -165,12 +148,16 @@ fn brought_by(frame: &Frame, place: u64) -> Brought<'_>
                 end,
                 ..
             },
-        ) => Brought {
-            octets,
-            begin,
-            end,
-            place,
-        },
+        ) => {
+            let copied = &mut room[..octets.len()];
+            copied.copy_from_slice(octets);
+            Brought {
+                octets: copied,
+                begin,
+                end,
+                place,
+            }
+        }
         Ok(Packet::Ack { .. }) => no_octets(place),
         Ok(Packet::Meet { .. }) => no_octets(place),
         Ok(Packet::Close { .. }) => no_octets(place),

@@ -11,6 +11,7 @@ mod notes;
 mod occasions;
 mod parts;
 mod placed;
+mod placed_events;
 mod refusals;
 mod runs;
 mod setups;

@@ -85,4 +85,8 @@ impl Carry for MarkedFrame {
     fn frame(&self) -> &Frame {
         &self.frame
     }
+
+    fn into_tag(self) -> Mark {
+        self.mark
+    }
 }

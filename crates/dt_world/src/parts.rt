@@ -1,21 +1,19 @@
 //! The parts of a world, and what happens to them.
-ghost use Rattle.std.specs.Prelude.{◌≡◌, ◌+◌, ◌==◌, OnOk, Some, length};
+ghost use Rattle.std.specs.Prelude.{◌≡◌, ◌+◌, ◌==◌, OnOk, Some};
 ghost use Rattle.dt_world_model.specs.Tables.{AllEntries, look};
 ghost use Rattle.dt_world_model.specs.World.{Placed};
 ghost use Rattle.dt_world_model.specs.WorldFacts.{IsPossible};
 ghost use Rattle.dt_world_model.specs.WorldStep.{at_station};
-ghost use Rattle.dt_station.specs.Events.{MayHappen, event_seen};
-ghost use Rattle.dt_world.specs.Marked.{frame_octets, parcel_of};
+ghost use Rattle.dt_world.specs.PlacedEvents.{MayCome, event_seen};
 ghost use Rattle.dt_world.specs.Steps.{Brings};
 ghost use Rattle.dt_world.specs.Outcomes.{Happens};
 ghost use Rattle.dt_world.specs.Worlds.{IsStationOf, IsWhole, world_seen};
 
-use crate::marked::MarkedFrame;
 use crate::notes::Notes;
 use crate::placed::{Brought, PlacedStation, happen};
+use crate::placed_events::PlacedEvent;
 use crate::tellers::Lines;
 use dt_items::NoMemory;
-use dt_station::StationEvent;
 use dt_units::Rules;
 use dt_world_model::Link;
 use indexmap::IndexMap;
@@ -37,19 +35,18 @@ pub struct Parts {
 pub fn event_at<L: Lines>(
     parts: &mut Parts,
     node: u32,
-    event: StationEvent<'_, MarkedFrame>,
+    event: PlacedEvent<'_>,
     brought: Brought<'_>,
-    buf: &mut [u8],
     lines: &mut L,
 ) -> Result<(), NoMemory>
     requires whole { IsWhole parts.old }
     requires possible { (at : Placed) → look ◌==◌ node (world_seen parts.old).stations ≡ Some at
-        → IsPossible (world_seen parts.old) node (event_seen parcel_of (length buf.old) event) }
-    requires brings { Brings (world_seen parts.old) node (event_seen parcel_of (length buf.old) event) brought }
+        → IsPossible (world_seen parts.old) node (event_seen event) }
+    requires brings { Brings (world_seen parts.old) node (event_seen event) brought }
     requires may { (s : PlacedStation) → look ◌==◌ node parts.old.stations.entries ≡ Some s
-        → MayHappen frame_octets parts.old.rules (parts.old.now + s.zero) s.station.state (length buf.old) event }
+        → MayCome parts.old.rules (parts.old.now + s.zero) s.station.state event }
     ensures happens { let w = world_seen parts.old in
-        Happens L.tells result w (at_station w node (event_seen parcel_of (length buf.old) event.entry)) lines.old lines.new (world_seen parts.new) }
+        Happens L.tells result w (at_station w node (event_seen event.entry)) lines.old lines.new (world_seen parts.new) }
     ensures stations { OnOk result (AllEntries (IsStationOf parts.old.rules parts.old.now) parts.new.stations.entries) }
     ensures rules { parts.new.rules ≡ parts.old.rules }
     ensures now { parts.new.now ≡ parts.old.now }
@@ -64,7 +61,6 @@ pub fn event_at<L: Lines>(
             node,
             event,
             brought,
-            buf,
             &mut parts.notes,
             lines,
         ),

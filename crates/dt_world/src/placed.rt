@@ -1,22 +1,24 @@
 //! The stations of the world, and an event at one.
-ghost use Rattle.std.specs.Prelude.{◌≡◌, ◌+◌, ◌≤◌, IfOk, OnOk, false, length};
+ghost use Rattle.std.specs.Prelude.{◌≡◌, ◌+◌, ◌≤◌, IfOk, OnOk, false};
 ghost use Rattle.dt_flow_model.specs.Keeping.{most_moment};
 ghost use Rattle.dt_world_model.specs.Relay.{emptied, new_relay, with_outs};
 ghost use Rattle.dt_world_model.specs.Host.{first_host, restarted_host};
 ghost use Rattle.dt_world_model.specs.Station.{station_event, station_with};
-ghost use Rattle.dt_station.specs.Events.{MayHappen, event_seen};
-ghost use Rattle.dt_world.specs.Marked.{frame_octets, parcel_of};
+ghost use Rattle.dt_station.specs.Stations.{is_spent_by};
+ghost use Rattle.dt_world.specs.PlacedEvents.{MayCome, event_seen};
 ghost use Rattle.dt_world.specs.Steps.{Happened, Played, most_now, noted_first, occasion_with};
-ghost use Rattle.dt_world.specs.Tellers.{occasion_of};
+ghost use Rattle.dt_world.specs.Tellers.{Ends, occasion_of};
 
 use crate::marked::MarkedFrame;
 use crate::notes::Notes;
 use crate::occasions::Occasion;
+use crate::placed_events::PlacedEvent;
 use crate::tellers::{Lines, Teller};
 use dt_items::NoMemory;
-use dt_station::{InLink, OutLink, Route, Station, StationEvent};
+use dt_station::{InLink, LocalEvent, OutLink, Route, Station};
 use dt_units::{NodeId, Rules};
 use std::alloc::Global;
+use std::mem::size_of;
 
 /// A station of the world. Its clock is ahead of the world's moment by `zero` ms.
 #[derive(Drop)]
@@ -27,6 +29,9 @@ pub struct PlacedStation {
     pub plan: Plan,
     pub station: Station<MarkedFrame>,
 }
+
+// It is moved when it is made and when it starts again.
+const _: () = prove!(size_of::<PlacedStation>() <= 512);
 
 /// A station's links and routes, in the order of the setup.
 #[derive(Drop)]
@@ -46,23 +51,63 @@ pub struct Brought<'a> {
     pub place: u64,
 }
 
+/// An event at a station's reading, seen by a teller.
+fn take_part<L: Lines>(
+    station: &mut Station<MarkedFrame>,
+    now: u64,
+    event: PlacedEvent<'_>,
+    teller: &mut Teller<'_, '_, L>,
+) -> Result<(), NoMemory>
+    requires unspent { station.old.spent ≡ false }
+    requires may { MayCome station.old.rules now station.old.state event }
+    requires past { station.old.latest ≤ now }
+    requires moment { now ≤ most_moment }
+    ensures script { Ends L.tells result (station_event station.old.rules now (event_seen event.entry) station.old.state) teller.old teller.new station.new.state }
+    ensures rules { station.new.rules ≡ station.old.rules }
+    ensures latest { station.new.latest ≡ now }
+    ensures spent { station.new.spent ≡ is_spent_by result }
+    ensures me { station.new.state.host.me ≡ station.old.state.host.me }
+    ensures links { station.new.state.relay ≡ with_outs station.old.state.relay station.new.state.relay.outs }
+{
+    match event {
+        PlacedEvent::Send {
+            flow,
+            octets,
+            begin,
+            end,
+        } => {
+            let event = LocalEvent::Send {
+                flow,
+                octets,
+                begin,
+                end,
+            };
+            station.local_event(now, event, &mut [], teller)
+        }
+        PlacedEvent::Read { flow, buf } => {
+            station.local_event(now, LocalEvent::Read { flow }, buf, teller)
+        }
+        PlacedEvent::Tick => station.local_event(now, LocalEvent::Tick, &mut [], teller),
+        PlacedEvent::Arrive { link, frame, mark } => station.arrive(now, link, frame, mark, teller),
+    }
+}
+
 /// An event at a station's reading, seen by a teller that hasn't failed. `NoMemory` comes also where the
 /// teller has failed.
 pub fn play<L: Lines>(
     station: &mut Station<MarkedFrame>,
     now: u64,
-    event: StationEvent<'_, MarkedFrame>,
-    buf: &mut [u8],
+    event: PlacedEvent<'_>,
     teller: &mut Teller<'_, '_, L>,
 ) -> Result<(), NoMemory>
     requires fresh { teller.old.failed ≡ false }
     requires unspent { station.old.spent ≡ false }
-    requires may { MayHappen frame_octets station.old.rules now station.old.state (length buf.old) event }
+    requires may { MayCome station.old.rules now station.old.state event }
     requires past { station.old.latest ≤ now }
     requires moment { now ≤ most_moment }
     ensures notes { teller.new.notes.ghost_name ≡ teller.old.notes.ghost_name }
     ensures lines { teller.new.lines.ghost_name ≡ teller.old.lines.ghost_name }
-    ensures played { let script = station_event station.old.rules now (event_seen parcel_of (length buf.old) event.entry) station.old.state in
+    ensures played { let script = station_event station.old.rules now (event_seen event.entry) station.old.state in
         Played L.tells result (occasion_of teller.old) script (noted_first teller.old) teller.old.lines.now teller.new station.new.state }
     ensures rules { station.new.rules ≡ station.old.rules }
     ensures latest { station.new.latest ≡ now }
@@ -71,7 +116,7 @@ pub fn play<L: Lines>(
     ensures me { station.new.state.host.me ≡ station.old.state.host.me }
     ensures links { station.new.state.relay ≡ with_outs station.old.state.relay station.new.state.relay.outs }
 {
-    station.event(now, event, buf, teller)?;
+    take_part(station, now, event, teller)?;
     if teller.failed {
         return Err(NoMemory);
     }
@@ -84,18 +129,17 @@ pub fn happen<'a, 'o, L: Lines>(
     rules: &'o Rules,
     now: u64,
     node: u32,
-    event: StationEvent<'_, MarkedFrame>,
+    event: PlacedEvent<'_>,
     brought: Brought<'o>,
-    buf: &mut [u8],
     notes: &'a mut Notes,
     lines: &'a mut L,
 ) -> Result<(), NoMemory>
     requires unspent { placed.old.station.spent ≡ false }
-    requires may { MayHappen frame_octets placed.old.station.rules (now + placed.old.zero) placed.old.station.state (length buf.old) event }
+    requires may { MayCome placed.old.station.rules (now + placed.old.zero) placed.old.station.state event }
     requires past { placed.old.station.latest ≤ now + placed.old.zero }
     requires moment { now ≤ most_now }
     ensures happened { let o = occasion_with rules.now now node placed.old.life brought.entry in
-        let script = station_event placed.old.station.rules (now + placed.old.zero) (event_seen parcel_of (length buf.old) event.entry) placed.old.station.state in
+        let script = station_event placed.old.station.rules (now + placed.old.zero) (event_seen event.entry) placed.old.station.state in
         Happened L.tells result o script notes.old lines.old notes.new lines.new placed.new.station.state }
     ensures zero { placed.new.zero ≡ placed.old.zero }
     ensures life { placed.new.life ≡ placed.old.life }
@@ -122,7 +166,7 @@ pub fn happen<'a, 'o, L: Lines>(
         occasion,
         failed: false,
     };
-    play(&mut placed.station, reading, event, buf, &mut teller)
+    play(&mut placed.station, reading, event, &mut teller)
 }
 
 /// A station of these links and routes that starts for the first time.

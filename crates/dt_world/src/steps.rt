@@ -51,10 +51,10 @@ pub fn happen<L: Lines>(
             if !can_take(parts, flow, octets.len() as u64) {
                 return Err(NoMemory);
             }
-            doing::send(parts, flow, octets, begin, end, buf, lines)
+            doing::send(parts, flow, octets, begin, end, lines)
         }
         Event::Read { flow, max } => doing::read(parts, flow, &mut buf[..max as usize], lines),
-        Event::Tick { station } => doing::tick(parts, station.0, buf, lines),
+        Event::Tick { station } => doing::tick(parts, station.0, lines),
         Event::Arrive { copy } => doing::arrive(parts, copy, buf, frame, lines),
         Event::Lose { copy } => {
             doing::lose(parts, copy, lines);

@@ -2,8 +2,9 @@
 ghost use Rattle.std.specs.Prelude.{◌≡◌, length, OnErr, OnOk};
 ghost use Rattle.dt_reports.specs.Entries.{Entry, entry_of};
 ghost use Rattle.dt_reports.specs.Told.{told};
-ghost use Rattle.dt_world_model.specs.Ledgers.{effect_of, ledgers_after};
+ghost use Rattle.dt_world_model.specs.Ledgers.{ledgers_by};
 ghost use Rattle.dt_world_model.specs.World.{world_told};
+ghost use Rattle.dt_world.specs.Effects.{effect_seen};
 ghost use Rattle.dt_world.specs.Notes.{ledgers_seen};
 ghost use Rattle.dt_world.specs.Occasions.{occasion_seen};
 
@@ -62,22 +63,26 @@ impl<'a, 'o, L: Lines> Visitor<MarkedFrame> for Teller<'a, 'o, L> {
         if self.failed {
             return;
         }
-        if note(self.notes, &self.occasion, report).is_err() {
+        let effect = effect_of(report);
+        if note(self.notes, &self.occasion, &effect).is_err() {
             self.failed = true;
             return;
         }
         self.lines.line(&LogLine {
             moment: self.occasion.now,
             node: Some(self.occasion.node),
-            report: world_report(report, self.notes.copies.len()),
+            report: world_report(report, &effect, self.notes.copies.len()),
         });
     }
 
     fn out(&mut self, link: u16, packet: MarkedFrame) -> Result<(), NoMemory> {
+        self.out_at_once(link, &packet.frame, packet.mark)
+    }
+
+    fn out_at_once(&mut self, link: u16, frame: &Frame, mark: Mark) -> Result<(), NoMemory> {
         if self.failed {
             return Err(NoMemory);
         }
-        let MarkedFrame { frame, mark } = packet;
         let put = self.occasion.now;
         self.notes
             .copies
@@ -86,12 +91,12 @@ impl<'a, 'o, L: Lines> Visitor<MarkedFrame> for Teller<'a, 'o, L> {
 }
 
 /// What a report says of the world is noted. After `NoMemory` nothing was.
-fn note(notes: &mut Notes, occasion: &Occasion<'_>, report: &Report<'_>) -> Result<(), NoMemory>
-    ensures ok { OnOk result (ledgers_seen notes.new ≡ ledgers_after (occasion_seen occasion.entry.now) (told report.now) (ledgers_seen notes.old)) }
+fn note(notes: &mut Notes, occasion: &Occasion<'_>, effect: &Effect) -> Result<(), NoMemory>
+    ensures ok { OnOk result (ledgers_seen notes.new ≡ ledgers_by (occasion_seen occasion.entry.now) (effect_seen effect.now) (ledgers_seen notes.old)) }
     ensures err { OnErr result (ledgers_seen notes.new ≡ ledgers_seen notes.old) }
     ensures copies { notes.new.copies ≡ notes.old.copies }
 {
-    match effect_of(report) {
+    match *effect {
         Effect::Changes {
             flow,
             change: becomes,
@@ -100,11 +105,12 @@ fn note(notes: &mut Notes, occasion: &Occasion<'_>, report: &Report<'_>) -> Resu
     }
 }
 
-/// The report as the world tells it: where a packet leaves, the number of the copy is told too.
-fn world_report<'a>(report: &Report<'a>, copies: u64) -> Report<'a>
-    ensures { told result ≡ world_told copies (told report.now) (effect_of (told report.now)) }
+/// The report as the world tells it, by what it says of the world: where a packet leaves, the number of
+/// the copy is told too.
+fn world_report<'a>(report: &Report<'a>, effect: &Effect, copies: u64) -> Report<'a>
+    ensures { told result ≡ world_told copies (told report.now) (effect_seen effect.now) }
 {
-    match effect_of(report) {
+    match *effect {
         Effect::Leaves { link, life } => Report::PutAs {
             link,
             life,

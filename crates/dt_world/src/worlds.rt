@@ -24,17 +24,21 @@ use dt_units::NodeId;
 use indexmap::IndexMap;
 use std::alloc::Global;
 use std::marker::Model;
+use std::mem::size_of;
 
 /// Stations and links, the copies of packets on the links, and what became of each octet.
 #[derive(Drop)]
 pub struct World {
-    parts: Parts,
+    parts: Box<Parts>,
     /// Into which octets are read, 65,536 of them.
     buf: Vec<u8>,
     /// In which a copy that comes is read.
-    frame: Frame,
+    frame: Box<Frame>,
     spent: bool,
 }
+
+// It is moved when it begins.
+const _: () = prove!(size_of::<World>() <= 512);
 
 impl Model for World {
     ghost use Rattle.dt_world.specs.Worlds.{WorldValue};
@@ -44,9 +48,9 @@ impl Model for World {
     ghost use Rattle.std.specs.Prelude.{◌≡◌, false, length};
     ghost use Rattle.dt_world.specs.Worlds.{IsWhole, most_read, world_seen};
 
-    ghost view = { λ w. record { state = world_seen w.parts; spent = w.spent } };
+    ghost view = { λ w. record { state = world_seen w.parts.value; spent = w.spent } };
 
-    ghost invariant = { λ w. (length w.buf.items ≡ most_read) × (w.spent ≡ false → IsWhole w.parts) };
+    ghost invariant = { λ w. (length w.buf.items ≡ most_read) × (w.spent ≡ false → IsWhole w.parts.value) };
 }
 
 /// The most octets of a read.
@@ -70,16 +74,18 @@ impl World {
         };
         let mut buf = Vec::new(alloc);
         buf.resize(MOST_READ, 0)?;
+        let frame = Box::new(alloc, Frame::new())?;
+        let parts = Parts {
+            rules,
+            now: 0,
+            stations,
+            links,
+            notes,
+        };
         Ok(World {
-            parts: Parts {
-                rules,
-                now: 0,
-                stations,
-                links,
-                notes,
-            },
+            parts: Box::new(alloc, parts)?,
             buf,
-            frame: Frame::new(),
+            frame,
             spent: false,
         })
     }

@@ -1,4 +1,4 @@
-use Rattle.dt_replay.proofs.LineCounts.{lines_count}
+use Rattle.dt_scenario.proofs.LineCounts.{lines_count}
 use Rattle.dt_replay_audit.proofs.Turning.{schedule_passes}
 use Rattle.dt_replay_audit.proofs.log_of_a_schedule_passes.Goals as goal
 

@@ -1,4 +1,6 @@
 use Rattle.std.proofs.Common.{sym, subst}
+use Rattle.dt_scenario.specs.Parts.{scene_in}
+use Rattle.dt_calls.specs.declared.inputs.InputCalls.{InputCalls}
 use Rattle.dt_calls.specs.declared.outcomes.CallsOutcome.{CallsOutcome}
 use Rattle.dt_calls.specs.CallEnds.{CallsEnd}
 use Rattle.dt_calls.proofs.CallFolds.{answers_reversed, served_once}
@@ -14,4 +16,4 @@ returns-clause-answers g c = λ count. answers_reversed count c.args.bytes.now c
 pub returns-clause-ends : goal.returns-clause-ends
 returns-clause-ends g c =
     subst (λ (o : CallsOutcome). CallsEnd o c.args.bytes.now (g.K.Sink.sight c.args.out.now) (g.K.Sink.sight c.fold_behind_buffer.new.out)) (sym c.outcome_of.ensures)
-    (calls_end c.args.bytes.now c.new-input.result c.fold_behind_buffer.result (g.K.Sink.sight c.args.out.now) (g.K.Sink.sight c.fold_behind_buffer.new.out) c.new-input.ensures c.fold_behind_buffer.ensures)
+    (calls_end c.args.bytes.now (scene_in (λ (s : InputCalls). s.calls.calls) c.new-input.result) c.fold_behind_buffer.result (g.K.Sink.sight c.args.out.now) (g.K.Sink.sight c.fold_behind_buffer.new.out) c.new-input.ensures c.fold_behind_buffer.ensures)

@@ -1,5 +1,4 @@
-use Rattle.std.proofs.Common.{rules, ◌≡◌, ◌<◌, ◌≤◌, ◌==◌, ◌∙◌, ℕ, zero, suc, Bool, true, false, List, [], ◌∷◌, length, get_or, take, Option, Some, None, Ok, Err, refl, sym, ap, subst, arith, length-take}
-use Rattle.std.specs.List.{AllByRecursion}
+use Rattle.std.proofs.Common.{rules, ◌≡◌, ◌<◌, ◌≤◌, ◌==◌, ◌∙◌, ℕ, Bool, true, false, List, length, Option, None, Ok, Err, refl, sym, ap, subst, arith}
 use Rattle.std.proofs.lemmas.Bool.{eq-eqb}
 use Rattle.std.specs.Option.{IfSome}
 use Rattle.dt_fold.specs.declared.stops.Stop.{Stop}
@@ -11,7 +10,6 @@ use Rattle.dt_trace.specs.Inputs.{FailedTake, Input, Reading, Taken as Found}
 use Rattle.dt_edges.specs.Counts.{HasRisen}
 use Rattle.dt_edges.specs.Sinks.{SinkSight}
 use Rattle.dt_fold.specs.Logging.{HasAll, HasPart}
-use Rattle.dt_trace.specs.Standing.{HasFound}
 use Rattle.dt_node.specs.Turns.{turn}
 use Rattle.dt_node.specs.Logging.{NotesBehind, NotesFault, noted_text}
 use Rattle.dt_node.proofs.Readying.{ready_later, not_equal}
@@ -24,7 +22,7 @@ use Rattle.dt_node.specs.Runs.{moment, most_equal, next_watch}
 use Rattle.dt_node.specs.Deeds.{Scene, TurnEnds, scene}
 use Rattle.dt_node.specs.Serving.{Edges, edges, most_taken}
 use Rattle.dt_node.proofs.Watching.{IsWell, goes_on, first_well}
-use Rattle.dt_node.proofs.Served.{Going, Noted, Passed, edges_of, noted_take, scene_of, going_first, passed_by, going_on}
+use Rattle.dt_node.proofs.Served.{Going, Passed, edges_of, noted_take, scene_of, going_first, passed_by, going_on}
 use Rattle.dt_node.proofs.Endings.{serve_done, serve_still, serve_memory, serve_take_write, serve_write, noted_err, noted_ok, unopened_ends, untaken_ends}
 use Rattle.dt_node.proofs.running.run_turns.Goals as goal
 

@@ -1,4 +1,3 @@
-use Rattle.std.proofs.Common.{rules}
 use Rattle.std.proofs.lemmas.Result.{err_from_is_err_and}
 use Rattle.dt_edges.specs.Wires.{handed}
 use Rattle.dt_edges.proofs.Puts.{grows_then}

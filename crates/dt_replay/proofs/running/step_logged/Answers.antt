@@ -4,7 +4,7 @@ use Rattle.dt_fold.specs.declared.stops.Stop.{Stop}
 use Rattle.dt_fold.specs.Logging.{TurnsTo}
 use Rattle.dt_world.specs.Worlds.{event_of}
 use Rattle.dt_world_model.specs.WorldStep.{world_step}
-use Rattle.dt_replay.specs.Schedules.{Runs, by_step}
+use Rattle.dt_replay.specs.Schedules.{by_step}
 use Rattle.dt_replay.proofs.Steps.{step_same, step_turns}
 use Rattle.dt_replay.proofs.running.step_logged.Goals as goal
 
@@ -13,7 +13,7 @@ returns-clause-turns g c =
     let w = c.args.world.now in
     let new = c.step-answer.new.self in
     let e = event_of c.args.event.now in
-    subst (λ (a : Result (Option Fault) Stop). TurnsTo g.K.Sink.sight (by_step (world_step w.state e)) a (Runs w.state) (Runs new.state) c.args.log.now.out.now c.step-answer.new.lines.out.now) (sym c.stepped.ensures)
+    subst (λ (a : Result (Option Fault) Stop). TurnsTo g.K.Sink.sight (by_step (world_step w.state e)) a w.state new.state c.args.log.now.out.now c.step-answer.new.lines.out.now) (sym c.stepped.ensures)
     (step_turns g.K.Sink.sight w e new c.args.log.now c.step-answer.new.lines c.requires.fine c.step-answer.result c.step-answer.ensures)
 
 pub returns-clause-same : goal.returns-clause-same

@@ -1,5 +1,5 @@
 use Rattle.std.proofs.Common.{◌≡◌, All, map}
-use Rattle.dt_relay.specs.Places.{link_of}
+use Rattle.dt_relay.specs.Places.{link_in, link_of}
 use Rattle.dt_world_model.specs.Relay.{IsOutUpTo, with_outs}
 use Rattle.dt_world_model.specs.Station.{flush_at}
 use Rattle.dt_station.proofs.Playing.{Leads}
@@ -10,8 +10,9 @@ use Rattle.dt_station.proofs.flushing.flush.Given as goal
 abbrev pub invariant-flush : goal.invariant-flush
 invariant-flush g l =
     let visitor = g.V.Visitor in
+    let link = link_in l.fn.relay.outs l.place in
     record {
-      leads : Leads visitor.tells visitor.tags visitor.hands visitor.fails (flush_at l.link l.now l.fn.relay.outs) l.fn.visitor (flush_at l.link l.now l.relay.outs) l.visitor;
+      leads : Leads visitor.tells visitor.tags visitor.hands visitor.fails (flush_at link l.now l.fn.relay.outs) l.fn.visitor (flush_at link l.now l.relay.outs) l.visitor;
       past : All (IsOutUpTo l.now) l.relay.outs;
       links : map link_of l.relay.outs ≡ map link_of l.fn.relay.outs;
       others : l.relay ≡ with_outs l.fn.relay l.relay.outs;

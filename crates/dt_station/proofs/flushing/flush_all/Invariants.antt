@@ -6,14 +6,14 @@ use Rattle.dt_station.proofs.Playing.{Leads}
 use Rattle.dt_station.proofs.flushing.flush_all.Given as goal
 
 -- the links that are left lead to the end of all
-abbrev pub invariant-loop-i : goal.invariant-loop-i
-invariant-loop-i g l =
+abbrev pub invariant-loop-place : goal.invariant-loop-place
+invariant-loop-place g l =
     let visitor = g.V.Visitor in
     let links = map link_of l.fn.relay.outs in
     record {
-      leads : Leads visitor.tells visitor.tags visitor.hands visitor.fails (flush_links l.now links l.fn.relay.outs) l.fn.visitor (flush_links l.now (drop l.i links) l.relay.outs) l.visitor;
+      leads : Leads visitor.tells visitor.tags visitor.hands visitor.fails (flush_links l.now links l.fn.relay.outs) l.fn.visitor (flush_links l.now (drop l.place links) l.relay.outs) l.visitor;
       past : All (IsOutUpTo l.now) l.relay.outs;
       links : map link_of l.relay.outs ≡ links;
-      end : l.i-end ≡ length l.fn.relay.outs;
+      end : l.place-end ≡ length l.fn.relay.outs;
       others : l.relay ≡ with_outs l.fn.relay l.relay.outs;
     }

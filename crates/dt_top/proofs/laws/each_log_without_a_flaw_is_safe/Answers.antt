@@ -1,6 +1,6 @@
 use Rattle.std.proofs.Common.{arith}
 use Rattle.dt_audit.proofs.Agreement.{log_is_safe}
-use Rattle.dt_replay.proofs.LineCounts.{lines_count}
+use Rattle.dt_scenario.proofs.LineCounts.{lines_count}
 use Rattle.dt_replay_audit.proofs.Turning.{schedule_passes}
 use Rattle.dt_top.proofs.laws.each_log_without_a_flaw_is_safe.Goals as goal
 

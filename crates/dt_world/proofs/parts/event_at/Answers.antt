@@ -1,4 +1,4 @@
-use Rattle.std.proofs.Common.{ℕ, ◌+◌, ◌≡◌, ◌==◌, List, Some, length, false, ap, refl, sym, subst, ◌∙◌, arith}
+use Rattle.std.proofs.Common.{ℕ, ◌+◌, ◌≡◌, ◌==◌, List, Some, false, ap, refl, sym, subst, ◌∙◌, arith}
 use Rattle.std.specs.Prelude.{option_map}
 use Rattle.dt_units.specs.declared.parameters.Params.{Params}
 use Rattle.dt_flow_model.specs.Frames.{Mark}
@@ -7,10 +7,9 @@ use Rattle.dt_world_model.specs.Station.{station_event}
 use Rattle.dt_world_model.specs.Tables.{AllEntries, look, write}
 use Rattle.dt_world_model.specs.World.{Placed, World}
 use Rattle.dt_world_laws.proofs.Worlds.{placed_is}
-use Rattle.dt_station.specs.Events.{MayHappen, event_seen}
 use Rattle.dt_world.specs.declared.placed.Plan.{Plan}
 use Rattle.dt_world.specs.declared.placed.PlacedStation.{PlacedStation}
-use Rattle.dt_world.specs.Marked.{frame_octets, parcel_of}
+use Rattle.dt_world.specs.PlacedEvents.{MayCome, event_seen}
 use Rattle.dt_world.specs.Notes.{ledgers_seen}
 use Rattle.dt_world.specs.Steps.{noted_in, occasion_with}
 use Rattle.dt_world.specs.Worlds.{IsStationOf, placed_seen, stations_seen, world_seen}
@@ -26,7 +25,7 @@ returns-in-None-clause-happens g c =
     let w = world_seen p in
     let n = c.args.node in
     let same = ap (λ (m : List (ℕ × PlacedStation)). stations_seen m) (ap (λ m. m.entries) c.get_mut.follows.holds-at-none) in
-    nothing_happened g.L.Lines.tells w n (event_seen parcel_of (length c.args.buf.now) c.args.event) c.args.lines.now _
+    nothing_happened g.L.Lines.tells w n (event_seen c.args.event) c.args.lines.now _
     (look_seen n p.stations.entries ∙ ap (λ o. option_map placed_seen o) (sym c.in-None.ensures.value))
     (ap (λ (st : List (ℕ × Placed)). let u : World = record { params = p.rules; now = p.now; stations = st; links = w.links; copies = w.copies; ledgers = w.ledgers } in u) same)
 
@@ -41,7 +40,7 @@ happen-requires-clause-may g c =
     let s = c.in-Some.placed.now in
     let found = sym c.in-Some.ensures.value in
     let kept = (all_at (IsStationOf p.rules p.now) c.args.node s p.stations.entries found c.requires.whole.stations).1 in
-    subst (λ (rules : Params). MayHappen frame_octets rules (p.now + s.zero) s.station.state (length c.args.buf.now) c.args.event) (sym kept.rules)
+    subst (λ (rules : Params). MayCome rules (p.now + s.zero) s.station.state c.args.event) (sym kept.rules)
     (c.requires.may s (sym (look_keyed PlacedStation c.args.node p.stations.entries) ∙ found))
 
 pub happen-requires-clause-past : goal.happen-requires-clause-past
@@ -56,7 +55,7 @@ returns-in-Some-clause-happens g c =
     let n = c.args.node in
     let s = c.in-Some.placed.now in
     let after = c.happen.new.placed in
-    let e = event_seen parcel_of (length c.args.buf.now) c.args.event in
+    let e = event_seen c.args.event in
     let found = sym c.in-Some.ensures.value in
     let kept = (all_at (IsStationOf p.rules p.now) n s p.stations.entries found c.requires.whole.stations).1 in
     let there : look ◌==◌ n w.stations ≡ Some (placed_seen s) = look_seen n p.stations.entries ∙ ap (λ o. option_map placed_seen o) found in

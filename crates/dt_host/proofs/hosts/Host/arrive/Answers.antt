@@ -99,7 +99,7 @@ invariant_of-self g c =
     let h = c.self.inside in
     let at = ap (λ (v : HostValue). v.latest) c.self.view_is in
     let past : h.latest ≤ c.args.now = (let p = c.requires.past in omega arith) in
-    let send = later_noted h.rules h.latest c.args.now past (send_records h.senders.entries) h.send_agenda c.self.invariant.2 in
+    let send = later_noted h.rules h.latest c.args.now past (send_records h.senders.entries) h.send_agenda.value c.self.invariant.2 in
     (c.self.invariant.0, c.self.invariant.1, send, c.self.invariant.3)
 
 pub invariant_of-self-in-Data : goal.invariant_of-self-in-Data
@@ -107,7 +107,7 @@ invariant_of-self-in-Data g c =
     let h = c.self.inside in
     let at = ap (λ (v : HostValue). v.latest) c.self.view_is in
     let past : h.latest ≤ c.args.now = (let p = c.requires.past in omega arith) in
-    let send = later_noted h.rules h.latest c.args.now past (send_records h.senders.entries) h.send_agenda c.self.invariant.2 in
+    let send = later_noted h.rules h.latest c.args.now past (send_records h.senders.entries) h.send_agenda.value c.self.invariant.2 in
     (c.self.invariant.0, c.take.ensures.entries, send, c.take.ensures.noted)
 
 pub acknowledge-requires-clause-noted : goal.acknowledge-requires-clause-noted
@@ -115,15 +115,15 @@ acknowledge-requires-clause-noted g c =
     let h = c.self.inside in
     let at = ap (λ (v : HostValue). v.latest) c.self.view_is in
     let past : h.latest ≤ c.args.now = (let p = c.requires.past in omega arith) in
-    let send = later_noted h.rules h.latest c.args.now past (send_records h.senders.entries) h.send_agenda c.self.invariant.2 in
-    send
+    let send = later_noted h.rules h.latest c.args.now past (send_records h.senders.entries) h.send_agenda.value c.self.invariant.2 in
+    rw c.deref_mut-agenda-in-Ack.ensures.value send
 
 pub invariant_of-self-in-Meet : goal.invariant_of-self-in-Meet
 invariant_of-self-in-Meet g c =
     let h = c.self.inside in
     let at = ap (λ (v : HostValue). v.latest) c.self.view_is in
     let past : h.latest ≤ c.args.now = (let p = c.requires.past in omega arith) in
-    let send = later_noted h.rules h.latest c.args.now past (send_records h.senders.entries) h.send_agenda c.self.invariant.2 in
+    let send = later_noted h.rules h.latest c.args.now past (send_records h.senders.entries) h.send_agenda.value c.self.invariant.2 in
     (c.self.invariant.0, c.meet.ensures.entries, send, c.meet.ensures.noted)
 
 pub invariant_of-self-in-Close : goal.invariant_of-self-in-Close
@@ -131,5 +131,5 @@ invariant_of-self-in-Close g c =
     let h = c.self.inside in
     let at = ap (λ (v : HostValue). v.latest) c.self.view_is in
     let past : h.latest ≤ c.args.now = (let p = c.requires.past in omega arith) in
-    let send = later_noted h.rules h.latest c.args.now past (send_records h.senders.entries) h.send_agenda c.self.invariant.2 in
+    let send = later_noted h.rules h.latest c.args.now past (send_records h.senders.entries) h.send_agenda.value c.self.invariant.2 in
     (c.self.invariant.0, c.self.invariant.1, send, c.self.invariant.3)

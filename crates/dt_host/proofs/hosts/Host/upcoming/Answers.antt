@@ -13,7 +13,7 @@ upcoming-requires-clause-send_noted g c =
     let h = c.self.inside in
     let at = ap (λ (v : HostValue). v.latest) c.self.view_is in
     let past : h.latest ≤ c.args.now = (let p = c.requires in omega arith) in
-    later_noted h.rules h.latest c.args.now past (send_records h.senders.entries) h.send_agenda c.self.invariant.2
+    rw c.deref_mut.ensures.value (later_noted h.rules h.latest c.args.now past (send_records h.senders.entries) h.send_agenda.value c.self.invariant.2)
 
 pub returns-clause-next : goal.returns-clause-next
 returns-clause-next g c =

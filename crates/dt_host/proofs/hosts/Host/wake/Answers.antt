@@ -8,7 +8,7 @@ use Rattle.dt_host.proofs.hosts.Host.wake.Goals as goal
 pub returns : goal.returns
 returns c =
     let h = c.self.inside in
-    let s = c.wake.ensures ∙ senders_wake h.rules h.latest (send_records h.senders.entries) h.send_agenda c.self.invariant.2 in
-    let r = c.wake-2.ensures ∙ receivers_wake h.rules (receivers_of h.receivers.entries) h.recv_agenda c.self.invariant.3 in
+    let s = (rw c.deref.ensures at c.wake.ensures) ∙ senders_wake h.rules h.latest (send_records h.senders.entries) h.send_agenda.value c.self.invariant.2 in
+    let r = (rw c.deref-2.ensures at c.wake-2.ensures) ∙ receivers_wake h.rules (receivers_of h.receivers.entries) h.recv_agenda.value c.self.invariant.3 in
     subst (λ (v : HostValue). c.lesser.result ≡ host_wake v.rules v.state) c.self.view_is
     (c.lesser.ensures ∙ ap (λ (o : Option ℕ). earlier o c.wake-2.result) s ∙ ap (earlier _) r)

@@ -7,4 +7,4 @@ use Rattle.dt_world.proofs.worlds.World.ledger.Goals as goal
 pub returns-clause-safe : goal.returns-clause-safe
 returns-clause-safe c = λ unspent.
     let whole = c.self.invariant.1 (ap (λ (x : WorldValue). x.spent) c.self.view_is ∙ unspent) in
-    subst (λ (x : WorldValue). SafeWorld x.state) c.self.view_is (λ f. facts_are_safe (world_seen c.self.inside.parts) f whole.facts)
+    subst (λ (x : WorldValue). SafeWorld x.state) c.self.view_is (λ f. facts_are_safe (world_seen c.self.inside.parts.value) f whole.facts)

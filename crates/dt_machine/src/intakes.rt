@@ -1,0 +1,189 @@
+//! How datagrams come out of a socket: each has waited at most 20 ms.
+ghost use Rattle.std.specs.Prelude.{◌≡◌, ◌≤◌, ◌<◌, All, IfOk, IfSome, length};
+
+use crate::backlogs::Backlog;
+use crate::peers::link_of;
+use crate::sockets::{Look, Socket};
+use crate::waits::may_have_waited;
+use dt_edges::Peer;
+use dt_items::NoMemory;
+use std::alloc::Global;
+use std::net::Net;
+use std::{io, time};
+
+/// How many nanoseconds a millisecond has.
+const MILLISECOND: u64 = 1_000_000;
+
+/// How long the socket may not have been found empty before it is emptied, in nanoseconds: 4 ms.
+const PERIOD: u64 = 4 * MILLISECOND;
+
+/// The longest single wait for a datagram, in milliseconds: at its end it is known that none came.
+const LONGEST_WAIT: u64 = 5;
+
+/// How many datagrams are looked at when the socket is emptied, at most.
+const MOST_LOOKS: u32 = 1024;
+
+/// How many datagrams that waited too long are passed over at once, at most: all that a backlog has.
+const MOST_PASSED: u32 = 512;
+
+/// How many waits and looks a take has, at most.
+const MOST_ROUNDS: u32 = 1024;
+
+/// What is known of the datagrams of a socket.
+#[derive(Drop)]
+pub struct Intake {
+    /// Those that were taken out of it and not yet handed over.
+    backlog: Backlog,
+    /// When it was last found empty, in nanoseconds.
+    empty: u64,
+    /// Whether there were some when it was last emptied.
+    crowded: bool,
+}
+
+impl Intake {
+    /// Of a socket that has no datagrams yet. Takes the memory for its backlog.
+    pub fn new(alloc: Global) -> Result<Self, NoMemory> {
+        Ok(Intake {
+            backlog: Backlog::new(alloc)?,
+            empty: 0,
+            crowded: false,
+        })
+    }
+
+    /// Begins with a new socket, which was made at this moment, in nanoseconds.
+    pub fn begin(&mut self, now: u64) {
+        self.backlog.clear();
+        self.empty = now;
+        self.crowded = false;
+    }
+
+    /// The first datagram of the backlog that can't have waited longer than 20 ms by the moment `now`.
+    /// Those before it are dropped. With it goes that moment.
+    fn fresh(&mut self, now: u64, buf: &mut [u8]) -> Option<(u64, u16, usize)>
+        ensures link { IfSome result (λ d. d.1 ≤ 255) }
+        ensures within { IfSome result (λ d. d.2 ≤ length buf.old) }
+        ensures same_room { length buf.new ≡ length buf.old }
+    {
+        for _ in 0..MOST_PASSED {
+            let arrival = self.backlog.next(buf)?;
+            if !may_have_waited(arrival.empty, now) {
+                return Some((now, arrival.link, arrival.count));
+            }
+        }
+        None
+    }
+
+    /// Takes all datagrams of the peers out of the socket without waiting, as many as there is room
+    /// for. It was called at the moment `now`, in nanoseconds.
+    fn empty_socket<R: Net + time::Clock>(
+        &mut self,
+        socket: &Socket<'_, R>,
+        peers: &[Peer],
+        now: u64,
+        buf: &mut [u8],
+    ) -> io::Result<()>
+        requires { All (λ p. p.link ≤ 255) peers.now }
+        ensures same_room { length buf.new ≡ length buf.old }
+    {
+        for _ in 0..MOST_LOOKS {
+            if !self.backlog.has_room(buf.len()) {
+                break;
+            }
+            match socket.look(buf)? {
+                Look::Datagram { from, count } => {
+                    if let Some(link) = link_of(peers, from) {
+                        self.backlog.keep(link, &buf[..count], self.empty);
+                    }
+                }
+                Look::Other => (),
+                Look::Empty => {
+                    self.empty = now;
+                    break;
+                }
+            }
+        }
+        self.crowded = !self.backlog.is_empty();
+        Ok(())
+    }
+
+    /// A datagram that is there without waiting: the backlog's, or the socket's where it is emptied.
+    fn at_hand<R: Net + time::Clock>(
+        &mut self,
+        socket: &Socket<'_, R>,
+        peers: &[Peer],
+        now: u64,
+        buf: &mut [u8],
+    ) -> io::Result<Option<(u64, u16, usize)>>
+        requires { All (λ p. p.link ≤ 255) peers.now }
+        ensures link { IfOk result (λ t. IfSome t (λ d. d.1 ≤ 255)) }
+        ensures within { IfOk result (λ t. IfSome t (λ d. d.2 ≤ length buf.old)) }
+        ensures same_room { length buf.new ≡ length buf.old }
+    {
+        if let Some(found) = self.fresh(now, buf) {
+            return Ok(Some(found));
+        }
+        if !self.crowded && now.saturating_sub(self.empty) < PERIOD {
+            return Ok(None);
+        }
+        self.empty_socket(socket, peers, now, buf)?;
+        Ok(self.fresh(socket.now(), buf))
+    }
+
+    /// The datagram that the socket has. None where it is a stranger's, or may have waited longer than
+    /// 20 ms.
+    fn first<R: Net + time::Clock>(
+        &mut self,
+        socket: &Socket<'_, R>,
+        peers: &[Peer],
+        buf: &mut [u8],
+    ) -> io::Result<Option<(u64, u16, usize)>>
+        requires { All (λ p. p.link ≤ 255) peers.now }
+        ensures link { IfOk result (λ t. IfSome t (λ d. d.1 ≤ 255)) }
+        ensures within { IfOk result (λ t. IfSome t (λ d. d.2 ≤ length buf.old)) }
+        ensures same_room { length buf.new ≡ length buf.old }
+    {
+        let Look::Datagram { from, count } = socket.look(buf)? else {
+            return Ok(None);
+        };
+        let now = socket.now();
+        if may_have_waited(self.empty, now) {
+            self.crowded = true;
+            return Ok(None);
+        }
+        Ok(link_of(peers, from).map(|link| (now, link, count)))
+    }
+
+    /// Waits for a datagram, so many milliseconds, which aren't 0: the moment at which it is handed over,
+    /// in nanoseconds, its link, and how many of its octets stand first in the buffer. None where none came, where a stranger's came, or where all that came
+    /// may have waited longer than 20 ms. Fails where the machine's call does.
+    pub fn take<R: Net + time::Clock>(
+        &mut self,
+        socket: &Socket<'_, R>,
+        peers: &[Peer],
+        wait_ms: u32,
+        buf: &mut [u8],
+    ) -> io::Result<Option<(u64, u16, usize)>>
+        requires { All (λ p. p.link ≤ 255) peers.now }
+        ensures link { IfOk result (λ t. IfSome t (λ d. d.1 ≤ 255)) }
+        ensures within { IfOk result (λ t. IfSome t (λ d. d.2 ≤ length buf.old)) }
+    {
+        let mut now = socket.now();
+        let until = now.saturating_add(u64::from(wait_ms) * MILLISECOND);
+        for _ in 0..MOST_ROUNDS {
+            if let Some(found) = self.at_hand(socket, peers, now, buf)? {
+                return Ok(Some(found));
+            }
+            let rest = until.saturating_sub(now).div_ceil(MILLISECOND);
+            if rest == 0 {
+                return Ok(None);
+            }
+            let wait = rest.min(LONGEST_WAIT);
+            if socket.wait(wait as u16) {
+                return self.first(socket, peers, buf);
+            }
+            self.empty = now.saturating_add(wait * MILLISECOND);
+            now = socket.now();
+        }
+        Ok(None)
+    }
+}

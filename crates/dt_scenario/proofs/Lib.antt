@@ -1,0 +1,5 @@
+pub mod Happenings
+pub mod LineCounts
+pub mod Writing
+pub mod Steps
+pub mod Keeping

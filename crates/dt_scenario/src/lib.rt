@@ -1,0 +1,13 @@
+//! An input that sets up a world, and then simulates something in it line by line: the lines of the
+//! setup, `go`, and who logs what is told behind it.
+#![tactic(auto)]
+
+mod logs;
+mod parts;
+mod scenarios;
+mod simulations;
+
+pub use logs::{Log, stepped};
+pub use parts::MISPLACED;
+pub use scenarios::Scenario;
+pub use simulations::Simulation;

@@ -1,0 +1,103 @@
+ghost use Rattle.std.specs.Prelude.{◌≡◌};
+ghost use Rattle.dt_text.specs.Said.{said};
+ghost use Rattle.dt_fold.specs.Logging.{Closes, TurnsTo};
+ghost use Rattle.dt_scenario.specs.Parts.{IsLineOf, scene_in};
+ghost use Rattle.dt_scenario.specs.Scenes.{Empty, done_by};
+
+use crate::parts::{MISPLACED, Part};
+use crate::simulations::Simulation;
+use dt_edges::Sink;
+use dt_fold::{LineTurns, Stop};
+use dt_reports::Fault;
+use dt_text::{Line, follows, read_line};
+use dt_units::NodeId;
+use std::alloc::Global;
+
+/// An input that is read line by line: its first lines set up a world, `go` starts a simulation over
+/// it, and the lines behind it make things happen there.
+#[derive(Drop)]
+pub struct Scenario<S: Simulation> {
+    alloc: Global,
+    part: Part<S>,
+}
+
+impl<S: Simulation> Scenario<S> {
+    /// Nothing was read yet. What its lines take is taken of `alloc`.
+    pub fn new(alloc: Global) -> Scenario<S>
+        ensures { scene_in S.state result ≡ Empty }
+    {
+        Scenario {
+            alloc,
+            part: Part::Nothing,
+        }
+    }
+
+    /// Does what a line says that is allowed here.
+    fn does<K: Sink>(&mut self, line: &Line<'_>, out: &mut K) -> Result<Option<Fault>, Stop>
+        requires in_form { IsLineOf S.simulates (said line.now) }
+        ensures { TurnsTo K.sight (done_by S.simulates (scene_in S.state self.old) (said line.now)) result (scene_in S.state self.old) (scene_in S.state self.new) out.old out.new }
+    {
+        let part = &mut self.part;
+        match *line {
+            Line::Blank => Ok(None),
+            Line::Params(params) => Ok(part.configure(self.alloc, &params)),
+            Line::Station { n, zero } => Ok(part.add_station(NodeId(n), zero)?),
+            Line::Link {
+                link,
+                from,
+                to,
+                charge,
+                pace,
+            } => { Ok(part.add_link(link, NodeId(from), NodeId(to), charge, pace)?) }
+            Line::Route { at, to, link } => Ok(part.add_route(NodeId(at), NodeId(to), link)?),
+            Line::Go => Ok(part.go(self.alloc)?),
+            Line::Pass { .. }
+            | Line::Send { .. }
+            | Line::Read { .. }
+            | Line::Tick { .. }
+            | Line::Arrive { .. }
+            | Line::Lose { .. }
+            | Line::Restart { .. }
+            | Line::Me { .. }
+            | Line::Local(_)
+            | Line::Peer { .. }
+            | Line::AtSend { .. }
+            | Line::AtRead { .. }
+            | Line::AtStop { .. }
+            | Line::Shelf { .. }
+            | Line::Call { .. } => part.happen(line, out),
+        }
+    }
+}
+
+impl<S: Simulation> LineTurns for Scenario<S> {
+    ghost use Rattle.dt_scenario.specs.Parts.{scene_in};
+    ghost use Rattle.dt_scenario.specs.Scenes.{Scene, scenario_turns};
+
+    ghost State = { Scene S.State };
+
+    ghost state = { λ s. scene_in S.state s };
+
+    ghost turns = { scenario_turns S.simulates };
+
+    fn turn<K: Sink>(&mut self, line: &[u8], out: &mut K) -> Result<Option<Fault>, Stop> {
+        let said = match read_line(S::form(), line) {
+            Ok(said) => said,
+            Err(fault) => return Ok(Some(Fault::Line(fault))),
+        };
+        match follows(S::form(), self.part.stage(), &said) {
+            Some(_) => self.does(&said, out),
+            None => Ok(Some(MISPLACED)),
+        }
+    }
+
+    fn close<K: Sink>(&self, out: &mut K) -> Result<Option<Fault>, Stop> {
+        match &self.part {
+            Part::Nothing | Part::Preparing(_) => Ok(Some(MISPLACED)),
+            Part::Running(simulation) => {
+                simulation.close(out)?;
+                Ok(None)
+            }
+        }
+    }
+}
