@@ -131,7 +131,8 @@ def copied(path: str) -> bool:
         index = [line.split() for line in (folder / "INDEX").read_text().splitlines()]
         asked = [it for it in run.cases() if it.word != "make"]
         pairs = list(zip(index, asked, strict=True))
-        same = all((folder / f"{row[1]}.in").read_bytes() == it.given() and [row[0], *row[2:]] == [it.kind, it.word, str(it.status)] for row, it in pairs)
+        same = all((folder / f"{row[1]}.in").read_bytes() == it.given() for row, it in pairs)
+        same = same and all([row[0], *row[2:]] == [it.kind, it.word, str(it.status)] for row, it in pairs)
         outs = all((folder / f"{row[1]}.out").read_bytes() == it.right() for row, it in pairs if it.kind != "rounds")
         return status == 0 and same and outs and os.path.exists(folder / "rounds.sha256")
 

@@ -1,6 +1,6 @@
 #!/usr/bin/env python3
 """Inputs that are changed by chance, for a number of seconds, outside the gate: schedules, scripts, traces, calls,
-logs and frames, each drawn from those of conformance/ and examples/, and those that were accepted on the way.
+logs, frames, and datagrams that a real node hears, each drawn from those of conformance/ and examples/, and those that were accepted on the way.
 
 `tests/fuzz.py [PROGRAM] [--seconds S] [--seed N] [--kind KIND]..`. An input fails where
 
@@ -11,7 +11,8 @@ logs and frames, each drawn from those of conformance/ and examples/, and those 
 - a script is refused by `node` otherwise than by `retrace`. One that is accepted is run by `retrace` alone;
 - a call is served twice, is answered by another payload or without having been served, or isn't in the counts;
 - a verdict isn't that of the plain reading of the rule in audit.py;
-- a frame is read otherwise than by the plain reader of conformance/frames.py.
+- a frame is read otherwise than by the plain reader of conformance/frames.py;
+- a node that is sent datagrams on loopback traces another one, or its trace isn't run again to its stop.
 
 Before that each of these checks has to find fault with a program that is spoilt. Each input that fails is kept in
 a folder, which is named at the end, with a file that says why; `--input FILE --kind KIND` tries one again. Ends
@@ -20,6 +21,7 @@ with 1 where one failed.
 In tests/all: PROGRAM --seconds 30, 120 s."""
 import argparse
 import collections
+import itertools
 import pathlib
 import random
 import re
@@ -32,7 +34,7 @@ from typing import Callable, NamedTuple
 
 import audit
 from grammar import Wrong, log_of_node, log_of_world, told_of_calls, verdict_of
-from lib import PROGRAM, TOP
+from lib import HOST, PROGRAM, TOP, bound, own_port, script, start
 
 sys.path[:0] = [str(TOP / "conformance")]
 import asking  # noqa: E402
@@ -179,7 +181,8 @@ def try_log(program: Program, text: bytes) -> bool:
     if lines[-1] == "":
         lines.pop()
     taken = [int(it[1]) for it in re.finditer(r"(?m)took \S* ([0-9]{1,20})$", "\n".join(lines))]
-    right = audit.verdict(lines) if sum(taken) <= MOST_TAKEN else verdict
+    is_plain = sum(taken) <= MOST_TAKEN and not re.search("[0-9]{4000}", max(lines, key=len, default=""))
+    right = audit.verdict(lines) if is_plain else verdict
     if verdict != right:
         raise Wrong(f"{verdict}, where the rule says {right}")
     return ran.status == 0
@@ -197,15 +200,54 @@ def try_frames(program: Program, text: bytes) -> bool:
     for frame, line in zip(asked, told):
         if line != frames.read(frame):
             raise Wrong(f"{frame.hex()}: {line}, where the plain reader has {frames.read(frame)}")
-    return all(not it.startswith("bad") for it in told)
+    return any(not it.startswith("bad") for it in told)
+
+
+def sent(program: Program, datagrams: list[bytes]) -> tuple[bytes, bytes, int]:
+    """The script, the trace and the status of a node that its peer sent datagrams on loopback."""
+    with bound() as peer, tempfile.TemporaryFile() as out:
+        port = own_port()
+        text = script(2, 1, port, peer.getsockname()[1], ["at 900 stop"])
+        node = start(program.path, text, "trace", out, subprocess.DEVNULL)
+        # what is sent before it is up is lost
+        time.sleep(0.3)
+        for it in datagrams:
+            peer.sendto(it, (HOST, port))
+        try:
+            status = node.wait(MOST_WALL)
+        except subprocess.TimeoutExpired:
+            node.kill()
+            node.wait()
+            raise Wrong(f"trace: stopped after {MOST_WALL} s") from None
+        out.seek(0)
+        return text.encode(), out.read(), status
+
+
+def try_datagrams(program: Program, text: bytes) -> bool:
+    """An input is lines of hexadecimal digits, a datagram each."""
+    datagrams = [bytes.fromhex(it) for it in text.decode().split("\n")]
+    script_text, trace, status = sent(program, datagrams)
+    if status != 0:
+        raise Wrong(f"trace: status {status}")
+    # no more octets are taken in, and the order is that of sending, since it is one socket to another
+    left = iter(f"< 1 {it[:8223].hex()}".rstrip() for it in datagrams)
+    heard = [it for it in trace.decode().splitlines() if it[0] == "<" and it != "< -"]
+    if not all(it in left for it in heard):
+        raise Wrong("a datagram in the trace that wasn't sent, or in another order")
+    ran = program.ask("retrace", script_text + b"trace\n" + trace)
+    log_of_node(ran.out, ran.status)
+    if ran.status != 0:
+        raise Wrong(f"retrace: status {ran.status} and {ran.out[-100:]!r}")
+    return bool(heard)
 
 
 class Kind(NamedTuple):
-    """A kind of input: its word, how one is tried, and those to begin with."""
+    """A kind of input: its word, how one is tried, those to begin with, and in which rounds: each so many."""
 
     word: str
     tried: Callable[[Program, bytes], bool]
     seeds: list[bytes]
+    every: int = 1
 
 
 def kinds() -> dict[str, Kind]:
@@ -213,15 +255,18 @@ def kinds() -> dict[str, Kind]:
     given = {kind: [it.given() for it in cases if it.kind == kind] for kind in run.KINDS}
     scripts = [it.partition(b"\ntrace\n")[0] + b"\n" for it in given["trace"]]
     logs = [it.right() for it in cases if it.kind in ("schedule", "trace")]
+    octets = [it for text in given["frames"] for it in text.splitlines() if len(it) < 200]
     found = {
         "schedule": Kind("replay", try_schedule, [*given["schedule"], run.rounds(20), *examples("*.schedule")]),
         "trace": Kind("retrace", try_trace, given["trace"]),
         "script": Kind("retrace", try_script, [*scripts, *examples("*.script")]),
         "calls": Kind("calls", try_calls, given["calls"]),
         "log": Kind("audit", try_log, [*given["audit"], *logs]),
-        "frames": Kind("", try_frames, [it for text in given["frames"] for it in text.splitlines() if len(it) < 200]),
+        "frames": Kind("", try_frames, octets),
+        # a node that runs for a second
+        "datagrams": Kind("retrace", try_datagrams, octets, every=25),
     }
-    return {name: Kind(it.word, it.tried, sorted({seed for seed in it.seeds if len(seed) <= MOST_SEED})) for name, it in found.items()}
+    return {name: it._replace(seeds=sorted({seed for seed in it.seeds if len(seed) <= MOST_SEED})) for name, it in found.items()}
 
 
 def examples(pattern: str) -> list[bytes]:
@@ -370,8 +415,10 @@ def finds(program: Program, kind: Kind, text: bytes) -> bool:
 
 def blind(path: str, all_kinds: dict[str, Kind]) -> list[str]:
     """The checks that find no fault with what is spoilt."""
-    texts = {it.kind: it.given() for it in run.cases() if it.name.endswith(("/01-short-exchange", "/17-node", "/calls-answered", "/audit-breaks-skip"))}
+    names = ("/01-short-exchange", "/17-node", "/calls-answered", "/audit-breaks-skip")
+    texts = {it.kind: it.given() for it in run.cases() if it.name.endswith(names)}
     texts["log"] = texts.pop("audit")
+    hello = asking.wire.packet(asking.wire.Flow(1, 10, 2, 20), 999, asking.wire.DATA, 0, 7, 0, b"hello").hex().encode()
     found = [f"{name}: {what}" for name, text in texts.items() for what, spoil in SPOILS.items()
              if not finds(Spoilt(path, all_kinds[name].word, spoil), all_kinds[name], text)]
     others = [
@@ -384,12 +431,13 @@ def blind(path: str, all_kinds: dict[str, Kind]) -> list[str]:
         ("calls", "calls", texts["calls"], lambda it: it._replace(out=it.out.replace(b"waiting 0", b"waiting 1"))),
         ("log", "audit", texts["log"], lambda it: it._replace(out=it.out.replace(b"S3", b"S1"))),
         ("script", "node", b"hop\n", lambda it: it._replace(out=b"line 2: word\n")),
+        ("datagrams", "retrace", hello, lambda it: it._replace(status=6, err=TEXTS[6], out=b"")),
     ]
     found += [f"{name}: change {at} of {word}" for at, (name, word, text, spoil) in enumerate(others)
               if not finds(Spoilt(path, word, spoil), all_kinds[name], text)]
     read = frames.read
     frames.read = lambda frame: read(frame).replace("dbe", "db")
-    found += [] if finds(Program(path), all_kinds["frames"], "\n".join([asking.wire.packet(asking.wire.Flow(1, 1, 2, 2), 9, 1, 0, 7, 0, b"x").hex()]).encode()) else ["frames"]
+    found += [] if finds(Program(path), all_kinds["frames"], hello) else ["frames: a reader that is spoilt"]
     frames.read = read
     return found
 
@@ -414,7 +462,7 @@ class Kept:
 
 def drawn(program: Program, name: str, kind: Kind, chance: random.Random) -> bytes:
     """An input of a kind."""
-    if name == "frames":
+    if name in ("frames", "datagrams"):
         return mutated_frames(chance, kind.seeds)
     text = mutated(chance, kind.seeds)
     # a clock that stands still costs 100,000 turns
@@ -431,20 +479,24 @@ def fuzz(path: str, chosen: dict[str, Kind], seconds: float, seed: int, kept: Ke
     counts: collections.Counter[str] = collections.Counter()
     chances = {name: random.Random(f"{seed} {name}") for name in chosen}
     program, until = Program(path), time.monotonic() + seconds
-    while time.monotonic() < until and kept.count < MOST_KEPT:
+    for turn in itertools.count():
+        if time.monotonic() >= until or kept.count >= MOST_KEPT:
+            return counts
         for name, kind in chosen.items():
+            if turn % kind.every and len(chosen) > 1:
+                continue
             text = drawn(program, name, kind, chances[name])
             counts[name] += 1
             try:
                 is_accepted = kind.tried(program, text)
-            except Wrong as why:
-                kept.keep(path, name, text, str(why))
+            except (Wrong, LookupError, ValueError) as why:
+                # an output at which a check stumbles is none of the formats
+                kept.keep(path, name, text, str(why) if isinstance(why, Wrong) else repr(why))
                 continue
             if is_accepted:
                 counts[f"{name} accepted"] += 1
-                if len(text) <= MOST_SEED and name != "frames":
+                if len(text) <= MOST_SEED and name not in ("frames", "datagrams"):
                     kind.seeds.append(text)
-    return counts
 
 
 def main() -> int:
