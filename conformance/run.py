@@ -9,6 +9,7 @@ import argparse
 import fnmatch
 import hashlib
 import pathlib
+import re
 import shutil
 import subprocess
 import sys
@@ -100,9 +101,9 @@ def cases() -> list[Case]:
 
 
 def shown(line: bytes, start: int) -> str:
-    """A line as text, around the place where it differs, if it is long."""
+    """A line as text, around the place where it differs, if it is long. What isn't printed is escaped."""
     begin = max(start - 40, 0) if len(line) > 100 else 0
-    text = line[begin:begin + 100].decode("ascii", "backslashreplace")
+    text = repr(line[begin:begin + 100])[2:-1]
     return f"{'..' if begin else ''}{text}{'..' if begin + 100 < len(line) else ''}"
 
 
@@ -110,14 +111,13 @@ def first_difference(had: bytes, wanted: bytes) -> str:
     """The first line in which two texts differ; empty where they don't."""
     if had == wanted:
         return ""
-    ours, theirs = had.splitlines(keepends=True), wanted.splitlines(keepends=True)
+    ours, theirs = (re.findall(rb"[^\n]*\n|[^\n]+", it) for it in (had, wanted))
     place = next((at for at, pair in enumerate(zip(ours, theirs)) if pair[0] != pair[1]), min(len(ours), len(theirs)))
+    mine, right = (it[place].removesuffix(b"\n") if place < len(it) else b"" for it in (ours, theirs))
     if place >= len(theirs):
-        return f"line {place + 1}: '{shown(ours[place].rstrip(), 0)}', where the text should end"
-    right = theirs[place].rstrip(b"\n")
+        return f"line {place + 1}: '{shown(mine, 0)}', where the text should end"
     if place >= len(ours):
         return f"line {place + 1}: missing, should be '{shown(right, 0)}'"
-    mine = ours[place].rstrip(b"\n")
     if mine == right:
         return f"line {place + 1}: its line feed"
     start = next((at for at, pair in enumerate(zip(mine, right)) if pair[0] != pair[1]), min(len(mine), len(right)))

@@ -5,6 +5,7 @@
 - vectors: the program gives each answer.
 - spoilt: a program that changes one octet of each answer, and one whose statuses are others, differ in each
   case, and the runner ends with 1.
+- differences: what the runner says of an answer that differs.
 - reader: a reader of frames that isn't the program's holds, and reads some 12,900 frames as the program does.
 - index: each file of the folders is in the index once, and so is each worked row.
 - lines: each report, fault and flaw of docs/formats.md stands in an answer.
@@ -61,6 +62,25 @@ def spoilt(path: str) -> bool:
             print(f"a program that spoils {what}: {len(found)} of {len(wanted)} differ")
             good = good and status == 1 and found == wanted
     return good
+
+
+def differences(path: str) -> bool:
+    del path
+    long = b"0" * 300
+    rows = [
+        (b"a\nb\n", b"a\nb\n", ""),
+        (b"a\nb\n", b"a\nc\n", "line 2: 'b', should be 'c'"),
+        (b"a\r\nb\r\n", b"a\nb\n", "line 1: 'a\\r', should be 'a'"),
+        (b"a\nb", b"a\nb\n", "line 2: its line feed"),
+        (b"a\n", b"a\nb\n", "line 2: missing, should be 'b'"),
+        (b"", b"a\n", "line 1: missing, should be 'a'"),
+        (b"a\nb\n", b"a\n", "line 2: 'b', where the text should end"),
+        (b"a\n\xff\n", b"a\n\n", "line 2: '\\xff', should be ''"),
+        (long + b"1" + long + b"\n", long + b"2" + long + b"\n", f"line 1: '..{'0' * 40}1{'0' * 59}..', should be '..{'0' * 40}2{'0' * 59}..'"),
+    ]
+    wrong = [(had, wanted) for had, wanted, text in rows if run.first_difference(had, wanted) != text]
+    print("".join(f"{run.first_difference(*it)} is said of {it}\n" for it in wrong), end="")
+    return not wrong
 
 
 def reader(path: str) -> bool:
@@ -139,7 +159,7 @@ def copied(path: str) -> bool:
 
 def main() -> int:
     path = program()
-    tests = [vectors, spoilt, reader, index, lines, copied]
+    tests = [vectors, spoilt, differences, reader, index, lines, copied]
     failed = [it.__name__ for it in tests if not it(path)]
     for name in failed:
         print(f"{name} failed")

@@ -50,7 +50,7 @@ MOST_KEPT = 50
 # octets of a flow above which the plain reading of the rule of an audit, which keeps each, isn't asked
 MOST_TAKEN = 5_000
 # the most lines that are left out of an input since they are refused
-MOST_MENDED = 12
+MOST_MENDED = 6
 # the trace that a script is run by: all its commands are done at the second reading
 READINGS = b"trace\n@ 0\n@ 4294967296\n"
 NUMBERS = [0, 1, 2, 3, 9, 64, 65, 99, 255, 256, 1000, 6200, 65_535, 65_536, 65_537, 86_400_000, 2**31, 2**32 - 1, 2**32, 2**62, 2**64 - 1, 2**64]
