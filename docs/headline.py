@@ -1,54 +1,92 @@
 #!/usr/bin/env python3
-"""The list of definitions in headline.md: those that the clauses of `run` and the laws beside it rest
-on, lowest first, with their lines. Without a word it compares the page with the sources and ends with 1 where they differ;
-with `write` it writes the list."""
-import os
+"""The lists of definitions in headline.md: those that the sentences of `run` and the laws beside it rest
+on, a list a command, lowest first, with their lines. Without a word it compares the page with the sources
+and ends with 1 where they differ; with `write` it writes the lists."""
+
 import re
 import sys
+from pathlib import Path
 
-top = os.path.dirname(os.path.dirname(os.path.abspath(__file__)))
-page = os.path.join(top, "docs", "headline.md")
-begin, end = "<!-- definitions -->\n", "<!-- end of definitions -->\n"
+TOP = Path(__file__).resolve().parent.parent
+PAGE = TOP / "docs" / "headline.md"
+BEGIN, END = "<!-- definitions -->\n", "<!-- end of definitions -->\n"
+
+# Each command with the definitions that its sentences begin with. What a command's list has isn't listed
+# again below it.
+COMMANDS = {
+    "`replay`: the headline": ["dt_replay/Schedules", "dt_world_model/WorldFacts", "dt_fold/Logging"],
+    "`node` and `trace`, beside those": ["dt_node/Serving", "dt_node/Completing"],
+    "`retrace`, beside those": ["dt_retrace/Retracing", "dt_retrace/Repeating"],
+    "`calls`, beside those": ["dt_calls/CallInputs"],
+    "`audit`, beside those": ["dt_audit/Audits"],
+    "`make`, beside those": ["dt_make/Schedules"],
+}
+REST = "`run` itself: the words, the streams, the statuses, and what each job owes"
+STATED = ["crates/dt_top/src/lib.rt", "crates/dt_top/src/laws.rt"]
 
 
-def names(path):
+def brought_in(path: str) -> list[str]:
     """The specs that a file brings in by its `use` lines."""
-    with open(path) as file:
-        for crate, module in re.findall(r"use Rattle\.(dt_\w+)\.specs\.(\w+)", file.read()):
-            spec = os.path.join("crates", crate, "specs", module + ".antt")
-            if os.path.exists(os.path.join(top, spec)):
-                yield spec
+    text = (TOP / path).read_text()
+    specs = [f"crates/{crate}/specs/{module}.antt" for crate, module in re.findall(r"use Rattle\.(dt_\w+)\.specs\.(\w+)", text)]
+    return [spec for spec in specs if (TOP / spec).exists()]
 
 
-def collect(path, found):
-    for spec in names(os.path.join(top, path)):
+def collect(path: str, found: list[str]) -> None:
+    """Adds what a file rests on, lowest first."""
+    for spec in brought_in(path):
         if spec not in found and spec != path:
-            found[spec] = None
+            found.append(spec)
             collect(spec, found)
-            found[spec] = found.pop(spec)
+            found.remove(spec)
+            found.append(spec)
 
 
-def lines(path):
-    with open(os.path.join(top, path)) as file:
-        return len(file.readlines())
+def lines(path: str) -> int:
+    return len((TOP / path).read_text().splitlines())
 
 
-def table():
-    found = {}
-    collect("crates/dt_top/src/lib.rt", found)
-    collect("crates/dt_top/src/laws.rt", found)
-    rows = ["| file | lines |\n", "|---|---|\n"]
-    rows += [f"| {path} | {lines(path)} |\n" for path in found]
-    rows.append(f"| all {len(found)} | {sum(map(lines, found))} |\n")
-    return "".join(rows)
+def table(title: str, paths: list[str]) -> str:
+    rows = [f"| {path} | {lines(path)} |\n" for path in paths]
+    total = f"| all {len(paths)} | {sum(map(lines, paths))} |\n"
+    return f"### {title}\n\n| file | lines |\n|---|---|\n{''.join(rows)}{total}"
 
 
-with open(page) as file:
-    text = file.read()
-before, rest = text.split(begin)
-listed, after = rest.split(end)
-if sys.argv[1:] == ["write"]:
-    with open(page, "w") as file:
-        file.write(before + begin + table() + end + after)
-elif listed != table():
-    sys.exit("docs/headline.md lists other definitions: docs/headline.py write mends it")
+def tables() -> str:
+    listed: list[str] = []
+    parts = []
+    for title, roots in COMMANDS.items():
+        found = list(listed)
+        for root in roots:
+            crate, module = root.split("/")
+            path = f"crates/{crate}/specs/{module}.antt"
+            if path not in found:
+                found.append(path)
+                collect(path, found)
+                found.remove(path)
+                found.append(path)
+        parts.append(table(title, [path for path in found if path not in listed]))
+        listed = found
+    found = list(listed)
+    for path in STATED:
+        collect(path, found)
+    parts.append(table(REST, [path for path in found if path not in listed]))
+    return "\n".join(parts)
+
+
+def main(words: list[str]) -> int:
+    before, rest = PAGE.read_text().split(BEGIN)
+    listed, after = rest.split(END)
+    if words == ["write"]:
+        PAGE.write_text(before + BEGIN + tables() + END + after)
+    elif words:
+        print(__doc__)
+        return 2
+    elif listed != tables():
+        print("docs/headline.md lists other definitions: docs/headline.py write mends it")
+        return 1
+    return 0
+
+
+if __name__ == "__main__":
+    sys.exit(main(sys.argv[1:]))

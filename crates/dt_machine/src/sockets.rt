@@ -11,8 +11,8 @@ use std::net::{Ipv4Addr, Net, SocketAddr, UdpSocket};
 use std::os::fd::AsRawFd;
 use std::{io, time};
 
-/// How long a send waits for room in the machine at most, in milliseconds.
-const LONGEST_SEND: i32 = 1000;
+/// How long a send waits for room in the machine at most, in milliseconds: what is given later isn't sent.
+const LONGEST_SEND: i32 = 20;
 
 /// What a look into a socket found.
 #[derive(Clone, Copy, Debug, PartialEq, Eq)]
@@ -25,7 +25,18 @@ pub enum Look {
     Empty,
 }
 
-/// A UDP socket whose reads don't wait.
+/// What became of a datagram that was sent.
+#[derive(Clone, Copy, Debug, PartialEq, Eq)]
+pub enum Sent {
+    /// All its octets left.
+    Whole,
+    /// The machine had no room for it.
+    NoRoom,
+    /// The machine's call failed.
+    Failed,
+}
+
+/// A UDP socket whose reads and sends don't wait.
 #[derive(Drop)]
 pub struct Socket<'a, R> {
     rt: &'a R,
@@ -83,20 +94,17 @@ impl<'a, R: Net + time::Clock> Socket<'a, R> {
         self.wait_for(POLLIN, i32::from(wait_ms))
     }
 
-    /// Sends the octets to the address. Whether all of them were sent. It waits a second at most where
-    /// the machine has no room for them.
-    pub fn send(&self, address: Address, octets: &[u8]) -> bool {
-        let to = socket_address(address);
-        let sent = match self.socket.send_to(octets, to) {
-            Err(fault) if fault.kind() == ErrorKind::WouldBlock => {
-                self.wait_for(POLLOUT, LONGEST_SEND);
-                self.socket.send_to(octets, to)
-            }
-            sent => sent,
-        };
-        match sent {
-            Ok(count) => count == octets.len(),
-            Err(_) => false,
+    /// Waits for room for a datagram, 20 ms at most.
+    pub fn wait_for_room(&self) {
+        self.wait_for(POLLOUT, LONGEST_SEND);
+    }
+
+    /// Sends the octets to the address without waiting.
+    pub fn send(&self, address: Address, octets: &[u8]) -> Sent {
+        match self.socket.send_to(octets, socket_address(address)) {
+            Ok(count) if count == octets.len() => Sent::Whole,
+            Err(fault) if fault.kind() == ErrorKind::WouldBlock => Sent::NoRoom,
+            Ok(_) | Err(_) => Sent::Failed,
         }
     }
 }

@@ -4,7 +4,7 @@ ghost use Rattle.dt_machine.specs.Waits.{may_have_waited};
 use crate::intakes::Intake;
 use crate::moments::Moments;
 use crate::peers::address_of;
-use crate::sockets::Socket;
+use crate::sockets::{Sent, Socket};
 use crate::waits::may_have_waited;
 use dt_edges::{Address, Failed, Peer, Wire};
 use dt_items::NoMemory;
@@ -79,6 +79,25 @@ fn bound<'a, R: Net + time::Clock>(
         return None;
     }
     Socket::bind(rt, local).ok()
+}
+
+/// Sends a datagram, and waits for room where there is none. Whether it left before the last reading was
+/// longer past than 20 ms.
+fn send_soon<R: Net + time::Clock>(
+    socket: &Socket<'_, R>,
+    moments: &Moments,
+    address: Address,
+    octets: &[u8],
+) -> bool {
+    if is_late(moments.last_read(), socket.now()) {
+        return false;
+    }
+    let sent = socket.send(address, octets);
+    if sent != Sent::NoRoom {
+        return sent == Sent::Whole;
+    }
+    socket.wait_for_room();
+    !is_late(moments.last_read(), socket.now()) && socket.send(address, octets) == Sent::Whole
 }
 
 impl<'a, R> Model for UdpWire<'a, R> {
@@ -170,9 +189,7 @@ impl<'a, R: Net + time::Clock> Wire for UdpWire<'a, R> {
     fn give(&mut self, link: u16, octets: &[u8]) -> Result<(), Failed> {
         self.gives = self.gives.saturating_add(1);
         let sent = match (&self.socket, address_of(&self.peers, link)) {
-            (Some(socket), Some(address)) => {
-                !is_late(self.moments.last_read(), socket.now()) && socket.send(address, octets)
-            }
+            (Some(socket), Some(address)) => send_soon(socket, self.moments, address, octets),
             _ => false,
         };
         if sent {
