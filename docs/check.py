@@ -22,12 +22,12 @@ from pathlib import Path
 from typing import Iterator, NamedTuple
 
 TOP = Path(__file__).resolve().parent.parent
-PAGES = sorted([TOP / "README.md", *(TOP / "docs").glob("*.md")])
+PAGES = sorted([TOP / "README.md", TOP / "conformance" / "README.md", *(TOP / "docs").glob("*.md")])
 ARCHITECTURE = TOP / "docs" / "architecture.md"
 
 # What pages name of the language, the toolchain and the system, and of no file here.
 FOREIGN = set(
-    """alloca bash cargo clang gcc git memmove memset nproc perf python3 rt rustc strace sudo taskset
+    """alloca bash cargo clang gcc git memmove memset nproc perf python3 rt rustc sha256sum strace sudo taskset
     tshark unshare valgrind main self Self u8 u16 u32 u64 usize str bool i64 Box Vec String Option
     Some None Ok Err Result true false BufWriter final get_by to_vec""".split()
 )
@@ -70,7 +70,7 @@ def known_words() -> frozenset[str]:
     """Every name that stands in a source, a script or a list of the repository, and the files' stems."""
     words: set[str] = set(FOREIGN)
     paths = [*sources("src", "specs", "proofs"), TOP / "crates.txt", TOP / "deltat"]
-    for folder in ("bench", "docs", "tests", "tools", "bindings", "include", "lib", "examples"):
+    for folder in ("bench", "conformance", "docs", "tests", "tools", "bindings", "include", "lib", "examples"):
         for path in (TOP / folder).rglob("*") if (TOP / folder).is_dir() else ():
             if path.is_file() and path.suffix != ".md" and path != Path(__file__).resolve():
                 paths.append(path)

@@ -22,44 +22,18 @@ from typing import Iterator
 ROOT = pathlib.Path(__file__).resolve().parent.parent
 sys.path.insert(0, str(ROOT / "tools"))
 import wire  # noqa: E402
+from lib import answer, heard  # noqa: E402
 
 LUA = ROOT / "tools" / "wireshark" / "deltat.lua"
 WAY = wire.Flow(1, 10, 2, 20)
 LOCAL, PEER = ("127.0.0.1", 4002), ("127.0.0.1", 4001)
-SCRIPT = """params 1000 3000 200 500 800 100 4096 65536 512 2147483648
-me 2 first
-local 127.0.0.1:4002
-peer 1 127.0.0.1:4001 0 0
-route 1 1
-go
-at 86400000 stop
-trace
-"""
-# The lines that tell what became of a datagram; an arrival writes exactly one of them.
-# A packet for another node is put on a link, or finds no route.
-ANSWERS = {"bad", "accepted", "dropped", "replied", "ignored", "settled", "closing", "noroute", "put"}
 FIELDS = ["fault", "flow", "number", "size", "letters", "kind", "version", "protocol", "life", "from", "to", "window"]
 
 
 def program_answers(program: str, frames: list[bytes]) -> list[list[str]]:
     """What the program tells of each frame. Each has a moment of its own."""
-    trace = ["@ 0"]
-    for at, frame in enumerate(frames):
-        trace += [f"< 1 {frame.hex()}".rstrip(), f"@ {at + 1}"]
-    ran = subprocess.run([program, "retrace"], input=(SCRIPT + "\n".join(trace) + "\n").encode(), capture_output=True, check=False)
-    if ran.returncode != 6:
-        raise RuntimeError(f"retrace ended with {ran.returncode}: {ran.stdout[-200:]!r}")
-    answers: list[list[str]] = [[] for _ in frames]
-    before = ""
-    for line in ran.stdout.decode().splitlines():
-        moment, _, *words = line.split(" ")
-        word = words[0] if words else ""
-        # the node's own acknowledgements go off too, or find no route
-        own = word in ("put", "noroute") and before in ("acked", "replied")
-        if word in ANSWERS and not own and 1 <= int(moment) <= len(frames):
-            answers[int(moment) - 1] = words
-        before = word
-    return answers
+    told = heard(program, 2, [(at + 1, frame) for at, frame in enumerate(frames)], routes=[1])
+    return [answer(told[at + 1]) for at in range(len(frames))]
 
 
 def tshark(path: str, names: list[str], *options: str) -> list[list[str]]:

@@ -79,6 +79,36 @@ def start(path: str, text: str, word: str = "node", out=subprocess.PIPE, err=Non
     return node
 
 
+# the lines that tell what became of a datagram: an arrival writes exactly one of them, and one for another
+# node is put on a link, or finds no route
+ANSWERS = {"bad", "accepted", "dropped", "replied", "ignored", "settled", "closing", "noroute", "put"}
+
+
+def heard(path: str, node: int, datagrams: Sequence[tuple[int, bytes]], routes: Sequence[int] = (),
+          commands: Sequence[str] = ()) -> dict[int, list[list[str]]]:
+    """What a node tells of datagrams on its link 1, which charges nothing, each at a moment above the one
+    before: by a trace that the program at `path` runs again. For each moment the lines, without moment and node."""
+    end = datagrams[-1][0] + 1 if datagrams else 1
+    setup = [params(room=65536), f"me {node} first", f"local {HOST}:4002", f"peer 1 {HOST}:4001 0 0", *(f"route {it} 1" for it in routes), "go"]
+    trace = [line for moment, octets in datagrams for line in (f"< 1 {octets.hex()}".rstrip(), f"@ {moment}")]
+    text = "\n".join([*setup, *commands, f"at {end} stop", "trace", "@ 0", *trace, "< -", f"@ {end}"]) + "\n"
+    ran = subprocess.run([path, "retrace"], input=text.encode(), capture_output=True, check=False)
+    if ran.returncode != 0:
+        raise RuntimeError(f"retrace ended with {ran.returncode}: {ran.stdout[-200:]!r}")
+    told: dict[int, list[list[str]]] = {moment: [] for moment, _ in datagrams}
+    for line in ran.stdout.decode().splitlines()[:-1]:
+        moment, _, *words = line.split(" ")
+        told.setdefault(int(moment), []).append(words)
+    return told
+
+
+def answer(lines: Sequence[list[str]]) -> list[str]:
+    """Of what a node tells at a moment, the line of the datagram that came; no words where there is none. The
+    node's own acknowledgements go off too, or find no route."""
+    own = [before[0] in ("acked", "replied") and it[0] in ("put", "noroute") for before, it in zip([[""], *lines], lines)]
+    return next((it for it, is_own in zip(reversed(lines), reversed(own)) if it[0] in ANSWERS and not is_own), [])
+
+
 def read_of(log: str, flow: str) -> bytes:
     """The octets that a log has read of a flow."""
     words = [line.split() for line in log.splitlines()]

@@ -1,0 +1,171 @@
+#!/usr/bin/env python3
+"""The vectors of conformance/ against the built program, and the runner against programs that are spoilt:
+`tests/conformance.py [PROGRAM]`. Ends with 1 where one of these fails:
+
+- vectors: the program gives each answer.
+- spoilt: a program that changes one octet of each answer, and one whose statuses are others, differ in each
+  case, and the runner ends with 1.
+- differences: what the runner says of an answer that differs.
+- reader: a reader of frames that isn't the program's holds, and reads some 12,900 frames as the program does.
+- index: each file of the folders is in the index once, and so is each worked row.
+- lines: each report, fault and flaw of docs/formats.md stands in an answer.
+- copied: the folder that the runner writes has the same inputs and answers.
+
+In tests/all: PROGRAM, 300 s."""
+import collections
+import os
+import pathlib
+import re
+import subprocess
+import sys
+import tempfile
+
+from lib import TOP, program
+
+FOLDER = TOP / "conformance"
+sys.path[:0] = [str(FOLDER), str(TOP / "tools")]
+import asking  # noqa: E402
+import dissector  # noqa: E402
+import frames  # noqa: E402
+import run  # noqa: E402
+
+RUNNER = [sys.executable, str(FOLDER / "run.py")]
+SPOIL = {
+    "an octet": "sed '$ s/.$/~/' \"$out\"\nexit $status\n",
+    "a status": "cat \"$out\"\nexit $((status + 1))\n",
+}
+
+
+def runner(*words: str) -> tuple[int, list[str]]:
+    """The status and the lines of the runner."""
+    ran = subprocess.run([*RUNNER, *words], stdout=subprocess.PIPE, text=True, check=False)
+    return ran.returncode, ran.stdout.splitlines()
+
+
+def vectors(path: str) -> bool:
+    status, lines = runner(str(FOLDER / "deltat"), path)
+    print("\n".join(lines))
+    return status == 0 and lines[-1:] == [f"{len(run.cases())} of {len(run.cases())} cases hold"]
+
+
+def spoilt(path: str) -> bool:
+    """Whether all cases differ that can: an answer without octets has none to change."""
+    good = True
+    with tempfile.TemporaryDirectory() as folder:
+        for what, rest in SPOIL.items():
+            wrapper = pathlib.Path(folder) / "spoilt"
+            wrapper.write_text(f'#!/bin/sh\nout={folder}/out\n"{FOLDER}/deltat" "{path}" "$@" > "$out"\nstatus=$?\n{rest}')
+            wrapper.chmod(0o755)
+            status, lines = runner(str(wrapper))
+            wanted = [it.title() for it in run.cases() if what == "a status" or it.right() != b""]
+            found = [line.partition(":")[0] for line in lines[:-1]]
+            print(f"a program that spoils {what}: {len(found)} of {len(wanted)} differ")
+            good = good and status == 1 and found == wanted
+    return good
+
+
+def differences(path: str) -> bool:
+    del path
+    long = b"0" * 300
+    rows = [
+        (b"a\nb\n", b"a\nb\n", ""),
+        (b"a\nb\n", b"a\nc\n", "line 2: 'b', should be 'c'"),
+        (b"a\r\nb\r\n", b"a\nb\n", "line 1: 'a\\r', should be 'a'"),
+        (b"a\nb", b"a\nb\n", "line 2: its line feed"),
+        (b"a\n", b"a\nb\n", "line 2: missing, should be 'b'"),
+        (b"", b"a\n", "line 1: missing, should be 'a'"),
+        (b"a\nb\n", b"a\n", "line 2: 'b', where the text should end"),
+        (b"a\n\xff\n", b"a\n\n", "line 2: '\\xff', should be ''"),
+        (long + b"1" + long + b"\n", long + b"2" + long + b"\n", f"line 1: '..{'0' * 40}1{'0' * 59}..', should be '..{'0' * 40}2{'0' * 59}..'"),
+    ]
+    wrong = [(had, wanted) for had, wanted, text in rows if run.first_difference(had, wanted) != text]
+    print("".join(f"{run.first_difference(*it)} is said of {it}\n" for it in wrong), end="")
+    return not wrong
+
+
+def reader(path: str) -> bool:
+    status, _ = runner("--kind", "frames", str(FOLDER / "frames.py"))
+    good, count = status == 0, 0
+    for name in ("changes", "kinds", "lengths", "parts"):
+        # no script may read what a node hears from itself
+        asked = [it for it in getattr(dissector, name)() if it[8:12] != it[12:16] or len(it) < 16]
+        for frame, line in zip(asked, asking.lines_of(path, asked)):
+            count += 1
+            if line != frames.read(frame):
+                print(f"{frame.hex()[:60]}: the program says {line[:60]}, the reader {frames.read(frame)[:60]}")
+                good = False
+    print(f"{count} frames read twice")
+    return good and count > 10_000
+
+
+def index(path: str) -> bool:
+    del path
+    listed = [it for it in run.cases() if it.kind != "rounds"]
+    named = {f"{it.name}{end}" for it in listed for end in ((".frames",) if it.kind == "frames" else (".in", ".out"))}
+    named = {it for it in named if not it.startswith("..")} - {f"{it.name}.in" for it in listed if it.input}
+    there = {str(it.relative_to(FOLDER)) for it in FOLDER.glob("*/*") if "__pycache__" not in it.parts}
+    rows = [line.split() for line in (TOP / "crates" / "deltat_rows" / "stdin").read_text().splitlines()]
+    ours = [[it.name.rsplit("/", 1)[1], it.word, str(it.status)] for it in listed if it.name.startswith("..")]
+    twice = [title for title, count in collections.Counter(it.title() for it in run.cases()).items() if count > 1]
+    for what, names in (("not there", named - there), ("not in the index", there - named), ("twice", twice)):
+        print("".join(f"{it}: {what}\n" for it in sorted(names)), end="")
+    return named == there and not twice and sorted(rows) == sorted(ours)
+
+
+def texts(behind: str, column: int) -> set[str]:
+    """The texts in a column of a table of formats.md, of the first table behind a line."""
+    page = (TOP / "docs" / "formats.md").read_text().split(f"{behind}\n", 1)[1]
+    rows = re.search(r"(?:^\|.*\n)+", page, re.MULTILINE)[0].splitlines()[2:]
+    found = {it for row in rows for it in re.findall(r"`([^`]+)`", row.split("|")[column])}
+    if not found:
+        raise ValueError(f"no table behind {behind!r}")
+    return found
+
+
+def lines(path: str) -> bool:
+    """Whether each kind of line is in an answer. A fault of a parameter names it: each is wanted."""
+    del path
+    answers = [line.split() for it in run.cases() if it.kind != "frames" for line in (it.right() or b"").decode("latin-1").splitlines()]
+    names = texts("### The numbers of `params`", 3)
+    faults = {it.split()[0] for it in texts("### Faults", 2)} - names - {"param", "out"} | {f"param {it}" for it in names}
+    of_frames = texts("Octets that are no Deltagram are refused by the first of these tests that they fail:", 3)
+    of_frames |= texts("The body of a Deltagram that is no packet is refused by the first of these tests that it fails:", 3)
+    of_calls = {it.split()[it.startswith("MOMENT")] for it in texts("### Calls", 1)}
+    wanted = [
+        ("reports", {it.split()[0] for it in texts("### Lines of a node", 2)}, {it[2] for it in answers if len(it) > 2}),
+        ("faults", faults, {" ".join(it[2:4] if it[2] == "param" else it[2:3]) for it in answers if it[0] == "line"}),
+        ("faults of frames", {it.split()[0] for it in of_frames}, {it[3] for it in answers if it[2:3] == ["bad"]}),
+        ("flaws", texts("### The verdict of an audit", 1) - {"accepted .. on"}, {" ".join(it[2:]) for it in answers if it[0] == "line"}),
+        ("lines of calls", of_calls, {word for it in answers for word in it[:2]}),
+    ]
+    for what, all_of, there in wanted:
+        print(f"{what}: {len(all_of)} in the page, in no answer: {' '.join(sorted(all_of - there)) or 'none'}")
+    return all(all_of <= there for _, all_of, there in wanted)
+
+
+def copied(path: str) -> bool:
+    del path
+    with tempfile.TemporaryDirectory() as name:
+        folder = pathlib.Path(name)
+        status, _ = runner("--copy", name)
+        index = [line.split() for line in (folder / "INDEX").read_text().splitlines()]
+        asked = [it for it in run.cases() if it.word != "make"]
+        pairs = list(zip(index, asked, strict=True))
+        same = all((folder / f"{row[1]}.in").read_bytes() == it.given() for row, it in pairs)
+        same = same and all([row[0], *row[2:]] == [it.kind, it.word, str(it.status)] for row, it in pairs)
+        outs = all((folder / f"{row[1]}.out").read_bytes() == it.right() for row, it in pairs if it.kind != "rounds")
+        return status == 0 and same and outs and os.path.exists(folder / "rounds.sha256")
+
+
+def main() -> int:
+    path = program()
+    tests = [vectors, spoilt, differences, reader, index, lines, copied]
+    failed = [it.__name__ for it in tests if not it(path)]
+    for name in failed:
+        print(f"{name} failed")
+    print(f"{len(tests) - len(failed)} of {len(tests)} hold")
+    return 1 if failed else 0
+
+
+if __name__ == "__main__":
+    sys.exit(main())
