@@ -4,14 +4,15 @@ ghost use Rattle.std.specs.Prelude.{ℕ, ◌≡◌, ◌≤◌, false, List, leng
 ghost use Rattle.dt_audit.specs.Audits.{AreSafe, has_flaw, ledger_of};
 ghost use Rattle.dt_calls.specs.CallInputs.{AnswersAreReversed, calls_after_lines};
 ghost use Rattle.dt_calls_model.specs.Promises.{AreServedOnce};
-ghost use Rattle.dt_replay.specs.Schedules.{replay_text, world_after_lines};
+ghost use Rattle.dt_replay.specs.Schedules.{replay_text, world_after_lines, world_of};
 ghost use Rattle.dt_world_model.specs.WorldFacts.{SafeWorld};
 ghost use Rattle.dt_top.specs.Inputs.{limit};
 
 /// Each flow of the world of any schedule is safe after each of its lines, those of a schedule that is
-/// refused among them.
+/// refused among them, and at its end.
 pub fn each_schedule_is_safe()
     ensures safe { (octets : List ℕ) → (count : ℕ) → IfSome (world_after_lines count octets) (λ w. SafeWorld w) }
+    ensures whole { (octets : List ℕ) → IfSome (world_of octets) (λ w. SafeWorld w) }
 {}
 
 /// After each line of any input that isn't too long each call was served at most once, and each answer
