@@ -12,11 +12,11 @@ const PARAMS: &str = "params 1000 3000 200 500 800 100 4096 4096 512 2147483648\
 const SETUP: &str =
     "station 1 0\nstation 2 0\nlink 1 1 2 50 0\nlink 2 2 1 50 0\nroute 1 2 1\nroute 2 1 2\ngo\n";
 
-/// What is run: the words and the input. The rest says by which readings, of which there is one at least,
-/// which reads fail, and how much room there is.
+/// What is run: the words, if there are any, with a space between two of them, and the input. The rest
+/// says by which readings, of which there is one at least, which reads fail, and how much room there is.
 #[derive(Clone, Copy)]
 struct Trial<'a> {
-    words: &'a [&'a str],
+    words: Option<&'a str>,
     input: &'a [u8],
     readings: &'a [u64],
     failing_reads: &'a [u32],
@@ -26,7 +26,7 @@ struct Trial<'a> {
 
 /// A replay of no input, where nothing fails.
 const FREELY: Trial<'static> = Trial {
-    words: &["replay"],
+    words: Some("replay"),
     input: b"",
     readings: &[0],
     failing_reads: &[],
@@ -45,8 +45,10 @@ struct Left {
 /// The words of a trial.
 fn words_of(alloc: Global, trial: &Trial<'_>) -> Option<Vec<String>> {
     let mut words = Vec::new(alloc);
-    for word in trial.words {
-        words.push(String::from_str(alloc, word).ok()?).ok()?;
+    if let Some(line) = trial.words {
+        for word in line.split(' ') {
+            words.push(String::from_str(alloc, word).ok()?).ok()?;
+        }
     }
     Some(words)
 }
@@ -105,7 +107,7 @@ fn said_of(status: u8) -> &'static [u8] {
 /// Whether a command does so with an input.
 fn does(alloc: Global, command: &str, input: &str, status: u8, out: &str) -> bool {
     let trial = Trial {
-        words: &[command],
+        words: Some(command),
         input: input.as_bytes(),
         ..FREELY
     };
@@ -305,25 +307,24 @@ make -- -- 1
 
 const USAGE: &[u8] = b"usage: deltat replay | node | make N | trace | retrace | calls | audit\n";
 
-/// Whether the words of a line, between which stand spaces, end so with no input.
-fn line_ends(alloc: Global, line: &str, status: u8, out: &[u8], said: &[u8]) -> Result<bool, Fail> {
-    let words: Vec<&str> = line.split(' ').collect(alloc)?;
+/// Whether the words of a line end so with no input.
+fn line_ends(alloc: Global, line: &str, status: u8, out: &[u8], said: &[u8]) -> bool {
     let trial = Trial {
-        words: &words,
+        words: Some(line),
         ..FREELY
     };
-    Ok(ends(alloc, &trial, status, out, said))
+    ends(alloc, &trial, status, out, said)
 }
 
 #[test]
 fn other_words_are_no_command(rt: HostRuntime) -> Result<(), Fail> {
     let none = Trial {
-        words: &[],
+        words: None,
         ..FREELY
     };
     assert!(rt; ends(rt.alloc(), &none, 2, b"", USAGE));
     for line in NO_COMMANDS.split('\n') {
-        assert!(rt; line_ends(rt.alloc(), line, 2, b"", USAGE)?, "{line:?}");
+        assert!(rt; line_ends(rt.alloc(), line, 2, b"", USAGE), "{line:?}");
     }
     Ok(())
 }
@@ -344,11 +345,11 @@ read 1:10>2:20 65536
 fn the_first_mark_is_left_out(rt: HostRuntime) -> Result<(), Fail> {
     let one = joined(rt.alloc(), &[PARAMS, SETUP, ONE_ROUND])?;
     for line in "make 1,-- make 1,make -- 1,make 1 --".split(',') {
-        let ends = line_ends(rt.alloc(), line, 0, one.as_bytes(), b"")?;
+        let ends = line_ends(rt.alloc(), line, 0, one.as_bytes(), b"");
         assert!(rt; ends, "{line}");
     }
     for line in "-- replay,replay --".split(',') {
-        let ends = line_ends(rt.alloc(), line, 3, b"line 1: order\n", b"input refused\n")?;
+        let ends = line_ends(rt.alloc(), line, 3, b"line 1: order\n", b"input refused\n");
         assert!(rt; ends, "{line}");
     }
     Ok(())
@@ -360,10 +361,10 @@ const AMPLE: Trial<'static> = Trial {
     ..FREELY
 };
 
-/// What the replay of the schedule of so many rounds leaves.
-fn replay_of_made(alloc: Global, rounds: &str) -> Option<Left> {
+/// What the replay of the schedule leaves that these words make.
+fn replay_of_made(alloc: Global, words: &str) -> Option<Left> {
     let trial = Trial {
-        words: &["make", rounds],
+        words: Some(words),
         ..AMPLE
     };
     let made = tried(alloc, &trial)?;
@@ -394,8 +395,8 @@ end 1060
 
 #[test]
 fn made_schedules_are_replayed(rt: HostRuntime) {
-    assert!(rt; is_done_with(&replay_of_made(rt.alloc(), "1"), ONE_END));
-    assert!(rt; is_done_with(&replay_of_made(rt.alloc(), "3"), THREE_END));
+    assert!(rt; is_done_with(&replay_of_made(rt.alloc(), "make 1"), ONE_END));
+    assert!(rt; is_done_with(&replay_of_made(rt.alloc(), "make 3"), THREE_END));
 }
 
 /// The last two lines of the log of so many rounds, from the numbers that the rounds are drawn from:
@@ -425,8 +426,8 @@ fn is_same(first: &Option<Left>, again: &Option<Left>) -> bool {
 #[test]
 fn five_thousand_rounds(rt: HostRuntime) -> Result<(), Fail> {
     let end = summary(rt.alloc(), 5000)?;
-    let first = replay_of_made(rt.alloc(), "5000");
-    let again = replay_of_made(rt.alloc(), "5000");
+    let first = replay_of_made(rt.alloc(), "make 5000");
+    let again = replay_of_made(rt.alloc(), "make 5000");
     assert!(rt; is_done_with(&first, end.as_str()));
     assert!(rt; is_same(&first, &again));
     Ok(())
@@ -450,7 +451,7 @@ fn is_cut_off(alloc: Global, trial: &Trial<'_>, whole: &[u8]) -> bool {
 fn a_schedule_that_finds_no_room(rt: HostRuntime) -> Result<(), Fail> {
     let one = joined(rt.alloc(), &[PARAMS, SETUP, ONE_ROUND])?;
     let make = Trial {
-        words: &["make", "1"],
+        words: Some("make 1"),
         ..FREELY
     };
     assert!(rt; is_cut_off(rt.alloc(), &make, one.as_bytes()));
@@ -543,9 +544,9 @@ const NODE_ENDS: [(bool, [u64; 2], u8, &str, &str); 3] = [
 ];
 
 /// The node of the script, whose log or trace is written, by these readings.
-fn node_trial<'a>(words: &'a [&'a str], readings: &'a [u64]) -> Trial<'a> {
+fn node_trial<'a>(word: &'a str, readings: &'a [u64]) -> Trial<'a> {
     Trial {
-        words,
+        words: Some(word),
         input: SCRIPT.as_bytes(),
         readings,
         ..FREELY
@@ -558,7 +559,7 @@ fn a_node_ends_by_its_stop_its_wire_or_its_clock(rt: HostRuntime) -> Result<(), 
         let mut wire = MemWire::new(rt.alloc(), *open_fails, &[], &[], Some(64))
             .ok()
             .ok_or("memory")?;
-        let left = tried_over(rt.alloc(), &node_trial(&["node"], readings), &mut wire);
+        let left = tried_over(rt.alloc(), &node_trial("node", readings), &mut wire);
         assert!(rt;
             is_left(&left, *status, log.as_bytes(), said.as_bytes()),
             "{status}"
@@ -575,18 +576,14 @@ fn a_trace_is_run_again(rt: HostRuntime) -> Result<(), Fail> {
     let mut wire = MemWire::new(rt.alloc(), false, &[], &[1], None)
         .ok()
         .ok_or("memory")?;
-    let left = tried_over(
-        rt.alloc(),
-        &node_trial(&["trace"], &[1000, 1100]),
-        &mut wire,
-    );
+    let left = tried_over(rt.alloc(), &node_trial("trace", &[1000, 1100]), &mut wire);
     assert!(rt; is_left(&left, 0, TRACE.as_bytes(), b""));
     let input = joined(rt.alloc(), &[SCRIPT, "trace\n", TRACE])?;
     let log = joined(rt.alloc(), &[SENDS, "0 1 unsent 1\nend 100\n"])?;
     assert!(rt; does(rt.alloc(), "retrace", input.as_str(), 0, log.as_str()));
     let closed = joined(rt.alloc(), &[SCRIPT, "trace\n! 0\n"])?;
     let retrace = Trial {
-        words: &["retrace"],
+        words: Some("retrace"),
         input: closed.as_bytes(),
         ..FREELY
     };
