@@ -105,7 +105,7 @@ fn said_of(status: u8) -> &'static [u8] {
 }
 
 /// Whether a command does so with an input.
-fn does(alloc: Global, command: &str, input: &str, status: u8, out: &str) -> bool {
+fn does<'a>(alloc: Global, command: &'a str, input: &'a str, status: u8, out: &str) -> bool {
     let trial = Trial {
         words: Some(command),
         input: input.as_bytes(),
