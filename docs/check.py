@@ -8,11 +8,11 @@ It refuses, each with page and line:
 - a crate's row in the table of crates whose "stands on" differs from crates.txt, and a crate
   without a row;
 - a clause of `run` that docs/guarantees.md doesn't name;
+- a table of docs/clauses.md that differs from the public functions and their clauses;
 - a word of a line that is written or read and that docs/formats.md doesn't name.
 
 Usage: docs/check.py            compares
-       docs/check.py write      writes the "stands on" column anew
-       docs/check.py clauses    prints each public function with the names of its clauses
+       docs/check.py write      writes the "stands on" column and docs/clauses.md anew
 """
 
 import re
@@ -158,9 +158,22 @@ def check_names(page: Path) -> Iterator[Complaint]:
 
 class Function(NamedTuple):
     crate: str
+    module: str
     name: str
-    clauses: tuple[str, ...]
+    requires: tuple[str, ...]
+    ensures: tuple[str, ...]
     says: str
+    is_pub: bool
+
+    @property
+    def clauses(self) -> tuple[str, ...]:
+        return (*self.requires, *self.ensures)
+
+    @property
+    def is_public(self) -> bool:
+        """Whether other crates can call it: the module is public, or the root hands its first name on."""
+        modules, names = surface(self.crate)
+        return self.is_pub and (self.module in modules or self.name.split("::")[0] in names)
 
 
 FUNCTION = re.compile(
@@ -171,18 +184,47 @@ FUNCTION = re.compile(
 OWNER = re.compile(r"^(?:impl(?:<[^{]*?>)? (?:\w+(?:<[^{]*?>)? for )?|pub trait |trait )(\w+)", re.MULTILINE)
 
 
-def contract(text: str, start: int) -> str:
-    """From a function's name to the line that begins its body or ends its declaration."""
-    lines, depth = [], 0
-    for line in text[start:].splitlines():
-        begins_body = line.rstrip().endswith("{") and not re.match(r"\s*(ensures|requires)\b", line)
-        lines.append(line)
-        if depth == 0 and begins_body:
-            break
-        depth += line.count("{") - line.count("}")
-        if depth == 0 and line.rstrip().endswith(";"):
-            break
-    return "\n".join(lines)
+CLAUSE = re.compile(r"\b(ensures|requires)\b\*?\s*(\w*)\s*$")
+GHOST = re.compile(r"\bghost\s+\w+\s*:\s*$")
+
+
+def behind(text: str, at: int) -> int:
+    """The place behind the brace that closes the one at this place."""
+    depth = 0
+    for it in re.compile("[{}]").finditer(text, at):
+        depth += 1 if it[0] == "{" else -1
+        if depth == 0:
+            return it.end()
+    return len(text)
+
+
+def contract(text: str, at: int) -> Iterator[tuple[str, str]]:
+    """The clauses of the function whose name stands at this place, each as its kind and its name, which
+    may be empty. They end where the body begins, or with the declaration of a trait's method."""
+    while at < len(text):
+        opens, ends = text.find("{", at), text.find(";", at)
+        opens = len(text) if opens < 0 else opens
+        between = text[at:opens]
+        clause = CLAUSE.search(between)
+        if clause:
+            yield clause[1], clause[2]
+        elif not GHOST.search(between) or -1 < ends < opens and ")" in text[at:ends]:
+            return
+        at = behind(text, opens)
+
+
+@cache
+def surface(crate: str) -> tuple[frozenset[str], frozenset[str]]:
+    """The modules of a crate that are public, and the names that its root has or hands on."""
+    root = text_of(next((TOP / "crates" / crate / "src").glob("[lm]*i[bn].rt")))
+    modules = {"lib", *re.findall(r"^pub mod (\w+);", root, re.MULTILINE)}
+    handed = re.findall(r"^pub use [\w:]+::(?:\{([^}]*)\}|(\w+));", root, re.MULTILINE)
+    return frozenset(modules), frozenset(re.findall(r"\w+", " ".join(it for pair in handed for it in pair)))
+
+
+def first_sentence(doc: str) -> str:
+    said = " ".join(re.sub(r"^[ \t]*/// ?", "", line) for line in doc.splitlines())
+    return re.sub(r":$", ".", re.split(r"(?<=[.:]) ", said + " ")[0].strip())
 
 
 @cache
@@ -193,15 +235,14 @@ def functions() -> tuple[Function, ...]:
         if path.suffix != ".rt" or "tests" in path.name:
             continue
         text, crate = text_of(path), path.relative_to(TOP).parts[1]
-        owners = [(it.start(), it[1]) for it in OWNER.finditer(text)]
+        owners = [(it.start(), it) for it in OWNER.finditer(text)]
         for it in FUNCTION.finditer(text):
-            part = contract(text, it.start("name"))
-            clauses = re.findall(r"^\s*(?:ensures|requires)\*? (\w+)? ?\{", part, re.MULTILINE)
-            owner = [name for at, name in owners if at < it.start()] if it["indent"] else []
-            name = f"{owner[-1]}::{it['name']}" if owner else it["name"]
-            said = " ".join(re.sub(r"^[ \t]*/// ?", "", line) for line in it["doc"].splitlines())
-            first = re.split(r"(?<=[.:]) ", said + " ")[0].strip()
-            found.append(Function(crate, name, tuple(filter(None, clauses)), first if it["pub"] else ""))
+            owner = [owner for at, owner in owners if at < it.start()][-1:] if it["indent"] else []
+            name = f"{owner[0][1]}::{it['name']}" if owner else it["name"]
+            clauses = list(contract(text, it.end("name")))
+            of_kind = [tuple(name for kind, name in clauses if kind == which) for which in ("requires", "ensures")]
+            is_pub = it["pub"] == "pub " or bool(owner) and owner[0][0].startswith("pub trait")
+            found.append(Function(crate, path.stem, name, *of_kind, first_sentence(it["doc"]), is_pub))
     return tuple(found)
 
 
@@ -352,20 +393,50 @@ def check_formats() -> Iterator[Complaint]:
             yield Complaint(page, 1, f"a line that is {what} has the word {word}, which isn't named")
 
 
+# --- the page of clauses
+
+
+CLAUSES = TOP / "docs" / "clauses.md"
+HEAD = """# Clause by clause
+
+What other crates can call, crate by crate, and the clauses of each contract by their names. What a clause says word
+for word stands in the contract, in the file of its module below `crates/CRATE/src/`, above the body. A `-` is a clause without a name. A
+condition is what the caller owes, and is proved at each call. This page is made from the sources by
+`docs/check.py write`, and the gate's script refuses it where it differs.
+"""
+
+
+def cell(names: tuple[str, ...]) -> str:
+    return ", ".join(f"`{it}`" if it else "-" for it in names)
+
+
+def page_of_clauses() -> str:
+    """The page's text: a table for each crate with public functions, in the order of crates.txt."""
+    parts = [HEAD]
+    for crate in crates():
+        rows = [it for it in functions() if it.crate == crate and it.is_public and (it.clauses or it.says)]
+        if rows:
+            parts.append(f"\n## {crate}\n\n| call | module | conditions | clauses | what it is |\n|---|---|---|---|---|\n")
+        for it in rows:
+            said = it.says.replace("|", "\\|")
+            parts.append(f"| `{it.name}` | {it.module} | {cell(it.requires)} | {cell(it.ensures)} | {said} |\n")
+    return "".join(parts)
+
+
+def check_page_of_clauses() -> Iterator[Complaint]:
+    if not CLAUSES.is_file() or text_of(CLAUSES) != page_of_clauses():
+        yield Complaint(CLAUSES, 1, "the page differs from the sources: docs/check.py write makes it anew")
+
+
 def complaints() -> Iterator[Complaint]:
     for page in PAGES:
         yield from check_links(page)
         yield from check_names(page)
         yield from check_clauses(page)
     yield from check_run()
+    yield from check_page_of_clauses()
     yield from check_crates()
     yield from check_formats()
-
-
-def print_clauses() -> None:
-    for it in functions():
-        if it.says:
-            print(f"{it.crate} {it.name}: {', '.join(it.clauses) or '(one)'}")
 
 
 def main(words: list[str]) -> int:
@@ -378,9 +449,7 @@ def main(words: list[str]) -> int:
             return 1 if found else 0
         case ["write"]:
             write_crates()
-            return 0
-        case ["clauses"]:
-            print_clauses()
+            CLAUSES.write_text(page_of_clauses())
             return 0
         case ["-h" | "--help"]:
             print(__doc__)

@@ -20,10 +20,11 @@ TOP = Path(__file__).resolve().parent.parent
 # what is spoilt, on which page, from what to what
 SPOILT = [
     ("a file that isn't there", "docs/architecture.md", "`dt_layout/src/limits.rt`", "`dt_layout/src/limit.rt`"),
-    ("a call that isn't there", "docs/guarantees.md", "| `Relay::new` |", "| `Relay::made` |"),
+    ("a call that isn't there", "docs/guarantees.md", "| `dt_fold::fold_input` |", "| `dt_fold::fold_inputs` |"),
     ("a clause that isn't there", "docs/guarantees.md", "| `all_along`, `whole` |", "| `all_long`, `whole` |"),
     ("a clause of another call", "docs/guarantees.md", "| `all_along`, `whole` |", "| `safe`, `cut_off` |"),
     ("a clause of run that isn't named", "docs/guarantees.md", "`stood_still`", "`stood`"),
+    ("a table of clauses that differs", "docs/clauses.md", "| `Relay::enter` |", "| `Relay::entered` |"),
     ("a crate on another stand", "docs/architecture.md", " dt_host, dt_relay |", " dt_host |"),
     ("a crate without a row", "docs/architecture.md", "| dt_shelf |", "| shelf |"),
     ("a written line that isn't named", "docs/formats.md", "settled", "set"),
