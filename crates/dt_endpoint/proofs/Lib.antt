@@ -1,0 +1,10 @@
+mod Counting
+mod Collects
+mod Going
+mod Mute
+mod Heads
+mod Keeping
+mod Following
+mod Waited
+mod Answering
+mod Fronts

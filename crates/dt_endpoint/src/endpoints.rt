@@ -1,0 +1,362 @@
+ghost use Rattle.std.specs.Prelude.{ℕ, [], ◌≡◌, ◌+◌, ◌<◌, ◌≤◌, ◌++◌, false, IfOk, OnOk, OnErr, drop, length, option_map, option_to_list, take};
+ghost use Rattle.dt_reports.specs.Told.{told};
+ghost use Rattle.dt_flow_model.specs.Keeping.{octets_below};
+ghost use Rattle.dt_station.specs.Events.{MayHappenHere, local_seen};
+ghost use Rattle.dt_endpoint.specs.declared.noting.Heard.TheVariants.{Nothing};
+ghost use Rattle.dt_layout.specs.Carried.{IsGram, life_of};
+ghost use Rattle.dt_endpoint.specs.Calls.{ArriveDoes, Arrives, arrive_event, Reads, Sends, Ticks, piece_by, sent_by};
+ghost use Rattle.dt_endpoint.specs.Endpoints.{EventEnds, capped, endpoint_wake, moment_of, octets_sent, opened, script_of, waiting_octets};
+ghost use Rattle.dt_endpoint.specs.Hearing.{heard_in, piece_in};
+
+use crate::answers::{Arrived, Piece, Sent, Ticked};
+use crate::collecting::Collector;
+use crate::events::{happen, receive};
+use crate::frames::OutFrame;
+use crate::links::{Links, has_link};
+use crate::noting::Heard;
+use dt_items::NoMemory;
+use dt_layout::{Frame, read_deltagram};
+use dt_reports::{Refusal, Report};
+use dt_station::{InLink, LocalEvent, Station};
+use dt_units::{Flow, NodeId, Rules};
+use std::alloc::Global;
+use std::marker::Model;
+
+/// The greatest moment: a later one counts as it.
+const MOST_MOMENT: u64 = 1 << 62;
+
+/// So many octets in all, or more, are refused.
+const MOST_OCTETS: u64 = 1 << 62;
+
+/// A node without a socket, a clock or a thread of its own.
+///
+/// Each event is handed the moment in milliseconds. One that is before that of an earlier event counts as
+/// that, and one above 2^62 as 2^62. What leaves and what is told waits until it is pulled.
+///
+/// After an event that found no memory the endpoint is spent: no further event is done. What waits can be
+/// pulled.
+#[derive(Drop)]
+pub struct Endpoint {
+    station: Station<Frame>,
+    collector: Collector,
+    /// The links on which packets come.
+    ins: Vec<InLink>,
+    /// Holds the datagram that comes.
+    slot: Box<Frame>,
+    /// The greatest moment that an event had.
+    latest: u64,
+    /// How many octets sends have handed in.
+    asked: u64,
+    spent: bool,
+}
+
+impl Model for Endpoint {
+    ghost use Rattle.dt_endpoint.specs.Endpoints.{EndpointValue, IsEndpoint};
+
+    ghost Value = { EndpointValue };
+
+    ghost view = { λ e. record { rules = e.station.rules; latest = e.latest; spent = e.spent; asked = e.asked; state = e.station.state; frames = e.collector.frames; reports = e.collector.reports } };
+
+    ghost invariant = { λ e. IsEndpoint e.latest e.asked e.spent e.ins.items e.station e.collector };
+}
+
+impl Endpoint {
+    /// The endpoint of a node that starts for the first time, or again at a moment: then it is silent at
+    /// first.
+    pub fn open(
+        alloc: Global,
+        rules: &Rules,
+        me: NodeId,
+        again: Option<u64>,
+        links: &Links<'_>,
+    ) -> Result<Endpoint, NoMemory>
+        ensures { IfOk result (λ e. e ≡ opened rules.now me.0 again links.now.outs.now links.now.ins.now links.now.routes.now) }
+    {
+        let again = cap_moment(again);
+        let Links { outs, ins, routes } = *links;
+        let station = Station::new(alloc, rules, me, again, outs, ins, routes)?;
+        Ok(Endpoint {
+            station,
+            collector: Collector::new(alloc),
+            ins: Vec::from_slice(alloc, ins)?,
+            slot: Box::new(alloc, Frame::new())?,
+            latest: again.unwrap_or(0),
+            asked: 0,
+            spent: false,
+        })
+    }
+
+    /// The moment of an event.
+    fn moment(&self, now: u64) -> u64
+        ensures { result ≡ moment_of now self.now }
+    {
+        self.latest.max(now.min(MOST_MOMENT))
+    }
+
+    /// One event that brings no packet. What is heard of it is answered, and a piece that is read stands at
+    /// the head of the buffer.
+    fn event(&mut self, now: u64, event: LocalEvent<'_>, buf: &mut [u8]) -> Result<Heard, NoMemory>
+        requires unspent { self.old.spent ≡ false }
+        requires may { MayHappenHere self.old.rules (moment_of now self.old) self.old.state (length buf.old) event }
+        requires few { self.old.asked + octets_sent (local_seen (length buf.old) event) < octets_below }
+        ensures ends { EventEnds result now (local_seen (length buf.old) event.entry) self.old self.new }
+        ensures heard { IfOk result (λ heard. heard ≡ heard_in (script_of now (local_seen (length buf.old) event.entry) self.old) Nothing) }
+        ensures piece { let piece = piece_in (script_of now (local_seen (length buf.old) event.entry) self.old) [] in
+            OnOk result (length piece ≤ length buf.old → take (length piece) buf.new ≡ piece) }
+    {
+        let now = self.moment(now);
+        self.latest = now;
+        self.asked += octets_in(&event);
+        let done = happen(&mut self.station, &mut self.collector, now, event, buf);
+        if done.is_err() {
+            self.spent = true;
+            return Err(NoMemory);
+        }
+        let piece = self.collector.piece();
+        if piece.len() <= buf.len() {
+            buf[..piece.len()].copy_from_slice(piece);
+        }
+        Ok(self.collector.heard())
+    }
+
+    /// A datagram that reads as a Deltagram comes on a link, and has more life than it waited.
+    fn admit(&mut self, now: u64, link: u16, datagram: &[u8], waited: u32) -> Arrived
+        requires unspent { self.old.spent ≡ false }
+        requires gram { IsGram datagram.now }
+        requires life { waited < life_of datagram.now }
+        ensures { ArriveDoes result now (arrive_event link datagram.now waited) self.old self.new }
+    {
+        let now = self.moment(now);
+        fill(&mut *self.slot, datagram);
+        self.slot.lower(waited);
+        self.latest = now;
+        let done = receive(
+            &mut self.station,
+            &mut self.collector,
+            now,
+            link,
+            &mut *self.slot,
+        );
+        if done.is_err() {
+            self.spent = true;
+            return Arrived::NoMemory;
+        }
+        Arrived::Done
+    }
+
+    /// What is due at `now` is done.
+    pub fn tick(&mut self, now: u64) -> Ticked
+        ensures { Ticks result now self.old self.new }
+    {
+        if self.spent {
+            return Ticked::Spent;
+        }
+        match self.event(now, LocalEvent::Tick, &mut []) {
+            Ok(_) => Ticked::Done,
+            Err(NoMemory) => Ticked::NoMemory,
+        }
+    }
+
+    /// A datagram came on a link, and waited so many milliseconds until this call. They are taken off its
+    /// life.
+    pub fn arrive(&mut self, now: u64, link: u16, datagram: &[u8], waited: u32) -> Arrived
+        ensures { Arrives result now link datagram.now waited self.old self.new }
+    {
+        if self.spent {
+            return Arrived::Spent;
+        }
+        if !has_link(link, &self.ins) {
+            return Arrived::NoLink;
+        }
+        match read_deltagram(datagram) {
+            Err(fault) => Arrived::Bad { fault },
+            Ok(gram) if gram.life <= waited => Arrived::Stale,
+            Ok(_) => self.admit(now, link, datagram, waited),
+        }
+    }
+
+    /// Octets are sent on a flow from this node. The first begins a message and the last ends one, where
+    /// that is asked for.
+    pub fn send(&mut self, now: u64, flow: Flow, octets: &[u8], begin: bool, end: bool) -> Sent
+        ensures { Sends result now flow octets.now begin end self.old self.new }
+    {
+        if self.spent {
+            return Sent::Spent;
+        }
+        let me = self.station.host().me();
+        if flow.from != me || flow.to == me {
+            return Sent::BadFlow;
+        }
+        if octets.is_empty() {
+            return Sent::Empty;
+        }
+        if octets.len() as u64 >= MOST_OCTETS - self.asked {
+            return Sent::TooMany;
+        }
+        let event = LocalEvent::Send {
+            flow,
+            octets,
+            begin,
+            end,
+        };
+        match self.event(now, event, &mut []) {
+            Ok(heard) => sent_by(heard),
+            Err(NoMemory) => Sent::NoMemory,
+        }
+    }
+
+    /// Unread octets of a flow to this node are read, at most as many as the buffer holds.
+    pub fn read(&mut self, now: u64, flow: Flow, buf: &mut [u8]) -> Piece
+        ensures { Reads result now flow (length buf.old) buf.new self.old self.new }
+    {
+        if self.spent {
+            return Piece::Spent;
+        }
+        let me = self.station.host().me();
+        if flow.to != me || flow.from == me {
+            return Piece::BadFlow;
+        }
+        if buf.is_empty() {
+            return Piece::NoRoom;
+        }
+        match self.event(now, LocalEvent::Read { flow }, buf) {
+            Ok(heard) => piece_by(heard),
+            Err(NoMemory) => Piece::NoMemory,
+        }
+    }
+
+    /// The frame that left first of those that wait, which it goes on doing: a caller without room for it
+    /// leaves it.
+    pub fn first_frame(&self) -> Option<&OutFrame>
+        ensures { self.now.frames ≡ option_to_list (option_map (λ f. f.now) result) ++ drop 1 self.now.frames }
+    {
+        self.collector.first_frame()
+    }
+
+    /// The frame that left first of those that wait. It waits no more.
+    pub fn next_frame(&mut self) -> Option<OutFrame>
+        ensures first { self.old.frames ≡ option_to_list result ++ self.new.frames }
+        ensures others { self.new ≡ record self.old { frames = drop 1 self.old.frames } }
+    {
+        self.collector.next_frame()
+    }
+
+    /// The report that was told first of those that wait. It waits no more. A piece that was read is told
+    /// without its octets.
+    pub fn next_report(&mut self) -> Option<Report<'static>>
+        ensures first { self.old.reports ≡ option_to_list (option_map told result) ++ self.new.reports }
+        ensures others { self.new ≡ record self.old { reports = drop 1 self.old.reports } }
+    {
+        self.collector.next_report()
+    }
+
+    /// The least moment at which something is due, or none where there is no such moment. A spent
+    /// endpoint has none.
+    pub fn wake(&self) -> Option<u64>
+        ensures { result ≡ endpoint_wake self.now }
+    {
+        if self.spent {
+            return None;
+        }
+        self.station.wake()
+    }
+
+    /// The node.
+    pub fn me(&self) -> NodeId
+        ensures { result.0 ≡ self.now.state.host.me }
+    {
+        self.station.host().me()
+    }
+
+    /// The parameters.
+    pub fn rules(&self) -> &Rules
+        ensures { result.now ≡ self.now.rules }
+    {
+        self.station.host().rules()
+    }
+
+    /// The greatest moment that an event had, in milliseconds: 0 before the first event of a node that
+    /// started for the first time.
+    pub fn latest(&self) -> u64
+        ensures { result ≡ self.now.latest }
+    {
+        self.latest
+    }
+
+    /// How many octets of a flow were taken and haven't been sent so far.
+    pub fn waiting(&self, flow: &Flow) -> u32
+        ensures { result ≡ waiting_octets flow.now self.now.state.host }
+    {
+        self.station.host().waiting(flow)
+    }
+
+    /// Whether an event found no memory.
+    pub fn is_spent(&self) -> bool
+        ensures { result ≡ self.now.spent }
+    {
+        self.spent
+    }
+}
+
+/// Makes the slot hold these octets, for which it has room.
+fn fill(slot: &mut Frame, octets: &[u8])
+    requires { length octets.now ≤ 8222 }
+    ensures { slot.new ≡ octets.now }
+{
+    slot.refill(octets);
+}
+
+/// The moment at which a node starts again, 2^62 at most.
+fn cap_moment(again: Option<u64>) -> Option<u64>
+    ensures { result ≡ option_map capped again }
+{
+    match again {
+        Some(now) => Some(now.min(MOST_MOMENT)),
+        None => None,
+    }
+}
+
+/// How many octets an event sends.
+fn octets_in(event: &LocalEvent<'_>) -> u64
+    ensures { (most : ℕ) → result ≡ octets_sent (local_seen most event.now) }
+{
+    match event {
+        LocalEvent::Send { octets, .. } => octets.len() as u64,
+        _ => 0,
+    }
+}
+
+/// The answer to a send, by what was heard.
+fn sent_by(heard: Heard) -> Sent
+    ensures { result ≡ sent_by heard }
+{
+    match heard {
+        Heard::Refused {
+            fault: Refusal::Quiet { until },
+        } => Sent::Quiet { until },
+        Heard::Refused {
+            fault: Refusal::Full { free },
+        } => Sent::Full { free },
+        _ => Sent::Done,
+    }
+}
+
+/// The answer to a read, by what was heard.
+fn piece_by(heard: Heard) -> Piece
+    ensures { result ≡ piece_by heard }
+{
+    match heard {
+        Heard::Piece {
+            len,
+            run,
+            begin,
+            end,
+        } => Piece::Read {
+            len,
+            run,
+            begin,
+            end,
+        },
+        _ => Piece::Nothing,
+    }
+}

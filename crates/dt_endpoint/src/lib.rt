@@ -1,0 +1,22 @@
+//! An endpoint: a station without a socket, a clock or a thread of its own. Its caller hands in datagrams,
+//! octets and moments, and pulls frames and reports.
+#![tactic(auto)]
+
+mod answers;
+mod collecting;
+mod endpoints;
+mod events;
+mod frames;
+mod laws;
+mod links;
+mod noting;
+
+pub use answers::{Arrived, Piece, Sent, Ticked};
+pub use dt_station::{InLink, OutLink, Route};
+pub use endpoints::Endpoint;
+pub use frames::OutFrame;
+pub use laws::{datagram_that_waited_keeps_the_facts, endpoint_follows_the_world};
+pub use links::Links;
+
+#[cfg(test)]
+mod tests;

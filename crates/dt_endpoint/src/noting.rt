@@ -1,0 +1,106 @@
+//! What is kept of a report.
+ghost use Rattle.std.specs.Prelude.{◌≡◌};
+ghost use Rattle.dt_reports.specs.Told.{told};
+ghost use Rattle.dt_endpoint.specs.Hearing.{hears, kept};
+
+use dt_reports::{Refusal, Report};
+
+/// What the station answered to the call, as far as it was told.
+#[derive(Clone, Copy, Debug, PartialEq, Eq)]
+pub enum Heard {
+    /// Nothing yet.
+    Nothing,
+    /// A send was taken.
+    Took,
+    /// A send was refused.
+    Refused {
+        fault: Refusal,
+    },
+    /// A read found nothing.
+    NoPiece,
+    /// A piece of so many octets was read.
+    Piece {
+        len: usize,
+        run: bool,
+        begin: bool,
+        end: bool,
+    },
+}
+
+/// What is heard after a report.
+pub fn heard_after(report: &Report<'_>, before: Heard) -> Heard
+    ensures { result ≡ hears (told report.now) before }
+{
+    match *report {
+        Report::Took { .. } => Heard::Took,
+        Report::Refused { fault, .. } => Heard::Refused { fault },
+        Report::Nothing { .. } => Heard::NoPiece,
+        Report::Read {
+            run,
+            begin,
+            end,
+            octets,
+            ..
+        } => Heard::Piece {
+            len: octets.len(),
+            run,
+            begin,
+            end,
+        },
+        _ => before,
+    }
+}
+
+/// A match on a report, with one row a report of which every field is kept.
+macro_rules! keeping {
+    ($report:expr; $($told:ident { $($field:ident),* },)*; $($other:pat => $kept:expr,)*) => {
+        match $report {
+            $(Report::$told { $($field),* } => Report::$told { $($field),* },)*
+            $($other => $kept,)*
+        }
+    };
+}
+
+/// The report without the octets of a piece, which are handed over by the read.
+pub fn kept_report(report: &Report<'_>) -> Report<'static>
+    ensures { told result ≡ kept (told report.now) }
+{
+    keeping! { *report;
+        Took { flow, count },
+        Refused { flow, fault },
+        Sent { flow, number, length, drf, begin, end },
+        Resent { flow, number, length, drf, begin, end },
+        Met { flow, number },
+        Uncertain { flow, count },
+        Released { flow, sending },
+        Renewed { flow },
+        Acked { flow, number, window },
+        Replied { flow, number, window },
+        Accepted { flow, number, length, run },
+        Dropped { flow, number },
+        Closing { flow, number },
+        Settled { flow, count, window },
+        Ignored { flow, number, window },
+        Quiet { until },
+        Nothing { flow },
+        Put { link, life },
+        PutAs { link, life, copy },
+        ExpiredIn { link },
+        ExpiredOut { link },
+        NoRoute { to },
+        Full { link },
+        Bad { fault },
+        Unsent { link },
+        Shelved { flow, number },
+        NoShelf { flow, number },
+        Again { flow, number },
+        Stale { flow, number },
+        Restarted { life },
+        Lost { copy },
+        FlowTotals { flow, taken, acked, uncertain, unsettled, given, read },
+        Fault { line, fault },
+        ;
+        Report::Read { flow, run, begin, end, .. } => Report::Read { flow, run, begin, end, octets: &[] },
+        Report::End => Report::End,
+    }
+}
