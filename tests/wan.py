@@ -1,17 +1,19 @@
 #!/usr/bin/env python3
 """A bad link between two commands, each in a network namespace of its own.
 
-Usage: tests/wan.py DELAY LOSS DUP REORDER [--seconds S] [--packets N] [--seed K] -- COMMAND -- COMMAND
+Usage: tests/wan.py DELAY LOSS DUP REORDER [--again MS] [--serve] [--seconds S] [--packets N] [--seed K] -- COMMAND -- COMMAND
 
 The first command has the address 10.9.0.1, the second 10.9.0.2, and their only link is this process
 (a TUN device in each namespace), so it needs root and no module of the kernel. An IP packet takes
 DELAY milliseconds to the other side; it is dropped with the probability LOSS, comes twice with the
 probability DUP, and is late by up to twice DELAY more with the probability REORDER (each 0 to 1), so
-that later ones pass it. Packets of one direction that aren't late stay in their order.
+that later ones pass it. Packets of one direction that aren't late stay in their order. With --again each
+packet comes once more so many milliseconds after its first copy.
 
 It is bounded: after S seconds (120) or N packets (10,000,000) both commands are stopped, and the
-status is 124. Else it is the greater of the two commands' statuses. The last line on standard error
-counts what went, was dropped, repeated and late.
+status is 124. Else it is the greater of the two commands' statuses. With --serve the first command is a server,
+which is stopped when the second one has ended, and the status is that of the second. The last line on standard
+error counts what went, was dropped, repeated and late.
 
 `impaired_link(..)` does the same for a test in Python.
 
@@ -49,6 +51,8 @@ class Link:
     loss: float = 0.0
     dup: float = 0.0
     reorder: float = 0.0
+    # each packet comes once more so much later; 0: it doesn't
+    again: float = 0.0
 
 
 @dataclass
@@ -123,6 +127,9 @@ class Carrier:
             at = now + self.link.delay / 1000 * times
             # the count keeps the order of packets of one moment
             heapq.heappush(self.waiting, (at, self.counts.went, 1 - side, packet))
+        if self.link.again:
+            self.counts.repeated += 1
+            heapq.heappush(self.waiting, (now + (self.link.delay + self.link.again) / 1000, self.counts.went, 1 - side, packet))
 
     def take(self) -> None:
         """Accepts all that the two sides sent."""
@@ -161,9 +168,9 @@ def stop(commands: list[subprocess.Popen[bytes]]) -> None:
             command.wait()
 
 
-def impaired_link(commands: list[list[str]], link: Link, bound: Bound, seed: int = 1) -> Outcome:
-    """Runs two commands over the link until both have ended, or the bound is met. This process is in the
-    namespace that it was in, afterwards."""
+def impaired_link(commands: list[list[str]], link: Link, bound: Bound, seed: int = 1, serves: bool = False) -> Outcome:
+    """Runs two commands over the link until both have ended, or the bound is met; where the first one serves, until
+    the second has ended, and its status is 0 then. This process is in the namespace that it was in, afterwards."""
     home = os.open("/proc/self/ns/net", os.O_RDONLY)
     opened, running = [home], []
     try:
@@ -175,13 +182,14 @@ def impaired_link(commands: list[list[str]], link: Link, bound: Bound, seed: int
         call("setns", home, CLONE_NEWNET)
         carrier = Carrier(link, random.Random(seed), [tun for _, tun in spaces])
         end = time.monotonic() + bound.seconds
-        while any(it.poll() is None for it in running):
+        waited_for = running[1:] if serves else running
+        while any(it.poll() is None for it in waited_for):
             if time.monotonic() >= end or carrier.counts.went >= bound.packets:
                 return Outcome([it.poll() or 0 for it in running], carrier.counts, stopped=True)
             carrier.take()
             carrier.deliver()
             carrier.rest(0.05)
-        return Outcome([it.returncode for it in running], carrier.counts)
+        return Outcome([it.poll() if it in waited_for else 0 for it in running], carrier.counts)
     finally:
         call("setns", home, CLONE_NEWNET)
         stop(running)
@@ -211,15 +219,17 @@ def main(words: list[str]) -> int:
     parser.add_argument("delay", type=float, help="milliseconds")
     for name in ("loss", "dup", "reorder"):
         parser.add_argument(name, type=probability, help="a probability, 0 to 1")
+    parser.add_argument("--again", type=float, default=Link.again, metavar="MS")
+    parser.add_argument("--serve", action="store_true")
     parser.add_argument("--seconds", type=float, default=Bound.seconds)
     parser.add_argument("--packets", type=int, default=Bound.packets)
     parser.add_argument("--seed", type=int, default=1)
     given = parser.parse_args(head)
     if len(commands) != 2 or not all(commands):
         parser.error("two commands are wanted, each behind a --")
-    link = Link(given.delay, given.loss, given.dup, given.reorder)
+    link = Link(given.delay, given.loss, given.dup, given.reorder, given.again)
     try:
-        outcome = impaired_link(commands, link, Bound(given.seconds, given.packets), given.seed)
+        outcome = impaired_link(commands, link, Bound(given.seconds, given.packets), given.seed, given.serve)
     except (OSError, subprocess.CalledProcessError) as error:
         print(f"wan: {error}", file=sys.stderr)
         return 2

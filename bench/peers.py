@@ -1,0 +1,243 @@
+#!/usr/bin/env python3
+"""This project's nodes beside other transports, over a bad link (tests/wan.py), so it needs root.
+
+`bench/peers.py [PROGRAM] [--peers NAME ..] [--networks DELAY/LOSS ..] [--part P]`. For each network, with so many
+milliseconds each way and so many of a hundred packets lost each way, and for each peer:
+
+- first: a new connection's first answer, from the first call of the connection: the median and the worst of 20;
+- answers: requests of 100 octets a second, one after another on one connection;
+- 64 KiB, 16 MiB: a message and its answer; of the first the median and the worst of 8;
+- flows: 1,000 connections at once (of QUIC streams of one), each with one request, to the last answer.
+
+Where a time is over, it says how many were answered till then. Then what the link's packets do that come once more,
+1.2 seconds later, to a server that runs on and to one that was killed and started again in between: how often the
+request is served.
+
+Peers are PEERS below: plain UDP that asks again (what the link can do), TCP, ENet, UDT, QUIC, and two nodes. The
+programs beside this file are built with cc and c++ first. A peer that can't be built here, or a measure that it can't
+do, is `-`. Each measure has its seconds, so all takes at most 25 minutes; `--part 0.2` gives each a fifth of them.
+Ends with 1 where a peer that was named with --peers can't be built, and with 2 where there is no such link here."""
+import argparse
+import dataclasses
+import os
+import pathlib
+import shlex
+import statistics
+import subprocess
+import sys
+import tempfile
+import zlib
+from collections.abc import Callable, Sequence
+
+HERE = pathlib.Path(__file__).resolve().parent
+sys.path.insert(0, str(HERE.parent / "tests"))
+
+from lib import PROGRAM  # noqa: E402
+from wan import ADDRESSES, Bound, Link, impaired_link  # noqa: E402
+
+PORT = "4801"
+NETWORKS = ["0/0", "0/5", "0/15", "20/0", "20/5", "20/15"]
+# until a server is up
+UP = 0.6
+# when a copy comes once more, and when a server is killed, after the client's start
+AGAIN_MS, KILLED_AFTER, LINGER = 1_200, 0.9, 2.5
+# the delay that the nodes' parameters allow for: what the link has, and what this machine adds under load
+ADDED_DELAY = 30
+
+
+@dataclasses.dataclass(frozen=True)
+class Measure:
+    """What is asked: the words of a client, and its seconds."""
+
+    name: str
+    what: str
+    count: int
+    octets: int
+    seconds: float
+
+
+MEASURES = [
+    Measure("first", "first", 20, 100, 6),
+    Measure("answers", "answers", 1, 100, 3),
+    Measure("64 KiB", "message", 8, 65_536, 6),
+    Measure("16 MiB", "message", 1, 1 << 24, 12),
+    Measure("flows", "flows", 1_000, 100, 8),
+]
+
+
+@dataclasses.dataclass(frozen=True)
+class Peer:
+    """A transport: how its program is made, and the words of both its ends."""
+
+    name: str
+    build: list[str]
+    words: Callable[["Room", Link, list[str]], list[str]]
+    # measures that it doesn't have
+    lacks: tuple[str, ...] = ()
+    # whether its server tells what it serves
+    tells: bool = True
+    environment: tuple[str, ...] = ()
+    # what is set in a namespace before it runs
+    before: str = ":"
+
+
+@dataclasses.dataclass(frozen=True)
+class Room:
+    """Where programs are built and files lie, and the program that is measured."""
+
+    folder: pathlib.Path
+    program: str
+
+
+def built(name: str) -> Callable[[Room, Link, list[str]], list[str]]:
+    return lambda room, link, words: [str(room.folder / name), *words]
+
+
+def node(room: Room, link: Link, words: list[str]) -> list[str]:
+    delay = link.delay + ADDED_DELAY + link.again
+    return [sys.executable, str(HERE / "peers" / "node.py"), room.program, str(delay), str(max(40, 2 * link.delay + 10)), *words]
+
+
+def quic(room: Room, link: Link, words: list[str]) -> list[str]:
+    return [sys.executable, str(HERE / "peers" / "quic.py"), *(words[:3] if words[0] == "serve" else words), str(room.folder / "quic")]
+
+
+C, CXX = ["cc", "-O2", "-Wall", "-Wextra", "-Werror"], ["c++", "-std=c++17", "-O2", "-Wall", "-Wextra", "-Werror"]
+FAST = "echo 3 > /proc/sys/net/ipv4/tcp_fastopen"
+PEERS = [
+    Peer("UDP", [*C, "udp.c", "-o", "udp"], built("udp"), lacks=("64 KiB", "16 MiB", "flows")),
+    Peer("TCP", [*C, "tcp.c", "-o", "tcp"], built("tcp")),
+    Peer("TCP-FO", [*C, "tcp.c", "-o", "tcp-fast"], built("tcp-fast"), environment=("FAST_OPEN=1",), before=FAST),
+    Peer("ENet", [*C, "enet.c", "-o", "enet", "-lenet"], built("enet")),
+    Peer("UDT", [*CXX, "udt.cc", "-o", "udt", "-ludt", "-lpthread"], built("udt")),
+    Peer("QUIC", ["sh", "-c", "command -v gtlsclient gtlsserver /usr/sbin/gtlsserver openssl"], quic, lacks=("answers",), tells=False),
+    Peer("deltat", [], node, lacks=("16 MiB",)),
+]
+
+
+def is_built(peer: Peer, room: Room) -> bool:
+    """Builds a peer's program."""
+    words = [str(room.folder / it) if before == "-o" else str(HERE / "peers" / it) if it.endswith((".c", ".cc")) else it
+             for before, it in zip(["", *peer.build], peer.build)]
+    try:
+        ran = subprocess.run(words or ["true"], capture_output=True, text=True, check=False)
+    except FileNotFoundError as error:
+        print(f"{peer.name}: {error}", file=sys.stderr)
+        return False
+    if ran.returncode:
+        print(f"{peer.name} isn't there: {(ran.stderr.strip().splitlines() or ['a program of its is missing'])[0]}", file=sys.stderr)
+    return ran.returncode == 0
+
+
+def asked(peer: Peer, room: Room, link: Link, words: list[str], seconds: float) -> list[tuple[int, float]]:
+    """What a client was told over the link: answers or octets, and the time for them."""
+    told = room.folder / "told"
+    environment = " ".join([*peer.environment, f"AGAIN_MS={max(40, 4 * link.delay)}", *(["MANY_FLOWS=1"] if words[0] == "flows" else [])])
+    serve = peer.words(room, link, ["serve", ADDRESSES[0], PORT, "-"])
+    ask = peer.words(room, link, ["ask", ADDRESSES[0], PORT, *words])
+    shell = lambda text: ["sh", "-c", f"{peer.before}; export {environment}; {text}"]  # noqa: E731
+    commands = [shell(f"exec {shlex.join(serve)}"), shell(f"sleep {UP}; exec {shlex.join(ask)} > {told}")]
+    told.write_text("")
+    # losses of its own for each measure, and the same ones in each run
+    seed = zlib.crc32(f"{peer.name} {link} {words}".encode())
+    impaired_link(commands, link, Bound(seconds + UP + 3), seed, serves=True)
+    lines = [it.split() for it in told.read_text().splitlines() if it.startswith("done ")]
+    return [(int(it[1]), float(it[2])) for it in lines]
+
+
+def milliseconds(seconds: Sequence[float]) -> str:
+    """A median and the worst."""
+    return f"{statistics.median(seconds) * 1000:.1f} ({max(seconds) * 1000:.0f})"
+
+
+def cell(measure: Measure, seconds: float, told: list[tuple[int, float]]) -> str:
+    """What is written of a measure."""
+    times = [it for _, it in told]
+    if measure.what == "answers":
+        return f"{told[0][0] / told[0][1]:.0f}" if told and told[0][0] else "none"
+    if measure.what == "flows":
+        count, took = told[0] if told else (0, seconds)
+        return f"{took:.2f}" if count == measure.count else f"{count} in {seconds:.0f}"
+    if measure.count == 1:
+        return f"{times[0]:.2f}" if times else f"not in {seconds:.0f}"
+    whole = "" if len(told) == measure.count else f", {len(told)} of {measure.count}"
+    return f"{milliseconds(times)}{whole}" if times else f"none in {seconds:.0f}"
+
+
+def row(peer: Peer, room: Room, link: Link, part: float) -> list[str]:
+    """What a peer did over a link."""
+    cells = [peer.name]
+    for measure in MEASURES:
+        if measure.name in peer.lacks:
+            cells.append("-")
+            continue
+        seconds = max(1.0, measure.seconds * part)
+        words = [measure.what, str(measure.count), str(measure.octets), str(seconds)]
+        cells.append(cell(measure, seconds, asked(peer, room, link, words, seconds)))
+    return cells
+
+
+def served(peer: Peer, room: Room, is_killed: bool) -> str:
+    """How often a request was served whose packets all came once more, later."""
+    log, link = room.folder / "served", Link(1, again=AGAIN_MS)
+    log.write_text("")
+    serve = shlex.join(peer.words(room, link, ["serve", ADDRESSES[0], PORT, str(log)]))
+    # a client that may need an answer before it can send with its opening packet asks twice
+    ask = shlex.join(peer.words(room, link, ["ask", ADDRESSES[0], PORT, "first", "2" if peer.environment else "1", "100", "0.8"]))
+    # a session of its own, so that all of it is killed
+    both = f"setsid {serve} & first=$!; sleep {UP + KILLED_AFTER}; kill -9 -$first; AGAIN=1 exec {serve}"
+    shell = lambda text: ["sh", "-c", " ".join(f"export {it};" for it in peer.environment) + f" {peer.before}; {text}"]  # noqa: E731
+    commands = [shell(both if is_killed else f"exec {serve}"), shell(f"sleep {UP}; {ask} > /dev/null; sleep {LINGER}")]
+    impaired_link(commands, link, Bound(20), serves=True)
+    numbers = log.read_text().split()
+    return str(max((numbers.count(it) for it in set(numbers)), default=0))
+
+
+def table(head: list[str], rows: list[list[str]]) -> None:
+    widths = [max(len(it[at]) for it in [head, *rows]) for at in range(len(head))]
+    for cells in [head, *rows]:
+        print("  ".join(f"{it:{width}}" for it, width in zip(cells, widths)).rstrip(), flush=True)
+
+
+def measured_repeats(peers: list[Peer], room: Room) -> None:
+    print("\na request is served so often, where all packets of its exchange come once more 1.2 s later")
+    rows = [[it.name, served(it, room, False), served(it, room, True)] for it in peers if it.tells]
+    table(["peer", "the server runs on", "it was killed and started again"], rows)
+
+
+def network_of(word: str) -> Link:
+    delay, _, loss = word.partition("/")
+    try:
+        link = Link(float(delay), float(loss) / 100)
+    except ValueError:
+        link = Link(-1)
+    if link.delay < 0 or not 0 <= link.loss < 1:
+        raise argparse.ArgumentTypeError(f"{word} isn't DELAY/LOSS, milliseconds and packets of a hundred")
+    return link
+
+
+def main() -> int:
+    reads = argparse.ArgumentParser(description=__doc__, formatter_class=argparse.RawDescriptionHelpFormatter)
+    reads.add_argument("program", nargs="?", default=str(PROGRAM))
+    reads.add_argument("--peers", nargs="+", choices=[it.name for it in PEERS], metavar="NAME", help=", ".join(it.name for it in PEERS))
+    reads.add_argument("--networks", nargs="+", type=network_of, default=[network_of(it) for it in NETWORKS], metavar="DELAY/LOSS")
+    reads.add_argument("--part", type=float, default=1.0, metavar="P", help="the part of its seconds that each measure gets")
+    given = reads.parse_args()
+    if os.geteuid() != 0 or not os.path.exists("/dev/net/tun"):
+        print("peers: the link needs root and /dev/net/tun", file=sys.stderr)
+        return 2
+    if not os.access(given.program, os.X_OK):
+        reads.error(f"there is no program {given.program}: ./build makes it")
+    with tempfile.TemporaryDirectory(prefix="deltat-peers-") as folder:
+        room = Room(pathlib.Path(folder), os.path.abspath(given.program))
+        wanted = [it for it in PEERS if it.name in (given.peers or [it.name])]
+        peers = [it for it in wanted if is_built(it, room)]
+        for link in given.networks:
+            print(f"\n{link.delay:g} ms each way, {link.loss * 100:g} of 100 packets lost each way")
+            table(["peer", "first, ms", "answers/s", "64 KiB, ms", "16 MiB, s", "1,000 flows, s"], [row(it, room, link, given.part) for it in peers])
+        measured_repeats(peers, room)
+    return 1 if given.peers and len(peers) < len(wanted) else 0
+
+
+if __name__ == "__main__":
+    sys.exit(main())
