@@ -27,6 +27,7 @@ pub mod Sending
 pub mod Linking
 pub mod Wakes
 pub mod Meets
+pub mod Numbered
 pub mod Lifting
 pub mod Reported
 pub mod Adding

@@ -1,5 +1,6 @@
 pub mod Lift
 pub mod Follow
 pub mod Lives
+pub mod Meeting
 pub mod Schedule
 pub mod Visits

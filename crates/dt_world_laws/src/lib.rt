@@ -2,6 +2,7 @@
 //! definitions that they speak of stand in dt_world_model.
 #![tactic(auto)]
 
+mod meeting;
 mod reports;
 mod runs;
 mod schedule;
@@ -28,6 +29,7 @@ ghost use Rattle.dt_world_model.specs.Setup.{Setup, new_world};
 ghost use Rattle.dt_world_model.specs.WorldStep.{Arrives, Stepped, WorldEvent, copy_at, first_refusal, link_for, noted_at, occasion, refusals, world_step};
 ghost use Rattle.dt_world_model.specs.WorldFacts.{CanHappen, IsPossible, SafeLedgers, WorldFacts};
 
+pub use meeting::numbers_are_in_the_order_of_places;
 pub use reports::{
     ledgers_follow_the_small_steps, report_changes_one_flow, tag_is_place_and_birth,
 };
