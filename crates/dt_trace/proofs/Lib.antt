@@ -1,4 +1,5 @@
 pub mod Folding
 pub mod LineLaws
+pub mod OnlyLaws
 pub mod TraceLaws
 pub mod Wiring

@@ -3,3 +3,4 @@ pub mod Lines
 pub mod Traces
 pub mod Standing
 pub mod Written
+pub mod Spelling

@@ -8,14 +8,13 @@ use std::process::Abort;
 use std::test::Fail;
 
 /// The trace is read.
-fn read(rt: &impl Abort, alloc: Global, text: &str) -> Result<Trace, TraceFault> {
-    assert!(rt; text.len() < 16_777_216);
+fn read(alloc: Global, text: &str) -> Result<Trace, TraceFault> {
     read_trace(alloc, text.as_bytes())
 }
 
 /// This line of the trace is refused for this fault.
 fn refuses(rt: &impl Abort, alloc: Global, text: &str, line: u64, fault: LineFault) {
-    match read(rt, alloc, text) {
+    match read(alloc, text) {
         Err(found) => assert_eq!(rt; found, TraceFault::Line { line, fault }, "{text}"),
         Ok(_) => assert!(rt; false, "{text}"),
     }
@@ -45,7 +44,7 @@ fn lines_are_written(rt: HostRuntime) -> Result<(), Fail> {
 fn lines_are_read(rt: HostRuntime) -> Result<(), Fail> {
     let alloc = rt.alloc();
     let text = "@ 1000\n! 2\n< 1 0aFF\n@ 1040\n< -\n! 7\n< 255\n< x\n@ 5";
-    let trace = read(&rt, alloc, text)?;
+    let trace = read(alloc, text)?;
     let mut clock = trace.clock(alloc)?;
     assert_eq!(rt; clock.now(), 1000);
     assert_eq!(rt; clock.now(), 1040);
@@ -72,7 +71,7 @@ fn lines_are_read(rt: HostRuntime) -> Result<(), Fail> {
 
 #[test]
 fn an_empty_trace_reads_zero(rt: HostRuntime) -> Result<(), Fail> {
-    let trace = read(&rt, rt.alloc(), "! 0\n")?;
+    let trace = read(rt.alloc(), "! 0\n")?;
     assert_eq!(rt; trace.clock(rt.alloc())?.now(), 0);
     let local = Address {
         ip: [127, 0, 0, 1],

@@ -1,5 +1,5 @@
 //! A trace, read line by line.
-ghost use Rattle.std.specs.Prelude.{◌≡◌, ◌≤◌, ◌+◌, ◌∷◌, ◌++◌, [], length, Some, OnOk, IfOk, IsTrue};
+ghost use Rattle.std.specs.Prelude.{◌≡◌, ◌+◌, ◌∷◌, ◌++◌, [], length, Some, OnOk, IfOk, IsTrue};
 ghost use Rattle.std.specs.Option.{option_map};
 ghost use Rattle.dt_text.specs.Hexadecimal.{are_pairs, octets_of_hex};
 ghost use Rattle.dt_trace.specs.Lines.{HasPairs, input_of, input_seen};
@@ -152,7 +152,7 @@ impl Trace {
     }
 }
 
-/// Reads the lines of a trace of at most 16,777,216 octets. What follows the last line feed is a line
+/// Reads the lines of a trace. What follows the last line feed is a line
 /// too, unless it is empty; no line is blank.
 ///
 /// - `Line`: the first line that is refused, by its number, and why: `Word` where its first word is
@@ -163,7 +163,6 @@ impl Trace {
 ///
 /// The cost is the input.
 pub fn read_trace(alloc: Global, bytes: &[u8]) -> Result<Trace, TraceFault>
-    requires { length bytes.now ≤ 16777216 }
     ensures { Reads (λ trace. trace) result (trace_of bytes.now) }
 {
     let mut trace = Trace::new(alloc);
