@@ -1,8 +1,8 @@
 #!/usr/bin/env python3
 """What `replay` of a large schedule takes, beside a plain Rust program that writes the same log
 (`bench/plain_replay.rs`, which `rustc` builds): of `make 50000`, three runs of each, in seconds, seconds of processor
-and greatest memory. `bench/large.py [PROGRAM [ROUNDS]]`. Ends with 1 where a run doesn't end with 0, or where the two
-logs differ."""
+and greatest memory. `bench/large.py [PROGRAM [ROUNDS [BEFORE]]]`, where BEFORE is an older program that is measured
+too. Ends with 1 where a run doesn't end with 0, or where the logs differ."""
 import os
 import pathlib
 import subprocess
@@ -47,10 +47,12 @@ def main() -> int:
         ours = measure("replay", [program(), "replay"], schedule, logs[0])
         theirs = measure("plain", [str(plain)], schedule, logs[1])
         same = logs[0].read_bytes() == logs[1].read_bytes()
-    if ours is None or theirs is None or not same:
-        print("the two logs differ" if not same else "a run failed")
+        older = measure("before", [sys.argv[3], "replay"], schedule, logs[1]) if len(sys.argv) > 3 else ours
+        same = same and logs[0].read_bytes() == logs[1].read_bytes()
+    if ours is None or theirs is None or older is None or not same:
+        print("the logs differ" if not same else "a run failed")
         return 1
-    print(f"factor {ours / theirs:.2f}, of the least of each")
+    print(f"factor {ours / theirs:.2f}, of the least of each" + (f"; of the time before {ours / older:.2f}" if len(sys.argv) > 3 else ""))
     return 0
 
 

@@ -1,8 +1,8 @@
 //! The lines of the log.
-ghost use Rattle.std.specs.Prelude.{◌≡◌, map};
+ghost use Rattle.std.specs.Prelude.{◌≡◌, [], ◌∷◌, map, codes, decimal};
 ghost use Rattle.dt_edges.specs.Sinks.{Puts};
 ghost use Rattle.dt_reports.specs.Entries.{entry_of};
-ghost use Rattle.dt_log.specs.Words.{row_text, sent_letters, read_letters, record_text, run_text};
+ghost use Rattle.dt_log.specs.Words.{row_text, flow_text, hex_text, sent_letters, read_letters, record_text, run_text};
 ghost use Rattle.dt_log.specs.LogLines.{at_node, totals_words};
 ghost use Rattle.dt_log.specs.Logs.{entry_text};
 ghost use Rattle.dt_log.specs.Wording.{word_text};
@@ -100,16 +100,176 @@ fn put_totals<K: Sink>(flow: dt_units::Flow, totals: Totals, out: &mut K) -> Res
     )
 }
 
-/// A match on a report, with one row a report. The rows that a node tells give the words behind the
-/// moment and the node, and the other rows put a line of another form.
+/// Puts the line of a word and a number that a node tells.
+fn put_number_told<K: Sink>(
+    line: &LogLine<'_>,
+    name: &'static str,
+    n: u64,
+    out: &mut K,
+) -> Result<(), Failed>
+    ensures { Puts K.sight (row_text (at_node line.now.moment line.now.node (name.now ∷ decimal n ∷ []))) result out.old out.new }
+{
+    put_told(line, &[Text(name), Long(n)], out)
+}
+
+/// Puts the line of a word and a flow that a node tells.
+fn put_flow_told<K: Sink>(
+    line: &LogLine<'_>,
+    name: &'static str,
+    flow: dt_units::Flow,
+    out: &mut K,
+) -> Result<(), Failed>
+    ensures { Puts K.sight (row_text (at_node line.now.moment line.now.node (name.now ∷ flow_text flow ∷ []))) result out.old out.new }
+{
+    put_told(line, &[Text(name), Flow(flow)], out)
+}
+
+/// The same, and a last word.
+fn put_flow_and_word<K: Sink>(
+    line: &LogLine<'_>,
+    name: &'static str,
+    flow: dt_units::Flow,
+    last: &'static str,
+    out: &mut K,
+) -> Result<(), Failed>
+    ensures { Puts K.sight (row_text (at_node line.now.moment line.now.node (name.now ∷ flow_text flow ∷ last.now ∷ []))) result out.old out.new }
+{
+    put_told(line, &[Text(name), Flow(flow), Text(last)], out)
+}
+
+/// Puts the line of a word, a flow and a number that a node tells.
+fn put_flow_and_number<K: Sink>(
+    line: &LogLine<'_>,
+    name: &'static str,
+    flow: dt_units::Flow,
+    n: u32,
+    out: &mut K,
+) -> Result<(), Failed>
+    ensures { Puts K.sight (row_text (at_node line.now.moment line.now.node (name.now ∷ flow_text flow ∷ decimal n ∷ []))) result out.old out.new }
+{
+    put_told(line, &[Text(name), Flow(flow), Number(n)], out)
+}
+
+/// Puts the line of a word, a flow and two numbers that a node tells.
+fn put_flow_and_two<K: Sink>(
+    line: &LogLine<'_>,
+    name: &'static str,
+    flow: dt_units::Flow,
+    numbers: (u32, u32),
+    out: &mut K,
+) -> Result<(), Failed>
+    ensures { Puts K.sight (row_text (at_node line.now.moment line.now.node (name.now ∷ flow_text flow ∷ decimal numbers.0 ∷ decimal numbers.1 ∷ []))) result out.old out.new }
+{
+    put_told(
+        line,
+        &[Text(name), Flow(flow), Number(numbers.0), Number(numbers.1)],
+        out,
+    )
+}
+
+/// The octets that a line names: those of a flow from a number on.
+#[derive(Clone, Copy)]
+struct Span {
+    flow: dt_units::Flow,
+    number: u32,
+    length: u32,
+}
+
+/// Puts the line of a word, octets and a last word that a node tells.
+fn put_span<K: Sink>(
+    line: &LogLine<'_>,
+    name: &'static str,
+    span: Span,
+    last: &'static str,
+    out: &mut K,
+) -> Result<(), Failed>
+    ensures { Puts K.sight (row_text (at_node line.now.moment line.now.node (name.now ∷ flow_text span.flow ∷ decimal span.number ∷ decimal span.length ∷ last.now ∷ []))) result out.old out.new }
+{
+    put_told(
+        line,
+        &[
+            Text(name),
+            Flow(span.flow),
+            Number(span.number),
+            Number(span.length),
+            Text(last),
+        ],
+        out,
+    )
+}
+
+/// Puts the line of octets that were read.
+fn put_octets<K: Sink>(
+    line: &LogLine<'_>,
+    flow: dt_units::Flow,
+    letters: &'static str,
+    octets: &[u8],
+    out: &mut K,
+) -> Result<(), Failed>
+    ensures { Puts K.sight (row_text (at_node line.now.moment line.now.node (codes "read" ∷ flow_text flow ∷ letters.now ∷ hex_text octets.now ∷ []))) result out.old out.new }
+{
+    put_told(
+        line,
+        &[Text("read"), Flow(flow), Text(letters), Hex(octets)],
+        out,
+    )
+}
+
+/// Puts the line of a packet whose life ended on a link.
+fn put_expired<K: Sink>(
+    line: &LogLine<'_>,
+    way: &'static str,
+    link: u32,
+    out: &mut K,
+) -> Result<(), Failed>
+    ensures { Puts K.sight (row_text (at_node line.now.moment line.now.node (codes "expired" ∷ way.now ∷ decimal link ∷ []))) result out.old out.new }
+{
+    put_told(line, &[Text("expired"), Text(way), Number(link)], out)
+}
+
+/// Puts the line of a packet that was put on a link.
+fn put_put<K: Sink>(line: &LogLine<'_>, link: u32, life: u32, out: &mut K) -> Result<(), Failed>
+    ensures { Puts K.sight (row_text (at_node line.now.moment line.now.node (codes "put" ∷ decimal link ∷ decimal life ∷ []))) result out.old out.new }
+{
+    put_told(line, &[Text("put"), Number(link), Number(life)], out)
+}
+
+/// The same, with the number of the copy.
+fn put_put_as<K: Sink>(
+    line: &LogLine<'_>,
+    link: u32,
+    life: u32,
+    copy: u64,
+    out: &mut K,
+) -> Result<(), Failed>
+    ensures { Puts K.sight (row_text (at_node line.now.moment line.now.node (codes "put" ∷ decimal link ∷ decimal life ∷ codes "as" ∷ decimal copy ∷ []))) result out.old out.new }
+{
+    put_told(
+        line,
+        &[
+            Text("put"),
+            Number(link),
+            Number(life),
+            Text("as"),
+            Long(copy),
+        ],
+        out,
+    )
+}
+
+/// Puts the line of a copy that was lost.
+fn put_lost<K: Sink>(moment: u64, copy: u32, out: &mut K) -> Result<(), Failed>
+    ensures { Puts K.sight (row_text (decimal moment ∷ codes "lost" ∷ decimal copy ∷ [])) result out.old out.new }
+{
+    put_row(Long(moment), &[], &[Text("lost"), Number(copy)], out)
+}
+
+/// A match on a report, with one row a report: what puts its line. Each form of a line has a function
+/// of its own, so that a call has one line's words among its locals.
 macro_rules! lines {
-    ($line:ident, $out:ident;
-    $($told:ident { $($field:ident),* } => [$($word:expr),*],)*
-    ;
-    $($other:ident $({ $($part:ident),* })? => $put:expr,)*) => {
+    ($line:ident; $($report:ident $({ $($part:ident),* })? => $put:expr,)*) => {
         match $line.report {
-            $(Report::$told { $($field),* } => put_told($line, &[$($word),*], $out),)*
-            $(Report::$other $({ $($part),* })? => $put,)*
+            $(Report::$report $({ $($part),* })? => $put,)*
         }
     };
 }
@@ -124,44 +284,43 @@ macro_rules! lines {
 pub fn write_line<K: Sink>(line: &LogLine<'_>, out: &mut K) -> Result<(), Failed>
     ensures { Puts K.sight (entry_text (entry_of line.now)) result out.old out.new }
 {
-    lines! { line, out;
-        Took { flow, count } => [Text("took"), Flow(flow), Number(count)],
+    lines! { line;
+        Took { flow, count } => put_flow_and_number(line, "took", flow, count, out),
         Sent { flow, number, length, drf, begin, end } =>
-            [Text("sent"), Flow(flow), Number(number), Number(length), Text(letters_sent(drf, begin, end))],
+            put_span(line, "sent", Span { flow, number, length }, letters_sent(drf, begin, end), out),
         Resent { flow, number, length, drf, begin, end } =>
-            [Text("resent"), Flow(flow), Number(number), Number(length), Text(letters_sent(drf, begin, end))],
-        Met { flow, number } => [Text("met"), Flow(flow), Number(number)],
-        Uncertain { flow, count } => [Text("uncertain"), Flow(flow), Number(count)],
-        Released { flow, sending } => [Text("released"), Flow(flow), Text(record_name(sending))],
-        Renewed { flow } => [Text("renewed"), Flow(flow)],
-        Acked { flow, number, window } => [Text("acked"), Flow(flow), Number(number), Number(window)],
-        Replied { flow, number, window } => [Text("replied"), Flow(flow), Number(number), Number(window)],
+            put_span(line, "resent", Span { flow, number, length }, letters_sent(drf, begin, end), out),
+        Met { flow, number } => put_flow_and_number(line, "met", flow, number, out),
+        Uncertain { flow, count } => put_flow_and_number(line, "uncertain", flow, count, out),
+        Released { flow, sending } => put_flow_and_word(line, "released", flow, record_name(sending), out),
+        Renewed { flow } => put_flow_told(line, "renewed", flow, out),
+        Acked { flow, number, window } => put_flow_and_two(line, "acked", flow, (number, window), out),
+        Replied { flow, number, window } => put_flow_and_two(line, "replied", flow, (number, window), out),
         Accepted { flow, number, length, run } =>
-            [Text("accepted"), Flow(flow), Number(number), Number(length), Text(run_name(run))],
-        Dropped { flow, number } => [Text("dropped"), Flow(flow), Number(number)],
-        Closing { flow, number } => [Text("closing"), Flow(flow), Number(number)],
-        Settled { flow, count, window } => [Text("settled"), Flow(flow), Number(count), Number(window)],
-        Ignored { flow, number, window } => [Text("ignored"), Flow(flow), Number(number), Number(window)],
-        Quiet { until } => [Text("quiet"), Long(until)],
+            put_span(line, "accepted", Span { flow, number, length }, run_name(run), out),
+        Dropped { flow, number } => put_flow_and_number(line, "dropped", flow, number, out),
+        Closing { flow, number } => put_flow_and_number(line, "closing", flow, number, out),
+        Settled { flow, count, window } => put_flow_and_two(line, "settled", flow, (count, window), out),
+        Ignored { flow, number, window } => put_flow_and_two(line, "ignored", flow, (number, window), out),
+        Quiet { until } => put_number_told(line, "quiet", until, out),
         Read { flow, run, begin, end, octets } =>
-            [Text("read"), Flow(flow), Text(letters_read(run, begin, end)), Hex(octets)],
-        Nothing { flow } => [Text("nothing"), Flow(flow)],
-        Put { link, life } => [Text("put"), Number(link as u32), Number(life)],
-        PutAs { link, life, copy } => [Text("put"), Number(link as u32), Number(life), Text("as"), Long(copy)],
-        ExpiredIn { link } => [Text("expired"), Text("in"), Number(link as u32)],
-        ExpiredOut { link } => [Text("expired"), Text("out"), Number(link as u32)],
-        NoRoute { to } => [Text("noroute"), Number(to)],
-        Full { link } => [Text("full"), Number(link as u32)],
-        Unsent { link } => [Text("unsent"), Number(link as u32)],
-        Shelved { flow, number } => [Text("shelved"), Flow(flow), Number(number)],
-        NoShelf { flow, number } => [Text("noshelf"), Flow(flow), Number(number)],
-        Again { flow, number } => [Text("again"), Flow(flow), Number(number)],
-        Stale { flow, number } => [Text("stale"), Flow(flow), Number(number)],
-        Restarted { life } => [Text("restarted"), Number(life)],
-        ;
+            put_octets(line, flow, letters_read(run, begin, end), octets, out),
+        Nothing { flow } => put_flow_told(line, "nothing", flow, out),
+        Put { link, life } => put_put(line, link as u32, life, out),
+        PutAs { link, life, copy } => put_put_as(line, link as u32, life, copy, out),
+        ExpiredIn { link } => put_expired(line, "in", link as u32, out),
+        ExpiredOut { link } => put_expired(line, "out", link as u32, out),
+        NoRoute { to } => put_number_told(line, "noroute", u64::from(to), out),
+        Full { link } => put_number_told(line, "full", link as u64, out),
+        Unsent { link } => put_number_told(line, "unsent", link as u64, out),
+        Shelved { flow, number } => put_flow_and_number(line, "shelved", flow, number, out),
+        NoShelf { flow, number } => put_flow_and_number(line, "noshelf", flow, number, out),
+        Again { flow, number } => put_flow_and_number(line, "again", flow, number, out),
+        Stale { flow, number } => put_flow_and_number(line, "stale", flow, number, out),
+        Restarted { life } => put_number_told(line, "restarted", u64::from(life), out),
         Refused { flow, fault } => put_refusal(line, flow, fault, out),
         Bad { fault } => put_bad(line, fault, out),
-        Lost { copy } => put_row(Long(line.moment), &[], &[Text("lost"), Number(copy)], out),
+        Lost { copy } => put_lost(line.moment, copy, out),
         FlowTotals { flow, taken, acked, uncertain, unsettled, given, read } =>
             put_totals(flow, Totals { taken, acked, uncertain, unsettled, given, read }, out),
         End => put_row(Text("end"), &[], &[Long(line.moment)], out),
