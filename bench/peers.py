@@ -185,7 +185,7 @@ def served(peer: Peer, room: Room, is_killed: bool) -> str:
     # a client that may need an answer before it can send with its opening packet asks twice
     ask = shlex.join(peer.words(room, link, ["ask", ADDRESSES[0], PORT, "first", "2" if peer.environment else "1", "100", "0.8"]))
     # a session of its own, so that all of it is killed
-    both = f"setsid {serve} & first=$!; sleep {UP + KILLED_AFTER}; kill -9 -$first; AGAIN=1 exec {serve}"
+    both = f"setsid {serve} & first=$!; sleep {UP + KILLED_AFTER}; kill -9 -$first; wait $first; AGAIN=1 exec {serve}"
     shell = lambda text: ["sh", "-c", " ".join(f"export {it};" for it in peer.environment) + f" {peer.before}; {text}"]  # noqa: E731
     commands = [shell(both if is_killed else f"exec {serve}"), shell(f"sleep {UP}; {ask} > /dev/null; sleep {LINGER}")]
     impaired_link(commands, link, Bound(20), serves=True)

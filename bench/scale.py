@@ -48,16 +48,17 @@ class Node:
             self.process: subprocess.Popen[bytes] = start(path, script, out=out, err=subprocess.DEVNULL)
         self.read = 0
         self.settled = 0
+        self.refused = 0
 
-    def settled_octets(self) -> int:
-        """The octets that were acknowledged so far."""
+    def look(self) -> None:
+        """Counts the octets that were acknowledged so far, and the sends that were refused."""
         with open(self.log, "rb") as it:
             it.seek(self.read)
             text = it.read()
         text = text[:text.rfind(b"\n") + 1]
         self.read += len(text)
-        self.settled += sum(int(words[4]) for words in (line.split() for line in text.splitlines() if b" settled " in line))
-        return self.settled
+        self.settled += sum(int(line.split()[4]) for line in text.splitlines() if b" settled " in line)
+        self.refused += text.count(b" refused ")
 
     def memory(self) -> int:
         """The greatest resident memory so far, in octets."""
@@ -76,23 +77,30 @@ class Node:
 
 
 class Row:
-    """A run of two nodes: what each of them cost, and whether all was acknowledged."""
+    """A run of two nodes, of which the first sends messages of one size: what each of them cost, how many sends were
+    refused, and whether all others were acknowledged."""
 
-    def __init__(self, path: str, line: str, commands: tuple[list[str], list[str]], octets: int) -> None:
+    def __init__(self, path: str, line: str, commands: tuple[list[str], list[str]], size: int) -> None:
         ports = own_port(), own_port()
         with tempfile.TemporaryDirectory(prefix="deltat-scale-") as folder:
             nodes = [Node(path, self.script(line, me, ports, commands[me - 1]), f"{folder}/{me}") for me in (2, 1)]
             receiver, sender = nodes
             until = time.monotonic() + MOST_SECONDS
             try:
-                while sender.settled_octets() < octets and time.monotonic() < until and sender.process.poll() is None:
+                while sender.settled < (len(commands[0]) - sender.refused) * size and time.monotonic() < until and sender.process.poll() is None:
                     time.sleep(0.1)
-                self.is_whole = sender.settled == octets
+                    sender.look()
+                self.refused = sender.refused
+                self.is_whole = 0 < sender.settled == (len(commands[0]) - sender.refused) * size
                 self.memory = sender.memory(), receiver.memory()
                 self.seconds = sender.seconds(), receiver.seconds()
             finally:
                 for it in nodes:
                     it.end()
+
+    def note(self) -> str:
+        """What stands behind the figures."""
+        return (f"  {self.refused} sends refused" if self.refused else "") + ("" if self.is_whole else "  not whole")
 
     @staticmethod
     def script(line: str, me: int, ports: tuple[int, int], commands: list[str]) -> str:
@@ -102,7 +110,7 @@ class Row:
 
 def of_flows(path: str, room: int, count: int) -> Row:
     sends = [f"at {FIRST + number * 1000 // A_SECOND} send 1:{number // 50_000}>2:{number % 50_000} be {MESSAGE}" for number in range(count)]
-    return Row(path, params(64, room, room, LONG), (sends, []), count * len(MESSAGE) // 2)
+    return Row(path, params(64, room, room, LONG), (sends, []), len(MESSAGE) // 2)
 
 
 def of_octets(path: str, flows: int, octets: int) -> Row:
@@ -110,7 +118,7 @@ def of_octets(path: str, flows: int, octets: int) -> Row:
     moments = [FIRST + number * PIECE_EACH for number in range(octets // PIECE)]
     sends = [f"at {at} send 1:{flow}>2:{flow} be {octet}" for at in moments for flow in range(flows)]
     reads = [f"at {at} read 1:{flow}>2:{flow} 65536" for at in range(FIRST, moments[-1] + 30_000, PIECE_EACH // 4) for flow in range(flows)]
-    return Row(path, params(1442, 65_536, 65_536, LONG), (sends, reads), flows * octets)
+    return Row(path, params(1442, 65_536, 65_536, LONG), (sends, reads), PIECE)
 
 
 def free_memory() -> int:
@@ -119,8 +127,9 @@ def free_memory() -> int:
         return next(int(line.split()[1]) * 1024 for line in it if line.startswith("MemAvailable:"))
 
 
-def factors(name: str, before: list[float], after: list[float]) -> None:
-    print(f"    {name}: {', '.join(f'{new / old:.2f}' if old else '-' for old, new in zip(before, after))} times as much as in the row before")
+def factors(names: str, before: list[float], after: list[float]) -> None:
+    """What grew, of the sender and the receiver each."""
+    print(f"    {names}: {', '.join(f'{new / old:.2f}' if old else '-' for old, new in zip(before, after))} times as much as in the row before")
 
 
 def measure_flows(path: str) -> bool:
@@ -136,7 +145,7 @@ def measure_flows(path: str) -> bool:
             row = of_flows(path, room, count)
             memory = [(mine - none) / count / 1024 for mine, none in zip(row.memory, empty.memory)]
             seconds = [it / count * 1e6 for it in row.seconds]
-            print(f"{room:4}  {count:7}  {memory[0]:18.2f}  {memory[1]:8.2f}  {seconds[0]:30.0f}  {seconds[1]:8.0f}" + ("" if row.is_whole else "  not whole"), flush=True)
+            print(f"{room:4}  {count:7}  {memory[0]:18.2f}  {memory[1]:8.2f}  {seconds[0]:30.0f}  {seconds[1]:8.0f}{row.note()}", flush=True)
             if before:
                 factors("a flow's memory, a message's time", before, [*memory, *seconds])
             before, is_whole = [*memory, *seconds], is_whole and row.is_whole
@@ -151,7 +160,7 @@ def measure_octets(path: str) -> bool:
         for octets in OCTETS:
             row = of_octets(path, flows, octets)
             memory, seconds = [it / 1e6 for it in row.memory], [it / (flows * octets) * 1e6 for it in row.seconds]
-            print(f"{flows:5}  {octets:13}  {memory[0]:19.1f}  {memory[1]:8.1f}  {seconds[0]:26.3f}  {seconds[1]:8.3f}" + ("" if row.is_whole else "  not whole"), flush=True)
+            print(f"{flows:5}  {octets:13}  {memory[0]:19.1f}  {memory[1]:8.1f}  {seconds[0]:26.3f}  {seconds[1]:8.3f}{row.note()}", flush=True)
             if before:
                 factors("all memory, an octet's time", before, [*memory, *seconds])
             before, is_whole = [*memory, *seconds], is_whole and row.is_whole

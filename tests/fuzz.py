@@ -2,7 +2,9 @@
 """Inputs that are changed by chance, for a number of seconds, outside the gate: schedules, scripts, traces, calls,
 logs, frames, and datagrams that a real node hears, each drawn from those of conformance/ and examples/, and those that were accepted on the way.
 
-`tests/fuzz.py [PROGRAM] [--seconds S] [--seed N] [--kind KIND]..`. An input fails where
+`tests/fuzz.py [PROGRAM] [--seconds S] [--seed N] [--kind KIND]..` tries all kinds in turn, for S seconds in all;
+`--minutes M` tries one kind after another, each for M minutes, and tells of each how much it tried, with the seed. An
+input fails where
 
 - the program crashes, ends with a status that its word doesn't have, says another text with it than the page of
   formats does, takes more than 10 seconds of a processor, or writes something else when it is run again;
@@ -30,7 +32,7 @@ import subprocess
 import sys
 import tempfile
 import time
-from typing import Callable, NamedTuple
+from typing import Callable, NamedTuple, Sequence
 
 import audit
 from grammar import Wrong, log_of_node, log_of_world, told_of_calls, verdict_of
@@ -47,6 +49,8 @@ STATUSES = {"replay": (0, 3), "retrace": (0, 3, 5, 6), "node": (3,), "trace": (3
 MOST_SECONDS, MOST_WALL = 10, 120
 MOST_SEED = 20_000
 MOST_KEPT = 50
+# the inputs of a kind that were accepted and are drawn from: what is above them takes another's place
+MOST_POOL = 2_000
 # octets of a flow above which the plain reading of the rule of an audit, which keeps each, isn't asked
 MOST_TAKEN = 5_000
 # the most lines that are left out of an input since they are refused
@@ -448,6 +452,7 @@ class Kept:
     def __init__(self, folder: pathlib.Path | None) -> None:
         self.folder = folder
         self.count = 0
+        self.most = MOST_KEPT
 
     def keep(self, path: str, name: str, text: bytes, why: str) -> None:
         if self.folder is None:
@@ -480,7 +485,7 @@ def fuzz(path: str, chosen: dict[str, Kind], seconds: float, seed: int, kept: Ke
     chances = {name: random.Random(f"{seed} {name}") for name in chosen}
     program, until = Program(path), time.monotonic() + seconds
     for turn in itertools.count():
-        if time.monotonic() >= until or kept.count >= MOST_KEPT:
+        if time.monotonic() >= until or kept.count >= kept.most:
             return counts
         for name, kind in chosen.items():
             if turn % kind.every and len(chosen) > 1:
@@ -496,13 +501,49 @@ def fuzz(path: str, chosen: dict[str, Kind], seconds: float, seed: int, kept: Ke
             if is_accepted:
                 counts[f"{name} accepted"] += 1
                 if len(text) <= MOST_SEED and name not in ("frames", "datagrams"):
-                    kind.seeds.append(text)
+                    grow(kind.seeds, text, chances[name])
+
+
+def grow(pool: list[bytes], text: bytes, chance: random.Random) -> None:
+    """An input more to draw from; in place of another one where there are many, so that hours don't take more memory."""
+    if len(pool) < MOST_POOL:
+        pool.append(text)
+    else:
+        pool[chance.randrange(len(pool))] = text
+
+
+def told_of(names: Sequence[str], counts: collections.Counter[str], seed: int) -> str:
+    return ", ".join(f"{counts[name]} {name} ({counts[f'{name} accepted']} accepted)" for name in names) + f"; seed {seed}"
+
+
+def fuzz_each(path: str, chosen: dict[str, Kind], seconds: float, seed: int, kept: Kept) -> collections.Counter[str]:
+    """Tries one kind after another, each for so many seconds, and says of each what was tried."""
+    counts: collections.Counter[str] = collections.Counter()
+    for name, kind in chosen.items():
+        failed, begun = kept.count, time.monotonic()
+        # a kind whose inputs fail leaves room for those of the next
+        kept.most = kept.count + MOST_KEPT
+        of_kind = fuzz(path, {name: kind}, seconds, seed, kept)
+        counts += of_kind
+        print(f"{told_of([name], of_kind, seed)}: {kept.count - failed} fail, in {time.monotonic() - begun:.0f} s", flush=True)
+    return counts
+
+
+def positive(word: str) -> float:
+    try:
+        value = float(word)
+    except ValueError:
+        value = 0.0
+    if not 0 < value <= 100_000:
+        raise argparse.ArgumentTypeError(f"{word} isn't a number above 0, and 100,000 at most")
+    return value
 
 
 def main() -> int:
     reads = argparse.ArgumentParser(description=__doc__, formatter_class=argparse.RawDescriptionHelpFormatter)
     reads.add_argument("program", nargs="?", default=str(PROGRAM), help="the program (%(default)s)")
-    reads.add_argument("--seconds", type=float, default=60, help="for how long (%(default)s)")
+    reads.add_argument("--seconds", type=positive, default=60, help="for how long (%(default)s)")
+    reads.add_argument("--minutes", type=positive, metavar="M", help="one kind after another, each for so long")
     reads.add_argument("--seed", type=int, default=1, help="what the changes are drawn from (%(default)s)")
     all_kinds = kinds()
     reads.add_argument("--kind", action="append", choices=list(all_kinds), help="inputs of this kind alone; may be given again")
@@ -526,9 +567,12 @@ def main() -> int:
         print("\n".join(f"no fault found with what is spoilt: {it}" for it in unseen))
         return 1
     kept = Kept(given.keep)
-    counts = fuzz(path, chosen, given.seconds, given.seed, kept)
+    if given.minutes:
+        counts = fuzz_each(path, chosen, given.minutes * 60, given.seed, kept)
+    else:
+        counts = fuzz(path, chosen, given.seconds, given.seed, kept)
+        print(told_of(list(chosen), counts, given.seed))
     tried = sum(counts[name] for name in chosen)
-    print(", ".join(f"{counts[name]} {name} ({counts[f'{name} accepted']} accepted)" for name in chosen) + f"; seed {given.seed}")
     print(f"{kept.count} of {tried} inputs fail: they are in {kept.folder}" if kept.count else f"{tried} inputs hold")
     return 1 if kept.count or not tried else 0
 
