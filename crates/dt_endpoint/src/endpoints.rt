@@ -61,8 +61,9 @@ impl Model for Endpoint {
 }
 
 impl Endpoint {
-    /// The endpoint of a node that starts for the first time, or again at a moment: then it is silent at
-    /// first.
+    /// The endpoint of a node that starts for the first time, or again at the moment `again`: then it
+    /// takes no octets until `3 mpl + r + a` have passed. It takes the room for what may wait on each out
+    /// link; `NoMemory` where there is none, and it is the only error.
     pub fn open(
         alloc: Global,
         rules: &Rules,
@@ -144,7 +145,8 @@ impl Endpoint {
         Arrived::Done
     }
 
-    /// What is due at `now` is done.
+    /// What is due at `now` is done: frames leave, go again or are given up, records are released. A tick
+    /// before [`Endpoint::wake`] does nothing, and one that comes late does all that has become due.
     pub fn tick(&mut self, now: u64) -> Ticked
         ensures { Ticks result now self.old self.new }
     {
@@ -157,8 +159,9 @@ impl Endpoint {
         }
     }
 
-    /// A datagram came on a link, and waited so many milliseconds until this call. They are taken off its
-    /// life.
+    /// A datagram came on a link, and waited so many milliseconds on this machine until this call. They are
+    /// taken off its life, beside the link's charge: rounded up, no old packet passes for a young one. It
+    /// may be any octets. It is copied once.
     pub fn arrive(&mut self, now: u64, link: u16, datagram: &[u8], waited: u32) -> Arrived
         ensures { Arrives result now link datagram.now waited self.old self.new }
     {
@@ -175,8 +178,9 @@ impl Endpoint {
         }
     }
 
-    /// Octets are sent on a flow from this node. The first begins a message and the last ends one, where
-    /// that is asked for.
+    /// Octets are sent on a flow from this node to another. The first begins a message and the last ends
+    /// one, where that is asked for. All of them are taken or none. What came of them is told by reports:
+    /// `Settled` that they are acknowledged, `Uncertain` that it isn't known whether they came.
     pub fn send(&mut self, now: u64, flow: Flow, octets: &[u8], begin: bool, end: bool) -> Sent
         ensures { Sends result now flow octets.now begin end self.old self.new }
     {
@@ -205,7 +209,9 @@ impl Endpoint {
         }
     }
 
-    /// Unread octets of a flow to this node are read, at most as many as the buffer holds.
+    /// Unread octets of a flow from another node to this one are read, at most as many as the buffer
+    /// holds. They are of one message, and none between them is lost: where octets before them are, or may
+    /// be, the piece has a run mark. Behind them the buffer may have been written to.
     pub fn read(&mut self, now: u64, flow: Flow, buf: &mut [u8]) -> Piece
         ensures { Reads result now flow (length buf.old) buf.new self.old self.new }
     {
@@ -250,8 +256,8 @@ impl Endpoint {
         self.collector.next_report()
     }
 
-    /// The least moment at which something is due, or none where there is no such moment. A spent
-    /// endpoint has none.
+    /// The least moment in milliseconds at which something is due, or none where there is no such moment:
+    /// the moment of the next tick. Any event may change it. A spent endpoint has none.
     pub fn wake(&self) -> Option<u64>
         ensures { result ≡ endpoint_wake self.now }
     {

@@ -61,37 +61,16 @@ fn open(
     Endpoint::open(alloc, &rules(rt)?, NodeId(me), again, &links)
 }
 
-// Each frame that waits at one comes to the other at once. It answers how many did.
-fn carry(rt: &impl Abort, from: &mut Endpoint, to: &mut Endpoint, now: u64) -> usize {
-    let mut count = 0;
-    for _ in 0..64 {
-        if let Some(out) = from.next_frame() {
-            assert_eq!(rt; out.link(), 5);
-            let came = to.arrive(now, 7, out.octets(), 0);
-            assert_eq!(rt; came, Arrived::Done);
-            count += 1;
-        }
-    }
-    count
-}
-
-// What was told, all of it, as kinds.
-fn count_reports(endpoint: &mut Endpoint) -> usize {
-    let mut count = 0;
-    for _ in 0..1000 {
-        if let Some(_) = endpoint.next_report() {
-            count += 1;
-        }
-    }
-    count
-}
-
 // The read opened the window again, so the acknowledgement has left. The receive record stands for
 // r + mpl + a ms.
 fn acknowledges(rt: &impl Abort, one: &mut Endpoint, two: &mut Endpoint) {
     assert_eq!(rt; two.wake(), Some(4212));
     assert_eq!(rt; two.tick(15), Ticked::Done);
-    assert_eq!(rt; carry(rt, two, one, 215), 1);
+    if let Some(out) = two.next_frame() {
+        assert_eq!(rt; out.link(), 5);
+        assert_eq!(rt; one.arrive(215, 7, out.octets(), 0), Arrived::Done);
+    }
+    assert!(rt; two.next_frame().is_none());
     let mut settled = false;
     for _ in 0..20 {
         if let Some(Report::Settled { count: 5, .. }) = one.next_report() {
@@ -99,32 +78,38 @@ fn acknowledges(rt: &impl Abort, one: &mut Endpoint, two: &mut Endpoint) {
         }
     }
     assert!(rt; settled);
-    assert!(rt; count_reports(two) > 3);
 }
 
-#[test]
-fn octets_go_from_one_to_the_other(rt: HostRuntime) -> Result<(), NoMemory> {
-    let mut one = open(&rt, rt.alloc(), 1, 2, None)?;
-    let mut two = open(&rt, rt.alloc(), 2, 1, None)?;
-    assert_eq!(rt; one.wake(), None);
+// Five octets are taken, and one frame waits.
+fn sends_hello(rt: &impl Abort, one: &mut Endpoint) {
     assert_eq!(rt; one.send(10, FLOW, b"hello", true, true), Sent::Done);
-    assert_eq!(rt;
-        one.next_report(),
-        Some(Report::Took {
-            flow: FLOW,
-            count: 5
-        })
-    );
+    let took = Report::Took {
+        flow: FLOW,
+        count: 5,
+    };
+    assert_eq!(rt; one.next_report(), Some(took));
     let waits = one.first_frame().is_some();
     assert!(rt; waits);
-    let Some(out) = one.next_frame() else {
-        assert!(rt; false, "no frame left");
-        return Ok(());
-    };
-    assert_eq!(rt; out.to(), 2);
-    assert!(rt; one.next_frame().is_none());
-    // It waited for 3 ms on the machine.
-    assert_eq!(rt; two.arrive(12, 7, out.octets(), 3), Arrived::Done);
+}
+
+// The frame comes to the other, where it waited so many ms on the machine.
+fn hands_over(
+    rt: &impl Abort,
+    one: &mut Endpoint,
+    two: &mut Endpoint,
+    waited: u32,
+    answer: Arrived,
+) {
+    let mut came = false;
+    if let Some(out) = one.next_frame() {
+        assert_eq!(rt; out.to(), 2);
+        assert_eq!(rt; two.arrive(12, 7, out.octets(), waited), answer);
+        came = true;
+    }
+    assert!(rt; came);
+}
+
+fn reads_hello(rt: &impl Abort, two: &mut Endpoint) {
     let mut buf = [0; 16];
     let piece = Piece::Read {
         len: 5,
@@ -135,65 +120,78 @@ fn octets_go_from_one_to_the_other(rt: HostRuntime) -> Result<(), NoMemory> {
     assert_eq!(rt; two.read(12, FLOW, &mut buf), piece);
     assert_eq!(rt; &buf[..5], b"hello".as_slice());
     assert_eq!(rt; two.read(12, FLOW, &mut buf), Piece::Nothing);
+}
+
+#[test]
+fn octets_go_from_one_to_the_other(rt: HostRuntime) -> Result<(), NoMemory> {
+    let mut one = open(&rt, rt.alloc(), 1, 2, None)?;
+    let mut two = open(&rt, rt.alloc(), 2, 1, None)?;
+    sends_hello(&rt, &mut one);
+    hands_over(&rt, &mut one, &mut two, 3, Arrived::Done);
+    reads_hello(&rt, &mut two);
     acknowledges(&rt, &mut one, &mut two);
     Ok(())
 }
 
-#[test]
-fn refused_calls_say_why(rt: HostRuntime) -> Result<(), NoMemory> {
-    let mut one = open(&rt, rt.alloc(), 1, 2, None)?;
-    let back = Flow {
-        from: NodeId(2),
-        from_port: 1,
-        to: NodeId(1),
-        to_port: 1,
-    };
+// From node 2 to node 1.
+const BACK: Flow = Flow {
+    from: NodeId(2),
+    from_port: 1,
+    to: NodeId(1),
+    to_port: 1,
+};
+
+fn refuses_sends(rt: &impl Abort, one: &mut Endpoint) {
     let own = Flow {
         from: NodeId(1),
-        from_port: 1,
-        to: NodeId(1),
-        to_port: 1,
+        ..BACK
     };
-    let mut buf = [0; 4];
-    assert_eq!(rt; one.send(0, back, b"a", true, true), Sent::BadFlow);
+    assert_eq!(rt; one.send(0, BACK, b"a", true, true), Sent::BadFlow);
     assert_eq!(rt; one.send(0, own, b"a", true, true), Sent::BadFlow);
     assert_eq!(rt; one.send(0, FLOW, b"", true, true), Sent::Empty);
-    assert_eq!(rt; one.read(0, FLOW, &mut buf), Piece::BadFlow);
-    assert_eq!(rt; one.read(0, back, &mut []), Piece::NoRoom);
+}
+
+fn refuses_datagrams(rt: &impl Abort, one: &mut Endpoint) {
     assert_eq!(rt; one.arrive(0, 8, b"", 0), Arrived::NoLink);
     let short = Arrived::Bad {
         fault: LayoutFault::Short { len: 3 },
     };
     assert_eq!(rt; one.arrive(0, 7, b"abc", 0), short);
-    Ok(())
 }
 
 #[test]
-fn refused_events_say_why(rt: HostRuntime) -> Result<(), NoMemory> {
+fn refused_calls_say_why(rt: HostRuntime) -> Result<(), NoMemory> {
     let mut one = open(&rt, rt.alloc(), 1, 2, None)?;
-    let back = Flow {
-        from: NodeId(2),
-        from_port: 1,
-        to: NodeId(1),
-        to_port: 1,
-    };
+    let mut buf = [0; 4];
+    refuses_sends(&rt, &mut one);
+    refuses_datagrams(&rt, &mut one);
+    assert_eq!(rt; one.read(0, FLOW, &mut buf), Piece::BadFlow);
+    assert_eq!(rt; one.read(0, BACK, &mut []), Piece::NoRoom);
+    Ok(())
+}
+
+fn fills(rt: &impl Abort, one: &mut Endpoint) {
     assert_eq!(rt; one.send(0, FLOW, &[1; 4096], true, false), Sent::Done);
-    assert_eq!(rt;
-        one.send(0, FLOW, b"a", false, true),
-        Sent::Full { free: 0 }
-    );
-    let Some(out) = one.next_frame() else {
-        assert!(rt; false, "no frame left");
-        return Ok(());
-    };
+    let full = Sent::Full { free: 0 };
+    assert_eq!(rt; one.send(0, FLOW, b"a", false, true), full);
+}
+
+#[test]
+fn full_and_stale_are_told(rt: HostRuntime) -> Result<(), NoMemory> {
+    let mut one = open(&rt, rt.alloc(), 1, 2, None)?;
+    let mut two = open(&rt, rt.alloc(), 2, 1, None)?;
+    fills(&rt, &mut one);
+    hands_over(&rt, &mut one, &mut two, 1_000_000, Arrived::Stale);
+    Ok(())
+}
+
+// A node that starts again is silent for 3 mpl + r + a ms.
+#[test]
+fn silence_is_told(rt: HostRuntime) -> Result<(), NoMemory> {
     let mut two = open(&rt, rt.alloc(), 2, 1, Some(100))?;
-    assert_eq!(rt; two.arrive(0, 7, out.octets(), 1_000_000), Arrived::Stale);
-    // A node that starts again is silent for 3 mpl + r + a ms.
-    assert_eq!(rt;
-        two.send(0, back, b"a", true, true),
-        Sent::Quiet { until: 6300 }
-    );
-    assert_eq!(rt; two.is_spent(), false);
+    let quiet = Sent::Quiet { until: 6300 };
+    assert_eq!(rt; two.send(0, BACK, b"a", true, true), quiet);
+    assert!(rt; !two.is_spent());
     Ok(())
 }
 
@@ -207,29 +205,28 @@ fn moments_never_go_back(rt: HostRuntime) -> Result<(), NoMemory> {
     Ok(())
 }
 
-// After want of memory every call says that the endpoint is spent. With memory the send is taken.
+// After want of memory every call says that the endpoint is spent.
+fn is_spent(rt: &impl Abort, one: &mut Endpoint) {
+    let mut buf = [0; 4];
+    assert!(rt; one.is_spent());
+    assert_eq!(rt; one.send(0, FLOW, b"abc", true, true), Sent::Spent);
+    assert_eq!(rt; one.arrive(0, 7, b"abc", 0), Arrived::Spent);
+    assert_eq!(rt; one.read(0, BACK, &mut buf), Piece::Spent);
+    assert_eq!(rt; one.tick(9), Ticked::Spent);
+    assert_eq!(rt; one.wake(), None);
+}
+
+// With memory the send is taken.
 #[test]
 fn want_of_memory_is_told_once(rt: HostRuntime) -> Result<(), NoMemory> {
     let Ok(mut one) = open(&rt, rt.alloc(), 1, 2, None) else {
         return Ok(());
     };
-    let mut buf = [0; 4];
-    let back = Flow {
-        from: NodeId(2),
-        from_port: 1,
-        to: NodeId(1),
-        to_port: 1,
-    };
     match one.send(0, FLOW, b"abc", true, true) {
         Sent::Done => assert!(rt; !one.is_spent()),
         answer => {
             assert_eq!(rt; answer, Sent::NoMemory);
-            assert!(rt; one.is_spent());
-            assert_eq!(rt; one.send(0, FLOW, b"abc", true, true), Sent::Spent);
-            assert_eq!(rt; one.arrive(0, 7, b"abc", 0), Arrived::Spent);
-            assert_eq!(rt; one.read(0, back, &mut buf), Piece::Spent);
-            assert_eq!(rt; one.tick(9), Ticked::Spent);
-            assert_eq!(rt; one.wake(), None);
+            is_spent(&rt, &mut one);
         }
     }
     Ok(())
