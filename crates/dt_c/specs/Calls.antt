@@ -1,0 +1,92 @@
+-- The calls of the library. Each answers that the handle holds no node and changes nothing, or is the call of its endpoint.
+use Rattle.std.specs.Prelude.{◌≡◌, ℕ, nat_le, Bool, List, [], ◌∷◌, ◌++◌, if◌then◌else◌, drop, length, Option, Some, None, IsNone, IsSome}
+use Rattle.dt_units.specs.Limits.{IsWithinLimits, first_out_of_range, value_of}
+use Rattle.dt_endpoint.specs.declared.answers.Arrived.{Arrived}
+use Rattle.dt_endpoint.specs.declared.answers.Piece.{Piece}
+use Rattle.dt_endpoint.specs.declared.answers.Sent.{Sent}
+use Rattle.dt_endpoint.specs.declared.answers.Ticked.{Ticked}
+use Rattle.dt_endpoint.specs.Acts.{OutFrameValue}
+use Rattle.dt_endpoint.specs.Calls.{Arrives, Reads, Sends, Ticks}
+use Rattle.dt_endpoint.specs.Endpoints.{EndpointValue, endpoint_wake}
+use Rattle.dt_c.specs.declared.rows.CameRow.{CameRow}
+use Rattle.dt_c.specs.declared.rows.FlowRow.{FlowRow}
+use Rattle.dt_c.specs.declared.rows.LinkRow.{LinkRow}
+use Rattle.dt_c.specs.declared.rows.MomentRow.{MomentRow}
+use Rattle.dt_c.specs.declared.rows.Opened.{Opened}
+use Rattle.dt_c.specs.declared.rows.Opened.TheVariants as opens
+use Rattle.dt_c.specs.declared.rows.OpenedRow.{OpenedRow}
+use Rattle.dt_c.specs.declared.rows.OutRow.{OutRow}
+use Rattle.dt_c.specs.declared.rows.ParamsRow.{ParamsRow}
+use Rattle.dt_c.specs.declared.rows.PieceRow.{PieceRow}
+use Rattle.dt_c.specs.declared.rows.RouteRow.{RouteRow}
+use Rattle.dt_c.specs.declared.rows.SentRow.{SentRow}
+use Rattle.dt_c.specs.declared.rows.StartRow.{StartRow}
+use Rattle.dt_c.specs.declared.slots.Slot.{Slot}
+use Rattle.dt_c.specs.Rows.{came_as, came_row, closed, done, flow_of, moment_row, no_frame, no_piece, nothing, opened_row, params_of, piece_row, room, sent_as, sent_row, started, ticked_status}
+
+-- Between two contents of a handle: no node stays none, and a node goes on.
+abbrev pub GoesOn : Option EndpointValue → Option EndpointValue → Type 0 → (EndpointValue → EndpointValue → Type 0) → Type 0
+GoesOn None None without does = without
+GoesOn (Some e) (Some f) without does = does e f
+GoesOn None (Some f) without does = ⊥
+GoesOn (Some e) None without does = ⊥
+
+abbrev pub Ticking : (status now : ℕ) → Slot → Slot → Type 0
+Ticking status now s t = GoesOn s.endpoint t.endpoint (status ≡ closed) (λ e f. (answer : Ticked) × (status ≡ ticked_status answer) × Ticks answer now e f)
+
+abbrev pub Arriving : CameRow → (now link : ℕ) → List ℕ → (waited : ℕ) → Slot → Slot → Type 0
+Arriving row now link octets waited s t = GoesOn s.endpoint t.endpoint (row ≡ came_as closed) (λ e f. (answer : Arrived) × (row ≡ came_row answer) × Arrives answer now link octets waited e f)
+
+abbrev pub Sending : SentRow → (now : ℕ) → FlowRow → List ℕ → (begin end : Bool) → Slot → Slot → Type 0
+Sending row now flow octets begin end s t = GoesOn s.endpoint t.endpoint (row ≡ sent_as closed) (λ e f. (answer : Sent) × (row ≡ sent_row answer) × Sends answer now (flow_of flow) octets begin end e f)
+
+-- a buffer of so many octets, and what it has afterwards
+abbrev pub Reading : PieceRow → (now : ℕ) → FlowRow → (size : ℕ) → List ℕ → Slot → Slot → Type 0
+Reading row now flow size buf s t = GoesOn s.endpoint t.endpoint (row ≡ no_piece closed) (λ e f. (answer : Piece) × (row ≡ piece_row answer) × Reads answer now (flow_of flow) size buf e f)
+
+-- THE NEXT FRAME: the first of those that wait, where the buffer has room for it. Else it goes on waiting, and its size is told.
+abbrev pub frame_row : OutFrameValue → (status : ℕ) → OutRow
+frame_row frame status = record { len = length frame.octets; to = frame.to; link = frame.link; status = status }
+
+abbrev pub fits : OutFrameValue → List ℕ → Bool
+fits frame buf = nat_le (length frame.octets) (length buf)
+
+-- the octets at the head of a buffer
+abbrev pub over : List ℕ → List ℕ → List ℕ
+over octets buf = octets ++ drop (length octets) buf
+
+abbrev pub out_row : List OutFrameValue → List ℕ → OutRow
+out_row [] buf = no_frame nothing
+out_row (frame ∷ frames) buf = frame_row frame (if fits frame buf then done else room)
+
+abbrev pub buf_after : List OutFrameValue → List ℕ → List ℕ
+buf_after [] buf = buf
+buf_after (frame ∷ frames) buf = if fits frame buf then over frame.octets buf else buf
+
+abbrev pub frames_after : List OutFrameValue → List ℕ → List OutFrameValue
+frames_after [] buf = []
+frames_after (frame ∷ frames) buf = if fits frame buf then frames else frame ∷ frames
+
+abbrev pub HandsOut : OutRow → (before after : List ℕ) → EndpointValue → EndpointValue → Type 0
+HandsOut row before after e f = (row ≡ out_row e.frames before) × (after ≡ buf_after e.frames before) × (f ≡ record e { frames = frames_after e.frames before })
+
+abbrev pub NextFrame : OutRow → (before after : List ℕ) → Slot → Slot → Type 0
+NextFrame row before after s t = GoesOn s.endpoint t.endpoint ((row ≡ no_frame closed) × (after ≡ before)) (λ e f. HandsOut row before after e f)
+
+-- THE WAKE. A handle with no node has none.
+abbrev pub slot_wake : Option EndpointValue → Option ℕ
+slot_wake None = None
+slot_wake (Some e) = endpoint_wake e
+
+abbrev pub Waking : MomentRow → Slot → Slot → Type 0
+Waking row s t = (row ≡ moment_row (slot_wake s.endpoint)) × (t ≡ s)
+
+-- AN OPENING
+abbrev pub Opens : Opened → ParamsRow → StartRow → List LinkRow → List RouteRow → Slot → Slot → Type 0
+Opens opens.Done p start links routes s t = IsNone s.endpoint × IsWithinLimits (params_of p) × (t.endpoint ≡ Some (started (params_of p) start links routes))
+Opens opens.NoMemory p start links routes s t = IsNone s.endpoint × IsWithinLimits (params_of p) × (t ≡ s)
+Opens opens.Held p start links routes s t = IsSome s.endpoint × (t ≡ s)
+Opens (opens.Refused fault) p start links routes s t = IsNone s.endpoint × (first_out_of_range (params_of p) ≡ Some fault.field) × (fault.value ≡ value_of (params_of p) fault.field) × (t ≡ s)
+
+abbrev pub Opening : OpenedRow → ParamsRow → StartRow → List LinkRow → List RouteRow → Slot → Slot → Type 0
+Opening row p start links routes s t = (answer : Opened) × (row ≡ opened_row answer) × Opens answer p start links routes s t

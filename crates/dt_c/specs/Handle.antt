@@ -1,0 +1,6 @@
+-- What a handle holds.
+use Rattle.std.specs.Prelude.{None}
+use Rattle.dt_c.specs.declared.slots.Slot.{Slot}
+
+abbrev pub empty : Slot
+empty = record { endpoint = None }

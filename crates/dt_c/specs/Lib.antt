@@ -1,0 +1,3 @@
+pub mod Handle
+pub mod Rows
+pub mod Calls

@@ -1,0 +1,215 @@
+//! The calls, on what a handle holds.
+ghost use Rattle.std.specs.Prelude.{◌≡◌, ◌↔◌, IfOk, IsSome, length, map};
+ghost use Rattle.dt_c.specs.Calls.{Arriving, HandsOut, NextFrame, Opening, Opens, Reading, Sending, Ticking, Waking};
+ghost use Rattle.dt_c.specs.Handle.{empty};
+ghost use Rattle.dt_c.specs.Rows.{in_link, out_link, route, started};
+
+use crate::rows::{
+    CLOSED, CameRow, DONE, FlowRow, LinkRow, MomentRow, NOTHING, Opened, OpenedRow, OutRow,
+    ParamsRow, PieceRow, ROOM, RouteRow, SentRow, StartRow, came_as, came_row, moment_row,
+    no_frame, no_piece, opened_row, piece_row, sent_as, sent_row, ticked_status,
+};
+use crate::slots::Slot;
+use dt_endpoint::{Endpoint, InLink, Links, OutLink, Route};
+use dt_items::NoMemory;
+use dt_units::{NodeId, Rules};
+use std::alloc::Global;
+
+pub fn empty_slot() -> Slot
+    ensures { result ≡ empty }
+{
+    Slot { endpoint: None }
+}
+
+pub fn close_in(slot: &mut Slot)
+    ensures { slot.new ≡ empty }
+{
+    slot.endpoint = None;
+}
+
+pub fn tick_in(slot: &mut Slot, now: u64) -> u8
+    ensures { Ticking result now slot.old slot.new }
+{
+    match &mut slot.endpoint {
+        Some(endpoint) => ticked_status(endpoint.tick(now)),
+        None => CLOSED,
+    }
+}
+
+pub fn arrive_in(slot: &mut Slot, now: u64, link: u16, datagram: &[u8], waited: u32) -> CameRow
+    ensures { Arriving result now link datagram.now waited slot.old slot.new }
+{
+    match &mut slot.endpoint {
+        Some(endpoint) => came_row(endpoint.arrive(now, link, datagram, waited)),
+        None => came_as(CLOSED),
+    }
+}
+
+pub fn send_in(
+    slot: &mut Slot,
+    now: u64,
+    flow: &FlowRow,
+    octets: &[u8],
+    begin: bool,
+    end: bool,
+) -> SentRow
+    ensures { Sending result now flow.now octets.now begin end slot.old slot.new }
+{
+    match &mut slot.endpoint {
+        Some(endpoint) => sent_row(endpoint.send(now, flow.flow(), octets, begin, end)),
+        None => sent_as(CLOSED),
+    }
+}
+
+pub fn read_in(slot: &mut Slot, now: u64, flow: &FlowRow, buf: &mut [u8]) -> PieceRow
+    ensures { Reading result now flow.now (length buf.old) buf.new slot.old slot.new }
+{
+    match &mut slot.endpoint {
+        Some(endpoint) => piece_row(endpoint.read(now, flow.flow(), buf)),
+        None => no_piece(CLOSED),
+    }
+}
+
+/// The first frame that waits goes out, where the buffer has room for it.
+fn hand_out(endpoint: &mut Endpoint, buf: &mut [u8]) -> OutRow
+    ensures { HandsOut result buf.old buf.new endpoint.old endpoint.new }
+{
+    let Some(frame) = endpoint.first_frame() else {
+        return no_frame(NOTHING);
+    };
+    let octets = frame.octets();
+    let mut row = OutRow {
+        len: octets.len(),
+        to: frame.to(),
+        link: frame.link(),
+        status: ROOM,
+    };
+    if row.len <= buf.len() {
+        buf[..row.len].copy_from_slice(octets);
+        row.status = DONE;
+        let _ = endpoint.next_frame();
+    }
+    row
+}
+
+pub fn next_frame_in(slot: &mut Slot, buf: &mut [u8]) -> OutRow
+    ensures { NextFrame result buf.old buf.new slot.old slot.new }
+{
+    match &mut slot.endpoint {
+        Some(endpoint) => hand_out(endpoint, buf),
+        None => no_frame(CLOSED),
+    }
+}
+
+pub fn wake_in(slot: &mut Slot) -> MomentRow
+    ensures { Waking result slot.old slot.new }
+{
+    match &slot.endpoint {
+        Some(endpoint) => moment_row(endpoint.wake()),
+        None => moment_row(None),
+    }
+}
+
+/// The links on which packets leave.
+fn outs_of(alloc: Global, links: &[LinkRow]) -> Result<Vec<OutLink>, NoMemory>
+    ensures { IfOk result (λ v. v.items ≡ map out_link links.now) }
+{
+    Ok(
+        links
+            .iter()
+            .map(|row| OutLink {
+                link: row.link,
+                pace: row.pace,
+            })
+            .collect(alloc)?,
+    )
+}
+
+/// The links on which packets come.
+fn ins_of(alloc: Global, links: &[LinkRow]) -> Result<Vec<InLink>, NoMemory>
+    ensures { IfOk result (λ v. v.items ≡ map in_link links.now) }
+{
+    Ok(
+        links
+            .iter()
+            .map(|row| InLink {
+                link: row.link,
+                charge: row.charge,
+            })
+            .collect(alloc)?,
+    )
+}
+
+fn routes_of(alloc: Global, routes: &[RouteRow]) -> Result<Vec<Route>, NoMemory>
+    ensures { IfOk result (λ v. v.items ≡ map route routes.now) }
+{
+    Ok(
+        routes
+            .iter()
+            .map(|row| Route {
+                to: row.to,
+                link: row.link,
+            })
+            .collect(alloc)?,
+    )
+}
+
+fn new_endpoint(
+    alloc: Global,
+    rules: &Rules,
+    start: &StartRow,
+    links: &[LinkRow],
+    routes: &[RouteRow],
+) -> Result<Endpoint, NoMemory>
+    ensures { IfOk result (λ e. e ≡ started rules.now start.now links.now routes.now) }
+{
+    let again = if start.again { Some(start.at) } else { None };
+    let outs = outs_of(alloc, links)?;
+    let ins = ins_of(alloc, links)?;
+    let routes = routes_of(alloc, routes)?;
+    let links = Links {
+        outs: &outs,
+        ins: &ins,
+        routes: &routes,
+    };
+    Endpoint::open(alloc, rules, NodeId(start.me), again, &links)
+}
+
+fn opens(
+    slot: &mut Slot,
+    alloc: Global,
+    params: &ParamsRow,
+    start: &StartRow,
+    links: &[LinkRow],
+    routes: &[RouteRow],
+) -> Opened
+    ensures { Opens result params.now start.now links.now routes.now slot.old slot.new }
+{
+    if slot.endpoint.is_some() {
+        return Opened::Held;
+    }
+    let rules = match params.params().check() {
+        Ok(rules) => rules,
+        Err(fault) => return Opened::Refused { fault },
+    };
+    match new_endpoint(alloc, &rules, start, links, routes) {
+        Ok(endpoint) => {
+            slot.endpoint = Some(endpoint);
+            Opened::Done
+        }
+        Err(NoMemory) => Opened::NoMemory,
+    }
+}
+
+pub fn open_in(
+    slot: &mut Slot,
+    alloc: Global,
+    params: &ParamsRow,
+    start: &StartRow,
+    links: &[LinkRow],
+    routes: &[RouteRow],
+) -> OpenedRow
+    ensures { Opening result params.now start.now links.now routes.now slot.old slot.new }
+{
+    opened_row(opens(slot, alloc, params, start, links, routes))
+}

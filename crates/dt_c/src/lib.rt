@@ -1,0 +1,179 @@
+//! The node as a library for C. The caller gives the memory of a handle, and each call is handed a
+//! pointer to it.
+#![tactic(auto)]
+
+mod calls;
+mod rows;
+mod slots;
+
+ghost use Rattle.std.specs.Prelude.{◌≡◌, length};
+ghost use Rattle.std.specs.Borrow.{sem};
+ghost use Rattle.std.specs.Ptr.{points_to, uninit_at};
+ghost use Rattle.dt_c.specs.Calls.{Arriving, NextFrame, Opening, Reading, Sending, Ticking, Waking};
+ghost use Rattle.dt_c.specs.Handle.{empty};
+ghost use Rattle.dt_c.specs.contracts.slots.Slot.{the_row};
+ghost use Rattle.dt_c.specs.declared.slots.Slot.{Slot};
+
+use calls::{
+    arrive_in, close_in, empty_slot, next_frame_in, open_in, read_in, send_in, tick_in, wake_in,
+};
+pub use rows::{
+    CameRow, FlowRow, LinkRow, MomentRow, OpenedRow, OutRow, ParamsRow, PieceRow, RouteRow,
+    SentRow, StartRow,
+};
+pub use slots::{Handle, Slot};
+use std::alloc::Global;
+
+/// The version of this interface.
+#[unsafe(no_mangle)]
+pub extern "C" fn dt_abi() -> u32
+    ensures { result ≡ 1 }
+{
+    1
+}
+
+/// How many octets a handle takes.
+#[unsafe(no_mangle)]
+pub extern "C" fn dt_size() -> usize {
+    std::mem::size_of::<Slot>()
+}
+
+/// To how many octets a handle is aligned.
+#[unsafe(no_mangle)]
+pub extern "C" fn dt_align() -> usize {
+    std::mem::align_of::<Slot>()
+}
+
+/// Makes a handle with no node of fresh memory.
+#[unsafe(no_mangle)]
+pub unsafe extern "C" fn dt_init(node: *mut Handle)
+    requires* { sem 𝓛 (uninit_at the_row node) }
+    ensures* { sem 𝓛 (points_to the_row node empty) }
+{
+    unsafe { (node as *mut Slot).write(empty_slot()) }
+}
+
+/// Frees what the node holds. The handle holds no node.
+#[unsafe(no_mangle)]
+pub unsafe extern "C" fn dt_close(node: *mut Handle)
+    ghost g: { Slot }
+    requires* { sem 𝓛 (points_to the_row node g) }
+    ensures* { sem 𝓛 (points_to the_row node empty) }
+{
+    close_in(unsafe { &mut *(node as *mut Slot) })
+}
+
+/// What is due at `now` is done.
+#[unsafe(no_mangle)]
+pub unsafe extern "C" fn dt_tick(node: *mut Handle, now: u64) -> u8
+    ghost g: { Slot }
+    requires* { sem 𝓛 (points_to the_row node g) }
+    ensures* { ∃ₛ (λ h. sem 𝓛 (points_to the_row node h) ∗ ⌜ Ticking result now g h ⌝) }
+{
+    tick_in(unsafe { &mut *(node as *mut Slot) }, now)
+}
+
+/// A datagram came on a link, and waited so many milliseconds until this call.
+#[unsafe(no_mangle)]
+pub unsafe extern "C" fn dt_arrive(
+    node: *mut Handle,
+    now: u64,
+    link: u16,
+    datagram: &[u8],
+    waited: u32,
+) -> CameRow
+    ghost g: { Slot }
+    requires* { sem 𝓛 (points_to the_row node g) }
+    ensures* { ∃ₛ (λ h. sem 𝓛 (points_to the_row node h) ∗ ⌜ Arriving result now link datagram.now waited g h ⌝) }
+{
+    arrive_in(
+        unsafe { &mut *(node as *mut Slot) },
+        now,
+        link,
+        datagram,
+        waited,
+    )
+}
+
+/// Octets are sent on a flow from this node.
+#[unsafe(no_mangle)]
+pub unsafe extern "C" fn dt_send(
+    node: *mut Handle,
+    now: u64,
+    flow: &FlowRow,
+    octets: &[u8],
+    begin: bool,
+    end: bool,
+) -> SentRow
+    ghost g: { Slot }
+    requires* { sem 𝓛 (points_to the_row node g) }
+    ensures* { ∃ₛ (λ h. sem 𝓛 (points_to the_row node h) ∗ ⌜ Sending result now flow.now octets.now begin end g h ⌝) }
+{
+    send_in(
+        unsafe { &mut *(node as *mut Slot) },
+        now,
+        flow,
+        octets,
+        begin,
+        end,
+    )
+}
+
+/// Unread octets of a flow to this node are read, at most as many as the buffer holds.
+#[unsafe(no_mangle)]
+pub unsafe extern "C" fn dt_read(
+    node: *mut Handle,
+    now: u64,
+    flow: &FlowRow,
+    buf: &mut [u8],
+) -> PieceRow
+    ghost g: { Slot }
+    requires* { sem 𝓛 (points_to the_row node g) }
+    ensures* { ∃ₛ (λ h. sem 𝓛 (points_to the_row node h) ∗ ⌜ Reading result now flow.now (length buf.old) buf.new g h ⌝) }
+{
+    read_in(unsafe { &mut *(node as *mut Slot) }, now, flow, buf)
+}
+
+/// The first frame that waits, where the buffer has room for it.
+#[unsafe(no_mangle)]
+pub unsafe extern "C" fn dt_next_frame(node: *mut Handle, buf: &mut [u8]) -> OutRow
+    ghost g: { Slot }
+    requires* { sem 𝓛 (points_to the_row node g) }
+    ensures* { ∃ₛ (λ h. sem 𝓛 (points_to the_row node h) ∗ ⌜ NextFrame result buf.old buf.new g h ⌝) }
+{
+    next_frame_in(unsafe { &mut *(node as *mut Slot) }, buf)
+}
+
+/// The moment of the next tick that does something, or none.
+#[unsafe(no_mangle)]
+pub unsafe extern "C" fn dt_wake(node: *mut Handle) -> MomentRow
+    ghost g: { Slot }
+    requires* { sem 𝓛 (points_to the_row node g) }
+    ensures* { ∃ₛ (λ h. sem 𝓛 (points_to the_row node h) ∗ ⌜ Waking result g h ⌝) }
+{
+    wake_in(unsafe { &mut *(node as *mut Slot) })
+}
+
+/// A node starts, in a handle that holds none.
+#[unsafe(no_mangle)]
+pub unsafe extern "C" fn dt_open(
+    node: *mut Handle,
+    alloc: Global,
+    params: &ParamsRow,
+    start: &StartRow,
+    links: &[LinkRow],
+    routes: &[RouteRow],
+) -> OpenedRow
+    ghost g: { Slot }
+    requires* { sem 𝓛 (points_to the_row node g) }
+    ensures* { ∃ₛ (λ h. sem 𝓛 (points_to the_row node h) ∗ ⌜ Opening result params.now start.now links.now routes.now g h ⌝) }
+{
+    open_in(
+        unsafe { &mut *(node as *mut Slot) },
+        alloc,
+        params,
+        start,
+        links,
+        routes,
+    )
+}

@@ -1,0 +1,386 @@
+//! Arguments and answers as they lie in C.
+ghost use Rattle.std.specs.Prelude.{◌≡◌};
+ghost use Rattle.dt_c.specs.Rows.{came_as, came_row, capped, faulty, fault_row, field_number, flow_of, moment_row, no_frame, no_piece, opened_row, params_of, piece_row, sent_as, sent_row, ticked_status};
+
+use dt_endpoint::{Arrived, Piece, Sent, Ticked};
+use dt_layout::LayoutFault;
+use dt_units::{Field, Flow, NodeId, ParamFault, Params};
+
+/// The call did what it was asked.
+pub const DONE: u8 = 0;
+/// There was no memory.
+pub const NO_MEMORY: u8 = 1;
+/// The handle holds no node, and nothing changed.
+pub const CLOSED: u8 = 2;
+/// An argument is out of its range, and nothing changed.
+pub const REFUSED: u8 = 3;
+/// The handle holds a node already, and nothing changed.
+pub const HELD: u8 = 4;
+/// There is nothing to hand over.
+pub const NOTHING: u8 = 5;
+/// The buffer is too small, and nothing changed.
+pub const ROOM: u8 = 6;
+/// A send doesn't fit.
+pub const FULL: u8 = 7;
+/// The node is silent.
+pub const QUIET: u8 = 8;
+/// An earlier call found no memory, and nothing changed.
+pub const SPENT: u8 = 9;
+/// The datagram doesn't read, and nothing changed.
+pub const BAD: u8 = 11;
+/// The datagram has no life left, and nothing changed.
+pub const STALE: u8 = 12;
+
+/// The parameters of the protocol, as [`Params`] has them.
+#[repr(C)]
+#[derive(Clone, Copy)]
+pub struct ParamsRow {
+    pub mpl: u32,
+    pub r: u32,
+    pub a: u32,
+    pub rto: u32,
+    pub probe: u32,
+    pub seg: u32,
+    pub cap: u32,
+    pub rcap: u32,
+    pub window: u32,
+    pub run_limit: u32,
+    pub start: u32,
+}
+
+/// A flow.
+#[repr(C)]
+#[derive(Clone, Copy)]
+pub struct FlowRow {
+    pub from: u32,
+    pub to: u32,
+    pub from_port: u16,
+    pub to_port: u16,
+}
+
+/// A link on which packets leave and come.
+#[repr(C)]
+#[derive(Clone, Copy)]
+pub struct LinkRow {
+    /// What a packet that comes pays of its life, in milliseconds.
+    pub charge: u32,
+    /// The least time from one packet that leaves to the next, in milliseconds.
+    pub pace: u32,
+    pub link: u16,
+}
+
+/// Packets to this node leave on this link.
+#[repr(C)]
+#[derive(Clone, Copy)]
+pub struct RouteRow {
+    pub to: u32,
+    pub link: u16,
+}
+
+/// How a node starts.
+#[repr(C)]
+#[derive(Clone, Copy)]
+pub struct StartRow {
+    /// The moment, in milliseconds.
+    pub at: u64,
+    /// The node's number.
+    pub me: u32,
+    /// Whether the number may have been used not long ago: the node is silent at first.
+    pub again: bool,
+}
+
+/// The answer to an opening. Where a parameter is out of its range, its place in [`ParamsRow`],
+/// counted from 0, and its value.
+#[repr(C)]
+#[derive(Clone, Copy)]
+pub struct OpenedRow {
+    pub value: u32,
+    pub status: u8,
+    pub field: u8,
+}
+
+/// The answer to a datagram. Where it doesn't read, the number of the first test that fails and
+/// what was tested.
+#[repr(C)]
+#[derive(Clone, Copy)]
+pub struct CameRow {
+    pub value: u32,
+    pub status: u8,
+    pub fault: u8,
+}
+
+/// The answer to a send.
+#[repr(C)]
+#[derive(Clone, Copy)]
+pub struct SentRow {
+    /// Until when the node is silent.
+    pub until: u64,
+    /// How many octets fit.
+    pub free: u32,
+    pub status: u8,
+}
+
+/// The answer to a read: so many octets stand at the head of the buffer.
+#[repr(C)]
+#[derive(Clone, Copy)]
+pub struct PieceRow {
+    pub len: usize,
+    pub status: u8,
+    pub begin: bool,
+    pub end: bool,
+    pub run: bool,
+}
+
+/// A frame that left: so many octets stand at the head of the buffer, or are wanted.
+#[repr(C)]
+#[derive(Clone, Copy)]
+pub struct OutRow {
+    pub len: usize,
+    pub to: u32,
+    pub link: u16,
+    pub status: u8,
+}
+
+/// A moment, or none.
+#[repr(C)]
+#[derive(Clone, Copy)]
+pub struct MomentRow {
+    pub at: u64,
+    pub some: bool,
+}
+
+/// The answer to an opening.
+#[derive(Clone, Copy, Debug, PartialEq, Eq)]
+pub enum Opened {
+    Done,
+    NoMemory,
+    /// The handle holds a node already.
+    Held,
+    /// The first of the parameters that is out of its range.
+    Refused { fault: ParamFault },
+}
+
+impl ParamsRow {
+    pub fn params(&self) -> Params
+        ensures { result ≡ params_of self.now }
+    {
+        Params {
+            mpl: self.mpl,
+            r: self.r,
+            a: self.a,
+            rto: self.rto,
+            probe: self.probe,
+            seg: self.seg,
+            cap: self.cap,
+            rcap: self.rcap,
+            window: self.window,
+            run_limit: self.run_limit,
+            start: self.start,
+        }
+    }
+}
+
+impl FlowRow {
+    pub fn flow(&self) -> Flow
+        ensures { result ≡ flow_of self.now }
+    {
+        Flow {
+            from: NodeId(self.from),
+            from_port: self.from_port,
+            to: NodeId(self.to),
+            to_port: self.to_port,
+        }
+    }
+}
+
+pub fn ticked_status(answer: Ticked) -> u8
+    ensures { result ≡ ticked_status answer }
+{
+    match answer {
+        Ticked::Done => DONE,
+        Ticked::NoMemory => NO_MEMORY,
+        Ticked::Spent => SPENT,
+    }
+}
+
+/// An answer to a datagram with nothing but a status.
+pub fn came_as(status: u8) -> CameRow
+    ensures { result ≡ came_as status }
+{
+    CameRow {
+        value: 0,
+        status,
+        fault: 0,
+    }
+}
+
+/// The answer to a datagram that fails a test.
+fn faulty(fault: u8, value: u32) -> CameRow
+    ensures { result ≡ faulty fault value }
+{
+    CameRow {
+        value,
+        status: BAD,
+        fault,
+    }
+}
+
+/// A count as it fits in 32 bits.
+fn capped(count: usize) -> u32
+    ensures { result ≡ capped count }
+{
+    count.min(4_294_967_295) as u32
+}
+
+fn fault_row(fault: LayoutFault) -> CameRow
+    ensures { result ≡ fault_row fault }
+{
+    match fault {
+        LayoutFault::Short { len } => faulty(1, capped(len)),
+        LayoutFault::Version { octet } => faulty(2, octet as u32),
+        LayoutFault::Length { told, .. } => faulty(3, capped(told)),
+        LayoutFault::Dead => faulty(4, 0),
+        LayoutFault::Protocol { octet } => faulty(5, octet as u32),
+        LayoutFault::Kind { octet } => faulty(6, octet as u32),
+        LayoutFault::Flags { octet } => faulty(7, octet as u32),
+        LayoutFault::Window { value } => faulty(8, value),
+        LayoutFault::Size { len } => faulty(9, capped(len)),
+    }
+}
+
+pub fn came_row(answer: Arrived) -> CameRow
+    ensures { result ≡ came_row answer }
+{
+    match answer {
+        Arrived::Done => came_as(DONE),
+        Arrived::NoMemory => came_as(NO_MEMORY),
+        Arrived::Spent => came_as(SPENT),
+        Arrived::NoLink => came_as(REFUSED),
+        Arrived::Bad { fault } => fault_row(fault),
+        Arrived::Stale => came_as(STALE),
+    }
+}
+
+/// An answer to a send with nothing but a status.
+pub fn sent_as(status: u8) -> SentRow
+    ensures { result ≡ sent_as status }
+{
+    SentRow {
+        until: 0,
+        free: 0,
+        status,
+    }
+}
+
+pub fn sent_row(answer: Sent) -> SentRow
+    ensures { result ≡ sent_row answer }
+{
+    match answer {
+        Sent::Done => sent_as(DONE),
+        Sent::Quiet { until } => SentRow {
+            until,
+            free: 0,
+            status: QUIET,
+        },
+        Sent::Full { free } => SentRow {
+            until: 0,
+            free,
+            status: FULL,
+        },
+        Sent::NoMemory => sent_as(NO_MEMORY),
+        Sent::Spent => sent_as(SPENT),
+        Sent::BadFlow | Sent::Empty | Sent::TooMany => sent_as(REFUSED),
+    }
+}
+
+/// An answer to a read with no octets.
+pub fn no_piece(status: u8) -> PieceRow
+    ensures { result ≡ no_piece status }
+{
+    PieceRow {
+        len: 0,
+        status,
+        begin: false,
+        end: false,
+        run: false,
+    }
+}
+
+pub fn piece_row(answer: Piece) -> PieceRow
+    ensures { result ≡ piece_row answer }
+{
+    match answer {
+        Piece::Read {
+            len,
+            run,
+            begin,
+            end,
+        } => PieceRow {
+            len,
+            status: DONE,
+            begin,
+            end,
+            run,
+        },
+        Piece::Nothing => no_piece(NOTHING),
+        Piece::NoMemory => no_piece(NO_MEMORY),
+        Piece::Spent => no_piece(SPENT),
+        Piece::BadFlow => no_piece(REFUSED),
+        Piece::NoRoom => no_piece(ROOM),
+    }
+}
+
+/// An answer where no frame is handed out.
+pub fn no_frame(status: u8) -> OutRow
+    ensures { result ≡ no_frame status }
+{
+    OutRow {
+        len: 0,
+        to: 0,
+        link: 0,
+        status,
+    }
+}
+
+pub fn moment_row(moment: Option<u64>) -> MomentRow
+    ensures { result ≡ moment_row moment }
+{
+    match moment {
+        Some(at) => MomentRow { at, some: true },
+        None => MomentRow { at: 0, some: false },
+    }
+}
+
+/// The place of a parameter, counted from 0.
+fn field_number(field: Field) -> u8
+    ensures { result ≡ field_number field }
+{
+    match field {
+        Field::Mpl => 0,
+        Field::R => 1,
+        Field::A => 2,
+        Field::Rto => 3,
+        Field::Probe => 4,
+        Field::Seg => 5,
+        Field::Cap => 6,
+        Field::Rcap => 7,
+        Field::Window => 8,
+        Field::RunLimit => 9,
+    }
+}
+
+pub fn opened_row(answer: Opened) -> OpenedRow
+    ensures { result ≡ opened_row answer }
+{
+    let (value, status, field) = match answer {
+        Opened::Done => (0, DONE, 0),
+        Opened::NoMemory => (0, NO_MEMORY, 0),
+        Opened::Held => (0, HELD, 0),
+        Opened::Refused { fault } => (fault.value, REFUSED, field_number(fault.field)),
+    };
+    OpenedRow {
+        value,
+        status,
+        field,
+    }
+}

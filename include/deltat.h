@@ -1,0 +1,156 @@
+/* deltat.h: a Delta-t node without a socket, a clock or a thread of its own.
+ *
+ * The program feeds it datagrams, octets to send and the time; it takes datagrams to put on the wire, octets that
+ * came, and the moment when to call again. What each function does is proved: a sentence of its contract stands
+ * beside it, and the contract itself in crates/dt_c. What the program owes nothing checks:
+ *
+ *   for (;;) {
+ *       struct dt_moment wake = dt_wake(node);        wait for the socket, at most until `wake`
+ *       a datagram came: dt_arrive(node, now(), link, buf, len, waited);   none did: dt_tick(node, now());
+ *       while ((f = dt_next_frame(node, buf, sizeof buf)).status == DT_DONE)     send it on f.link, or to f.to
+ *       while ((p = dt_read(node, now(), &flow, buf, sizeof buf)).status == DT_DONE)     p.len octets came
+ *   }
+ *
+ * What you owe
+ *   memory   A handle lies in dt_size() octets of yours, aligned to dt_align(). dt_init first, once; from then on it
+ *            is never read, written, copied or moved; dt_close before the memory goes. No pointer is null, not even
+ *            where a length is 0; each length is that of the memory there, below 2^63; nothing that one call is given
+ *            overlaps another thing that it writes; a bool is 0 or 1. The library takes more memory by rattle_alloc,
+ *            rattle_realloc and rattle_dealloc, which lib/heap.c writes over malloc, realloc and free.
+ *   threads  One call at a time for each handle, from any thread; different handles at the same time, where malloc
+ *            allows that. No call blocks, and none calls back. None from a signal handler, and none in the forked
+ *            child of a process with threads.
+ *   time     `now` is in ms, of one clock that never goes back, goes at the right rate and GOES ON WHILE THE MACHINE
+ *            SLEEPS (CLOCK_BOOTTIME, not CLOCK_MONOTONIC). A `now` below the greatest of an earlier call counts as
+ *            that one, and one above 2^62 as 2^62.
+ *   links    No datagram is under way on a link for longer than the link's charge, counted from the call after which
+ *            dt_next_frame could hand it out. What it waited on this machine before dt_arrive is told as `waited`,
+ *            rounded up: by SO_TIMESTAMPNS, or the time since the socket was last found empty. A datagram that was
+ *            changed on its way is not handed in: a wire that can change one has a checksum or a key of its own.
+ *   restart  A node number that may have been used less than dt_quiet() ms ago is opened with `again`.
+ *   peers    All nodes have the same parameters but `start`, and different numbers.
+ */
+#ifndef DELTAT_H
+#define DELTAT_H
+#include <stdbool.h>
+#include <stddef.h>
+#include <stdint.h>
+#ifdef __cplusplus
+extern "C" {
+#endif
+
+#define DT_ABI 1u
+#define DT_MOST_FRAME 8222u /* octets of a frame: no frame wants more room */
+
+typedef struct dt_node dt_node;
+
+enum dt_status {
+    DT_DONE = 0,
+    DT_NO_MEMORY = 1, /* dt_open: nothing changed. Else a first part was done, and the node is spent: what waits can
+                         still be taken, then it is closed and opened `again` */
+    DT_CLOSED = 2,    /* the handle holds no node; nothing changed */
+    DT_REFUSED = 3,   /* an argument is out of its range; nothing changed */
+    DT_HELD = 4,      /* the handle holds a node already; nothing changed */
+    DT_NOTHING = 5,   /* there is nothing to hand over */
+    DT_ROOM = 6,      /* the buffer is too small; nothing changed */
+    DT_FULL = 7,      /* the octets don't fit, and weren't taken; what else was due is done */
+    DT_QUIET = 8,     /* the node is silent, and took none; what else was due is done */
+    DT_SPENT = 9,     /* an earlier call found no memory; nothing changed */
+    DT_BAD = 11,      /* the datagram doesn't read; nothing changed */
+    DT_STALE = 12     /* the datagram waited for all of its life, or longer; nothing changed */
+};
+
+enum dt_fault { /* the first test of a datagram that fails, and what `value` tells */
+    DT_SHORT = 1,    /* too few octets for a header: how many */
+    DT_VERSION = 2,  /* another version: which */
+    DT_LENGTH = 3,   /* another count of octets than it tells: the count that it tells */
+    DT_DEAD = 4,     /* its life is 0 */
+    DT_PROTOCOL = 5, /* another protocol: which */
+    DT_KIND = 6,     /* no such kind of packet: which */
+    DT_FLAGS = 7,    /* flags that the kind doesn't allow: which */
+    DT_WINDOW = 8,   /* a window that the kind doesn't allow: which */
+    DT_SIZE = 9      /* a count of octets that the kind doesn't allow: which */
+};
+
+/* Times are in ms, sizes in octets. */
+struct dt_params {
+    uint32_t mpl;       /* the longest life of a packet: 2 to 86,400,000 */
+    uint32_t r;         /* how long a segment is sent again: 1 to 86,400,000 */
+    uint32_t a;         /* the longest delay of an acknowledgement: 1 to 86,400,000 */
+    uint32_t rto;       /* from one transmission to the next: 1 to 86,400,000 */
+    uint32_t probe;     /* from the last transmission to a rendezvous: 1 to 86,400,000, below 3 mpl + r + a */
+    uint32_t seg;       /* a segment: 1 to 8,192 */
+    uint32_t cap;       /* what a send record holds: 1 to 65,536 */
+    uint32_t rcap;      /* what may be unread: 1 to 65,536 */
+    uint32_t window;    /* the window of a new send record: 1 to 65,536 */
+    uint32_t run_limit; /* the quantum of a run of sequence numbers: 1 to 2,147,483,648 */
+    uint32_t start;     /* the number of a record's first octet: any */
+};
+
+/* How a node starts. `again`: its number may have been used not long ago, so it is silent for dt_quiet() ms. */
+struct dt_start { uint64_t now; uint32_t me; bool again; };
+/* A link on which packets leave, `pace` ms one after the other, and come, each paying `charge` ms of its life. */
+struct dt_link { uint32_t charge, pace; uint16_t link; };
+/* Packets to the node `to` leave on this link. */
+struct dt_route { uint32_t to; uint16_t link; };
+/* Octets that go from a port of a node to a port of another. The way back is another flow. */
+struct dt_flow { uint32_t from, to; uint16_t from_port, to_port; };
+
+struct dt_opened { uint32_t value; uint8_t status, field; };
+struct dt_came { uint32_t value; uint8_t status, fault; };
+struct dt_sent { uint64_t until; uint32_t free; uint8_t status; };
+struct dt_piece { size_t len; uint8_t status; bool begin, end, run; };
+struct dt_out { size_t len; uint32_t to; uint16_t link; uint8_t status; };
+struct dt_moment { uint64_t at; bool some; };
+
+/* THE HANDLE */
+uint32_t dt_abi(void);   /* DT_ABI of the library: compare it with the header's */
+size_t dt_size(void);    /* how many octets a handle takes */
+size_t dt_align(void);   /* to how many it is aligned */
+void dt_init(dt_node *n);  /* on fresh memory: the handle holds no node */
+void dt_close(dt_node *n); /* frees what the node holds; the handle holds no node, and may be opened again */
+
+/* Makes the node of these parameters, start, links and routes, all of which are copied. DONE NO_MEMORY HELD; REFUSED,
+ * exactly where a parameter is out of its range: `field` is the place of the first such one in dt_params, counted from
+ * 0, and `value` what it has. Where a link or a node stands twice the first counts; a route by a link that isn't there
+ * leads nowhere. */
+struct dt_opened dt_open(dt_node *n, const struct dt_params *p, const struct dt_start *start, const struct dt_link *links,
+                         size_t link_count, const struct dt_route *routes, size_t route_count);
+
+/* EVENTS. Each is one event of the node's definition at `now`, and all that is due then is done; its frames wait for
+ * dt_next_frame, behind those that wait already. */
+
+/* What is due is done. DONE NO_MEMORY CLOSED SPENT */
+uint8_t dt_tick(dt_node *n, uint64_t now);
+
+/* A datagram came on a link and waited so many ms here, which are taken off its life. DONE NO_MEMORY CLOSED SPENT;
+ * REFUSED: no packets come on this link; BAD: its header doesn't read (`fault`, `value`); STALE. A header that reads
+ * with a packet that doesn't is DONE, and is dropped. */
+struct dt_came dt_arrive(dt_node *n, uint64_t now, uint16_t link, const uint8_t *datagram, size_t len, uint32_t waited);
+
+/* Octets are sent, all of them or none; the first begins a message where `begin` says so, and the last ends one where
+ * `end` does. DONE NO_MEMORY CLOSED SPENT; REFUSED: the flow doesn't go from this node to another, or there are no
+ * octets, or 2^62 would have been handed in; QUIET: silent until `until`; FULL: `free` octets fit. */
+struct dt_sent dt_send(dt_node *n, uint64_t now, const struct dt_flow *f, const uint8_t *octets, size_t len, bool begin, bool end);
+
+/* Unread octets are read, at most `room`, and not beyond the end of a message: the first `len` of the buffer. `begin`
+ * and `end`: they begin a message, they end one; `run`: what stood before them isn't known. DONE NO_MEMORY CLOSED
+ * SPENT; NOTHING: none is unread, and what was due is done; REFUSED: the flow doesn't go from another node to this
+ * one; ROOM: `room` is 0. */
+struct dt_piece dt_read(dt_node *n, uint64_t now, const struct dt_flow *f, uint8_t *buf, size_t room);
+
+/* WHAT IS TO BE TAKEN, AND WHEN TO CALL AGAIN */
+
+/* The first frame that waits, `len` octets at the head of the buffer, is for the node `to` and leaves on `link`; it
+ * waits no more, and the rest of the buffer is as it was. DONE CLOSED; NOTHING: none waits; ROOM: `len` octets are
+ * wanted, and it goes on waiting. */
+struct dt_out dt_next_frame(dt_node *n, uint8_t *buf, size_t room);
+
+/* The least moment at which something is due: dt_tick then. None (`some` is false) where there is no such moment, the
+ * node is spent or the handle holds none. Nothing changes. */
+struct dt_moment dt_wake(dt_node *n);
+
+#ifdef __cplusplus
+}
+#endif
+#endif

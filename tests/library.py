@@ -1,0 +1,142 @@
+#!/usr/bin/env python3
+"""Compiles the C programs of tests/library over libdeltat, and runs them.
+
+`tests/library.py ARCHIVE` takes the archive at that path; with no word it is the one that `rt lib` leaves in
+crates/dt_c/out, which it builds where there is none. The header is compiled alone too. Compilers are gcc and clang,
+languages C99, C11 and C++17, all with -Wall -Wextra -Werror; each program runs bare, and those of C99 also under
+valgrind and with the address and undefined-behaviour sanitizers, where the machine has them. The last line is `N
+passed, M failed`; ends with 1 where one failed, and with 77 where there is no compiler or no archive.
+
+In tests/all: no words, 900 s."""
+import pathlib
+import shutil
+import subprocess
+import sys
+import tempfile
+from collections.abc import Iterator, Sequence
+from typing import NamedTuple
+
+from lib import TOP, skip
+
+HERE = TOP / "tests" / "library"
+ARCHIVE = TOP / "crates" / "dt_c" / "out" / "libdt_c.a"
+WARNINGS = ("-Wall", "-Wextra", "-Werror", "-pedantic")
+SECONDS = 300
+
+
+class Language(NamedTuple):
+    """A standard, and what compilers want to hear to take files of C as it."""
+
+    name: str
+    words: tuple[str, ...]
+    drivers: tuple[str, ...]
+
+
+LANGUAGES = (
+    Language("C99", ("-std=c99",), ("gcc", "clang")),
+    Language("C11", ("-std=c11",), ("gcc", "clang")),
+    Language("C++17", ("-std=c++17",), ("g++", "clang++")),
+)
+
+
+class Program(NamedTuple):
+    """A program: its file, and whether it brings a heap of its own."""
+
+    file: str
+    has_heap: bool
+
+
+PROGRAMS = (Program("exchange.c", False), Program("each_failure.c", True))
+
+
+class Tally:
+    """Counts what passed and what failed, and prints what a failure said."""
+
+    def __init__(self) -> None:
+        self.passed = self.failed = 0
+
+    def run(self, what: str, command: Sequence[str | pathlib.Path]) -> bool:
+        """Runs a command. Whether it ended with 0."""
+        try:
+            done = subprocess.run([str(word) for word in command], capture_output=True, text=True, timeout=SECONDS)
+            good, said = done.returncode == 0, done.stdout + done.stderr
+        except subprocess.TimeoutExpired:
+            good, said = False, f"took more than {SECONDS} s"
+        if good:
+            self.passed += 1
+        else:
+            self.failed += 1
+            print(f"failed: {what}\n{said}")
+        return good
+
+
+def archive() -> pathlib.Path:
+    """The archive: the first word, or the built one."""
+    if len(sys.argv) > 1:
+        return pathlib.Path(sys.argv[1]).resolve()
+    if not ARCHIVE.exists():
+        if shutil.which("rt") is None:
+            skip("there is no libdt_c.a, and no rt to build it")
+        subprocess.run(["rt", "lib"], cwd=ARCHIVE.parent.parent, check=True)
+    return ARCHIVE
+
+
+def compiled(driver: str, language: Language, sources: Sequence[pathlib.Path], out: pathlib.Path, more: Sequence[str | pathlib.Path]) -> list[str | pathlib.Path]:
+    """The command that compiles these files and links them with what is named."""
+    as_what = ("-x", "c++") if language.name.startswith("C++") else ("-x", "c")
+    return [driver, *language.words, *WARNINGS, "-O1", "-gdwarf-4", f"-I{TOP / 'include'}", *as_what, *sources, "-x", "none", *more, "-o", out]
+
+
+def ways() -> Iterator[tuple[str, Language]]:
+    """Each compiler that is there, with each language that it takes."""
+    for language in LANGUAGES:
+        for driver in language.drivers:
+            if shutil.which(driver) is not None:
+                yield driver, language
+
+
+def try_program(tally: Tally, program: Program, driver: str, language: Language, library: pathlib.Path, folder: pathlib.Path) -> None:
+    """Compiles a program in one way, and runs it bare, and in C99 with what looks at its memory."""
+    what = f"{program.file}, {driver}, {language.name}"
+    name = f"{program.file}-{driver}-{language.name}"
+    heap = folder / f"heap-{driver}.o"
+    built = folder / name
+    linked = [library] if program.has_heap else [heap, library]
+    if not tally.run(what, compiled(driver, language, [HERE / program.file], built, linked)):
+        return
+    tally.run(what, [built])
+    if language.name != "C99":
+        return
+    if shutil.which("valgrind") is not None:
+        tally.run(f"{what}, valgrind", ["valgrind", "--quiet", "--error-exitcode=9", "--leak-check=full", built])
+    sanitized = folder / f"{name}-sanitized"
+    flags = ["-fsanitize=address,undefined", "-fno-sanitize-recover=all"]
+    if tally.run(f"{what}, sanitizers", compiled(driver, language, [HERE / program.file], sanitized, [*flags, *linked])):
+        tally.run(f"{what}, sanitizers", [sanitized])
+
+
+def main() -> int:
+    if not any(ways()):
+        skip("there is no compiler of C")
+    library = archive()
+    tally = Tally()
+    with tempfile.TemporaryDirectory() as name:
+        folder = pathlib.Path(name)
+        (folder / "alone.c").write_text('#include "deltat.h"\ntypedef struct dt_came came;\n')
+        for driver in ("gcc", "clang"):
+            for_cplus = {"gcc": "g++", "clang": "clang++"}[driver]
+            if shutil.which(driver) is not None:
+                heap = folder / f"heap-{driver}.o"
+                tally.run(f"heap.c, {driver}", [driver, "-std=c99", *WARNINGS, "-gdwarf-4", "-c", TOP / "lib" / "heap.c", "-o", heap])
+                if heap.exists():
+                    shutil.copy(heap, folder / f"heap-{for_cplus}.o")
+        for driver, language in ways():
+            tally.run(f"deltat.h, {driver}, {language.name}", compiled(driver, language, [folder / "alone.c"], folder / "alone.o", ["-c"]))
+            for program in PROGRAMS:
+                try_program(tally, program, driver, language, library, folder)
+    print(f"{tally.passed} passed, {tally.failed} failed")
+    return 1 if tally.failed else 0
+
+
+if __name__ == "__main__":
+    sys.exit(main())
