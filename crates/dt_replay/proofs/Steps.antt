@@ -39,8 +39,8 @@ module _ {K : Type 0} (sight : K → SinkSight) where
     spent_turns h =
         let r = after_event w.state e in
         let goes : world_step w.state e ≡ Stepped r.0 r.1 = ap (λ (o : Option StepFault). step_unless o r) h.begun in
-        let is : world_step w.state e ≡ Stepped (h.part ++ h.rest) r.1 = goes ∙ ap (λ (l : List Entry). Stepped l r.1) (sym h.told) in
-        stopped_says sight entry_text Told (λ s t e. e) (λ x xs s t told. told) (by_step (world_step w.state e)) w.state new.state s t fine h.part h.rest r.1 (ap by_step is) h.lines
+        let is : world_step w.state e ≡ Stepped (h.noted.lines ++ h.rest) r.1 = goes ∙ ap (λ (l : List Entry). Stepped l r.1) (sym h.told) in
+        stopped_says sight entry_text Told (λ s t e. e) (λ x xs s t told. told) (by_step (world_step w.state e)) w.state new.state s t fine h.noted.lines h.rest r.1 (ap by_step is) h.lines
 
     pub step_turns : (r : Result (Unit {0}) StepFault) → Answers writes r w e s t new → Says (stepped r t.failed)
     step_turns (Ok done) h = done_says sight entry_text Told (λ s t e. e) (λ x xs s t told. told) (by_step (world_step w.state e)) w.state new.state s t fine h.told (ap by_step h.step) h.lines
@@ -65,4 +65,4 @@ module _ {K : Type 0} (sight : K → SinkSight) where
     step_same (Err (fault.NoCopy n)) h = refused_same h.lines
     step_same (Err (fault.Lost n)) h = refused_same h.lines
     step_same (Err (fault.TooLate held charge)) h = refused_same h.lines
-    step_same (Err fault.NoMemory) h = told_same h.part h.lines
+    step_same (Err fault.NoMemory) h = told_same h.noted.lines h.lines

@@ -1,7 +1,7 @@
 ghost use Rattle.std.specs.Prelude.{ℕ, ◌≡◌, ◌≤◌, length, IfSome};
 ghost use Rattle.dt_world_model.specs.WorldFacts.{SafeWorld};
 ghost use Rattle.dt_replay.specs.Replays.{Replays, outcome_of};
-ghost use Rattle.dt_replay.specs.Schedules.{world_after_lines};
+ghost use Rattle.dt_replay.specs.Schedules.{world_after_lines, world_of};
 
 use crate::outcomes::Outcome;
 use crate::schedules::ScheduledWorld;
@@ -18,12 +18,14 @@ use std::alloc::Global;
 /// - `NoMemory`: there was none. `out` has a first part of the log, and no put failed.
 /// - `WriteFault`: a put on `out` failed. It has a first part of the log.
 ///
-/// After each line the world is safe: each octet of every flow was given at most once, in the order of
-/// its sending, and what was passed over was told.
+/// After each line the world is safe, and so is the world of the schedule, after all of them: each
+/// octet of every flow was given at most once, in the order of its sending, and what was passed over was
+/// told.
 pub fn replay<K: Sink>(alloc: Global, bytes: &[u8], out: &mut K) -> Outcome
     requires few { length bytes.now ≤ 16777216 }
     ensures ends { Replays result bytes.now (K.sight out.old) (K.sight out.new) }
     ensures safe { (count : ℕ) → IfSome (world_after_lines count bytes.now) (λ w. SafeWorld w) }
+    ensures whole { IfSome (world_of bytes.now) (λ w. SafeWorld w) }
 {
     let mut schedule: Scenario<ScheduledWorld> = Scenario::new(alloc);
     outcome_of(fold_behind_buffer(alloc, &mut schedule, bytes, out))

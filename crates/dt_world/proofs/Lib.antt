@@ -9,4 +9,5 @@ pub mod SetupTables
 pub mod Slots
 pub mod StationTables
 pub mod Stepping
+pub mod Stopping
 pub mod Telling

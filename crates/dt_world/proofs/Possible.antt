@@ -1,5 +1,5 @@
 -- What an event of a world needs it has: octets may be sent, and a copy that comes is as it was put.
-use Rattle.std.proofs.Common.{ℕ, ◌+◌, ◌<◌, ◌≤◌, ◌≡◌, ◌≢◌, ◌==◌, List, [], length, Option, Some, None, refl, sym, ap, subst, ◌∙◌, arith}
+use Rattle.std.proofs.Common.{ℕ, ◌+◌, ◌<◌, ◌≤◌, ◌≡◌, ◌≢◌, ◌==◌, List, length, Option, Some, None, refl, sym, ap, subst, ◌∙◌, arith}
 use Rattle.std.specs.Prelude.{option_map}
 use Rattle.dt_units.specs.declared.endpoints.Flow.{Flow}
 use Rattle.dt_reports.specs.Entries.{Entry}
@@ -9,9 +9,12 @@ use Rattle.dt_flow_model.specs.SendRecord.{SendRecord}
 use Rattle.dt_flow_laws.proofs.Records.{taken_is_counted}
 use Rattle.dt_flow_laws.proofs.SafeOf.{safe_of}
 use Rattle.dt_world_model.specs.Host.{sender_at}
-use Rattle.dt_world_model.specs.Ledgers.{Ledgers, ledger_of}
+use Rattle.dt_world_model.specs.Ledgers.{ledger_of}
 use Rattle.dt_world_model.specs.Tables.{look}
-use Rattle.dt_world_model.specs.World.{Placed, World, placed, view}
+use Rattle.dt_flow_model.specs.Frames.{Mark}
+use Rattle.dt_world_model.specs.Station.{Event, station_event}
+use Rattle.dt_world_model.specs.World.{Noted, Placed, World, placed, view}
+use Rattle.dt_world_model.specs.WorldStep.{noted_at, occasion}
 use Rattle.dt_world_model.specs.WorldFacts.{IsPlaced, SafeLedgers}
 use Rattle.dt_world_model.proofs.Tables.{all_look, nat_is, nat_self}
 use Rattle.dt_world_laws.proofs.Sending.{settle_bounded}
@@ -20,9 +23,11 @@ use Rattle.dt_station.specs.Events.{MaySend}
 use Rattle.dt_world.specs.declared.parts.Parts.{Parts}
 use Rattle.dt_world.specs.declared.placed.PlacedStation.{PlacedStation}
 use Rattle.dt_world.specs.Outcomes.{HasStopped}
+use Rattle.dt_world.specs.Stopping.{CameTo, ComesAt}
 use Rattle.dt_world.specs.Worlds.{IsWhole, placed_seen, stations_seen, world_seen}
 use Rattle.dt_world.proofs.SetupTables.{look_keyed}
 use Rattle.dt_world.proofs.StationTables.{look_seen}
+use Rattle.dt_world.proofs.Stopping.{all_kept, first_on_the_way}
 
 -- a station by its number in the map and in the definition's table
 pub station_there : (n : ℕ) (s : PlacedStation) (es : List (ℕ × PlacedStation)) → look ◌==◌ n es ≡ Some s → look ◌==◌ n (stations_seen es) ≡ Some (placed_seen s)
@@ -57,13 +62,28 @@ module _ (parts : Parts) (whole : IsWhole parts) where
         counted = settle_bounded w.params (parts.now + s.zero) f whole.limits count octets_below s.station.state at.host (omega (arith, counted, few));
       }
 
-  -- WHERE NOTHING IS DONE for want of memory, nothing was told, and the ledgers are safe
-  pub stopped_at_once : {L : Type 0} (tells : L → Entry → L → Type 0) (r : List Entry × World) (v : L) (world : World) → world.ledgers ≡ w.ledgers → HasStopped tells w r v v world
-  stopped_at_once tells r v world same =
-      record {
-        part = [];
+  -- WHERE NOTHING IS DONE for want of memory, nothing was told, and the world is what it was
+  pub safe_now : SafeLedgers w w.ledgers
+  safe_now f = (safe_of w.params (view w f) (whole.facts.flows f)).ledger
+
+  pub stopped_at_once : {L : Type 0} (tells : L → Entry → L → Type 0) (comes : Noted → Type 0) (r : List Entry × World) (v : L) (world : World) → comes (noted_at w) → world ≡ w → HasStopped tells w comes r v v world
+  stopped_at_once tells comes r v world here is =
+      subst (λ (u : World). HasStopped tells w comes r v v u) (sym is)
+      (record {
+        noted = noted_at w;
+        comes_to = here;
         rest = r.0;
         told = refl;
         lines = refl;
-        safe = subst (λ (l : Ledgers). SafeLedgers w l) (sym same) (λ f. (safe_of w.params (view w f) (whole.facts.flows f)).ledger);
-      }
+        has_noted = record { params = refl; now = refl; links = refl; copies = refl; ledgers = refl; lives = λ n. refl; zeros = λ n. refl };
+        kept = all_kept w.ledgers w.ledgers refl;
+        safe = safe_now;
+      })
+
+  -- nothing of an event at a station was done
+  pub not_begun : (n : ℕ) (e : Event Mark) → ComesAt w n e (noted_at w)
+  not_begun n e = at_first (look ◌==◌ n w.stations)
+    where
+      at_first : (o : Option Placed) → CameTo w n e o (noted_at w)
+      at_first None = refl
+      at_first (Some at) = first_on_the_way (occasion w n e) (station_event w.params (w.now + at.zero) e at.station) (noted_at w)

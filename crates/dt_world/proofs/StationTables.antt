@@ -35,6 +35,15 @@ station_written n s was (e ∷ es) h =
           rw (f, t) (ap (λ (r : List (ℕ × Placed)). (e.0, placed_seen e.1) ∷ r) (station_written n s was es rest))
     ]
 
+-- what is written as it was changes nothing
+pub station_same : (n : ℕ) (was : PlacedStation) (es : List (ℕ × PlacedStation)) → lookup (nat_eq n) es ≡ Some was → stations_seen (set_value (nat_eq n) es was) ≡ stations_seen es
+station_same n was [] h = refl
+station_same n was (e ∷ es) h =
+    elim (cases_Bool (nat_eq n e.0)) [
+      | inl y ↦ let found : Some e.1 ≡ Some was = rw y at h in let value : was ≡ e.1 = cc in rw y (ap (λ (s : PlacedStation). (e.0, placed_seen s) ∷ stations_seen es) value)
+      | inr f ↦ let rest : lookup (nat_eq n) es ≡ Some was = rw f at h in rw f (ap (λ (r : List (ℕ × Placed)). (e.0, placed_seen e.1) ∷ r) (station_same n was es rest))
+    ]
+
 module _ (P : ℕ → PlacedStation → Type 0) where
   pub all_written : (n : ℕ) (s : PlacedStation) (es : List (ℕ × PlacedStation)) → ((k : ℕ) → (k == n) ≡ true → P k s) → AllEntries P es → AllEntries P (set_value (nat_eq n) es s)
   all_written n s [] p all = tt

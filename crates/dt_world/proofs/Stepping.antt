@@ -16,6 +16,7 @@ use Rattle.dt_world.specs.declared.parts.Parts.{Parts}
 use Rattle.dt_world.specs.Outcomes.{HasHappened, HasStopped, IsDone, IsSpent}
 use Rattle.dt_world.specs.Setups.{AreNumbered}
 use Rattle.dt_world.specs.Steps.{most_now}
+use Rattle.dt_world.specs.Stopping.{ComesTo}
 use Rattle.dt_world.specs.Worlds.{IsStationOf, IsWhole, WorldValue, most_read, world_seen}
 
 abbrev pub unspent : World → WorldValue
@@ -47,11 +48,12 @@ module _ (parts : Parts) (whole : IsWhole parts) (e : WorldEvent) (can : CanHapp
         lines = h.lines;
         unspent = refl;
         safe = λ f. facts_are_safe (world_seen after) f k.0;
+        facts = k.0;
         fates = λ f. lifted_fates w.params (view w f) (view (world_seen after) f) (k.1 f);
       }
 
-  pub is_spent : {L : Type 0} (tells : L → Entry → L → Type 0) (u v : L) → HasStopped tells w (after_event w e) u v (world_seen after) → IsSpent tells (unspent w) e u v (record { state = world_seen after; spent = true })
-  is_spent tells u v h = record { begun = begun; part = h.part; rest = h.rest; told = h.told; lines = h.lines; spent = refl; safe = h.safe }
+  pub is_spent : {L : Type 0} (tells : L → Entry → L → Type 0) (u v : L) → HasStopped tells w (ComesTo w e) (after_event w e) u v (world_seen after) → IsSpent tells (unspent w) e u v (record { state = world_seen after; spent = true })
+  is_spent tells u v h = record { begun = begun; noted = h.noted; comes_to = h.comes_to; rest = h.rest; told = h.told; lines = h.lines; spent = refl; has_noted = h.has_noted; kept = h.kept; safe = h.safe }
 
 -- a refused event, by its fault
 pub refused_by : (w : World) (e : WorldEvent) (fault : StepFault) → first_refusal (refusals w e) ≡ Some fault → world_step w e ≡ Refused fault
@@ -62,6 +64,11 @@ pub done_in : {L : Type 0} (tells : L → Entry → L → Type 0) (begun after :
 done_in tells begun after e u v before spent unspent_is is d =
     subst (λ (x : WorldValue). IsDone tells x e u v (record { state = after; spent = spent })) is
     (subst (λ (b : Bool). IsDone tells (record { state = begun; spent = b }) e u v (record { state = after; spent = b })) (sym unspent_is) d)
+
+pub spent_in : {L : Type 0} (tells : L → Entry → L → Type 0) (begun : World) (e : WorldEvent) (u v : L) (before new : WorldValue) (spent : Bool) → spent ≡ false → (let x : WorldValue = record { state = begun; spent = spent } in x) ≡ before → IsSpent tells (unspent begun) e u v new → IsSpent tells before e u v new
+spent_in tells begun e u v before new spent unspent_is is d =
+    subst (λ (x : WorldValue). IsSpent tells x e u v new) is
+    (subst (λ (b : Bool). IsSpent tells (record { state = begun; spent = b }) e u v new) (sym unspent_is) d)
 
 -- the buffer keeps its length
 pub buf_kept : (new items : List ℕ) (len : ℕ) → len ≡ most_read → length new ≡ most_read → length items ≡ most_read → length (take len (new ++ drop (length new) items)) ≡ most_read

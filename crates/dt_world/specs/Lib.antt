@@ -8,5 +8,6 @@ pub mod Runs
 pub mod Setups
 pub mod Starts
 pub mod Steps
+pub mod Stopping
 pub mod Tellers
 pub mod Worlds

@@ -5,36 +5,42 @@ use Rattle.dt_reports.specs.Entries.{Entry}
 use Rattle.dt_reports.specs.declared.faults.StepFault.{StepFault}
 use Rattle.dt_reports.specs.declared.faults.StepFault.TheVariants as fault
 use Rattle.dt_flow_model.specs.Facts.{KeepsFates}
-use Rattle.dt_world_model.specs.World.{World, view}
-use Rattle.dt_world_model.specs.WorldFacts.{SafeLedgers, SafeWorld}
+use Rattle.dt_world_model.specs.Ledgers.{ledger_of}
+use Rattle.dt_world_model.specs.World.{Noted, World, view}
+use Rattle.dt_world_model.specs.WorldFacts.{SafeLedgers, SafeWorld, WorldFacts}
 use Rattle.dt_world_model.specs.WorldStep.{Refused, Stepped, WorldEvent, after_event, first_refusal, refusals, world_step}
+use Rattle.dt_world.specs.Stopping.{ComesTo, HasNoted, KeepsLedger}
 use Rattle.dt_world.specs.Tellers.{TellsAll}
 use Rattle.dt_world.specs.Worlds.{WorldValue}
 
 module _ {L : Type 0} (tells : L → Entry → L → Type 0) where
-  -- WHAT HAPPENS: all lines are told and the world is the one after; or, for want of memory, first lines are told, and the ledgers are safe.
+  -- WHAT HAPPENS: all lines are told and the world is the one after; or, for want of memory, it came to some point. Then the lines up to there are told, the world has what was noted up to there, and its ledgers are safe.
   pub record HasHappened (r : List Entry × World) (before after : L) (world : World) : Type 0 where
     pub lines : TellsAll tells r.0 before after
     pub world_is : world ≡ r.1
 
-  pub record HasStopped (w : World) (r : List Entry × World) (before after : L) (world : World) : Type 0 where
-    pub part : List Entry
+  pub record HasStopped (w : World) (comes : Noted → Type 0) (r : List Entry × World) (before after : L) (world : World) : Type 0 where
+    pub noted : Noted
+    pub comes_to : comes noted
     pub rest : List Entry
-    pub told : part ++ rest ≡ r.0
-    pub lines : TellsAll tells part before after
-    pub safe : SafeLedgers w world.ledgers
+    pub told : noted.lines ++ rest ≡ r.0
+    pub lines : TellsAll tells noted.lines before after
+    pub has_noted : HasNoted w noted world
+    pub kept : (f : Flow) → KeepsLedger (ledger_of w.ledgers f) (ledger_of world.ledgers f)
+    pub safe : SafeLedgers world world.ledgers
 
-  abbrev pub Happens : {U E : Type 0} → Result U E → World → List Entry × World → L → L → World → Type 0
-  Happens (Ok done) w r before after world = HasHappened r before after world
-  Happens (Err e) w r before after world = HasStopped w r before after world
+  abbrev pub Happens : {U E : Type 0} → Result U E → World → (Noted → Type 0) → List Entry × World → L → L → World → Type 0
+  Happens (Ok done) w comes r before after world = HasHappened r before after world
+  Happens (Err e) w comes r before after world = HasStopped w comes r before after world
 
-  -- A STEP IS DONE: it told the definition's lines, gave its world, changed no fate that isn't open, and each flow is safe.
+  -- A STEP IS DONE: it told the definition's lines, gave its world, changed no fate that isn't open, and each flow is safe. The world has the facts about time, from which the next step goes on.
   pub record IsDone (w : WorldValue) (e : WorldEvent) (before after : L) (new : WorldValue) : Type 0 where
     pub told : List Entry
     pub step : world_step w.state e ≡ Stepped told new.state
     pub lines : TellsAll tells told before after
     pub unspent : new.spent ≡ false
     pub safe : SafeWorld new.state
+    pub facts : WorldFacts new.state
     pub fates : (f : Flow) → KeepsFates (view w.state f).taken (view new.state f).taken
 
   -- It is refused as the definition refuses it, and changes nothing.
@@ -43,15 +49,18 @@ module _ {L : Type 0} (tells : L → Entry → L → Type 0) where
     pub same : new ≡ w
     pub lines : after ≡ before
 
-  -- It found no memory: it wasn't to be refused, told first lines of the definition's, and the world is spent, with safe ledgers.
+  -- It found no memory: it wasn't to be refused, came to some point of its event and told the definition's lines up to there. The world is spent: it has what was noted up to there and nothing else is new. So it has the lives that it had, nothing that was acknowledged, given or read before is gone, and its ledgers are safe.
   pub record IsSpent (w : WorldValue) (e : WorldEvent) (before after : L) (new : WorldValue) : Type 0 where
     pub begun : first_refusal (refusals w.state e) ≡ None
-    pub part : List Entry
+    pub noted : Noted
+    pub comes_to : ComesTo w.state e noted
     pub rest : List Entry
-    pub told : part ++ rest ≡ (after_event w.state e).0
-    pub lines : TellsAll tells part before after
+    pub told : noted.lines ++ rest ≡ (after_event w.state e).0
+    pub lines : TellsAll tells noted.lines before after
     pub spent : new.spent ≡ true
-    pub safe : SafeLedgers w.state new.state.ledgers
+    pub has_noted : HasNoted w.state noted new.state
+    pub kept : (f : Flow) → KeepsLedger (ledger_of w.state.ledgers f) (ledger_of new.state.ledgers f)
+    pub safe : SafeLedgers new.state new.state.ledgers
 
   abbrev pub FailsWith : StepFault → WorldValue → WorldEvent → L → L → WorldValue → Type 0
   FailsWith fault.BadFlow w e before after new = IsRefused w e fault.BadFlow before after new

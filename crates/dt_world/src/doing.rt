@@ -13,6 +13,7 @@ ghost use Rattle.dt_world_model.specs.Tables.{AllEntries};
 ghost use Rattle.dt_world_model.specs.WorldStep.{Arrives, Loses, Restarts, after_event, at_station, first_refusal, loss, refusals};
 ghost use Rattle.dt_world.specs.Outcomes.{Happens, HasHappened};
 ghost use Rattle.dt_world.specs.Steps.{BringsPacket, most_now};
+ghost use Rattle.dt_world.specs.Stopping.{ComesAt, ComesTo};
 ghost use Rattle.dt_world.specs.Worlds.{IsStationOf, IsWhole, world_seen};
 
 use crate::marked::Mark;
@@ -40,7 +41,7 @@ pub fn send<L: Lines>(
     requires some { 1 ≤ length octets.now }
     requires counted { length (ledger_of (world_seen parts.old).ledgers flow).taken + length octets.now < octets_below }
     ensures happens { let w = world_seen parts.old in
-        Happens L.tells result w (at_station w flow.from.0 (Send flow octets.now begin end)) lines.old lines.new (world_seen parts.new) }
+        Happens L.tells result w (ComesAt w flow.from.0 (Send flow octets.now begin end)) (at_station w flow.from.0 (Send flow octets.now begin end)) lines.old lines.new (world_seen parts.new) }
     ensures stations { OnOk result (AllEntries (IsStationOf parts.old.rules parts.old.now) parts.new.stations.entries) }
     ensures rules { parts.new.rules ≡ parts.old.rules }
     ensures now { parts.new.now ≡ parts.old.now }
@@ -71,7 +72,7 @@ pub fn read<L: Lines>(
     requires whole { IsWhole parts.old }
     requires some { 0 < length buf.old }
     ensures happens { let w = world_seen parts.old in
-        Happens L.tells result w (at_station w flow.to.0 (Read flow (length buf.old))) lines.old lines.new (world_seen parts.new) }
+        Happens L.tells result w (ComesAt w flow.to.0 (Read flow (length buf.old))) (at_station w flow.to.0 (Read flow (length buf.old))) lines.old lines.new (world_seen parts.new) }
     ensures flow { IsFlow flow }
     ensures stations { OnOk result (AllEntries (IsStationOf parts.old.rules parts.old.now) parts.new.stations.entries) }
     ensures rules { parts.new.rules ≡ parts.old.rules }
@@ -86,7 +87,7 @@ pub fn read<L: Lines>(
 pub fn tick<L: Lines>(parts: &mut Parts, node: u32, lines: &mut L) -> Result<(), NoMemory>
     requires whole { IsWhole parts.old }
     ensures happens { let w = world_seen parts.old in
-        Happens L.tells result w (at_station w node Tick) lines.old lines.new (world_seen parts.new) }
+        Happens L.tells result w (ComesAt w node Tick) (at_station w node Tick) lines.old lines.new (world_seen parts.new) }
     ensures stations { OnOk result (AllEntries (IsStationOf parts.old.rules parts.old.now) parts.new.stations.entries) }
     ensures rules { parts.new.rules ≡ parts.old.rules }
     ensures now { parts.new.now ≡ parts.old.now }
@@ -107,7 +108,7 @@ pub fn arrive<L: Lines>(
     requires begun { first_refusal (refusals (world_seen parts.old) (Arrives copy)) ≡ None }
     requires room { MOST_DATA ≤ length buf.old }
     ensures happens { let w = world_seen parts.old in
-        Happens L.tells result w (after_event w (Arrives copy)) lines.old lines.new (world_seen parts.new) }
+        Happens L.tells result w (ComesTo w (Arrives copy)) (after_event w (Arrives copy)) lines.old lines.new (world_seen parts.new) }
     ensures stations { OnOk result (AllEntries (IsStationOf parts.old.rules parts.old.now) parts.new.stations.entries) }
     ensures rules { parts.new.rules ≡ parts.old.rules }
     ensures now { parts.new.now ≡ parts.old.now }
@@ -201,7 +202,7 @@ pub fn lose<L: Lines>(parts: &mut Parts, copy: u32, lines: &mut L)
 pub fn restart<L: Lines>(parts: &mut Parts, node: u32, lines: &mut L) -> Result<(), NoMemory>
     requires whole { IsWhole parts.old }
     ensures happens { let w = world_seen parts.old in
-        Happens L.tells result w (after_event w (Restarts node)) lines.old lines.new (world_seen parts.new) }
+        Happens L.tells result w (ComesTo w (Restarts node)) (after_event w (Restarts node)) lines.old lines.new (world_seen parts.new) }
     ensures stations { OnOk result (AllEntries (IsStationOf parts.old.rules parts.old.now) parts.new.stations.entries) }
     ensures rules { parts.new.rules ≡ parts.old.rules }
     ensures now { parts.new.now ≡ parts.old.now }

@@ -6,6 +6,7 @@ ghost use Rattle.dt_world_model.specs.WorldFacts.{IsPossible};
 ghost use Rattle.dt_world_model.specs.WorldStep.{at_station};
 ghost use Rattle.dt_world.specs.PlacedEvents.{MayCome, event_seen};
 ghost use Rattle.dt_world.specs.Steps.{Brings};
+ghost use Rattle.dt_world.specs.Stopping.{ComesAt};
 ghost use Rattle.dt_world.specs.Outcomes.{Happens};
 ghost use Rattle.dt_world.specs.Worlds.{IsStationOf, IsWhole, world_seen};
 
@@ -46,7 +47,7 @@ pub fn event_at<L: Lines>(
     requires may { (s : PlacedStation) → look ◌==◌ node parts.old.stations.entries ≡ Some s
         → MayCome parts.old.rules (parts.old.now + s.zero) s.station.state event }
     ensures happens { let w = world_seen parts.old in
-        Happens L.tells result w (at_station w node (event_seen event.entry)) lines.old lines.new (world_seen parts.new) }
+        Happens L.tells result w (ComesAt w node (event_seen event.entry)) (at_station w node (event_seen event.entry)) lines.old lines.new (world_seen parts.new) }
     ensures stations { OnOk result (AllEntries (IsStationOf parts.old.rules parts.old.now) parts.new.stations.entries) }
     ensures rules { parts.new.rules ≡ parts.old.rules }
     ensures now { parts.new.now ≡ parts.old.now }

@@ -8,6 +8,7 @@ ghost use Rattle.dt_world_model.specs.WorldFacts.{CanHappen};
 ghost use Rattle.dt_world_model.specs.WorldStep.{after_event, first_refusal, refusals};
 ghost use Rattle.dt_world.specs.Outcomes.{Happens};
 ghost use Rattle.dt_world.specs.Steps.{most_now};
+ghost use Rattle.dt_world.specs.Stopping.{ComesTo};
 ghost use Rattle.dt_world.specs.Worlds.{IsStationOf, IsWhole, MayStep, event_of, most_read, world_seen};
 
 use crate::doing;
@@ -33,7 +34,7 @@ pub fn happen<L: Lines>(
     requires may { MayStep (event_of event.now) }
     requires room { length buf.old ≡ most_read }
     ensures happens { let w = world_seen parts.old in
-        Happens L.tells result w (after_event w (event_of event.now)) lines.old lines.new (world_seen parts.new) }
+        Happens L.tells result w (ComesTo w (event_of event.now)) (after_event w (event_of event.now)) lines.old lines.new (world_seen parts.new) }
     ensures stations { OnOk result (AllEntries (IsStationOf parts.new.rules parts.new.now) parts.new.stations.entries) }
     ensures moment { OnOk result (parts.new.now ≤ most_now) }
     ensures can { CanHappen (event_of event.now) }

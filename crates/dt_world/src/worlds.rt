@@ -3,7 +3,7 @@ ghost use Rattle.std.specs.Prelude.{◌≡◌, ◌==◌, IfOk, false, length};
 ghost use Rattle.dt_world_model.specs.Setup.{new_world};
 ghost use Rattle.dt_world_model.specs.Tables.{has_key};
 ghost use Rattle.dt_world_model.specs.World.{placed};
-ghost use Rattle.dt_world_model.specs.WorldFacts.{SafeWorld};
+ghost use Rattle.dt_world_model.specs.WorldFacts.{SafeLedgers, SafeWorld, WorldFacts};
 ghost use Rattle.dt_world.specs.Outcomes.{Answers};
 ghost use Rattle.dt_world.specs.Worlds.{MayStep, event_of};
 
@@ -46,11 +46,12 @@ impl Model for World {
     ghost Value = { WorldValue };
 
     ghost use Rattle.std.specs.Prelude.{◌≡◌, false, length};
+    ghost use Rattle.dt_world_model.specs.WorldFacts.{SafeLedgers};
     ghost use Rattle.dt_world.specs.Worlds.{IsWhole, most_read, world_seen};
 
     ghost view = { λ w. record { state = world_seen w.parts.value; spent = w.spent } };
 
-    ghost invariant = { λ w. (length w.buf.items ≡ most_read) × (w.spent ≡ false → IsWhole w.parts.value) };
+    ghost invariant = { λ w. (length w.buf.items ≡ most_read) × (w.spent ≡ false → IsWhole w.parts.value) × SafeLedgers (world_seen w.parts.value) (world_seen w.parts.value).ledgers };
 }
 
 /// The most octets of a read.
@@ -61,7 +62,9 @@ impl World {
     /// on a link. `NoMemory` where there is none. The cost is that of all links and routes for each
     /// station.
     pub fn new(alloc: Global, setup: &Setup) -> Result<World, NoMemory>
-        ensures { IfOk result (λ world. world ≡ record { state = new_world setup.now; spent = false }) }
+        ensures made { IfOk result (λ world. world ≡ record { state = new_world setup.now; spent = false }) }
+        ensures safe { IfOk result (λ world. SafeWorld world.state) }
+        ensures facts { IfOk result (λ world. WorldFacts world.state) }
     {
         let rules = *setup.rules();
         let stated = setup.links();
@@ -144,7 +147,8 @@ impl World {
     /// What became of each octet of each flow, in the order of the flows' first octets.
     pub fn ledger(&self) -> &Ledger
         ensures rows { result.now ≡ self.now.state.ledgers.rows }
-        // Each flow of a world that isn't spent is safe.
+        // The ledger of each flow is safe, also of a spent world; the whole flow where it isn't spent.
+        ensures safe_ledgers { SafeLedgers self.now.state self.now.state.ledgers }
         ensures safe { self.now.spent ≡ false → SafeWorld self.now.state }
     {
         &self.parts.notes.ledger

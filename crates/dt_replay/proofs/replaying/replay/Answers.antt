@@ -4,11 +4,14 @@ use Rattle.dt_replay.specs.declared.outcomes.Outcome.{Outcome}
 use Rattle.dt_replay.specs.declared.schedules.ScheduledWorld.{ScheduledWorld}
 use Rattle.dt_replay.specs.Replays.{Replays}
 use Rattle.dt_replay.proofs.Ends.{replay_ends}
-use Rattle.dt_replay.proofs.Scenes.{lines_safe}
+use Rattle.dt_replay.proofs.Scenes.{all_safe, lines_safe}
 use Rattle.dt_replay.proofs.replaying.replay.Goals as goal
 
 pub returns-clause-safe : goal.returns-clause-safe
 returns-clause-safe g c = λ count. lines_safe count c.args.bytes.now
+
+pub returns-clause-whole : goal.returns-clause-whole
+returns-clause-whole g c = all_safe c.args.bytes.now
 
 pub returns-clause-ends : goal.returns-clause-ends
 returns-clause-ends g c =

@@ -1,4 +1,5 @@
-use Rattle.std.proofs.Common.{ℕ, ◌==◌, List, Some, ap, refl, sym, subst, ◌∙◌, arith}
+use Rattle.std.proofs.Common.{ℕ, ◌==◌, List, Some, ap, nat_eq, refl, sym, subst, ◌∙◌, arith}
+use Rattle.std.specs.Map.{set_value}
 use Rattle.std.specs.Prelude.{option_map}
 use Rattle.dt_reports.specs.declared.reports.Report.TheVariants as report
 use Rattle.dt_flow_model.specs.Frames.{Mark}
@@ -9,11 +10,12 @@ use Rattle.dt_world_model.specs.World.{Placed, World}
 use Rattle.dt_world_model.specs.WorldStep.{Restarts, after_event}
 use Rattle.dt_world.specs.declared.placed.Plan.{Plan}
 use Rattle.dt_world.specs.declared.placed.PlacedStation.{PlacedStation}
+use Rattle.dt_world.specs.Stopping.{ComesTo}
 use Rattle.dt_world.specs.Worlds.{IsStationOf, placed_seen, stations_seen, world_seen}
 use Rattle.dt_world.proofs.Possible.{is_placed, stopped_at_once, there}
 use Rattle.dt_world.proofs.Restarting.{emptied_new, nobody_restarts, restart_happened, started_again}
 use Rattle.dt_world.proofs.SetupTables.{look_keyed}
-use Rattle.dt_world.proofs.StationTables.{all_at, all_written, look_seen, station_written}
+use Rattle.dt_world.proofs.StationTables.{all_at, all_written, look_seen, station_same, station_written}
 use Rattle.dt_world.proofs.doing.restart.Goals as goal
 
 pub returns-in-None-clause-happens : goal.returns-in-None-clause-happens
@@ -28,8 +30,15 @@ returns-in-None-clause-happens g c =
 
 pub returns-in-Err-clause-happens : goal.returns-in-Err-clause-happens
 returns-in-Err-clause-happens g c =
-    let w = world_seen c.args.parts.now in
-    stopped_at_once c.args.parts.now c.requires.whole g.L.Lines.tells (after_event w (Restarts c.args.node)) c.args.lines.now _ refl
+    let p = c.args.parts.now in
+    let w = world_seen p in
+    let n = c.args.node in
+    let s = c.in-Some.placed.now in
+    let after = c.start_again.new.placed in
+    let found = sym c.in-Some.ensures.value in
+    let stations = ap stations_seen (c.get_mut.follows.holds after).0 ∙ ap (λ (x : PlacedStation). stations_seen (set_value (nat_eq n) p.stations.entries x)) c.in-Err.ensures.err ∙ station_same n s p.stations.entries found in
+    stopped_at_once p c.requires.whole g.L.Lines.tells (ComesTo w (Restarts n)) (after_event w (Restarts n)) c.args.lines.now _ refl
+    (ap (λ (st : List (ℕ × Placed)). let u : World = record { params = p.rules; now = p.now; stations = st; links = w.links; copies = w.copies; ledgers = w.ledgers } in u) stations)
 
 pub returns-in-Ok-clause-happens : goal.returns-in-Ok-clause-happens
 returns-in-Ok-clause-happens g c =

@@ -2,7 +2,8 @@ use Rattle.std.proofs.Common.{rules, ap, subst, sym, ◌∙◌}
 use Rattle.dt_world_model.specs.WorldStep.{first_refusal, refusals}
 use Rattle.dt_world.specs.declared.parts.Parts.{Parts}
 use Rattle.dt_world.specs.Worlds.{IsWhole, WorldValue, event_of, world_seen}
-use Rattle.dt_world.proofs.Stepping.{buf_kept, done_in, is_done, whole_after}
+use Rattle.dt_world.proofs.Stepping.{buf_kept, done_in, is_done, is_spent, spent_in, whole_after}
+use Rattle.dt_world.proofs.Possible.{safe_now}
 use Rattle.dt_world.proofs.worlds.World.step.Goals as goal
 
 pub invariant_of-self : goal.invariant_of-self
@@ -13,7 +14,8 @@ invariant_of-self g c =
     let parts = c.deref_mut.result.now in
     let is = c.deref_mut.ensures.value in
     let begun = ap (λ (p : Parts). first_refusal (refusals (world_seen p) e)) (is ∙ sym c.deref.ensures) ∙ sym c.in_default.ensures in
-    (buf_kept c.happen.new.buf c.self.inside.buf.items c.self.inside.buf.len (search rules) (search rules) c.self.invariant.0, λ u. whole_after parts (subst (λ (p : Parts). IsWhole p) (sym is) (c.self.invariant.1 unspent)) e h.can begun c.happen.new.parts g.L.Lines.tells c.args.lines.now c.happen.new.lines h.happens h.rules h.links h.moment h.stations)
+    let whole = whole_after parts (subst (λ (p : Parts). IsWhole p) (sym is) (c.self.invariant.1 unspent)) e h.can begun c.happen.new.parts g.L.Lines.tells c.args.lines.now c.happen.new.lines h.happens h.rules h.links h.moment h.stations in
+    (buf_kept c.happen.new.buf c.self.inside.buf.items c.self.inside.buf.len (search rules) (search rules) c.self.invariant.0, λ u. whole, safe_now c.happen.new.parts whole)
 
 pub returns-in-Ok : goal.returns-in-Ok
 returns-in-Ok g c =
@@ -26,3 +28,15 @@ returns-in-Ok g c =
     let seen = ap (λ (p : Parts). let v : WorldValue = record { state = world_seen p; spent = c.self.inside.spent } in v) is ∙ c.self.view_is in
     done_in g.L.Lines.tells (world_seen parts) (world_seen c.happen.new.parts) e c.args.lines.now c.happen.new.lines c.args.self.now c.self.inside.spent unspent seen
     (is_done parts (subst (λ (p : Parts). IsWhole p) (sym is) (c.self.invariant.1 unspent)) e h.can begun c.happen.new.parts g.L.Lines.tells c.args.lines.now c.happen.new.lines h.happens)
+
+pub returns-in-Err : goal.returns-in-Err
+returns-in-Err g c =
+    let unspent = ap (λ (x : WorldValue). x.spent) c.self.view_is ∙ c.requires.unspent in
+    let h = c.in-Err.ensures in
+    let e = event_of c.args.event.now in
+    let parts = c.deref_mut.result.now in
+    let is = c.deref_mut.ensures.value in
+    let begun = ap (λ (p : Parts). first_refusal (refusals (world_seen p) e)) (is ∙ sym c.deref.ensures) ∙ sym c.in_default.ensures in
+    let seen = ap (λ (p : Parts). let v : WorldValue = record { state = world_seen p; spent = c.self.inside.spent } in v) is ∙ c.self.view_is in
+    spent_in g.L.Lines.tells (world_seen parts) e c.args.lines.now c.happen.new.lines c.args.self.now _ c.self.inside.spent unspent seen
+    (is_spent parts (subst (λ (p : Parts). IsWhole p) (sym is) (c.self.invariant.1 unspent)) e h.can begun c.happen.new.parts g.L.Lines.tells c.args.lines.now c.happen.new.lines h.happens)
