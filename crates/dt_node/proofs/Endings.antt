@@ -29,7 +29,8 @@ use Rattle.dt_trace.specs.Inputs.{Input, FailedOpen, FailedTake, Reading, Taken 
 use Rattle.dt_trace.specs.Standing.{HasFound}
 use Rattle.dt_node.specs.declared.forms.Form.{Form}
 use Rattle.dt_node.specs.declared.forms.Form.TheVariants as forms
-use Rattle.dt_node.specs.Deeds.{FatesFrom, Scene, Sublist, TurnEnds, WroteSome, deeds_text, lost}
+use Rattle.dt_node.specs.Deeds.{FatesFrom, Scene, Sublist, TurnEnds, WroteSome, counted, deeds_text, lost}
+use Rattle.dt_node.specs.TakingIn.{failed_gives}
 use Rattle.dt_node.specs.Logging.{NotesBehind, NotesFault, noted_text}
 use Rattle.dt_node.specs.InOrder.{InOrder, UnsentInOrder, without_unsent_lines}
 use Rattle.dt_node.specs.Serving.{AppendsPart, Edges, FailsAs, GivesSome, IsFresh, IsWhole, Logs, NoneFails, Serves, SinkFaults, TakeFaults, Written, first_entries, edges, first_readings, most_taken}
@@ -42,6 +43,7 @@ use Rattle.dt_node.proofs.Keeping.{Given, PlannedTakes, Read, Taken, given_on, t
 use Rattle.dt_node.proofs.Orderly.{node_in_order, unsent_apart, unsent_in_order}
 use Rattle.dt_node.proofs.Unsent.{log_apart}
 use Rattle.dt_node.proofs.Beginning.{part_then}
+use Rattle.dt_node.proofs.Listing.{came_list, list_came, list_took, no_list, took_list}
 use Rattle.dt_node.proofs.Tracing.{Unfailed, far_none, far_take, far_turn, written_failed, written_far, written_unopened}
 use Rattle.dt_node.proofs.Served.{Going, Noted, Passed, edges_of, scene_of, some_both, some_map, with_held}
 
@@ -88,7 +90,7 @@ module _ (form : Form) (o : Orders) (b : Edges) where
         unsent = unsent_of _ _ _ (sym (ap (λ (r : Run). r.acts) run));
         apart = apart_of _ _ _ (sym (ap (λ (r : Run). r.acts) run));
         text = h.text;
-        written = written_far form o.setup.me Done h.readings h.takes h.deeds h.text tt h.far;
+        written = written_far form o h.inputs Done h.readings h.takes h.deeds h.text tt (came_list o h.readings h.takes h.deeds h.inputs watch None h.list) h.far;
         again = again_is_old o _ _;
         log = k.held;
         ends = ap (λ (r : Run). r.ending) run;
@@ -123,7 +125,7 @@ module _ (form : Form) (o : Orders) (b : Edges) where
         unsent = unsent_of _ _ _ (sym (ap (λ (r : Run). r.acts) run));
         apart = apart_of _ _ _ (sym (ap (λ (r : Run). r.acts) run));
         text = h.text;
-        written = written_far form o.setup.me ClockStill h.readings ts h.deeds h.text tt h.far;
+        written = written_far form o h.inputs ClockStill h.readings ts h.deeds h.text tt (took_list o h.readings ts h.deeds h.inputs watch t node h.list) h.far;
         log = h.held;
         again = again_is_old o _ _;
         ends = ap (λ (r : Run). r.ending) run;
@@ -189,7 +191,7 @@ module _ (form : Form) (o : Orders) (b : Edges) where
         unsent = unsent_of _ _ _ (sym (ap (λ (r : Run). r.acts) run));
         apart = apart_of _ _ _ (sym (ap (λ (r : Run). r.acts) run));
         text = h.text ++ noted_text form FailedTake;
-        written = written_failed form o.setup.me WireFault h.readings h.takes h.deeds h.text tt some h.far;
+        written = written_failed form o h.inputs WireFault h.readings h.takes h.deeds h.text tt some (came_list o h.readings h.takes h.deeds h.inputs watch (Some node) h.list) h.far;
         log = Appends-trans b.held n.held held h.text (noted_text form FailedTake) k.held put;
         again = again_is_old o _ _;
         ends = ap (λ (r : Run). r.ending) run;
@@ -227,7 +229,7 @@ module _ (form : Form) (o : Orders) (b : Edges) where
         unsent = unsent_of _ _ _ (sym (ap (λ (r : Run). r.acts) run));
         apart = apart_of _ _ _ (sym (ap (λ (r : Run). r.acts) run));
         text = h.text ++ noted_text form FailedTake;
-        written = written_failed form o.setup.me WriteFault h.readings h.takes h.deeds h.text tt some h.far;
+        written = written_failed form o h.inputs WriteFault h.readings h.takes h.deeds h.text tt some (came_list o h.readings h.takes h.deeds h.inputs watch (Some node) h.list) h.far;
         log = part_then h.text (noted_text form FailedTake) (h.text ++ noted_text form FailedTake) b.held n.held held refl k.held put;
         again = again_is_old o _ _;
         ends = tt;
@@ -267,7 +269,8 @@ module _ (form : Form) (o : Orders) (b : Edges) where
         unsent = unsent_of _ _ _ (sym run);
         apart = apart_of _ _ _ (sym run);
         text = h.text ++ noted_text form (Found t);
-        written = written_far form o.setup.me WriteFault h.readings ts h.deeds (h.text ++ noted_text form (Found t)) tt (far_take form o.setup.me h.readings h.takes h.deeds h.text t fits h.far);
+        written = written_far form o (h.inputs ++ Found t ∷ []) WriteFault h.readings ts h.deeds (h.text ++ noted_text form (Found t)) tt (took_list o h.readings ts h.deeds (h.inputs ++ Found t ∷ []) watch t node (list_took o h.readings h.takes t h.deeds h.inputs watch node h.list))
+            (far_take form o.setup.me h.inputs h.readings h.takes h.deeds h.text t fits h.far);
         log = part_then h.text (noted_text form (Found t)) (h.text ++ noted_text form (Found t)) b.held n.held held refl k.held put;
         again = again_is_old o _ _;
         ends = tt;
@@ -297,7 +300,7 @@ module _ (form : Form) (o : Orders) (b : Edges) where
     unsent = unsent_of [] [] [] (sym (ap (λ (r : Run). r.acts) (run_nothing o)));
     apart = apart_of [] [] [] (sym (ap (λ (r : Run). r.acts) (run_nothing o)));
     text = noted_text form FailedOpen;
-    written = written_unopened form o.setup.me WireFault tt;
+    written = written_unopened form o WireFault tt;
     log = put;
     again = again_is_old o [] [];
     ends = ap (λ (r : Run). r.ending) (run_nothing o);
@@ -328,7 +331,7 @@ module _ (form : Form) (o : Orders) (b : Edges) where
     unsent = unsent_of [] [] [] (sym (ap (λ (r : Run). r.acts) (run_nothing o)));
     apart = apart_of [] [] [] (sym (ap (λ (r : Run). r.acts) (run_nothing o)));
     text = noted_text form FailedOpen;
-    written = written_unopened form o.setup.me WriteFault tt;
+    written = written_unopened form o WriteFault tt;
     log = put;
     again = again_is_old o [] [];
     ends = tt;
@@ -352,7 +355,7 @@ module _ (form : Form) (o : Orders) (b : Edges) where
     pub deeds : List Deed
     pub acts : map act_of deeds ≡ (node_run o rs ts).acts
     pub text : List ℕ
-    pub written : Written form o.setup.me outcome rs ts deeds text
+    pub written : Written form o outcome rs ts deeds text
     pub log : AppendsPart text b.held t.held
     pub taken : Taken (opening_of o) ts b.wire t.wire
     pub lost : min (b.wire.give_faults + lost deeds) last_count ≤ t.wire.give_faults
@@ -365,11 +368,14 @@ module _ (form : Form) (o : Orders) (b : Edges) where
       let all = map-append act_of h.deeds more in
       let rs = h.earlier ++ reading ∷ [] in
       let line = noted_text form (Reading reading) ++ deeds_text form gives o.setup.me more in
+      let inputs : List Input = h.inputs ++ Reading reading ∷ failed_gives (counted 0 (fates h.deeds)) more in
       record {
         deeds = h.deeds ++ more;
         acts = all ∙ sym (run_cut o rs h.takes (map act_of h.deeds ++ map act_of more) watch (answer_of (turn o now came node)) (came_of o rs h.takes (map act_of h.deeds) (map act_of more) watch came node now (answer_of (turn o now came node)) e acts refl h.comes));
         text = h.text ++ line;
-        written = written_far form o.setup.me outcome rs h.takes (h.deeds ++ more) (h.text ++ line) whole (far_turn form o.setup.me h.earlier h.takes h.deeds more h.text reading gives h.fits k.calls h.far);
+        written = written_far form o inputs outcome rs h.takes (h.deeds ++ more) (h.text ++ line) whole
+            (came_list o rs h.takes (h.deeds ++ more) inputs watch (answer_of (turn o now came node)) (list_came o h.earlier reading h.takes h.deeds more h.inputs watch came node now (answer_of (turn o now came node)) e acts refl h.list))
+            (far_turn form o.setup.me h.inputs h.earlier h.takes h.deeds more h.text reading gives h.fits k.calls h.far);
         log = part_then h.text line (h.text ++ line) b.held n.held t.held refl k.held some.held;
         taken = taken_on (opening_of o) h.takes b.wire n.wire t.wire k.taken some.wire.same;
         lost = omega (arith, lost_more h.deeds more, k.given.lost, some.wire.lost);
@@ -464,7 +470,7 @@ module _ (form : Form) (o : Orders) (b : Edges) where
     unsent = unsent_of [] [] [] (sym (ap (λ (r : Run). r.acts) (run_nothing o)));
     apart = apart_of [] [] [] (sym (ap (λ (r : Run). r.acts) (run_nothing o)));
     text = [];
-    written = written_far form o.setup.me NoMemory [] [] [] [] tt (far_none form o.setup.me);
+    written = written_far form o [] NoMemory [] [] [] [] tt (no_list o) (far_none form o.setup.me);
     again = again_is_old o [] [];
     log = h;
     ends = tt;
@@ -494,7 +500,7 @@ module _ (form : Form) (o : Orders) (b : Edges) where
     unsent = unsent_of [] [] [] (sym (ap (λ (r : Run). r.acts) (run_nothing o)));
     apart = apart_of [] [] [] (sym (ap (λ (r : Run). r.acts) (run_nothing o)));
     text = [];
-    written = written_far form o.setup.me WriteFault [] [] [] [] tt (far_none form o.setup.me);
+    written = written_far form o [] WriteFault [] [] [] [] tt (no_list o) (far_none form o.setup.me);
     again = again_is_old o [] [];
     log = h;
     ends = tt;

@@ -19,5 +19,6 @@ mod Reading
 mod Unsent
 mod Completed
 mod Beginning
+mod Listing
 mod Tracing
 mod Again

@@ -6,7 +6,7 @@ use Rattle.std.specs.Io.KnownBytes.{Appends}
 use Rattle.std.proofs.KnownBytes.{Appends-nil, Appends-trans}
 use Rattle.dt_edges.specs.Clocks.{ClockSight, ReadsOne}
 use Rattle.dt_edges.specs.Wires.{Datagram, OpensOne, TakesOne, WireSight}
-use Rattle.dt_trace.specs.Inputs.{Reading, Taken as Found}
+use Rattle.dt_trace.specs.Inputs.{Input, Reading, Taken as Found}
 use Rattle.dt_trace.specs.Lines.{most_number}
 use Rattle.dt_trace.specs.Standing.{HasFound}
 use Rattle.dt_node.specs.declared.forms.Form.{Form}
@@ -19,6 +19,8 @@ use Rattle.dt_node.specs.Deeds.{Scene, Wrote, TurnEnds, counted, deeds_text}
 use Rattle.dt_node.specs.Logging.{noted_text}
 use Rattle.dt_node.specs.Serving.{Edges, most_taken}
 use Rattle.dt_node.proofs.Doing.{counted_more, fates_more}
+use Rattle.dt_node.specs.TakingIn.{failed_gives}
+use Rattle.dt_node.proofs.Listing.{ListCame, ListComes, ListTook, list_came, list_first, list_next, list_took}
 use Rattle.dt_node.proofs.Tracing.{SoFar, far_none, far_take, far_turn}
 use Rattle.dt_node.proofs.RunsOn.{Comes, Came, comes_first, came_of, comes_next}
 use Rattle.dt_node.proofs.Keeping.{Read, read_none, read_more, Taken, taken_none, taken_more, taken_on, Given, given_none, given_on, given_then}
@@ -61,8 +63,10 @@ pub record Going (form : Form) (o : Orders) (b : Edges) (reading gives : ℕ) (w
   pub takes : List (Option Datagram)
   pub deeds : List Deed
   pub text : List ℕ
+  pub inputs : List Input
   pub fits : reading ≤ most_number
-  pub far : SoFar form o.setup.me earlier takes deeds text
+  pub far : SoFar form o.setup.me inputs earlier takes deeds text
+  pub list : ListComes o earlier reading takes deeds inputs watch came node
   pub kept : Kept o b (earlier ++ reading ∷ []) takes deeds gives text n
   pub comes : Comes o (earlier ++ reading ∷ []) takes (map act_of deeds) watch came node
   pub paced : length (earlier ++ reading ∷ []) ≤ most_equal * moment watch + watch.equal
@@ -73,7 +77,9 @@ pub record Passed (form : Form) (o : Orders) (b : Edges) (gives : ℕ) (watch : 
   pub takes : List (Option Datagram)
   pub deeds : List Deed
   pub text : List ℕ
-  pub far : SoFar form o.setup.me readings takes deeds text
+  pub inputs : List Input
+  pub far : SoFar form o.setup.me inputs readings takes deeds text
+  pub list : ListCame o readings takes deeds inputs watch answer
   pub kept : Kept o b readings takes deeds gives text n
   pub came : Came o readings takes (map act_of deeds) watch answer
   pub paced : length readings ≤ most_equal * moment watch + watch.equal
@@ -86,8 +92,10 @@ module _ (form : Form) (o : Orders) (b : Edges) where
     takes = [];
     deeds = [];
     text = [];
+    inputs = [];
     fits = fits;
     far = far_none form o.setup.me;
+    list = list_first o r;
     kept = record {
       held = Appends-nil b.held;
       calls = refl;
@@ -125,7 +133,9 @@ module _ (form : Form) (o : Orders) (b : Edges) where
     takes = h.takes;
     deeds = h.deeds ++ more;
     text = h.text ++ (noted_text form (Reading reading) ++ deeds_text form gives o.setup.me more);
-    far = far_turn form o.setup.me h.earlier h.takes h.deeds more h.text reading gives h.fits h.kept.calls h.far;
+    inputs = h.inputs ++ Reading reading ∷ failed_gives (counted 0 (fates h.deeds)) more;
+    far = far_turn form o.setup.me h.inputs h.earlier h.takes h.deeds more h.text reading gives h.fits h.kept.calls h.far;
+    list = list_came o h.earlier reading h.takes h.deeds more h.inputs watch came node now answer e acts answers h.list;
     kept = kept_turn (h.earlier ++ reading ∷ []) h.takes h.deeds more gives h.text (noted_text form (Reading reading)) n t h.kept wrote;
     came = subst (λ (xs : List Act). Came o (h.earlier ++ reading ∷ []) h.takes xs watch answer) (sym (map-append act_of h.deeds more))
         (came_of o (h.earlier ++ reading ∷ []) h.takes (map act_of h.deeds) (map act_of more) watch came node now answer e acts answers h.comes);
@@ -138,7 +148,9 @@ module _ (form : Form) (o : Orders) (b : Edges) where
     pub takes : List (Option Datagram)
     pub deeds : List Deed
     pub text : List ℕ
-    pub far : SoFar form o.setup.me readings (takes ++ t ∷ []) deeds text
+    pub inputs : List Input
+    pub far : SoFar form o.setup.me inputs readings (takes ++ t ∷ []) deeds text
+    pub list : ListTook o readings (takes ++ t ∷ []) deeds inputs watch t node
     pub held : Appends b.held n.held text
     pub faults : n.faults ≡ b.faults
     pub calls : gives ≡ counted 0 (fates deeds)
@@ -158,7 +170,9 @@ module _ (form : Form) (o : Orders) (b : Edges) where
     takes = h.takes;
     deeds = h.deeds;
     text = h.text ++ noted_text form (Found t);
-    far = far_take form o.setup.me h.readings h.takes h.deeds h.text t fits h.far;
+    inputs = h.inputs ++ Found t ∷ [];
+    far = far_take form o.setup.me h.inputs h.readings h.takes h.deeds h.text t fits h.far;
+    list = list_took o h.readings h.takes t h.deeds h.inputs watch node h.list;
     held = Appends-trans b.held n.held held h.text (noted_text form (Found t)) h.kept.held put;
     faults = same ∙ h.kept.faults;
     calls = h.kept.calls;
@@ -184,8 +198,10 @@ module _ (form : Form) (o : Orders) (b : Edges) where
         takes = h.takes ++ t ∷ [];
         deeds = h.deeds;
         text = h.text;
+        inputs = h.inputs;
         fits = fits;
         far = h.far;
+        list = list_next o h.readings r (h.takes ++ t ∷ []) t h.deeds h.inputs watch node h.list;
         kept = record {
           held = h.held;
           calls = h.calls;

@@ -9,6 +9,7 @@ pub mod HandingIn
 pub mod InOrder
 pub mod Logging
 pub mod Deeds
+pub mod TakingIn
 pub mod Codes
 pub mod Serving
 pub mod Answering

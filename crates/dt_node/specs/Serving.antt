@@ -18,7 +18,8 @@ use Rattle.dt_node.specs.InOrder.{UnsentInOrder, without_unsent_lines}
 use Rattle.dt_node.specs.declared.forms.Form.{Form}
 use Rattle.dt_node.specs.declared.forms.Form.TheVariants as forms
 use Rattle.dt_node.specs.Deeds.{Sublist, lost, lost_numbers, FatesFrom}
-use Rattle.dt_trace.specs.Inputs.{Input, trace_text}
+use Rattle.dt_node.specs.TakingIn.{run_inputs}
+use Rattle.dt_trace.specs.Inputs.{trace_text}
 use Rattle.dt_trace.specs.Standing.{Stand, noted_all}
 use Rattle.dt_trace.specs.Traces.{Recorded, nothing, trace_of}
 
@@ -158,34 +159,33 @@ GivesAs WriteFault deeds before after = GivesSome deeds before after
 abbrev pub recorded : List ℕ → List (Option Datagram) → List Deed → List ℕ → Bool → Recorded
 recorded readings takes deeds failing unopened = record { readings = readings; takes = takes; failing_takes = failing; failing_gives = lost_numbers 0 (fates deeds); open_fails = unopened }
 
--- The lines of a trace that come to these inputs. With fewer than 2^64 gives each may stand where it does.
-pub record Traced (readings : List ℕ) (takes : List (Option Datagram)) (deeds : List Deed) (failing : List ℕ) (unopened : Bool) (text : List ℕ) : Type 0 where
-  pub inputs : List Input
-  pub spelled : text ≡ trace_text inputs
-  pub noted : noted_all nothing inputs ≡ recorded readings takes deeds failing unopened
-  pub stand : length (fates deeds) < 2 ^ 64 → Stand 1 nothing inputs
+-- The lines of a trace: those of the run's inputs, one after another. They come to what is recorded. With fewer than 2^64 gives each may stand where it does.
+pub record Traced (o : Orders) (readings : List ℕ) (takes : List (Option Datagram)) (deeds : List Deed) (failing : List ℕ) (unopened : Bool) (text : List ℕ) : Type 0 where
+  pub spelled : text ≡ trace_text (run_inputs o readings takes deeds failing unopened)
+  pub noted : noted_all nothing (run_inputs o readings takes deeds failing unopened) ≡ recorded readings takes deeds failing unopened
+  pub stand : length (fates deeds) < 2 ^ 64 → Stand 1 nothing (run_inputs o readings takes deeds failing unopened)
 
--- which calls failed
+-- Which calls failed: none, or the open, or the last take. After a put that failed it may be any of these.
 abbrev pub HasFailed : NodeOutcome → (readings takes : ℕ) → List ℕ → Bool → Type 0
 HasFailed Done readings takes failing unopened = (failing ≡ []) × (unopened ≡ false)
 HasFailed ClockStill readings takes failing unopened = (failing ≡ []) × (unopened ≡ false)
 HasFailed NoMemory readings takes failing unopened = (failing ≡ []) × (unopened ≡ false)
 HasFailed WireFault readings takes failing unopened = ((readings ≡ 0) × (failing ≡ []) × (unopened ≡ true)) ⊎ ((0 < readings) × (failing ≡ (takes + 1) ∷ []) × (unopened ≡ false))
-HasFailed WriteFault readings takes failing unopened = Unit {0}
+HasFailed WriteFault readings takes failing unopened = ((failing ≡ []) × (unopened ≡ false)) ⊎ (((readings ≡ 0) × (failing ≡ []) × (unopened ≡ true)) ⊎ ((0 < readings) × (failing ≡ (takes + 1) ∷ []) × (unopened ≡ false)))
 HasFailed Refused readings takes failing unopened = ⊥
 
 -- The trace of a run. It is read back as what the run took in.
-pub record IsTrace (outcome : NodeOutcome) (readings : List ℕ) (takes : List (Option Datagram)) (deeds : List Deed) (text : List ℕ) : Type 0 where
+pub record IsTrace (o : Orders) (outcome : NodeOutcome) (readings : List ℕ) (takes : List (Option Datagram)) (deeds : List Deed) (text : List ℕ) : Type 0 where
   pub failing : List ℕ
   pub unopened : Bool
   pub failed : HasFailed outcome (length readings) (length takes) failing unopened
-  pub traced : Traced readings takes deeds failing unopened text
+  pub traced : Traced o readings takes deeds failing unopened text
   pub read : length (fates deeds) < 2 ^ 64 → trace_of text ≡ Ok (recorded readings takes deeds failing unopened)
 
 -- The log: the lines of the run, and behind the `put` line of each frame that was lost its `unsent` line. Or the trace.
-abbrev pub Written : Form → (me : ℕ) → NodeOutcome → List ℕ → List (Option Datagram) → List Deed → List ℕ → Type 0
-Written forms.Log me outcome readings takes deeds text = text ≡ log_text (log_lines me deeds)
-Written forms.Trace me outcome readings takes deeds text = IsTrace outcome readings takes deeds text
+abbrev pub Written : Form → Orders → NodeOutcome → List ℕ → List (Option Datagram) → List Deed → List ℕ → Type 0
+Written forms.Log o outcome readings takes deeds text = text ≡ log_text (log_lines o.setup.me deeds)
+Written forms.Trace o outcome readings takes deeds text = IsTrace o outcome readings takes deeds text
 
 -- WHAT IS TRUE OF A RUN OF ACCEPTED ORDERS, by the form of what is written
 
@@ -201,7 +201,7 @@ pub record Serves (form : Form) (o : Orders) (outcome : NodeOutcome) (before aft
   pub acts : map act_of deeds ≡ (node_run o readings takes).acts
   -- what is written
   pub text : List ℕ
-  pub written : Written form o.setup.me outcome readings takes deeds text
+  pub written : Written form o outcome readings takes deeds text
   pub log : Logs outcome text before.held after.held
   -- in a log each `unsent` line stands directly behind the `put` line of its link
   pub unsent : UnsentInOrder None (log_lines o.setup.me deeds)

@@ -1,3 +1,4 @@
+pub mod Completed
 mod Cutting
 mod Fates
 mod Joining

@@ -41,7 +41,7 @@ not_beyond failing n m is h = elim (cases_Bool (nat_le m n)) [
       )
 ]
 
-no_fault : (p : Plan) (n m : ℕ) → p.failing_takes ≡ [] → p.open_fails ≡ false → FailsAs WireFault p n m → ⊥
+pub no_fault : (p : Plan) (n m : ℕ) → p.failing_takes ≡ [] → p.open_fails ≡ false → FailsAs WireFault p n m → ⊥
 no_fault p n m none opens (inl h) = absurd (let e : false ≡ true = sym opens ∙ h.0 in cc)
 no_fault p n m none opens (inr h) = absurd (let e : false ≡ true = ap (λ (ns : List ℕ). is_planned ns (m + 1)) (sym none) ∙ h.3 in cc)
 

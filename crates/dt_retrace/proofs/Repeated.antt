@@ -21,6 +21,7 @@ use Rattle.dt_node.specs.Deeds.{lost_numbers}
 use Rattle.dt_node.specs.Drafts.{refusal_text, script_of}
 use Rattle.dt_node.specs.Orders.{Orders}
 use Rattle.dt_node.specs.Runs.{Run, node_run}
+use Rattle.dt_node.specs.TakingIn.{run_inputs}
 use Rattle.dt_node.specs.Serving.{Edges, EndsAs, IsFresh, IsWhole, Serves, edges, most_taken, recorded}
 use Rattle.dt_retrace.specs.Parts.{text_of}
 use Rattle.dt_retrace.specs.Repeating.{Repeats, joined}
@@ -78,7 +79,7 @@ all_noted line t [] h stand = h
 all_noted line t (input ∷ inputs) h stand = all_noted (suc line) (noted t input) inputs (noted_found t input h stand.0) stand.2
 
 -- nothing was taken of the wire of a trace
-fresh : (t : Recorded) → IsFresh (wire_in_memory (wire_of t))
+pub fresh : (t : Recorded) → IsFresh (wire_in_memory (wire_of t))
 fresh t = record { takes = refl; gives = refl; used = refl }
 
 -- THE SAME RUN
@@ -99,7 +100,7 @@ module _ (o : Orders) (outcome : NodeOutcome) (b e : Edges) (s : Serves forms.Tr
   same_readings = readings_again s.readings
 
   same_takes : map g (range_with_len 0 (length s.takes)) ≡ s.takes
-  same_takes = takes_again s.takes (subst (λ (t : Recorded). AllFound t.takes) s.written.traced.noted (all_noted 1 nothing s.written.traced.inputs tt (s.written.traced.stand few)))
+  same_takes = takes_again s.takes (subst (λ (t : Recorded). AllFound t.takes) s.written.traced.noted (all_noted 1 nothing (run_inputs o s.readings s.takes s.deeds s.written.failing s.written.unopened) tt (s.written.traced.stand few)))
 
   module _ (again : NodeOutcome) (out : SinkSight) (z : Edges) (k : Serves forms.Log o again (edges_before trace out) z) (whole' : IsWhole again) where
     planned_readings : k.readings ≡ map f (range_with_len 0 (length k.readings))

@@ -1,3 +1,4 @@
+pub mod Completing
 pub mod Parts
 pub mod Repeating
 pub mod Retracing

@@ -32,8 +32,8 @@ use Rattle.dt_top.specs.Inputs.{limit}
 use Rattle.dt_top.specs.Runs.{After, IsFor, IsServedOrLacksMemory, Leaves, PutFailed, Run, Serves, TakeFailed}
 use Rattle.dt_top.specs.Serving.{Ends, MakeOwes, NodeAnswers, OwesNothing, RefusesInput, Says, WireFailed, after, before, job_owes}
 use Rattle.dt_top.specs.Streams.{Effects, NoEffects, OwesFor, Served, Streams}
-use Rattle.dt_top.proofs.NodeRuns.{node_completes}
-use Rattle.dt_top.proofs.Reruns.{runs_again}
+use Rattle.dt_top.proofs.NodeRuns.{node_completes, trace_completes}
+use Rattle.dt_top.proofs.Reruns.{retrace_completes, runs_again}
 
 -- THE ENDING THAT A STATUS TELLS
 
@@ -218,12 +218,14 @@ ran_node r h = record {
   stopped = after_done Node r h;
   traced = after_done Trace r h;
   complete_node = λ is. node_completes h.ending r.status r.streams h.status (ends_as r h (Some (Serve Node)) h.ending is refl) r.streams.source_before.left refl;
+  complete_trace = λ is. trace_completes h.ending r.status r.streams h.status (ends_as r h (Some (Serve Trace)) h.ending is refl) r.streams.source_before.left refl;
 }
 
 ran_again : (r : Run) → IsEnded r → RanAgain r
 ran_again r h = record {
   retraced = after_done Retrace r h;
   runs_again = λ is. runs_again h.ending r.status r.streams h.status (ends_as r h (Some (Serve Retrace)) h.ending is refl) r.streams.source_before.left refl;
+  complete_retrace = λ is. retrace_completes h.ending r.status r.streams h.status (ends_as r h (Some (Serve Retrace)) h.ending is refl) r.streams.source_before.left refl;
 }
 
 is_called : (r : Run) → IsEnded r → IsCalled r

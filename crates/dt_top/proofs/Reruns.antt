@@ -1,5 +1,6 @@
 -- A run that was traced is run again: it ends with the same status and the same log, where there is memory and nothing fails.
 use Rattle.std.proofs.Common.{◌≡◌, ◌⊎◌, ◌≤◌, ◌<◌, ◌^◌, ℕ, List, length, Option, Some, None, IfSome, inl, inr, refl, sym, ap, subst, arith}
+use Rattle.dt_edges.specs.Counts.{HasRisen}
 use Rattle.dt_edges.specs.Sinks.{SinkSight}
 use Rattle.dt_log.specs.Logs.{log_text}
 use Rattle.dt_node.specs.Acts.{fates, log_lines}
@@ -9,8 +10,10 @@ use Rattle.dt_node.specs.Serving.{Edges, IsWhole, Serves}
 use Rattle.dt_node.specs.declared.forms.Form.TheVariants as forms
 use Rattle.dt_node.specs.declared.outcomes.NodeOutcome.{NodeOutcome}
 use Rattle.dt_node.specs.declared.outcomes.NodeOutcome.TheVariants as node
+use Rattle.dt_retrace.specs.Completing.{GoesToStop}
 use Rattle.dt_retrace.specs.Repeating.{Repeats, joined}
 use Rattle.dt_retrace.specs.Retracing.{Retraces}
+use Rattle.dt_retrace.proofs.Completed.{MeetsStop, meets_stop}
 use Rattle.dt_retrace.proofs.Repeated.{run_again}
 use Rattle.dt_top.specs.declared.command.Command.TheVariants.{Serve}
 use Rattle.dt_top.specs.declared.ending.Ending.{Ending}
@@ -76,3 +79,51 @@ runs_again ending result s is h (Some octets) e = λ script o outcome before aft
     λ again r. run_again o outcome before after first whole few script accepted again old new (subst (λ xs. Retraces xs again old new) whole_input r)
     in
     subst (λ status. Leaves log outcome status s) (sym is) (by_ending ending log octets outcome s (record { left = e; fits = fits; repeats = repeats }) h)
+
+-- AN INPUT THAT GOES TO THE STOP is served
+
+abbrev Ended : ℕ → Type 0
+Ended status = (status ≡ 0) ⊎ (status ≡ 4)
+
+-- what the run begins with, and that nothing fails
+record Goes (octets : List ℕ) (s : Streams) : Type 0 where
+  left : s.source_before.left ≡ Some octets
+  fits : length octets ≤ limit
+  goes : GoesToStop octets
+  source : HasRisen s.source_before.faults s.source_after.faults → ⊥
+  out : HasRisen s.effects.out_before.faults s.effects.out_after.faults → ⊥
+
+stop_met : (outcome : NodeOutcome) → MeetsStop outcome → Ended (status_of (node_ending outcome))
+stop_met outcome h = elim h [
+  | inl e ↦ subst (λ n. Ended (status_of (node_ending n))) (sym e) (inl refl)
+  | inr e ↦ subst (λ n. Ended (status_of (node_ending n))) (sym e) (inr refl)
+]
+
+served_again : (outcome : NodeOutcome) (octets : List ℕ) (s : Streams) → Goes octets s → Served (λ xs e. Retraces xs outcome e.out_before e.out_after) s → Ended (status_of (node_ending outcome))
+served_again outcome octets s g h =
+    let is : octets ≡ h.octets = subst (λ l. IfSome l (λ all. all ≡ h.octets)) g.left h.input.whole in
+    stop_met outcome (meets_stop octets g.goes s.effects.out_before s.effects.out_after g.out outcome (subst (λ xs. Retraces xs outcome s.effects.out_before s.effects.out_after) (sym is) h.owes))
+
+owes_again : (ending : Ending) (octets : List ℕ) (s : Streams) → Goes octets s → OwesFor (job_owes Retrace) ending s → Ended (status_of ending)
+owes_again Done octets s g h = inl refl
+owes_again Usage octets s g h = absurd h
+owes_again TooLong octets s g h =
+    let long : limit < length octets = subst (λ l. IfSome l (λ all. limit < length all)) g.left h.0 in
+    absurd (omega (arith, g.fits, long))
+owes_again Refused octets s g h = served_again node.Refused octets s g h
+owes_again NoMemory octets s g h = inr refl
+owes_again WireFault octets s g h = served_again node.WireFault octets s g h
+owes_again ClockStill octets s g h = served_again node.ClockStill octets s g h
+owes_again ReadFault octets s g h = absurd (g.source h.0)
+owes_again WriteFault octets s g h = served_again node.WriteFault octets s g h
+
+ends_again : (ending : Ending) (octets : List ℕ) (s : Streams) → Goes octets s → Ends (Some (Serve Retrace)) ending s → Ended (status_of ending)
+ends_again ending octets s g h = elim h [
+  | inl owes ↦ owes_again ending octets s g owes
+  | inr lacks ↦ subst (λ e. Ended (status_of e)) (sym lacks.0) (inr refl)
+]
+
+pub retrace_completes : (ending : Ending) (result : ℕ) (s : Streams) → result ≡ status_of ending → Ends (Some (Serve Retrace)) ending s → (left : Option (List ℕ)) → s.source_before.left ≡ left
+    → IfSome left (λ octets. length octets ≤ limit → GoesToStop octets → (HasRisen s.source_before.faults s.source_after.faults → ⊥) → (HasRisen s.effects.out_before.faults s.effects.out_after.faults → ⊥) → Ended result)
+retrace_completes ending result s is h None e = tt
+retrace_completes ending result s is h (Some octets) e = λ fits goes source out. subst Ended (sym is) (ends_again ending octets s (record { left = e; fits = fits; goes = goes; source = source; out = out }) h)

@@ -16,6 +16,7 @@ use Rattle.dt_node.specs.declared.forms.Form.TheVariants as forms
 use Rattle.dt_node.specs.declared.outcomes.NodeOutcome.{NodeOutcome}
 use Rattle.dt_node.specs.declared.outcomes.NodeOutcome.TheVariants as node
 use Rattle.dt_replay.specs.Schedules.{is_accepted, replay_text}
+use Rattle.dt_retrace.specs.Completing.{GoesToStop}
 use Rattle.dt_retrace.specs.Repeating.{joined}
 use Rattle.dt_retrace.specs.Retracing.{Retraces}
 use Rattle.dt_top.specs.declared.command.Command.TheVariants.{Serve, Make}
@@ -42,14 +43,20 @@ pub record Replayed (r : Run) : Type 0 where
   pub part_of_log : After Replay 8 (λ octets. Leaves HasPart (replay_text octets) r) r
   pub complete : Serves Replay (λ octets. is_accepted octets ≡ true) r
 
+-- an accepted script is served by this job, where the clock tells a plan that reaches the stop, there is memory, and nothing fails
+abbrev pub CompletesBy : Job → Run → Type 0
+CompletesBy job r =
+    IsFor job r → OfInput (λ octets. (o : Orders) (plan : List ℕ) → length octets ≤ limit → script_of octets ≡ Some o
+    → r.streams.effects.clock_before.plan ≡ Some plan → r.streams.effects.clock_before.readings ≡ Some [] → ReachesStop o.stop plan
+    → (TakeFailed r → ⊥) → (PutFailed r → ⊥) → (WireTakeFailed r → ⊥) → IsServedOrLacksMemory r) r
+
 -- `node` and `trace`: all that is said of a node that met its stop, with its log or its trace.
 pub record RanNode (r : Run) : Type 0 where
   pub stopped : After Node 0 (λ octets. NodeAnswers forms.Log node.Done octets r.streams.effects) r
   pub traced : After Trace 0 (λ octets. NodeAnswers forms.Trace node.Done octets r.streams.effects) r
-  -- An accepted script is served, where the clock tells a plan that reaches the stop, there is memory, and nothing fails.
-  pub complete_node : IsFor Node r → OfInput (λ octets. (o : Orders) (plan : List ℕ) → length octets ≤ limit → script_of octets ≡ Some o
-      → r.streams.effects.clock_before.plan ≡ Some plan → r.streams.effects.clock_before.readings ≡ Some [] → ReachesStop o.stop plan
-      → (TakeFailed r → ⊥) → (PutFailed r → ⊥) → (WireTakeFailed r → ⊥) → IsServedOrLacksMemory r) r
+  -- By both, an accepted script is served, where the clock tells a plan that reaches the stop, there is memory, and nothing fails.
+  pub complete_node : CompletesBy Node r
+  pub complete_trace : CompletesBy Trace r
 
 -- `retrace`: a run that was run again, the log of its script over the wire and the clock of its trace.
 pub record RanAgain (r : Run) : Type 0 where
@@ -59,6 +66,8 @@ pub record RanAgain (r : Run) : Type 0 where
       → (first : nodes.Serves forms.Trace o outcome before after) → IsWhole outcome → length (fates first.deeds) < 2 ^ 64
       → octets ≡ joined script first.text → length octets ≤ limit
       → RunsAgain (log_text (log_lines o.setup.me first.deeds)) outcome r.status r.streams.effects.out_before r.streams.effects.out_after) r
+  -- An input without a refused line, whose trace reaches the stop of its script and lists neither an open nor a take that failed, is served.
+  pub complete_retrace : Serves Retrace GoesToStop r
 
 -- `make`: the generator's schedule, whole, or a first part of it, where a put failed. No memory is wanted but for the words, before anything is written.
 pub record IsMade (r : Run) : Type 0 where
