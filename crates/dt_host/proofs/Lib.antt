@@ -22,3 +22,4 @@ pub mod Stale
 pub mod Picks
 pub mod Offered
 pub mod Later
+pub mod Apart

@@ -5,3 +5,4 @@ pub mod Orders
 pub mod Agendas
 pub mod Notes
 pub mod Soonest
+pub mod Others

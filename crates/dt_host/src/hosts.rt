@@ -212,9 +212,9 @@ impl Host {
     ///   there is none, or where its number isn't one that the sender waits for.
     ///
     /// Where the answer is `Replied` the acknowledgement is in the frame, a Deltagram of life `mpl`, and
-    /// else the frame is as it was. `NoMemory` comes only where a receiver was to be made, and leaves all
-    /// as it was. It takes memory for a new receiver alone. The cost is that of the octets, and of the
-    /// receiver's queue where it is made.
+    /// else the frame is as it was. `NoMemory` comes only where the host isn't silent and a receiver was to
+    /// be made, and leaves all as it was. It takes memory for a new receiver alone. The cost is that of
+    /// the octets, and of the receiver's queue where it is made.
     pub fn arrive<L: Ledger>(
         &mut self,
         from: NodeId,
@@ -237,6 +237,7 @@ impl Host {
             IfSome (replied self.old.rules flow result) (λ octets. IsGram octets) }
         ensures memory { let flow = flow_of from.0 self.old.state.me (packet_of packet.now) in
             IsErr result → IsMade self.old.rules flow (packet_of packet.now) self.old.state }
+        ensures awake { IsErr result → self.old.state.until ≤ now }
         ensures looks { steps.new ≤ steps.old + 4 }
     {
         self.latest = now;

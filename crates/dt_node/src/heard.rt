@@ -39,7 +39,7 @@ impl<'v, V: Visitor<Frame>> Visitor<Frame> for Listener<'v, V> {
 
     ghost tells = { λ s r t. listens_tells V.tells s r t };
 
-    ghost tags = { λ s host octets tag t. listens_tags V.tags s host octets tag t };
+    ghost tags = { λ now s host octets tag t. listens_tags (V.tags now) s host octets tag t };
 
     ghost hands = { λ s link parcel t. listens_hands V.hands s link parcel t };
 
@@ -132,7 +132,7 @@ fn listen<V: Visitor<Frame>>(
     requires gram { IsGram frame.old }
     requires go { MayGo now station.old }
     ensures ends { let script = station_event station.old.rules now (Arrive link (plain frame.old)) station.old.state in
-        Concludes V.tells V.tags V.hands V.fails result script listener.old.visitor.now listener.new.visitor.now station.new.state }
+        Concludes V.tells (V.tags now) V.hands V.fails result script listener.old.visitor.now listener.new.visitor.now station.new.state }
     ensures heard { let script = station_event station.old.rules now (Arrive link (plain frame.old)) station.old.state in
         OnOk result (listener.new.heard ≡ heard_in script listener.old.heard) }
     ensures same { listener.new.visitor.ghost_name ≡ listener.old.visitor.ghost_name }
@@ -153,7 +153,7 @@ pub fn hear<V: Visitor<Frame>>(
     requires gram { IsGram frame.old }
     requires go { MayGo now station.old }
     ensures ends { let script = station_event station.old.rules now (Arrive link (plain frame.old)) station.old.state in
-        Concludes V.tells V.tags V.hands V.fails result script visitor.old visitor.new station.new.state }
+        Concludes V.tells (V.tags now) V.hands V.fails result script visitor.old visitor.new station.new.state }
     ensures heard { let script = station_event station.old.rules now (Arrive link (plain frame.old)) station.old.state in
         IfOk result (λ answer. answer ≡ heard_in script heard.Nothing) }
     ensures on { OnOk result (GoesOn now 0 station.old station.new) }

@@ -79,7 +79,7 @@ impl<'w, 'o, W: Wire, K: Sink> Visitor<Frame> for Log<'w, 'o, W, K> {
 
     ghost tells = { λ s r t. log_tells (log_sight W.sight K.sight) s r t };
 
-    ghost tags = { λ s host octets tag t. log_tags s host octets tag t };
+    ghost tags = { λ now s host octets tag t. log_tags s host octets tag t };
 
     ghost hands = { λ s link parcel t. log_hands (log_sight W.sight K.sight) s link parcel t };
 

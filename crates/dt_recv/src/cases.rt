@@ -1,5 +1,6 @@
 //! The table of cases: what a receiver does with a packet, as masked rows.
-ghost use Rattle.std.specs.Prelude.{◌≡◌, ◌<◌, ◌≤◌, ◌==◌, Bool, Option, option_map};
+ghost use Rattle.std.specs.Prelude.{◌≡◌, ◌<◌, ◌≤◌, ◌==◌, [], ◌∷◌, Bool, Option, option_map};
+ghost use Rattle.dt_cases.specs.Tables.{EachMeetsOne, actions_at};
 ghost use Rattle.dt_units.specs.declared.order.Relation.{Relation};
 ghost use Rattle.dt_units.specs.Numbers.{relation_of};
 ghost use Rattle.dt_flow_model.specs.ReceiveRecord.{action_of, close_action};
@@ -33,31 +34,41 @@ fn coded(code: u8) -> Action
     }
 }
 
-/// The action at a key, which is below 32.
+// Rows 1 to 3 are without a record, rows 4 to 9 with one; 10 and 11 are for closing packets, which
+// rows 1 to 3 drop where no record stands.
+const CASES: [Row; 11] = rows! {
+    6 0 Drop;
+    7 3 Make;
+    7 2 TellNumber;
+    28 4 TellExpected;
+    29 13 Accept;
+    29 12 TellExpected;
+    31 23 Skip;
+    31 22 TellNumber;
+    30 20 TellExpected;
+    29 29 Close;
+    29 28 Drop;
+};
+
+/// The table of cases: each key below 32 meets exactly one of its rows.
+fn cases() -> [Row; 11]
+    ensures table { result ≡ CASES }
+    ensures covered { EachMeetsOne result 32 }
+{
+    prove!(covers(&CASES, 32));
+    CASES
+}
+
+/// The action at a key, which is below 32: that of the one row of the table which the key meets.
 pub fn action_at(key: u8) -> Action
     requires { key < 32 }
+    ensures row { actions_at CASES key ≡ action_code result ∷ [] }
     ensures data { (fits drf : Bool) (relation : Option Relation)
         → key ≡ data_key fits drf relation → result ≡ data_action relation drf fits }
     ensures close { (equal : Option Bool)
         → key ≡ close_key equal → result ≡ closing_action equal }
 {
-    // Rows 1 to 3 are without a record, rows 4 to 9 with one; 10 and 11 are for closing packets, which
-    // rows 1 to 3 drop where no record stands.
-    const CASES: [Row; 11] = rows! {
-        6 0 Drop;
-        7 3 Make;
-        7 2 TellNumber;
-        28 4 TellExpected;
-        29 13 Accept;
-        29 12 TellExpected;
-        31 23 Skip;
-        31 22 TellNumber;
-        30 20 TellExpected;
-        29 29 Close;
-        29 28 Drop;
-    };
-    prove!(covers(&CASES, 32));
-    coded(pick(&CASES, key))
+    coded(pick(&cases(), key))
 }
 
 /// The key of a data packet, whose number has this relation to the expected one, or where no record

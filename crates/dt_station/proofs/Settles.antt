@@ -1,5 +1,6 @@
 -- A station's event, put together from its parts.
-use Rattle.std.proofs.Common.{◌≡◌, ℕ, ◌+◌, ◌<◌, List, map, length, Result, refl, subst, sym, ◌∙◌}
+use Rattle.std.proofs.Common.{◌≡◌, ℕ, ◌+◌, ◌<◌, List, map, length, Result, Ok, Err, refl, subst, sym, ◌∙◌}
+use Rattle.std.specs.Prelude.{OnOk}
 use Rattle.dt_units.specs.declared.parameters.Params.{Params}
 use Rattle.dt_reports.specs.Told.{Told}
 use Rattle.dt_flow_model.specs.Acting.{record_for}
@@ -11,7 +12,7 @@ use Rattle.dt_world_model.specs.Script.{Concludes, Plays, Stops, ◌>>=◌}
 use Rattle.dt_world_model.specs.Station.{Event, Station, do_turns, flush_links, happen, settle_station, station_event, station_with}
 use Rattle.dt_station.specs.declared.events.LocalEvent.{LocalEvent}
 use Rattle.dt_station.specs.declared.events.LocalEvent.TheVariants as local
-use Rattle.dt_station.specs.Events.{MayHappenHere, MayHappenHereNow, MaySend, MaySendNow}
+use Rattle.dt_station.specs.Events.{IsBufferNow, LeavesBufferHere, MayHappenHere, MayHappenHereNow, MaySend, MaySendNow, ReadsIntoHere, read_into}
 use Rattle.dt_station.proofs.Playing.{answers_hold, ends_after, stops_after, stops_within}
 
 module _ {V T : Type 0} (tells : V → Told → V → Type 0) (tags : V → Host → List ℕ → T → V → Type 0) (hands : V → ℕ → Parcel T → V → Type 0) (fails : V → V → Type 0) where
@@ -58,3 +59,31 @@ module _ {V T : Type 0} (tells : V → Told → V → Type 0) (tags : V → Host
   may_now p q now most station settled first m (local.Send flow sent begin end) same me played may = may_send p q now station settled first m flow (length sent.now) same me played may
   may_now p q now most station settled first m (local.Read flow) same me played may = may
   may_now p q now most station settled first m local.Tick same me played may = tt
+
+  -- a read of the host that has settled fills the buffer as it is told of the whole event
+  pub reads_now : (p q : Params) (now : ℕ) (station settled : Station T) (first m : V) (old new : List ℕ) (event : LocalEvent) → q ≡ p → Plays tells tags hands (settle_station p now station) first m settled →
+      IsBufferNow q now settled.host event old new → ReadsIntoHere tells tags hands p now event station first old new
+  reads_now p q now station settled first m old new (local.Send flow sent begin end) same played h = tt
+  reads_now p q now station settled first m old new (local.Read flow) same played h = record {
+    settled = settled;
+    seen = m;
+    settles = played;
+    filled = subst (λ (q : Params). new ≡ read_into q now flow old settled.host) same h;
+  }
+  reads_now p q now station settled first m old new local.Tick same played h = tt
+
+-- a buffer that nothing was done to is left
+pub leaves_it : (event : LocalEvent) (old : List ℕ) → LeavesBufferHere event old old
+leaves_it (local.Send flow sent begin end) old = refl
+leaves_it (local.Read flow) old = tt
+leaves_it local.Tick old = refl
+
+pub leaves_now : (p : Params) (now : ℕ) (host : Host) (event : LocalEvent) (old new : List ℕ) → IsBufferNow p now host event old new → LeavesBufferHere event old new
+leaves_now p now host (local.Send flow sent begin end) old new h = h
+leaves_now p now host (local.Read flow) old new h = tt
+leaves_now p now host local.Tick old new h = h
+
+-- after any answer, so at Ok
+pub on_any : {A E : Type 0} (r : Result A E) (P : Type 0) → P → OnOk r P
+on_any (Ok a) P h = h
+on_any (Err e) P h = tt

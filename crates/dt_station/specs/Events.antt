@@ -1,13 +1,15 @@
 -- An event of the program, as a value without loans; when it may come.
-use Rattle.std.specs.Prelude.{◌≡◌, ◌≢◌, ℕ, ◌+◌, ◌<◌, ◌≤◌, List, length}
+use Rattle.std.specs.Prelude.{◌≡◌, ◌≢◌, ℕ, ◌+◌, ◌<◌, ◌≤◌, ◌++◌, List, drop, length}
+use Rattle.dt_items.specs.Unread.{octets_of}
+use Rattle.dt_reports.specs.Told.{Told}
 use Rattle.dt_units.specs.declared.parameters.Params.{Params}
 use Rattle.dt_units.specs.declared.endpoints.Flow.{Flow}
 use Rattle.dt_layout.specs.Carried.{IsGram}
 use Rattle.dt_flow_model.specs.Acting.{record_for}
 use Rattle.dt_flow_model.specs.Keeping.{octets_below, taken_by}
-use Rattle.dt_world_model.specs.Host.{Host, sender_at}
+use Rattle.dt_world_model.specs.Host.{Host, read_octets, sender_at}
 use Rattle.dt_world_model.specs.Relay.{Parcel}
-use Rattle.dt_world_model.specs.Script.{Answers}
+use Rattle.dt_world_model.specs.Script.{Answers, Plays}
 use Rattle.dt_world_model.specs.Station.{Event, Send, Read, Tick, Arrive, Station, settle_station}
 use Rattle.dt_station.specs.declared.events.LocalEvent.{LocalEvent}
 use Rattle.dt_station.specs.declared.events.LocalEvent.TheVariants as local
@@ -58,3 +60,44 @@ abbrev pub MayHappenHereNow : Params → ℕ → Host → ℕ → LocalEvent →
 MayHappenHereNow p now host most (local.Send flow sent begin end) = MaySendNow p now host flow (length sent.now)
 MayHappenHereNow p now host most (local.Read flow) = 0 < most
 MayHappenHereNow p now host most local.Tick = Unit {0}
+
+-- WHAT STANDS IN THE BUFFER after a read: the octets of the piece at its head, and behind them what stood there.
+abbrev pub read_into : Params → ℕ → Flow → List ℕ → Host → List ℕ
+read_into p now flow old host = let taken = read_octets p now flow (length old) host in octets_of taken.0 ++ drop (length taken.0) old
+
+-- any event but a read leaves the buffer as it was
+abbrev pub LeavesBuffer : {P : Type 0} → StationEvent P → List ℕ → List ℕ → Type 0
+LeavesBuffer (given.Send flow octets begin end) old new = new ≡ old
+LeavesBuffer (given.Read flow) old new = Unit {0}
+LeavesBuffer given.Tick old new = new ≡ old
+LeavesBuffer (given.Arrive link packet) old new = new ≡ old
+
+abbrev pub LeavesBufferHere : LocalEvent → List ℕ → List ℕ → Type 0
+LeavesBufferHere (local.Send flow octets begin end) old new = new ≡ old
+LeavesBufferHere (local.Read flow) old new = Unit {0}
+LeavesBufferHere local.Tick old new = new ≡ old
+
+-- what an event of the host that has settled does to it
+abbrev pub IsBufferNow : Params → ℕ → Host → LocalEvent → List ℕ → List ℕ → Type 0
+IsBufferNow p now host (local.Send flow octets begin end) old new = new ≡ old
+IsBufferNow p now host (local.Read flow) old new = new ≡ read_into p now flow old host
+IsBufferNow p now host local.Tick old new = new ≡ old
+
+module _ {V T : Type 0} (tells : V → Told → V → Type 0) (tags : V → Host → List ℕ → T → V → Type 0) (hands : V → ℕ → Parcel T → V → Type 0) where
+  -- A READ FILLED THE BUFFER: with what is read from the host of the station as it has settled before the visitor.
+  pub record IsReadInto (p : Params) (now : ℕ) (flow : Flow) (station : Station T) (first : V) (old new : List ℕ) : Type 0 where
+    pub settled : Station T
+    pub seen : V
+    pub settles : Plays tells tags hands (settle_station p now station) first seen settled
+    pub filled : new ≡ read_into p now flow old settled.host
+
+  abbrev pub ReadsInto : {P : Type 0} → Params → ℕ → StationEvent P → Station T → V → List ℕ → List ℕ → Type 0
+  ReadsInto p now (given.Send flow octets begin end) station first old new = Unit {0}
+  ReadsInto p now (given.Read flow) station first old new = IsReadInto p now flow station first old new
+  ReadsInto p now given.Tick station first old new = Unit {0}
+  ReadsInto p now (given.Arrive link packet) station first old new = Unit {0}
+
+  abbrev pub ReadsIntoHere : Params → ℕ → LocalEvent → Station T → V → List ℕ → List ℕ → Type 0
+  ReadsIntoHere p now (local.Send flow octets begin end) station first old new = Unit {0}
+  ReadsIntoHere p now (local.Read flow) station first old new = IsReadInto p now flow station first old new
+  ReadsIntoHere p now local.Tick station first old new = Unit {0}

@@ -38,7 +38,7 @@ pub(crate) fn come_in<P: Carry, V: Visitor<P>, L: Ledger>(
     requires current { IsCurrentHost host.old.rules now host.old.state }
     requires past { All (IsOutUpTo now) relay.old.outs }
     requires moment { now ≤ most_moment }
-    ensures ends { Concludes V.tells V.tags V.hands V.fails result (come_in host.old.rules now link (admit link (record { octets = frame.old; tag = tag }) relay.old) (station_with host.old.state relay.old)) visitor.old visitor.new (station_with host.new.state relay.new) }
+    ensures ends { Concludes V.tells (V.tags now) V.hands V.fails result (come_in host.old.rules now link (admit link (record { octets = frame.old; tag = tag }) relay.old) (station_with host.old.state relay.old)) visitor.old visitor.new (station_with host.new.state relay.new) }
     ensures rules { host.new.rules ≡ host.old.rules }
     ensures me { host.new.state.me ≡ host.old.state.me }
     ensures others { relay.new ≡ with_outs relay.old relay.new.outs }
@@ -68,7 +68,7 @@ fn come<P: Carry, V: Visitor<P>, L: Ledger>(
     requires current { IsCurrentHost host.old.rules now host.old.state }
     requires past { All (IsOutUpTo now) relay.old.outs }
     requires moment { now ≤ most_moment }
-    ensures ends { Concludes V.tells V.tags V.hands V.fails result (come host.old.rules now (to_of frame.old == host.old.state.me) (record { octets = frame.old; tag = tag }) (station_with host.old.state relay.old)) visitor.old visitor.new (station_with host.new.state relay.new) }
+    ensures ends { Concludes V.tells (V.tags now) V.hands V.fails result (come host.old.rules now (to_of frame.old == host.old.state.me) (record { octets = frame.old; tag = tag }) (station_with host.old.state relay.old)) visitor.old visitor.new (station_with host.new.state relay.new) }
     ensures rules { host.new.rules ≡ host.old.rules }
     ensures me { host.new.state.me ≡ host.old.state.me }
     ensures others { relay.new ≡ with_outs relay.old relay.new.outs }
@@ -109,7 +109,7 @@ fn deliver<P: Carry, V: Visitor<P>, L: Ledger>(
     requires past { All (IsOutUpTo now) relay.old.outs }
     requires moment { now ≤ most_moment }
     ensures ends { let d = gram_of gram.now in
-        Concludes V.tells V.tags V.hands V.fails result (deliver host.old.rules now d.from (packet_read d) (station_with host.old.state relay.old)) visitor.old visitor.new (station_with host.new.state relay.new) }
+        Concludes V.tells (V.tags now) V.hands V.fails result (deliver host.old.rules now d.from (packet_read d) (station_with host.old.state relay.old)) visitor.old visitor.new (station_with host.new.state relay.new) }
     ensures rules { host.new.rules ≡ host.old.rules }
     ensures me { host.new.state.me ≡ host.old.state.me }
     ensures others { relay.new ≡ with_outs relay.old relay.new.outs }
@@ -150,7 +150,7 @@ fn hear<P: Carry, V: Visitor<P>, L: Ledger>(
     requires current { IsCurrentHost host.old.rules now host.old.state }
     requires past { All (IsOutUpTo now) relay.old.outs }
     requires moment { now ≤ most_moment }
-    ensures ends { Concludes V.tells V.tags V.hands V.fails result (deliver host.old.rules now from.0 (Ok (packet_of packet.now)) (station_with host.old.state relay.old)) visitor.old visitor.new (station_with host.new.state relay.new) }
+    ensures ends { Concludes V.tells (V.tags now) V.hands V.fails result (deliver host.old.rules now from.0 (Ok (packet_of packet.now)) (station_with host.old.state relay.old)) visitor.old visitor.new (station_with host.new.state relay.new) }
     ensures rules { host.new.rules ≡ host.old.rules }
     ensures me { host.new.state.me ≡ host.old.state.me }
     ensures others { relay.new ≡ with_outs relay.old relay.new.outs }

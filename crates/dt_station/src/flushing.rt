@@ -24,7 +24,7 @@ fn let_out<P: Carry, V: Visitor<P>>(
     requires past { All (IsOutUpTo now) relay.old.outs }
     requires moment { now ≤ most_moment }
     ensures ends { let link = link_in relay.old.outs place in
-        Concludes V.tells V.tags V.hands V.fails result (let_out link (on_link link None (leave now) relay.old.outs)) visitor.old visitor.new relay.new.outs }
+        Concludes V.tells (V.tags now) V.hands V.fails result (let_out link (on_link link None (leave now) relay.old.outs)) visitor.old visitor.new relay.new.outs }
     ensures after { let link = link_in relay.old.outs place in
         relay.new ≡ with_outs relay.old (on_link link None (leave now) relay.old.outs).1 }
     ensures past { All (IsOutUpTo now) relay.new.outs }
@@ -57,7 +57,7 @@ pub(crate) fn flush<P: Carry, V: Visitor<P>>(
     requires place { place < length relay.old.outs }
     requires past { All (IsOutUpTo now) relay.old.outs }
     requires moment { now ≤ most_moment }
-    ensures ends { Concludes V.tells V.tags V.hands V.fails result (flush_at (link_in relay.old.outs place) now relay.old.outs) visitor.old visitor.new relay.new.outs }
+    ensures ends { Concludes V.tells (V.tags now) V.hands V.fails result (flush_at (link_in relay.old.outs place) now relay.old.outs) visitor.old visitor.new relay.new.outs }
     ensures links { map link_of relay.new.outs ≡ map link_of relay.old.outs }
     ensures others { relay.new ≡ with_outs relay.old relay.new.outs }
     ensures past { All (IsOutUpTo now) relay.new.outs }
@@ -77,7 +77,7 @@ pub(crate) fn flush_link<P: Carry, V: Visitor<P>>(
 ) -> Result<(), NoMemory>
     requires past { All (IsOutUpTo now) relay.old.outs }
     requires moment { now ≤ most_moment }
-    ensures ends { Concludes V.tells V.tags V.hands V.fails result (flush_at link now relay.old.outs) visitor.old visitor.new relay.new.outs }
+    ensures ends { Concludes V.tells (V.tags now) V.hands V.fails result (flush_at link now relay.old.outs) visitor.old visitor.new relay.new.outs }
     ensures others { relay.new ≡ with_outs relay.old relay.new.outs }
     ensures past { All (IsOutUpTo now) relay.new.outs }
 {
@@ -95,7 +95,7 @@ pub(crate) fn flush_all<P: Carry, V: Visitor<P>>(
 ) -> Result<(), NoMemory>
     requires past { All (IsOutUpTo now) relay.old.outs }
     requires moment { now ≤ most_moment }
-    ensures ends { Concludes V.tells V.tags V.hands V.fails result (flush_links now (map link_of relay.old.outs) relay.old.outs) visitor.old visitor.new relay.new.outs }
+    ensures ends { Concludes V.tells (V.tags now) V.hands V.fails result (flush_links now (map link_of relay.old.outs) relay.old.outs) visitor.old visitor.new relay.new.outs }
     ensures others { relay.new ≡ with_outs relay.old relay.new.outs }
     ensures past { All (IsOutUpTo now) relay.new.outs }
 {

@@ -6,7 +6,7 @@ ghost use Rattle.dt_world_model.specs.Host.{IsCurrentHost, read_octets, send_oct
 ghost use Rattle.dt_world_model.specs.Relay.{IsOutUpTo, Relay as RelayState, with_outs};
 ghost use Rattle.dt_world_model.specs.Script.{Concludes, Done, Tell};
 ghost use Rattle.dt_world_model.specs.Station.{Arrive, happen, settle_station, station_event, station_with, told_piece, told_sent};
-ghost use Rattle.dt_station.specs.Events.{MayHappenHere, MayHappenHereNow, MaySendNow, local_seen};
+ghost use Rattle.dt_station.specs.Events.{IsBufferNow, LeavesBufferHere, MayHappenHere, MayHappenHereNow, MaySendNow, ReadsIntoHere, local_seen, read_into};
 
 use crate::arriving::come_in;
 use crate::events::LocalEvent;
@@ -39,7 +39,9 @@ pub(crate) fn local_event_on<P: Carry, V: Visitor<P>, L: Ledger>(
     requires latest { host.old.latest ≤ now }
     requires past { All (IsOutUpTo now) relay.old.outs }
     requires moment { now ≤ most_moment }
-    ensures ends { Concludes V.tells V.tags V.hands V.fails result (station_event host.old.rules now (local_seen (length buf.old) event.entry) (station_with host.old.state relay.old)) visitor.old visitor.new (station_with host.new.state relay.new) }
+    ensures ends { Concludes V.tells (V.tags now) V.hands V.fails result (station_event host.old.rules now (local_seen (length buf.old) event.entry) (station_with host.old.state relay.old)) visitor.old visitor.new (station_with host.new.state relay.new) }
+    ensures reads { OnOk result (ReadsIntoHere V.tells (V.tags now) V.hands host.old.rules now event.entry (station_with host.old.state relay.old) visitor.old buf.old buf.new) }
+    ensures leaves { LeavesBufferHere event.entry buf.old buf.new }
     ensures current { OnOk result (IsCurrentHost host.new.rules now host.new.state) }
     ensures rules { host.new.rules ≡ host.old.rules }
     ensures me { host.new.state.me ≡ host.old.state.me }
@@ -73,7 +75,7 @@ pub(crate) fn arrival_on<P: Carry, V: Visitor<P>, L: Ledger>(
     requires latest { host.old.latest ≤ now }
     requires past { All (IsOutUpTo now) relay.old.outs }
     requires moment { now ≤ most_moment }
-    ensures ends { Concludes V.tells V.tags V.hands V.fails result (station_event host.old.rules now (Arrive link (record { octets = frame.old; tag = tag })) (station_with host.old.state relay.old)) visitor.old visitor.new (station_with host.new.state relay.new) }
+    ensures ends { Concludes V.tells (V.tags now) V.hands V.fails result (station_event host.old.rules now (Arrive link (record { octets = frame.old; tag = tag })) (station_with host.old.state relay.old)) visitor.old visitor.new (station_with host.new.state relay.new) }
     ensures current { OnOk result (IsCurrentHost host.new.rules now host.new.state) }
     ensures rules { host.new.rules ≡ host.old.rules }
     ensures me { host.new.state.me ≡ host.old.state.me }
@@ -101,7 +103,7 @@ fn settle<P: Carry, V: Visitor<P>, L: Ledger>(
     requires latest { host.old.latest ≤ now }
     requires past { All (IsOutUpTo now) relay.old.outs }
     requires moment { now ≤ most_moment }
-    ensures ends { Concludes V.tells V.tags V.hands V.fails result (settle_station host.old.rules now (station_with host.old.state relay.old)) visitor.old visitor.new (station_with host.new.state relay.new) }
+    ensures ends { Concludes V.tells (V.tags now) V.hands V.fails result (settle_station host.old.rules now (station_with host.old.state relay.old)) visitor.old visitor.new (station_with host.new.state relay.new) }
     ensures current { OnOk result (IsCurrentHost host.new.rules now host.new.state) }
     ensures rules { host.new.rules ≡ host.old.rules }
     ensures me { host.new.state.me ≡ host.old.state.me }
@@ -126,7 +128,8 @@ fn happen<P: Carry, V: Visitor<P>, L: Ledger>(
     requires latest { host.old.latest ≤ now }
     requires current { IsCurrentHost host.old.rules now host.old.state }
     requires moment { now ≤ most_moment }
-    ensures ends { (relay : RelayState P.Tag) → Concludes V.tells V.tags V.hands V.fails result (happen host.old.rules now (local_seen (length buf.old) event.entry) (station_with host.old.state relay)) visitor.old visitor.new (station_with host.new.state relay) }
+    ensures ends { (relay : RelayState P.Tag) → Concludes V.tells (V.tags now) V.hands V.fails result (happen host.old.rules now (local_seen (length buf.old) event.entry) (station_with host.old.state relay)) visitor.old visitor.new (station_with host.new.state relay) }
+    ensures buf { IsBufferNow host.old.rules now host.old.state event.entry buf.old buf.new }
     ensures rules { host.new.rules ≡ host.old.rules }
     ensures me { host.new.state.me ≡ host.old.state.me }
     ensures latest { host.new.latest ≤ now }
@@ -163,7 +166,7 @@ fn send<P: Carry, V: Visitor<P>, L: Ledger>(
     requires current { IsCurrentHost host.old.rules now host.old.state }
     requires moment { now ≤ most_moment }
     ensures ends { let asked = send_octets host.old.rules now flow.now (marked octets.now begin end false) host.old.state in
-        Concludes V.tells V.tags V.hands V.fails result (Tell (told_sent flow.now (length octets.now) asked.0) (Done asked.1)) visitor.old visitor.new host.new.state }
+        Concludes V.tells (V.tags now) V.hands V.fails result (Tell (told_sent flow.now (length octets.now) asked.0) (Done asked.1)) visitor.old visitor.new host.new.state }
     ensures rules { host.new.rules ≡ host.old.rules }
     ensures me { host.new.state.me ≡ host.old.state.me }
     ensures latest { host.new.latest ≤ now }
@@ -216,6 +219,7 @@ fn read<P: Carry, V: Visitor<P>, L: Ledger>(
         V.tells visitor.old (told_piece flow.now (octets_of taken.0) (piece_told taken.0)) visitor.new }
     ensures after { let taken = read_octets host.old.rules now flow.now (length buf.old) host.old.state in
         host.new.state ≡ taken.1 }
+    ensures filled { buf.new ≡ read_into host.old.rules now flow.now buf.old host.old.state }
     ensures rules { host.new.rules ≡ host.old.rules }
     ensures latest { host.new.latest ≤ now }
 {

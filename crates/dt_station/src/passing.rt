@@ -26,7 +26,7 @@ pub(crate) fn pass_on<P: Carry, V: Visitor<P>>(
     requires gram { IsGram frame.old }
     requires past { All (IsOutUpTo now) relay.old.outs }
     requires moment { now ≤ most_moment }
-    ensures ends { Concludes V.tells V.tags V.hands V.fails result (pass_on (record { octets = frame.old; tag = tag }) now relay.old) visitor.old visitor.new relay.new }
+    ensures ends { Concludes V.tells (V.tags now) V.hands V.fails result (pass_on (record { octets = frame.old; tag = tag }) now relay.old) visitor.old visitor.new relay.new }
     ensures others { relay.new ≡ with_outs relay.old relay.new.outs }
     ensures past { All (IsOutUpTo now) relay.new.outs }
 {
@@ -69,7 +69,7 @@ fn wait<P: Carry, V: Visitor<P>>(
     requires gram { IsGram frame.now }
     requires past { All (IsOutUpTo now) relay.old.outs }
     requires moment { now ≤ most_moment }
-    ensures ends { Concludes V.tells V.tags V.hands V.fails result (pass_on (record { octets = frame.now; tag = tag }) now relay.old) visitor.old visitor.new relay.new }
+    ensures ends { Concludes V.tells (V.tags now) V.hands V.fails result (pass_on (record { octets = frame.now; tag = tag }) now relay.old) visitor.old visitor.new relay.new }
     ensures others { relay.new ≡ with_outs relay.old relay.new.outs }
     ensures past { All (IsOutUpTo now) relay.new.outs }
 {
@@ -86,7 +86,7 @@ fn line_up<P: Carry, V: Visitor<P>>(
     requires gram { IsGram (P.octets packet) }
     requires past { All (IsOutUpTo now) relay.old.outs }
     requires moment { now ≤ most_moment }
-    ensures ends { Concludes V.tells V.tags V.hands V.fails result (pass_on (parcel_seen P.octets P.label packet) now relay.old) visitor.old visitor.new relay.new }
+    ensures ends { Concludes V.tells (V.tags now) V.hands V.fails result (pass_on (parcel_seen P.octets P.label packet) now relay.old) visitor.old visitor.new relay.new }
     ensures others { relay.new ≡ with_outs relay.old relay.new.outs }
     ensures past { All (IsOutUpTo now) relay.new.outs }
 {
@@ -114,7 +114,7 @@ pub(crate) fn send_off<P: Carry, V: Visitor<P>>(
     requires gram { IsGram frame.old }
     requires past { All (IsOutUpTo now) relay.old.outs }
     requires moment { now ≤ most_moment }
-    ensures ends { Concludes V.tells V.tags V.hands V.fails result (send_off now host.now.state (Some frame.old) relay.old) visitor.old visitor.new (station_with host.now.state relay.new) }
+    ensures ends { Concludes V.tells (V.tags now) V.hands V.fails result (send_off now host.now.state (Some frame.old) relay.old) visitor.old visitor.new (station_with host.now.state relay.new) }
     ensures others { relay.new ≡ with_outs relay.old relay.new.outs }
     ensures past { All (IsOutUpTo now) relay.new.outs }
 {

@@ -7,7 +7,7 @@ ghost use Rattle.dt_world_model.specs.Host.{IsCurrentHost};
 ghost use Rattle.dt_world_model.specs.Script.{Concludes};
 ghost use Rattle.dt_world_model.specs.Relay.{with_outs};
 ghost use Rattle.dt_world_model.specs.Station.{Arrive, station_event, station_wake};
-ghost use Rattle.dt_station.specs.Events.{MayHappen, MayHappenHere, event_seen, local_seen};
+ghost use Rattle.dt_station.specs.Events.{LeavesBuffer, LeavesBufferHere, MayHappen, MayHappenHere, ReadsInto, ReadsIntoHere, event_seen, local_seen};
 ghost use Rattle.dt_station.specs.Stations.{host_started, is_spent_by, station_started};
 
 use crate::events::{LocalEvent, StationEvent};
@@ -89,8 +89,9 @@ impl<P: Carry> Station<P> {
     ///    none is due. Each act is told; then the frame that it made, if it made one, is tagged by the
     ///    visitor, enters the relay, and its link is flushed. One that doesn't enter is told.
     /// 3. Octets to send are given to the host, and it is told whether it took them.
-    /// 4. Octets that are read are told, with at most as many as `buf` holds. Only a read needs room
-    ///    there, and only a read writes to it.
+    /// 4. Octets that are read are told, with at most as many as `buf` holds. They stand at its head
+    ///    afterwards, and behind them what stood there. Only a read needs room there, and only a read
+    ///    writes to it.
     /// 5. A packet that comes pays the charge of its link first; where it can't, that is told.
     /// 6. One that isn't for this node enters the relay, and its link is flushed. It keeps its tag.
     /// 7. One for this node is read and given to the host; the answer is told, and a reply goes as the
@@ -100,9 +101,10 @@ impl<P: Carry> Station<P> {
     /// the definition `station_event`. After `NoMemory` it was told, asked and handed a first part of
     /// that, and the station is spent: [`Station::is_spent`].
     ///
-    /// Its cost is that of a look at every record of the host for each act, and of the packets that
-    /// move. The event itself has room for a packet and is moved whole: [`Station::local_event`] and
-    /// [`Station::arrive`] do the same and move none.
+    /// Its cost is that of the acts, of the octets, and of the packets that move. For each act the host
+    /// looks 4 times at most at the record that acts, and beside it at the senders that hold a segment
+    /// whose resend was missed: [`Host::next`]. The event itself has room for a packet and is moved whole:
+    /// [`Station::local_event`] and [`Station::arrive`] do the same and move none.
     pub fn event<V: Visitor<P>>(
         &mut self,
         now: u64,
@@ -115,7 +117,10 @@ impl<P: Carry> Station<P> {
         requires past { self.old.latest ≤ now }
         requires moment { now ≤ most_moment }
         ensures script { let happens = event_seen (parcel_seen P.octets P.label) (length buf.old) event.entry in
-            Concludes V.tells V.tags V.hands V.fails result (station_event self.old.rules now happens self.old.state) visitor.old visitor.new self.new.state }
+            Concludes V.tells (V.tags now) V.hands V.fails result (station_event self.old.rules now happens self.old.state) visitor.old visitor.new self.new.state }
+        // The buffer: what a read that ended well leaves in it, and that any other event leaves it.
+        ensures reads { OnOk result (ReadsInto V.tells (V.tags now) V.hands self.old.rules now event.entry self.old.state visitor.old buf.old buf.new) }
+        ensures leaves { LeavesBuffer event.entry buf.old buf.new }
         ensures current { OnOk result (IsCurrentHost self.new.rules now self.new.state.host) }
         ensures spent { self.new.spent ≡ is_spent_by result }
         // What never changes, after any answer.
@@ -152,7 +157,7 @@ impl<P: Carry> Station<P> {
     }
 
     /// The same as [`Station::event`] for an event that brings no packet, so that none is moved. `buf` is
-    /// that of a read; any other event leaves it as it is.
+    /// that of a read; any other event leaves it as it is, after any answer.
     pub fn local_event<V: Visitor<P>>(
         &mut self,
         now: u64,
@@ -164,7 +169,10 @@ impl<P: Carry> Station<P> {
         requires event { MayHappenHere self.old.rules now self.old.state (length buf.old) event }
         requires past { self.old.latest ≤ now }
         requires moment { now ≤ most_moment }
-        ensures script { Concludes V.tells V.tags V.hands V.fails result (station_event self.old.rules now (local_seen (length buf.old) event.entry) self.old.state) visitor.old visitor.new self.new.state }
+        ensures script { Concludes V.tells (V.tags now) V.hands V.fails result (station_event self.old.rules now (local_seen (length buf.old) event.entry) self.old.state) visitor.old visitor.new self.new.state }
+        // The buffer: what a read that ended well leaves in it, and that any other event leaves it.
+        ensures reads { OnOk result (ReadsIntoHere V.tells (V.tags now) V.hands self.old.rules now event.entry self.old.state visitor.old buf.old buf.new) }
+        ensures leaves { LeavesBufferHere event.entry buf.old buf.new }
         ensures current { OnOk result (IsCurrentHost self.new.rules now self.new.state.host) }
         ensures spent { self.new.spent ≡ is_spent_by result }
         // What never changes, after any answer.
@@ -193,8 +201,8 @@ impl<P: Carry> Station<P> {
     /// octets and `tag` is the tag. They must read as a Deltagram.
     ///
     /// The packet stays where it is: its life is lowered in the frame, and where it goes straight on it
-    /// is handed out from there. So what the frame holds afterwards isn't told. A packet is made of it
-    /// only where it has to wait for its link.
+    /// is handed out from there. Nothing is said of what the frame holds afterwards, so it is filled anew
+    /// before it is used again. A packet is made of it only where it has to wait for its link.
     pub fn arrive<V: Visitor<P>>(
         &mut self,
         now: u64,
@@ -208,7 +216,7 @@ impl<P: Carry> Station<P> {
         requires past { self.old.latest ≤ now }
         requires moment { now ≤ most_moment }
         ensures script { let arrives = Arrive link (record { octets = frame.old; tag = tag }) in
-            Concludes V.tells V.tags V.hands V.fails result (station_event self.old.rules now arrives self.old.state) visitor.old visitor.new self.new.state }
+            Concludes V.tells (V.tags now) V.hands V.fails result (station_event self.old.rules now arrives self.old.state) visitor.old visitor.new self.new.state }
         ensures current { OnOk result (IsCurrentHost self.new.rules now self.new.state.host) }
         ensures spent { self.new.spent ≡ is_spent_by result }
         // What never changes, after any answer.
@@ -236,7 +244,7 @@ impl<P: Carry> Station<P> {
 
     /// The least moment at which an act of the host is due or a packet may leave, or none where there
     /// is no such moment. A tick before it tells nothing, hands out nothing and changes no record and no
-    /// queue. It goes over all records and all out links, and takes no memory.
+    /// queue. It looks at no record, goes over the out links, and takes no memory.
     pub fn wake(&self) -> Option<u64>
         ensures { result ≡ station_wake self.now.rules self.now.state }
     {

@@ -84,7 +84,7 @@ impl Audience<'_> {
 impl Visitor<Frame> for Audience<'_> {
     ghost tells = { λ s r t. Unit {0} };
 
-    ghost tags = { λ s host octets tag t. Unit {0} };
+    ghost tags = { λ now s host octets tag t. Unit {0} };
 
     ghost hands = { λ s link parcel t. Unit {0} };
 

@@ -32,7 +32,7 @@ pub(crate) fn do_turns<P: Carry, V: Visitor<P>, L: Ledger>(
     requires latest { host.old.latest ≤ now }
     requires past { All (IsOutUpTo now) relay.old.outs }
     requires moment { now ≤ most_moment }
-    ensures ends { Concludes V.tells V.tags V.hands V.fails result (do_turns (work host.old.rules now host.old.state) host.old.rules now (station_with host.old.state relay.old)) visitor.old visitor.new (station_with host.new.state relay.new) }
+    ensures ends { Concludes V.tells (V.tags now) V.hands V.fails result (do_turns (work host.old.rules now host.old.state) host.old.rules now (station_with host.old.state relay.old)) visitor.old visitor.new (station_with host.new.state relay.new) }
     ensures current { OnOk result (IsCurrentHost host.new.rules now host.new.state) }
     ensures rules { host.new.rules ≡ host.old.rules }
     ensures me { host.new.state.me ≡ host.old.state.me }
@@ -59,7 +59,7 @@ fn tell_act<P: Carry, V: Visitor<P>>(
     requires past { All (IsOutUpTo now) relay.old.outs }
     requires moment { now ≤ most_moment }
     ensures ends { let made = if makes_frame done.now.act then Some frame.old else None in
-        Concludes V.tells V.tags V.hands V.fails result (Tell (told_done done.now) (send_off now host.now.state made relay.old)) visitor.old visitor.new (station_with host.now.state relay.new) }
+        Concludes V.tells (V.tags now) V.hands V.fails result (Tell (told_done done.now) (send_off now host.now.state made relay.old)) visitor.old visitor.new (station_with host.now.state relay.new) }
     ensures others { relay.new ≡ with_outs relay.old relay.new.outs }
     ensures past { All (IsOutUpTo now) relay.new.outs }
 {

@@ -15,22 +15,22 @@ use dt_reports::Report;
 /// given the packets that leave.
 ///
 /// What it does is told by relations: from which of its states it may go on to which when something is
-/// told, a tag is answered, a packet is handed out, or there was no memory for a packet. Each impl
-/// chooses how much its relations say.
+/// told, a tag is answered at a moment, a packet is handed out, or there was no memory for a packet. Each
+/// impl chooses how much its relations say.
 pub trait Visitor<P: Carry> {
     ghost tells: { Self → Told → Self → Type 0 };
 
-    ghost tags: { Self → HostState → List ℕ → P.Tag → Self → Type 0 };
+    ghost tags: { ℕ → Self → HostState → List ℕ → P.Tag → Self → Type 0 };
 
     ghost hands: { Self → ℕ → Parcel P.Tag → Self → Type 0 };
 
     ghost fails: { Self → Self → Type 0 };
 
-    /// What is to be written on a frame that the host made at `now`. The report of the act or the reply
-    /// that made it was told before. The host is the one after that act or reply.
+    /// What is to be written on a frame that the host made at `now`, the moment of the event. The report
+    /// of the act or the reply that made it was told before. The host is the one after that act or reply.
     fn tag(&mut self, host: &Host, frame: &Frame, now: u64) -> P::Tag
         requires gram { IsGram frame.now }
-        ensures { tags self.old host.now.state frame.now result self.new };
+        ensures { tags now self.old host.now.state frame.now result self.new };
 
     /// Is told a report. It can't refuse: a visitor that found no memory for it, or couldn't write it,
     /// keeps that fact, does nothing with later reports, and its owner answers it when the event has

@@ -43,7 +43,7 @@ impl<'a, 'o, L: Lines> Visitor<MarkedFrame> for Teller<'a, 'o, L> {
 
     ghost tells = { λ s r t. Tells L.tells s r t };
 
-    ghost tags = { λ s host octets mark t. Marks s host octets mark t };
+    ghost tags = { λ now s host octets mark t. Marks s host octets mark t };
 
     ghost hands = { λ s link parcel t. Hands s link parcel t };
 

@@ -120,7 +120,8 @@ impl World {
     /// 2^62 octets of a flow, 2^32 lives of a station, 2^61 ms. Then the first of the lines were told,
     /// and the world is spent; its ledger stays safe.
     ///
-    /// The cost is the lines and their octets, and what the station's host looks through.
+    /// The cost is that of the lines and their octets, and of the station's event: for each act of its host
+    /// 4 looks at a record at most, and one at each sender that holds a segment whose resend was missed.
     pub fn step<L: Lines>(&mut self, event: &Event<'_>, lines: &mut L) -> Result<(), StepFault>
         requires unspent { self.old.spent ≡ false }
         requires may { MayStep (event_of event.now) }

@@ -11,7 +11,7 @@ invariant-loop-place g l =
     let visitor = g.V.Visitor in
     let links = map link_of l.fn.relay.outs in
     record {
-      leads : Leads visitor.tells visitor.tags visitor.hands visitor.fails (flush_links l.now links l.fn.relay.outs) l.fn.visitor (flush_links l.now (drop l.place links) l.relay.outs) l.visitor;
+      leads : Leads visitor.tells (visitor.tags l.now) visitor.hands visitor.fails (flush_links l.now links l.fn.relay.outs) l.fn.visitor (flush_links l.now (drop l.place links) l.relay.outs) l.visitor;
       past : All (IsOutUpTo l.now) l.relay.outs;
       links : map link_of l.relay.outs ≡ links;
       end : l.place-end ≡ length l.fn.relay.outs;

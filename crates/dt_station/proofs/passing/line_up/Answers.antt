@@ -8,7 +8,7 @@ use Rattle.dt_station.proofs.passing.line_up.Goals as goal
 pub returns-in-Queued-clause-ends : goal.returns-in-Queued-clause-ends
 returns-in-Queued-clause-ends g c =
     rw (pass_queued (parcel_seen g.P.Carry.octets g.P.Carry.label c.args.packet) c.args.now c.args.relay.now c.enter.new.self c.in-Queued.ensures.after c.in-Queued.link c.in-Queued.ensures.answer)
-    (ends_flush g.V.Visitor.tells g.V.Visitor.tags g.V.Visitor.hands g.V.Visitor.fails c.in-Queued.link c.args.now c.enter.new.self c.flush_link.new.relay c.args.visitor.now c.flush_link.new.visitor c.flush_link.result c.flush_link.ensures.ends c.flush_link.ensures.others)
+    (ends_flush g.V.Visitor.tells (g.V.Visitor.tags c.args.now) g.V.Visitor.hands g.V.Visitor.fails c.in-Queued.link c.args.now c.enter.new.self c.flush_link.new.relay c.args.visitor.now c.flush_link.new.visitor c.flush_link.result c.flush_link.ensures.ends c.flush_link.ensures.others)
 
 pub returns-in-Full-clause-ends : goal.returns-in-Full-clause-ends
 returns-in-Full-clause-ends g c =

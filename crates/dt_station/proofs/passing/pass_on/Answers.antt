@@ -9,7 +9,7 @@ pub returns-in-Leaves-clause-ends : goal.returns-in-Leaves-clause-ends
 returns-in-Leaves-clause-ends g c =
     let life : c.life-life.result - 1 ≡ life_of (lowered 1 c.args.frame.now) = ap (λ n. n - 1) c.life-life.ensures ∙ sym c.lower.ensures.lowers.life ∙ ap life_of c.lower.ensures.life_alone in
     rw (straight_goes (record { octets = c.args.frame.now; tag = c.args.tag }) (lower_parcel 1 (record { octets = c.args.frame.now; tag = c.args.tag })) c.args.now c.in-Leaves.link c.args.relay.now c.pass.new.self (c.in-Leaves.ensures.passes (record { octets = c.args.frame.now; tag = c.args.tag }) (sym c.to.ensures) (sym c.life-life.ensures)))
-    (ends_at_once g.V.Visitor.tells g.V.Visitor.tags g.V.Visitor.hands g.V.Visitor.fails (report.Put c.in-Leaves.link (life_of (lowered 1 c.args.frame.now))) c.in-Leaves.link (record { octets = c.lower.new.self; tag = c.args.tag }) (lower_parcel 1 (record { octets = c.args.frame.now; tag = c.args.tag })) c.args.visitor.now c.tell.new.self c.out_at_once.new.self c.pass.new.self c.out_at_once.result
+    (ends_at_once g.V.Visitor.tells (g.V.Visitor.tags c.args.now) g.V.Visitor.hands g.V.Visitor.fails (report.Put c.in-Leaves.link (life_of (lowered 1 c.args.frame.now))) c.in-Leaves.link (record { octets = c.lower.new.self; tag = c.args.tag }) (lower_parcel 1 (record { octets = c.args.frame.now; tag = c.args.tag })) c.args.visitor.now c.tell.new.self c.out_at_once.new.self c.pass.new.self c.out_at_once.result
     (rw life at c.tell.ensures) (ap (λ (octets : List ℕ). record { octets = octets; tag = c.args.tag }) c.lower.ensures.life_alone) c.out_at_once.ensures.ok c.out_at_once.ensures.err)
 
 pub returns-in-Expired-clause-ends : goal.returns-in-Expired-clause-ends

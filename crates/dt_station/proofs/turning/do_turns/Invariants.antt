@@ -11,7 +11,7 @@ invariant-turns g l =
     let visitor = g.V.Visitor in
     let rules = l.fn.host.rules in
     record {
-      turning : Turning visitor.tells visitor.tags visitor.hands visitor.fails rules l.now (do_turns (work rules l.now l.fn.host.state) rules l.now (station_with l.fn.host.state l.fn.relay)) l.fn.visitor l.host.state l.relay l.visitor;
+      turning : Turning visitor.tells (visitor.tags l.now) visitor.hands visitor.fails rules l.now (do_turns (work rules l.now l.fn.host.state) rules l.now (station_with l.fn.host.state l.fn.relay)) l.fn.visitor l.host.state l.relay l.visitor;
       rules : l.host.rules ≡ rules;
       me : l.host.state.me ≡ l.fn.host.state.me;
       latest : l.host.latest ≤ l.now;

@@ -30,6 +30,10 @@ returns-in-Data-clause-memory g c = λ err.
     (subst (λ (f : Flow). IsMade h.rules f (packet_of c.args.packet.now) host) c.flow_of_packet-flow.ensures
     (subst (λ (v : PacketValue). IsMade h.rules c.flow_of_packet-flow.result v host) (sym (ap packet_of c.in-Data.is)) made))
 
+pub returns-in-Data-clause-awake : goal.returns-in-Data-clause-awake
+returns-in-Data-clause-awake g c = λ err.
+    subst (λ (v : HostValue). v.state.until ≤ c.args.now) c.self.view_is c.if-now-self.false
+
 pub returns-in-Ack-clause-reply : goal.returns-in-Ack-clause-reply
 returns-in-Ack-clause-reply g c =
     let h = c.self.inside in
