@@ -1,5 +1,6 @@
 //! How datagrams come out of a socket: each has waited at most 20 ms.
-ghost use Rattle.std.specs.Prelude.{◌≡◌, ◌≤◌, ◌<◌, All, IfOk, IfSome, length};
+ghost use Rattle.std.specs.Prelude.{ℕ, ◌≡◌, ◌≤◌, ◌<◌, All, IfOk, IfSome, length};
+ghost use Rattle.dt_machine.specs.Looks.{IsLook};
 
 use crate::backlogs::Backlog;
 use crate::peers::link_of;
@@ -29,6 +30,10 @@ const MOST_PASSED: u32 = 512;
 /// How many waits and looks a take has, at most.
 const MOST_ROUNDS: u32 = 1024;
 
+/// How often a take looks before it waits: whoever was answered often sends again within the time of
+/// these looks, and to be woken costs both sides more than they do.
+const SOON: u32 = 24;
+
 /// What is known of the datagrams of a socket.
 #[derive(Drop)]
 pub struct Intake {
@@ -36,7 +41,8 @@ pub struct Intake {
     backlog: Backlog,
     /// When it was last found empty, in nanoseconds.
     empty: u64,
-    /// Whether there were some when it was last emptied.
+    /// Whether it is to be emptied before the next look: there were several when it was last emptied, or
+    /// one that may have waited too long.
     crowded: bool,
 }
 
@@ -85,6 +91,8 @@ impl Intake {
         requires { All (λ p. p.link ≤ 255) peers.now }
         ensures same_room { length buf.new ≡ length buf.old }
     {
+        let mut is_one = false;
+        self.crowded = false;
         for _ in 0..MOST_LOOKS {
             if !self.backlog.has_room(buf.len()) {
                 break;
@@ -93,6 +101,8 @@ impl Intake {
                 Look::Datagram { from, count } => {
                     if let Some(link) = link_of(peers, from) {
                         self.backlog.keep(link, &buf[..count], self.empty);
+                        self.crowded = is_one;
+                        is_one = true;
                     }
                 }
                 Look::Other => (),
@@ -102,7 +112,6 @@ impl Intake {
                 }
             }
         }
-        self.crowded = !self.backlog.is_empty();
         Ok(())
     }
 
@@ -129,33 +138,61 @@ impl Intake {
         Ok(self.fresh(socket.now(), buf))
     }
 
-    /// The datagram that the socket has. None where it is a stranger's, or may have waited longer than
-    /// 20 ms.
-    fn first<R: Net + time::Clock>(
+    /// The datagram that a look found, if it did, by the moment `now`. None where it is a stranger's, or
+    /// may have waited longer than 20 ms.
+    fn judged(&mut self, look: Look, now: u64, peers: &[Peer]) -> Option<(u64, u16, usize)>
+        requires { All (λ p. p.link ≤ 255) peers.now }
+        ensures link { IfSome result (λ d. d.1 ≤ 255) }
+        ensures within { (room : ℕ) → IsLook room look → IfSome result (λ d. d.2 ≤ room) }
+    {
+        let Look::Datagram { from, count } = look else {
+            return None;
+        };
+        if may_have_waited(self.empty, now) {
+            self.crowded = true;
+            return None;
+        }
+        let link = link_of(peers, from)?;
+        Some((now, link, count))
+    }
+
+    /// Waits for a datagram until the moment `until`, from the moment `now` on. None as of a take.
+    fn wait_for<R: Net + time::Clock>(
         &mut self,
         socket: &Socket<'_, R>,
         peers: &[Peer],
+        now: u64,
+        until: u64,
         buf: &mut [u8],
     ) -> io::Result<Option<(u64, u16, usize)>>
         requires { All (λ p. p.link ≤ 255) peers.now }
         ensures link { IfOk result (λ t. IfSome t (λ d. d.1 ≤ 255)) }
         ensures within { IfOk result (λ t. IfSome t (λ d. d.2 ≤ length buf.old)) }
-        ensures same_room { length buf.new ≡ length buf.old }
     {
-        let Look::Datagram { from, count } = socket.look(buf)? else {
-            return Ok(None);
-        };
-        let now = socket.now();
-        if may_have_waited(self.empty, now) {
-            self.crowded = true;
-            return Ok(None);
+        let mut now = now;
+        for _ in 0..MOST_ROUNDS {
+            let rest = until.saturating_sub(now).div_ceil(MILLISECOND);
+            if rest == 0 {
+                return Ok(None);
+            }
+            let wait = rest.min(LONGEST_WAIT);
+            if socket.wait(wait as u16) {
+                let look = socket.look(buf)?;
+                return Ok(self.judged(look, socket.now(), peers));
+            }
+            self.empty = now.saturating_add(wait * MILLISECOND);
+            now = socket.now();
+            if let Some(found) = self.at_hand(socket, peers, now, buf)? {
+                return Ok(Some(found));
+            }
         }
-        Ok(link_of(peers, from).map(|link| (now, link, count)))
+        Ok(None)
     }
 
     /// Waits for a datagram, so many milliseconds, which aren't 0: the moment at which it is handed over,
-    /// in nanoseconds, its link, and how many of its octets stand first in the buffer. None where none came, where a stranger's came, or where all that came
-    /// may have waited longer than 20 ms. Fails where the machine's call does.
+    /// in nanoseconds, its link, and how many of its octets stand first in the buffer. None where none
+    /// came, where a stranger's came, or where all that came may have waited longer than 20 ms. Fails
+    /// where the machine's call does.
     pub fn take<R: Net + time::Clock>(
         &mut self,
         socket: &Socket<'_, R>,
@@ -167,23 +204,30 @@ impl Intake {
         ensures link { IfOk result (λ t. IfSome t (λ d. d.1 ≤ 255)) }
         ensures within { IfOk result (λ t. IfSome t (λ d. d.2 ≤ length buf.old)) }
     {
-        let mut now = socket.now();
-        let until = now.saturating_add(u64::from(wait_ms) * MILLISECOND);
-        for _ in 0..MOST_ROUNDS {
-            if let Some(found) = self.at_hand(socket, peers, now, buf)? {
-                return Ok(Some(found));
-            }
-            let rest = until.saturating_sub(now).div_ceil(MILLISECOND);
-            if rest == 0 {
-                return Ok(None);
-            }
-            let wait = rest.min(LONGEST_WAIT);
-            if socket.wait(wait as u16) {
-                return self.first(socket, peers, buf);
-            }
-            self.empty = now.saturating_add(wait * MILLISECOND);
-            now = socket.now();
+        let now = socket.now();
+        if let Some(found) = self.at_hand(socket, peers, now, buf)? {
+            return Ok(Some(found));
         }
-        Ok(None)
+        let look = look_soon(socket, buf)?;
+        if look != Look::Empty {
+            return Ok(self.judged(look, socket.now(), peers));
+        }
+        self.empty = now;
+        let until = now.saturating_add(u64::from(wait_ms) * MILLISECOND);
+        self.wait_for(socket, peers, now, until, buf)
     }
+}
+
+/// Looks for a datagram a few times, until there is something.
+fn look_soon<R: Net + time::Clock>(socket: &Socket<'_, R>, buf: &mut [u8]) -> io::Result<Look>
+    ensures within { IfOk result (IsLook (length buf.old)) }
+    ensures same_room { length buf.new ≡ length buf.old }
+{
+    for _ in 0..SOON {
+        let look = socket.look(buf)?;
+        if look != Look::Empty {
+            return Ok(look);
+        }
+    }
+    Ok(Look::Empty)
 }
