@@ -1,7 +1,7 @@
 #!/usr/bin/env python3
 """Five nodes in a ring for a long time: relays, losses, repeats, late packets, kills and starts, outside the gate.
 
-`tests/soak.py MINUTES [PROGRAM] [--seed N] [--keep FOLDER]`. Each node has a link to either neighbour and sends to all
+`tests/soak.py MINUTES [PROGRAM] [--seed N] [--keep FOLDER] [--first]`. Each node has a link to either neighbour and sends to all
 four others, so half of what it sends is relayed. Links are sockets of this process: it drops a tenth of the datagrams,
 passes one of seven twice, and holds some up, but none for longer than the links' charges say. Nodes end, or are
 killed, after 3 to 25 seconds, and are started `again`; one a round, drawn by chance, runs on to its end. A round takes
@@ -16,7 +16,8 @@ It ends with 1 where, in a round,
 - the node that runs on has grown by more than 1 MiB since its first third;
 - too little happened: no kill, no loss, no repeat, nothing relayed, or less than half of the messages read.
 
-Logs are kept in FOLDER, or where something failed in a new folder, which is named. One line a round tells what
+With --first nodes are started as `first` each time, which breaks a premise of the promise: it then ends with 1 within a
+minute or two, and so shows that these checks see what is broken. Logs are kept in FOLDER, or where something failed in a new folder, which is named. One line a round tells what
 happened.
 
 In tests/all: 1 PROGRAM, 240 s."""
@@ -146,6 +147,9 @@ class Life:
 class Round:
     """A round: its nodes, what they sent, and their logs."""
 
+    # how a node is started once more
+    anew = "again"
+
     def __init__(self, path: str, chance: random.Random, seconds: float, folder: pathlib.Path) -> None:
         self.path, self.chance, self.seconds, self.folder = path, chance, seconds, folder
         self.ring = Ring(chance)
@@ -172,7 +176,7 @@ class Round:
         return [it for _, it in sorted(commands)] + [f"at {int(seconds * 1000)} stop"]
 
     def script(self, node: int, seconds: float) -> str:
-        how = "again" if self.logs[node] else "first"
+        how = self.anew if self.logs[node] else "first"
         peers = [neighbour(node, 1), neighbour(node, -1)]
         routes = {neighbour(node, step): 1 if step > 0 else 2 for step in (1, 2, -1, -2)}
         head = [PARAMS.line(), f"me {node} {how}", f"local {HOST}:{self.ring.ports[node]}"]
@@ -296,9 +300,10 @@ class Round:
     def told(self) -> str:
         passed = self.ring.counts
         mine = self.counts
-        return (f"{mine['taken']} messages taken, {mine['read']} read whole, {mine['uncertain']} segments uncertain; {mine['killed']} kills, {mine['started again']} starts; "
-                f"{passed['passed'] + passed['repeated']} datagrams passed, {passed['dropped']} dropped, {passed['repeated']} twice, "
-                f"{passed['held too long']} held too long and dropped; {mine['relayed']} relayed; {mine['KiB']} KiB")
+        return (f"{mine['taken']} messages taken, {mine['read']} read whole, {mine['uncertain']} segments uncertain; "
+                f"{mine['killed']} kills, {mine['started again']} starts; {passed['passed'] + passed['repeated']} datagrams passed, "
+                f"{passed['dropped']} dropped, {passed['repeated']} twice, {passed['held too long']} held too long and dropped; "
+                f"{mine['relayed']} packets relayed; the node that ran on has {mine['KiB']} KiB")
 
 
 def memory_of(pid: int) -> int:
@@ -326,7 +331,9 @@ def main() -> int:
     reads.add_argument("program", nargs="?", default=str(PROGRAM))
     reads.add_argument("--seed", type=int, default=1)
     reads.add_argument("--keep", type=pathlib.Path, metavar="FOLDER")
+    reads.add_argument("--first", action="store_true")
     given = reads.parse_args()
+    Round.anew = "first" if given.first else "again"
     if not os.access(given.program, os.X_OK):
         reads.error(f"there is no program {given.program}: ./build makes it")
     chance, left, number, faults = random.Random(given.seed), given.minutes * 60, 0, []

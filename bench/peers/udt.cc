@@ -57,6 +57,9 @@ static UDTSOCKET opened(const sockaddr_in &there, double until) {
         here.sin_family = AF_INET;
         here.sin_port = htons((uint16_t)shared);
         int most = (int)((until - now()) * 1000) + 1;
+        // closing doesn't wait for what is under way
+        linger off = {0, 0};
+        UDT::setsockopt(it, 0, UDT_LINGER, &off, sizeof off);
         UDT::bind(it, (sockaddr *)&here, sizeof here);
         UDT::setsockopt(it, 0, UDT_RCVTIMEO, &most, sizeof most);
         UDT::setsockopt(it, 0, UDT_SNDTIMEO, &most, sizeof most);
