@@ -110,7 +110,7 @@ PEERS = [
     Peer("TCP-FO", [*C, "tcp.c", "-o", "tcp-fast"], built("tcp-fast"), environment=("FAST_OPEN=1",), before=FAST),
     Peer("ENet", [*C, "enet.c", "-o", "enet", "-lenet"], built("enet")),
     Peer("UDT", [*CXX, "udt.cc", "-o", "udt", "-ludt", "-lpthread"], built("udt")),
-    Peer("QUIC", ["sh", "-c", "command -v gtlsclient gtlsserver /usr/sbin/gtlsserver openssl"], quic, lacks=("answers",), tells=False),
+    Peer("QUIC", ["sh", "-c", "command -v gtlsclient && test -x /usr/sbin/gtlsserver && command -v openssl"], quic, lacks=("answers",), tells=False),
     Peer("deltat", [], node, lacks=("16 MiB",)),
 ]
 
@@ -129,12 +129,13 @@ def is_built(peer: Peer, room: Room) -> bool:
     return ran.returncode == 0
 
 
-def run(peer: Peer, link: Link, serve: str, ask: str, seconds: float) -> None:
+def run(peer: Peer, link: Link, serve: str, ask: str, measure: tuple[str, float]) -> None:
     """Runs the two ends over a link, by the shell. What a server complains about isn't shown: it is stopped in the midst
-    of what it does. Losses are of their own for each measure, and the same in each run."""
+    of what it does. Losses are of their own for each measure, which has a name and seconds, and the same in each run."""
+    name, seconds = measure
     settings = "".join(f"export {it}; " for it in [*peer.environment, f"AGAIN_MS={max(40, 4 * link.delay)}"])
     commands = [["sh", "-c", f"{peer.before}; {settings}exec 2> /dev/null; {serve}"], ["sh", "-c", f"{peer.before}; {settings}sleep {UP}; {ask}"]]
-    impaired_link(commands, link, Bound(seconds + UP + 3), zlib.crc32(f"{peer.name} {link} {ask}".encode()), serves=True)
+    impaired_link(commands, link, Bound(seconds + UP + 3), zlib.crc32(f"{peer.name} {link} {name}".encode()), serves=True)
 
 
 def asked(peer: Peer, room: Room, link: Link, words: list[str], seconds: float) -> list[tuple[int, float]]:
@@ -144,7 +145,7 @@ def asked(peer: Peer, room: Room, link: Link, words: list[str], seconds: float) 
     many = "export MANY_FLOWS=1; " if words[0] == "flows" else ""
     serve = shlex.join(peer.words(room, link, ["serve", ADDRESSES[0], PORT, "-"]))
     ask = shlex.join(peer.words(room, link, ["ask", ADDRESSES[0], PORT, *words]))
-    run(peer, link, f"{many}exec {serve}", f"{many}exec {ask} > {told}", seconds)
+    run(peer, link, f"{many}exec {serve}", f"{many}exec {ask} > {told}", (" ".join(words), seconds))
     lines = [it.split() for it in told.read_text().splitlines() if it.startswith("done ")]
     return [(int(it[1]), float(it[2])) for it in lines]
 
@@ -190,7 +191,7 @@ def served(peer: Peer, room: Room, is_killed: bool) -> str:
     ask = shlex.join(peer.words(room, link, ["ask", ADDRESSES[0], PORT, "first", "2" if peer.environment else "1", "100", "0.8"]))
     # the first server has a session of its own, so that all of it is killed
     killed = f"setsid {serve} & first=$!; sleep {UP + KILLED_AFTER}; kill -9 -$first; wait $first; export AGAIN=1; "
-    run(peer, link, f"{killed if is_killed else ''}exec {serve}", f"{ask} > /dev/null; sleep {LINGER}", UP + LINGER + 5)
+    run(peer, link, f"{killed if is_killed else ''}exec {serve}", f"{ask} > /dev/null; sleep {LINGER}", ("served", UP + LINGER + 5))
     numbers = log.read_text().split()
     return str(max((numbers.count(it) for it in set(numbers)), default=0))
 

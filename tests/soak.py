@@ -4,7 +4,8 @@
 `tests/soak.py MINUTES [PROGRAM] [--seed N] [--keep FOLDER] [--first]`. Each node has a link to either neighbour and sends to all
 four others, so half of what it sends is relayed. Links are sockets of this process: it drops a tenth of the datagrams,
 passes one of seven twice, and holds some up, but none for longer than the links' charges say. Nodes end, or are
-killed, after 3 to 25 seconds, and are started `again`; one a round, drawn by chance, runs on to its end. A round takes
+killed, after 3 to 25 seconds, and are started `again`; one a round, drawn by chance, runs on to its end. A node is
+killed where its log has all that it sent: of a turn that is broken off no log could be judged. A round takes
 5 minutes at most; the next one begins when nothing of it can be left. Scripts know their moments before they start, so
 messages go and are read at moments that are drawn.
 
@@ -28,6 +29,7 @@ import pathlib
 import random
 import selectors
 import shutil
+import signal
 import socket
 import struct
 import subprocess
@@ -75,29 +77,39 @@ class Ring:
         self.counts: Counter[str] = Counter()
         self.waiting: list[tuple[float, int, socket.socket, int, bytes]] = []
         self.selector = selectors.DefaultSelector()
+        # how many datagrams came from each node
+        self.from_node: Counter[int] = Counter()
         # by a node and its neighbour: what the node takes the neighbour for
         self.ends: dict[tuple[int, int], socket.socket] = {}
         for node in NODES:
             for step in (1, -1):
                 it = socket.socket(socket.AF_INET, socket.SOCK_DGRAM)
                 it.setsockopt(socket.SOL_SOCKET, SO_TIMESTAMPNS, 1)
+                it.setsockopt(socket.SOL_SOCKET, socket.SO_RCVBUF, 1 << 21)
                 it.setblocking(False)
                 it.bind((HOST, 0))
                 self.ends[node, neighbour(node, step)] = it
         for (node, other), it in self.ends.items():
-            self.selector.register(it, selectors.EVENT_READ, (self.ends[other, node], self.ports[other]))
+            self.selector.register(it, selectors.EVENT_READ, (node, self.ends[other, node], self.ports[other]))
 
     def port(self, node: int, other: int) -> int:
         """Where a node sends what goes to its neighbour."""
         return self.ends[node, other].getsockname()[1]
 
-    def take(self, come_in: socket.socket, out: socket.socket, to: int) -> None:
-        """Takes all that came, each with the moment at which the kernel got it."""
+    def take_all(self, node: int) -> None:
+        """Takes all that came from a node."""
+        for step in (1, -1):
+            end = self.ends[node, neighbour(node, step)]
+            self.take(end, *self.selector.get_key(end).data)
+
+    def take(self, come_in: socket.socket, node: int, out: socket.socket, to: int) -> None:
+        """Takes all that came at a socket from a node, each with the moment at which the kernel got it."""
         while True:
             try:
                 octets, told, _, _ = come_in.recvmsg(65_536, 64)
             except BlockingIOError:
                 return
+            self.from_node[node] += 1
             seconds, nanos = struct.unpack("qq", told[0][2][:16])
             came = seconds + nanos / 1e9
             kind = self.chance.random()
@@ -141,6 +153,8 @@ class Life:
     process: "subprocess.Popen[bytes]"
     until: float
     is_killed: bool
+    # how many datagrams had come from its node before
+    before: int
     sizes: list[int] = field(default_factory=list)
 
 
@@ -195,17 +209,29 @@ class Round:
         self.logs[node].append(log)
         is_killed = node != self.steady and seconds < left and self.chance.random() < 0.7
         until = time.monotonic() + (self.chance.uniform(0.3, 1) * seconds if is_killed else seconds)
-        self.lives[node] = Life(process, until, is_killed)
+        self.ring.take_all(node)
+        self.lives[node] = Life(process, until, is_killed, self.ring.from_node[node])
+
+    def is_logged(self, node: int, life: Life) -> bool:
+        """Stops a node, and tells whether its log has all that it sent."""
+        life.process.send_signal(signal.SIGSTOP)
+        # it is stopped when the signal has come through, and what it sent has come by then
+        time.sleep(0.005)
+        self.ring.take_all(node)
+        log = self.logs[node][-1].read_bytes()
+        left = log.count(b" put ") - log.count(b" unsent ")
+        return log.endswith(b"\n") and left >= self.ring.from_node[node] - life.before
 
     def look_after(self, node: int, left: float) -> None:
         """Ends a life where that is due, and begins the next."""
         life = self.lives[node]
         status = life.process.poll()
-        if status is None and life.is_killed and time.monotonic() >= life.until:
+        if status is None and life.is_killed and time.monotonic() >= life.until and self.is_logged(node, life):
             life.process.kill()
             life.process.wait()
             self.counts["killed"] += 1
         elif status is None:
+            life.process.send_signal(signal.SIGCONT)
             if node == self.steady:
                 life.sizes.append(memory_of(life.process.pid))
             return
@@ -269,7 +295,8 @@ class Round:
 
     def read(self, log: pathlib.Path, seen: Counter[tuple[str, int]]) -> None:
         """Counts what a life took and gave up, and the messages that it read whole."""
-        open_ones: dict[str, str] = {}
+        # of each flow what was read of a message whose begin was read
+        open_ones: dict[str, str | None] = {}
         node = log.name.partition("-")[0]
         for line in log.read_text().splitlines():
             words = line.split(" ")
@@ -283,10 +310,11 @@ class Round:
                 self.counts["put"] += 1
             elif words[2:3] == ["read"]:
                 flow, marks, octets = words[3:]
+                begun = open_ones.get(flow)
                 # a run mark says that something was passed over
-                text = octets if "b" in marks else "" if "r" in marks else open_ones.get(flow, "") + octets
-                open_ones[flow] = text
-                if "e" in marks and text:
+                text = octets if "b" in marks else None if "r" in marks or begun is None else begun + octets
+                open_ones[flow] = None if "e" in marks else text
+                if "e" in marks and text is not None:
                     self.whole(node, flow, bytes.fromhex(text), seen)
         self.counts["relayed"] = max(0, self.counts["put"] - self.counts["own"])
 
