@@ -1,12 +1,12 @@
 #!/usr/bin/env python3
 """Five nodes in a ring for a long time: relays, losses, repeats, late packets, kills and starts, outside the gate.
 
-`tests/soak.py MINUTES [PROGRAM] [--seed N] [--keep FOLDER] [--first]`. Each node has a link to either neighbour and sends to all
-four others, so half of what it sends is relayed. Links are sockets of this process: it drops a tenth of the datagrams,
-passes one of seven twice, and holds some up, but none for longer than the links' charges say. Nodes end, or are
-killed, after 3 to 25 seconds, and are started `again`; one a round, drawn by chance, runs on to its end. A node is
-killed where its log has all that it sent: of a turn that is broken off no log could be judged. A round takes
-5 minutes at most; the next one begins when nothing of it can be left. Scripts know their moments before they start, so
+`tests/soak.py MINUTES [PROGRAM] [--seed N] [--keep FOLDER] [--first]`. Each node has a link to either neighbour and
+sends to all four others, so half of what it sends is relayed. Links are sockets of this process: it drops a tenth of
+the datagrams, passes one of seven twice, and holds some up, but none for longer than the links' charges say. Nodes
+end, or are killed, after 3 to 25 seconds, and are started `again`; one a round, drawn by chance, runs on to its end. A
+node is killed where its log has all that it sent: of a turn that is broken off no log could be judged. A round takes 5
+minutes at most; the next one begins when nothing of it can be left. Scripts know their moments before they start, so
 messages go and are read at moments that are drawn.
 
 It ends with 1 where, in a round,
@@ -17,9 +17,9 @@ It ends with 1 where, in a round,
 - the node that runs on has grown by more than 1 MiB since its first third;
 - too little happened: no kill, no loss, no repeat, nothing relayed, or less than half of the messages read.
 
-With --first nodes are started as `first` each time, which breaks a premise of the promise: it then ends with 1 within a
-minute or two, and so shows that these checks see what is broken. Logs are kept in FOLDER, or where something failed in a new folder, which is named. One line a round tells what
-happened.
+With --first nodes are started as `first` each time, which breaks a premise of the promise: it then ends with 1 within
+a minute or two, and so shows that these checks see what is broken. Logs are kept in FOLDER, or where something failed in
+a new folder, which is named. One line a round tells what happened.
 
 In tests/all: 1 PROGRAM, 240 s."""
 import argparse
@@ -156,6 +156,7 @@ class Life:
     # how many datagrams had come from its node before
     before: int
     sizes: list[int] = field(default_factory=list)
+    is_over: bool = False
 
 
 class Round:
@@ -226,6 +227,8 @@ class Round:
         """Ends a life where that is due, and begins the next."""
         life = self.lives[node]
         status = life.process.poll()
+        if life.is_over:
+            return
         if status is None and life.is_killed and time.monotonic() >= life.until and self.is_logged(node, life):
             life.process.kill()
             life.process.wait()
@@ -237,6 +240,7 @@ class Round:
             return
         elif status != 0:
             self.faults.append(f"node {node} ended with {status}: {self.logs[node][-1]}")
+        life.is_over = True
         # the last lives end before the round does
         if left > LIVES[0]:
             self.start(node, left)
