@@ -1,19 +1,9 @@
 // UDT (Debian's libudt-dev), each connection a stream. peer.h says how it is run.
 #include "peer.h"
-#include <arpa/inet.h>
 #include <atomic>
-#include <netinet/in.h>
 #include <thread>
 #include <udt/udt.h>
 #include <vector>
-
-static sockaddr_in place(const char *address, int port) {
-    sockaddr_in it = {};
-    it.sin_family = AF_INET;
-    it.sin_port = htons((uint16_t)port);
-    if (inet_pton(AF_INET, address, &it.sin_addr) != 1) fail("no such address");
-    return it;
-}
 
 // all of them, or false
 static bool give(UDTSOCKET at, const char *octets, size_t count) {
