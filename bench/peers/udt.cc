@@ -38,7 +38,7 @@ static void serve(const char *address, int port) {
     }
 }
 
-// A connection with a local port, and so threads, of its own: 1,000 that share one take eight times as long.
+// A connection with a local port, and so threads, of its own: 1,000 that share one take many times as long.
 static UDTSOCKET opened(const sockaddr_in &there, double until) {
     while (now() < until) {
         UDTSOCKET it = UDT::socket(AF_INET, SOCK_STREAM, 0);
