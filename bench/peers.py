@@ -15,7 +15,7 @@ request is served.
 
 Peers are PEERS below: plain UDP that asks again (what the link can do), TCP, ENet, UDT, QUIC, and two nodes. The
 programs beside this file are built with cc and c++ first. A peer that can't be built here, or a measure that it can't
-do, is `-`. Each measure has its seconds, so all takes at most 25 minutes; `--part 0.2` gives each a fifth of them.
+do, is `-`. Each measure has its seconds, so all takes at most half an hour; `--part 0.2` gives each a fifth of them.
 Ends with 1 where a peer that was named with --peers can't be built, and with 2 where there is no such link here."""
 import argparse
 import dataclasses
@@ -110,7 +110,7 @@ PEERS = [
     Peer("TCP-FO", [*C, "tcp.c", "-o", "tcp-fast"], built("tcp-fast"), environment=("FAST_OPEN=1",), before=FAST),
     Peer("ENet", [*C, "enet.c", "-o", "enet", "-lenet"], built("enet")),
     Peer("UDT", [*CXX, "udt.cc", "-o", "udt", "-ludt", "-lpthread"], built("udt")),
-    Peer("QUIC", ["sh", "-c", "command -v gtlsclient gtlsserver /usr/sbin/gtlsserver openssl"], quic, lacks=("answers",), tells=False),
+    Peer("QUIC", ["sh", "-c", "command -v gtlsclient && test -x /usr/sbin/gtlsserver && command -v openssl"], quic, lacks=("answers",), tells=False),
     Peer("deltat", [], node, lacks=("16 MiB",)),
 ]
 
@@ -129,18 +129,23 @@ def is_built(peer: Peer, room: Room) -> bool:
     return ran.returncode == 0
 
 
+def run(peer: Peer, link: Link, serve: str, ask: str, measure: tuple[str, float]) -> None:
+    """Runs the two ends over a link, by the shell. What a server complains about isn't shown: it is stopped in the midst
+    of what it does. Losses are of their own for each measure, which has a name and seconds, and the same in each run."""
+    name, seconds = measure
+    settings = "".join(f"export {it}; " for it in [*peer.environment, f"AGAIN_MS={max(40, 4 * link.delay)}"])
+    commands = [["sh", "-c", f"{peer.before}; {settings}exec 2> /dev/null; {serve}"], ["sh", "-c", f"{peer.before}; {settings}sleep {UP}; {ask}"]]
+    impaired_link(commands, link, Bound(seconds + UP + 3), zlib.crc32(f"{peer.name} {link} {name}".encode()), serves=True)
+
+
 def asked(peer: Peer, room: Room, link: Link, words: list[str], seconds: float) -> list[tuple[int, float]]:
     """What a client was told over the link: answers or octets, and the time for them."""
     told = room.folder / "told"
-    environment = " ".join([*peer.environment, f"AGAIN_MS={max(40, 4 * link.delay)}", *(["MANY_FLOWS=1"] if words[0] == "flows" else [])])
-    serve = peer.words(room, link, ["serve", ADDRESSES[0], PORT, "-"])
-    ask = peer.words(room, link, ["ask", ADDRESSES[0], PORT, *words])
-    shell = lambda text: ["sh", "-c", f"{peer.before}; export {environment}; {text}"]  # noqa: E731
-    commands = [shell(f"exec {shlex.join(serve)}"), shell(f"sleep {UP}; exec {shlex.join(ask)} > {told}")]
     told.write_text("")
-    # losses of its own for each measure, and the same ones in each run
-    seed = zlib.crc32(f"{peer.name} {link} {words}".encode())
-    impaired_link(commands, link, Bound(seconds + UP + 3), seed, serves=True)
+    many = "export MANY_FLOWS=1; " if words[0] == "flows" else ""
+    serve = shlex.join(peer.words(room, link, ["serve", ADDRESSES[0], PORT, "-"]))
+    ask = shlex.join(peer.words(room, link, ["ask", ADDRESSES[0], PORT, *words]))
+    run(peer, link, f"{many}exec {serve}", f"{many}exec {ask} > {told}", (" ".join(words), seconds))
     lines = [it.split() for it in told.read_text().splitlines() if it.startswith("done ")]
     return [(int(it[1]), float(it[2])) for it in lines]
 
@@ -182,13 +187,11 @@ def served(peer: Peer, room: Room, is_killed: bool) -> str:
     log, link = room.folder / "served", Link(1, again=AGAIN_MS)
     log.write_text("")
     serve = shlex.join(peer.words(room, link, ["serve", ADDRESSES[0], PORT, str(log)]))
-    # a client that may need an answer before it can send with its opening packet asks twice
+    # a client that needs an answer before it can send with its opening packet asks twice
     ask = shlex.join(peer.words(room, link, ["ask", ADDRESSES[0], PORT, "first", "2" if peer.environment else "1", "100", "0.8"]))
-    # a session of its own, so that all of it is killed
-    both = f"setsid {serve} & first=$!; sleep {UP + KILLED_AFTER}; kill -9 -$first; wait $first; AGAIN=1 exec {serve}"
-    shell = lambda text: ["sh", "-c", " ".join(f"export {it};" for it in peer.environment) + f" {peer.before}; {text}"]  # noqa: E731
-    commands = [shell(both if is_killed else f"exec {serve}"), shell(f"sleep {UP}; {ask} > /dev/null; sleep {LINGER}")]
-    impaired_link(commands, link, Bound(20), serves=True)
+    # the first server has a session of its own, so that all of it is killed
+    killed = f"setsid {serve} & first=$!; sleep {UP + KILLED_AFTER}; kill -9 -$first; wait $first; export AGAIN=1; "
+    run(peer, link, f"{killed if is_killed else ''}exec {serve}", f"{ask} > /dev/null; sleep {LINGER}", ("served", UP + LINGER + 5))
     numbers = log.read_text().split()
     return str(max((numbers.count(it) for it in set(numbers)), default=0))
 
@@ -197,6 +200,12 @@ def table(head: list[str], rows: list[list[str]]) -> None:
     widths = [max(len(it[at]) for it in [head, *rows]) for at in range(len(head))]
     for cells in [head, *rows]:
         print("  ".join(f"{it:{width}}" for it, width in zip(cells, widths)).rstrip(), flush=True)
+
+
+def measured(peers: list[Peer], networks: list[Link], room: Room, part: float) -> None:
+    for link in networks:
+        print(f"\n{link.delay:g} ms each way, {link.loss * 100:g} of 100 packets lost each way")
+        table(["peer", "first, ms", "answers/s", "64 KiB, ms", "16 MiB, s", "1,000 flows, s"], [row(it, room, link, part) for it in peers])
 
 
 def measured_repeats(peers: list[Peer], room: Room) -> None:
@@ -223,19 +232,18 @@ def main() -> int:
     reads.add_argument("--networks", nargs="+", type=network_of, default=[network_of(it) for it in NETWORKS], metavar="DELAY/LOSS")
     reads.add_argument("--part", type=float, default=1.0, metavar="P", help="the part of its seconds that each measure gets")
     given = reads.parse_args()
-    if os.geteuid() != 0 or not os.path.exists("/dev/net/tun"):
-        print("peers: the link needs root and /dev/net/tun", file=sys.stderr)
-        return 2
     if not os.access(given.program, os.X_OK):
         reads.error(f"there is no program {given.program}: ./build makes it")
     with tempfile.TemporaryDirectory(prefix="deltat-peers-") as folder:
         room = Room(pathlib.Path(folder), os.path.abspath(given.program))
         wanted = [it for it in PEERS if it.name in (given.peers or [it.name])]
         peers = [it for it in wanted if is_built(it, room)]
-        for link in given.networks:
-            print(f"\n{link.delay:g} ms each way, {link.loss * 100:g} of 100 packets lost each way")
-            table(["peer", "first, ms", "answers/s", "64 KiB, ms", "16 MiB, s", "1,000 flows, s"], [row(it, room, link, given.part) for it in peers])
-        measured_repeats(peers, room)
+        try:
+            measured(peers, given.networks, room, given.part)
+            measured_repeats(peers, room)
+        except (OSError, subprocess.CalledProcessError) as error:
+            print(f"peers: there is no such link here, which needs root, ip and /dev/net/tun: {error}", file=sys.stderr)
+            return 2
     return 1 if given.peers and len(peers) < len(wanted) else 0
 
 

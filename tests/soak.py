@@ -1,11 +1,12 @@
 #!/usr/bin/env python3
 """Five nodes in a ring for a long time: relays, losses, repeats, late packets, kills and starts, outside the gate.
 
-`tests/soak.py MINUTES [PROGRAM] [--seed N] [--keep FOLDER]`. Each node has a link to either neighbour and sends to all
-four others, so half of what it sends is relayed. Links are sockets of this process: it drops a tenth of the datagrams,
-passes one of seven twice, and holds some up, but none for longer than the links' charges say. Nodes end, or are
-killed, after 3 to 25 seconds, and are started `again`; one a round, drawn by chance, runs on to its end. A round takes
-5 minutes at most; the next one begins when nothing of it can be left. Scripts know their moments before they start, so
+`tests/soak.py MINUTES [PROGRAM] [--seed N] [--keep FOLDER] [--first]`. Each node has a link to either neighbour and
+sends to all four others, so half of what it sends is relayed. Links are sockets of this process: it drops a tenth of
+the datagrams, passes one of seven twice, and holds some up, but none for longer than the links' charges say. Nodes
+end, or are killed, after 3 to 25 seconds, and are started `again`; one a round, drawn by chance, runs on to its end. A
+node is killed where its log has all that it sent: of a turn that is broken off no log could be judged. A round takes 5
+minutes at most; the next one begins when nothing of it can be left. Scripts know their moments before they start, so
 messages go and are read at moments that are drawn.
 
 It ends with 1 where, in a round,
@@ -16,8 +17,9 @@ It ends with 1 where, in a round,
 - the node that runs on has grown by more than 1 MiB since its first third;
 - too little happened: no kill, no loss, no repeat, nothing relayed, or less than half of the messages read.
 
-Logs are kept in FOLDER, or where something failed in a new folder, which is named. One line a round tells what
-happened.
+With --first nodes are started as `first` each time, which breaks a premise of the promise: it then ends with 1 within
+a minute or two, and so shows that these checks see what is broken. Logs are kept in FOLDER, or where something failed in
+a new folder, which is named. One line a round tells what happened.
 
 In tests/all: 1 PROGRAM, 240 s."""
 import argparse
@@ -27,6 +29,7 @@ import pathlib
 import random
 import selectors
 import shutil
+import signal
 import socket
 import struct
 import subprocess
@@ -74,29 +77,39 @@ class Ring:
         self.counts: Counter[str] = Counter()
         self.waiting: list[tuple[float, int, socket.socket, int, bytes]] = []
         self.selector = selectors.DefaultSelector()
+        # how many datagrams came from each node
+        self.from_node: Counter[int] = Counter()
         # by a node and its neighbour: what the node takes the neighbour for
         self.ends: dict[tuple[int, int], socket.socket] = {}
         for node in NODES:
             for step in (1, -1):
                 it = socket.socket(socket.AF_INET, socket.SOCK_DGRAM)
                 it.setsockopt(socket.SOL_SOCKET, SO_TIMESTAMPNS, 1)
+                it.setsockopt(socket.SOL_SOCKET, socket.SO_RCVBUF, 1 << 21)
                 it.setblocking(False)
                 it.bind((HOST, 0))
                 self.ends[node, neighbour(node, step)] = it
         for (node, other), it in self.ends.items():
-            self.selector.register(it, selectors.EVENT_READ, (self.ends[other, node], self.ports[other]))
+            self.selector.register(it, selectors.EVENT_READ, (node, self.ends[other, node], self.ports[other]))
 
     def port(self, node: int, other: int) -> int:
         """Where a node sends what goes to its neighbour."""
         return self.ends[node, other].getsockname()[1]
 
-    def take(self, come_in: socket.socket, out: socket.socket, to: int) -> None:
-        """Takes all that came, each with the moment at which the kernel got it."""
+    def take_all(self, node: int) -> None:
+        """Takes all that came from a node."""
+        for step in (1, -1):
+            end = self.ends[node, neighbour(node, step)]
+            self.take(end, *self.selector.get_key(end).data)
+
+    def take(self, come_in: socket.socket, node: int, out: socket.socket, to: int) -> None:
+        """Takes all that came at a socket from a node, each with the moment at which the kernel got it."""
         while True:
             try:
                 octets, told, _, _ = come_in.recvmsg(65_536, 64)
             except BlockingIOError:
                 return
+            self.from_node[node] += 1
             seconds, nanos = struct.unpack("qq", told[0][2][:16])
             came = seconds + nanos / 1e9
             kind = self.chance.random()
@@ -140,11 +153,17 @@ class Life:
     process: "subprocess.Popen[bytes]"
     until: float
     is_killed: bool
+    # how many datagrams had come from its node before
+    before: int
     sizes: list[int] = field(default_factory=list)
+    is_over: bool = False
 
 
 class Round:
     """A round: its nodes, what they sent, and their logs."""
+
+    # how a node is started once more
+    anew = "again"
 
     def __init__(self, path: str, chance: random.Random, seconds: float, folder: pathlib.Path) -> None:
         self.path, self.chance, self.seconds, self.folder = path, chance, seconds, folder
@@ -172,7 +191,7 @@ class Round:
         return [it for _, it in sorted(commands)] + [f"at {int(seconds * 1000)} stop"]
 
     def script(self, node: int, seconds: float) -> str:
-        how = "again" if self.logs[node] else "first"
+        how = self.anew if self.logs[node] else "first"
         peers = [neighbour(node, 1), neighbour(node, -1)]
         routes = {neighbour(node, step): 1 if step > 0 else 2 for step in (1, 2, -1, -2)}
         head = [PARAMS.line(), f"me {node} {how}", f"local {HOST}:{self.ring.ports[node]}"]
@@ -191,22 +210,38 @@ class Round:
         self.logs[node].append(log)
         is_killed = node != self.steady and seconds < left and self.chance.random() < 0.7
         until = time.monotonic() + (self.chance.uniform(0.3, 1) * seconds if is_killed else seconds)
-        self.lives[node] = Life(process, until, is_killed)
+        self.ring.take_all(node)
+        self.lives[node] = Life(process, until, is_killed, self.ring.from_node[node])
+
+    def is_logged(self, node: int, life: Life) -> bool:
+        """Stops a node, and tells whether its log has all that it sent."""
+        life.process.send_signal(signal.SIGSTOP)
+        # it is stopped when the signal has come through, and what it sent has come by then
+        time.sleep(0.005)
+        self.ring.take_all(node)
+        log = self.logs[node][-1].read_bytes()
+        left = log.count(b" put ") - log.count(b" unsent ")
+        # where a datagram was lost before it came here, the node isn't killed any more, and comes to its stop
+        return log.endswith(b"\n") and left == self.ring.from_node[node] - life.before
 
     def look_after(self, node: int, left: float) -> None:
         """Ends a life where that is due, and begins the next."""
         life = self.lives[node]
         status = life.process.poll()
-        if status is None and life.is_killed and time.monotonic() >= life.until:
+        if life.is_over:
+            return
+        if status is None and life.is_killed and time.monotonic() >= life.until and self.is_logged(node, life):
             life.process.kill()
             life.process.wait()
             self.counts["killed"] += 1
         elif status is None:
+            life.process.send_signal(signal.SIGCONT)
             if node == self.steady:
                 life.sizes.append(memory_of(life.process.pid))
             return
         elif status != 0:
             self.faults.append(f"node {node} ended with {status}: {self.logs[node][-1]}")
+        life.is_over = True
         # the last lives end before the round does
         if left > LIVES[0]:
             self.start(node, left)
@@ -265,7 +300,8 @@ class Round:
 
     def read(self, log: pathlib.Path, seen: Counter[tuple[str, int]]) -> None:
         """Counts what a life took and gave up, and the messages that it read whole."""
-        open_ones: dict[str, str] = {}
+        # of each flow what was read of a message whose begin was read
+        open_ones: dict[str, str | None] = {}
         node = log.name.partition("-")[0]
         for line in log.read_text().splitlines():
             words = line.split(" ")
@@ -279,10 +315,11 @@ class Round:
                 self.counts["put"] += 1
             elif words[2:3] == ["read"]:
                 flow, marks, octets = words[3:]
+                begun = open_ones.get(flow)
                 # a run mark says that something was passed over
-                text = octets if "b" in marks else "" if "r" in marks else open_ones.get(flow, "") + octets
-                open_ones[flow] = text
-                if "e" in marks and text:
+                text = octets if "b" in marks else None if "r" in marks or begun is None else begun + octets
+                open_ones[flow] = None if "e" in marks else text
+                if "e" in marks and text is not None:
                     self.whole(node, flow, bytes.fromhex(text), seen)
         self.counts["relayed"] = max(0, self.counts["put"] - self.counts["own"])
 
@@ -296,9 +333,10 @@ class Round:
     def told(self) -> str:
         passed = self.ring.counts
         mine = self.counts
-        return (f"{mine['taken']} messages taken, {mine['read']} read whole, {mine['uncertain']} segments uncertain; {mine['killed']} kills, {mine['started again']} starts; "
-                f"{passed['passed'] + passed['repeated']} datagrams passed, {passed['dropped']} dropped, {passed['repeated']} twice, "
-                f"{passed['held too long']} held too long and dropped; {mine['relayed']} relayed; {mine['KiB']} KiB")
+        return (f"{mine['taken']} messages taken, {mine['read']} read whole, {mine['uncertain']} segments uncertain; "
+                f"{mine['killed']} kills, {mine['started again']} starts; {passed['passed'] + passed['repeated']} datagrams passed, "
+                f"{passed['dropped']} dropped, {passed['repeated']} twice, {passed['held too long']} held too long and dropped; "
+                f"{mine['relayed']} packets relayed; the node that ran on has {mine['KiB']} KiB")
 
 
 def memory_of(pid: int) -> int:
@@ -326,7 +364,9 @@ def main() -> int:
     reads.add_argument("program", nargs="?", default=str(PROGRAM))
     reads.add_argument("--seed", type=int, default=1)
     reads.add_argument("--keep", type=pathlib.Path, metavar="FOLDER")
+    reads.add_argument("--first", action="store_true")
     given = reads.parse_args()
+    Round.anew = "first" if given.first else "again"
     if not os.access(given.program, os.X_OK):
         reads.error(f"there is no program {given.program}: ./build makes it")
     chance, left, number, faults = random.Random(given.seed), given.minutes * 60, 0, []

@@ -3,7 +3,7 @@
 #include "peer.h"
 #include <enet/enet.h>
 
-static ENetAddress place(const char *address, int port) {
+static ENetAddress enet_place(const char *address, int port) {
     ENetAddress it = {0, (enet_uint16)port};
     if (enet_initialize() != 0 || enet_address_set_host_ip(&it, address) != 0) fail("no such address");
     return it;
@@ -15,7 +15,7 @@ static void give(ENetPeer *peer, const void *octets, size_t count) {
 }
 
 static void serve(const char *address, int port) {
-    ENetAddress here = place(address, port);
+    ENetAddress here = enet_place(address, port);
     ENetHost *host = enet_host_create(&here, ENET_PROTOCOL_MAXIMUM_PEER_ID, 1, 0, 0);
     static const unsigned char answer[ANSWER];
     ENetEvent event;
@@ -65,7 +65,7 @@ static void ask_flows(const ENetAddress *there, const struct question *it, doubl
 }
 
 static void ask(const char *address, int port, const struct question *it) {
-    ENetAddress there = place(address, port);
+    ENetAddress there = enet_place(address, port);
     double until = now() + it->seconds;
     if (strcmp(it->what, "flows") == 0) {
         ask_flows(&there, it, until);

@@ -14,11 +14,13 @@ are those of peer.h. A script knows its moments before it starts and hears nothi
   over 100 ms, which are counted;
 - a message is at most 65,536 octets, what one send may have.
 
-AGAIN in the environment: the server says `again`."""
+In the environment, AGAIN lets the server say `again`, and MANY_FLOWS gives each flow of either end a room of 4,096
+octets."""
 import argparse
 import os
 import pathlib
 import socket
+import struct
 import subprocess
 import sys
 import time
@@ -27,7 +29,7 @@ from collections import defaultdict
 TOP = pathlib.Path(__file__).resolve().parent.parent.parent
 sys.path[:0] = [str(TOP / "tools")]
 import wire  # noqa: E402
-from deltat_tools.parameters import Hop, Params, Wishes, link_charge, suited  # noqa: E402
+from deltat_tools.parameters import MOST_ROOM, Hop, Params, Wishes, link_charge, suited  # noqa: E402
 
 CLIENT, SERVER = 1, 2
 CLIENT_PORT = 4700
@@ -120,14 +122,14 @@ def ask(network: Network, program: str, there: str, wanted: argparse.Namespace) 
 
 def is_answered(client: socket.socket, flow: wire.Flow, number: int) -> bool:
     """Whether an acknowledgement of all before that number comes, before the socket's time is over."""
+    # kind, flags and both ports, and then the number, as a packet has them behind the Deltagram's header
+    wanted = struct.pack(">BBHHI", wire.ACK, 0, flow.to_port, flow.from_port, number)
     try:
-        while True:
-            frame = client.recv(65_536)
-            if frame[16] == wire.ACK and int.from_bytes(frame[18:20], "big") == flow.to_port and int.from_bytes(frame[20:22], "big") == flow.from_port \
-                    and int.from_bytes(frame[22:26], "big") == number:
-                return True
+        while client.recv(65_536)[16:26] != wanted:
+            pass
     except TimeoutError:
         return False
+    return True
 
 
 def ask_answers(network: Network, there: str, octets: int, seconds: float) -> None:
@@ -174,12 +176,11 @@ def main() -> None:
         for name, kind in (("count", int), ("octets", int), ("seconds", float)):
             of_form.add_argument(name, type=kind)
     given = reads.parse_args()
-    is_many = given.form == "ask" and given.what == "flows"
-    network = Network(given.delay, given.round_trip, SMALL_ROOM if is_many or "MANY_FLOWS" in os.environ else 65_536)
+    network = Network(given.delay, given.round_trip, SMALL_ROOM if "MANY_FLOWS" in os.environ else MOST_ROOM)
     place = f"{given.address}:{given.port}"
     if given.form == "serve":
         serve(network, given.program, place, given.log)
-    elif given.octets > 65_536:
+    elif given.octets > MOST_ROOM:
         sys.exit("node: a send has at most 65,536 octets")
     elif given.what == "answers":
         ask_answers(network, place, given.octets, given.seconds)

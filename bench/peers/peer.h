@@ -13,6 +13,8 @@
  *   message    one connection, and on it COUNT requests of so many octets, one after another
  *   flows      COUNT connections at once, each with one request: to the last answer
  */
+#include <arpa/inet.h>
+#include <netinet/in.h>
 #include <stdint.h>
 #include <stdio.h>
 #include <stdlib.h>
@@ -43,6 +45,15 @@ static void fail(const char *why) {
 static void done(uint32_t count, double seconds) {
     printf("done %u %.6f\n", count, seconds);
     fflush(stdout);
+}
+
+static inline struct sockaddr_in place(const char *address, int port) {
+    struct sockaddr_in it;
+    memset(&it, 0, sizeof it);
+    it.sin_family = AF_INET;
+    it.sin_port = htons((uint16_t)port);
+    if (inet_pton(AF_INET, address, &it.sin_addr) != 1) fail("no such address");
+    return it;
 }
 
 /* The number of a request is drawn, so that one that comes again is seen in the log. */

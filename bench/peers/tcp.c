@@ -1,9 +1,7 @@
 /* TCP, as a program uses it that cares for delays: without Nagle's waiting. peer.h says how it is run. */
 #define _GNU_SOURCE
 #include "peer.h"
-#include <arpa/inet.h>
 #include <errno.h>
-#include <netinet/in.h>
 #include <netinet/tcp.h>
 #include <poll.h>
 #include <sys/epoll.h>
@@ -11,12 +9,6 @@
 
 /* With FAST_OPEN in the environment the first request goes in the opening packet (RFC 7413). */
 static int is_fast(void) { return getenv("FAST_OPEN") != NULL; }
-
-static struct sockaddr_in place(const char *address, int port) {
-    struct sockaddr_in it = {.sin_family = AF_INET, .sin_port = htons((uint16_t)port)};
-    if (inet_pton(AF_INET, address, &it.sin_addr) != 1) fail("no such address");
-    return it;
-}
 
 static void set(int at, int level, int name, int value) { setsockopt(at, level, name, &value, sizeof value); }
 

@@ -2,20 +2,12 @@
  * no memory of what it served: it shows what a link can do, and what the others are for. peer.h says how it is run. */
 #define _GNU_SOURCE
 #include "peer.h"
-#include <arpa/inet.h>
-#include <netinet/in.h>
 #include <poll.h>
 #include <sys/socket.h>
 
 static double again_after(void) {
     const char *it = getenv("AGAIN_MS");
     return (it == NULL ? 100 : atof(it)) / 1000;
-}
-
-static struct sockaddr_in place(const char *address, int port) {
-    struct sockaddr_in it = {.sin_family = AF_INET, .sin_port = htons((uint16_t)port)};
-    if (inet_pton(AF_INET, address, &it.sin_addr) != 1) fail("no such address");
-    return it;
 }
 
 static void serve(const char *address, int port) {

@@ -1,19 +1,9 @@
 // UDT (Debian's libudt-dev), each connection a stream. peer.h says how it is run.
 #include "peer.h"
-#include <arpa/inet.h>
 #include <atomic>
-#include <netinet/in.h>
 #include <thread>
 #include <udt/udt.h>
 #include <vector>
-
-static sockaddr_in place(const char *address, int port) {
-    sockaddr_in it = {};
-    it.sin_family = AF_INET;
-    it.sin_port = htons((uint16_t)port);
-    if (inet_pton(AF_INET, address, &it.sin_addr) != 1) fail("no such address");
-    return it;
-}
 
 // all of them, or false
 static bool give(UDTSOCKET at, const char *octets, size_t count) {
@@ -48,16 +38,14 @@ static void serve(const char *address, int port) {
     }
 }
 
-// A connection. All share the local port of the first, and so its threads.
+// A connection with a local port, and so threads, of its own: 1,000 that share one take many times as long.
 static UDTSOCKET opened(const sockaddr_in &there, double until) {
-    static const int shared = 20000 + getpid() % 10000;
     while (now() < until) {
         UDTSOCKET it = UDT::socket(AF_INET, SOCK_STREAM, 0);
-        sockaddr_in here = {};
-        here.sin_family = AF_INET;
-        here.sin_port = htons((uint16_t)shared);
         int most = (int)((until - now()) * 1000) + 1;
-        UDT::bind(it, (sockaddr *)&here, sizeof here);
+        // closing doesn't wait for what is under way
+        linger off = {0, 0};
+        UDT::setsockopt(it, 0, UDT_LINGER, &off, sizeof off);
         UDT::setsockopt(it, 0, UDT_RCVTIMEO, &most, sizeof most);
         UDT::setsockopt(it, 0, UDT_SNDTIMEO, &most, sizeof most);
         if (UDT::connect(it, (const sockaddr *)&there, sizeof there) != UDT::ERROR) return it;
