@@ -148,7 +148,7 @@ impl Visitor<Frame> for Collector {
 
     ghost tells = { λ s r t. CollectTells s r t };
 
-    ghost tags = { λ s host octets tag t. CollectTags s host octets tag t };
+    ghost tags = { λ now s host octets tag t. CollectTags s host octets tag t };
 
     ghost hands = { λ s link parcel t. CollectHands s link parcel t };
 
