@@ -11,7 +11,7 @@ use Rattle.dt_world_model.specs.WorldStep.{WorldEvent, after_event, first_refusa
 use Rattle.dt_calls_laws.specs.Grown.{IsNoSendOrRead}
 use Rattle.dt_calls_laws.specs.MayCome as law
 use Rattle.dt_calls_laws.proofs.Happening.{event_course}
-use Rattle.dt_calls_laws.proofs.Stepping.{made_on, step_answers, step_facts}
+use Rattle.dt_calls_laws.proofs.Stepping.{made_on, step_answers, step_facts, step_made}
 use Rattle.dt_calls_model.specs.CallFacts.{CallFacts, CourseFacts}
 use Rattle.dt_calls_model.specs.Calls.{Calls}
 use Rattle.dt_calls_model.specs.CallStep as step
@@ -75,5 +75,5 @@ module _ {L H U : Type 0} (tells : L → CallEntry → L → Type 0) (answer : H
     handler = handler;
     spent = spent;
     once = once;
-    answers = λ told after is. step_answers (answer v.handler) v.calls e told after facts few may is;
+    answers = λ payloads own told after is. (step_answers (answer v.handler) v.calls e told after facts few may is payloads own, step_made (answer v.handler) v.calls e told after facts few may is payloads own);
   }

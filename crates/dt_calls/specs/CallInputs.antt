@@ -1,5 +1,5 @@
 -- What an input of calls does: its lines set up a world as those of a schedule do, and then calls are made in it. And the text of a whole input.
-use Rattle.std.specs.Prelude.{ℕ, ◌≡◌, Bool, List, ◌++◌, reverse, take, Option, None, Result, Ok, Err}
+use Rattle.std.specs.Prelude.{ℕ, Bool, List, ◌++◌, reverse, take, Option, None, Result, Ok, Err}
 use Rattle.dt_reports.specs.declared.faults.Fault.{Fault}
 use Rattle.dt_reports.specs.declared.faults.Fault.TheVariants as faults
 use Rattle.dt_reports.specs.declared.reports.Report.TheVariants as reports
@@ -13,11 +13,8 @@ use Rattle.dt_text.specs.InputLines.{lines_of}
 use Rattle.dt_fold.specs.Folds.{Folded, Turned, fold_from, fold_input}
 use Rattle.dt_world_model.specs.WorldStep.{Arrives, Loses, Passes, Restarts, Ticks}
 use Rattle.dt_calls_model.specs.Calls.{Calls, new_calls}
-use Rattle.dt_calls_model.specs.CallStep.{CallEvent, Faulty, Happens, Makes, Outcome, Stepped, call_step}
+use Rattle.dt_calls_model.specs.CallStep.{Faulty, Happens, Makes, Outcome, Stepped, call_step}
 use Rattle.dt_calls_model.specs.CallRuns.{totals_of}
-use Rattle.dt_calls_model.specs.CallTold.{CallEntry}
-use Rattle.dt_calls_model.specs.Promises.{AreItsAnswers}
-use Rattle.dt_calls_laws.specs.MayCome.{MayCome}
 use Rattle.dt_scenario.specs.Scenes.{Empty, Scene, Simulates, misplaced, scenario_turns, simulated}
 use Rattle.dt_calls.specs.CallTexts.{entries_text, totals_text}
 
@@ -76,7 +73,3 @@ are_calls_accepted octets = (calls_read octets).accepted
 -- THE CALLS OF AN INPUT after so many of its lines, or up to the first that is refused; there are none before `go`
 unfoldable pub calls_after_lines : ℕ → List ℕ → Option Calls
 calls_after_lines count octets = simulated (fold_from (scenario_turns simulates_calls) 1 Empty (take count (lines_of octets))).state
-
--- whatever comes next: each answer that is told of it is the payload of its call in reversed order
-abbrev pub AnswersAreReversed : Calls → Type 0
-AnswersAreReversed c = (e : CallEvent) (told : List CallEntry) (after : Calls) → MayCome e → call_step reverse c e ≡ Stepped told after → AreItsAnswers reverse after told

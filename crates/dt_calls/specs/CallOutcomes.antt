@@ -8,7 +8,7 @@ use Rattle.dt_reports.specs.declared.faults.StepFault.TheVariants as fault
 use Rattle.dt_world_model.specs.Setup.{Setup, new_world}
 use Rattle.dt_world_model.specs.World.{World}
 use Rattle.dt_calls_laws.specs.Grown.{IsNoSendOrRead}
-use Rattle.dt_calls_model.specs.Promises.{AreItsAnswers, AreServedOnce}
+use Rattle.dt_calls_model.specs.Promises.{AreItsAnswers, AreMadeWith, AreServedOnce, payloads_in}
 use Rattle.dt_world.specs.Worlds.{event_of}
 use Rattle.dt_calls_model.specs.Calls.{Calls}
 use Rattle.dt_calls_model.specs.CallStep as step
@@ -92,6 +92,8 @@ pub record Answers {L H U : Type 0} (tells : L → CallEntry → L → Type 0) (
   pub steps : StepsTo tells (answer c.handler) c.calls e before after result new.calls
   pub handler : new.handler ≡ c.handler
   pub spent : new.spent ≡ lacks_memory result
-  -- Each call is served at most once, also where memory was wanted, and each answer that the step tells is the handler's to the call's payload.
+  -- Each call is served at most once, also where memory was wanted.
   pub once : AreServedOnce new.calls
-  pub answers : (told : List CallEntry) (after : Calls) → call_step (answer c.handler) c.calls e ≡ Stepped told after → AreItsAnswers (answer c.handler) after told
+  -- Whatever the calls were made with, and the one that is made: so they still are, and each answer that the step tells is the handler's to what its call was made with.
+  pub answers : (payloads : List (List ℕ)) → AreMadeWith payloads c.calls → (told : List CallEntry) (after : Calls) → call_step (answer c.handler) c.calls e ≡ Stepped told after
+      → AreItsAnswers (answer c.handler) (payloads ++ payloads_in e) told × AreMadeWith (payloads ++ payloads_in e) after

@@ -12,5 +12,6 @@ pub mod Going
 pub mod Resting
 pub mod Dues
 pub mod CallInputs
+pub mod CallAnswers
 pub mod CallEnds
 pub mod Waiting

@@ -2,7 +2,8 @@
 ghost use Rattle.std.specs.Prelude.{ℕ, ◌≡◌, ◌≤◌, length, IfSome};
 ghost use Rattle.dt_calls_model.specs.Promises.{AreServedOnce};
 ghost use Rattle.dt_calls.specs.CallEnds.{CallsEnd, outcome_of};
-ghost use Rattle.dt_calls.specs.CallInputs.{AnswersAreReversed, calls_after_lines};
+ghost use Rattle.dt_calls.specs.CallAnswers.{AreCallsOf, TellsOwnAnswers};
+ghost use Rattle.dt_calls.specs.CallInputs.{calls_after_lines};
 
 use crate::inputs::InputCalls;
 use crate::outcomes::CallsOutcome;
@@ -20,13 +21,15 @@ use std::alloc::Global;
 /// - `NoMemory`: there was none. `out` has a first part of what is told, and no put failed.
 /// - `WriteFault`: a put on `out` failed. It has a first part of what is told.
 ///
-/// After each line each call was served at most once, and whatever comes next, each answer that is told
-/// is that of its call.
+/// After each line each call was served at most once, and the calls are those of the `call` lines up to
+/// there. Each answer that is told is that of its own call: `answered N` has the octets of the `call` line
+/// N, counted from 0, in reversed order, and there is such a line.
 pub fn calls<K: Sink>(alloc: Global, bytes: &[u8], out: &mut K) -> CallsOutcome
     requires few { length bytes.now ≤ 16777216 }
     ensures ends { CallsEnd result bytes.now (K.sight out.old) (K.sight out.new) }
     ensures once { (count : ℕ) → IfSome (calls_after_lines count bytes.now) (λ c. AreServedOnce c) }
-    ensures answers { (count : ℕ) → IfSome (calls_after_lines count bytes.now) (λ c. AnswersAreReversed c) }
+    ensures calls { (count : ℕ) → IfSome (calls_after_lines count bytes.now) (λ c. AreCallsOf bytes.now c) }
+    ensures answers { TellsOwnAnswers bytes.now }
 {
     let mut input: Scenario<InputCalls> = Scenario::new(alloc);
     outcome_of(fold_behind_buffer(alloc, &mut input, bytes, out))

@@ -27,7 +27,7 @@ use Rattle.dt_calls_laws.proofs.Quiet.{quiet_same, quiet_then}
 use Rattle.dt_calls_laws.proofs.Serving.{serve_course, serve_onward, serve_quiet}
 use Rattle.dt_calls_laws.proofs.SideBySide.{number_back}
 use Rattle.dt_calls_laws.proofs.Spans.{is_call_from}
-use Rattle.dt_calls_laws.proofs.States.{answer_course, answer_onward}
+use Rattle.dt_calls_laws.proofs.States.{answer_course, answer_onward, waits_not}
 
 -- PAYLOADS STAY where calls go on
 module _ (answer : List ℕ → List ℕ) where
@@ -44,7 +44,7 @@ module _ (answer : List ℕ → List ℕ) where
   told_stays c after (told.Made call flow count) facts on h = tt
   told_stays c after (told.Declined call) facts on h = tt
   told_stays c after (told.Served call) facts on h = tt
-  told_stays c after (told.Answered call octets) facts on h = (omega (arith, h.0, on.count), h.1 ∙ ap answer (sym (payloads_stay c after call facts on h.0)))
+  told_stays c after (told.Answered call octets) facts on h = (omega (arith, h.0, on.count), h.1 ∙ ap answer (sym (payloads_stay c after call facts on h.0)), λ none. h.2 (sym (on.calls call h.0).request ∙ none))
   told_stays c after (told.Unsure call) facts on h = tt
 
   pub all_told : (c after : Calls) (entries : List CallEntry) → CourseFacts answer c → Onward c after → AreTold answer c entries → AreTold answer after entries
@@ -130,7 +130,7 @@ module _ (answer : List ℕ → List ℕ) where
           facts = facts;
           few = let l = length-set c.calls.calls n _ in subst (λ (k : ℕ). k ≤ 2 ^ 64) (sym l) on.few;
           told = All-push (λ (e : CallEntry). IsTold answer after e.told) c.told (record { moment = c.calls.world.now; told = told.Answered n octets }) (all_told c.calls after c.told on.facts onward on.told)
-              (omega (arith, lt, onward.count), ap answer (sym (payloads_stay c.calls after n on.facts onward lt)));
+              (omega (arith, lt, onward.count), ap answer (sym (payloads_stay c.calls after n on.facts onward lt)), λ none. waits_not (call_at c.calls n).state waits ((kept_at answer c.calls f n on.facts comes.is_call).declined (sym (onward.calls n lt).request ∙ none)));
         }
 
     answer_by : (s : CallState) → (call_at c.calls n).state ≡ s → Leads answer c (answered_if s n octets c) × SameUnread c.calls.world (answered_if s n octets c).calls.world

@@ -344,6 +344,10 @@ module _ (answer : List ℕ → List ℕ) (c : Calls) (f : Flow) (payload : List
   declined_by Refused e = refl
   declined_by (Taken place count) e = absurd cc
 
+  refused_by : (p : Posted) → state_of p ≡ state.Declined → p ≡ Refused
+  refused_by Refused e = refl
+  refused_by (Taken place count) e = absurd cc
+
   not_answered : (p : Posted) → state_of p ≡ state.Answered → ⊥
   not_answered Refused e = absurd cc
   not_answered (Taken place count) e = absurd cc
@@ -357,6 +361,7 @@ module _ (answer : List ℕ → List ℕ) (c : Calls) (f : Flow) (payload : List
     served_is_gone = λ some. absurd (omega arith);
     replied = λ some. absurd (some refl);
     declined = declined_by request.0;
+    declined_only = refused_by request.0;
   }
 
   pub make_course : CourseFacts answer made
@@ -379,7 +384,7 @@ module _ (answer : List ℕ → List ℕ) (c : Calls) (f : Flow) (payload : List
             ] in
             none_taken c.world request.1 k (items_other k apart) (facts.others k (sym (key_other k apart) ∙ one) (sym (key_other (reversed k) apart_reversed) ∙ two));
         calls = All-push (CallIsKept made) c.calls new_call (All-weaker (CallIsKept c) (CallIsKept made) (λ x h. call_kept c made x (key_more x.flow) gone_stays h) c.calls facts.calls) new_kept;
-        once = All-push IsServedOnce c.calls new_call facts.once (record { at_most_once = omega arith; answered_once = λ e. absurd (not_answered request.0 e) });
+        once = All-push IsServedOnce c.calls new_call facts.once (record { at_most_once = omega arith; answered_once = λ e. absurd (not_answered request.0 e); never_declined = λ e. refl });
       }
 
   items_more : (p : Posted) (k : Flow) → PostsAs c.world request.1 f octets p → (more : List Item) × (items_taken request.1 k ≡ items_taken c.world k ++ more)
@@ -392,6 +397,9 @@ module _ (answer : List ℕ → List ℕ) (c : Calls) (f : Flow) (payload : List
 
   pub make_onward : Onward c made
   make_onward = record { calls = λ m lt. subst (λ (x : Call). CallGoesOn (call_at c m) x) (sym (call_old m lt)) (same_call (call_at c m)); items = λ k. items_more request.0 k left; keys = key_more; count = let l = length_push c.calls new_call in omega (arith, l) }
+
+  pub only_one : length made.calls ≡ length c.calls + 1
+  only_one = length_push c.calls new_call
 
   -- the payload of the call is what was handed in
   payload_by_posted : (p : Posted) → request.0 ≡ p → PostsAs c.world request.1 f octets p → p ≢ Refused → payload_of made.world (call_at made n) ≡ payload

@@ -200,6 +200,7 @@ call_kept c after call keys gone h = record {
   served_is_gone = λ some. gone call.flow _ (h.served_is_gone some);
   replied = h.replied;
   declined = h.declined;
+  declined_only = h.declined_only;
 }
 
 -- NOTHING was taken where no item was

@@ -17,7 +17,7 @@ use Rattle.dt_world_model.specs.WorldStep.{Reads, WorldEvent, after_event, first
 use Rattle.dt_world_model.proofs.Tables.{all_found, distinct_write, flow_is, flow_self, look_write, look_write_other}
 use Rattle.dt_world_laws.proofs.Running.{run_goes}
 use Rattle.std.proofs.lemmas.List.Elements.{All-cons, All-nil}
-use Rattle.dt_calls_model.specs.declared.calls.Posted.TheVariants.{Taken}
+use Rattle.dt_calls_model.specs.declared.calls.Posted.TheVariants.{Refused, Taken}
 use Rattle.dt_calls_model.specs.CallFacts.{CallIsKept, CourseFacts, FlowIsKept, Span, last_of, requests_on, rows_gone}
 use Rattle.dt_calls_model.specs.Calls.{Begun, Calls, Client, Server, Side, begun_at, call_at, flow_read, is_call, with_begun}
 use Rattle.dt_calls_model.specs.Heard.{piece_in}
@@ -289,6 +289,7 @@ module _ (answer : List ℕ → List ℕ) where
             let there' : is_given (rows_gone c.world f) (whole.span.place + whole.span.count - 1) ≡ true = subst (λ (i : ℕ). is_given (rows_gone c.world f) i ≡ true) last (subst (λ (k : Flow). is_given (rows_gone c.world k) (last_of call.request) ≡ true) (flow_of_call c f n r.call) was) in
             let no : true ≡ false = sym there' ∙ whole.new in
             absurd cc);
+        taken = λ none. (let no : Taken whole.span.place whole.span.count ≡ Refused = sym r.request ∙ none in absurd cc);
         gone = subst (λ (i : ℕ). is_given (rows_gone w' f) i ≡ true) (sym last) whole.gone;
       }
   comes_at Client c f b facts there h flows message whole =

@@ -277,6 +277,7 @@ module _ (answer : List ℕ → List ℕ) (c : Calls) (f : Flow) (b : Begun) (fa
         served_is_gone = λ some. subst (λ (g : Flow). is_given (rows_gone reply.1 g) (last_of call.request) ≡ true) (sym at) (gone_stays f (last_of call.request) comes.gone);
         replied = λ some. omega (arith, un);
         declined = kept.declined;
+        declined_only = kept.declined_only;
       }
 
   pub serve_course : CourseFacts answer next
@@ -298,7 +299,7 @@ module _ (answer : List ℕ → List ℕ) (c : Calls) (f : Flow) (b : Begun) (fa
             ] in
             none_taken c.world reply.1 k (items_other k apart) (facts.others k one two);
         calls = All-set (CallIsKept next) c.calls n served served_kept (All-weaker (CallIsKept c) (CallIsKept next) (λ x h. call_kept c next x (λ key. key) gone_stays h) c.calls facts.calls);
-        once = All-set IsServedOnce c.calls n served (record { at_most_once = omega (arith, un); answered_once = λ e. omega (arith, un) }) facts.once;
+        once = All-set IsServedOnce c.calls n served (record { at_most_once = omega (arith, un); answered_once = λ e. omega (arith, un); never_declined = λ e. absurd (comes.taken (kept.declined_only e)) }) facts.once;
       }
 
   items_more : (p : Posted) (k : Flow) → PostsAs c.world reply.1 (reversed f) octets p → (more : List Item) × (items_taken reply.1 k ≡ items_taken c.world k ++ more)

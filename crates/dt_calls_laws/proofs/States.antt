@@ -122,7 +122,7 @@ module _ (answer : List ℕ → List ℕ) (c : Calls) (calls : List Call) (same 
 same_facts : (c : Calls) (calls : List Call) (call : Call) → CallIsKept c call → CallIsKept (with_calls calls c) call
 same_facts c calls call h = call_kept c (with_calls calls c) call (λ key. key) (λ g place k. k) h
 
-waits_not : (s : CallState) → is_waiting s ≡ true → s ≡ state.Declined → ⊥
+pub waits_not : (s : CallState) → is_waiting s ≡ true → s ≡ state.Declined → ⊥
 waits_not state.Waiting w e = absurd cc
 waits_not state.Answered w e = absurd cc
 waits_not state.Unsure w e = absurd cc
@@ -151,9 +151,10 @@ module _ (answer : List ℕ → List ℕ) (c : Calls) (f : Flow) (facts : Course
         served_is_gone = kept.served_is_gone;
         replied = kept.replied;
         declined = λ e. absurd (waits_not (call_at c n).state waits (kept.declined e));
+        declined_only = λ e. absurd cc;
       } in
       states_course answer c answered_calls only facts (All-set (CallIsKept (with_calls answered_calls c)) c.calls n answered kept' (All-weaker (CallIsKept c) (CallIsKept (with_calls answered_calls c)) (λ x h. same_facts c answered_calls x h) c.calls facts.calls))
-      (All-set IsServedOnce c.calls n answered (record { at_most_once = omega (arith, once); answered_once = λ e. once }) facts.once)
+      (All-set IsServedOnce c.calls n answered (record { at_most_once = omega (arith, once); answered_once = λ e. once; never_declined = λ e. absurd cc }) facts.once)
 
   pub answer_onward : Onward c (with_calls answered_calls c)
   answer_onward = states_onward answer c answered_calls only
@@ -172,11 +173,11 @@ module _ (w : World) where
   doubt_kept : (b : Bool) (c : Calls) (call : Call) → becomes_unsure w call ≡ b → CallIsKept c call → CallIsKept c (if b then record call { state = state.Unsure } else call)
   doubt_kept true c call e h =
       let waits = (and_parts (is_waiting call.state) (is_posted_in_vain w call.flow call.request || is_replied_in_vain w (reversed call.flow) call.reply) e).0 in
-      record { flow = h.flow; served_is_gone = h.served_is_gone; replied = h.replied; declined = λ r. absurd (waits_not call.state waits (h.declined r)) }
+      record { flow = h.flow; served_is_gone = h.served_is_gone; replied = h.replied; declined = λ r. absurd (waits_not call.state waits (h.declined r)); declined_only = λ e. absurd cc }
   doubt_kept false c call e h = h
 
   doubt_once : (b : Bool) (call : Call) → IsServedOnce call → IsServedOnce (if b then record call { state = state.Unsure } else call)
-  doubt_once true call h = record { at_most_once = h.at_most_once; answered_once = λ e. absurd cc }
+  doubt_once true call h = record { at_most_once = h.at_most_once; answered_once = λ e. absurd cc; never_declined = λ e. absurd cc }
   doubt_once false call h = h
 
   doubt_sure : (b : Bool) (call : Call) → becomes_unsure w call ≡ b → becomes_unsure w (if b then record call { state = state.Unsure } else call) ≡ false

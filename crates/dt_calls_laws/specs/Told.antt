@@ -1,6 +1,7 @@
 -- What was told of calls, while calls go on.
-use Rattle.std.specs.Prelude.{ℕ, ◌<◌, ◌≤◌, ◌≡◌, ◌^◌, List, length}
+use Rattle.std.specs.Prelude.{ℕ, ◌<◌, ◌≤◌, ◌≡◌, ◌≢◌, ◌^◌, List, length}
 use Rattle.std.specs.List.{All}
+use Rattle.dt_calls_model.specs.declared.calls.Posted.TheVariants.{Refused}
 use Rattle.dt_calls_model.specs.Calls.{Calls, call_at}
 use Rattle.dt_calls_model.specs.CallFacts.{CourseFacts}
 use Rattle.dt_calls_model.specs.CallTold as told
@@ -9,12 +10,12 @@ use Rattle.dt_calls_model.specs.Promises.{payload_of}
 use Rattle.dt_calls_model.specs.Reads.{Course}
 
 module _ (answer : List ℕ → List ℕ) where
-  -- an answer is told of a call that is there, and is the handler's to its payload
+  -- an answer is told of a call that is there, whose request was taken, and is the handler's to its payload
   abbrev pub IsTold : Calls → CallTold → Type 0
   IsTold c (told.Made call flow count) = Unit {0}
   IsTold c (told.Declined call) = Unit {0}
   IsTold c (told.Served call) = Unit {0}
-  IsTold c (told.Answered call octets) = (call < length c.calls) × (octets ≡ answer (payload_of c.world (call_at c call)))
+  IsTold c (told.Answered call octets) = (call < length c.calls) × (octets ≡ answer (payload_of c.world (call_at c call))) × ((call_at c call).request ≢ Refused)
   IsTold c (told.Unsure call) = Unit {0}
 
   abbrev pub AreTold : Calls → List CallEntry → Type 0

@@ -1,5 +1,5 @@
 //! What is promised of calls: each is served at most once, and its answer is the handler's.
-ghost use Rattle.std.specs.Prelude.{ℕ, ◌+◌, ◌≡◌, ◌<◌, ◌≤◌, ◌≢◌, ◌^◌, List, ◌++◌, length};
+ghost use Rattle.std.specs.Prelude.{ℕ, ◌+◌, ◌≡◌, ◌<◌, ◌≤◌, ◌≢◌, ◌^◌, List, [], ◌++◌, length};
 ghost use Rattle.std.specs.List.{All};
 ghost use Rattle.dt_units.specs.declared.endpoints.Flow.{Flow};
 ghost use Rattle.dt_units.specs.Flows.{IsFlow};
@@ -7,29 +7,32 @@ ghost use Rattle.dt_units.specs.Limits.{IsWithinLimits};
 ghost use Rattle.dt_world_model.specs.Setup.{Setup, new_world};
 ghost use Rattle.dt_calls_model.specs.declared.calls.Posted.TheVariants.{Refused};
 ghost use Rattle.dt_calls_model.specs.CallFacts.{CallFacts};
-ghost use Rattle.dt_calls_model.specs.CallRuns.{call_run};
+ghost use Rattle.dt_calls_model.specs.CallRuns.{call_run, payloads_run};
 ghost use Rattle.dt_calls_model.specs.Calls.{Calls, call_at, new_calls};
 ghost use Rattle.dt_calls_model.specs.CallStep.{CallEvent, Makes, Stepped, call_step};
 ghost use Rattle.dt_calls_model.specs.CallTold.{CallEntry};
-ghost use Rattle.dt_calls_model.specs.Promises.{AreItsAnswers, AreServedOnce, payload_of};
+ghost use Rattle.dt_calls_model.specs.Promises.{AreItsAnswers, AreMadeWith, AreServedOnce, payload_of, payloads_in};
 ghost use Rattle.dt_calls_laws.specs.MayCome.{MayCome};
 ghost use Rattle.dt_calls_laws.specs.Onward.{CallGoesOn};
 
 /// Each step that isn't refused keeps the facts of calls, with each call served at most once among
-/// them; and each answer that it tells is the handler's to the payload of its call. There are fewer
-/// calls before it than numbers of eight octets.
+/// them. Whatever the calls were made with, and this one, if it is made: so they still are, and each
+/// answer that the step tells is the handler's to what its call was made with. There are fewer calls
+/// before it than numbers of eight octets.
 pub fn step_keeps_the_facts_of_calls()
     ensures facts { (answer : List ℕ → List ℕ) (c : Calls) (e : CallEvent) (lines : List CallEntry) (after : Calls) → CallFacts answer c → length c.calls < 2 ^ 64 → MayCome e → call_step answer c e ≡ Stepped lines after → CallFacts answer after }
-    ensures answers { (answer : List ℕ → List ℕ) (c : Calls) (e : CallEvent) (lines : List CallEntry) (after : Calls) → CallFacts answer c → length c.calls < 2 ^ 64 → MayCome e → call_step answer c e ≡ Stepped lines after → AreItsAnswers answer after lines }
+    ensures made { (answer : List ℕ → List ℕ) (c : Calls) (e : CallEvent) (lines : List CallEntry) (after : Calls) → CallFacts answer c → length c.calls < 2 ^ 64 → MayCome e → call_step answer c e ≡ Stepped lines after → (payloads : List (List ℕ)) → AreMadeWith payloads c → AreMadeWith (payloads ++ payloads_in e) after }
+    ensures answers { (answer : List ℕ → List ℕ) (c : Calls) (e : CallEvent) (lines : List CallEntry) (after : Calls) → CallFacts answer c → length c.calls < 2 ^ 64 → MayCome e → call_step answer c e ≡ Stepped lines after → (payloads : List (List ℕ)) → AreMadeWith payloads c → AreItsAnswers answer (payloads ++ payloads_in e) lines }
 {}
 
 /// Over every list of calls and of events of the world, with any losses, repeats and restarts, each call
-/// is served at most once, one that is answered was served once, and each answer that is told is the
-/// handler's to the payload of its call. So it is for every handler, and for as many events as there are
-/// numbers of eight octets.
+/// is served at most once, one that is answered was served once, one that is declined is never served,
+/// and each answer that is told is that of a call that was made, and the handler's to the payload that
+/// was handed in with it. So it is for every handler, and for as many events as there are numbers of
+/// eight octets.
 pub fn each_call_is_served_at_most_once()
     ensures once { (answer : List ℕ → List ℕ) (setup : Setup) (events : List CallEvent) → IsWithinLimits setup.params → All MayCome events → length events ≤ 2 ^ 64 → AreServedOnce (call_run answer events (new_calls (new_world setup))).1 }
-    ensures answers { (answer : List ℕ → List ℕ) (setup : Setup) (events : List CallEvent) → IsWithinLimits setup.params → All MayCome events → length events ≤ 2 ^ 64 → let r = call_run answer events (new_calls (new_world setup)) in AreItsAnswers answer r.1 r.0 }
+    ensures answers { (answer : List ℕ → List ℕ) (setup : Setup) (events : List CallEvent) → IsWithinLimits setup.params → All MayCome events → length events ≤ 2 ^ 64 → let c = new_calls (new_world setup) in AreItsAnswers answer (payloads_run answer events ([], c)) (call_run answer events c).0 }
 {}
 
 /// What became of a call stays: over a step, and over all further events, a call keeps its flow and its

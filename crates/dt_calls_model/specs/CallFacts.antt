@@ -87,6 +87,7 @@ pub record CallIsKept (c : Calls) (call : Call) : Type 0 where
   pub served_is_gone : 0 < call.served → is_given (rows_gone c.world call.flow) (last_of call.request) ≡ true
   pub replied : call.reply ≢ None → call.served ≡ 1
   pub declined : call.request ≡ Refused → call.state ≡ state.Declined
+  pub declined_only : call.state ≡ state.Declined → call.request ≡ Refused
 
 -- BETWEEN TWO STEPS nothing is unread at a flow with a call, and its two stations rest
 pub record FlowRests (c : Calls) (f : Flow) (b : Begun) : Type 0 where

@@ -6,6 +6,7 @@ use Rattle.dt_calls_model.specs.declared.calls.Call.{Call}
 use Rattle.dt_calls_model.specs.Calls.{Calls}
 use Rattle.dt_calls_model.specs.CallTold.{CallEntry}
 use Rattle.dt_calls_model.specs.CallStep.{CallEvent, Faulty, Outcome, Stepped, call_step, is_waiting}
+use Rattle.dt_calls_model.specs.Promises.{payloads_by}
 
 -- A RUN: what is told of the events in order, and the calls after them. An event that is refused tells nothing and changes nothing.
 abbrev pub then_call : List CallEntry × Calls → Outcome → List CallEntry × Calls
@@ -15,6 +16,11 @@ then_call r (Stepped lines after) = (r.0 ++ lines, after)
 abbrev pub call_run_from : (List ℕ → List ℕ) → List CallEvent → List CallEntry × Calls → List CallEntry × Calls
 call_run_from answer [] r = r
 call_run_from answer (e ∷ es) r = call_run_from answer es (then_call r (call_step answer r.1 e))
+
+-- what the calls were made with over a run, by their numbers
+abbrev pub payloads_run : (List ℕ → List ℕ) → List CallEvent → List CallEntry × Calls → List (List ℕ)
+payloads_run answer [] r = []
+payloads_run answer (e ∷ es) r = let o = call_step answer r.1 e in payloads_by o e ++ payloads_run answer es (then_call r o)
 
 abbrev pub call_run : (List ℕ → List ℕ) → List CallEvent → Calls → List CallEntry × Calls
 call_run answer es c = call_run_from answer es ([], c)

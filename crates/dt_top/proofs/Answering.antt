@@ -1,6 +1,8 @@
 -- What a run answers follows from how it ends.
 use Rattle.std.proofs.Common.{arith, ◌≡◌, ◌⊎◌, ◌≤◌, ◌<◌, ◌+◌, ℕ, Bool, true, false, List, length, Option, Some, None, Result, Ok, Err, IfSome, inl, inr, refl, sym, subst, ◌∙◌}
 use Rattle.dt_audit.specs.Audits.{has_flaw}
+use Rattle.dt_calls.proofs.CallFolds.{own_answers}
+use Rattle.dt_calls.specs.CallAnswers.{TellsOwnAnswers}
 use Rattle.dt_calls.specs.CallInputs.{are_calls_accepted, calls_text}
 use Rattle.dt_edges.specs.Counts.{HasRisen}
 use Rattle.dt_edges.specs.Sinks.{SinkSight, Takes}
@@ -82,6 +84,10 @@ of_left owed s h (Some octets) e =
 -- that, and that it is within the limit
 with_limit : (owed : List ℕ → Effects → Type 0) (s : Streams) → Served owed s → Served (λ octets e. (length octets ≤ limit) × owed octets e) s
 with_limit owed s h = record { octets = h.octets; input = h.input; owes = (h.input.within, h.owes) }
+
+of_any : (P : List ℕ → Type 0) → ((octets : List ℕ) → P octets) → (left : Option (List ℕ)) → IfSome left P
+of_any P f None = tt
+of_any P f (Some octets) = f octets
 
 weaken : (P Q : List ℕ → Type 0) → ((octets : List ℕ) → P octets → Q octets) → (left : Option (List ℕ)) → IfSome left P → IfSome left Q
 weaken P Q f None h = tt
@@ -231,6 +237,7 @@ ran_again r h = record {
 is_called : (r : Run) → IsEnded r → IsCalled r
 is_called r h = record {
   called = λ is status. weaken (λ octets. job_owes Calls Done octets r.streams.effects) (IsLogged are_calls_accepted calls_text r) (λ octets owes. (owes.0, owes.1)) r.streams.source_before.left (after_done Calls r h is status);
+  own_answers = λ is. of_any (λ octets. length octets ≤ limit → TellsOwnAnswers octets) own_answers r.streams.source_before.left;
   complete_calls = serves Calls (λ octets. are_calls_accepted octets ≡ true) calls_excuses r h;
 }
 

@@ -1,6 +1,7 @@
 -- WHAT `run` ANSWERS, by command and by status. `IsEnded` is the whole statement, from which all else follows.
 use Rattle.std.specs.Prelude.{ℕ, ◌≡◌, ◌⊎◌, ◌≤◌, ◌<◌, ◌^◌, true, false, List, [], length, Some, None}
 use Rattle.dt_audit.specs.Audits.{audit_text, has_flaw}
+use Rattle.dt_calls.specs.CallAnswers.{TellsOwnAnswers}
 use Rattle.dt_calls.specs.CallInputs.{are_calls_accepted, calls_text}
 use Rattle.dt_edges.specs.Sinks.{Takes}
 use Rattle.dt_fold.specs.Logging.{HasAll, HasPart}
@@ -76,9 +77,10 @@ pub record IsMade (r : Run) : Type 0 where
   pub complete_make : (n : ℕ) → r.command ≡ Some (Make n) → (PutFailed r → ⊥)
       → (r.status ≡ 0) ⊎ ((r.status ≡ 4) × (r.streams.effects.out_after ≡ r.streams.effects.out_before))
 
--- `calls`: all that is told of those of an accepted input, and that it is served.
+-- `calls`: all that is told of those of an accepted input, and that it is served. Whatever the status, `answered N` in the text has the octets of the `call` line N in reversed order, and there is such a line.
 pub record IsCalled (r : Run) : Type 0 where
   pub called : After Calls 0 (λ octets. (are_calls_accepted octets ≡ true) × Leaves HasAll (calls_text octets) r) r
+  pub own_answers : IsFor Calls r → OfInput (λ octets. length octets ≤ limit → TellsOwnAnswers octets) r
   pub complete_calls : Serves Calls (λ octets. are_calls_accepted octets ≡ true) r
 
 -- `audit`: the verdict on a log without a flaw, and that it is served.

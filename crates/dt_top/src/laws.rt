@@ -2,7 +2,8 @@
 //! function with an empty body.
 ghost use Rattle.std.specs.Prelude.{ℕ, ◌≡◌, ◌≤◌, false, List, length, IfOk, IfSome};
 ghost use Rattle.dt_audit.specs.Audits.{AreSafe, has_flaw, ledger_of};
-ghost use Rattle.dt_calls.specs.CallInputs.{AnswersAreReversed, calls_after_lines};
+ghost use Rattle.dt_calls.specs.CallAnswers.{AreCallsOf, TellsOwnAnswers};
+ghost use Rattle.dt_calls.specs.CallInputs.{calls_after_lines};
 ghost use Rattle.dt_calls_model.specs.Promises.{AreServedOnce};
 ghost use Rattle.dt_replay.specs.Schedules.{replay_text, world_after_lines, world_of};
 ghost use Rattle.dt_world_model.specs.WorldFacts.{SafeWorld};
@@ -15,11 +16,13 @@ pub fn each_schedule_is_safe()
     ensures whole { (octets : List ℕ) → IfSome (world_of octets) (λ w. SafeWorld w) }
 {}
 
-/// After each line of any input that isn't too long each call was served at most once, and each answer
-/// that is told next is that of its call.
+/// After each line of any input that isn't too long each call was served at most once, and the calls are
+/// those of its first `call` lines, with their octets. In its text `answered N` has the octets of the
+/// `call` line N, counted from 0, in reversed order, and there is such a line.
 pub fn each_call_is_served_once()
     ensures called_once { (octets : List ℕ) → length octets ≤ limit → (count : ℕ) → IfSome (calls_after_lines count octets) (λ c. AreServedOnce c) }
-    ensures called_answers { (octets : List ℕ) → length octets ≤ limit → (count : ℕ) → IfSome (calls_after_lines count octets) (λ c. AnswersAreReversed c) }
+    ensures called_lines { (octets : List ℕ) → length octets ≤ limit → (count : ℕ) → IfSome (calls_after_lines count octets) (λ c. AreCallsOf octets c) }
+    ensures called_answers { (octets : List ℕ) → length octets ≤ limit → TellsOwnAnswers octets }
 {}
 
 /// Of any log without a flaw each flow of the ledger is safe. The log that `replay` writes of any input

@@ -3,15 +3,18 @@ use Rattle.dt_scenario.specs.Parts.{scene_in}
 use Rattle.dt_calls.specs.declared.inputs.InputCalls.{InputCalls}
 use Rattle.dt_calls.specs.declared.outcomes.CallsOutcome.{CallsOutcome}
 use Rattle.dt_calls.specs.CallEnds.{CallsEnd}
-use Rattle.dt_calls.proofs.CallFolds.{answers_reversed, served_once}
+use Rattle.dt_calls.proofs.CallFolds.{made_by_lines, own_answers, served_once}
 use Rattle.dt_calls.proofs.CallEnds.{calls_end}
 use Rattle.dt_calls.proofs.running.calls.Goals as goal
 
 pub returns-clause-once : goal.returns-clause-once
 returns-clause-once g c = λ count. served_once count c.args.bytes.now c.requires.few
 
+pub returns-clause-calls : goal.returns-clause-calls
+returns-clause-calls g c = λ count. made_by_lines count c.args.bytes.now c.requires.few
+
 pub returns-clause-answers : goal.returns-clause-answers
-returns-clause-answers g c = λ count. answers_reversed count c.args.bytes.now c.requires.few
+returns-clause-answers g c = own_answers c.args.bytes.now c.requires.few
 
 pub returns-clause-ends : goal.returns-clause-ends
 returns-clause-ends g c =
