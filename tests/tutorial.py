@@ -11,6 +11,8 @@ order, at the top of that copy. A block is told by the words behind its fence:
   the next block of the same terminal waits for their end.
 - `text first terminal`, `text second terminal`: what the last commands of that terminal wrote.
 - nothing: what an `sh` before it wrote, or a file of examples/.
+- `python`: a service over the library's binding, which has to be at work still after SERVED seconds. It is run only
+  where `make -C lib` has made the library.
 - `ini`: a file of release/; `conf`: an example of a file that isn't here.
 
 What is shown has to be what was written, octet for octet. Of what comes from a node, whose moments are the
@@ -34,12 +36,14 @@ from pathlib import Path
 
 from lib import PROGRAM, TOP
 
-PAGES = ["README.md", "docs/tutorial.md", "docs/parameters.md", "docs/operating.md", "docs/building.md"]
+PAGES = ["README.md", "docs/tutorial.md", "docs/parameters.md", "docs/operating.md", "docs/building.md", "docs/library.md"]
 # what a page tells people to run and this doesn't: the whole build and its tests, and what changes the machine
-NOT_RUN = ("./build", "rt ci", "tests/all", "bench/all", "sudo ", "release/build.sh")
+NOT_RUN = ("./build", "rt ci", "tests/all", "bench/all", "sudo ", "release/build.sh", "make -C lib")
 # reports that come more often, or not at all, where a machine is busy
 BUSY = {"put", "resent", "replied", "ignored", "quiet", "unsent"}
 SECONDS = 120
+# how long a service is tried
+SERVED = 2
 # README is for a first look
 MOST_WORDS = {"README.md": 1_200}
 # how `Reader.finish` marks commands that ended otherwise than with 0
@@ -147,6 +151,17 @@ class Reader:
         self.outputs.insert(0, (given, bool(re.search(r"deltat (node|trace)\b", block.text))))
         return f"it ended badly: {given[-300:]}" if BADLY.search(given) else ""
 
+    def serve(self, block: Block) -> str:
+        """Runs a service for a while, and returns why it ended before, or nothing."""
+        if not (self.top / "lib" / "libdeltat.so.0").exists():
+            return ""
+        path = {**os.environ, "PYTHONPATH": str(self.top / "bindings" / "python")}
+        try:
+            ran = subprocess.run([sys.executable, "-c", block.text], env=path, capture_output=True, text=True, timeout=SERVED)
+        except subprocess.TimeoutExpired:
+            return ""
+        return f"it ended with {ran.returncode}: {ran.stderr[-300:]}"
+
     def shown(self, block: Block) -> str:
         """What a block shows, as it was written here."""
         if block.terminal:
@@ -173,6 +188,8 @@ def why_not(reader: Reader, block: Block) -> str:
     """What is wrong with a block, or nothing."""
     if block.is_run:
         return reader.do(block)
+    if block.words == ["python"]:
+        return reader.serve(block)
     if block.words == ["conf"]:
         return ""
     if block.words == ["ini"]:

@@ -1,0 +1,240 @@
+#!/usr/bin/env python3
+"""The Python binding over libdeltat, in memory and over sockets of this machine.
+`tests/binding.py [LIBRARY] [TEST ..]`; LIBRARY is lib/libdeltat.so.0 where none is named. Ends with 1 where one of
+these fails, and with 77 where there is no library:
+
+- refusals: what is out of range, too long, for no one or too early is refused by its own exception, and nothing is sent.
+- simulated: 300 random runs of two nodes in memory, over links that drop, repeat and reorder, with restarts: each
+  message is one that was sent, none comes twice, those of one life come in their order.
+- processes: two processes over a link that drops 15 of 100 datagrams, repeats 15 and reorders: what they exchange
+  comes once and whole, and one that is killed and opened again goes on, with nothing twice.
+
+In tests/all: no words, 240 s."""
+from __future__ import annotations
+
+import heapq
+import itertools
+import os
+import random
+import subprocess
+import sys
+import threading
+import time
+
+from lib import HOST, TOP, bound, free_port, skip
+
+LIBRARY = TOP / "lib" / "libdeltat.so.0"
+named = [it for it in sys.argv[1:2] if it.endswith(".so") or ".so." in it]
+os.environ["DELTAT_LIBRARY"] = os.path.abspath(named[0]) if named else str(LIBRARY)
+if not os.path.exists(os.environ["DELTAT_LIBRARY"]):
+    skip(f"{os.environ['DELTAT_LIBRARY']} isn't there: make -C lib")
+sys.path.insert(0, str(TOP / "bindings" / "python"))
+import deltat  # noqa: E402
+
+PARAMS = deltat.Params(mpl=1000, r=3000, a=200, rto=100, probe=800, seg=500, cap=65536, rcap=65536, window=65536)
+CHARGE = 90
+
+
+def node_of(number: int, other: int, again: bool, at: int) -> deltat.Node:
+    return deltat.Node(number, PARAMS, [deltat.Link(1, CHARGE)], {other: 1}, again, at)
+
+
+def refused(error: type[Exception], call: object, *words: object, **named: object) -> bool:
+    try:
+        call(*words, **named)
+    except error:
+        return True
+    print(f"refusals: {error.__name__} didn't come of {words} {named}")
+    return False
+
+
+def refusals() -> bool:
+    node, flow = node_of(1, 2, False, 0), deltat.Flow(1, 10, 2, 20)
+    right = [
+        refused(deltat.BadParameter, deltat.Node, 1, deltat.Params(1, 3000, 200, 500, 800, 100, 4096, 4096, 512), [], {}),
+        refused(deltat.BadParameter, deltat.Node, 1 << 32, PARAMS, [], {}),
+        refused(deltat.BadParameter, node.send, flow, b"", at=1),
+        refused(deltat.BadParameter, node.send, flow, bytes(65537), at=1),
+        refused(deltat.BadParameter, node.send, flow.reversed(), b"hello", at=1),
+        refused(deltat.BadParameter, node.send, deltat.Flow(1, 65536, 2, 20), b"hello", at=1),
+        refused(deltat.BadParameter, node.read, flow, at=1),
+        refused(ValueError, deltat.Flow.parse, "1:10>2"),
+        deltat.Flow.parse("1:10>2:20") == flow and str(flow) == "1:10>2:20",
+        node.arrive(1, b"not a frame", at=1) is deltat.Status.BAD,
+        node.arrive(9, bytes(40), at=1) is deltat.Status.REFUSED,
+        list(node.frames()) == [] and node.wake is None,
+    ]
+    node.send(flow, bytes(65536), at=2)
+    right.append(refused(deltat.Full, node.send, flow, b"one more", at=2))
+    late = node_of(1, 2, True, 100)
+    right.append(refused(deltat.Quiet, late.send, flow, b"too early", at=100 + PARAMS.quiet - 1))
+    late.send(flow, b"in time", at=100 + PARAMS.quiet)
+    frame = next(late.frames())
+    right.append(frame.to == 2 and b"in time" in frame.octets)
+    right.append(node_of(2, 1, False, 0).arrive(1, frame.octets, waited=1000, at=5) is deltat.Status.STALE)
+    node.close()
+    node.close()
+    right.append(refused(deltat.Spent, node.tick, 5))
+    return all(right)
+
+
+class Run:
+    """Two nodes in memory, and what is on the links between them."""
+
+    def __init__(self, chance: random.Random) -> None:
+        self.chance, self.at, self.count = chance, 0, itertools.count()
+        self.nodes = {number: node_of(number, 3 - number, False, 0) for number in (1, 2)}
+        self.links: list[tuple[int, int, int, bytes]] = []
+        self.sent: dict[bytes, tuple[int, int]] = {}
+        self.life, self.came = {1: 0, 2: 0}, []
+
+    def flush(self, number: int) -> None:
+        for frame in self.nodes[number].frames():
+            copies = self.chance.choices([0, 1, 2, 3], [15, 65, 15, 5])[0]
+            for _ in range(copies):
+                heapq.heappush(self.links, (self.at + self.chance.randrange(CHARGE), next(self.count), frame.to, frame.octets))
+
+    def take(self, number: int) -> None:
+        self.came += [(it, self.life[number]) for it in self.nodes[number].messages(self.at)]
+        self.flush(number)
+
+    def send(self, number: int) -> None:
+        octets = self.chance.randbytes(self.chance.choice([8, 60, 700, 5000])) + next(self.count).to_bytes(8, "big")
+        try:
+            self.nodes[number].send(deltat.Flow(number, 10, 3 - number, 20), octets, at=self.at)
+            self.sent[octets] = number, len(self.sent)
+        except (deltat.Full, deltat.Quiet):
+            pass
+        self.flush(number)
+
+    def restart(self, number: int) -> None:
+        self.nodes[number].close()
+        self.life[number] += 1
+        self.nodes[number] = node_of(number, 3 - number, True, self.at)
+
+    def step(self) -> None:
+        what = self.chance.random()
+        if what < 0.12:
+            self.send(self.chance.choice([1, 2]))
+        elif what < 0.125:
+            self.restart(self.chance.choice([1, 2]))
+        elif self.links and what < 0.8:
+            self.at, _, to, octets = heapq.heappop(self.links) if self.links[0][0] >= self.at else (self.at, *heapq.heappop(self.links)[1:])
+            self.nodes[to].arrive(1, octets, at=self.at)
+            self.take(to)
+        else:
+            self.at = min([self.at + self.chance.choice([1, 20, 100, 7000]), *(it[0] for it in self.links[:1])])
+            self.at = max(self.at, 0)
+            for number in (1, 2):
+                self.nodes[number].tick(self.at)
+                self.take(number)
+
+
+def simulated() -> bool:
+    total = 0
+    for seed in range(300):
+        run = Run(random.Random(seed))
+        for _ in range(400):
+            run.step()
+        octets = [it.octets for it, _ in run.came]
+        if len(set(octets)) != len(octets) or any(it not in run.sent for it in octets):
+            print(f"simulated: run {seed} has a message twice, or one that nobody sent")
+            return False
+        for number in (1, 2):
+            order = [run.sent[it][1] for it in octets if run.sent[it][0] == number]
+            if order != sorted(order):
+                print(f"simulated: run {seed} has messages out of order")
+                return False
+        total += len(octets)
+        for node in run.nodes.values():
+            node.close()
+    print(f"simulated: {total} messages came")
+    return total > 1000
+
+
+PEER = """
+import sys, time, hashlib
+sys.path.insert(0, {path!r})
+import deltat
+number, port, to, again, seconds = (int(word) for word in sys.argv[1:6])
+params = deltat.Params(mpl=1000, r=3000, a=200, rto=100, probe=800, seg=500, cap=65536, rcap=65536, window=65536)
+node = deltat.Node(number, params, [deltat.Link(1, 300)], {{3 - number: 1}}, bool(again))
+end, count = time.monotonic() + seconds, 0
+with deltat.Udp(node, ({host!r}, port), {{3 - number: ({host!r}, to)}}) as udp:
+    while time.monotonic() < end:
+        try:
+            udp.send(deltat.Flow(number, 10, 3 - number, 20), b"%d %d %d" % (number, deltat.now(), count) + bytes(count % 900))
+            count += 1
+        except (deltat.Full, deltat.Quiet):
+            pass
+        for message in udp.settle(0.02):
+            print(message.octets.split(b"\\0")[0].decode(), len(message.octets), flush=True)
+    for message in udp.settle(1.5):
+        print(message.octets.split(b"\\0")[0].decode(), len(message.octets), flush=True)
+print("sent", count, "unsent", udp.unsent, flush=True)
+"""
+
+
+def bad_link(chance: random.Random, ends: list, ports: list[int], until: float) -> None:
+    """Passes datagrams on between two ends: of 100 it drops 15 and repeats 15, and each waits up to 100 ms."""
+    waiting: list[tuple[float, int, int, bytes]] = []
+    count = itertools.count()
+    for it in ends:
+        it.setblocking(False)
+    while time.monotonic() < until:
+        for i, it in enumerate(ends):
+            try:
+                while True:
+                    octets = it.recv(65536)
+                    for _ in range(chance.choices([0, 1, 2], [15, 70, 15])[0]):
+                        heapq.heappush(waiting, (time.monotonic() + chance.random() / 10, next(count), 1 - i, octets))
+            except (BlockingIOError, ConnectionRefusedError):
+                pass
+        while waiting and waiting[0][0] <= time.monotonic():
+            _, _, to, octets = heapq.heappop(waiting)
+            ends[to].sendto(octets, (HOST, ports[to]))
+        time.sleep(0.001)
+
+
+def processes() -> bool:
+    chance = random.Random(11)
+    ports, ends = [free_port(), free_port()], [bound(), bound()]
+    link = threading.Thread(target=bad_link, args=(chance, ends, ports, time.monotonic() + 40))
+    link.start()
+    program = PEER.format(path=str(TOP / "bindings" / "python"), host=HOST)
+
+    def start(number: int, again: int, seconds: int) -> subprocess.Popen[str]:
+        words = [str(number), str(ports[number - 1]), str(ends[number - 1].getsockname()[1]), str(again), str(seconds)]
+        return subprocess.Popen([sys.executable, "-c", program, *words], stdout=subprocess.PIPE, text=True)
+
+    first, second = start(1, 0, 25), start(2, 0, 5)
+    time.sleep(3)
+    second.kill()
+    before, _ = second.communicate()
+    second = start(2, 1, 22)
+    after, _ = second.communicate(timeout=60)
+    one, _ = first.communicate(timeout=60)
+    link.join()
+    right = True
+    for who, text in (("node 1", one), ("node 2", before + after)):
+        rows = [it for it in text.splitlines() if it[:1] in "12"]
+        lengths = all(int(it.split()[3]) == len(" ".join(it.split()[:3])) + int(it.split()[2]) % 900 for it in rows)
+        print(f"processes: {who} got {len(rows)} messages")
+        right = right and len(rows) > 30 and len(set(rows)) == len(rows) and lengths
+    return right
+
+
+def main() -> int:
+    words = sys.argv[2:] if named else sys.argv[1:]
+    tests = {"refusals": refusals, "simulated": simulated, "processes": processes}
+    failed = 0
+    for name in words or tests:
+        begun = time.monotonic()
+        well = tests[name]()
+        failed += not well
+        print(f"{name}: {'ok' if well else 'FAILED'} ({time.monotonic() - begun:.1f} s)", flush=True)
+    return 1 if failed else 0
+
+
+if __name__ == "__main__":
+    sys.exit(main())
