@@ -8,6 +8,7 @@ these fails, and with 77 where there is no library:
   message is one that was sent, none comes twice, those of one life come in their order.
 - processes: two processes over a link that drops 15 of 100 datagrams, repeats 15 and reorders: what they exchange
   comes once and whole, and one that is killed and opened again goes on, with nothing twice.
+- examples: examples/echo.py asks itself, and examples/echo.c, which is compiled first, at the ports that they name.
 
 In tests/all: no words, 240 s."""
 from __future__ import annotations
@@ -16,8 +17,10 @@ import heapq
 import itertools
 import os
 import random
+import shutil
 import subprocess
 import sys
+import tempfile
 import threading
 import time
 
@@ -224,9 +227,36 @@ def processes() -> bool:
     return right
 
 
+def asked(service: list[str]) -> bool:
+    """Whether a service of the examples answers."""
+    with subprocess.Popen(service, stdout=subprocess.DEVNULL) as it:
+        time.sleep(0.7)
+        client = [sys.executable, str(TOP / "examples" / "echo.py"), "ask", "hello", "world"]
+        ran = subprocess.run(client, capture_output=True, text=True, timeout=20)
+        it.kill()
+    if ran.stdout != "olleh\ndlrow\n":
+        print(f"examples: {service} was asked, and the answer was {ran.stdout!r} {ran.stderr[-200:]!r}")
+    return ran.stdout == "olleh\ndlrow\n"
+
+
+def examples() -> bool:
+    compilers = [it for it in ("gcc", "clang") if shutil.which(it)]
+    right = asked([sys.executable, str(TOP / "examples" / "echo.py"), "serve"])
+    with tempfile.TemporaryDirectory() as folder:
+        for compiler in compilers:
+            # the nodes of the service before have to be forgotten: those of this one are other lives
+            time.sleep(PARAMS.quiet / 1000)
+            words = [compiler, "-std=gnu11", "-O2", "-Wall", "-Wextra", "-Werror", "-I", str(TOP / "include"), str(TOP / "examples" / "echo.c")]
+            built = subprocess.run([*words, str(TOP / "lib" / "libdeltat.a"), "-o", f"{folder}/{compiler}"], capture_output=True, text=True)
+            if built.returncode:
+                print(f"examples: {compiler}: {built.stderr[-500:]}")
+            right = right and not built.returncode and asked([f"{folder}/{compiler}"])
+    return right
+
+
 def main() -> int:
     words = sys.argv[2:] if named else sys.argv[1:]
-    tests = {"refusals": refusals, "simulated": simulated, "processes": processes}
+    tests = {"refusals": refusals, "simulated": simulated, "processes": processes, "examples": examples}
     failed = 0
     for name in words or tests:
         begun = time.monotonic()
