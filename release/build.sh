@@ -1,9 +1,10 @@
 #!/bin/sh
 # Makes the Debian package of this copy, with dpkg-deb alone.
 #
-#     release/build.sh [--program PATH] [--gate LOG] [--out FOLDER]
+#     release/build.sh [--program PATH] [--library FOLDER] [--gate LOG] [--out FOLDER]
 #
-# PATH is the program (crates/deltat/out/deltat), LOG what a gate (`rt ci`) of the same sources wrote. Its last line,
+# PATH is the program (crates/deltat/out/deltat), FOLDER where `make -C lib` left the library (lib/; where it isn't made,
+# the package has none), LOG what a gate (`rt ci`) of the same sources wrote. Its last line,
 # `N passed, M failed`, becomes the statement of what was proved, with the toolchain's line of README and the program's
 # sum. Without a LOG the package says that nothing is claimed of its program; with one that failed there is no package.
 # The file FOLDER/deltat_VERSION_ARCHITECTURE.deb (out/) is the same whenever it is made of the same files: its moments
@@ -12,7 +13,7 @@
 # Statuses: 0 its path is written; 1 something is missing or failed; 2 the words are wrong.
 set -eu
 top=$(cd "$(dirname "$0")/.." && pwd)
-program=$top/crates/deltat/out/deltat gate='' out=$top/out
+program=$top/crates/deltat/out/deltat libraries=$top/lib gate='' out=$top/out
 
 fail() {
     printf 'build.sh: %s\n' "$2" >&2
@@ -25,12 +26,12 @@ while [ $# -gt 0 ]; do
             sed -n '2,/^set -eu/{/^#/s/^# \{0,1\}//p;}' "$0"
             exit 0
             ;;
-        --program | --gate | --out)
+        --program | --library | --gate | --out)
             [ $# -ge 2 ] || fail 2 "$1 wants a path behind it"
-            case $1 in --program) program=$2 ;; --gate) gate=$2 ;; *) out=$2 ;; esac
+            case $1 in --program) program=$2 ;; --library) libraries=$2 ;; --gate) gate=$2 ;; *) out=$2 ;; esac
             shift 2
             ;;
-        *) fail 2 'usage: release/build.sh [--program PATH] [--gate LOG] [--out FOLDER]' ;;
+        *) fail 2 'usage: release/build.sh [--program PATH] [--library FOLDER] [--gate LOG] [--out FOLDER]' ;;
     esac
 done
 
@@ -81,6 +82,18 @@ install -m 644 "$top/release/deltat-node@.service" "$root/lib/systemd/system/del
 install -m 644 "$top/release/deltat.bash" "$root/usr/share/bash-completion/completions/deltat"
 install -m 644 "$top/release/_deltat" "$root/usr/share/zsh/vendor-completions/_deltat"
 install -m 644 "$top/release/overrides" "$root/usr/share/lintian/overrides/deltat"
+
+if [ -f "$libraries/libdeltat.so.0" ]; then
+    mkdir -p "$root/usr/include" "$root/usr/lib/$(uname -m)-linux-gnu/pkgconfig" "$root/usr/lib/python3/dist-packages" "$root/usr/share/man/man3"
+    make -s -C "$top/lib" deltat.pc PREFIX=/usr LIBDIR="/usr/lib/$(uname -m)-linux-gnu" PC="$room/deltat.pc"
+    install -m 644 "$room/deltat.pc" "$root/usr/lib/$(uname -m)-linux-gnu/pkgconfig/deltat.pc"
+    install -m 644 "$top/include/deltat.h" "$root/usr/include/deltat.h"
+    install -m 644 "$libraries/libdeltat.a" "$libraries/libdeltat.so.0" "$root/usr/lib/$(uname -m)-linux-gnu"
+    ln -s libdeltat.so.0 "$root/usr/lib/$(uname -m)-linux-gnu/libdeltat.so"
+    install -m 644 "$top/bindings/python/deltat.py" "$root/usr/lib/python3/dist-packages/deltat.py"
+    python3 "$top/release/manpage.py" "$top/docs/library.md" "$version" "$date" >"$room/library.3"
+    gzip -n9 <"$room/library.3" >"$root/usr/share/man/man3/libdeltat.3.gz"
+fi
 
 sed -e "s/@VERSION@/$version/" -e "s/@DATE@/$date/" "$top/release/deltat.1" | gzip -n9 >"$root/usr/share/man/man1/deltat.1.gz"
 python3 "$top/release/manpage.py" "$top/docs/formats.md" "$version" "$date" >"$room/formats.5"

@@ -1,16 +1,29 @@
 #!/usr/bin/env python3
-"""Makes deltat-formats(5) from docs/formats.md: `release/manpage.py PAGE VERSION DATE > deltat-formats.5`.
+"""Makes a man page from a page of docs/: `release/manpage.py PAGE VERSION DATE > MANUAL`.
 
-It reads what that page is made of: headings, paragraphs, lists, tables, blocks, `words`, *stressed* words and links.
+PAGE is docs/formats.md, for deltat-formats(5), or docs/library.md, for libdeltat(3). It reads what these are made of: headings, paragraphs, lists, tables, blocks, `words`, *stressed* words and links.
 A row of a table becomes an entry: the first cell, and below it the others, each behind its heading. Ends with 1 at a
 line that it doesn't know."""
 import re
 import sys
 from collections.abc import Iterator
 from pathlib import Path
+from typing import NamedTuple
 
-NAME = "deltat-formats"
-ABOUT = "octets, lines, texts and statuses of deltat"
+
+class Manual(NamedTuple):
+    """What stands at the head of a man page."""
+
+    name: str
+    section: int
+    about: str
+    volume: str
+
+
+MANUALS = {
+    "formats": Manual("deltat-formats", 5, "octets, lines, texts and statuses of deltat", "File Formats"),
+    "library": Manual("libdeltat", 3, "a Delta-t node without a socket, a clock or a thread", "Library Functions"),
+}
 
 
 def escaped(text: str) -> str:
@@ -95,11 +108,12 @@ def tidy(requests: list[str]) -> Iterator[str]:
         yield it
 
 
-def page(text: str, version: str, date: str) -> str:
+def page(it: Manual, text: str, version: str, date: str) -> str:
     lines = text.splitlines()
     if not lines[0].startswith("# "):
         raise ValueError("the page has no heading")
-    head = [f".TH DELTAT\\-FORMATS 5 {date} \"deltat {version}\" \"File Formats\"", ".SH NAME", f"{escaped(NAME)} \\- {ABOUT}", ".SH DESCRIPTION"]
+    title = f".TH {escaped(it.name.upper())} {it.section} {date} \"deltat {version}\" \"{it.volume}\""
+    head = [title, ".SH NAME", f"{escaped(it.name)} \\- {escaped(it.about)}", ".SH DESCRIPTION"]
     ends = [".SH SEE ALSO", ".BR deltat (1)"]
     return "\n".join(tidy([*head, *blocks(lines[1:]), *ends])) + "\n"
 
@@ -109,7 +123,10 @@ def main(words: list[str]) -> int:
         print(__doc__, file=sys.stdout if len(words) == 1 else sys.stderr)
         return 0 if len(words) == 1 else 2
     try:
-        sys.stdout.write(page(Path(words[0]).read_text(), *words[1:]))
+        path = Path(words[0])
+        if path.stem not in MANUALS:
+            raise ValueError(f"of {path.name} no man page is made")
+        sys.stdout.write(page(MANUALS[path.stem], path.read_text(), *words[1:]))
     except (OSError, ValueError) as why:
         print(f"manpage.py: {why}", file=sys.stderr)
         return 1

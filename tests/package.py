@@ -7,7 +7,8 @@ It is built twice and has to be the same octets; of a gate's log that failed, of
 is none. Its control data, files and man pages are looked at (man and mandoc, where they are, without a warning),
 lintian finds no error, and the completions complete. Extracted into a folder, the pages' folder is copied and README's
 first example is run there, without the toolchain; and as root in a folder that has the package and the C library
-alone. With DEBIAN, a folder that debootstrap made (`debootstrap --variant=minbase bookworm DEBIAN`), root installs it
+alone. Where `make -C lib` has made the library, it is in the package, and two nodes of its Python module exchange a
+message there. With DEBIAN, a folder that debootstrap made (`debootstrap --variant=minbase bookworm DEBIAN`), root installs it
 there, runs the same example and a pair of nodes by their stamps, and removes it. Wants dpkg-deb, and is skipped where
 it isn't there.
 
@@ -24,6 +25,7 @@ from pathlib import Path
 from lib import TOP, program, skip, tell
 
 BUILD = str(TOP / "release" / "build.sh")
+LIBRARY = TOP / "lib" / "libdeltat.so.0"
 COMMANDS = ["audit", "calls", "make", "node", "replay", "retrace", "trace"]
 Case = tuple[str, bool, str]
 
@@ -75,6 +77,9 @@ def files(root: Path) -> list[Case]:
     doc = root / "usr/share/doc/deltat"
     wanted = ["usr/lib/deltat/run-node", "usr/lib/deltat/params.py", "lib/systemd/system/deltat-node@.service", "usr/share/man/man1/deltat.1.gz",
               "usr/share/man/man5/deltat-formats.5.gz", "usr/share/bash-completion/completions/deltat", "usr/share/zsh/vendor-completions/_deltat"]
+    if LIBRARY.exists():
+        wanted += ["usr/include/deltat.h", "usr/lib/python3/dist-packages/deltat.py", "usr/share/man/man3/libdeltat.3.gz"]
+        wanted += [f"usr/lib/{os.uname().machine}-linux-gnu/{it}" for it in ("libdeltat.a", "libdeltat.so.0", "libdeltat.so", "pkgconfig/deltat.pc")]
     missing = [it for it in wanted if not (root / it).is_file()] + [it.name for it in (TOP / "docs").glob("*.md") if not (doc / "docs" / it.name).is_file()]
     missing += [it.name for it in (TOP / "examples").iterdir() if not (doc / "examples" / it.name).is_file()]
     said = (doc / "PROVED").read_text()
@@ -154,6 +159,26 @@ def used(root: Path, room: Path) -> list[Case]:
     return [*cases, ("with the C library alone", (ran.returncode, ran.stdout) == (0, log), ran.stderr)]
 
 
+# two nodes of the package's Python module, and a message
+ASKS = """import deltat
+params = deltat.Params(1000, 3000, 200, 100, 800, 500, 4096, 4096, 4096)
+one, two = (deltat.Node(it, params, [deltat.Link(1, 90)], {3 - it: 1}, at=0) for it in (1, 2))
+one.send(deltat.Flow(1, 10, 2, 20), b"hello", at=0)
+for frame in one.frames():
+    two.arrive(frame.link, frame.octets, at=1)
+print([it.octets for it in two.messages(2)])
+"""
+
+
+def asks(root: Path) -> list[Case]:
+    """The library, as one who has the package uses it."""
+    if not LIBRARY.exists():
+        return [("the library", True, "it isn't made here")]
+    library = str(root / f"usr/lib/{os.uname().machine}-linux-gnu/libdeltat.so.0")
+    ran = run(sys.executable, "-c", ASKS, PYTHONPATH=str(root / "usr/lib/python3/dist-packages"), DELTAT_LIBRARY=library)
+    return [("the library's Python module", ran.stdout == "[b'hello']\n", ran.stderr)]
+
+
 # in a Debian that has nothing else: README's first example, two nodes started by stamps, and which stamps there are
 INSTALLED = """set -e
 dpkg -i /package.deb >/dev/null
@@ -200,7 +225,7 @@ def main() -> int:
             cases.append(("lintian", True, "not tried: it isn't installed"))
         if len(sys.argv) > 2:
             cases.append(installed(package, Path(sys.argv[2])))
-        return tell([*cases, *used(root, room)])
+        return tell([*cases, *used(root, room), *asks(root)])
 
 
 if __name__ == "__main__":

@@ -38,8 +38,8 @@ from pathlib import Path
 from typing import NamedTuple
 
 __all__ = [
-    "BadParameter", "DeltatError", "Flow", "Full", "Link", "Message", "NoMemory", "Node", "OutFrame", "Params", "Piece",
-    "Quiet", "Report", "Spent", "Status", "Udp", "now",
+    "BadParameter", "DeltatError", "Flow", "Full", "Kind", "Link", "Message", "NoMemory", "Node", "OutFrame", "Params",
+    "Piece", "Quiet", "Report", "Spent", "Status", "Udp", "now",
 ]
 
 ABI = 1
@@ -64,6 +64,36 @@ class Status(enum.IntEnum):
     SPENT = 9
     BAD = 11
     STALE = 12
+
+
+class Kind(enum.IntEnum):
+    """What a report tells. include/deltat.h says which numbers each has."""
+
+    TOOK = 1
+    TOLD_QUIET = 2
+    TOLD_FULL = 3
+    SENT = 4
+    RESENT = 5
+    MET = 6
+    UNCERTAIN = 7
+    RELEASED = 8
+    RENEWED = 9
+    ACKED = 10
+    REPLIED = 11
+    ACCEPTED = 12
+    DROPPED = 13
+    CLOSING = 14
+    SETTLED = 15
+    IGNORED = 16
+    MET_QUIET = 17
+    WAS_READ = 18
+    NOT_READ = 19
+    PUT = 20
+    EXPIRED_IN = 21
+    EXPIRED_OUT = 22
+    NO_ROUTE = 23
+    LINK_FULL = 24
+    UNREADABLE = 25
 
 
 class DeltatError(Exception):
@@ -156,7 +186,8 @@ class _Moment(ctypes.Structure):
 class _Report(ctypes.Structure):
     _fields_ = [
         ("flow", _Flow), ("moment", ctypes.c_uint64), ("number", ctypes.c_uint32), ("count", ctypes.c_uint32),
-        ("window", ctypes.c_uint32), ("status", ctypes.c_uint8), ("kind", ctypes.c_uint8), ("marks", ctypes.c_uint8),
+        ("window", ctypes.c_uint32), ("status", ctypes.c_uint8), ("kind", ctypes.c_uint8),
+        ("begin", ctypes.c_bool), ("end", ctypes.c_bool), ("run", ctypes.c_bool), ("sending", ctypes.c_bool),
     ]
 
 
@@ -291,21 +322,19 @@ class Message(NamedTuple):
 
 
 class Report(NamedTuple):
-    """What a node tells of an act: its kind, and the numbers that this kind has, else 0."""
+    """What a node tells of an act: its kind, and what this kind has, else 0 and False. UNCERTAIN tells that `count`
+    octets of the flow were given up, and SETTLED that so many came."""
 
-    kind: int
+    kind: Kind
     flow: Flow
     moment: int
     number: int
     count: int
     window: int
-    marks: int
-
-
-def _buffer(octets: bytes | bytearray | memoryview) -> tuple[object, int]:
-    """The octets as the library takes them, never as a null pointer."""
-    held = (ctypes.c_char * max(len(octets), 1)).from_buffer_copy(bytes(octets) or b"\0")
-    return held, len(octets)
+    begin: bool
+    end: bool
+    run: bool
+    sending: bool
 
 
 def _in_range(value: int, bits: int, what: str) -> int:
@@ -327,9 +356,6 @@ def _flow_of(it: _Flow) -> Flow:
 
 class Node:
     """A node of a network, without a socket. Moments are in ms; left out, they are `now()`."""
-
-    ACCEPTED = 7
-    """The kind of report that tells of octets that may be read."""
 
     def __init__(
         self, number: int, params: Params, links: Sequence[Link], routes: Mapping[int, int], again: bool = False,
@@ -379,13 +405,17 @@ class Node:
     def tick(self, at: int | None = None) -> None:
         """Does what is due."""
         self._raise(_library.dt_tick(self._handle, now() if at is None else at))
+        self._listen()
 
     def arrive(self, link: int, datagram: bytes, waited: int = 0, at: int | None = None) -> Status:
         """Hands in a datagram that came on a link and waited so many ms on this machine, rounded up. DONE, or why it was
         dropped: BAD (it doesn't read), STALE (it has no life left), REFUSED (there is no such link)."""
-        held, length = _buffer(datagram)
-        came = _library.dt_arrive(self._handle, now() if at is None else at, _in_range(link, 16, "a link"), held, length, min(waited, 0xFFFFFFFF))
+        octets = bytes(datagram)
+        came = _library.dt_arrive(
+            self._handle, now() if at is None else at, _in_range(link, 16, "a link"), octets, len(octets), min(waited, 0xFFFFFFFF)
+        )
         self._raise(came.status)
+        self._listen()
         return Status(came.status)
 
     def send(self, flow: Flow, octets: bytes, begin: bool = True, end: bool = True, at: int | None = None) -> None:
@@ -393,9 +423,10 @@ class Node:
         was taken."""
         if not 0 < len(octets) <= MOST_SEND:
             raise BadParameter(f"a send has 1 to {MOST_SEND} octets, and not {len(octets)}")
-        held, length = _buffer(octets)
-        sent = _library.dt_send(self._handle, now() if at is None else at, _flow(flow), held, length, begin, end)
+        octets = bytes(octets)
+        sent = _library.dt_send(self._handle, now() if at is None else at, _flow(flow), octets, len(octets), begin, end)
         self._raise(sent.status)
+        self._listen()
         if sent.status == Status.FULL:
             raise Full(sent.free)
         if sent.status == Status.QUIET:
@@ -407,9 +438,10 @@ class Node:
         """The next unread octets of a flow to this node, at most 65,536 and of one message, or None."""
         got = _library.dt_read(self._handle, now() if at is None else at, _flow(flow), self._room, MOST_SEND)
         self._raise(got.status)
+        self._listen()
         if got.status == Status.REFUSED:
             raise BadParameter(f"{flow} doesn't go from another node to node {self.number}")
-        return Piece(self._room.raw[: got.len], got.begin, got.end, got.run) if got.status == Status.DONE else None
+        return Piece(ctypes.string_at(self._room, got.len), got.begin, got.end, got.run) if got.status == Status.DONE else None
 
     def frames(self) -> Iterator[OutFrame]:
         """The datagrams that left the node, in their order, each once."""
@@ -417,33 +449,31 @@ class Node:
             out = _library.dt_next_frame(self._handle, self._room, MOST_SEND)
             if out.status != Status.DONE:
                 return
-            yield OutFrame(out.link, out.to, self._room.raw[: out.len])
+            yield OutFrame(out.link, out.to, ctypes.string_at(self._room, out.len))
 
     def reports(self) -> Iterator[Report]:
         """What the node told, in its order, each once; of more than 10,000 that nobody took the last ones."""
-        self._listen()
         while self._reports:
             yield self._reports.popleft()
 
     def _listen(self) -> None:
+        """Takes what the node told, so that none of it waits in the library."""
         while True:
             it = _library.dt_next_report(self._handle)
             if it.status != Status.DONE:
                 return
-            flow = _flow_of(it.flow)
-            if it.kind == Node.ACCEPTED:
-                self._unread[flow] = None
-            self._reports.append(Report(it.kind, flow, it.moment, it.number, it.count, it.window, it.marks))
+            told = Report(Kind(it.kind), _flow_of(it.flow), it.moment, it.number, it.count, it.window, it.begin, it.end, it.run, it.sending)
+            if told.kind is Kind.ACCEPTED:
+                self._unread[told.flow] = None
+            self._reports.append(told)
 
     def messages(self, at: int | None = None) -> Iterator[Message]:
         """The whole messages of all flows to this node that can be read, flow by flow, each once."""
-        self._listen()
         while self._unread:
             flow = next(iter(self._unread))
             piece = self.read(flow, at)
             if piece is None:
                 del self._unread[flow]
-                self._listen()
                 continue
             message = self._join(flow, piece)
             if message:
