@@ -103,6 +103,44 @@ struct dt_piece { size_t len; uint8_t status; bool begin, end, run; };
 struct dt_out { size_t len; uint32_t to; uint16_t link; uint8_t status; };
 struct dt_moment { uint64_t at; bool some; };
 
+enum dt_kind { /* what a report tells, and its fields; the others are 0. Those with no flow are told so */
+    DT_TOOK = 1,         /* a send was taken: `count` octets */
+    DT_TOLD_QUIET = 2,   /* a send met quiet time, until `moment` */
+    DT_TOLD_FULL = 3,    /* a send didn't fit: `count` octets do */
+    DT_SENT = 4,         /* a segment went for the first time: `number` of its first octet, `count` octets, begin, end,
+                            `run`: it begins a data run */
+    DT_RESENT = 5,       /* a segment went again: the same */
+    DT_MET = 6,          /* a rendezvous went out: `number` */
+    DT_UNCERTAIN = 7,    /* `count` octets were given up: they may have come or not */
+    DT_RELEASED = 8,     /* a record was released: `sending`, the send record, or else the receive record */
+    DT_RENEWED = 9,      /* a send record began again */
+    DT_ACKED = 10,       /* an owed acknowledgement went out: `number`, `window` */
+    DT_REPLIED = 11,     /* a reply went out at once: the same */
+    DT_ACCEPTED = 12,    /* data was accepted, and can be read: `number`, `count` octets, `run`: what stood before it
+                            isn't known */
+    DT_DROPPED = 13,     /* a packet was dropped: `number` */
+    DT_CLOSING = 14,     /* no more data of a run follows: `number` behind its last octet */
+    DT_SETTLED = 15,     /* an acknowledgement was used: `count` octets came, `window` */
+    DT_IGNORED = 16,     /* an acknowledgement changed nothing: `number`, `window` */
+    DT_MET_QUIET = 17,   /* a packet met quiet time, until `moment`; no flow */
+    DT_WAS_READ = 18,    /* a piece was read: begin, end, run */
+    DT_NOT_READ = 19,    /* a read found nothing */
+    DT_PUT = 20,         /* a packet left on the link `number` with a life of `count` ms; no flow */
+    DT_EXPIRED_IN = 21,  /* an arrival on the link `number` had no life left; no flow */
+    DT_EXPIRED_OUT = 22, /* a packet that waited for the link `number` had none; no flow */
+    DT_NO_ROUTE = 23,    /* no route names the node `number`; no flow */
+    DT_LINK_FULL = 24,   /* as many packets as may wait for the link `number` waited; no flow */
+    DT_UNREADABLE = 25   /* a packet came that doesn't read: `number` is a dt_fault, `count` its value; no flow */
+};
+
+struct dt_report {
+    struct dt_flow flow;
+    uint64_t moment;
+    uint32_t number, count, window;
+    uint8_t status, kind;
+    bool begin, end, run, sending;
+};
+
 /* THE HANDLE */
 uint32_t dt_abi(void);   /* DT_ABI of the library: compare it with the header's */
 size_t dt_size(void);    /* how many octets a handle takes */
@@ -116,6 +154,9 @@ void dt_close(dt_node *n); /* frees what the node holds; the handle holds no nod
  * leads nowhere. */
 struct dt_opened dt_open(dt_node *n, const struct dt_params *p, const struct dt_start *start, const struct dt_link *links,
                          size_t link_count, const struct dt_route *routes, size_t route_count);
+
+/* How long a node that is opened `again` is silent: 3 mpl + r + a; 0 exactly where a parameter is out of its range. */
+uint64_t dt_quiet(const struct dt_params *p);
 
 /* EVENTS. Each is one event of the node's definition at `now`, and all that is due then is done; its frames wait for
  * dt_next_frame, behind those that wait already. */
@@ -145,6 +186,10 @@ struct dt_piece dt_read(dt_node *n, uint64_t now, const struct dt_flow *f, uint8
  * waits no more, and the rest of the buffer is as it was. DONE CLOSED; NOTHING: none waits; ROOM: `len` octets are
  * wanted, and it goes on waiting. */
 struct dt_out dt_next_frame(dt_node *n, uint8_t *buf, size_t room);
+
+/* The first report that waits, which waits no more. DONE CLOSED; NOTHING: none waits. Reports take memory until they
+ * are taken. */
+struct dt_report dt_next_report(dt_node *n);
 
 /* The least moment at which something is due: dt_tick then. None (`some` is false) where there is no such moment, the
  * node is spent or the handle holds none. Nothing changes. */

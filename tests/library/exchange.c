@@ -100,7 +100,22 @@ static void a_message_comes_whole(void) {
     free(two);
 }
 
+/* Takes all reports. Whether one is of the kind, and about the flow. */
+static bool reported(dt_node *n, uint8_t kind) {
+    bool found = false;
+    for (;;) {
+        struct dt_report report = dt_next_report(n);
+        if (report.status == DT_NOTHING) return found;
+        WANT(report.status == DT_DONE && report.kind >= DT_TOOK && report.kind <= DT_UNREADABLE);
+        if (report.kind != kind) continue;
+        WANT(report.flow.from == 1 && report.flow.to == 2 && report.flow.from_port == 10 && report.flow.to_port == 20);
+        WANT(report.count == 5);
+        found = true;
+    }
+}
+
 static void a_closed_handle_says_so(dt_node *n) {
+    WANT(dt_next_report(n).status == DT_CLOSED);
     WANT(dt_tick(n, 5) == DT_CLOSED);
     WANT(dt_arrive(n, 5, LINK, frame, 3, 0).status == DT_CLOSED);
     WANT(dt_send(n, 5, &flow, message, 1, true, true).status == DT_CLOSED);
@@ -136,12 +151,14 @@ static void refusals_say_why(void) {
     struct dt_out out = dt_next_frame(n, frame, 4);
     WANT(out.status == DT_ROOM && out.len > 5 && out.to == 2 && out.link == LINK);
     size_t wanted = out.len;
+    WANT(reported(n, DT_TOOK));
     out = dt_next_frame(n, frame, wanted);
     WANT(out.status == DT_DONE && out.len == wanted);
     dt_close(n);
     opens(n, 2, 1, false);
     WANT(dt_arrive(n, 0, LINK, frame, wanted, 86400000).status == DT_STALE);
     WANT(dt_arrive(n, 0, LINK, frame, wanted, 0).status == DT_DONE);
+    WANT(reported(n, DT_ACCEPTED));
     struct dt_piece piece = dt_read(n, 0, &flow, came, 5);
     WANT(piece.status == DT_DONE && piece.len == 5 && piece.begin && piece.end && memcmp(came, "hello", 5) == 0);
     dt_close(n);
@@ -149,7 +166,11 @@ static void refusals_say_why(void) {
 }
 
 int main(void) {
+    struct dt_params bad = params;
     WANT(dt_abi() == DT_ABI);
+    WANT(dt_quiet(&params) == 3 * 1000 + 8000 + 200);
+    bad.mpl = 1;
+    WANT(dt_quiet(&bad) == 0);
     a_message_comes_whole();
     refusals_say_why();
     printf("lost %u, repeated %u: the message came whole\n", lost, repeated);

@@ -1,6 +1,8 @@
 -- The calls of the library. Each answers that the handle holds no node and changes nothing, or is the call of its endpoint.
-use Rattle.std.specs.Prelude.{◌≡◌, ℕ, nat_le, Bool, List, [], ◌∷◌, ◌++◌, if◌then◌else◌, drop, length, Option, Some, None, IsNone, IsSome}
+use Rattle.std.specs.Prelude.{◌≡◌, ◌⊎◌, ℕ, nat_le, Bool, List, [], ◌∷◌, ◌++◌, if◌then◌else◌, drop, length, Option, Some, None, IsNone, IsSome}
 use Rattle.dt_units.specs.Limits.{IsWithinLimits, first_out_of_range, value_of}
+use Rattle.dt_units.specs.Times.{quiet_time}
+use Rattle.dt_reports.specs.Told.{Told}
 use Rattle.dt_endpoint.specs.declared.answers.Arrived.{Arrived}
 use Rattle.dt_endpoint.specs.declared.answers.Piece.{Piece}
 use Rattle.dt_endpoint.specs.declared.answers.Sent.{Sent}
@@ -18,11 +20,12 @@ use Rattle.dt_c.specs.declared.rows.OpenedRow.{OpenedRow}
 use Rattle.dt_c.specs.declared.rows.OutRow.{OutRow}
 use Rattle.dt_c.specs.declared.rows.ParamsRow.{ParamsRow}
 use Rattle.dt_c.specs.declared.rows.PieceRow.{PieceRow}
+use Rattle.dt_c.specs.declared.rows.ReportRow.{ReportRow}
 use Rattle.dt_c.specs.declared.rows.RouteRow.{RouteRow}
 use Rattle.dt_c.specs.declared.rows.SentRow.{SentRow}
 use Rattle.dt_c.specs.declared.rows.StartRow.{StartRow}
 use Rattle.dt_c.specs.declared.slots.Slot.{Slot}
-use Rattle.dt_c.specs.Rows.{came_as, came_row, closed, done, flow_of, moment_row, no_frame, no_piece, nothing, opened_row, params_of, piece_row, room, sent_as, sent_row, started, ticked_status}
+use Rattle.dt_c.specs.Rows.{came_as, came_row, closed, done, flow_of, moment_row, no_frame, no_piece, no_report, nothing, opened_row, params_of, piece_row, report_row, room, sent_as, sent_row, started, ticked_status}
 
 -- Between two contents of a handle: no node stays none, and a node goes on.
 abbrev pub GoesOn : Option EndpointValue → Option EndpointValue → Type 0 → (EndpointValue → EndpointValue → Type 0) → Type 0
@@ -73,6 +76,17 @@ HandsOut row before after e f = (row ≡ out_row e.frames before) × (after ≡ 
 abbrev pub NextFrame : OutRow → (before after : List ℕ) → Slot → Slot → Type 0
 NextFrame row before after s t = GoesOn s.endpoint t.endpoint ((row ≡ no_frame closed) × (after ≡ before)) (λ e f. HandsOut row before after e f)
 
+-- THE NEXT REPORT: the first of those that wait
+abbrev pub next_row : List Told → ReportRow
+next_row [] = no_report nothing
+next_row (told ∷ more) = report_row told
+
+abbrev pub TakesReport : ReportRow → EndpointValue → EndpointValue → Type 0
+TakesReport row e f = (row ≡ next_row e.reports) × (f ≡ record e { reports = drop 1 e.reports })
+
+abbrev pub NextReport : ReportRow → Slot → Slot → Type 0
+NextReport row s t = GoesOn s.endpoint t.endpoint (row ≡ no_report closed) (λ e f. TakesReport row e f)
+
 -- THE WAKE. A handle with no node has none.
 abbrev pub slot_wake : Option EndpointValue → Option ℕ
 slot_wake None = None
@@ -90,3 +104,7 @@ Opens (opens.Refused fault) p start links routes s t = IsNone s.endpoint × (fir
 
 abbrev pub Opening : OpenedRow → ParamsRow → StartRow → List LinkRow → List RouteRow → Slot → Slot → Type 0
 Opening row p start links routes s t = (answer : Opened) × (row ≡ opened_row answer) × Opens answer p start links routes s t
+
+-- THE QUIET TIME, of parameters within their limits
+abbrev pub QuietIs : ℕ → ParamsRow → Type 0
+QuietIs quiet p = ((quiet ≡ quiet_time (params_of p)) × IsWithinLimits (params_of p)) ⊎ ((quiet ≡ 0) × IsSome (first_out_of_range (params_of p)))

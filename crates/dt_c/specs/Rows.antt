@@ -6,6 +6,9 @@ use Rattle.dt_units.specs.declared.parameters.Field.TheVariants.{Mpl, R, A, Rto,
 use Rattle.dt_units.specs.declared.parameters.Params.{Params}
 use Rattle.dt_layout.specs.declared.faults.LayoutFault.{LayoutFault}
 use Rattle.dt_layout.specs.declared.faults.LayoutFault.TheVariants as layout
+use Rattle.dt_reports.specs.declared.faults.Refusal.TheVariants as refusal
+use Rattle.dt_reports.specs.declared.reports.Report.TheVariants as reports
+use Rattle.dt_reports.specs.Told.{Told}
 use Rattle.dt_flow_model.specs.Frames.{node}
 use Rattle.dt_world_model.specs.declared.links.InLink.{InLink}
 use Rattle.dt_world_model.specs.declared.links.OutLink.{OutLink}
@@ -29,6 +32,7 @@ use Rattle.dt_c.specs.declared.rows.OpenedRow.{OpenedRow}
 use Rattle.dt_c.specs.declared.rows.OutRow.{OutRow}
 use Rattle.dt_c.specs.declared.rows.ParamsRow.{ParamsRow}
 use Rattle.dt_c.specs.declared.rows.PieceRow.{PieceRow}
+use Rattle.dt_c.specs.declared.rows.ReportRow.{ReportRow}
 use Rattle.dt_c.specs.declared.rows.RouteRow.{RouteRow}
 use Rattle.dt_c.specs.declared.rows.SentRow.{SentRow}
 use Rattle.dt_c.specs.declared.rows.StartRow.{StartRow}
@@ -189,3 +193,63 @@ opened_row opens.Done = opened_with 0 done 0
 opened_row opens.NoMemory = opened_with 0 no_memory 0
 opened_row opens.Held = opened_with 0 held 0
 opened_row (opens.Refused fault) = opened_with fault.value refused (field_number fault.field)
+
+-- REPORTS
+abbrev pub flow_row : Flow → FlowRow
+flow_row f = record { from = f.from.0; to = f.to.0; from_port = f.from_port; to_port = f.to_port }
+
+abbrev pub about : ℕ → FlowRow → ReportRow
+about kind flow = record { flow = flow; moment = 0; number = 0; count = 0; window = 0; status = done; kind = kind; begin = false; end = false; run = false; sending = false }
+
+-- of no flow
+abbrev pub about_none : ℕ → ReportRow
+about_none kind = about kind (record { from = 0; to = 0; from_port = 0; to_port = 0 })
+
+-- an answer where no report is handed out
+abbrev pub no_report : ℕ → ReportRow
+no_report status = record (about_none 0) { status = status }
+
+abbrev pub numbered : ℕ → Flow → (number count window : ℕ) → ReportRow
+numbered kind flow number count window = record (about kind (flow_row flow)) { number = number; count = count; window = window }
+
+-- of a link, a node or a fault
+abbrev pub elsewhere : (kind number count : ℕ) → ReportRow
+elsewhere kind number count = record (about_none kind) { number = number; count = count }
+
+abbrev pub marked : ReportRow → (begin end run : Bool) → ReportRow
+marked row begin end run = record row { begin = begin; end = end; run = run }
+
+abbrev pub until_moment : ReportRow → ℕ → ReportRow
+until_moment row moment = record row { moment = moment }
+
+abbrev pub released : Flow → Bool → ReportRow
+released flow sending = record (about 8 (flow_row flow)) { sending = sending }
+
+-- what a station tells; what only others tell is of kind 0
+abbrev pub report_row : Told → ReportRow
+report_row (reports.Took flow count) = numbered 1 flow 0 count 0
+report_row (reports.Refused flow (refusal.Quiet until)) = until_moment (numbered 2 flow 0 0 0) until
+report_row (reports.Refused flow (refusal.Full free)) = numbered 3 flow 0 free 0
+report_row (reports.Sent flow number len drf begin end) = marked (numbered 4 flow number len 0) begin end drf
+report_row (reports.Resent flow number len drf begin end) = marked (numbered 5 flow number len 0) begin end drf
+report_row (reports.Met flow number) = numbered 6 flow number 0 0
+report_row (reports.Uncertain flow count) = numbered 7 flow 0 count 0
+report_row (reports.Released flow sending) = released flow sending
+report_row (reports.Renewed flow) = numbered 9 flow 0 0 0
+report_row (reports.Acked flow number window) = numbered 10 flow number 0 window
+report_row (reports.Replied flow number window) = numbered 11 flow number 0 window
+report_row (reports.Accepted flow number len run) = marked (numbered 12 flow number len 0) false false run
+report_row (reports.Dropped flow number) = numbered 13 flow number 0 0
+report_row (reports.Closing flow number) = numbered 14 flow number 0 0
+report_row (reports.Settled flow count window) = numbered 15 flow 0 count window
+report_row (reports.Ignored flow number window) = numbered 16 flow number 0 window
+report_row (reports.Quiet until) = until_moment (about_none 17) until
+report_row (reports.Read flow run begin end octets) = marked (numbered 18 flow 0 0 0) begin end run
+report_row (reports.Nothing flow) = numbered 19 flow 0 0 0
+report_row (reports.Put link life) = elsewhere 20 link life
+report_row (reports.ExpiredIn link) = elsewhere 21 link 0
+report_row (reports.ExpiredOut link) = elsewhere 22 link 0
+report_row (reports.NoRoute to) = elsewhere 23 to 0
+report_row (reports.Full link) = elsewhere 24 link 0
+report_row (reports.Bad fault) = elsewhere 25 (fault_row fault).fault (fault_row fault).value
+report_row other = about_none 0

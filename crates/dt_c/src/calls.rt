@@ -1,13 +1,14 @@
 //! The calls, on what a handle holds.
 ghost use Rattle.std.specs.Prelude.{◌≡◌, ◌↔◌, IfOk, IsSome, length, map};
-ghost use Rattle.dt_c.specs.Calls.{Arriving, HandsOut, NextFrame, Opening, Opens, Reading, Sending, Ticking, Waking};
+ghost use Rattle.dt_c.specs.Calls.{Arriving, HandsOut, NextFrame, NextReport, Opening, Opens, QuietIs, Reading, Sending, TakesReport, Ticking, Waking};
 ghost use Rattle.dt_c.specs.Handle.{empty};
 ghost use Rattle.dt_c.specs.Rows.{in_link, out_link, route, started};
 
 use crate::rows::{
     CLOSED, CameRow, DONE, FlowRow, LinkRow, MomentRow, NOTHING, Opened, OpenedRow, OutRow,
-    ParamsRow, PieceRow, ROOM, RouteRow, SentRow, StartRow, came_as, came_row, moment_row,
-    no_frame, no_piece, opened_row, piece_row, sent_as, sent_row, ticked_status,
+    ParamsRow, PieceRow, ROOM, ReportRow, RouteRow, SentRow, StartRow, came_as, came_row,
+    moment_row, no_frame, no_piece, no_report, opened_row, piece_row, report_row, sent_as,
+    sent_row, ticked_status,
 };
 use crate::slots::Slot;
 use dt_endpoint::{Endpoint, InLink, Links, OutLink, Route};
@@ -98,6 +99,25 @@ pub fn next_frame_in(slot: &mut Slot, buf: &mut [u8]) -> OutRow
     match &mut slot.endpoint {
         Some(endpoint) => hand_out(endpoint, buf),
         None => no_frame(CLOSED),
+    }
+}
+
+/// The first report that waits goes out.
+fn take_report(endpoint: &mut Endpoint) -> ReportRow
+    ensures { TakesReport result endpoint.old endpoint.new }
+{
+    match endpoint.next_report() {
+        Some(report) => report_row(&report),
+        None => no_report(NOTHING),
+    }
+}
+
+pub fn next_report_in(slot: &mut Slot) -> ReportRow
+    ensures { NextReport result slot.old slot.new }
+{
+    match &mut slot.endpoint {
+        Some(endpoint) => take_report(endpoint),
+        None => no_report(CLOSED),
     }
 }
 
@@ -212,4 +232,14 @@ pub fn open_in(
     ensures { Opening result params.now start.now links.now routes.now slot.old slot.new }
 {
     opened_row(opens(slot, alloc, params, start, links, routes))
+}
+
+/// How long a node is silent after it starts again, or 0 where a parameter is out of its range.
+pub fn quiet_of(params: &ParamsRow) -> u64
+    ensures { QuietIs result params.now }
+{
+    match params.params().check() {
+        Ok(rules) => rules.times().quiet,
+        Err(_) => 0,
+    }
 }

@@ -9,17 +9,18 @@ mod slots;
 ghost use Rattle.std.specs.Prelude.{◌≡◌, length};
 ghost use Rattle.std.specs.Borrow.{sem};
 ghost use Rattle.std.specs.Ptr.{points_to, uninit_at};
-ghost use Rattle.dt_c.specs.Calls.{Arriving, NextFrame, Opening, Reading, Sending, Ticking, Waking};
+ghost use Rattle.dt_c.specs.Calls.{Arriving, NextFrame, NextReport, Opening, QuietIs, Reading, Sending, Ticking, Waking};
 ghost use Rattle.dt_c.specs.Handle.{empty};
 ghost use Rattle.dt_c.specs.contracts.slots.Slot.{the_row};
 ghost use Rattle.dt_c.specs.declared.slots.Slot.{Slot};
 
 use calls::{
-    arrive_in, close_in, empty_slot, next_frame_in, open_in, read_in, send_in, tick_in, wake_in,
+    arrive_in, close_in, empty_slot, next_frame_in, next_report_in, open_in, quiet_of, read_in,
+    send_in, tick_in, wake_in,
 };
 pub use rows::{
-    CameRow, FlowRow, LinkRow, MomentRow, OpenedRow, OutRow, ParamsRow, PieceRow, RouteRow,
-    SentRow, StartRow,
+    CameRow, FlowRow, LinkRow, MomentRow, OpenedRow, OutRow, ParamsRow, PieceRow, ReportRow,
+    RouteRow, SentRow, StartRow,
 };
 pub use slots::{Handle, Slot};
 use std::alloc::Global;
@@ -176,4 +177,22 @@ pub unsafe extern "C" fn dt_open(
         links,
         routes,
     )
+}
+
+/// The first report that waits.
+#[unsafe(no_mangle)]
+pub unsafe extern "C" fn dt_next_report(node: *mut Handle) -> ReportRow
+    ghost g: { Slot }
+    requires* { sem 𝓛 (points_to the_row node g) }
+    ensures* { ∃ₛ (λ h. sem 𝓛 (points_to the_row node h) ∗ ⌜ NextReport result g h ⌝) }
+{
+    next_report_in(unsafe { &mut *(node as *mut Slot) })
+}
+
+/// How long a node is silent after it starts again, or 0 where a parameter is out of its range.
+#[unsafe(no_mangle)]
+pub extern "C" fn dt_quiet(params: &ParamsRow) -> u64
+    ensures { QuietIs result params.now }
+{
+    quiet_of(params)
 }

@@ -1,9 +1,11 @@
 //! Arguments and answers as they lie in C.
 ghost use Rattle.std.specs.Prelude.{◌≡◌};
-ghost use Rattle.dt_c.specs.Rows.{came_as, came_row, capped, faulty, fault_row, field_number, flow_of, moment_row, no_frame, no_piece, opened_row, params_of, piece_row, sent_as, sent_row, ticked_status};
+ghost use Rattle.dt_reports.specs.Told.{told};
+ghost use Rattle.dt_c.specs.Rows.{about, about_none, came_as, came_row, capped, elsewhere, faulty, fault_row, field_number, flow_of, flow_row, marked, moment_row, no_frame, no_piece, no_report, numbered, opened_row, params_of, piece_row, released, report_row, sent_as, sent_row, ticked_status, until_moment};
 
 use dt_endpoint::{Arrived, Piece, Sent, Ticked};
 use dt_layout::LayoutFault;
+use dt_reports::{Refusal, Report};
 use dt_units::{Field, Flow, NodeId, ParamFault, Params};
 
 /// The call did what it was asked.
@@ -147,6 +149,23 @@ pub struct OutRow {
 pub struct MomentRow {
     pub at: u64,
     pub some: bool,
+}
+
+/// What a node did or met: which of its fields tell something goes by the kind.
+#[repr(C)]
+#[derive(Clone, Copy)]
+pub struct ReportRow {
+    pub flow: FlowRow,
+    pub moment: u64,
+    pub number: u32,
+    pub count: u32,
+    pub window: u32,
+    pub status: u8,
+    pub kind: u8,
+    pub begin: bool,
+    pub end: bool,
+    pub run: bool,
+    pub sending: bool,
 }
 
 /// The answer to an opening.
@@ -382,5 +401,190 @@ pub fn opened_row(answer: Opened) -> OpenedRow
         value,
         status,
         field,
+    }
+}
+
+fn flow_row(flow: Flow) -> FlowRow
+    ensures { result ≡ flow_row flow }
+{
+    FlowRow {
+        from: flow.from.0,
+        to: flow.to.0,
+        from_port: flow.from_port,
+        to_port: flow.to_port,
+    }
+}
+
+/// A report of a kind about a flow.
+fn about(kind: u8, flow: FlowRow) -> ReportRow
+    ensures { result ≡ about kind flow }
+{
+    ReportRow {
+        flow,
+        moment: 0,
+        number: 0,
+        count: 0,
+        window: 0,
+        status: DONE,
+        kind,
+        begin: false,
+        end: false,
+        run: false,
+        sending: false,
+    }
+}
+
+/// A report of a kind about no flow.
+fn about_none(kind: u8) -> ReportRow
+    ensures { result ≡ about_none kind }
+{
+    let flow = FlowRow {
+        from: 0,
+        to: 0,
+        from_port: 0,
+        to_port: 0,
+    };
+    about(kind, flow)
+}
+
+/// An answer where no report is handed out.
+pub fn no_report(status: u8) -> ReportRow
+    ensures { result ≡ no_report status }
+{
+    let mut row = about_none(0);
+    row.status = status;
+    row
+}
+
+/// A report of a kind about a flow, with what it tells in numbers.
+fn numbered(kind: u8, flow: Flow, number: u32, count: u32, window: u32) -> ReportRow
+    ensures { result ≡ numbered kind flow number count window }
+{
+    let mut row = about(kind, flow_row(flow));
+    row.number = number;
+    row.count = count;
+    row.window = window;
+    row
+}
+
+/// A report of a kind about a link, a node or a fault.
+fn elsewhere(kind: u8, number: u32, count: u32) -> ReportRow
+    ensures { result ≡ elsewhere kind number count }
+{
+    let mut row = about_none(kind);
+    row.number = number;
+    row.count = count;
+    row
+}
+
+/// The row with its marks.
+fn marked(row: ReportRow, begin: bool, end: bool, run: bool) -> ReportRow
+    ensures { result ≡ marked row begin end run }
+{
+    let mut row = row;
+    row.begin = begin;
+    row.end = end;
+    row.run = run;
+    row
+}
+
+/// The row with a moment.
+fn until_moment(row: ReportRow, moment: u64) -> ReportRow
+    ensures { result ≡ until_moment row moment }
+{
+    let mut row = row;
+    row.moment = moment;
+    row
+}
+
+fn released(flow: Flow, sending: bool) -> ReportRow
+    ensures { result ≡ released flow sending }
+{
+    let mut row = about(8, flow_row(flow));
+    row.sending = sending;
+    row
+}
+
+/// A report of a station. Those that are told by others are of kind 0.
+pub fn report_row(report: &Report<'_>) -> ReportRow
+    ensures { result ≡ report_row (told report.now) }
+{
+    match *report {
+        Report::Took { flow, count } => numbered(1, flow, 0, count, 0),
+        Report::Refused {
+            flow,
+            fault: Refusal::Quiet { until },
+        } => until_moment(numbered(2, flow, 0, 0, 0), until),
+        Report::Refused {
+            flow,
+            fault: Refusal::Full { free },
+        } => numbered(3, flow, 0, free, 0),
+        Report::Sent {
+            flow,
+            number,
+            length,
+            drf,
+            begin,
+            end,
+        } => marked(numbered(4, flow, number, length, 0), begin, end, drf),
+        Report::Resent {
+            flow,
+            number,
+            length,
+            drf,
+            begin,
+            end,
+        } => marked(numbered(5, flow, number, length, 0), begin, end, drf),
+        Report::Met { flow, number } => numbered(6, flow, number, 0, 0),
+        Report::Uncertain { flow, count } => numbered(7, flow, 0, count, 0),
+        Report::Released { flow, sending } => released(flow, sending),
+        Report::Renewed { flow } => numbered(9, flow, 0, 0, 0),
+        Report::Acked {
+            flow,
+            number,
+            window,
+        } => numbered(10, flow, number, 0, window),
+        Report::Replied {
+            flow,
+            number,
+            window,
+        } => numbered(11, flow, number, 0, window),
+        Report::Accepted {
+            flow,
+            number,
+            length,
+            run,
+        } => marked(numbered(12, flow, number, length, 0), false, false, run),
+        Report::Dropped { flow, number } => numbered(13, flow, number, 0, 0),
+        Report::Closing { flow, number } => numbered(14, flow, number, 0, 0),
+        Report::Settled {
+            flow,
+            count,
+            window,
+        } => numbered(15, flow, 0, count, window),
+        Report::Ignored {
+            flow,
+            number,
+            window,
+        } => numbered(16, flow, number, 0, window),
+        Report::Quiet { until } => until_moment(about_none(17), until),
+        Report::Read {
+            flow,
+            run,
+            begin,
+            end,
+            ..
+        } => marked(numbered(18, flow, 0, 0, 0), begin, end, run),
+        Report::Nothing { flow } => numbered(19, flow, 0, 0, 0),
+        Report::Put { link, life } => elsewhere(20, link as u32, life),
+        Report::ExpiredIn { link } => elsewhere(21, link as u32, 0),
+        Report::ExpiredOut { link } => elsewhere(22, link as u32, 0),
+        Report::NoRoute { to } => elsewhere(23, to, 0),
+        Report::Full { link } => elsewhere(24, link as u32, 0),
+        Report::Bad { fault } => {
+            let row = fault_row(fault);
+            elsewhere(25, row.fault as u32, row.value)
+        }
+        _ => about_none(0),
     }
 }

@@ -1,5 +1,5 @@
 -- `dt_open` lends what lies at the pointer to `open_in` for a lifetime that is made for the call.
-use Rattle.dt_c.proofs.Steps.{◌≡◌, ℕ, List, [], ◌∷◌, refl, Val, vptr, proved, full_share, id⊢, ftrue, flft, flent, fres, named, fact, tables, WpFn, ‵, raw, ◌⊛◌, some, later, prop, ◌$◌, ◌∵◌, !, qed, done, move, keep, drop, use1, use2, use3, split, join, fsplit, pick, await, regoal, suffices, frame, group, enter, of_opd, addr, no_more, and_then, first, blocks, exec, returns, stop, alloc_all, pass_all, free_all, look_at, get, through, sets, sets_last, lands_as, env, at_ret, lft_new, lft_end, yes, Is, shows, lends_ref, ref_back, mem, part_at, owns, Ptr, RawPtr, block_ptr, lies_at, in_a_block, rawptr_vals, rawptr_Tells, MutRef, mut_vals, MutBor, plain, nothing, heard, peeks, calls_at, lasts, triple_of, Stays, walk_of, says, stay_dropped, Goes-dropped, ends_at, framed, Body, ptr_val, show, sem, sep, Lasts, RefOf, ShrRef, shr_vals, shr_Tells, SliceRefOf, ShrSlice, shr_slice_vals, shr_slice_Tells, slice_val, length}
+use Rattle.dt_c.proofs.Steps.{ℕ, List, [], ◌∷◌, refl, Val, vptr, proved, full_share, id⊢, ftrue, flft, flent, named, fact, tables, WpFn, ‵, raw, ◌⊛◌, some, later, prop, ◌$◌, ◌∵◌, !, qed, done, move, keep, drop, use1, use2, use3, split, join, fsplit, pick, await, regoal, suffices, frame, group, enter, of_opd, addr, no_more, and_then, first, blocks, exec, returns, stop, alloc_all, pass_all, free_all, look_at, get, through, sets, sets_last, lands_as, env, at_ret, lft_new, lft_end, yes, Is, shows, lends_ref, ref_back, mem, part_at, owns, Ptr, RawPtr, block_ptr, lies_at, in_a_block, rawptr_vals, rawptr_Tells, MutRef, mut_vals, MutBor, plain, nothing, heard, peeks, calls_at, lasts, triple_of, Stays, walk_of, says, stay_dropped, Goes-dropped, ends_at, framed, Body, ptr_val, show, sem, sep, Lasts, RefOf, ShrRef, shr_vals, shr_Tells, SliceRefOf, ShrSlice, shr_slice_vals, shr_slice_Tells, slice_val, length}
 use Rattle.dt_c.specs.Calls.{Opening}
 use Rattle.dt_c.specs.declared.rows.OpenedRow.{OpenedRow}
 use Rattle.dt_c.specs.contracts.rows.OpenedRow.{the_row as Q}

@@ -1,4 +1,4 @@
-use Rattle.std.proofs.Common.{◌≡◌, ◌∙◌, ap, sym}
+use Rattle.std.proofs.Common.{◌∙◌, ap, sym}
 use Rattle.dt_c.specs.Calls.{buf_after, frames_after, out_row}
 use Rattle.dt_c.proofs.Fronts.{none_waits}
 use Rattle.dt_c.proofs.calls.hand_out.Goals as goal
