@@ -1,0 +1,96 @@
+"""Nodes that run while their tool does, over the library's Python module."""
+import argparse
+import contextlib
+import pathlib
+import re
+import sys
+from collections.abc import Iterator
+from dataclasses import astuple
+from types import ModuleType
+from typing import NamedTuple
+
+from deltat_tools import parameters as par
+from deltat_tools.arguments import number
+
+
+class End(NamedTuple):
+    """A node and its address. Written `NODE@HOST:PORT`, or `NODE@PORT` on 127.0.0.1."""
+
+    node: int
+    host: str
+    port: int
+
+
+def end(word: str) -> End:
+    found = re.fullmatch(r"(\d{1,10})@(?:([^@:]+):)?(\d{1,5})", word)
+    if not found or int(found[1]) >= 2**32 or not 0 < int(found[3]) < 2**16:
+        raise argparse.ArgumentTypeError(f"{word!r} isn't NODE@HOST:PORT")
+    return End(int(found[1]), found[2] or "127.0.0.1", int(found[3]))
+
+
+def add_words(it: argparse.ArgumentParser) -> None:
+    """The words of a tool that runs a node."""
+    it.add_argument("own", metavar="OWN", type=end, help="this node: NODE@HOST:PORT, or NODE@PORT on 127.0.0.1")
+    it.add_argument("peer", metavar="PEER", type=end, help="the other one")
+    it.add_argument("--delay", type=number(0, par.DAY), default=50, help="the longest delay of the link, in ms (50): the same at both ends")
+    it.add_argument("--round-trip", type=number(0, par.DAY), default=20, help="a usual round trip, in ms (20): the same at both ends")
+    it.add_argument("--ports", nargs=2, type=number(0, 65_535, int), default=(10, 10), metavar=("OWN", "PEER"), help="the ports of the flow (10 10)")
+    it.add_argument("--again", action="store_true", help="this node's number may have been used shortly before: be silent at first")
+
+
+def library() -> ModuleType:
+    """The library's module: of the system, or of the clone that this is in. Ends with 2 where there is none."""
+    sys.path.append(str(pathlib.Path(__file__).resolve().parents[2] / "bindings" / "python"))
+    try:
+        import deltat
+    except (ImportError, OSError) as why:
+        print(f"{pathlib.Path(sys.argv[0]).name}: the library isn't there ({why}): make -C lib", file=sys.stderr)
+        sys.exit(2)
+    return deltat
+
+
+class Live:
+    """The node of a tool, its socket, and what its flow has sent."""
+
+    def __init__(self, asked: argparse.Namespace) -> None:
+        self.deltat = library()
+        hop = par.Hop(asked.delay, 2, 100.0)
+        chosen = par.suited([[hop]], par.Wishes(asked.round_trip))
+        self.params = self.deltat.Params(*astuple(chosen))
+        links = [self.deltat.Link(1, par.link_charge(hop, chosen))]
+        node = self.deltat.Node(asked.own.node, self.params, links, {asked.peer.node: 1}, asked.again)
+        self.udp = self.deltat.Udp(node, (asked.own.host, asked.own.port), {asked.peer.node: (asked.peer.host, asked.peer.port)})
+        self.flow = self.deltat.Flow(asked.own.node, asked.ports[0], asked.peer.node, asked.ports[1])
+        self.taken = self.settled = self.uncertain = self.resent = 0
+
+    @property
+    def give(self) -> float:
+        """How long it takes, in seconds, until what was sent is acknowledged or given up."""
+        return (2 * self.params.mpl + self.params.r + self.params.a) / 1000
+
+    @property
+    def is_settled(self) -> bool:
+        """Whether all that was sent is acknowledged or reported."""
+        return self.settled + self.uncertain == self.taken
+
+    def listen(self) -> None:
+        """Counts what the node told of the flow."""
+        kind = self.deltat.Kind
+        for it in self.udp.node.reports():
+            if it.flow == self.flow:
+                self.taken += it.count * (it.kind is kind.TOOK)
+                self.settled += it.count * (it.kind is kind.SETTLED)
+                self.uncertain += it.count * (it.kind is kind.UNCERTAIN)
+                self.resent += it.kind is kind.RESENT
+
+
+@contextlib.contextmanager
+def opened(asked: argparse.Namespace) -> Iterator[Live]:
+    """The node that was asked for, closed behind its use. OSError where its port can't be had; ValueError where there
+    are no parameters for such a link."""
+    try:
+        it = Live(asked)
+    except par.Unsuited as why:
+        raise ValueError(str(why)) from why
+    with it.udp:
+        yield it
