@@ -1,0 +1,345 @@
+//! Delta-t nodes: messages that are delivered at most once, without a handshake.
+//!
+//! A [`Node`] has no socket, no clock and no thread: it is handed datagrams, octets and the time in milliseconds, and hands
+//! out datagrams, what came, and the moment at which it wants to be called again. What the calls of libdeltat say is
+//! proved; this crate, which calls them, is tested. What the caller owes stands at the head of include/deltat.h: one
+//! clock that goes on in sleep, charges that cover the links, what a datagram waited, `again` after a restart.
+//! `examples/echo.rs` is a service over a UDP socket.
+
+use std::alloc::{alloc, dealloc, handle_alloc_error, Layout};
+use std::fmt;
+use std::ptr::NonNull;
+
+pub mod sys;
+
+const ABI: u32 = 1;
+
+/// Octets of a frame: no frame wants more room.
+pub const MOST_FRAME: usize = 8222;
+
+/// The parameters of a network, the same at all of its nodes but for `start`: times in ms, rooms in octets.
+#[repr(C)]
+#[derive(Clone, Copy, Debug, PartialEq, Eq)]
+pub struct Params {
+    pub mpl: u32,
+    pub r: u32,
+    pub a: u32,
+    pub rto: u32,
+    pub probe: u32,
+    pub seg: u32,
+    pub cap: u32,
+    pub rcap: u32,
+    pub window: u32,
+    pub run_limit: u32,
+    pub start: u32,
+}
+
+impl Params {
+    /// How long a node that starts again is silent, in ms; none where a parameter is out of its range.
+    pub fn quiet(&self) -> Option<u64> {
+        // SAFETY: the pointer is that of a struct of the header's form, which is only read.
+        Some(unsafe { sys::dt_quiet(self) }).filter(|it| *it > 0)
+    }
+}
+
+/// Octets that go from a port of a node to a port of another. The way back is another flow.
+#[repr(C)]
+#[derive(Clone, Copy, Debug, PartialEq, Eq, Hash, PartialOrd, Ord)]
+pub struct Flow {
+    pub from: u32,
+    pub to: u32,
+    pub from_port: u16,
+    pub to_port: u16,
+}
+
+impl Flow {
+    /// The way back.
+    pub fn reversed(self) -> Flow {
+        Flow { from: self.to, to: self.from, from_port: self.to_port, to_port: self.from_port }
+    }
+}
+
+impl fmt::Display for Flow {
+    fn fmt(&self, f: &mut fmt::Formatter<'_>) -> fmt::Result {
+        write!(f, "{}:{}>{}:{}", self.from, self.from_port, self.to, self.to_port)
+    }
+}
+
+/// A link: no datagram is under way on it for longer than `charge` ms; two that leave are `pace` ms apart at least.
+#[repr(C)]
+#[derive(Clone, Copy, Debug, PartialEq, Eq)]
+pub struct Link {
+    pub charge: u32,
+    pub pace: u32,
+    pub link: u16,
+}
+
+/// Packets to the node `to` leave on this link.
+#[repr(C)]
+#[derive(Clone, Copy, Debug, PartialEq, Eq)]
+pub struct Route {
+    pub to: u32,
+    pub link: u16,
+}
+
+/// Why a call did nothing of what it was asked.
+#[derive(Clone, Copy, Debug, PartialEq, Eq)]
+pub enum Error {
+    /// There was no memory. A node that answered this to an event is spent: drop it and open it `again`.
+    NoMemory,
+    /// An earlier call found no memory.
+    Spent,
+    /// An argument is out of its range, a flow isn't this node's, or there is no such link.
+    Refused,
+    /// The octets don't fit: so many do. What else was due is done.
+    Full { free: u32 },
+    /// The node started again and is silent until this moment. What else was due is done.
+    Quiet { until: u64 },
+    /// The datagram doesn't read, or has no life left. It was dropped.
+    Dropped,
+    /// The buffer has too little room: so many octets are wanted.
+    Room { wanted: usize },
+}
+
+impl fmt::Display for Error {
+    fn fmt(&self, f: &mut fmt::Formatter<'_>) -> fmt::Result {
+        match self {
+            Error::NoMemory => write!(f, "there was no memory"),
+            Error::Spent => write!(f, "an earlier call found no memory"),
+            Error::Refused => write!(f, "an argument is out of its range"),
+            Error::Full { free } => write!(f, "the flow has room for {free} octets"),
+            Error::Quiet { until } => write!(f, "the node is silent until {until} ms"),
+            Error::Dropped => write!(f, "the datagram was dropped"),
+            Error::Room { wanted } => write!(f, "{wanted} octets of room are wanted"),
+        }
+    }
+}
+
+impl std::error::Error for Error {}
+
+fn done(status: u8) -> Result<(), Error> {
+    match status {
+        0 => Ok(()),
+        1 => Err(Error::NoMemory),
+        2 | 9 => Err(Error::Spent),
+        11 | 12 => Err(Error::Dropped),
+        _ => Err(Error::Refused),
+    }
+}
+
+/// Octets that were read: how many stand at the head of the buffer, whether they begin and end a message, and whether
+/// what stood before them isn't known.
+#[derive(Clone, Copy, Debug, PartialEq, Eq)]
+pub struct Piece {
+    pub len: usize,
+    pub begin: bool,
+    pub end: bool,
+    pub run: bool,
+}
+
+/// A datagram that left: how many octets stand at the head of the buffer, its link, and the node that it goes to.
+#[derive(Clone, Copy, Debug, PartialEq, Eq)]
+pub struct Frame {
+    pub len: usize,
+    pub link: u16,
+    pub to: u32,
+}
+
+/// What a report tells that a program needs most often; the rest by its number, as `enum dt_kind` of the header has it.
+#[derive(Clone, Copy, Debug, PartialEq, Eq)]
+pub enum Told {
+    /// A send was taken: so many octets.
+    Took { flow: Flow, count: u32 },
+    /// So many octets were acknowledged.
+    Settled { flow: Flow, count: u32 },
+    /// So many octets were given up: they may have come or not.
+    Uncertain { flow: Flow, count: u32 },
+    /// Octets were accepted, and can be read.
+    Accepted { flow: Flow, count: u32 },
+    Other { kind: u8, flow: Flow },
+}
+
+/// A node without a socket, a clock or a thread. It is used by one thread at a time, and closed where it is dropped.
+pub struct Node {
+    handle: NonNull<sys::Handle>,
+    layout: Layout,
+}
+
+// SAFETY: the handle lies on the heap, nothing else has its pointer, and the library keeps nothing outside it.
+unsafe impl Send for Node {}
+
+impl Node {
+    /// Opens node `number` at the moment `now`; `again` where its number may have been used not long ago.
+    pub fn open(params: &Params, number: u32, links: &[Link], routes: &[Route], again: bool, now: u64) -> Result<Node, Error> {
+        let start = sys::Start { now, me: number, again };
+        // SAFETY: the handle is fresh memory of the size and alignment that the library tells, it is made once before any
+        // other call, and the pointers are those of structs and slices of the header's forms.
+        unsafe {
+            assert_eq!(sys::dt_abi(), ABI, "libdeltat has another interface");
+            let layout = Layout::from_size_align(sys::dt_size(), sys::dt_align()).expect("the library tells a size");
+            let handle = NonNull::new(alloc(layout).cast::<sys::Handle>()).unwrap_or_else(|| handle_alloc_error(layout));
+            sys::dt_init(handle.as_ptr());
+            let node = Node { handle, layout };
+            let opened = sys::dt_open(handle.as_ptr(), params, &start, links.as_ptr(), links.len(), routes.as_ptr(), routes.len());
+            done(opened.status).map(|()| node)
+        }
+    }
+
+    /// Does what is due.
+    pub fn tick(&mut self, now: u64) -> Result<(), Error> {
+        // SAFETY: the handle was made in `open`, and `&mut self` lets one call at a time in. So below.
+        done(unsafe { sys::dt_tick(self.handle.as_ptr(), now) })
+    }
+
+    /// A datagram came on a link and waited so many ms on this machine, rounded up.
+    pub fn arrive(&mut self, now: u64, link: u16, datagram: &[u8], waited: u32) -> Result<(), Error> {
+        // SAFETY: as in `tick`; pointer and length are those of a slice.
+        done(unsafe { sys::dt_arrive(self.handle.as_ptr(), now, link, datagram.as_ptr(), datagram.len(), waited) }.status)
+    }
+
+    /// Sends a message, or a part of one: all of its octets or none.
+    pub fn send(&mut self, now: u64, flow: Flow, octets: &[u8], begin: bool, end: bool) -> Result<(), Error> {
+        // SAFETY: as in `arrive`.
+        let sent = unsafe { sys::dt_send(self.handle.as_ptr(), now, &flow, octets.as_ptr(), octets.len(), begin, end) };
+        match sent.status {
+            7 => Err(Error::Full { free: sent.free }),
+            8 => Err(Error::Quiet { until: sent.until }),
+            status => done(status),
+        }
+    }
+
+    /// Reads unread octets of a flow, at most as many as the buffer holds and of one message; none where none is unread.
+    pub fn read(&mut self, now: u64, flow: Flow, buf: &mut [u8]) -> Result<Option<Piece>, Error> {
+        // SAFETY: as in `arrive`; the buffer is borrowed for the call alone.
+        let piece = unsafe { sys::dt_read(self.handle.as_ptr(), now, &flow, buf.as_mut_ptr(), buf.len()) };
+        match piece.status {
+            5 => Ok(None),
+            6 => Err(Error::Room { wanted: 1 }),
+            status => done(status).map(|()| Some(Piece { len: piece.len, begin: piece.begin, end: piece.end, run: piece.run })),
+        }
+    }
+
+    /// The datagram that left first of those that wait; none where none does.
+    pub fn next_frame(&mut self, buf: &mut [u8]) -> Result<Option<Frame>, Error> {
+        // SAFETY: as in `read`.
+        let out = unsafe { sys::dt_next_frame(self.handle.as_ptr(), buf.as_mut_ptr(), buf.len()) };
+        match out.status {
+            5 => Ok(None),
+            6 => Err(Error::Room { wanted: out.len }),
+            status => done(status).map(|()| Some(Frame { len: out.len, link: out.link, to: out.to })),
+        }
+    }
+
+    /// The report that was told first of those that wait. They take memory until they are taken.
+    pub fn next_report(&mut self) -> Option<Told> {
+        // SAFETY: as in `tick`.
+        let it = unsafe { sys::dt_next_report(self.handle.as_ptr()) };
+        let sys::Report { flow, count, .. } = it;
+        match (it.status, it.kind) {
+            (0, 1) => Some(Told::Took { flow, count }),
+            (0, 7) => Some(Told::Uncertain { flow, count }),
+            (0, 12) => Some(Told::Accepted { flow, count }),
+            (0, 15) => Some(Told::Settled { flow, count }),
+            (0, kind) => Some(Told::Other { kind, flow }),
+            _ => None,
+        }
+    }
+
+    /// The moment at which `tick` has something to do, or none.
+    pub fn wake(&mut self) -> Option<u64> {
+        // SAFETY: as in `tick`.
+        let it = unsafe { sys::dt_wake(self.handle.as_ptr()) };
+        it.some.then_some(it.at)
+    }
+}
+
+impl Drop for Node {
+    fn drop(&mut self) {
+        // SAFETY: the handle was made in `open`, and nothing uses it afterwards.
+        unsafe {
+            sys::dt_close(self.handle.as_ptr());
+            dealloc(self.handle.as_ptr().cast(), self.layout);
+        }
+    }
+}
+
+/// Joins the pieces of flows to whole messages.
+#[derive(Default)]
+pub struct Messages {
+    begun: std::collections::HashMap<Flow, Vec<u8>>,
+}
+
+impl Messages {
+    /// The message that a piece makes whole, if it does. A begin mark begins anew, and behind a run mark what stood before
+    /// is no part of any message.
+    pub fn join(&mut self, flow: Flow, piece: Piece, octets: &[u8]) -> Option<Vec<u8>> {
+        let mut whole = match self.begun.remove(&flow) {
+            _ if piece.begin => Vec::new(),
+            Some(before) if !piece.run => before,
+            _ => return None,
+        };
+        whole.extend_from_slice(&octets[..piece.len]);
+        if piece.end {
+            return Some(whole);
+        }
+        self.begun.insert(flow, whole);
+        None
+    }
+}
+
+#[cfg(test)]
+mod tests {
+    use super::*;
+
+    const PARAMS: Params =
+        Params { mpl: 1000, r: 3000, a: 200, rto: 100, probe: 800, seg: 500, cap: 4096, rcap: 4096, window: 4096, run_limit: 1 << 31, start: 0 };
+    const LINK: Link = Link { charge: 90, pace: 0, link: 1 };
+
+    fn node(number: u32, again: bool, now: u64) -> Node {
+        Node::open(&PARAMS, number, &[LINK], &[Route { to: 3 - number, link: 1 }], again, now).unwrap()
+    }
+
+    #[test]
+    fn message_comes_once_over_repeats() {
+        let (mut one, mut two) = (node(1, false, 0), node(2, false, 0));
+        let flow = Flow { from: 1, to: 2, from_port: 10, to_port: 20 };
+        let octets: Vec<u8> = (0..2000u32).map(|it| it as u8).collect();
+        one.send(1, flow, &octets, true, true).unwrap();
+        let mut frame = [0; MOST_FRAME];
+        while let Some(it) = one.next_frame(&mut frame).unwrap() {
+            assert_eq!((it.link, it.to), (1, 2));
+            for _ in 0..3 {
+                two.arrive(5, 1, &frame[..it.len], 1).unwrap();
+            }
+        }
+        let (mut messages, mut found, mut buf) = (Messages::default(), Vec::new(), [0; 300]);
+        while let Some(piece) = two.read(6, flow, &mut buf).unwrap() {
+            found.extend(messages.join(flow, piece, &buf));
+        }
+        assert_eq!(found, [octets]);
+        assert!(std::iter::from_fn(|| two.next_report()).any(|it| matches!(it, Told::Accepted { count: 500, .. })));
+    }
+
+    #[test]
+    fn what_is_refused_changes_nothing() {
+        let mut one = node(1, true, 100);
+        let flow = Flow { from: 1, to: 2, from_port: 10, to_port: 20 };
+        let quiet = PARAMS.quiet().unwrap();
+        assert_eq!(one.send(100, flow, b"early", true, true), Err(Error::Quiet { until: 100 + quiet }));
+        assert_eq!(one.send(100 + quiet, flow.reversed(), b"back", true, true), Err(Error::Refused));
+        assert_eq!(one.send(100 + quiet, flow, &[0; 5000], true, true), Err(Error::Full { free: 4096 }));
+        assert_eq!(one.arrive(100 + quiet, 1, b"not a frame", 0), Err(Error::Dropped));
+        assert_eq!(one.arrive(100 + quiet, 7, &[0; 40], 0), Err(Error::Refused));
+        assert_eq!((one.next_frame(&mut [0; 10]), one.wake()), (Ok(None), None));
+        one.send(100 + quiet, flow, b"in time", true, true).unwrap();
+        assert_eq!(one.next_frame(&mut [0; 10]), Err(Error::Room { wanted: 37 }));
+        assert!(Node::open(&Params { mpl: 1, ..PARAMS }, 1, &[], &[], false, 0).is_err());
+        assert_eq!(Params { mpl: 1, ..PARAMS }.quiet(), None);
+    }
+
+    #[test]
+    fn nodes_go_to_other_threads() {
+        let mut one = node(1, false, 0);
+        std::thread::spawn(move || one.tick(5)).join().unwrap().unwrap();
+    }
+}

@@ -1,0 +1,106 @@
+//! The exports of libdeltat, as include/deltat.h has them.
+#![allow(missing_docs)]
+
+#[repr(C)]
+pub struct Handle {
+    _opaque: [u8; 0],
+}
+
+#[repr(C)]
+#[derive(Clone, Copy)]
+pub struct Start {
+    pub now: u64,
+    pub me: u32,
+    pub again: bool,
+}
+
+#[repr(C)]
+#[derive(Clone, Copy)]
+pub struct Opened {
+    pub value: u32,
+    pub status: u8,
+    pub field: u8,
+}
+
+#[repr(C)]
+#[derive(Clone, Copy)]
+pub struct Came {
+    pub value: u32,
+    pub status: u8,
+    pub fault: u8,
+}
+
+#[repr(C)]
+#[derive(Clone, Copy)]
+pub struct Sent {
+    pub until: u64,
+    pub free: u32,
+    pub status: u8,
+}
+
+#[repr(C)]
+#[derive(Clone, Copy)]
+pub struct Piece {
+    pub len: usize,
+    pub status: u8,
+    pub begin: bool,
+    pub end: bool,
+    pub run: bool,
+}
+
+#[repr(C)]
+#[derive(Clone, Copy)]
+pub struct Out {
+    pub len: usize,
+    pub to: u32,
+    pub link: u16,
+    pub status: u8,
+}
+
+#[repr(C)]
+#[derive(Clone, Copy)]
+pub struct Moment {
+    pub at: u64,
+    pub some: bool,
+}
+
+#[repr(C)]
+#[derive(Clone, Copy)]
+pub struct Report {
+    pub flow: crate::Flow,
+    pub moment: u64,
+    pub number: u32,
+    pub count: u32,
+    pub window: u32,
+    pub status: u8,
+    pub kind: u8,
+    pub begin: bool,
+    pub end: bool,
+    pub run: bool,
+    pub sending: bool,
+}
+
+extern "C" {
+    pub fn dt_abi() -> u32;
+    pub fn dt_size() -> usize;
+    pub fn dt_align() -> usize;
+    pub fn dt_init(node: *mut Handle);
+    pub fn dt_close(node: *mut Handle);
+    pub fn dt_open(
+        node: *mut Handle,
+        params: *const crate::Params,
+        start: *const Start,
+        links: *const crate::Link,
+        link_count: usize,
+        routes: *const crate::Route,
+        route_count: usize,
+    ) -> Opened;
+    pub fn dt_quiet(params: *const crate::Params) -> u64;
+    pub fn dt_tick(node: *mut Handle, now: u64) -> u8;
+    pub fn dt_arrive(node: *mut Handle, now: u64, link: u16, datagram: *const u8, len: usize, waited: u32) -> Came;
+    pub fn dt_send(node: *mut Handle, now: u64, flow: *const crate::Flow, octets: *const u8, len: usize, begin: bool, end: bool) -> Sent;
+    pub fn dt_read(node: *mut Handle, now: u64, flow: *const crate::Flow, buf: *mut u8, room: usize) -> Piece;
+    pub fn dt_next_frame(node: *mut Handle, buf: *mut u8, room: usize) -> Out;
+    pub fn dt_next_report(node: *mut Handle) -> Report;
+    pub fn dt_wake(node: *mut Handle) -> Moment;
+}
