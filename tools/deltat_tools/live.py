@@ -57,7 +57,8 @@ class Live:
         hop = par.Hop(asked.delay, 2, 100.0)
         chosen = par.suited([[hop]], par.Wishes(asked.round_trip))
         self.params = self.deltat.Params(*astuple(chosen))
-        links = [self.deltat.Link(1, par.link_charge(hop, chosen))]
+        # what a datagram waits at this machine is told and charged beside the link, so the link's charge hasn't it
+        links = [self.deltat.Link(1, par.link_charge(hop, chosen) - par.SOCKET_WAIT)]
         node = self.deltat.Node(asked.own.node, self.params, links, {asked.peer.node: 1}, asked.again)
         self.udp = self.deltat.Udp(node, (asked.own.host, asked.own.port), {asked.peer.node: (asked.peer.host, asked.peer.port)})
         self.flow = self.deltat.Flow(asked.own.node, asked.ports[0], asked.peer.node, asked.ports[1])
