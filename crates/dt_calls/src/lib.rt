@@ -30,6 +30,3 @@ pub use laws::calls_of_an_input_are_served_at_most_once;
 pub use outcomes::CallsOutcome;
 pub use totals::CallTotals;
 pub use world_calls::Calls;
-
-#[cfg(test)]
-mod tests;

@@ -5,6 +5,3 @@
 mod rows;
 
 pub use rows::{Row, covers, pick};
-
-#[cfg(test)]
-mod tests;

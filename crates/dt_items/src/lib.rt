@@ -11,6 +11,3 @@ pub use item::Item;
 pub use memory::NoMemory;
 pub use piece::Piece;
 pub use unread::{Queue, append_marked};
-
-#[cfg(test)]
-mod tests;

@@ -16,6 +16,3 @@ pub use dt_flow_model::{Fate, Given, ReadCount, Taken};
 pub use dt_reports::Totals;
 pub use flow_rows::FlowRows;
 pub use ledgers::Ledger;
-
-#[cfg(test)]
-mod tests;

@@ -62,6 +62,3 @@ pub fn make<K: Sink>(n: u32, out: &mut K) -> Result<(), Failed>
     put_all(SETUP, out)?;
     put_rounds(n, out)
 }
-
-#[cfg(test)]
-mod tests;

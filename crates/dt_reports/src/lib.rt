@@ -11,6 +11,3 @@ pub use faults::{Fault, LineFault, Refusal, SetupFault, StepFault};
 pub use flow_totals::Totals;
 pub use log_lines::LogLine;
 pub use reports::Report;
-
-#[cfg(test)]
-mod tests;

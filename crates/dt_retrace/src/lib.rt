@@ -6,6 +6,3 @@ mod parts;
 mod retracing;
 
 pub use retracing::retrace;
-
-#[cfg(test)]
-mod tests;

@@ -8,6 +8,3 @@ mod taken;
 pub use held::Held;
 pub use shelves::Shelf;
 pub use taken::Taken;
-
-#[cfg(test)]
-mod tests;

@@ -6,6 +6,3 @@ mod deadlines;
 mod tournament;
 
 pub use deadlines::Deadlines;
-
-#[cfg(test)]
-mod tests;

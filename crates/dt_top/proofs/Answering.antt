@@ -15,7 +15,8 @@ use Rattle.dt_node.specs.Serving.{Edges, edges}
 use Rattle.dt_node.specs.declared.forms.Form.{Form}
 use Rattle.dt_node.specs.declared.forms.Form.TheVariants as forms
 use Rattle.dt_node.specs.declared.outcomes.NodeOutcome.TheVariants as node
-use Rattle.dt_replay.specs.Schedules.{is_accepted, replay_text}
+use Rattle.dt_replay.proofs.Scenes.{all_safe}
+use Rattle.dt_replay.specs.Schedules.{is_accepted, replay_text, world_of}
 use Rattle.dt_reports.specs.declared.faults.LineFault.{LineFault}
 use Rattle.dt_retrace.specs.Parts.{cut_lines}
 use Rattle.dt_retrace.specs.Parts as parts
@@ -28,6 +29,7 @@ use Rattle.dt_top.specs.declared.ending.Ending.{Ending}
 use Rattle.dt_top.specs.declared.ending.Ending.TheVariants.{Done, Usage, TooLong, Refused, NoMemory, WireFault, ClockStill, ReadFault, WriteFault}
 use Rattle.dt_top.specs.declared.job.Job.{Job}
 use Rattle.dt_top.specs.declared.job.Job.TheVariants.{Replay, Node, Trace, Retrace, Calls, Audit}
+use Rattle.dt_world_model.specs.WorldFacts.{SafeWorld}
 use Rattle.dt_top.specs.Answering.{Answers, IsAudited, IsBrokenOff, IsCalled, IsEnded, IsMade, Misnames, RanAgain, RanNode, Replayed}
 use Rattle.dt_top.specs.Endings.{status_of, text_of}
 use Rattle.dt_top.specs.Inputs.{limit}
@@ -216,6 +218,7 @@ replayed : (r : Run) → IsEnded r → Replayed r
 replayed r h = record {
   done = λ is status. weaken (λ octets. job_owes Replay Done octets r.streams.effects) (IsLogged is_accepted replay_text r) (λ octets owes. (owes.0, owes.1)) r.streams.source_before.left (after_done Replay r h is status);
   part_of_log = λ is status. weaken (λ octets. job_owes Replay WriteFault octets r.streams.effects) (λ octets. Leaves HasPart (replay_text octets) r) (λ octets owes. owes.0) r.streams.source_before.left (after_write_fault Replay r h is status);
+  whole = λ is. of_any (λ octets. IfSome (world_of octets) SafeWorld) all_safe r.streams.source_before.left;
   complete = serves Replay (λ octets. is_accepted octets ≡ true) replay_excuses r h;
 }
 

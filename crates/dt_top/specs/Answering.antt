@@ -1,5 +1,5 @@
 -- WHAT `run` ANSWERS, by command and by status. `IsEnded` is the whole statement, from which all else follows.
-use Rattle.std.specs.Prelude.{ℕ, ◌≡◌, ◌⊎◌, ◌≤◌, ◌<◌, ◌^◌, true, false, List, [], length, Some, None}
+use Rattle.std.specs.Prelude.{ℕ, ◌≡◌, ◌⊎◌, ◌≤◌, ◌<◌, ◌^◌, true, false, List, [], length, Some, None, IfSome}
 use Rattle.dt_audit.specs.Audits.{audit_text, has_flaw}
 use Rattle.dt_calls.specs.CallAnswers.{TellsOwnAnswers}
 use Rattle.dt_calls.specs.CallInputs.{are_calls_accepted, calls_text}
@@ -16,10 +16,11 @@ use Rattle.dt_node.specs.Serving as nodes
 use Rattle.dt_node.specs.declared.forms.Form.TheVariants as forms
 use Rattle.dt_node.specs.declared.outcomes.NodeOutcome.{NodeOutcome}
 use Rattle.dt_node.specs.declared.outcomes.NodeOutcome.TheVariants as node
-use Rattle.dt_replay.specs.Schedules.{is_accepted, replay_text}
+use Rattle.dt_replay.specs.Schedules.{is_accepted, replay_text, world_of}
 use Rattle.dt_retrace.specs.Completing.{GoesToStop}
 use Rattle.dt_retrace.specs.Repeating.{joined}
 use Rattle.dt_retrace.specs.Retracing.{Retraces}
+use Rattle.dt_world_model.specs.WorldFacts.{SafeWorld}
 use Rattle.dt_top.specs.declared.command.Command.TheVariants.{Serve, Make}
 use Rattle.dt_top.specs.declared.ending.Ending.{Ending}
 use Rattle.dt_top.specs.declared.ending.Ending.TheVariants.{ClockStill, NoMemory, WireFault, WriteFault}
@@ -38,10 +39,11 @@ pub record IsEnded (r : Run) : Type 0 where
   pub ends : Ends r.command ending r.streams
   pub says : Says (text_of ending) r.err_before r.err_after
 
--- `replay`: the log of an accepted schedule, whole, which is THE HEADLINE; a first part of it, where a put failed; and that an accepted schedule is served, where there is memory and nothing fails.
+-- `replay`: the log of an accepted schedule, whole, which is THE HEADLINE; a first part of it, where a put failed; that the world of the schedule is safe, whatever the status; and that an accepted schedule is served, where there is memory and nothing fails.
 pub record Replayed (r : Run) : Type 0 where
   pub done : After Replay 0 (λ octets. (is_accepted octets ≡ true) × Leaves HasAll (replay_text octets) r) r
   pub part_of_log : After Replay 8 (λ octets. Leaves HasPart (replay_text octets) r) r
+  pub whole : IsFor Replay r → OfInput (λ octets. IfSome (world_of octets) SafeWorld) r
   pub complete : Serves Replay (λ octets. is_accepted octets ≡ true) r
 
 -- an accepted script is served by this job, where the clock tells a plan that reaches the stop, there is memory, and nothing fails

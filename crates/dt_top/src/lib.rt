@@ -93,6 +93,3 @@ pub fn run<S: Source, K: Sink, E: Sink, W: Wire, C: Clock>(
     let ending = serve_words(alloc, words, source, out, wire, clock);
     status_told(ending, err)
 }
-
-#[cfg(test)]
-mod tests;

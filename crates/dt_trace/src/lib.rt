@@ -13,6 +13,3 @@ mod traces;
 pub use inputs::{Input, put_input};
 pub use trace_faults::TraceFault;
 pub use traces::{Trace, read_trace};
-
-#[cfg(test)]
-mod tests;

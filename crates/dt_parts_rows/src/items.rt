@@ -1,4 +1,4 @@
-use super::{Piece, Queue};
+use dt_items::{Piece, Queue};
 use std::process::Abort;
 use std::test::Fail;
 

@@ -1,7 +1,7 @@
 ghost use Rattle.dt_layout.specs.Carried.{IsGram};
 
-use crate::{Shelf, Taken};
 use dt_layout::{Frame, Packet, write_frame};
+use dt_shelf::{Shelf, Taken};
 use dt_units::{Flow, NodeId};
 use std::process::Abort;
 use std::test::Fail;

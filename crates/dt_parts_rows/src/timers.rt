@@ -1,4 +1,4 @@
-use crate::Deadlines;
+use dt_timers::Deadlines;
 use std::test::Fail;
 
 #[test]

@@ -1,6 +1,6 @@
 ghost use Rattle.std.specs.Prelude.{◌<◌};
 
-use super::{Row, covers, pick};
+use dt_cases::{Row, covers, pick};
 
 macro_rules! table {
     ($($mask:literal $value:literal $action:literal;)*) => {

@@ -1,5 +1,5 @@
-use super::*;
 use dt_items::NoMemory;
+use dt_reports::{Report, SetupFault, StepFault, Totals};
 use dt_units::{Flow, NodeId};
 
 fn no_setup() -> Result<(), SetupFault> {

@@ -1,7 +1,7 @@
 ghost use Rattle.std.specs.Prelude.{◌≡◌, ◌+◌, ◌^◌, ◌<◌, ◌≤◌, length, IfOk, IsSome};
 
-use crate::{Fate, FlowRows, Ledger, Taken, Totals};
 use dt_items::NoMemory;
+use dt_ledger::{Fate, FlowRows, Ledger, Taken, Totals};
 use dt_units::{Flow, NodeId};
 use std::alloc::Global;
 use std::process::Abort;

@@ -1,6 +1,6 @@
 //! Inputs of calls and what is told of them.
-use crate::CallsOutcome;
-use crate::running::calls;
+use dt_calls::CallsOutcome;
+use dt_calls::running::calls;
 use dt_edges::MemSink;
 use std::alloc::Global;
 use std::process::Abort;

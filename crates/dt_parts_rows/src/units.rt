@@ -1,7 +1,7 @@
 ghost use Rattle.std.specs.Prelude.{◌≡◌, ◌<◌, ◌+◌};
 
-use crate::numbers::relation;
-use crate::{Field, ParamFault, Params, Relation, Steps, later};
+use dt_units::numbers::relation;
+use dt_units::{Field, ParamFault, Params, Relation, Steps, later};
 use std::marker::Brand;
 use std::sync::ledger::{Blank, Ledger};
 

@@ -1,8 +1,8 @@
 //! Traces, written and read.
-use crate::{Input, Trace, TraceFault, put_input, read_trace};
 use dt_edges::{Address, Clock, MemSink, Wire};
 use dt_items::NoMemory;
 use dt_reports::LineFault;
+use dt_trace::{Input, Trace, TraceFault, put_input, read_trace};
 use std::alloc::Global;
 use std::process::Abort;
 use std::test::Fail;

@@ -1,5 +1,5 @@
 //! Runs that are run again.
-use crate::retrace;
+use dt_retrace::retrace;
 use dt_edges::MemSink;
 use dt_node::NodeOutcome;
 use std::alloc::Global;

@@ -1,8 +1,8 @@
 use Rattle.std.proofs.Common.{refl, lit<}
 use Rattle.dt_cases.specs.Tables.{is_covered}
-use Rattle.dt_cases.specs.declared.tests.TheConstants.{RECEIVE}
+use Rattle.dt_parts_rows.specs.declared.cases.TheConstants.{RECEIVE}
 use Rattle.dt_cases.proofs.Covered.{each_from_covered}
-use Rattle.dt_cases.proofs.tests.received.Goals as goal
+use Rattle.dt_parts_rows.proofs.cases.received.Goals as goal
 
 pub pick-requires : goal.pick-requires
 unfolding is_covered

@@ -1,6 +1,6 @@
 //! The generator's schedules, in memory.
-use super::*;
 use dt_edges::MemSink;
+use dt_make::make;
 use std::test::Fail;
 
 const ONE: &[u8] = b"params 1000 3000 200 500 800 100 4096 4096 512 2147483648
