@@ -42,6 +42,10 @@ pub record WireSight : Type 0 where
   -- how many opens and takes failed, and how many gives
   pub take_faults : ℕ
   pub give_faults : ℕ
+  -- how many opens were called
+  pub opens : ℕ
+  -- how long the last take was to wait, in ms, where a take was called and that is told
+  pub last_wait : Option ℕ
 
 -- each count is at most its greatest value
 pub record HasCounts (w : WireSight) : Type 0 where
@@ -49,6 +53,7 @@ pub record HasCounts (w : WireSight) : Type 0 where
   pub gives : w.gives ≤ last_count
   pub take_faults : w.take_faults ≤ last_count
   pub give_faults : w.give_faults ≤ last_count
+  pub opens : w.opens ≤ last_count
 
 -- ENTRIES OF A PLAN
 
@@ -74,6 +79,7 @@ used_after entries used = if nat_lt used (length entries) then used + 1 else use
 
 -- what an open changes nothing of
 pub record SameLists (w v : WireSight) : Type 0 where
+  pub last_wait : v.last_wait ≡ w.last_wait
   pub taken : v.taken ≡ w.taken
   pub given : v.given ≡ w.given
   pub plan : v.plan ≡ w.plan
@@ -86,6 +92,7 @@ pub record SameLists (w v : WireSight) : Type 0 where
 pub record OpensOne (opening : Opening) (w v : WireSight) : Type 0 where
   pub told : IfSome v.opening (λ now. now ≡ Some opening)
   pub plan : IfSome w.plan (λ plan. plan.open_fails ≡ false)
+  pub opens : v.opens ≡ next_count w.opens
   pub faults : v.take_faults ≡ w.take_faults
   pub same : SameLists w v
 
@@ -93,6 +100,7 @@ pub record OpensOne (opening : Opening) (w v : WireSight) : Type 0 where
 pub record OpenFails (w v : WireSight) : Type 0 where
   pub opening : v.opening ≡ w.opening
   pub plan : IfSome w.plan (λ plan. plan.open_fails ≡ true)
+  pub opens : v.opens ≡ next_count w.opens
   pub faults : HasRisen w.take_faults v.take_faults
   pub same : SameLists w v
 
@@ -105,6 +113,11 @@ pub record SameGiving (w v : WireSight) : Type 0 where
   pub plan : v.plan ≡ w.plan
   pub gives : v.gives ≡ w.gives
   pub give_faults : v.give_faults ≡ w.give_faults
+  pub opens : v.opens ≡ w.opens
+
+-- A take told its wait.
+abbrev pub HasWaited : (wait : ℕ) → WireSight → Type 0
+HasWaited wait v = IfSome v.last_wait (λ told. told ≡ wait)
 
 -- A take into a buffer of this room that handed this over. By the plan, of the first 2^64 - 1 takes it
 -- is one that isn't meant to fail, and it uses the next entry. Where a plan is told, what takes have
@@ -137,6 +150,8 @@ pub record SameTaking (w v : WireSight) : Type 0 where
   pub takes : v.takes ≡ w.takes
   pub used : v.used ≡ w.used
   pub take_faults : v.take_faults ≡ w.take_faults
+  pub opens : v.opens ≡ w.opens
+  pub last_wait : v.last_wait ≡ w.last_wait
 
 -- A give that sent this datagram. By the plan, of the first 2^64 - 1 gives it is one that isn't meant
 -- to fail.
@@ -188,6 +203,9 @@ pub record WireInMemory : Type 0 where
   pub gives : ℕ
   pub take_faults : ℕ
   pub give_faults : ℕ
+  -- how many opens were called, and how long the last take was to wait, in ms
+  pub opens : ℕ
+  pub last_wait : Option ℕ
 
 -- how many octets these datagrams have
 abbrev pub octets_in : List Datagram → ℕ
@@ -223,6 +241,8 @@ wire_in_memory w = record {
   used = w.used;
   take_faults = as_count w.take_faults;
   give_faults = as_count w.give_faults;
+  opens = as_count w.opens;
+  last_wait = w.last_wait;
 }
 
 -- the most peers whose opening a wire in memory tells: as many as there are links
@@ -248,20 +268,22 @@ arrivals_after room a = record {
 
 -- a wire in memory after an open
 abbrev pub opened_after : Result (Unit {0}) Failed → Opening → WireInMemory → WireInMemory
-opened_after (Ok _) opening w = record w { opening = told_opening opening }
-opened_after (Err _) opening w = record w { take_faults = next_count w.take_faults }
+opened_after (Ok _) opening w = record w { opening = told_opening opening; opens = next_count w.opens }
+opened_after (Err _) opening w = record w { take_faults = next_count w.take_faults; opens = next_count w.opens }
 
--- a wire in memory after a take into a buffer of this room
-abbrev pub taken_after : Result (Option (ℕ × ℕ)) Failed → ℕ → WireInMemory → WireInMemory
-taken_after (Ok _) room w = record w {
+-- a wire in memory after a take with this wait, in ms, into a buffer of this room
+abbrev pub taken_after : Result (Option (ℕ × ℕ)) Failed → (wait room : ℕ) → WireInMemory → WireInMemory
+taken_after (Ok _) wait room w = record w {
   used = used_after w.entries w.used;
   taken = noted_until (next_count w.takes) (cut_to room (entry_at w.entries w.used)) w.taken;
   takes = next_count w.takes;
+  last_wait = Some wait;
 }
-taken_after (Err _) room w = record w {
+taken_after (Err _) wait room w = record w {
   taken = if nat_lt (next_count w.takes) last_count then w.taken else None;
   takes = next_count w.takes;
   take_faults = next_count w.take_faults;
+  last_wait = Some wait;
 }
 
 -- departures with one more datagram

@@ -35,6 +35,8 @@ pub struct MemWire {
     gives: u64,
     take_faults: u64,
     give_faults: u64,
+    opens: u64,
+    last_wait: Option<u32>,
 }
 
 impl Model for MemWire {
@@ -58,6 +60,8 @@ impl Model for MemWire {
       gives = w.gives;
       take_faults = w.take_faults;
       give_faults = w.give_faults;
+      opens = w.opens;
+      last_wait = w.last_wait;
     } };
 
     ghost invariant = { λ w. record {
@@ -92,6 +96,8 @@ impl MemWire {
           gives = 0;
           take_faults = 0;
           give_faults = 0;
+          opens = 0;
+          last_wait = None;
         }) }
     {
         let outbox = match room {
@@ -111,6 +117,8 @@ impl MemWire {
             gives: 0,
             take_faults: 0,
             give_faults: 0,
+            opens: 0,
+            last_wait: None,
         })
     }
 
@@ -158,6 +166,7 @@ impl Wire for MemWire {
       gives = min-le_right w.gives last_count;
       take_faults = min-le_right w.take_faults last_count;
       give_faults = min-le_right w.give_faults last_count;
+      opens = min-le_right w.opens last_count;
     } };
 
     /// Fails exactly where the wire was told so. It tells the opening of up to 256 peers; an opening
@@ -167,6 +176,7 @@ impl Wire for MemWire {
         ensures planned { IsErr result ↔ IsTrue self.old.open_fails }
         ensures after { self.new ≡ opened_after result (record { local = local; peers = peers.now }) self.old }
     {
+        self.opens = self.opens.saturating_add(1);
         if self.open_fails {
             self.take_faults = self.take_faults.saturating_add(1);
             return Err(Failed);
@@ -185,7 +195,7 @@ impl Wire for MemWire {
 
     /// Fails exactly where the number of this call is listed. Else it uses the next entry, and hands
     /// its datagram over, cut to the buffer; `None` comes where that entry is nothing or the entries
-    /// are used up.
+    /// are used up. It doesn't wait, and tells how long it was to.
     fn take(&mut self, wait_ms: u32, buf: &mut [u8]) -> Result<Option<(u16, usize)>, Failed>
         requires some_wait { 1 ≤ wait_ms }
         requires short_wait { wait_ms ≤ 1000 }
@@ -195,8 +205,9 @@ impl Wire for MemWire {
         ensures within { IfOk result (λ t. IfSome t (λ d. d.1 ≤ length buf.old)) }
         ensures found { IfOk result (λ t. handed t buf.new ≡ cut_to (length buf.old) (entry_at self.old.entries self.old.used)) }
         ensures tells { self.new.takes < last_count → IsSome self.new.taken }
-        ensures after { self.new ≡ taken_after result (length buf.old) self.old }
+        ensures after { self.new ≡ taken_after result wait_ms (length buf.old) self.old }
     {
+        self.last_wait = Some(wait_ms);
         self.takes = self.takes.saturating_add(1);
         if fails(&self.failing_takes, self.takes) {
             self.take_faults = self.take_faults.saturating_add(1);

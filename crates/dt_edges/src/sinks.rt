@@ -1,4 +1,4 @@
-ghost use Rattle.std.specs.Prelude.{◌≡◌, ◌<◌, ◌≤◌, length, IfOk};
+ghost use Rattle.std.specs.Prelude.{◌≡◌, ◌<◌, ◌≤◌, [], length, IfOk, IsOk};
 ghost use Rattle.std.specs.Io.KnownBytes.{WriteAppends};
 ghost use Rattle.dt_edges.specs.Counts.{CountsFaults, last_count};
 ghost use Rattle.dt_edges.specs.Sinks.{SinkSight, Grows, Puts};
@@ -32,9 +32,12 @@ pub trait Sink {
 
 /// Puts all of the octets, again and again until they are taken. `Ok` has appended exactly these
 /// octets. An `Err` has appended a first part of them, and comes only where the sink's count of
-/// faults rose. No octets are put without a call. Takes no memory.
+/// faults rose. No octets are put without a call: that is `Ok`, and leaves the sink as it was. Takes
+/// no memory.
 pub fn put_all<K: Sink>(bytes: &[u8], out: &mut K) -> Result<(), Failed>
-    ensures { Puts K.sight bytes.now result out.old out.new }
+    ensures puts { Puts K.sight bytes.now result out.old out.new }
+    ensures empty { bytes.now ≡ [] → IsOk result }
+    ensures untouched { bytes.now ≡ [] → out.new ≡ out.old }
 {
     let mut rest = bytes;
     while !rest.is_empty() {

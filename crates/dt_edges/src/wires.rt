@@ -1,5 +1,5 @@
 ghost use Rattle.std.specs.Prelude.{◌≢◌, ◌<◌, ◌≤◌, length, AllPairs, IfOk, OnOk, OnErr, IfSome};
-ghost use Rattle.dt_edges.specs.Wires.{WireSight, HasCounts, handed, OpensOne, OpenFails, TakesOne, TakeFails, GivesOne, GiveFails};
+ghost use Rattle.dt_edges.specs.Wires.{WireSight, HasCounts, HasWaited, handed, OpensOne, OpenFails, TakesOne, TakeFails, GivesOne, GiveFails};
 
 use crate::addresses::{Address, Peer};
 use crate::failures::Failed;
@@ -9,9 +9,9 @@ use crate::failures::Failed;
 /// call changes the other one.
 pub trait Wire {
     /// What contracts see. A wire may tell what takes have handed over and gives have taken, how it
-    /// was opened, and a plan of what comes and what fails, which no call of the trait changes. One
-    /// that tells a plan counts its takes and gives, and tells what takes have handed over while it
-    /// counts fewer than 2^64 - 1 takes.
+    /// was opened, how long the last take was to wait, and a plan of what comes and what fails, which
+    /// no call of the trait changes. It counts its opens. One that tells a plan counts its takes and
+    /// gives, and tells what takes have handed over while it counts fewer than 2^64 - 1 takes.
     ghost sight: { Self → WireSight };
 
     /// Begins to use a local address, with these peers, which differ in their links. An `Err` comes
@@ -34,6 +34,7 @@ pub trait Wire {
         ensures within { IfOk result (λ t. IfSome t (λ d. d.1 ≤ length buf.old)) }
         ensures taken { IfOk result (λ t. TakesOne (length buf.old) (handed t buf.new) (sight self.old) (sight self.new)) }
         ensures failed { OnErr result (TakeFails (sight self.old) (sight self.new)) }
+        ensures waited { HasWaited wait_ms (sight self.new) }
         ensures never_falls { (sight self.old).take_faults ≤ (sight self.new).take_faults };
 
     /// Sends a datagram on a link. An `Err` comes only where the second count rose in this call, and

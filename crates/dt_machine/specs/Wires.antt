@@ -11,3 +11,6 @@ pub record UdpWireSeen : Type 0 where
   -- how many opens and takes failed, and how many gives
   pub take_faults : ℕ
   pub give_faults : ℕ
+  -- how many opens were called, and how long the last take was to wait, in ms
+  pub opens : ℕ
+  pub last_wait : Option ℕ

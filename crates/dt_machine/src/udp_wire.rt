@@ -17,7 +17,7 @@ use std::time;
 const PEERS: usize = 256;
 
 /// A wire over a UDP socket. It tells how it was opened, how often it was called and how often a call
-/// failed, and nothing of what passes. What it hands over has waited in this machine for at most 20 ms,
+/// failed, how long the last take was to wait, and nothing of what passes. What it hands over has waited in this machine for at most 20 ms,
 /// by the moments at which it found the socket empty; what may have waited longer is dropped, as a link
 /// may lose it. So is what is given later than 20 ms after the last reading of the clock.
 #[derive(Drop)]
@@ -32,13 +32,15 @@ pub struct UdpWire<'a, R> {
     gives: u64,
     take_faults: u64,
     give_faults: u64,
+    opens: u64,
+    last_wait: Option<u32>,
 }
 
 impl<'a, R: Net + time::Clock> UdpWire<'a, R> {
     /// A wire that isn't open. Takes memory at once for 256 peers, and for 262,144 octets and 512
     /// datagrams that wait.
     pub fn new(alloc: Global, rt: &'a R, moments: &'a Moments) -> Result<Self, NoMemory>
-        ensures { IfOk result (λ wire. wire ≡ record { opening = None; takes = 0; gives = 0; take_faults = 0; give_faults = 0 }) }
+        ensures { IfOk result (λ wire. wire ≡ record { opening = None; takes = 0; gives = 0; take_faults = 0; give_faults = 0; opens = 0; last_wait = None }) }
     {
         Ok(UdpWire {
             rt,
@@ -51,6 +53,8 @@ impl<'a, R: Net + time::Clock> UdpWire<'a, R> {
             gives: 0,
             take_faults: 0,
             give_faults: 0,
+            opens: 0,
+            last_wait: None,
         })
     }
 }
@@ -113,6 +117,8 @@ impl<'a, R> Model for UdpWire<'a, R> {
       gives = w.gives;
       take_faults = w.take_faults;
       give_faults = w.give_faults;
+      opens = w.opens;
+      last_wait = w.last_wait;
     } };
 
     ghost invariant = { λ w. record {
@@ -136,6 +142,8 @@ impl<'a, R: Net + time::Clock> Wire for UdpWire<'a, R> {
       used = 0;
       take_faults = as_count w.take_faults;
       give_faults = as_count w.give_faults;
+      opens = as_count w.opens;
+      last_wait = w.last_wait;
     } };
 
     ghost bounded = { λ w. record {
@@ -143,11 +151,13 @@ impl<'a, R: Net + time::Clock> Wire for UdpWire<'a, R> {
       gives = min-le_right w.gives last_count;
       take_faults = min-le_right w.take_faults last_count;
       give_faults = min-le_right w.give_faults last_count;
+      opens = min-le_right w.opens last_count;
     } };
 
     /// Binds the address. Fails where the machine refuses it, or where a link isn't 0 to 255; the
     /// wire then stays as it was.
     fn open(&mut self, local: Address, peers: &[Peer]) -> Result<(), Failed> {
+        self.opens = self.opens.saturating_add(1);
         let Some(socket) = bound(self.rt, local, peers) else {
             self.take_faults = self.take_faults.saturating_add(1);
             return Err(Failed);
@@ -166,6 +176,7 @@ impl<'a, R: Net + time::Clock> Wire for UdpWire<'a, R> {
     /// that may have waited in this machine longer than 20 ms. Fails where the wire isn't open, or the
     /// machine's call fails.
     fn take(&mut self, wait_ms: u32, buf: &mut [u8]) -> Result<Option<(u16, usize)>, Failed> {
+        self.last_wait = Some(wait_ms);
         self.takes = self.takes.saturating_add(1);
         let taken = match &self.socket {
             Some(socket) => self.intake.take(socket, &self.peers, wait_ms, buf).ok(),

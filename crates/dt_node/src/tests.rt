@@ -414,6 +414,7 @@ impl Wire for Waits {
       gives = min-le_right w.wire.gives last_count;
       take_faults = min-le_right w.wire.take_faults last_count;
       give_faults = min-le_right w.wire.give_faults last_count;
+      opens = min-le_right w.wire.opens last_count;
     } };
 
     fn open(&mut self, local: Address, peers: &[Peer]) -> Result<(), Failed> {

@@ -1,5 +1,6 @@
 //! Lines of schedules, of scripts and of inputs of calls, read: an input is cut into lines, and each
-//! line says what its words say, or has the first fault.
+//! line says what its words say, or has the first fault. What is written, and what layers report, can be
+//! named here, too.
 #![tactic(auto)]
 
 mod endpoints;
@@ -13,7 +14,8 @@ mod reading;
 pub mod splitting;
 mod stages;
 
-pub use dt_reports::LineFault;
+pub use dt_log::{put_flow, put_hex, put_number, write_line};
+pub use dt_reports::{Fault, LineFault, LogLine, Refusal, Report, SetupFault, StepFault};
 pub use endpoints::read_flow;
 pub use hexadecimal::{decode_hex, is_hex};
 pub use input_lines::split_line;

@@ -22,6 +22,8 @@ use crate::serving::serve_words;
 use dt_edges::{Clock, Sink, Source, Wire, put_all};
 use std::alloc::Global;
 
+pub use dt_make::make;
+
 /// The exit status of an ending, whose text is told.
 fn status_told<E: Sink>(ending: Ending, err: &mut E) -> u8
     ensures status { result ≡ status_of ending }

@@ -75,6 +75,8 @@ wire_of t = record {
   gives = 0;
   take_faults = 0;
   give_faults = 0;
+  opens = 0;
+  last_wait = None;
 }
 
 -- the one reading 0 where there is none
