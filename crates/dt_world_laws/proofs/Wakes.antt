@@ -16,6 +16,7 @@ use Rattle.dt_world_model.specs.Relay.{Left, Out, Waiting, leave, leave_first, l
 use Rattle.dt_world_model.specs.Script.{Script, Done, ◌>>=◌}
 use Rattle.dt_world_model.specs.Station.{Station, Tick, do_turns, flush_at, flush_links, flush_on, flush_turns, go_on, happen, settle_station, station_event, station_wake, station_with}
 use Rattle.dt_world_model.proofs.Offers.{turn_if}
+use Rattle.dt_world_laws.specs.Waking.{Acts, Due, Leaves, due_at, due_of, leaves_at, or_later}
 use Rattle.dt_world_laws.proofs.Plays.{link_of}
 
 -- MOMENTS
@@ -137,6 +138,58 @@ module _ {T : Type 0} where
         | inl here ↦ let k = first_leaves out out.waits m here in ([], outs, out, k.0, refl, k.1)
         | inr there ↦ let k = relay_wake_at outs m there in (out ∷ k.0, k.1, k.2, k.3, ap (λ (os : List (Out T)). out ∷ os) k.4, k.5)
       ]
+
+  -- and nothing leaves any link before it
+  pub relay_stays : (before after : List (Out T)) (out : Out T) (now : ℕ) → IsBefore now (relay_wake (before ++ out ∷ after)) → leave now out ≡ (None, out)
+  relay_stays [] after out now h = first_stays now out out.waits (before_parts now (out_wake out out.waits) (relay_wake after) h).0
+  relay_stays (x ∷ before) after out now h = relay_stays before after out now (before_parts now (out_wake x x.waits) (relay_wake (before ++ out ∷ after)) h).1
+
+  none_leaves : (outs : List (Out T)) (now : ℕ) → IsBefore now (relay_wake outs) → leaves_at now outs ≡ None
+  none_leaves [] now h = refl
+  none_leaves (out ∷ outs) now h =
+      let parts = before_parts now (out_wake out out.waits) (relay_wake outs) h in
+      ap (λ (r : Option (Left T) × Out T). or_later r.0 (leaves_at now outs)) (first_stays now out out.waits parts.0) ∙ none_leaves outs now parts.1
+
+  or_some : (a b : Option (Left T)) → (left : Left T) × (b ≡ Some left) → (left : Left T) × (or_later a b ≡ Some left)
+  or_some None b h = h
+  or_some (Some left) b h = (left, refl)
+
+  one_leaves : (outs : List (Out T)) (m : ℕ) → relay_wake outs ≡ Some m → (left : Left T) × (leaves_at m outs ≡ Some left)
+  one_leaves [] m e = absurd cc
+  one_leaves (out ∷ outs) m e =
+      elim (earlier_is (out_wake out out.waits) (relay_wake outs) m e) [
+        | inl here ↦ let k = first_leaves out out.waits m here in (k.0, ap (λ (o : Option (Left T)). or_later o (leaves_at m outs)) k.1)
+        | inr there ↦ or_some (leave m out).0 (leaves_at m outs) (one_leaves outs m there)
+      ]
+
+  pub relay_wake_first : (outs : List (Out T)) → IsFirst (Left T) (λ now. leaves_at now outs) (relay_wake outs)
+  relay_wake_first outs = record { nothing_before = λ now h. none_leaves outs now h; something_at = λ m e. one_leaves outs m e }
+
+  -- STATIONS: an act or a packet
+  act_due : (turn : Option Turn) (left : Option (Left T)) → (t : Turn) × (turn ≡ Some t) → (due : Due T) × (due_of turn left ≡ Some due)
+  act_due None left h = absurd (let e = h.1 in cc)
+  act_due (Some t) left h = (Acts t, refl)
+
+  packet_due : (turn : Option Turn) (left : Option (Left T)) → (l : Left T) × (left ≡ Some l) → (due : Due T) × (due_of turn left ≡ Some due)
+  packet_due (Some t) left h = (Acts t, refl)
+  packet_due None None h = absurd (let e = h.1 in cc)
+  packet_due None (Some l) h = (Leaves l, refl)
+
+  pub station_wake_first : (p : Params) (st : Station T) → IsFirst (Due T) (λ now. due_at p now st) (station_wake p st)
+  station_wake_first p st =
+      let host = host_wake_first p st.host in
+      let relay = relay_wake_first st.relay.outs in
+      record {
+        nothing_before = λ now h.
+            let parts = before_parts now (host_wake p st.host) (relay_wake st.relay.outs) h in
+            ap (λ (turn : Option Turn). due_of turn (leaves_at now st.relay.outs)) (host.nothing_before now parts.0)
+            ∙ ap (λ (left : Option (Left T)). due_of None left) (relay.nothing_before now parts.1);
+        something_at = λ m e.
+            elim (earlier_is (host_wake p st.host) (relay_wake st.relay.outs) m e) [
+              | inl here ↦ act_due (next_turn p m st.host) (leaves_at m st.relay.outs) (host.something_at m here)
+              | inr there ↦ packet_due (next_turn p m st.host) (leaves_at m st.relay.outs) (relay.something_at m there)
+            ];
+      }
 
   flush_stays : (most now : ℕ) (out : Out T) → IsBefore now (out_wake out out.waits) → flush_turns most now out ≡ Done out
   flush_stays zero now out h = refl

@@ -4,3 +4,4 @@ pub mod Lives
 pub mod Meeting
 pub mod Schedule
 pub mod Visits
+pub mod Waking

@@ -1,5 +1,5 @@
 //! A station comes to an end with its acts, and then sleeps until its wake.
-ghost use Rattle.std.specs.Prelude.{ℕ, ◌+◌, ◌≡◌, ◌<◌, ◌++◌, ◌∷◌, List, Some};
+ghost use Rattle.std.specs.Prelude.{ℕ, ◌+◌, ◌≡◌, ◌<◌, ◌++◌, ◌∷◌, List, None, Some};
 ghost use Rattle.dt_units.specs.declared.parameters.Params.{Params};
 ghost use Rattle.dt_units.specs.declared.endpoints.Flow.{Flow};
 ghost use Rattle.dt_units.specs.Limits.{IsWithinLimits};
@@ -9,6 +9,7 @@ ghost use Rattle.dt_flow_model.specs.SendActs.{IsBefore, IsFirst};
 ghost use Rattle.dt_world_model.specs.Host.{Host, IsCurrentHost, IsHost, Turn, host_wake, next_turn, sender_at, work};
 ghost use Rattle.dt_world_model.specs.Relay.{Left, Out, emptied, leave, out_wake, relay_wake};
 ghost use Rattle.dt_world_model.specs.Script.{Answers, Done};
+ghost use Rattle.dt_world_laws.specs.Waking.{Due, due_at, leaves_at};
 ghost use Rattle.dt_world_model.specs.Station.{Event, Station, Tick, settle_station, station_event, station_wake};
 
 /// Each act of a host lowers the work that is left at its moment and keeps what a host keeps, so a host
@@ -26,13 +27,20 @@ pub fn settled_station_has_no_act_due<T>()
 {}
 
 /// The wake is the first moment at which something is due: a tick before it tells nothing, hands out
-/// nothing and leaves the station as it was. At the wake of the host an act is due, and at the wake of
-/// the relay a packet leaves.
+/// nothing and leaves the station as it was.
+///
+/// Each wake is the first moment, both ways: nothing is due before it and something is due at it. Of a
+/// host it is an act (`host`), of a link a packet that leaves (`link`), of a relay a packet that leaves
+/// some link (`relay`; `relay_link` says which, and `relay_links` that none leaves any before), of a
+/// station an act or a packet (`station`).
 pub fn station_sleeps_until_its_wake<T>()
     ensures tick { (p : Params) (now : ℕ) (station : Station T) → IsBefore now (station_wake p station) → station_event p now Tick station ≡ Done station }
     ensures host { (p : Params) (host : Host) → IsFirst Turn (λ now. next_turn p now host) (host_wake p host) }
     ensures link { (out : Out T) → IsFirst (Left T) (λ now. (leave now out).0) (out_wake out out.waits) }
-    ensures relay { (outs : List (Out T)) (moment : ℕ) → relay_wake outs ≡ Some moment → (before after : List (Out T)) × (out : Out T) × (left : Left T) × (outs ≡ before ++ out ∷ after) × ((leave moment out).0 ≡ Some left) }
+    ensures relay { (outs : List (Out T)) → IsFirst (Left T) (λ now. leaves_at now outs) (relay_wake outs) }
+    ensures relay_links { (before after : List (Out T)) (out : Out T) (now : ℕ) → IsBefore now (relay_wake (before ++ out ∷ after)) → leave now out ≡ (None, out) }
+    ensures station { (p : Params) (station : Station T) → IsFirst (Due T) (λ now. due_at p now station) (station_wake p station) }
+    ensures relay_link { (outs : List (Out T)) (moment : ℕ) → relay_wake outs ≡ Some moment → (before after : List (Out T)) × (out : Out T) × (left : Left T) × (outs ≡ before ++ out ∷ after) × ((leave moment out).0 ≡ Some left) }
 {}
 
 /// Settling takes no octets: those that a flow's send record has taken end where they ended, or the
