@@ -81,10 +81,12 @@ same_then u v w h k = record {
   takes = k.takes ∙ h.takes;
   used = k.used ∙ h.used;
   take_faults = k.take_faults ∙ h.take_faults;
+  opens = k.opens ∙ h.opens;
+  last_wait = k.last_wait ∙ h.last_wait;
 }
 
 pub same_here : (w : WireSight) → SameTaking w w
-same_here w = record { taken = refl; opening = refl; plan = refl; takes = refl; used = refl; take_faults = refl }
+same_here w = record { taken = refl; opening = refl; plan = refl; takes = refl; used = refl; take_faults = refl; opens = refl; last_wait = refl }
 
 pub plan_then : (a b : List Deed) (p q : Option Plan) (n m : ℕ) → q ≡ p → (n + length (fates a) ≤ last_count → m ≡ n + length (fates a)) → IfSome p (λ p. n + length (fates a) ≤ last_count → FatesFrom p.failing_gives n (fates a)) → IfSome q (λ p. m + length (fates b) ≤ last_count → FatesFrom p.failing_gives m (fates b)) → IfSome p (λ p. n + length (fates (a ++ b)) ≤ last_count → FatesFrom p.failing_gives n (fates (a ++ b)))
 plan_then a b None q n m e f h k = tt

@@ -8,7 +8,7 @@ use Rattle.dt_edges.specs.Clocks.{ClockSight}
 use Rattle.dt_edges.specs.Counts.{HasRisen, is_planned, last_count}
 use Rattle.dt_edges.specs.Sinks.{SinkSight, Takes}
 use Rattle.dt_edges.specs.Telling.{NotesAll}
-use Rattle.dt_edges.specs.Wires.{Datagram, OpenFails, Opening, Plan, TakeFails, TakesOne, WireSight}
+use Rattle.dt_edges.specs.Wires.{Datagram, HasWaited, OpenFails, Opening, Plan, TakeFails, TakesOne, WireSight}
 use Rattle.std.specs.Prelude.{if◌then◌else◌}
 use Rattle.dt_log.specs.Logs.{log_text}
 use Rattle.dt_fold.specs.declared.stops.Stop.{Stop}
@@ -44,6 +44,8 @@ use Rattle.dt_node.proofs.Orderly.{node_in_order, unsent_apart, unsent_in_order}
 use Rattle.dt_node.proofs.Unsent.{log_apart}
 use Rattle.dt_node.proofs.Beginning.{part_then}
 use Rattle.dt_node.proofs.Listing.{came_list, list_came, list_took, no_list, took_list}
+use Rattle.dt_node.specs.Waiting.{pause_of, wait_in}
+use Rattle.dt_node.proofs.Waited.{asking_take, asking_turn, asks_failed, asks_failed_write, asks_memory_early, asks_took, asks_turned, asks_unopened, asks_unopened_write, asks_write_early}
 use Rattle.dt_node.proofs.Tracing.{Unfailed, far_none, far_take, far_turn, written_failed, written_far, written_unopened}
 use Rattle.dt_node.proofs.Served.{Going, Noted, Passed, edges_of, scene_of, some_both, some_map, with_held}
 
@@ -96,6 +98,7 @@ module _ (form : Form) (o : Orders) (b : Edges) where
         ends = ap (λ (r : Run). r.ending) run;
         counted = k.counted;
         few = k.few;
+        asks = asks_turned o Done h.readings h.takes b.wire n.wire watch None h.asks h.asks.many h.asks.opened;
         opening = λ _. k.taken.opening;
         take_faults = k.taken.faults;
         give_faults = k.given.lost;
@@ -131,6 +134,7 @@ module _ (form : Form) (o : Orders) (b : Edges) where
         ends = ap (λ (r : Run). r.ending) run;
         counted = number ∙ h.counted;
         few = h.few;
+        asks = asks_took o ClockStill h.readings ts b.wire n.wire watch t node h.asks h.asks.many h.asks.opened;
         opening = λ _. h.taken.opening;
         take_faults = h.taken.faults;
         give_faults = h.given.lost;
@@ -173,9 +177,9 @@ module _ (form : Form) (o : Orders) (b : Edges) where
   fates_cut None deeds = tt
   fates_cut (Some p) deeds = λ fresh whole few. absurd whole
 
-  pub serve_wire : (gives : ℕ) (watch : Watch) (node : Node) (n : Edges) (v : WireSight) (held : Option (List ℕ)) (faults : ℕ) → Passed form o b gives watch (Some node) n → TakeFails n.wire v → Appends n.held held (noted_text form FailedTake) → faults ≡ n.faults
-      → Serves form o WireFault b (with_held n v held faults)
-  serve_wire gives watch node n v held faults h j put same =
+  pub serve_wire : (gives : ℕ) (watch : Watch) (node : Node) (n : Edges) (v : WireSight) (held : Option (List ℕ)) (faults wait : ℕ) → Passed form o b gives watch (Some node) n → TakeFails n.wire v → HasWaited wait v → wait ≡ wait_in (pause_of o watch node)
+      → Appends n.held held (noted_text form FailedTake) → faults ≡ n.faults → Serves form o WireFault b (with_held n v held faults)
+  serve_wire gives watch node n v held faults wait h j waited is put same =
       let k = h.kept in
       let run = run_unfinished o h.readings h.takes (map act_of h.deeds) watch node h.came in
       let less : length h.takes ≤ length h.readings = omega (arith, k.counted) in
@@ -197,6 +201,7 @@ module _ (form : Form) (o : Orders) (b : Edges) where
         ends = ap (λ (r : Run). r.ending) run;
         counted = inr k.counted;
         few = k.few;
+        asks = asks_failed o h.readings h.takes some watch node wait b.wire n.wire v j waited is h.asks;
         opening = λ _. subst (λ (x : Option (Option Opening)). IfSome x (λ now. now ≡ Some (opening_of o))) (sym j.same.opening) k.taken.opening;
         take_faults = subst (λ (m : ℕ). HasRisen m v.take_faults) k.taken.faults j.faults;
         give_faults = given.lost;
@@ -211,9 +216,9 @@ module _ (form : Form) (o : Orders) (b : Edges) where
       }
 
   -- the put failed that told it
-  pub serve_wire_write : (gives : ℕ) (watch : Watch) (node : Node) (n : Edges) (v : WireSight) (held : Option (List ℕ)) (faults : ℕ) → form ≡ forms.Trace → Passed form o b gives watch (Some node) n → TakeFails n.wire v → AppendsPart (noted_text form FailedTake) n.held held
-      → HasRisen n.faults faults → Serves form o WriteFault b (with_held n v held faults)
-  serve_wire_write gives watch node n v held faults trace h j put risen =
+  pub serve_wire_write : (gives : ℕ) (watch : Watch) (node : Node) (n : Edges) (v : WireSight) (held : Option (List ℕ)) (faults wait : ℕ) → form ≡ forms.Trace → Passed form o b gives watch (Some node) n → TakeFails n.wire v → HasWaited wait v → wait ≡ wait_in (pause_of o watch node)
+      → AppendsPart (noted_text form FailedTake) n.held held → HasRisen n.faults faults → Serves form o WriteFault b (with_held n v held faults)
+  serve_wire_write gives watch node n v held faults wait trace h j waited is put risen =
       let k = h.kept in
       let run = run_unfinished o h.readings h.takes (map act_of h.deeds) watch node h.came in
       let less : length h.takes ≤ length h.readings = omega (arith, k.counted) in
@@ -235,6 +240,7 @@ module _ (form : Form) (o : Orders) (b : Edges) where
         ends = tt;
         counted = tt;
         few = k.few;
+        asks = asks_failed_write o h.readings h.takes some watch node wait b.wire n.wire v j waited is h.asks;
         opening = λ x. absurd x;
         take_faults = faults_traced form b.wire.take_faults v.take_faults trace (subst (λ (m : ℕ). HasRisen m v.take_faults) k.taken.faults j.faults);
         give_faults = given.lost;
@@ -249,9 +255,9 @@ module _ (form : Form) (o : Orders) (b : Edges) where
       }
 
   -- what a take found wasn't written
-  pub serve_take_write : (gives : ℕ) (watch : Watch) (node : Node) (n : Edges) (t : Option Datagram) (v : WireSight) (held : Option (List ℕ)) (faults : ℕ) → HasFound t → Passed form o b gives watch (Some node) n → TakesOne most_taken t n.wire v → AppendsPart (noted_text form (Found t)) n.held held
-      → HasRisen n.faults faults → Serves form o WriteFault b (with_held n v held faults)
-  serve_take_write gives watch node n t v held faults fits h j put risen =
+  pub serve_take_write : (gives : ℕ) (watch : Watch) (node : Node) (n : Edges) (t : Option Datagram) (v : WireSight) (held : Option (List ℕ)) (faults wait : ℕ) → HasFound t → Passed form o b gives watch (Some node) n → TakesOne most_taken t n.wire v → HasWaited wait v → wait ≡ wait_in (pause_of o watch node)
+      → AppendsPart (noted_text form (Found t)) n.held held → HasRisen n.faults faults → Serves form o WriteFault b (with_held n v held faults)
+  serve_take_write gives watch node n t v held faults wait fits h j waited is put risen =
       let k = h.kept in
       let ts = h.takes ++ t ∷ [] in
       let run = run_taken o h.readings h.takes t (map act_of h.deeds) watch node h.came in
@@ -259,6 +265,7 @@ module _ (form : Form) (o : Orders) (b : Edges) where
       let less : length ts ≤ length h.readings = omega (arith, number, k.counted) in
       let taken = taken_more (opening_of o) h.takes t b.wire n.wire v k.taken j in
       let given = given_on h.deeds b.wire n.wire v k.given j.same in
+      let asked = asking_take o h.readings h.takes watch b.wire n.wire v node t wait j.same waited is h.asks in
       record {
         readings = h.readings;
         takes = ts;
@@ -276,6 +283,7 @@ module _ (form : Form) (o : Orders) (b : Edges) where
         ends = tt;
         counted = tt;
         few = k.few;
+        asks = asks_took o WriteFault h.readings ts b.wire v watch t node asked (inl asked.many) (inl asked.opened);
         opening = λ x. absurd x;
         take_faults = faults_kept form b.wire.take_faults v.take_faults taken.faults;
         give_faults = given.lost;
@@ -306,6 +314,7 @@ module _ (form : Form) (o : Orders) (b : Edges) where
     ends = ap (λ (r : Run). r.ending) (run_nothing o);
     counted = inl (refl, refl);
     few = omega arith;
+    asks = asks_unopened o b.wire v h;
     opening = λ k. absurd (omega arith);
     take_faults = h.faults;
     give_faults = omega (arith, h.same.give_faults);
@@ -337,6 +346,7 @@ module _ (form : Form) (o : Orders) (b : Edges) where
     ends = tt;
     counted = tt;
     few = omega arith;
+    asks = asks_unopened_write o b.wire v h;
     opening = λ k. absurd k;
     take_faults = faults_traced form b.wire.take_faults v.take_faults trace h.faults;
     give_faults = omega (arith, h.same.give_faults);
@@ -393,6 +403,7 @@ module _ (form : Form) (o : Orders) (b : Edges) where
       let j = broken NoMemory reading gives watch came node n t now stops.NoMemory tt h e more acts some in
       let rs = h.earlier ++ reading ∷ [] in
       let less : length h.takes ≤ length rs = omega (arith, k.counted) in
+      let asked = asking_turn o rs h.takes watch b.wire n.wire t.wire came node now (answer_of (turn o now came node)) e refl some.wire.same h.asks in
       record {
         readings = rs;
         takes = h.takes;
@@ -409,6 +420,7 @@ module _ (form : Form) (o : Orders) (b : Edges) where
         ends = tt;
         counted = tt;
         few = k.few;
+        asks = asks_turned o NoMemory rs h.takes b.wire t.wire watch (answer_of (turn o now came node)) asked asked.many (inl asked.opened);
         opening = λ x. absurd x;
         take_faults = j.taken.faults;
         give_faults = j.lost;
@@ -429,6 +441,7 @@ module _ (form : Form) (o : Orders) (b : Edges) where
       let j = broken WriteFault reading gives watch came node n t now stops.WriteFault tt h e more acts some in
       let rs = h.earlier ++ reading ∷ [] in
       let less : length h.takes ≤ length rs = omega (arith, k.counted) in
+      let asked = asking_turn o rs h.takes watch b.wire n.wire t.wire came node now (answer_of (turn o now came node)) e refl some.wire.same h.asks in
       record {
         readings = rs;
         takes = h.takes;
@@ -445,6 +458,7 @@ module _ (form : Form) (o : Orders) (b : Edges) where
         ends = tt;
         counted = tt;
         few = k.few;
+        asks = asks_turned o WriteFault rs h.takes b.wire t.wire watch (answer_of (turn o now came node)) asked (inl asked.many) (inl asked.opened);
         opening = λ x. absurd x;
         take_faults = faults_kept form b.wire.take_faults t.wire.take_faults j.taken.faults;
         give_faults = j.lost;
@@ -476,6 +490,7 @@ module _ (form : Form) (o : Orders) (b : Edges) where
     ends = tt;
     counted = tt;
     few = omega arith;
+    asks = asks_memory_early o b.wire;
     opening = λ k. absurd k;
     take_faults = refl;
     give_faults = omega arith;
@@ -506,6 +521,7 @@ module _ (form : Form) (o : Orders) (b : Edges) where
     ends = tt;
     counted = tt;
     few = omega arith;
+    asks = asks_write_early o b.wire;
     opening = λ k. absurd k;
     take_faults = faults_kept form b.wire.take_faults b.wire.take_faults refl;
     give_faults = omega arith;
@@ -547,6 +563,7 @@ serves_from form o outcome w c s t e h k = record {
   ends = k.ends;
   counted = k.counted;
   few = k.few;
+  asks = k.asks;
   opening = k.opening;
   take_faults = k.take_faults;
   give_faults = k.give_faults;
@@ -655,10 +672,10 @@ module _ (form : Form) (o : Orders) where
   unopened_ends w v c a z WireFault h n = let k = behind_ok form FailedOpen a z n in serve_unopened form o (edges w c a) v z.held z.faults h k.0 k.1
   unopened_ends w v c a z WriteFault h n = let k = behind_err form FailedOpen a z n in serve_unopened_write form o (edges w c a) v z.held z.faults k.0 h k.1 k.2
 
-  pub untaken_ends : (b : Edges) (gives : ℕ) (watch : Watch) (node : Node) (w v : WireSight) (c : ClockSight) (a z : SinkSight) (outcome : NodeOutcome) → Passed form o b gives watch (Some node) (edges w c a) → TakeFails w v → NotesFault FailedTake form outcome a z → Serves form o outcome b (edges v c z)
-  untaken_ends b gives watch node w v c a z Done p h n = absurd n
-  untaken_ends b gives watch node w v c a z Refused p h n = absurd n
-  untaken_ends b gives watch node w v c a z NoMemory p h n = absurd n
-  untaken_ends b gives watch node w v c a z ClockStill p h n = absurd n
-  untaken_ends b gives watch node w v c a z WireFault p h n = let k = behind_ok form FailedTake a z n in serve_wire form o b gives watch node (edges w c a) v z.held z.faults p h k.0 k.1
-  untaken_ends b gives watch node w v c a z WriteFault p h n = let k = behind_err form FailedTake a z n in serve_wire_write form o b gives watch node (edges w c a) v z.held z.faults k.0 p h k.1 k.2
+  pub untaken_ends : (b : Edges) (gives : ℕ) (watch : Watch) (node : Node) (w v : WireSight) (c : ClockSight) (a z : SinkSight) (wait : ℕ) (outcome : NodeOutcome) → Passed form o b gives watch (Some node) (edges w c a) → TakeFails w v → HasWaited wait v → wait ≡ wait_in (pause_of o watch node) → NotesFault FailedTake form outcome a z → Serves form o outcome b (edges v c z)
+  untaken_ends b gives watch node w v c a z wait Done p h waited is n = absurd n
+  untaken_ends b gives watch node w v c a z wait Refused p h waited is n = absurd n
+  untaken_ends b gives watch node w v c a z wait NoMemory p h waited is n = absurd n
+  untaken_ends b gives watch node w v c a z wait ClockStill p h waited is n = absurd n
+  untaken_ends b gives watch node w v c a z wait WireFault p h waited is n = let k = behind_ok form FailedTake a z n in serve_wire form o b gives watch node (edges w c a) v z.held z.faults wait p h waited is k.0 k.1
+  untaken_ends b gives watch node w v c a z wait WriteFault p h waited is n = let k = behind_err form FailedTake a z n in serve_wire_write form o b gives watch node (edges w c a) v z.held z.faults wait k.0 p h waited is k.1 k.2

@@ -20,5 +20,6 @@ mod Unsent
 mod Completed
 mod Beginning
 mod Listing
+mod Waited
 mod Tracing
 mod Again

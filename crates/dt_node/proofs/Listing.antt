@@ -1,12 +1,12 @@
 -- The inputs of a run, turn after turn.
-use Rattle.std.proofs.Common.{◌≡◌, ℕ, Bool, true, false, List, [], ◌∷◌, ◌++◌, length, map, take, drop, Option, Some, None, refl, sym, ap, subst, ◌∙◌, append_assoc}
+use Rattle.std.proofs.Common.{◌≡◌, ℕ, true, false, List, [], ◌∷◌, ◌++◌, length, map, take, drop, Option, Some, None, refl, sym, ap, ◌∙◌, append_assoc}
 use Rattle.std.proofs.lemmas.List.{append-nil, length-map}
 use Rattle.std.proofs.Math.Seq.{drop-append_seam, take-append_seam}
 use Rattle.dt_edges.specs.Wires.{Datagram}
 use Rattle.dt_trace.specs.Inputs.{Input, Reading, Taken, FailedTake, FailedOpen}
 use Rattle.dt_node.specs.declared.watch.Watch.{Watch}
 use Rattle.dt_node.specs.Orders.{Orders, Node, first_node}
-use Rattle.dt_node.specs.Acts.{Act, Deed, act_of, acts_of, answer_of, fates}
+use Rattle.dt_node.specs.Acts.{Deed, act_of, acts_of, answer_of, fates}
 use Rattle.dt_node.specs.Deeds.{counted}
 use Rattle.dt_node.specs.Turns.{turn}
 use Rattle.dt_node.specs.Runs.{first_watch, moment, next_watch}

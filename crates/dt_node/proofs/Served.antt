@@ -5,7 +5,7 @@ use Rattle.std.proofs.lemmas.List.{map-append}
 use Rattle.std.specs.Io.KnownBytes.{Appends}
 use Rattle.std.proofs.KnownBytes.{Appends-nil, Appends-trans}
 use Rattle.dt_edges.specs.Clocks.{ClockSight, ReadsOne}
-use Rattle.dt_edges.specs.Wires.{Datagram, OpensOne, TakesOne, WireSight}
+use Rattle.dt_edges.specs.Wires.{Datagram, HasWaited, OpensOne, TakesOne, WireSight}
 use Rattle.dt_trace.specs.Inputs.{Input, Reading, Taken as Found}
 use Rattle.dt_trace.specs.Lines.{most_number}
 use Rattle.dt_trace.specs.Standing.{HasFound}
@@ -21,6 +21,8 @@ use Rattle.dt_node.specs.Serving.{Edges, most_taken}
 use Rattle.dt_node.proofs.Doing.{counted_more, fates_more}
 use Rattle.dt_node.specs.TakingIn.{failed_gives}
 use Rattle.dt_node.proofs.Listing.{ListCame, ListComes, ListTook, list_came, list_first, list_next, list_took}
+use Rattle.dt_node.specs.Waiting.{pause_of, wait_in}
+use Rattle.dt_node.proofs.Waited.{Asking, PausesCame, PausesCome, PausesTook, asking_first, asking_next, asking_take, asking_turn}
 use Rattle.dt_node.proofs.Tracing.{SoFar, far_none, far_take, far_turn}
 use Rattle.dt_node.proofs.RunsOn.{Comes, Came, comes_first, came_of, comes_next}
 use Rattle.dt_node.proofs.Keeping.{Read, read_none, read_more, Taken, taken_none, taken_more, taken_on, Given, given_none, given_on, given_then}
@@ -69,6 +71,7 @@ pub record Going (form : Form) (o : Orders) (b : Edges) (reading gives : ℕ) (w
   pub list : ListComes o earlier reading takes deeds inputs watch came node
   pub kept : Kept o b (earlier ++ reading ∷ []) takes deeds gives text n
   pub comes : Comes o (earlier ++ reading ∷ []) takes (map act_of deeds) watch came node
+  pub asks : Asking (PausesCome o (earlier ++ reading ∷ []) takes watch came node) (length takes) b.wire n.wire
   pub paced : length (earlier ++ reading ∷ []) ≤ most_equal * moment watch + watch.equal
 
 -- a turn was made
@@ -82,6 +85,7 @@ pub record Passed (form : Form) (o : Orders) (b : Edges) (gives : ℕ) (watch : 
   pub list : ListCame o readings takes deeds inputs watch answer
   pub kept : Kept o b readings takes deeds gives text n
   pub came : Came o readings takes (map act_of deeds) watch answer
+  pub asks : Asking (PausesCame o readings takes watch answer) (length takes) b.wire n.wire
   pub paced : length readings ≤ most_equal * moment watch + watch.equal
 
 module _ (form : Form) (o : Orders) (b : Edges) where
@@ -108,6 +112,7 @@ module _ (form : Form) (o : Orders) (b : Edges) where
       small = small;
     };
     comes = comes_first o r;
+    asks = asking_first o r (opening_of o) b.wire v h;
     paced = omega arith;
   }
 
@@ -139,6 +144,7 @@ module _ (form : Form) (o : Orders) (b : Edges) where
     kept = kept_turn (h.earlier ++ reading ∷ []) h.takes h.deeds more gives h.text (noted_text form (Reading reading)) n t h.kept wrote;
     came = subst (λ (xs : List Act). Came o (h.earlier ++ reading ∷ []) h.takes xs watch answer) (sym (map-append act_of h.deeds more))
         (came_of o (h.earlier ++ reading ∷ []) h.takes (map act_of h.deeds) (map act_of more) watch came node now answer e acts answers h.comes);
+    asks = asking_turn o (h.earlier ++ reading ∷ []) h.takes watch b.wire n.wire t.wire came node now answer e answers wrote.wire.same h.asks;
     paced = h.paced;
   }
 
@@ -161,11 +167,12 @@ module _ (form : Form) (o : Orders) (b : Edges) where
     pub few : length readings ≤ most_equal * o.stop + 1
     pub small : o.stop < 2 ^ 32
     pub came : Came o readings takes (map act_of deeds) watch (Some node)
+    pub asks : Asking (PausesTook o readings (takes ++ t ∷ []) watch t node) (length (takes ++ t ∷ [])) b.wire n.wire
     pub paced : length readings ≤ most_equal * moment watch + watch.equal
 
-  pub noted_take : (gives : ℕ) (watch : Watch) (node : Node) (n : Edges) (t : Option Datagram) (v : WireSight) (held : Option (List ℕ)) (faults : ℕ) → HasFound t → Appends n.held held (noted_text form (Found t)) → faults ≡ n.faults
-      → Passed form o b gives watch (Some node) n → TakesOne most_taken t n.wire v → Noted gives watch node t (with_held n v held faults)
-  noted_take gives watch node n t v held faults fits put same h k = record {
+  pub noted_take : (gives : ℕ) (watch : Watch) (node : Node) (n : Edges) (t : Option Datagram) (v : WireSight) (held : Option (List ℕ)) (faults wait : ℕ) → HasFound t → Appends n.held held (noted_text form (Found t)) → faults ≡ n.faults
+      → Passed form o b gives watch (Some node) n → TakesOne most_taken t n.wire v → HasWaited wait v → wait ≡ wait_in (pause_of o watch node) → Noted gives watch node t (with_held n v held faults)
+  noted_take gives watch node n t v held faults wait fits put same h k waited is = record {
     readings = h.readings;
     takes = h.takes;
     deeds = h.deeds;
@@ -183,6 +190,7 @@ module _ (form : Form) (o : Orders) (b : Edges) where
     few = h.kept.few;
     small = h.kept.small;
     came = h.came;
+    asks = asking_take o h.readings h.takes watch b.wire n.wire v node t wait k.same waited is h.asks;
     paced = h.paced;
   }
 
@@ -214,5 +222,6 @@ module _ (form : Form) (o : Orders) (b : Edges) where
           small = h.small;
         };
         comes = comes_next o h.readings h.takes r t (map act_of h.deeds) watch node e h.came;
+        asks = asking_next o h.readings r (h.takes ++ t ∷ []) t watch node (length (h.takes ++ t ∷ [])) b.wire n.wire h.asks;
         paced = subst (λ (m : ℕ). m ≤ most_equal * moment (next_watch r watch) + (next_watch r watch).equal) (sym more) (pace (length h.readings) h.paced);
       }

@@ -10,6 +10,7 @@ pub mod InOrder
 pub mod Logging
 pub mod Deeds
 pub mod TakingIn
+pub mod Waiting
 pub mod Codes
 pub mod Serving
 pub mod Answering

@@ -19,6 +19,7 @@ use Rattle.dt_node.specs.declared.forms.Form.{Form}
 use Rattle.dt_node.specs.declared.forms.Form.TheVariants as forms
 use Rattle.dt_node.specs.Deeds.{Sublist, lost, lost_numbers, FatesFrom}
 use Rattle.dt_node.specs.TakingIn.{run_inputs}
+use Rattle.dt_node.specs.Waiting.{Asks}
 use Rattle.dt_trace.specs.Inputs.{trace_text}
 use Rattle.dt_trace.specs.Standing.{Stand, noted_all}
 use Rattle.dt_trace.specs.Traces.{Recorded, nothing, trace_of}
@@ -213,6 +214,8 @@ pub record Serves (form : Form) (o : Orders) (outcome : NodeOutcome) (before aft
   pub counted : CountsTakes outcome (length readings) (length takes)
   -- a run has so many turns at most
   pub few : length readings ≤ most_equal * o.stop + 1
+  -- the wire is opened once, and each take is to wait to what is due next, and no longer
+  pub asks : Asks o outcome readings takes before.wire after.wire
   pub opening : HasOpened outcome (length readings) → IfSome after.wire.opening (λ now. now ≡ Some (opening_of o))
   pub take_faults : TakeFaults form outcome before.wire.take_faults after.wire.take_faults
   pub give_faults : min (before.wire.give_faults + lost deeds) last_count ≤ after.wire.give_faults

@@ -17,7 +17,9 @@ mod turns;
 mod watch;
 mod worked;
 
-pub use laws::{frames_go_in_again_with_less_life, lines_stand_in_order};
+pub use laws::{
+    frames_go_in_again_with_less_life, lines_stand_in_order, take_waits_to_what_is_due_first,
+};
 pub use outcomes::NodeOutcome;
 pub use serving::{serve, serve_traced};
 pub use worked::{early_data_are_handed_in_again, exchange_is_logged};

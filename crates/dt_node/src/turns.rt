@@ -1,7 +1,7 @@
 //! A turn of a node.
 ghost use Rattle.std.specs.Prelude.{◌≡◌, ◌*◌, ◌<◌, ◌≤◌, All, IfOk, IfSome, OnOk, false, length, true, vec_len};
 ghost use Rattle.dt_edges.specs.Wires.{handed};
-ghost use Rattle.std.specs.Option.{ForSome};
+ghost use Rattle.std.specs.Option.{IsSomeAnd};
 ghost use Rattle.dt_flow_model.specs.Keeping.{most_moment};
 ghost use Rattle.dt_flow_model.specs.SendActs.{IsBefore};
 ghost use Rattle.dt_layout.specs.Reading.{gram_fault};
@@ -191,7 +191,7 @@ fn do_due<W: Wire, K: Sink>(
 
 /// Whether a moment is due by now.
 fn is_due(moment: Option<u64>, now: u64) -> bool
-    ensures due { result ≡ true → ForSome moment (λ m. m ≤ now) }
+    ensures due { result ≡ true → IsSomeAnd moment (λ m. m ≤ now) }
     ensures later { result ≡ false → IsBefore now moment }
 {
     match moment {

@@ -21,6 +21,8 @@ use Rattle.dt_node.specs.Codes.{IsReady, node_seen, orders_seen, turned}
 use Rattle.dt_node.specs.Runs.{moment, most_equal, next_watch}
 use Rattle.dt_node.specs.Deeds.{Scene, TurnEnds, scene}
 use Rattle.dt_node.specs.Serving.{Edges, edges, most_taken}
+use Rattle.dt_node.specs.Waiting.{pause_of, wait_in}
+use Rattle.dt_node.proofs.Waited.{asked_wait}
 use Rattle.dt_node.proofs.Watching.{IsWell, goes_on, first_well}
 use Rattle.dt_node.proofs.Served.{Going, Passed, edges_of, noted_take, scene_of, going_first, passed_by, going_on}
 use Rattle.dt_node.proofs.Endings.{serve_done, serve_still, serve_memory, serve_take_write, serve_write, noted_err, noted_ok, unopened_ends, untaken_ends}
@@ -133,11 +135,13 @@ returns-in-Err-take g c =
     let watch = c.turns.watch in
     let now = c.moment-moment.result in
     let m = edges_of t n.clock in
+    let wait = c.wait_for-wait.result in
+    let is : wait ≡ wait_in (pause_of o watch after) = asked_wait c.args.orders.now c.turn_at.new.node watch now wait c.in-Ok-false.ensures.ready.rules c.moment-moment.ensures c.wait_for-wait.ensures in
     let ends = subst (λ (f : Form). Ends f o c.in-Ok-false.field-0 now c.turns.reading came node after gives n t) c.turns.invariant.form c.in-Ok-false.ensures.ends in
     let passed = passed_by form o b c.turns.reading gives watch came node n t now (turned (Ok c.in-Ok-false.field-0) after) c.in-Ok-false.field-0 c.moment-moment.ensures c.turns.invariant.going ends in
     let noted = subst (λ (f : Form). NotesFault FailedTake f c.fail-in-Err-take.result (g.K.Sink.sight c.turn_at.new.out) (g.K.Sink.sight c.fail-in-Err-take.new.out)) (c.in-Ok-false.ensures.same_form ∙ c.turns.invariant.form) c.fail-in-Err-take.ensures in
-    untaken_ends form o b t.gives watch after t.wire (sight c.take.new.self) n.clock (g.K.Sink.sight c.turn_at.new.out) (g.K.Sink.sight c.fail-in-Err-take.new.out) c.fail-in-Err-take.result
-    (subst (λ (x : Bool). Passed form o b t.gives watch (turned (Ok x) after) m) c.in-Ok-false.field-0-test passed) c.in-Err-take.ensures.failed noted
+    untaken_ends form o b t.gives watch after t.wire (sight c.take.new.self) n.clock (g.K.Sink.sight c.turn_at.new.out) (g.K.Sink.sight c.fail-in-Err-take.new.out) wait c.fail-in-Err-take.result
+    (subst (λ (x : Bool). Passed form o b t.gives watch (turned (Ok x) after) m) c.in-Ok-false.field-0-test passed) c.in-Err-take.ensures.failed c.take.ensures.waited is noted
 
 pub returns-in-Err-note : goal.returns-in-Err-note
 returns-in-Err-note g c =
@@ -154,6 +158,8 @@ returns-in-Err-note g c =
     let watch = c.turns.watch in
     let now = c.moment-moment.result in
     let m = edges_of t n.clock in
+    let wait = c.wait_for-wait.result in
+    let is : wait ≡ wait_in (pause_of o watch after) = asked_wait c.args.orders.now c.turn_at.new.node watch now wait c.in-Ok-false.ensures.ready.rules c.moment-moment.ensures c.wait_for-wait.ensures in
     let ends = subst (λ (f : Form). Ends f o c.in-Ok-false.field-0 now c.turns.reading came node after gives n t) c.turns.invariant.form c.in-Ok-false.ensures.ends in
     let passed = passed_by form o b c.turns.reading gives watch came node n t now (turned (Ok c.in-Ok-false.field-0) after) c.in-Ok-false.field-0 c.moment-moment.ensures c.turns.invariant.going ends in
     let passed' = subst (λ (x : Bool). Passed form o b t.gives watch (turned (Ok x) after) m) c.in-Ok-false.field-0-test passed in
@@ -164,7 +170,7 @@ returns-in-Err-note g c =
     let input = subst (λ (i : Input). NotesBehind {T = Unit {0}} {E = Failed} c.turn_at.new.recorder.writer.form i (Err c.in-Err-note.field-0) (g.K.Sink.sight c.turn_at.new.out) (g.K.Sink.sight c.note.new.out)) c.input_of.ensures.input c.in-Err-note.ensures.notes in
     let noted = subst (λ (f : Form). NotesBehind {T = Unit {0}} {E = Failed} f (Found found) (Err c.in-Err-note.field-0) (g.K.Sink.sight c.turn_at.new.out) (g.K.Sink.sight c.note.new.out)) (c.in-Ok-false.ensures.same_form ∙ c.turns.invariant.form) input in
     let written : Unwritten form found (g.K.Sink.sight c.turn_at.new.out) (g.K.Sink.sight c.note.new.out) = noted_err (Unit {0}) form (Found found) c.in-Err-note.field-0 (g.K.Sink.sight c.turn_at.new.out) (g.K.Sink.sight c.note.new.out) noted in
-    serve_take_write form o b t.gives watch after m found (sight c.take.new.self) (g.K.Sink.sight c.note.new.out).held (g.K.Sink.sight c.note.new.out).faults fits passed' taken written.0 written.1
+    serve_take_write form o b t.gives watch after m found (sight c.take.new.self) (g.K.Sink.sight c.note.new.out).held (g.K.Sink.sight c.note.new.out).faults wait fits passed' taken c.take.ensures.waited is written.0 written.1
 
 pub returns-then-watch-eq-MOST_EQUAL : goal.returns-then-watch-eq-MOST_EQUAL
 returns-then-watch-eq-MOST_EQUAL g c =
@@ -181,6 +187,8 @@ returns-then-watch-eq-MOST_EQUAL g c =
     let watch = c.turns.watch in
     let now = c.moment-moment.result in
     let m = edges_of t n.clock in
+    let wait = c.wait_for-wait.result in
+    let is : wait ≡ wait_in (pause_of o watch after) = asked_wait c.args.orders.now c.turn_at.new.node watch now wait c.in-Ok-false.ensures.ready.rules c.moment-moment.ensures c.wait_for-wait.ensures in
     let ends = subst (λ (f : Form). Ends f o c.in-Ok-false.field-0 now c.turns.reading came node after gives n t) c.turns.invariant.form c.in-Ok-false.ensures.ends in
     let passed = passed_by form o b c.turns.reading gives watch came node n t now (turned (Ok c.in-Ok-false.field-0) after) c.in-Ok-false.field-0 c.moment-moment.ensures c.turns.invariant.going ends in
     let passed' = subst (λ (x : Bool). Passed form o b t.gives watch (turned (Ok x) after) m) c.in-Ok-false.field-0-test passed in
@@ -191,7 +199,7 @@ returns-then-watch-eq-MOST_EQUAL g c =
     let input = subst (λ (i : Input). NotesBehind {T = Unit {0}} {E = Failed} c.turn_at.new.recorder.writer.form i (Ok tt) (g.K.Sink.sight c.turn_at.new.out) (g.K.Sink.sight c.note.new.out)) c.input_of.ensures.input c.in_default-note.ensures.notes in
     let noted = subst (λ (f : Form). NotesBehind {T = Unit {0}} {E = Failed} f (Found found) (Ok tt) (g.K.Sink.sight c.turn_at.new.out) (g.K.Sink.sight c.note.new.out)) (c.in-Ok-false.ensures.same_form ∙ c.turns.invariant.form) input in
     let written : Appended form found (g.K.Sink.sight c.turn_at.new.out) (g.K.Sink.sight c.note.new.out) = noted_ok Failed form (Found found) tt (g.K.Sink.sight c.turn_at.new.out) (g.K.Sink.sight c.note.new.out) noted in
-    let on = noted_take form o b t.gives watch after m found (sight c.take.new.self) (g.K.Sink.sight c.note.new.out).held (g.K.Sink.sight c.note.new.out).faults fits written.0 written.1 passed' taken in
+    let on = noted_take form o b t.gives watch after m found (sight c.take.new.self) (g.K.Sink.sight c.note.new.out).held (g.K.Sink.sight c.note.new.out).faults wait fits written.0 written.1 passed' taken c.take.ensures.waited is in
     let equal : (watch.equal == most_equal) ≡ true = eq-eqb watch.equal most_equal c.if-watch-eq-MOST_EQUAL.true in
     serve_still form o b t.gives watch after (edges (sight c.take.new.self) n.clock (g.K.Sink.sight c.note.new.out)) found equal on
 
@@ -210,6 +218,8 @@ turns-preserved g c =
     let watch = c.turns.watch in
     let now = c.moment-moment.result in
     let m = edges_of t n.clock in
+    let wait = c.wait_for-wait.result in
+    let is : wait ≡ wait_in (pause_of o watch after) = asked_wait c.args.orders.now c.turn_at.new.node watch now wait c.in-Ok-false.ensures.ready.rules c.moment-moment.ensures c.wait_for-wait.ensures in
     let ends = subst (λ (f : Form). Ends f o c.in-Ok-false.field-0 now c.turns.reading came node after gives n t) c.turns.invariant.form c.in-Ok-false.ensures.ends in
     let passed = passed_by form o b c.turns.reading gives watch came node n t now (turned (Ok c.in-Ok-false.field-0) after) c.in-Ok-false.field-0 c.moment-moment.ensures c.turns.invariant.going ends in
     let passed' = subst (λ (x : Bool). Passed form o b t.gives watch (turned (Ok x) after) m) c.in-Ok-false.field-0-test passed in
@@ -220,7 +230,7 @@ turns-preserved g c =
     let input = subst (λ (i : Input). NotesBehind {T = Unit {0}} {E = Failed} c.turn_at.new.recorder.writer.form i (Ok tt) (g.K.Sink.sight c.turn_at.new.out) (g.K.Sink.sight c.note.new.out)) c.input_of.ensures.input c.in_default-note.ensures.notes in
     let noted = subst (λ (f : Form). NotesBehind {T = Unit {0}} {E = Failed} f (Found found) (Ok tt) (g.K.Sink.sight c.turn_at.new.out) (g.K.Sink.sight c.note.new.out)) (c.in-Ok-false.ensures.same_form ∙ c.turns.invariant.form) input in
     let written : Appended form found (g.K.Sink.sight c.turn_at.new.out) (g.K.Sink.sight c.note.new.out) = noted_ok Failed form (Found found) tt (g.K.Sink.sight c.turn_at.new.out) (g.K.Sink.sight c.note.new.out) noted in
-    let on = noted_take form o b t.gives watch after m found (sight c.take.new.self) (g.K.Sink.sight c.note.new.out).held (g.K.Sink.sight c.note.new.out).faults fits written.0 written.1 passed' taken in
+    let on = noted_take form o b t.gives watch after m found (sight c.take.new.self) (g.K.Sink.sight c.note.new.out).held (g.K.Sink.sight c.note.new.out).faults wait fits written.0 written.1 passed' taken c.take.ensures.waited is in
     let well = c.turns.invariant.well in
     let other : (watch.equal == most_equal) ≡ false = not_equal watch.equal most_equal c.if-watch-eq-MOST_EQUAL.false in
     let few : watch.equal < most_equal = omega (arith, well.few, c.if-watch-eq-MOST_EQUAL.false) in
