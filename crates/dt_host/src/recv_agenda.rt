@@ -70,10 +70,12 @@ impl RecvAgenda {
         ensures { self.new ≡ set self.old index (record { moments = moments; wake = wake }) }
     {
         let number = self.order.number(index);
-        self.release.set(number, moments.release);
-        self.ack.set(number, moments.ack);
-        self.wake.set(number, wake);
+        // The tables hold the same numbers, each in the same place.
+        let place = self.release.set(number, index, moments.release);
+        let place = self.ack.set(number, place, moments.ack);
+        self.wake.set(number, place, wake);
     }
+
     /// The receiver with this index goes, and those made after it move up by one place.
     pub fn forget(&mut self, index: usize)
         requires { index < length self.old }

@@ -82,20 +82,22 @@ impl SendAgenda {
         ensures { self.new ≡ set self.old index (record { moments = moments; wake = wake }) }
     {
         let number = self.order.number(index);
-        self.give_up.set(number, moments.give_up);
-        self.release.set(number, moments.release);
-        self.resend.set(number, moments.resend);
-        self.send.set(number, moments.send);
-        self.meet.set(number, moments.meet);
-        self.wake.set(number, wake);
+        // The tables hold the same numbers, each in the same place.
+        let place = self.give_up.set(number, index, moments.give_up);
+        let place = self.release.set(number, place, moments.release);
+        let place = self.resend.set(number, place, moments.resend);
+        let place = self.send.set(number, place, moments.send);
+        let place = self.meet.set(number, place, moments.meet);
+        self.wake.set(number, place, wake);
     }
+
     /// Notes the moment of a resend of the sender with this index anew.
     pub fn note_resend(&mut self, index: usize, moment: Option<u64>)
         requires { index < length self.old }
         ensures { self.new ≡ set self.old index (with_resend (note_at self.old index) moment) }
     {
         let number = self.order.number(index);
-        self.resend.set(number, moment);
+        self.resend.set(number, index, moment);
     }
 
     /// The sender with this index goes, and those made after it move up by one place.

@@ -1,7 +1,7 @@
 -- The entries of a table, as the finite map that its callers see, and as they stand in the tournament.
 use Rattle.std.proofs.Common.{ℕ, zero, suc, ◌≡◌, ◌≢◌, ◌+◌, ◌-◌, ◌<◌, ◌≤◌, ◌⊎◌, inl, inr, Bool, true, false, cond, List, [], ◌∷◌, ◌++◌, length, get_or, set, Option, Some, None, refl, sym, ap, subst, ◌∙◌, arith, length-append, length-take, get_or-set_same, get_or-set_other}
 use Rattle.std.specs.Prelude.{is_some, nat_eq, position, slice_get}
-use Rattle.std.specs.Option.{option_map_or}
+use Rattle.std.specs.Option.{option_eq, option_map_or, unwrap_or}
 use Rattle.indexmap.specs.IndexMap.{set_value_at, swap_remove_entry}
 use Rattle.indexmap.specs.Layout.{length-set_value_at}
 use Rattle.std.specs.Ordering.{nat_cmp}
@@ -238,6 +238,12 @@ module _ (es : List (ℕ × Option ℕ)) (key i : ℕ) (at : position (nat_eq ke
       let same : key ≡ (entry_at es i).0 = eqb-true key (get_or (keys_of es) i 0) place_facts.1 ∙ own_key in
       slice_get-get_or es i (0, None) index_within ∙ ap (λ (k : ℕ). Some (k, (entry_at es i).1)) (sym same)
 
+  -- it has the moment that was read there
+  pub found_there : (k : ℕ) (m : Option ℕ) → slice_get es i ≡ Some (k, m) → slice_get es i ≡ Some (key, m)
+  found_there k m e =
+      let value : (entry_at es i).1 ≡ m = ap (λ (o : Option (ℕ × Option ℕ)). (unwrap_or o (0, None)).1) (sym entry_there ∙ e) in
+      entry_there ∙ ap (λ (n : Option ℕ). Some (key, n)) value
+
 -- what swaps is swapped by the index
 pub swapped : (es : List (ℕ × Option ℕ)) (key i : ℕ) → position (nat_eq key) (keys_of es) ≡ Some i → (d : ℕ × Option ℕ) × (swap_remove_entry (nat_eq key) es ≡ swap_remove es i d)
 swapped [] key i at = absurd cc
@@ -266,3 +272,23 @@ filled es places mid i room entered beyond =
             here = λ inside. absurd (omega arith);
           }
     ]
+
+-- A MOMENT THAT A KEY HAS ALREADY: setting it changes nothing.
+same_moment : (m n : Option ℕ) → option_eq nat_eq m n ≡ true → m ≡ n
+same_moment None None h = refl
+same_moment None (Some b) h = absurd cc
+same_moment (Some a) None h = absurd cc
+same_moment (Some a) (Some b) h = ap (λ (k : ℕ). Some k) (eqb-true a b h)
+
+pub unwritten : (es : List (ℕ × Option ℕ)) → IsDistinct nat_eq (keys_of es) → (key i : ℕ) (m n : Option ℕ) → slice_get es i ≡ Some (key, m) → option_eq nat_eq m n ≡ true → table es ≡ insert (table es) key n
+unwritten es distinct key i m n there same = wrote es key n es by
+  where
+    own_moment : lookup (nat_eq key) es ≡ Some n
+    own_moment = lookup_from_place nat_eq_equiv es i key m distinct there ∙ ap (λ (o : Option ℕ). Some o) (same_moment m n same)
+
+    by : (q : ℕ) → lookup (nat_eq q) es ≡ cond (nat_eq key q) (Some n) (lookup (nat_eq q) es)
+    by q =
+        elim (cases_Bool (nat_eq key q)) [
+          | inl y ↦ ap (λ (k : ℕ). lookup (nat_eq k) es) (sym (eqb-true key q y)) ∙ own_moment ∙ sym (ap (λ (b : Bool). cond b (Some n) (lookup (nat_eq q) es)) y)
+          | inr apart ↦ sym (ap (λ (b : Bool). cond b (Some n) (lookup (nat_eq q) es)) apart)
+        ]

@@ -1,4 +1,5 @@
-ghost use Rattle.std.specs.Prelude.{ℕ, ◌≡◌, ◌<◌, ◌≤◌, false, length, set, true, MatchOption, None, OnErr, OnOk};
+ghost use Rattle.std.specs.Prelude.{ℕ, ◌≡◌, ◌<◌, ◌≤◌, false, is_some, length, nat_eq, set, slice_get, true, MatchOption, None, OnErr, OnOk, Some};
+ghost use Rattle.std.specs.Map.{lookup};
 ghost use Rattle.std.specs.FinMap as map;
 ghost use Rattle.dt_timers.specs.Deadlines.{HasNoMoment, IsFirst, deadline_at, entry_at};
 ghost use Rattle.dt_timers.specs.Tournaments.{node};
@@ -71,19 +72,24 @@ impl Deadlines {
         Ok(())
     }
 
-    /// Sets the moment of a key that is held, or takes it away. It takes no memory.
-    pub fn set(&mut self, key: u64, moment: Option<u64>)
+    /// Sets the moment of a key that is held, or takes it away, and tells the key's place. It takes no
+    /// memory. `near` is a guess of that place, as tables that held and let go the same keys in the same
+    /// order have them in the same places: a right one spares the look-up. The cost doesn't grow where
+    /// the key has that moment already.
+    pub fn set(&mut self, key: u64, near: usize, moment: Option<u64>) -> usize
         requires { map.contains_key self.old key ≡ true }
         ensures { self.new ≡ map.insert self.old key moment }
     {
-        let Some(place) = self.moments.get_index_of(&key) else {
-            unreachable!();
-        };
+        let (place, held) = find(&self.moments, key, near);
+        if held == moment {
+            return place;
+        }
         let Some(held) = self.moments.get_index_mut(place) else {
             unreachable!();
         };
         *held = moment;
         enter(&self.moments, &mut self.tournament, place);
+        place
     }
 
     /// Lets a key go that is held. It takes no memory.
@@ -121,6 +127,22 @@ fn make_room(moments: &Moments, tournament: &mut Tournament) -> Result<(), NoMem
         *tournament = tournament.doubled()?;
     }
     Ok(())
+}
+
+/// The place of a key that is held, and its moment. It is looked for near first, and else by its hash.
+fn find(moments: &Moments, key: u64, near: usize) -> (usize, Option<u64>)
+    requires { is_some (lookup (nat_eq key) moments.now.entries) ≡ true }
+    ensures { slice_get moments.now.entries result.0 ≡ Some (key, result.1) }
+{
+    if let Some((held, moment)) = moments.get_index(near)
+        && *held == key
+    {
+        return (near, *moment);
+    }
+    let Some((place, _, moment)) = moments.get_full(&key) else {
+        unreachable!();
+    };
+    (place, *moment)
 }
 
 /// Puts the deadline of the entry with this index into its place, where there is such an entry.

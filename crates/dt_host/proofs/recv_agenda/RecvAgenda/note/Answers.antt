@@ -10,25 +10,25 @@ pub invariant_of-self : goal.invariant_of-self
 invariant_of-self c =
     let a = c.self.inside in
     let t : RecvTables = record { release = a.release; ack = a.ack; wake = a.wake } in
-    let u : RecvTables = record { release = c.set.new.self; ack = c.set-2.new.self; wake = c.set-3.new.self } in
+    let u : RecvTables = record { release = c.set-place.new.self; ack = c.set-place-2.new.self; wake = c.set.new.self } in
     let numbers = a.order.numbers in
     let i = c.args.index in
     let rows : length (map (recv_note t) numbers) ≡ length numbers = length-map numbers (recv_note t) in
     let size : length (map (recv_note t) numbers) ≡ length c.args.self.now = ap length c.self.view_is in
     let within : i < length numbers = subst (λ (n : ℕ). i < n) (sym size ∙ rows) c.requires in
-    let e : u ≡ tables_set t c.number-number.result c.args.moments c.args.wake = λ j. record { release = c.set.ensures j; ack = c.set-2.ensures j; wake = c.set-3.ensures j } in
+    let e : u ≡ tables_set t c.number-number.result c.args.moments c.args.wake = λ j. record { release = c.set-place.ensures j; ack = c.set-place-2.ensures j; wake = c.set.ensures j } in
     note_covers numbers a.order.made c.number-number.ensures.rising t c.self.invariant i within c.args.moments c.args.wake u c.number-number.result c.number-number.ensures.number e
 
 pub returns : goal.returns
 returns c =
     let a = c.self.inside in
     let t : RecvTables = record { release = a.release; ack = a.ack; wake = a.wake } in
-    let u : RecvTables = record { release = c.set.new.self; ack = c.set-2.new.self; wake = c.set-3.new.self } in
+    let u : RecvTables = record { release = c.set-place.new.self; ack = c.set-place-2.new.self; wake = c.set.new.self } in
     let numbers = a.order.numbers in
     let i = c.args.index in
     let rows : length (map (recv_note t) numbers) ≡ length numbers = length-map numbers (recv_note t) in
     let size : length (map (recv_note t) numbers) ≡ length c.args.self.now = ap length c.self.view_is in
     let within : i < length numbers = subst (λ (n : ℕ). i < n) (sym size ∙ rows) c.requires in
-    let e : u ≡ tables_set t c.number-number.result c.args.moments c.args.wake = λ j. record { release = c.set.ensures j; ack = c.set-2.ensures j; wake = c.set-3.ensures j } in
+    let e : u ≡ tables_set t c.number-number.result c.args.moments c.args.wake = λ j. record { release = c.set-place.ensures j; ack = c.set-place-2.ensures j; wake = c.set.ensures j } in
     note_is numbers a.order.made c.number-number.ensures.rising t c.self.invariant i within c.args.moments c.args.wake u c.number-number.result c.number-number.ensures.number e
     ∙ ap (λ (notes : List RecvNote). set notes i (record { moments = c.args.moments; wake = c.args.wake })) c.self.view_is
