@@ -4,7 +4,7 @@ mod Going
 mod Mute
 mod Heads
 mod Keeping
-mod Following
-mod Waited
+pub mod Following
+pub mod Waited
 mod Answering
 mod Fronts

@@ -1,0 +1,6 @@
+mod Frames
+mod Outcomes
+mod Worlds
+mod Events
+mod Openings
+mod Going

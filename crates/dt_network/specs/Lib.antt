@@ -1,0 +1,4 @@
+pub mod Network
+pub mod Steps
+pub mod Duties
+pub mod Beside
