@@ -169,7 +169,7 @@ def library_cases(root: Path) -> list[Case]:
 
 def full_cases(root: Path, package: str) -> list[Case]:
     there = [it for it in MANUALS if it != "libdeltat" or LIBRARY.exists()]
-    users = ("README.md", "docs/parameters.md", "docs/operating.md", "docs/library.md")
+    users = ("README.md", "docs/parameters.md", "docs/operating.md", "docs/library.md", "docs/tools.md")
     cases = [install(root, package), *pages(root, *users), *(manual(root, it, MANUALS[it]) for it in there)]
     helps = within(root, "for it in /usr/lib/deltat/*; do [ ! -f $it ] || [ ! -x $it ] || $it --help >/dev/null || echo $it; done")
     return [*cases, ("each tool tells its help", (helps.returncode, helps.stdout) == (0, ""), helps.stdout + helps.stderr[-300:]), *library_cases(root)]

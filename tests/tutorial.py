@@ -15,11 +15,13 @@ run where the tree has it. A block is told by the words behind its fence:
 - nothing: what an `sh` before it wrote, or a file of examples/.
 - `python`: a service over the library's binding, which has to be at work still after SERVED seconds. It is run only
   where `make -C lib` has made the library, or the tree has it.
-- `ini`: a file of release/; `conf`: an example of a file that isn't here.
+- `ini`: a file of release/; `conf`: an example of a file that isn't here; `example`: one of what isn't run here.
+- `usage`: the words of tools; `--help` of each has its options.
 
 What is shown has to be what was written, octet for octet. Of what comes from a node, whose moments are the
 machine's, the shape is compared: each moment counts as any other, and lines of packets that may go once more on a
-busy machine are left out (BUSY). Commands that prove, test or install all of it are not run (NOT_RUN).
+busy machine are left out (BUSY). Commands that prove, test or install all of it are not run (NOT_RUN), nor those over
+the library where that isn't made, and those of programs that aren't there (WANTED).
 
 Prints a line for each page; ends with 1 where a block isn't as it is shown. With --write the shown blocks of the
 pages are written anew. Takes two minutes, nearly all of it waiting for nodes.
@@ -39,12 +41,16 @@ from pathlib import Path
 
 from lib import PROGRAM, TOP
 
-PAGES = ["README.md", "docs/tutorial.md", "docs/parameters.md", "docs/operating.md", "docs/building.md", "docs/library.md"]
+PAGES = ["README.md", "docs/tutorial.md", "docs/parameters.md", "docs/operating.md", "docs/building.md", "docs/library.md", "docs/tools.md"]
 # what a page tells people to run and this doesn't: the whole build and its tests, and what changes the machine
 NOT_RUN = ("./build", "rt ci", "tests/all", "bench/all", "sudo ", "release/build.sh", "release/gate.sh", "make -C lib")
 # reports that come more often, or not at all, where a machine is busy
 BUSY = {"put", "resent", "replied", "ignored", "quiet", "unsent"}
 SECONDS = 120
+# commands that are run only where this is there
+WANTED = {"tshark ": "tshark", "tools/sequence.py --svg ": "chromium"}
+# commands that want the library
+OVER_LIBRARY = ("tools/dtcat.py", "tools/dtping.py", "examples/echo.py")
 # how long a service is tried
 SERVED = 2
 # README is for a first look
@@ -118,6 +124,8 @@ class Reader:
         self.terminals: dict[str, subprocess.Popen[str]] = {}
         self.written: dict[str, str] = {}
         self.ended_badly: list[str] = []
+        # terminals whose last commands weren't run
+        self.left_out: set[str] = set()
         # where the unit is
         self.units = self.top / "release"
         self.furnish(program)
@@ -126,9 +134,25 @@ class Reader:
         shutil.copytree(TOP, self.top, ignore=shutil.ignore_patterns("out", ".git", "__pycache__", "target"))
         (self.top / "deltat").write_text(f'#!/bin/sh\nexec "{program}" "$@"\n')
         (self.top / "deltat").chmod(0o755)
+        # where tools look for it
+        out = self.top / "crates" / "deltat" / "out"
+        out.mkdir()
+        (out / "deltat").symlink_to(program)
 
     def page(self, name: str) -> str:
         return (TOP / name).read_text()
+
+    @property
+    def has_library(self) -> bool:
+        return (self.top / "lib" / "libdeltat.so.0").exists()
+
+    def has_program(self, name: str) -> bool:
+        return bool(shutil.which(name))
+
+    def has_all_for(self, block: Block) -> bool:
+        """Whether all is there that a block wants."""
+        lacks = any(it in block.text for it in OVER_LIBRARY) and not self.has_library
+        return not lacks and all(self.has_program(name) for begun, name in WANTED.items() if begun in block.text)
 
     def start(self, text: str) -> "subprocess.Popen[str]":
         return subprocess.Popen(["bash", "-euc", "set -o pipefail\n" + text], cwd=self.top, stdin=subprocess.DEVNULL, stdout=subprocess.PIPE,
@@ -136,7 +160,7 @@ class Reader:
 
     def service(self, text: str) -> "subprocess.Popen[str] | None":
         """Starts a service in Python, where there is what it needs."""
-        if not (self.top / "lib" / "libdeltat.so.0").exists():
+        if not self.has_library:
             return None
         path = {**os.environ, "PYTHONPATH": str(self.top / "bindings" / "python")}
         return subprocess.Popen([sys.executable, "-c", text], env=path, stderr=subprocess.PIPE, text=True)
@@ -159,9 +183,12 @@ class Reader:
 
     def do(self, block: Block) -> str:
         """Runs a block, and returns what is wrong with it, or nothing."""
-        if is_left_out(block.text):
+        if is_left_out(block.text) or not self.has_all_for(block):
+            if block.terminal:
+                self.left_out.add(block.terminal)
             return ""
         if block.terminal:
+            self.left_out.discard(block.terminal)
             self.wait(block.terminal)
             self.terminals[block.terminal] = self.start(block.text)
             return ""
@@ -197,6 +224,13 @@ class Reader:
     def is_a_file(self, block: Block, folder: Path) -> bool:
         return any(it.read_text(errors="replace") == block.text for it in folder.rglob("*") if it.is_file())
 
+    def misses(self, block: Block) -> str:
+        """The options of a usage that the tool's help hasn't got."""
+        words = [it for line in block.text.splitlines() for it in re.findall(r"[\w./-]+", line.partition("|")[0])]
+        helps = self.finish(self.start(f"{words[0]} --help"))
+        lost = [it for it in words if it.startswith("--") and it not in helps]
+        return f"{words[0]} --help has no {' '.join(lost)}" if lost or BADLY.search(helps) else ""
+
     def close(self) -> list[str]:
         """Waits for both terminals; which of their commands ended badly."""
         for terminal in list(self.terminals):
@@ -219,11 +253,18 @@ class Installed(Reader):
     def page(self, name: str) -> str:
         return (self.top / name).read_text()
 
+    @property
+    def has_library(self) -> bool:
+        return self.has_program("python3") and bool(list(self.root.glob("usr/lib/*/libdeltat.so.0")))
+
+    def has_program(self, name: str) -> bool:
+        return (self.root / "usr/bin" / name).exists()
+
     def start(self, text: str) -> "subprocess.Popen[str]":
         return super().start(f"exec chroot {shlex.quote(str(self.root))} bash -euc {shlex.quote(f'set -o pipefail; cd /root/copy{chr(10)}{text}')}")
 
     def service(self, text: str) -> "subprocess.Popen[str] | None":
-        if not (self.root / "usr/bin/python3").exists() or not list(self.root.glob("usr/lib/*/libdeltat.so.0")):
+        if not self.has_library:
             return None
         return subprocess.Popen(["chroot", str(self.root), "python3", "-c", text], stderr=subprocess.PIPE, text=True)
 
@@ -234,13 +275,15 @@ def why_not(reader: Reader, block: Block) -> str:
         return reader.do(block)
     if block.words == ["python"]:
         return reader.serve(block)
-    if block.words == ["conf"]:
+    if block.words in (["conf"], ["example"]):
         return ""
+    if block.words == ["usage"]:
+        return reader.misses(block)
     if block.words == ["ini"]:
         return "" if reader.is_a_file(block, reader.units) else "no file has this text"
     if block.words and not block.terminal:
         return f"nothing is known of blocks of {' '.join(block.words)}"
-    if reader.is_as_shown(block) or not block.terminal and reader.is_a_file(block, reader.top / "examples"):
+    if block.terminal and block.terminal in reader.left_out or reader.is_as_shown(block) or not block.terminal and reader.is_a_file(block, reader.top / "examples"):
         return ""
     return f"it was:\n{reader.shown(block)}"
 
