@@ -42,9 +42,20 @@ def commit(top: Path = TOP) -> str:
     return run("git", "-c", "safe.directory=*", "rev-parse", "HEAD", cwd=top).stdout.strip()
 
 
-def log(path: Path, of: str = "", last: str = "1234 passed, 0 failed") -> str:
+# a toolchain whose gate passes, in a clone of the commit
+PRETENDED = """#!/bin/sh
+[ "$1" = version ] && echo 'a kit' && exit
+[ -f crates.txt ] && [ -d .git ] && printf 'much\ncommit 0000\n1234 passed, 0 failed\n'
+"""
+
+
+def log_text(of: str, last: str) -> str:
     """A gate's log, as release/gate.sh writes one."""
-    path.write_text(f"commit {of}\ntoolchain a kit\n\nmuch\ncommit 0000\n{last}\n" if of else f"much\n{last}\n")
+    return f"commit {of}\ntoolchain a kit\n\nmuch\ncommit 0000\n{last}\n"
+
+
+def log(path: Path, of: str = "", last: str = "1234 passed, 0 failed") -> str:
+    path.write_text(log_text(of, last) if of else f"much\n{last}\n")
     return str(path)
 
 
@@ -58,14 +69,19 @@ def gates(room: Path) -> list[Case]:
     here = commit(top)
     refused = [("a gate that failed", log(room / "bad", here, "1234 passed, 1 failed")), ("a gate's log that isn't there", "/nowhere"),
                ("a gate of another commit", log(room / "other", here[::-1])), ("a gate of no commit", log(room / "no"))]
-    good = log(room / "good", here)
-    cases = [(name, (ran := build(none, "--gate", path, top=top)).returncode == 1 and not none.exists(), ran.stderr.strip()) for name, path in refused]
-    ran = build(room / "gated", "--gate", good, top=top)
+    good = room / "good"
+    (room / "rt").write_text(PRETENDED)
+    (room / "rt").chmod(0o755)
+    ran = run(str(top / "release" / "gate.sh"), PATH=f"{room}:/usr/bin:/bin")
+    good.write_text(ran.stdout)
+    cases = [("the gate's log", (ran.returncode, ran.stdout) == (0, log_text(here, "1234 passed, 0 failed")), ran.stderr)]
+    cases += [(name, (ran := build(none, "--gate", path, top=top)).returncode == 1 and not none.exists(), ran.stderr.strip()) for name, path in refused]
+    ran = build(room / "gated", "--gate", str(good), top=top)
     run("dpkg-deb", "-x", ran.stdout.strip(), str(room / "gated" / "root"))
     said = (room / "gated" / "root/usr/share/doc/deltat/PROVED").read_text()
     cases.append(("what was proved", all(it in said for it in ("    1234 passed, 0 failed\n", here, "a kit", sums(program()))), ""))
     (top / "crates.txt").write_text("# another\n")
-    ran = build(none, "--gate", good, top=top)
+    ran = build(none, "--gate", str(good), top=top)
     return [*cases, ("a gate of crates that were changed since", ran.returncode == 1 and not none.exists(), ran.stderr.strip())]
 
 
