@@ -145,12 +145,14 @@ proved >"$doc/PROVED"
 install -m 644 "$top/release/copyright" "$doc/copyright"
 changelog | gzip -n9 >"$doc/changelog.gz"
 
-# the least C library that has all that the program names
-library=$(grep -ao 'GLIBC_[0-9][0-9.]*' "$program" | sort -Vu | tail -n 1)
+# the least C library that has all that the program and the library name
+set -- "$program"
+[ ! -f "$libraries/libdeltat.so.0" ] || set -- "$@" "$libraries/libdeltat.so.0"
+least=$(cat "$@" | grep -ao 'GLIBC_[0-9][0-9.]*' | sort -Vu | tail -n 1)
 {
     printf 'Package: deltat\nVersion: %s\nArchitecture: %s\nMaintainer: %s\n' "$version" "$architecture" "$maintainer"
     printf 'Section: net\nPriority: optional\nInstalled-Size: %s\n' "$(du -sk --apparent-size "$root" | cut -f 1)"
-    printf 'Depends: libc6%s\n' "${library:+ (>= ${library#GLIBC_})}"
+    printf 'Depends: libc6%s\n' "${least:+ (>= ${least#GLIBC_})}"
     printf 'Recommends: python3 (>= 3.11)\nSuggests: tshark\n'
     printf 'Description: transport protocol without handshakes, proved to deliver at most once\n'
     printf ' Delta-t carries octets between ports of nodes without opening or closing\n anything: timers alone keep and release connection records.\n'

@@ -3,9 +3,11 @@
 
 PAGE is docs/formats.md, for deltat-formats(5), or docs/library.md, for libdeltat(3). It reads what these are made of:
 headings, paragraphs, lists, tables, blocks, `words`, *stressed* words and links. A row of a table becomes an entry: the
-first cell, and below it the others, each behind its heading. Ends with 1 at a line that it doesn't know."""
+first cell, and below it the others, each behind its heading. Ends with 1 at a line that it doesn't know. libdeltat(3)
+has the functions of include/deltat.h, which stands beside docs/."""
 import re
 import sys
+import textwrap
 from collections.abc import Iterator
 from pathlib import Path
 from typing import NamedTuple
@@ -18,13 +20,15 @@ class Manual(NamedTuple):
     section: int
     about: str
     volume: str
-    synopsis: tuple[str, ...] = ()
+    # the header whose functions it has, and how a program is compiled
+    header: str = ""
+    compiled: str = ""
 
 
 MANUALS = {
     "formats": Manual("deltat-formats", 5, "octets, lines, texts and statuses of deltat", "File Formats"),
     "library": Manual("libdeltat", 3, "a Delta-t node without a socket, a clock or a thread", "Library Functions",
-                      (".B #include <deltat.h>", ".PP", ".B cc program.c $(pkg\\-config \\-\\-cflags \\-\\-libs deltat)")),
+                      "include/deltat.h", "cc program.c $(pkg-config --cflags --libs deltat)"),
 }
 # the most octets of a line of running text
 WIDTH = 79
@@ -124,13 +128,25 @@ def tidy(requests: list[str]) -> Iterator[str]:
         yield it
 
 
-def page(it: Manual, text: str, version: str, date: str) -> str:
+def synopsis(it: Manual, top: Path) -> Iterator[str]:
+    """How a program names the header, each function, and how the program is compiled."""
+    text = re.sub(r"/\*.*?\*/", "", (top / it.header).read_text(), flags=re.DOTALL)
+    yield from [".SH SYNOPSIS", f".B #include <{Path(it.header).name}>", ".PP", ".nf"]
+    for function in re.findall(r"^((?:struct )?\w+[ *]+dt_\w+\([^;{]*\);)", text, re.MULTILINE):
+        # (arguments stay whole)
+        words = re.sub(r"(?<!,) ", "\N{NO-BREAK SPACE}", " ".join(function.split()))
+        lines = textwrap.wrap(words, WIDTH - 10, subsequent_indent=" " * 4, break_on_hyphens=False)
+        yield from (f"\\fB{it}\\fR" for it in (line.replace("\N{NO-BREAK SPACE}", " ") for line in lines))
+    yield from [".fi", ".PP", f".B {escaped(it.compiled)}"]
+
+
+def page(it: Manual, text: str, version: str, date: str, top: Path) -> str:
     lines = text.splitlines()
     if not lines[0].startswith("# "):
         raise ValueError("the page has no heading")
     title = f".TH {escaped(it.name.upper())} {it.section} {date} \"deltat {version}\" \"{it.volume}\""
     head = [title, ".SH NAME", f"{escaped(it.name)} \\- {escaped(it.about)}"]
-    head += [".SH SYNOPSIS", *it.synopsis] if it.synopsis else []
+    head += synopsis(it, top) if it.header else []
     head.append(".SH DESCRIPTION")
     ends = [".SH SEE ALSO", ".BR deltat (1)"]
     return "\n".join(tidy([*head, *blocks(lines[1:]), *ends])) + "\n"
@@ -144,7 +160,7 @@ def main(words: list[str]) -> int:
         path = Path(words[0])
         if path.stem not in MANUALS:
             raise ValueError(f"of {path.name} no man page is made")
-        sys.stdout.write(page(MANUALS[path.stem], path.read_text(), *words[1:]))
+        sys.stdout.write(page(MANUALS[path.stem], path.read_text(), *words[1:], path.resolve().parent.parent))
     except (OSError, ValueError) as why:
         print(f"manpage.py: {why}", file=sys.stderr)
         return 1
