@@ -173,7 +173,7 @@ def manuals(root: Path) -> list[Case]:
     lost = [it for it in sorted(words) if it not in text]
     if LIBRARY.exists():
         page = gzip.decompress((root / "usr/share/man/man3/libdeltat.3.gz").read_bytes()).decode()
-        exports = {it.split()[-1] for it in run("nm", "-D", "--defined-only", str(LIBRARY)).stdout.splitlines() if it.split()[1] == "T"}
+        exports = {it.split()[-1].partition("@")[0] for it in run("nm", "-D", "--defined-only", str(LIBRARY)).stdout.splitlines() if it.split()[1] == "T"}
         cases.append(("libdeltat(3) has each function of the library", len(exports) > 10 and all(f" {it}(" in page or f"*{it}(" in page for it in exports), f"{len(exports)} functions"))
     return [*cases, ("deltat-formats(5) has each word of the tables of docs/formats.md", len(words) > 80 and not lost, " ".join(lost))]
 
