@@ -115,6 +115,8 @@ def keep(root: Path, archive: Path) -> None:
 def unpack(archive: Path, root: Path) -> None:
     root.mkdir(exist_ok=True)
     subprocess.run(["tar", "-C", str(root), "-xzf", str(archive)], check=True)
+    # as Debian's installer writes it, and debootstrap doesn't
+    (root / "etc/hosts").write_text("127.0.0.1 localhost\n::1 localhost\n")
 
 
 def within(root: Path, text: str) -> "subprocess.CompletedProcess[str]":

@@ -292,7 +292,8 @@ def read(name: str, reader: Reader, writes: bool) -> list[str]:
     """Follows a page, and returns what isn't as it says. Where it writes, the page gets what was written."""
     text = reader.page(name)
     lines, wrong = text.splitlines(keepends=True), []
-    if len(text.split()) > MOST_WORDS.get(name, len(text)):
+    # (a package's page says of some links where they lead)
+    if not isinstance(reader, Installed) and len(text.split()) > MOST_WORDS.get(name, len(text)):
         wrong.append(f"{name}: {len(text.split())} words, and {MOST_WORDS[name]} are the most")
     anew: list[tuple[Block, str]] = []
     for block in blocks(text):
