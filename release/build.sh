@@ -64,7 +64,8 @@ check_gate() {
 
 # what the package says of its proof
 proved() {
-    printf 'deltat %s, of the commit\n%s\n\nThe SHA-256 sum of its program:\n%s\n\n' "$version" "$commit" "$(sha256sum "$program" | cut -d ' ' -f 1)"
+    changed=$(git -C "$top" status --porcelain 2>/dev/null | head -n 1)
+    printf 'deltat %s, of the commit\n%s%s\n\nThe SHA-256 sum of its program:\n%s\n\n' "$version" "$commit" "${changed:+, with changes}" "$(sha256sum "$program" | cut -d ' ' -f 1)"
     if [ -z "$gate" ]; then
         printf 'The gate was not run for this package: nothing is claimed of its program.\n'
         return
@@ -114,6 +115,7 @@ install -m 644 "$top/release/deltat.bash" "$root/usr/share/bash-completion/compl
 install -m 644 "$top/release/_deltat" "$root/usr/share/zsh/vendor-completions/_deltat"
 install -m 644 "$top/release/overrides" "$root/usr/share/lintian/overrides/deltat"
 
+sed -e "s/@VERSION@/$version/" -e "s/@DATE@/$date/" "$top/release/deltat.1" >"$room/deltat.1"
 if [ -f "$libraries/libdeltat.so.0" ]; then
     mkdir -p "$root/usr/include" "$root/usr/lib/$triplet/pkgconfig" "$root/usr/lib/python3/dist-packages" "$root/usr/share/man/man3" "$doc/include"
     make -s -C "$top/lib" deltat.pc PREFIX=/usr LIBDIR="/usr/lib/$triplet" PC="$room/deltat.pc"
@@ -125,12 +127,13 @@ if [ -f "$libraries/libdeltat.so.0" ]; then
     install -m 644 "$top/bindings/python/deltat.py" "$root/usr/lib/python3/dist-packages/deltat.py"
     python3 "$top/release/manpage.py" "$top/docs/library.md" "$version" "$date" >"$room/library.3"
     gzip -n9 <"$room/library.3" >"$root/usr/share/man/man3/libdeltat.3.gz"
+    sed -i -e '$s/(5)$/(5),/' -e '$a.BR libdeltat (3)' "$room/deltat.1"
     cat "$top/release/overrides.library" >>"$root/usr/share/lintian/overrides/deltat"
     printf 'libdeltat 0 deltat (>= %s)\n' "$version" >"$root/DEBIAN/shlibs"
     printf 'activate-noawait ldconfig\n' >"$root/DEBIAN/triggers"
 fi
 
-sed -e "s/@VERSION@/$version/" -e "s/@DATE@/$date/" "$top/release/deltat.1" | gzip -n9 >"$root/usr/share/man/man1/deltat.1.gz"
+gzip -n9 <"$room/deltat.1" >"$root/usr/share/man/man1/deltat.1.gz"
 python3 "$top/release/manpage.py" "$top/docs/formats.md" "$version" "$date" >"$room/formats.5"
 gzip -n9 <"$room/formats.5" >"$root/usr/share/man/man5/deltat-formats.5.gz"
 

@@ -15,7 +15,7 @@ its variant minbase has, and one that has python3, man, pkg-config and a C compi
 Neither has a network but for its own loopback. Skipped where there is no root, no debootstrap, or no tree after
 MAKING seconds, as without a network.
 
-In tests/all: PROGRAM, 1500 s."""
+In tests/all: PROGRAM, 2400 s."""
 import argparse
 import os
 import re
@@ -31,7 +31,7 @@ from package import ASKS, LIBRARY, Case, example
 SUITE = "bookworm"
 MIRROR = "http://deb.debian.org/debian"
 # how long the making of a tree may take, and what else is done in one
-MAKING, DOING = 500, 300
+MAKING, DOING = 800, 300
 ADDED = "python3 man-db pkg-config gcc libc6-dev"
 INSIDE = "DELTAT_TEST_INSIDE"
 # with mounts and a network of its own
