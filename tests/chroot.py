@@ -4,19 +4,22 @@
 Usage: tests/chroot.py [PROGRAM] [--cache FOLDER]
 
 debootstrap makes two trees of Debian 12, which FOLDER (out/chroot) keeps as archives for the next time: one with what
-its variant minbase has, and one that has python3, man, pkg-config and a C compiler too. Each is unpacked anew.
+its variant minbase has, and one that has python3, man, pkg-config, a C compiler and systemd too. Each is unpacked anew.
 
 - In the first, which has no toolchain, no compiler and no Python, the package is installed, every block of README and
   of the tutorial is run in a copy of its pages, a clone's `./deltat` takes the installed program, and two nodes start by
   their stamps. Then it is removed, and nothing is left.
 - In the second, the blocks of the other pages for users are run, with the library where `make -C lib` has made it; a
-  program in C is compiled by pkg-config, and a client in Python asks it; man shows each man page.
+  program in C is compiled by pkg-config, and a client in Python asks it; man shows each man page. Then systemd is
+  started there, as the first process of namespaces and of a cgroup of its own: the unit's node starts as `first`, is
+  killed, and is started as `again`; a script that is refused isn't started once more.
 
 Neither has a network but for its own loopback. Skipped where there is no root, no debootstrap, or no tree after
 MAKING seconds, as without a network.
 
 In tests/all: PROGRAM, 2400 s."""
 import argparse
+import hashlib
 import os
 import re
 import shutil
@@ -32,7 +35,7 @@ SUITE = "bookworm"
 MIRROR = "http://deb.debian.org/debian"
 # how long the making of a tree may take, and what else is done in one
 MAKING, DOING = 800, 300
-ADDED = "python3 man-db pkg-config gcc libc6-dev"
+ADDED = "python3 man-db pkg-config gcc libc6-dev systemd"
 INSIDE = "DELTAT_TEST_INSIDE"
 # with mounts and a network of its own
 ALONE = ("unshare", "--mount", "--propagation", "private", "--net")
@@ -61,6 +64,46 @@ sleep 1
 python3 examples/echo.py ask hello world
 kill %1
 """
+# what systemd runs: the unit of two nodes, of which one is killed and the other's script is refused
+UNIT = """[Service]
+Type=oneshot
+ExecStart=/bin/bash -eux /root/units.sh
+StandardOutput=file:/root/units.out
+StandardError=file:/root/units.err
+"""
+UNITS = r"""sed -e 's/^peer .*/peer 1 127.0.0.1:4002 46 0/' -e 's/^params .*/params 54 40 1 8 16 1442 65536 65536 65536 2147483648/' \
+    -e 's/^at 1000 /at 20 /' /usr/share/doc/deltat/examples/node-1.script >/etc/deltat/pump.script
+echo nonsense >/etc/deltat/bad.script
+systemctl start deltat-node@pump
+sleep 2
+kill -9 "$(systemctl show deltat-node@pump -p MainPID --value)"
+sleep 4
+systemctl start deltat-node@bad || true
+sleep 2
+show() { systemctl show "deltat-node@$1" -p ActiveState -p NRestarts -p ExecMainStatus | sort | tr '\n' ' '; echo "$1"; }
+show pump
+show bad
+for log in /var/log/deltat/pump/*.log; do head -n 1 "$log"; done
+grep '^me' /var/lib/deltat/pump/node-1.script
+echo done
+"""
+# the first line of each start's log: the node sends 20 ms behind its start, or is silent for 203
+STARTED = r"ActiveState=active ExecMainStatus=0 NRestarts=1 pump\nActiveState=failed ExecMainStatus=2 NRestarts=0 bad\n" \
+    r"\d+ 1 took 1:10>2:20 5\n\d+ 1 refused 1:10>2:20 quiet 203\nme 1 again\ndone\n"
+# a cgroup of its own, which is gone behind that; and in it systemd, whose end is that of all it started
+BOOT = r"""group={group}
+was=$(sed -n 's/^0:://p' /proc/self/cgroup)
+mkdir -p "$group" && mount -t cgroup2 none "$group" && mkdir "$group/deltat-$$" || exit 77
+echo $$ >"$group/deltat-$$/cgroup.procs" || exit 77
+unshare --cgroup --mount --pid --fork --kill-child --net --uts --ipc bash -c '
+mount --bind {root} {root} && mount -t proc proc {root}/proc && mount -t sysfs sysfs {root}/sys && mount -t tmpfs tmpfs {root}/run &&
+mount -t cgroup2 none {root}/sys/fs/cgroup && container=chroot exec chroot {root} /lib/systemd/systemd --unit=units.service' </dev/null >/dev/null 2>&1 &
+for _ in $(seq {seconds}); do sleep 1; ! grep -qs "^done" {root}/root/units.out || break; done
+kill -9 $! && wait
+echo $$ >"$group$was/cgroup.procs"
+sleep 1
+find "$group/deltat-$$" -depth -type d -exec rmdir {{}} \;
+"""
 MANUALS = {"deltat": 1, "deltat-formats": 5, "libdeltat": 3}
 
 
@@ -82,9 +125,13 @@ def apart(*words: str) -> tuple[str, ...]:
     return "unshare", "--mount", "--propagation", "private", "nice", "-n", "10", *words
 
 
+def archives(cache: Path) -> tuple[Path, Path]:
+    return cache / f"{SUITE}.tar.gz", cache / f"{SUITE}-{hashlib.sha256(ADDED.encode()).hexdigest()[:8]}.tar.gz"
+
+
 def trees(cache: Path) -> tuple[Path, Path]:
     """The archives of both trees, which are made where they aren't there."""
-    plain, full = cache / f"{SUITE}.tar.gz", cache / f"{SUITE}-more.tar.gz"
+    plain, full = archives(cache)
     cache.mkdir(parents=True, exist_ok=True)
     with tempfile.TemporaryDirectory() as folder:
         root = Path(folder) / "root"
@@ -160,6 +207,22 @@ def manual(root: Path, name: str, section: int) -> Case:
     return f"man {section} {name}", right, ran.stderr[-300:] or f"{ran.stdout.count(chr(10))} lines"
 
 
+def unit(root: Path) -> Case:
+    """The unit, by a systemd of its own."""
+    name = "the unit under systemd"
+    if not (root / "lib/systemd/systemd").exists():
+        return name, True, "not tried: there is no systemd"
+    (root / "etc/systemd/system/units.service").write_text(UNIT)
+    (root / "root/units.sh").write_text(UNITS)
+    with tempfile.TemporaryDirectory() as group:
+        ran = run("unshare", "--mount", "--propagation", "private", "bash", "-c", BOOT.format(group=group, root=root, seconds=60))
+    if ran.returncode == 77:
+        return name, True, "not tried: there are no cgroups to make"
+    out, err = (root / "root/units.out", root / "root/units.err")
+    said = out.read_text() if out.exists() else ""
+    return name, bool(re.fullmatch(STARTED, said)), "" if re.fullmatch(STARTED, said) else f"{said}{err.read_text()[-300:] if err.exists() else ran.stderr[-300:]}"
+
+
 def library_cases(root: Path) -> list[Case]:
     if not LIBRARY.exists():
         return [("the library", True, "it isn't made here")]
@@ -176,7 +239,7 @@ def full_cases(root: Path, package: str) -> list[Case]:
     users = ("README.md", "docs/parameters.md", "docs/operating.md", "docs/library.md", "docs/tools.md")
     cases = [install(root, package), *pages(root, *users), *(manual(root, it, MANUALS[it]) for it in there)]
     helps = within(root, "for it in /usr/lib/deltat/*; do [ ! -f $it ] || [ ! -x $it ] || $it --help >/dev/null || echo $it; done")
-    return [*cases, ("each tool tells its help", (helps.returncode, helps.stdout) == (0, ""), helps.stdout + helps.stderr[-300:]), *library_cases(root)]
+    return [*cases, ("each tool tells its help", (helps.returncode, helps.stdout) == (0, ""), helps.stdout + helps.stderr[-300:]), *library_cases(root), unit(root)]
 
 
 def inside(program: str, plain: Path, full: Path) -> int:
@@ -191,7 +254,7 @@ def inside(program: str, plain: Path, full: Path) -> int:
         for archive, does in ((plain, plain_cases), (full, full_cases)):
             root = room / archive.name.partition(".")[0]
             unpack(archive, root)
-            cases += [(f"{'with' if archive is full else 'without'} Python: {name}", holds, text) for name, holds, text in does(root, ran.stdout.strip())]
+            cases += [(f"{'with' if archive == full else 'without'} Python: {name}", holds, text) for name, holds, text in does(root, ran.stdout.strip())]
         return tell(cases)
 
 
@@ -207,7 +270,7 @@ def main() -> int:
         if not shutil.which(it, path="/usr/sbin:/usr/bin:/sbin:/bin"):
             skip(f"there is no {it}")
     if INSIDE in os.environ:
-        return inside(program, cache / f"{SUITE}.tar.gz", cache / f"{SUITE}-more.tar.gz")
+        return inside(program, *archives(cache))
     if run(*ALONE, "true").returncode:
         skip("this root may make no namespaces")
     trees(cache)
