@@ -4,7 +4,7 @@
  *     cc -std=gnu11 -O2 -I include examples/echo.c lib/libdeltat.a -o echo && ./echo
  *
  * It keeps what deltat.h asks of a program: one clock that goes on in sleep, what a datagram waited in the socket, and
- * that no frame goes on the wire long after it left the node. Say `again` behind it where node 2 ran less than 6 s ago. */
+ * that no frame goes on the wire long after it left the node. Say `again` behind it where node 2 ran less than 2 s ago. */
 #include <arpa/inet.h>
 #include <poll.h>
 #include <stdio.h>
@@ -17,7 +17,8 @@
 
 enum { LINK = 1, LATE = 20, MOST = 65536 };
 
-static const struct dt_params PARAMS = {1000, 3000, 200, 100, 800, 1400, 65536, 65536, 65536, 2147483648u, 0};
+/* as `tools/params.py 250 50 --shelf 2` tells them */
+static const struct dt_params PARAMS = {482, 450, 5, 90, 180, 1442, 65536, 65536, 65536, 2147483648u, 0};
 
 static struct sockaddr_in client; /* node 1 */
 static uint64_t empty_at;         /* when the socket was last found empty */
@@ -112,7 +113,7 @@ int main(int count, char **words) {
     client = own, client.sin_port = htons(4001);
     if (wire < 0 || setsockopt(wire, SOL_SOCKET, SO_TIMESTAMPNS, &yes, sizeof yes) || bind(wire, (struct sockaddr *)&own, sizeof own)) return perror("echo"), 1;
 
-    struct dt_link link = {90, 0, LINK};
+    struct dt_link link = {294, 0, LINK};
     struct dt_route route = {1, LINK};
     struct dt_start start = {now(), 2, count > 1 && !strcmp(words[1], "again")};
     dt_node *node = aligned_alloc(dt_align(), (dt_size() + dt_align() - 1) / dt_align() * dt_align());

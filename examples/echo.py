@@ -5,7 +5,7 @@
     examples/echo.py ask hello world    node 1 on port 4001: sends each word, prints the answers
 
 What the client sends comes at most once, whatever the network repeats; what wasn't acknowledged in time it is told.
-Where a node may have run less than 6 s before, say `again` behind `serve` or `ask`: it is silent then for `quiet`."""
+Where a node may have run less than 2 s before, say `again` behind `serve` or `ask`: it is silent then for `quiet`."""
 import pathlib
 import sys
 
@@ -13,13 +13,13 @@ sys.path.insert(0, str(pathlib.Path(__file__).resolve().parent.parent / "binding
 import deltat  # noqa: E402
 
 HOSTS = {1: ("127.0.0.1", 4001), 2: ("127.0.0.1", 4002)}
-# the longest under way on the link: 50 ms, and 20 ms of each machine
-PARAMS = deltat.Params(mpl=1000, r=3000, a=200, rto=100, probe=800, seg=1400, cap=65536, rcap=65536, window=65536)
+# as `tools/params.py 250 50 --shelf 2` tells them
+PARAMS = deltat.Params(mpl=482, r=450, a=5, rto=90, probe=180, seg=1442, cap=65536, rcap=65536, window=65536)
 
 
 def open_udp(number: int, again: bool) -> deltat.Udp:
     peers = {other: address for other, address in HOSTS.items() if other != number}
-    node = deltat.Node(number, PARAMS, [deltat.Link(1, charge=90)], {other: 1 for other in peers}, again)
+    node = deltat.Node(number, PARAMS, [deltat.Link(1, charge=294)], {other: 1 for other in peers}, again)
     return deltat.Udp(node, HOSTS[number], peers)
 
 

@@ -1,11 +1,13 @@
 #!/usr/bin/env python3
 """Makes a man page from a page of docs/: `release/manpage.py PAGE VERSION DATE > MANUAL`.
 
-PAGE is docs/formats.md, for deltat-formats(5), or docs/library.md, for libdeltat(3). It reads what these are made of: headings, paragraphs, lists, tables, blocks, `words`, *stressed* words and links.
-A row of a table becomes an entry: the first cell, and below it the others, each behind its heading. Ends with 1 at a
-line that it doesn't know."""
+PAGE is docs/formats.md, for deltat-formats(5), or docs/library.md, for libdeltat(3). It reads what these are made of:
+headings, paragraphs, lists, tables, blocks, `words`, *stressed* words and links. A row of a table becomes an entry: the
+first cell, and below it the others, each behind its heading. Ends with 1 at a line that it doesn't know. libdeltat(3)
+has the functions of include/deltat.h, which stands beside docs/."""
 import re
 import sys
+import textwrap
 from collections.abc import Iterator
 from pathlib import Path
 from typing import NamedTuple
@@ -18,12 +20,18 @@ class Manual(NamedTuple):
     section: int
     about: str
     volume: str
+    # the header whose functions it has, and how a program is compiled
+    header: str = ""
+    compiled: str = ""
 
 
 MANUALS = {
     "formats": Manual("deltat-formats", 5, "octets, lines, texts and statuses of deltat", "File Formats"),
-    "library": Manual("libdeltat", 3, "a Delta-t node without a socket, a clock or a thread", "Library Functions"),
+    "library": Manual("libdeltat", 3, "a Delta-t node without a socket, a clock or a thread", "Library Functions",
+                      "include/deltat.h", "cc program.c $(pkg-config --cflags --libs deltat)"),
 }
+# the most octets of a line of running text
+WIDTH = 79
 
 
 def escaped(text: str) -> str:
@@ -42,6 +50,18 @@ def spelled(text: str) -> str:
     return "".join(parts).replace("·", "\\(pc").replace("→", "\\(->")
 
 
+def wrapped(text: str) -> Iterator[str]:
+    """Running text as lines; none of them is a request."""
+    line = ""
+    for word in text.split():
+        if line and len(f"{line} {word}".encode()) > WIDTH:
+            yield line
+            line = escaped(word[:1]) + word[1:] if word.startswith(".") else word
+        else:
+            line = f"{line} {word}" if line else word
+    yield line or "\\&"
+
+
 def cells(line: str) -> list[str]:
     """The cells of a row. A bar behind a backslash is none between cells."""
     return [it.strip() for it in re.split(r"(?<!\\)\|", line.strip()[1:-1])]
@@ -55,12 +75,12 @@ def table(lines: list[str]) -> Iterator[str]:
         yield ".TP"
         yield f"\\fB{spelled(row[0])}\\fR" if "`" not in row[0] else spelled(row[0])
         if len(head) == 2:
-            yield spelled(row[1]) or "\\&"
+            yield from wrapped(spelled(row[1]))
             continue
         for number, (name, it) in enumerate(others):
             if number:
                 yield ".br"
-            yield f"\\fI{spelled(name)}:\\fR {spelled(it)}" if name else spelled(it)
+            yield from wrapped(f"\\fI{spelled(name)}:\\fR {spelled(it)}" if name else spelled(it))
         if not others:
             yield "\\&"
     yield ".PP"
@@ -89,13 +109,13 @@ def blocks(lines: list[str]) -> Iterator[str]:
             yield from table(lines[first:at])
         elif found := re.match(r"(- |\d+\. )(.*)", line):
             yield ".IP " + ("\\(bu 2" if found[1] == "- " else f"{found[1].strip()} 3")
-            yield spelled(found[2])
+            yield from wrapped(spelled(found[2]))
         elif re.match(r"[#>]|    ", line):
             raise ValueError(f"line {first + 1} is nothing that is known here: {line}")
         else:
             while at < len(lines) and lines[at].strip() and not re.match(r"[|#`-]|\d+\. ", lines[at]):
                 at += 1
-            yield from [".PP", *(spelled(it) for it in lines[first:at])]
+            yield from [".PP", *wrapped(spelled(" ".join(lines[first:at])))]
 
 
 def tidy(requests: list[str]) -> Iterator[str]:
@@ -108,12 +128,26 @@ def tidy(requests: list[str]) -> Iterator[str]:
         yield it
 
 
-def page(it: Manual, text: str, version: str, date: str) -> str:
+def synopsis(it: Manual, top: Path) -> Iterator[str]:
+    """How a program names the header, each function, and how the program is compiled."""
+    text = re.sub(r"/\*.*?\*/", "", (top / it.header).read_text(), flags=re.DOTALL)
+    yield from [".SH SYNOPSIS", f".B #include <{Path(it.header).name}>", ".PP", ".nf"]
+    for function in re.findall(r"^((?:struct )?\w+[ *]+dt_\w+\([^;{]*\);)", text, re.MULTILINE):
+        # (arguments stay whole)
+        words = re.sub(r"(?<!,) ", "\N{NO-BREAK SPACE}", " ".join(function.split()))
+        lines = textwrap.wrap(words, WIDTH - 10, subsequent_indent=" " * 4, break_on_hyphens=False)
+        yield from (f"\\fB{it}\\fR" for it in (line.replace("\N{NO-BREAK SPACE}", " ") for line in lines))
+    yield from [".fi", ".PP", f".B {escaped(it.compiled)}"]
+
+
+def page(it: Manual, text: str, version: str, date: str, top: Path) -> str:
     lines = text.splitlines()
     if not lines[0].startswith("# "):
         raise ValueError("the page has no heading")
     title = f".TH {escaped(it.name.upper())} {it.section} {date} \"deltat {version}\" \"{it.volume}\""
-    head = [title, ".SH NAME", f"{escaped(it.name)} \\- {escaped(it.about)}", ".SH DESCRIPTION"]
+    head = [title, ".SH NAME", f"{escaped(it.name)} \\- {escaped(it.about)}"]
+    head += synopsis(it, top) if it.header else []
+    head.append(".SH DESCRIPTION")
     ends = [".SH SEE ALSO", ".BR deltat (1)"]
     return "\n".join(tidy([*head, *blocks(lines[1:]), *ends])) + "\n"
 
@@ -126,7 +160,7 @@ def main(words: list[str]) -> int:
         path = Path(words[0])
         if path.stem not in MANUALS:
             raise ValueError(f"of {path.name} no man page is made")
-        sys.stdout.write(page(MANUALS[path.stem], path.read_text(), *words[1:]))
+        sys.stdout.write(page(MANUALS[path.stem], path.read_text(), *words[1:], path.resolve().parent.parent))
     except (OSError, ValueError) as why:
         print(f"manpage.py: {why}", file=sys.stderr)
         return 1

@@ -1,19 +1,20 @@
 #!/usr/bin/env python3
 """The Debian package: release/build.sh makes it of the program that is given, and what is in it works.
 
-Usage: tests/package.py [PROGRAM] [DEBIAN]
+Usage: tests/package.py [PROGRAM]
 
-It is built twice and has to be the same octets; of a gate's log that failed, of faulty words and of no program there
-is none. Its control data, files and man pages are looked at (man and mandoc, where they are, without a warning),
-lintian finds no error, and the completions complete. Extracted into a folder, the pages' folder is copied and README's
-first example is run there, without the toolchain; and as root in a folder that has the package and the C library
-alone. Where `make -C lib` has made the library, it is in the package, and two nodes of its Python module exchange a
-message there. With DEBIAN, a folder that debootstrap made (`debootstrap --variant=minbase bookworm DEBIAN`), root installs it
-there, runs the same example and a pair of nodes by their stamps, and removes it. Wants dpkg-deb, and is skipped where
-it isn't there.
+It is built twice and has to be the same octets; of a gate's log that failed, that is of another commit or of none, or
+whose crates were changed since, of faulty words and of no program there is none. Its control data, files, sums and
+links are looked at; man, groff and mandoc, where they are, have nothing to say of its man pages; lintian, where it is,
+finds no error and no warning, and what is overridden is printed and has its reason; the completions complete. Extracted
+into a folder, the pages' folder is copied and README's first example is run there, without the toolchain; and as root
+in a folder that has the package and the C library alone. Where `make -C lib` has made the library, it is in the
+package, and two nodes of its Python module exchange a message there. tests/chroot.py installs the package. Wants
+dpkg-deb, and is skipped where it isn't there.
 
-In tests/all: PROGRAM, 120 s."""
+In tests/all: PROGRAM, 240 s."""
 import gzip
+import hashlib
 import os
 import re
 import shutil
@@ -24,7 +25,6 @@ from pathlib import Path
 
 from lib import TOP, program, skip, tell
 
-BUILD = str(TOP / "release" / "build.sh")
 LIBRARY = TOP / "lib" / "libdeltat.so.0"
 COMMANDS = ["audit", "calls", "make", "node", "replay", "retrace", "trace"]
 Case = tuple[str, bool, str]
@@ -34,30 +34,72 @@ def run(*words: str, cwd: str | Path = "/", given: str = "", **env: str) -> "sub
     return subprocess.run(words, cwd=cwd, input=given, capture_output=True, text=True, check=False, timeout=100, env={"PATH": "/usr/sbin:/usr/bin:/sbin:/bin", "LC_ALL": "C.UTF-8", "PYTHONDONTWRITEBYTECODE": "1", **env})
 
 
-def build(folder: Path, *words: str, path: str = "") -> "subprocess.CompletedProcess[str]":
-    return run(BUILD, "--program", path or program(), "--out", str(folder), *words, SOURCE_DATE_EPOCH="1700000000")
+def build(folder: Path, *words: str, path: str = "", top: Path = TOP) -> "subprocess.CompletedProcess[str]":
+    return run(str(top / "release" / "build.sh"), "--program", path or program(), "--library", str(LIBRARY.parent), "--out", str(folder), *words, SOURCE_DATE_EPOCH="1700000000")
+
+
+def commit(top: Path = TOP) -> str:
+    return run("git", "-c", "safe.directory=*", "rev-parse", "HEAD", cwd=top).stdout.strip()
+
+
+# a toolchain whose gate passes, in a clone of the commit
+PRETENDED = """#!/bin/sh
+[ "$1" = version ] && echo 'a kit' && exit
+[ -f crates.txt ] && [ -d .git ] && printf 'much\ncommit 0000\n1234 passed, 0 failed\n'
+"""
+
+
+def log_text(of: str, last: str) -> str:
+    """A gate's log, as release/gate.sh writes one."""
+    return f"commit {of}\ntoolchain a kit\n\nmuch\ncommit 0000\n{last}\n"
+
+
+def log(path: Path, of: str = "", last: str = "1234 passed, 0 failed") -> str:
+    path.write_text(log_text(of, last) if of else f"much\n{last}\n")
+    return str(path)
+
+
+def gates(room: Path) -> list[Case]:
+    """Of which gates there is a package, in a clone whose crates are as committed."""
+    top, none = room / "clone", room / "none"
+    ran = run("git", "-c", "safe.directory=*", "clone", "-q", "--shared", str(TOP), str(top))
+    if ran.returncode:
+        return [("gates and commits", True, "not tried: this copy has no commits")]
+    shutil.copytree(TOP / "release", top / "release", dirs_exist_ok=True)
+    here = commit(top)
+    refused = [("a gate that failed", log(room / "bad", here, "1234 passed, 1 failed")), ("a gate's log that isn't there", "/nowhere"),
+               ("a gate of another commit", log(room / "other", here[::-1])), ("a gate of no commit", log(room / "no"))]
+    good = room / "good"
+    (room / "rt").write_text(PRETENDED)
+    (room / "rt").chmod(0o755)
+    ran = run(str(top / "release" / "gate.sh"), PATH=f"{room}:/usr/bin:/bin")
+    good.write_text(ran.stdout)
+    cases = [("the gate's log", (ran.returncode, ran.stdout) == (0, log_text(here, "1234 passed, 0 failed")), ran.stderr)]
+    cases += [(name, (ran := build(none, "--gate", path, top=top)).returncode == 1 and not none.exists(), ran.stderr.strip()) for name, path in refused]
+    ran = build(room / "gated", "--gate", str(good), top=top)
+    run("dpkg-deb", "-x", ran.stdout.strip(), str(room / "gated" / "root"))
+    said = (room / "gated" / "root/usr/share/doc/deltat/PROVED").read_text()
+    cases.append(("what was proved", all(it in said for it in ("    1234 passed, 0 failed\n", here, "a kit", sums(program()))), ""))
+    (top / "crates.txt").write_text("# another\n")
+    ran = build(none, "--gate", str(good), top=top)
+    return [*cases, ("a gate of crates that were changed since", ran.returncode == 1 and not none.exists(), ran.stderr.strip())]
+
+
+def sums(path: str) -> str:
+    return hashlib.sha256(Path(path).read_bytes()).hexdigest()
 
 
 def builds(room: Path) -> list[Case]:
     """What there is a package of, and what not."""
-    good, bad = room / "good.log", room / "bad.log"
-    good.write_text("much\n1234 passed, 0 failed\n")
-    bad.write_text("1234 passed, 1 failed\n")
-    first, second = build(room / "one", "--gate", str(good)), build(room / "two", "--gate", str(good))
-    sums = [Path(it.stdout.strip()).read_bytes() for it in (first, second) if it.returncode == 0]
-    cases = [("it is built", len(sums) == 2, first.stderr), ("and is the same the next time", len(sums) == 2 and sums[0] == sums[1], "")]
+    first, second = build(room / "one"), build(room / "two")
+    made = [Path(it.stdout.strip()).read_bytes() for it in (first, second) if it.returncode == 0]
+    cases = [("it is built", len(made) == 2, first.stderr), ("and is the same the next time", len(made) == 2 and made[0] == made[1], "")]
     for name, ran, status in (
-        ("a gate that failed", build(room / "none", "--gate", str(bad)), 1),
-        ("a gate's log that isn't there", build(room / "none", "--gate", "/nowhere"), 1),
         ("no program", build(room / "none", path="/nowhere"), 1),
         ("a word too much", build(room / "none", "more"), 2),
     ):
         cases.append((name, ran.returncode == status and ran.stderr.startswith("build.sh: ") and not (room / "none").exists(), ran.stderr.strip()))
-    bare = build(room / "bare")
-    run("dpkg-deb", "-x", bare.stdout.strip(), str(room / "bare" / "root"))
-    said = (room / "bare" / "root/usr/share/doc/deltat/PROVED").read_text()
-    cases.append(("without a gate's log it claims nothing", "nothing is claimed" in said and "passed" not in said, ""))
-    return cases
+    return [*cases, *gates(room)]
 
 
 def controls(package: str) -> list[Case]:
@@ -83,35 +125,56 @@ def files(root: Path) -> list[Case]:
     missing = [it for it in wanted if not (root / it).is_file()] + [it.name for it in (TOP / "docs").glob("*.md") if not (doc / "docs" / it.name).is_file()]
     missing += [it.name for it in (TOP / "examples").iterdir() if not (doc / "examples" / it.name).is_file()]
     said = (doc / "PROVED").read_text()
-    kit = re.findall(r"`(rattle-kit-[^`]*)`", (TOP / "README.md").read_text())
     helps = [it for it in (root / "usr/lib/deltat").iterdir() if os.access(it, os.X_OK) and it.is_file() and run(str(it), "--help").returncode]
     return [
         ("its files", not missing and len(list(root.glob("usr/lib/*/wireshark/plugins/deltat.lua"))) == 1, " ".join(missing)),
         ("nothing of a Python that ran", not list(root.rglob("__pycache__")), ""),
         ("the program, octet for octet", (root / "usr/bin/deltat").read_bytes() == Path(program()).read_bytes(), ""),
-        ("what was proved", "1234 passed, 0 failed" in said and len(kit) == 1 and kit[0] in said, ""),
+        ("without a gate's log it claims nothing", "The gate was not run" in said and "passed" not in said and sums(program()) in said, ""),
+        ("the sums of its files", run("md5sum", "--quiet", "-c", str(root.parent / "control" / "md5sums"), cwd=root).returncode == 0, ""),
         ("each tool tells its help", not helps, " ".join(map(str, helps))),
     ]
+
+
+def links(root: Path) -> Case:
+    """Each link of a page leads to a file of the package."""
+    pages = sorted((root / "usr/share/doc/deltat").rglob("*.md"))
+    lost = [f"{page.name}: {it}" for page in pages for it in re.findall(r"\]\((?!https?:)([^)#]+)(?:#[^)]*)?\)", page.read_text()) if not (page.parent / it).exists()]
+    return "each link of a page leads somewhere", not lost and len(pages) > 10, " ".join(lost)
+
+
+def judged(package: str, root: Path) -> list[Case]:
+    """lintian's verdict, and what is overridden."""
+    lines = (root / "usr/share/lintian/overrides/deltat").read_text().splitlines()
+    bare = [it for before, it in zip(["", *lines], lines) if not it.startswith("#") and not before.startswith(("#", "deltat: "))]
+    cases = [("each override has its reason", not bare, f"overridden: {'; '.join(it.removeprefix('deltat: ') for it in lines if not it.startswith('#'))}")]
+    if not shutil.which("lintian"):
+        return [*cases, ("lintian", True, "not tried: it isn't installed")]
+    ran = run("lintian", "--allow-root", package)
+    return [*cases, ("lintian finds no error and no warning", not ran.stdout and ran.returncode == 0, ran.stdout.strip() + ran.stderr[-300:])]
 
 
 def manuals(root: Path) -> list[Case]:
     """The man pages, by what reads them here."""
     cases = []
+    readers = {"mandoc": ("mandoc", "-T", "lint"), "groff": ("groff", "-ww", "-b", "-z", "-man", "-Tutf8", "-K", "utf8"), "man": ("man", "--warnings", "-E", "UTF-8", "-l", "-Tutf8", "-Z")}
     for path in sorted(root.glob("usr/share/man/man*/*.gz")):
         text = gzip.decompress(path.read_bytes()).decode()
         plain = path.with_suffix("")
         plain.write_text(text)
-        said = ""
-        if shutil.which("mandoc"):
-            said += run("mandoc", "-T", "lint", "-W", "warning", str(plain)).stdout
-        if shutil.which("man") and shutil.which("groff"):
-            ran = run("man", "--warnings", "-E", "UTF-8", "-l", "-Tutf8", "-Z", str(plain))
-            said += ran.stderr
+        there = [it for it in readers if shutil.which(it) and shutil.which("groff" if it == "man" else it)]
+        ran = [run(*readers[it], str(plain)) for it in there]
+        # (man writes the page itself to standard output)
+        said = "".join(it.stderr if name == "man" else it.stdout + it.stderr for name, it in zip(there, ran))
         plain.unlink()
-        cases.append((f"no warnings of {path.stem}", not said and "@" not in text.split("\n.SH")[0], said[:300]))
+        cases.append((f"no warnings of {path.stem}", not said and "@" not in text.split("\n.SH")[0], said[:300] or f"by {', '.join(there) or 'nobody'}"))
     rows = [it for it in (TOP / "docs" / "formats.md").read_text().splitlines() if it.startswith("| ")]
     words = {it for row in rows for it in re.findall(r"`(\w+)", row)}
     lost = [it for it in sorted(words) if it not in text]
+    if LIBRARY.exists():
+        page = gzip.decompress((root / "usr/share/man/man3/libdeltat.3.gz").read_bytes()).decode()
+        exports = {it.split()[-1].partition("@")[0] for it in run("nm", "-D", "--defined-only", str(LIBRARY)).stdout.splitlines() if it.split()[1] == "T"}
+        cases.append(("libdeltat(3) has each function of the library", len(exports) > 10 and all(f" {it}(" in page or f"*{it}(" in page for it in exports), f"{len(exports)} functions"))
     return [*cases, ("deltat-formats(5) has each word of the tables of docs/formats.md", len(words) > 80 and not lost, " ".join(lost))]
 
 
@@ -179,35 +242,6 @@ def asks(root: Path) -> list[Case]:
     return [("the library's Python module", ran.stdout == "[b'hello']\n", ran.stderr)]
 
 
-# in a Debian that has nothing else: README's first example, two nodes started by stamps, and which stamps there are
-INSTALLED = """set -e
-dpkg -i /package.deb >/dev/null
-! command -v rt gcc python3 >/dev/null
-cp -rL /usr/share/doc/deltat /root/pages
-cd /root/pages
-%s
-mkdir stamps
-timeout 30 tools/run-node stamps examples/node-2.script >two &
-tools/run-node stamps examples/node-1.script >one
-grep -q 'read 2:20>1:10 rbe 776f726c64' one
-wait
-ls stamps
-cd /
-rm -r /root/pages
-dpkg -r deltat >/dev/null
-test ! -e /usr/bin/deltat
-"""
-
-
-def installed(package: str, debian: Path) -> Case:
-    """The package in a Debian of its own."""
-    command, _, log = example()
-    shutil.copy2(package, debian / "package.deb")
-    ran = run("chroot", str(debian), "sh", "-c", INSTALLED % command)
-    right = ran.stdout == log + "node-1.script\nnode-1.stamp\nnode-2.script\nnode-2.stamp\n"
-    return "installed in a Debian of its own", right and ran.returncode == 0, ran.stderr[-300:]
-
-
 def main() -> int:
     if not shutil.which("dpkg-deb"):
         skip("there is no dpkg-deb")
@@ -217,14 +251,8 @@ def main() -> int:
         package = str(next((room / "one").glob("deltat_*.deb")))
         root = room / "root"
         run("dpkg-deb", "-x", package, str(root))
-        cases += [*controls(package), *files(root), *manuals(root), *completions(root)]
-        if shutil.which("lintian"):
-            said = run("lintian", "--allow-root", package).stdout
-            cases.append(("lintian finds no error", not re.search("^E:", said, re.MULTILINE), said.strip()))
-        else:
-            cases.append(("lintian", True, "not tried: it isn't installed"))
-        if len(sys.argv) > 2:
-            cases.append(installed(package, Path(sys.argv[2])))
+        run("dpkg-deb", "-e", package, str(room / "control"))
+        cases += [*controls(package), *files(root), links(root), *manuals(root), *judged(package, root), *completions(root)]
         return tell([*cases, *used(root, room), *asks(root)])
 
 

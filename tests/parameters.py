@@ -5,11 +5,10 @@ Usage: tests/parameters.py [PROGRAM] [--write]
 
 - Each row of the table names its words for tools/params.py, and its cells are what follows from them. With
   --write the rows are written anew, and nothing else is done.
-- The scripts of examples/ have the numbers of the row that they name.
+- The examples have the numbers of the row that the page names, and one script has a shelf.
 - Two nodes with a tenth of the packets lost each way: node 1 sends 100 messages of 30 octets, one each 40 ms.
-  With the numbers of the schedules in examples/ many are reported uncertain, as with those of the Internet without a
-  shelf, or with one for which packets don't live long enough; with those of the scripts in examples/, and of an
-  office, hardly any.
+  With round numbers many are reported uncertain, as with those of the Internet without a shelf, or with one for which
+  packets don't live long enough; with those of examples/, and of an office, hardly any.
 
 In tests/all: PROGRAM, 120 s."""
 import argparse
@@ -31,7 +30,7 @@ MESSAGES, GAP = 100, 40
 # node up for too long), and at least with others
 MOST = {"Internet, a shelf": 3, "office, no shelf": 20}
 LEAST = 10
-SCHEDULE = "1000 3000 200 500 800 100 65536 65536 65536 2147483648"
+ROUND = "1000 3000 200 500 800 100 65536 65536 65536 2147483648"
 
 
 def told(words: str) -> list[str]:
@@ -72,6 +71,22 @@ def write() -> None:
     for number, row in rows(PAGE.read_text()):
         lines[number] = f"| {' | '.join([*row[:2], *cells(row[1].strip('`'))])} |\n"
     PAGE.write_text("".join(lines))
+
+
+def examples(numbers: str, charge: str) -> list[tuple[str, bool, str]]:
+    """Whether each example has these numbers and this charge."""
+    first, room = numbers.split()[:6], numbers.split()[6]
+    charges = {".script": rf"^peer 1 \S+ {charge} 0$", ".schedule": rf"^link 1 1 2 {charge} 0\nlink 2 2 1 {charge} 0$", ".calls": rf"^link 1 1 2 {charge} 0\nlink 2 2 1 {charge} 0$",
+               ".py": rf"Link\(1, charge={charge}\)", ".c": rf"struct dt_link link = {{{charge}, 0, LINK}}"}
+    forms = {".py": ", ".join(f"{name}={it}" for name, it in zip("mpl r a rto probe seg cap rcap window".split(), [*first, room, room, room])), ".c": ", ".join([*first, room, room, room])}
+    cases, shelves = [], 0
+    for path in sorted(it for it in (TOP / "examples").iterdir() if it.suffix in charges):
+        text = path.read_text()
+        # (one has shorter segments, since it wants several)
+        wanted = forms.get(path.suffix, f"params {' '.join(first[:5])} ")
+        shelves += bool(re.search(r"^shelf \d+$", text, re.MULTILINE))
+        cases.append((f"the numbers of {path.name}", wanted in text and bool(re.search(charges[path.suffix], text, re.MULTILINE)), ""))
+    return [*cases, ("an example with a shelf", shelves == 1 and len(cases) > 6, f"{len(cases)} examples")]
 
 
 def script(me: int, numbers: str, charge: int, ports: tuple[int, int], further: list[str]) -> str:
@@ -115,18 +130,18 @@ def main() -> int:
     program, table = os.path.abspath(given.program), rows(PAGE.read_text())
     cases = [(f"the row {row[0]}", row[2:] == cells(row[1].strip("`")), "") for _, row in table]
     cases.append(("rows", len(table) >= 5, f"{len(table)}"))
+    bare_spans = cells(next(row[1].strip("`") for _, row in table if row[0].startswith("the Internet")))[2:4]
     rack, satellite = (cells(next(row[1].strip("`") for _, row in table if row[0].startswith(name))) for name in ("a rack", "a geo"))
     says = f"that is {rack[2].removesuffix(' ms')} and {rack[3].removesuffix(' ms')} milliseconds"
+    says_more = f"over a continent {bare_spans[0].removesuffix(' s')} and {bare_spans[1].removesuffix(' s')} seconds"
     says_too = f"over a satellite {satellite[2].removesuffix(' s')} and {satellite[3].removesuffix(' s')} seconds"
     answers = (TOP / "docs" / "faq.md").read_text()
-    cases.append(("the numbers of docs/faq.md", says in answers and says_too in answers, f"{says}; {says_too}"))
+    cases.append(("the numbers of docs/faq.md", all(it in answers for it in (says, says_more, says_too)), f"{says}; {says_more}; {says_too}"))
     bare, shelved, office = (told(next(row[1].strip("`") for _, row in table if row[0].startswith(name))) for name in ("the Internet", "the same", "an office"))
     charge = shelved[1].split()[1].rstrip(":")
-    for name in ("node-1.script", "node-2.script"):
-        text = (TOP / "examples" / name).read_text()
-        cases.append((f"the numbers of {name}", shelved[0] in text.splitlines() and bool(re.search(rf"^peer 1 \S+ {charge} 0$", text, re.MULTILINE)), ""))
+    cases += examples(shelved[0].removeprefix("params "), charge)
     tries = {
-        "schedule": (SCHEDULE, 50, []),
+        "round ones": (ROUND, 50, []),
         "Internet, no shelf": (bare[0].removeprefix("params "), int(charge), []),
         "Internet, a shelf, no life for it": (bare[0].removeprefix("params "), int(charge), ["shelf 64"]),
         "office, no shelf": (office[0].removeprefix("params "), int(office[1].split()[1].rstrip(":")), []),

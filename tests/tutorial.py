@@ -1,10 +1,12 @@
 #!/usr/bin/env python3
 """Every block of the pages for users is run: README, and some below docs/ (PAGES).
 
-Usage: tests/tutorial.py [PROGRAM] [--page NAME] [--write]
+Usage: tests/tutorial.py [PROGRAM] [--page NAME] [--write] [--root FOLDER]
 
 Each page gets a copy of the repository of its own, in which `./deltat` is the program, and its blocks are run in
-order, at the top of that copy. A block is told by the words behind its fence:
+order, at the top of that copy. With --root the pages are those of the package that is installed in the tree FOLDER,
+each gets a copy of the package's folder of pages, and its blocks are run in that tree, as root; what wants Python is
+run where the tree has it. A block is told by the words behind its fence:
 
 - `sh`: commands, which have to end with 0.
 - `sh first terminal`, `sh second terminal`: commands of one of two terminals. They run while the page goes on;
@@ -12,12 +14,14 @@ order, at the top of that copy. A block is told by the words behind its fence:
 - `text first terminal`, `text second terminal`: what the last commands of that terminal wrote.
 - nothing: what an `sh` before it wrote, or a file of examples/.
 - `python`: a service over the library's binding, which has to be at work still after SERVED seconds. It is run only
-  where `make -C lib` has made the library.
-- `ini`: a file of release/; `conf`: an example of a file that isn't here.
+  where `make -C lib` has made the library, or the tree has it.
+- `ini`: a file of release/; `conf`: an example of a file that isn't here; `example`: one of what isn't run here.
+- `usage`: the words of tools; `--help` of each has its options.
 
 What is shown has to be what was written, octet for octet. Of what comes from a node, whose moments are the
 machine's, the shape is compared: each moment counts as any other, and lines of packets that may go once more on a
-busy machine are left out (BUSY). Commands that prove, test or install all of it are not run (NOT_RUN).
+busy machine are left out (BUSY). Commands that prove, test or install all of it are not run (NOT_RUN), nor those over
+the library where that isn't made, and those of programs that aren't there (WANTED).
 
 Prints a line for each page; ends with 1 where a block isn't as it is shown. With --write the shown blocks of the
 pages are written anew. Takes two minutes, nearly all of it waiting for nodes.
@@ -26,6 +30,7 @@ In tests/all: PROGRAM, 300 s."""
 import argparse
 import os
 import re
+import shlex
 import shutil
 import signal
 import subprocess
@@ -36,12 +41,16 @@ from pathlib import Path
 
 from lib import PROGRAM, TOP
 
-PAGES = ["README.md", "docs/tutorial.md", "docs/parameters.md", "docs/operating.md", "docs/building.md", "docs/library.md"]
+PAGES = ["README.md", "docs/tutorial.md", "docs/parameters.md", "docs/operating.md", "docs/building.md", "docs/library.md", "docs/tools.md"]
 # what a page tells people to run and this doesn't: the whole build and its tests, and what changes the machine
-NOT_RUN = ("./build", "rt ci", "tests/all", "bench/all", "sudo ", "release/build.sh", "make -C lib")
+NOT_RUN = ("./build", "rt ci", "tests/all", "bench/all", "sudo ", "release/build.sh", "release/gate.sh", "make -C lib")
 # reports that come more often, or not at all, where a machine is busy
 BUSY = {"put", "resent", "replied", "ignored", "quiet", "unsent"}
 SECONDS = 120
+# commands that are run only where this is there
+WANTED = {"tshark ": "tshark", "tools/sequence.py --svg ": "chromium"}
+# commands that want the library
+OVER_LIBRARY = ("tools/dtcat.py", "tools/dtping.py", "examples/echo.py")
 # how long a service is tried
 SERVED = 2
 # README is for a first look
@@ -115,13 +124,46 @@ class Reader:
         self.terminals: dict[str, subprocess.Popen[str]] = {}
         self.written: dict[str, str] = {}
         self.ended_badly: list[str] = []
-        shutil.copytree(TOP, top, ignore=shutil.ignore_patterns("out", ".git", "__pycache__", "target"))
-        (top / "deltat").write_text(f'#!/bin/sh\nexec "{program}" "$@"\n')
-        (top / "deltat").chmod(0o755)
+        # terminals whose last commands weren't run
+        self.left_out: set[str] = set()
+        # where the unit is
+        self.units = self.top / "release"
+        self.furnish(program)
+
+    def furnish(self, program: str) -> None:
+        shutil.copytree(TOP, self.top, ignore=shutil.ignore_patterns("out", ".git", "__pycache__", "target"))
+        (self.top / "deltat").write_text(f'#!/bin/sh\nexec "{program}" "$@"\n')
+        (self.top / "deltat").chmod(0o755)
+        # where tools look for it
+        out = self.top / "crates" / "deltat" / "out"
+        out.mkdir()
+        (out / "deltat").symlink_to(program)
+
+    def page(self, name: str) -> str:
+        return (TOP / name).read_text()
+
+    @property
+    def has_library(self) -> bool:
+        return (self.top / "lib" / "libdeltat.so.0").exists()
+
+    def has_program(self, name: str) -> bool:
+        return bool(shutil.which(name))
+
+    def has_all_for(self, block: Block) -> bool:
+        """Whether all is there that a block wants."""
+        lacks = any(it in block.text for it in OVER_LIBRARY) and not self.has_library
+        return not lacks and all(self.has_program(name) for begun, name in WANTED.items() if begun in block.text)
 
     def start(self, text: str) -> "subprocess.Popen[str]":
         return subprocess.Popen(["bash", "-euc", "set -o pipefail\n" + text], cwd=self.top, stdin=subprocess.DEVNULL, stdout=subprocess.PIPE,
                                 stderr=subprocess.STDOUT, text=True, start_new_session=True)
+
+    def service(self, text: str) -> "subprocess.Popen[str] | None":
+        """Starts a service in Python, where there is what it needs."""
+        if not self.has_library:
+            return None
+        path = {**os.environ, "PYTHONPATH": str(self.top / "bindings" / "python")}
+        return subprocess.Popen([sys.executable, "-c", text], env=path, stderr=subprocess.PIPE, text=True)
 
     def finish(self, process: "subprocess.Popen[str]") -> str:
         """What it wrote, once it has ended; a status other than 0 is written behind that."""
@@ -141,9 +183,12 @@ class Reader:
 
     def do(self, block: Block) -> str:
         """Runs a block, and returns what is wrong with it, or nothing."""
-        if is_left_out(block.text):
+        if is_left_out(block.text) or not self.has_all_for(block):
+            if block.terminal:
+                self.left_out.add(block.terminal)
             return ""
         if block.terminal:
+            self.left_out.discard(block.terminal)
             self.wait(block.terminal)
             self.terminals[block.terminal] = self.start(block.text)
             return ""
@@ -153,14 +198,16 @@ class Reader:
 
     def serve(self, block: Block) -> str:
         """Runs a service for a while, and returns why it ended before, or nothing."""
-        if not (self.top / "lib" / "libdeltat.so.0").exists():
+        process = self.service(block.text)
+        if not process:
             return ""
-        path = {**os.environ, "PYTHONPATH": str(self.top / "bindings" / "python")}
         try:
-            ran = subprocess.run([sys.executable, "-c", block.text], env=path, capture_output=True, text=True, timeout=SERVED)
+            _, said = process.communicate(timeout=SERVED)
         except subprocess.TimeoutExpired:
+            process.kill()
+            process.communicate()
             return ""
-        return f"it ended with {ran.returncode}: {ran.stderr[-300:]}"
+        return f"it ended with {process.returncode}: {said[-300:]}"
 
     def shown(self, block: Block) -> str:
         """What a block shows, as it was written here."""
@@ -174,8 +221,15 @@ class Reader:
             return shape(self.shown(block)) == shape(block.text)
         return any(shape(given) == shape(block.text) if is_live else given == block.text for given, is_live in self.outputs)
 
-    def is_a_file(self, block: Block, folder: str) -> bool:
-        return any(it.read_text(errors="replace") == block.text for it in (self.top / folder).rglob("*") if it.is_file())
+    def is_a_file(self, block: Block, folder: Path) -> bool:
+        return any(it.read_text(errors="replace") == block.text for it in folder.rglob("*") if it.is_file())
+
+    def misses(self, block: Block) -> str:
+        """The options of a usage that the tool's help hasn't got."""
+        words = [it for line in block.text.splitlines() for it in re.findall(r"[\w./-]+", line.partition("|")[0])]
+        helps = self.finish(self.start(f"{words[0]} --help"))
+        lost = [it for it in words if it.startswith("--") and it not in helps]
+        return f"{words[0]} --help has no {' '.join(lost)}" if lost or BADLY.search(helps) else ""
 
     def close(self) -> list[str]:
         """Waits for both terminals; which of their commands ended badly."""
@@ -184,39 +238,71 @@ class Reader:
         return self.ended_badly
 
 
+class Installed(Reader):
+    """One who does what a page says in a tree where the package is installed, in a copy of its pages."""
+
+    def __init__(self, root: Path) -> None:
+        self.root = root
+        super().__init__(root / "root" / "copy", "")
+        self.units = root / "lib" / "systemd" / "system"
+
+    def furnish(self, program: str) -> None:
+        shutil.rmtree(self.top, ignore_errors=True)
+        subprocess.run(["chroot", str(self.root), "cp", "-rL", "/usr/share/doc/deltat", "/root/copy"], check=True)
+
+    def page(self, name: str) -> str:
+        return (self.top / name).read_text()
+
+    @property
+    def has_library(self) -> bool:
+        return self.has_program("python3") and bool(list(self.root.glob("usr/lib/*/libdeltat.so.0")))
+
+    def has_program(self, name: str) -> bool:
+        return (self.root / "usr/bin" / name).exists()
+
+    def start(self, text: str) -> "subprocess.Popen[str]":
+        return super().start(f"exec chroot {shlex.quote(str(self.root))} bash -euc {shlex.quote(f'set -o pipefail; cd /root/copy{chr(10)}{text}')}")
+
+    def service(self, text: str) -> "subprocess.Popen[str] | None":
+        if not self.has_library:
+            return None
+        return subprocess.Popen(["chroot", str(self.root), "python3", "-c", text], stderr=subprocess.PIPE, text=True)
+
+
 def why_not(reader: Reader, block: Block) -> str:
     """What is wrong with a block, or nothing."""
     if block.is_run:
         return reader.do(block)
     if block.words == ["python"]:
         return reader.serve(block)
-    if block.words == ["conf"]:
+    if block.words in (["conf"], ["example"]):
         return ""
+    if block.words == ["usage"]:
+        return reader.misses(block)
     if block.words == ["ini"]:
-        return "" if reader.is_a_file(block, "release") else "no file has this text"
+        return "" if reader.is_a_file(block, reader.units) else "no file has this text"
     if block.words and not block.terminal:
         return f"nothing is known of blocks of {' '.join(block.words)}"
-    if reader.is_as_shown(block) or not block.terminal and reader.is_a_file(block, "examples"):
+    if block.terminal and block.terminal in reader.left_out or reader.is_as_shown(block) or not block.terminal and reader.is_a_file(block, reader.top / "examples"):
         return ""
     return f"it was:\n{reader.shown(block)}"
 
 
-def read(name: str, program: str, writes: bool) -> list[str]:
+def read(name: str, reader: Reader, writes: bool) -> list[str]:
     """Follows a page, and returns what isn't as it says. Where it writes, the page gets what was written."""
-    text = (TOP / name).read_text()
+    text = reader.page(name)
     lines, wrong = text.splitlines(keepends=True), []
-    if len(text.split()) > MOST_WORDS.get(name, len(text)):
+    # (a package's page says of some links where they lead)
+    if not isinstance(reader, Installed) and len(text.split()) > MOST_WORDS.get(name, len(text)):
         wrong.append(f"{name}: {len(text.split())} words, and {MOST_WORDS[name]} are the most")
-    with tempfile.TemporaryDirectory() as folder:
-        reader = Reader(Path(folder) / "copy", program)
-        anew: list[tuple[Block, str]] = []
-        for block in blocks(text):
-            why = why_not(reader, block)
-            if why and writes and not block.is_run and (block.terminal or not block.words):
-                anew.append((block, reader.shown(block)))
-            elif why:
-                wrong.append(f"{name}:{block.first}: {why}")
-        wrong += [f"{name}: {it}" for it in reader.close()]
+    anew: list[tuple[Block, str]] = []
+    for block in blocks(text):
+        why = why_not(reader, block)
+        if why and writes and not block.is_run and (block.terminal or not block.words):
+            anew.append((block, reader.shown(block)))
+        elif why:
+            wrong.append(f"{name}:{block.first}: {why}")
+    wrong += [f"{name}: {it}" for it in reader.close()]
     for block, shown in reversed(anew):
         lines[block.first - 1 : block.last] = [shown]
     if anew:
@@ -229,10 +315,15 @@ def main() -> int:
     reads.add_argument("program", nargs="?", default=str(PROGRAM), help="the program that is tried")
     reads.add_argument("--page", choices=PAGES, action="append", help="this page alone")
     reads.add_argument("--write", action="store_true", help="write the shown blocks anew")
+    reads.add_argument("--root", type=Path, metavar="FOLDER", help="the tree in which the package is installed")
     given = reads.parse_args()
+    if given.root and given.write:
+        reads.error("--write goes without --root")
     failed = 0
     for name in given.page or [it for it in PAGES if (TOP / it).exists()]:
-        wrong = read(name, os.path.abspath(given.program), given.write)
+        with tempfile.TemporaryDirectory() as folder:
+            reader = Installed(given.root.resolve()) if given.root else Reader(Path(folder) / "copy", os.path.abspath(given.program))
+            wrong = read(name, reader, given.write)
         count = len(blocks((TOP / name).read_text()))
         print(f"{name}: {count} blocks, {'as shown' if not wrong else 'FAILED'}")
         print("".join(f"  {it}\n" for it in wrong), end="", flush=True)

@@ -2,8 +2,8 @@
 
     import deltat
 
-    params = deltat.Params(mpl=1000, r=3000, a=200, rto=500, probe=800, seg=1400, cap=65536, rcap=65536, window=65536)
-    node = deltat.Node(2, params, links=[deltat.Link(1, charge=100)], routes={1: 1})
+    params = deltat.Params(mpl=482, r=450, a=5, rto=90, probe=180, seg=1442, cap=65536, rcap=65536, window=65536)
+    node = deltat.Node(2, params, links=[deltat.Link(1, charge=294)], routes={1: 1})
     with deltat.Udp(node, ("127.0.0.1", 4002), {1: ("127.0.0.1", 4001)}) as udp:
         for message in udp:
             udp.send(message.flow.reversed(), message.octets[::-1])

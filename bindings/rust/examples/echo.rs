@@ -8,7 +8,7 @@ use std::time::{Duration, Instant};
 use deltat::{Error, Link, Messages, Node, Params, Route, Told, MOST_FRAME};
 
 const PARAMS: Params =
-    Params { mpl: 1000, r: 3000, a: 200, rto: 100, probe: 800, seg: 1400, cap: 65536, rcap: 65536, window: 65536, run_limit: 1 << 31, start: 0 };
+    Params { mpl: 482, r: 450, a: 5, rto: 90, probe: 180, seg: 1442, cap: 65536, rcap: 65536, window: 65536, run_limit: 1 << 31, start: 0 };
 const CLIENT: &str = "127.0.0.1:4001";
 const LATE: u64 = 20;
 const SLICE: u64 = 10;
@@ -29,7 +29,7 @@ fn main() -> Result<(), Box<dyn std::error::Error>> {
     let begun = Instant::now();
     let now = || begun.elapsed().as_millis() as u64;
     let again = std::env::args().nth(1).as_deref() == Some("again");
-    let mut node = Node::open(&PARAMS, 2, &[Link { charge: 90, pace: 0, link: 1 }], &[Route { to: 1, link: 1 }], again, now())?;
+    let mut node = Node::open(&PARAMS, 2, &[Link { charge: 294, pace: 0, link: 1 }], &[Route { to: 1, link: 1 }], again, now())?;
     let (mut messages, mut buf, mut empty_at) = (Messages::default(), vec![0; 65536], now());
     loop {
         // in slices: so a datagram is never charged for more than one that it didn't wait

@@ -1,0 +1,282 @@
+#!/usr/bin/env python3
+"""The Debian package, installed in a fresh Debian without the toolchain, and used there as the pages say.
+
+Usage: tests/chroot.py [PROGRAM] [--cache FOLDER]
+
+debootstrap makes two trees of Debian 12, which FOLDER (out/chroot) keeps as archives for the next time: one with what
+its variant minbase has, and one that has python3, man, pkg-config, a C compiler and systemd too. Each is unpacked anew.
+
+- In the first, which has no toolchain, no compiler and no Python, the package is installed, every block of README and
+  of the tutorial is run in a copy of its pages, a clone's `./deltat` takes the installed program, and two nodes start by
+  their stamps. Then it is removed, and nothing is left.
+- In the second, the blocks of the other pages for users are run, with the library where `make -C lib` has made it; a
+  program in C is compiled by pkg-config, and a client in Python asks it; man shows each man page. Then systemd is
+  started there, as the first process of namespaces and of a cgroup of its own: the unit's node starts as `first`, is
+  killed, and is started as `again`; a script that is refused isn't started once more.
+
+Neither has a network but for its own loopback. Skipped where there is no root, no debootstrap, or no tree after
+MAKING seconds, as without a network.
+
+In tests/all: PROGRAM, 2400 s."""
+import argparse
+import hashlib
+import os
+import re
+import shutil
+import subprocess
+import sys
+import tempfile
+from pathlib import Path
+
+from lib import PROGRAM, TOP, skip, tell
+from package import ASKS, LIBRARY, Case, example
+
+SUITE = "bookworm"
+MIRROR = "http://deb.debian.org/debian"
+# how long the making of a tree may take, and what else is done in one
+MAKING, DOING = 800, 300
+ADDED = "python3 man-db pkg-config gcc libc6-dev systemd"
+INSIDE = "DELTAT_TEST_INSIDE"
+# with mounts and a network of its own
+ALONE = ("unshare", "--mount", "--propagation", "private", "--net")
+
+# what the plain tree hasn't got
+BARE = "for it in rt gcc cc tcc clang python3 man make; do ! command -v $it || exit 1; done"
+# two nodes that are started by stamps, and which stamps there are
+STAMPS = """cp -rL /usr/share/doc/deltat /root/pages
+cd /root/pages
+mkdir stamps
+timeout 30 tools/run-node stamps examples/node-2.script >two &
+tools/run-node stamps examples/node-1.script >one
+grep -q 'read 2:20>1:10 rbe 776f726c64' one
+wait
+ls stamps
+"""
+REMOVED = """dpkg --purge deltat >/dev/null
+find / -xdev -path /root -prune -o -path /proc -prune -o -name '*deltat*' -print
+"""
+# the service of examples/ in C, compiled by the pkg-config file, and a client in Python that asks it
+COMPILED = """cd /root/copy
+cc -std=gnu11 -O2 examples/echo.c $(pkg-config --cflags --libs deltat) -o /root/echo
+ldconfig -p | grep -q libdeltat.so.0
+timeout 30 /root/echo &
+sleep 1
+python3 examples/echo.py ask hello world
+kill %1
+"""
+# what systemd runs: the unit of two nodes, of which one is killed and the other's script is refused
+UNIT = """[Service]
+Type=oneshot
+ExecStart=/bin/bash -eux /root/units.sh
+StandardOutput=file:/root/units.out
+StandardError=file:/root/units.err
+"""
+UNITS = r"""sed -e 's/^peer .*/peer 1 127.0.0.1:4002 46 0/' -e 's/^params .*/params 54 40 1 8 16 1442 65536 65536 65536 2147483648/' \
+    -e 's/^at 1000 /at 20 /' /usr/share/doc/deltat/examples/node-1.script >/etc/deltat/pump.script
+echo nonsense >/etc/deltat/bad.script
+systemctl start deltat-node@pump
+sleep 2
+kill -9 "$(systemctl show deltat-node@pump -p MainPID --value)"
+sleep 4
+systemctl start deltat-node@bad || true
+sleep 2
+show() { systemctl show "deltat-node@$1" -p ActiveState -p NRestarts -p ExecMainStatus | sort | tr '\n' ' '; echo "$1"; }
+show pump
+show bad
+for log in /var/log/deltat/pump/*.log; do head -n 1 "$log"; done
+grep '^me' /var/lib/deltat/pump/node-1.script
+echo done
+"""
+# the first line of each start's log: the node sends 20 ms behind its start, or is silent for 203
+STARTED = r"ActiveState=active ExecMainStatus=0 NRestarts=1 pump\nActiveState=failed ExecMainStatus=2 NRestarts=0 bad\n" \
+    r"\d+ 1 took 1:10>2:20 5\n\d+ 1 refused 1:10>2:20 quiet 203\nme 1 again\ndone\n"
+# a cgroup of its own, which is gone behind that; and in it systemd, whose end is that of all it started
+BOOT = r"""group={group}
+was=$(sed -n 's/^0:://p' /proc/self/cgroup)
+mkdir -p "$group" && mount -t cgroup2 none "$group" && mkdir "$group/deltat-$$" || exit 77
+echo $$ >"$group/deltat-$$/cgroup.procs" || exit 77
+unshare --cgroup --mount --pid --fork --kill-child --net --uts --ipc bash -c '
+mount --bind {root} {root} && mount -t proc proc {root}/proc && mount -t sysfs sysfs {root}/sys && mount -t tmpfs tmpfs {root}/run &&
+mount -t cgroup2 none {root}/sys/fs/cgroup && container=chroot exec chroot {root} /lib/systemd/systemd --unit=units.service' </dev/null >/dev/null 2>&1 &
+for _ in $(seq {seconds}); do sleep 1; ! grep -qs "^done" {root}/root/units.out || break; done
+kill -9 $! && wait
+echo $$ >"$group$was/cgroup.procs"
+sleep 1
+find "$group/deltat-$$" -depth -type d -exec rmdir {{}} \;
+"""
+MANUALS = {"deltat": 1, "deltat-formats": 5, "libdeltat": 3}
+
+
+def run(*words: str, seconds: float = DOING) -> "subprocess.CompletedProcess[str]":
+    """A command that is ended, with all that it started, after its seconds; the status is 124 then."""
+    with subprocess.Popen(words, stdin=subprocess.DEVNULL, stdout=subprocess.PIPE, stderr=subprocess.PIPE, text=True, start_new_session=True,
+                          env={"PATH": "/usr/sbin:/usr/bin:/sbin:/bin", "LC_ALL": "C.UTF-8", "DEBIAN_FRONTEND": "noninteractive", "HOME": "/root"}) as process:
+        try:
+            out, err = process.communicate(timeout=seconds)
+        except subprocess.TimeoutExpired:
+            os.killpg(process.pid, 9)
+            out, err = process.communicate()
+            return subprocess.CompletedProcess(words, 124, out, f"{err}stopped after {seconds} s")
+        return subprocess.CompletedProcess(words, process.returncode, out, err)
+
+
+def apart(*words: str) -> tuple[str, ...]:
+    """A command whose mounts go with it."""
+    return "unshare", "--mount", "--propagation", "private", "nice", "-n", "10", *words
+
+
+def archives(cache: Path) -> tuple[Path, Path]:
+    return cache / f"{SUITE}.tar.gz", cache / f"{SUITE}-{hashlib.sha256(ADDED.encode()).hexdigest()[:8]}.tar.gz"
+
+
+def trees(cache: Path) -> tuple[Path, Path]:
+    """The archives of both trees, which are made where they aren't there."""
+    plain, full = archives(cache)
+    cache.mkdir(parents=True, exist_ok=True)
+    with tempfile.TemporaryDirectory() as folder:
+        root = Path(folder) / "root"
+        if not plain.exists():
+            packages = cache / "packages"
+            packages.mkdir(exist_ok=True)
+            made(run(*apart("debootstrap", "--variant=minbase", f"--cache-dir={packages}", SUITE, str(root), MIRROR), seconds=MAKING))
+            keep(root, plain)
+        if not full.exists():
+            unpack(plain, root)
+            adds = f"mount -t proc proc {root}/proc && exec chroot {root} sh -c 'apt-get -q update && apt-get -qy --no-install-recommends install {ADDED} && apt-get clean'"
+            made(run(*apart("sh", "-c", adds), seconds=MAKING))
+            keep(root, full)
+    return plain, full
+
+
+def made(ran: "subprocess.CompletedProcess[str]") -> None:
+    if ran.returncode:
+        skip(f"no Debian could be made: {(ran.stderr.strip() or ran.stdout.strip()).splitlines()[-1:]}")
+
+
+def keep(root: Path, archive: Path) -> None:
+    part = archive.with_suffix(".part")
+    subprocess.run(["tar", "--use-compress-program", "gzip -1", "-C", str(root), "-cf", str(part), "."], check=True)
+    part.rename(archive)
+
+
+def unpack(archive: Path, root: Path) -> None:
+    root.mkdir(exist_ok=True)
+    subprocess.run(["tar", "-C", str(root), "-xzf", str(archive)], check=True)
+    # as Debian's installer writes it, and debootstrap doesn't
+    (root / "etc/hosts").write_text("127.0.0.1 localhost\n::1 localhost\n")
+
+
+def within(root: Path, text: str) -> "subprocess.CompletedProcess[str]":
+    """Commands in a tree."""
+    return run("chroot", str(root), "bash", "-euc", f"set -o pipefail\ncd /root\n{text}")
+
+
+def pages(root: Path, *names: str) -> list[Case]:
+    """Every block of these pages, as the package has them."""
+    wanted = [word for it in names for word in ("--page", it)]
+    ran = run(sys.executable, str(TOP / "tests" / "tutorial.py"), "--root", str(root), *wanted)
+    lines = [it for it in ran.stdout.splitlines() if it.startswith(names)]
+    cases = [(f"every block of {it.partition(':')[0]}", "as shown" in it, it.partition(":")[2].strip()) for it in lines if re.match(r"\S+: \d+ blocks", it)]
+    return [*cases, ("all of these pages", ran.returncode == 0 and len(cases) == len(names), "" if not ran.returncode else ran.stdout[-600:] + ran.stderr[-300:])]
+
+
+def install(root: Path, package: str) -> Case:
+    shutil.copy2(package, root / "root" / "package.deb")
+    ran = within(root, "dpkg -i package.deb >/dev/null && dpkg --audit && dpkg --verify deltat")
+    return "installed", (ran.returncode, ran.stdout + ran.stderr) == (0, ""), ran.stdout + ran.stderr[-300:]
+
+
+def plain_cases(root: Path, package: str) -> list[Case]:
+    ran = within(root, BARE)
+    cases = [("nothing but Debian is there", ran.returncode == 0, ran.stdout.strip()), install(root, package), *pages(root, "README.md", "docs/tutorial.md")]
+    _, path, log = example()
+    clone = root / "root" / "clone"
+    shutil.copytree(TOP, clone, ignore=shutil.ignore_patterns("out", ".git", "__pycache__", "target"))
+    ran = within(root, f"cd clone && ./deltat replay < {path}")
+    right = (ran.returncode, ran.stdout) == (0, log) and "this is /usr/bin/deltat, which is installed" in ran.stderr
+    cases.append(("a clone's ./deltat is the installed one", right, ran.stderr.strip()))
+    ran = within(root, STAMPS)
+    cases.append(("two nodes by their stamps", (ran.returncode, ran.stdout) == (0, "node-1.script\nnode-1.stamp\nnode-2.script\nnode-2.stamp\n"), ran.stderr[-300:]))
+    ran = within(root, REMOVED)
+    return [*cases, ("removed, and nothing is left", (ran.returncode, ran.stdout) == (0, ""), ran.stdout + ran.stderr[-300:])]
+
+
+def manual(root: Path, name: str, section: int) -> Case:
+    ran = within(root, f"MANPAGER=cat MANWIDTH=80 man --warnings {section} {name}")
+    right = ran.returncode == 0 and not ran.stderr and ran.stdout.count("\n") > 50 and f"{name.upper()}({section})" in ran.stdout
+    return f"man {section} {name}", right, ran.stderr[-300:] or f"{ran.stdout.count(chr(10))} lines"
+
+
+def unit(root: Path) -> Case:
+    """The unit, by a systemd of its own."""
+    name = "the unit under systemd"
+    if not (root / "lib/systemd/systemd").exists():
+        return name, True, "not tried: there is no systemd"
+    (root / "etc/systemd/system/units.service").write_text(UNIT)
+    (root / "root/units.sh").write_text(UNITS)
+    with tempfile.TemporaryDirectory() as group:
+        ran = run("unshare", "--mount", "--propagation", "private", "bash", "-c", BOOT.format(group=group, root=root, seconds=60))
+    if ran.returncode == 77:
+        return name, True, "not tried: there are no cgroups to make"
+    out, err = (root / "root/units.out", root / "root/units.err")
+    said = out.read_text() if out.exists() else ""
+    return name, bool(re.fullmatch(STARTED, said)), "" if re.fullmatch(STARTED, said) else f"{said}{err.read_text()[-300:] if err.exists() else ran.stderr[-300:]}"
+
+
+def library_cases(root: Path) -> list[Case]:
+    if not LIBRARY.exists():
+        return [("the library", True, "it isn't made here")]
+    (root / "root" / "asks.py").write_text(ASKS)
+    asks, echo = within(root, "python3 asks.py"), within(root, COMPILED)
+    return [
+        ("the Python module, where it is installed", asks.stdout == "[b'hello']\n", asks.stderr[-300:]),
+        ("a C program by its pkg-config file, and a client in Python", (echo.returncode, echo.stdout) == (0, "olleh\ndlrow\n"), echo.stdout + echo.stderr[-300:]),
+    ]
+
+
+def full_cases(root: Path, package: str) -> list[Case]:
+    there = [it for it in MANUALS if it != "libdeltat" or LIBRARY.exists()]
+    users = ("README.md", "docs/parameters.md", "docs/operating.md", "docs/library.md", "docs/tools.md")
+    cases = [install(root, package), *pages(root, *users), *(manual(root, it, MANUALS[it]) for it in there)]
+    helps = within(root, "for it in /usr/lib/deltat/*; do [ ! -f $it ] || [ ! -x $it ] || $it --help >/dev/null || echo $it; done")
+    return [*cases, ("each tool tells its help", (helps.returncode, helps.stdout) == (0, ""), helps.stdout + helps.stderr[-300:]), *library_cases(root), unit(root)]
+
+
+def inside(program: str, plain: Path, full: Path) -> int:
+    """All of it, in a network namespace that has its loopback alone."""
+    subprocess.run(["ip", "link", "set", "lo", "up"], check=True)
+    with tempfile.TemporaryDirectory() as folder:
+        room = Path(folder)
+        ran = run(str(TOP / "release" / "build.sh"), "--program", program, "--out", str(room))
+        if ran.returncode:
+            return tell([("the package", False, ran.stderr)])
+        cases: list[Case] = []
+        for archive, does in ((plain, plain_cases), (full, full_cases)):
+            root = room / archive.name.partition(".")[0]
+            unpack(archive, root)
+            cases += [(f"{'with' if archive == full else 'without'} Python: {name}", holds, text) for name, holds, text in does(root, ran.stdout.strip())]
+        return tell(cases)
+
+
+def main() -> int:
+    reads = argparse.ArgumentParser(description="Installs the package in a fresh Debian, and does there what the pages say.")
+    reads.add_argument("program", nargs="?", default=str(PROGRAM), help="the program that is packed")
+    reads.add_argument("--cache", type=Path, default=TOP / "out" / "chroot", metavar="FOLDER", help="keep the trees of Debian there (out/chroot)")
+    given = reads.parse_args()
+    cache, program = given.cache.resolve(), os.path.abspath(given.program)
+    if os.geteuid():
+        skip("only root can change its root")
+    for it in ("debootstrap", "dpkg-deb", "unshare", "ip"):
+        if not shutil.which(it, path="/usr/sbin:/usr/bin:/sbin:/bin"):
+            skip(f"there is no {it}")
+    if INSIDE in os.environ:
+        return inside(program, *archives(cache))
+    if run(*ALONE, "true").returncode:
+        skip("this root may make no namespaces")
+    trees(cache)
+    words = [*ALONE, sys.executable, str(Path(__file__).resolve()), program, "--cache", str(cache)]
+    return subprocess.run(words, env={**os.environ, INSIDE: "yes"}, check=False).returncode
+
+
+if __name__ == "__main__":
+    sys.exit(main())
