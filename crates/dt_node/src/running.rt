@@ -1,5 +1,5 @@
 //! Turn after turn.
-ghost use Rattle.std.specs.Prelude.{◌≡◌, ◌<◌, ◌≤◌, [], IfOk, IfSome, OnOk, false, length, Ok};
+ghost use Rattle.std.specs.Prelude.{◌≡◌, ◌<◌, ◌≤◌, [], IfOk, IfSome, OnOk, false, length, true, Ok};
 ghost use Rattle.dt_edges.specs.Sinks.{Grows};
 ghost use Rattle.dt_edges.specs.Wires.{handed};
 ghost use Rattle.dt_fold.specs.Logging.{PassesRest, with_waiting};
@@ -9,7 +9,7 @@ ghost use Rattle.dt_trace.specs.Written.{input_written};
 ghost use Rattle.dt_world_model.specs.Station.{station_wake};
 ghost use Rattle.dt_node.specs.Codes.{IsGood, IsReady, MayTurn, left_of, node_seen, orders_seen, turned};
 ghost use Rattle.dt_node.specs.Deeds.{TurnEnds, scene};
-ghost use Rattle.dt_node.specs.Logging.{NotesFault, noted_text};
+ghost use Rattle.dt_node.specs.Logging.{NotesFault, noted_text, wants_memory};
 ghost use Rattle.dt_node.specs.Orders.{first_node};
 ghost use Rattle.dt_node.specs.Runs.{next_moment, wait_until, wakes_by};
 ghost use Rattle.dt_node.specs.Serving.{Serves, edges, most_taken};
@@ -48,6 +48,7 @@ fn turn_by<W: Wire, K: Sink>(
     ensures reached { Grows (K.sight log.old.out.now).reached (K.sight log.new.out.now).reached }
     ensures ready { OnOk result (IsReady orders.now log.old.moment node.new) }
     ensures going { IfOk result (λ stopped. stopped ≡ false → log.old.moment < orders.now.stop) }
+    ensures memory { wants_memory result ≡ true → node.new.station.spent ≡ true }
 {
     turn(orders, node, came, octets, log)
 }
@@ -78,6 +79,7 @@ fn turn_logged<W: Wire, K: Sink>(
     ensures reached { Grows (K.sight out.old).reached (K.sight out.new).reached }
     ensures ready { OnOk result (IsReady orders.now moment node.new) }
     ensures going { IfOk result (λ stopped. stopped ≡ false → moment < orders.now.stop) }
+    ensures memory { wants_memory result ≡ true → node.new.station.spent ≡ true }
 {
     let mut log = Log {
         wire,
@@ -111,6 +113,7 @@ fn turn_onto<W: Wire, K: Sink>(
     ensures reached { Grows (K.sight out.old).reached (K.sight out.new).reached }
     ensures ready { OnOk result (IsReady orders.now now.moment node.new) }
     ensures going { IfOk result (λ stopped. stopped ≡ false → now.moment < orders.now.stop) }
+    ensures memory { wants_memory result ≡ true → node.new.station.spent ≡ true }
 {
     writer.note(&Input::Reading(now.reading), out)?;
     turn_logged(orders, node, now.moment, came, octets, wire, out, writer)
@@ -134,6 +137,7 @@ fn turn_into<W: Wire, K: Sink>(
     ensures reached { Grows (K.sight out.old).held (K.sight out.new).held }
     ensures ready { OnOk result (IsReady orders.now now.moment node.new) }
     ensures going { IfOk result (λ stopped. stopped ≡ false → now.moment < orders.now.stop) }
+    ensures memory { wants_memory result ≡ true → node.new.station.spent ≡ true }
 {
     let buffer = &mut recorder.buffer;
     let mut gathered = Buffered { out, buffer };
@@ -158,6 +162,7 @@ fn pass_rest<K: Sink>(
     ensures puts { PassesRest turned result buffer.old (K.sight out.old) (K.sight out.new) }
     ensures empty { OnOk result (buffer.new ≡ []) }
     ensures same { IfOk result (λ stopped. turned ≡ Ok stopped) }
+    ensures memory { wants_memory result ≡ true → wants_memory turned ≡ true }
 {
     if let Err(Stop::WriteFault) = turned {
         return turned;
@@ -184,6 +189,7 @@ fn turn_at<W: Wire, K: Sink>(
     ensures same_form { recorder.new.writer.form ≡ recorder.old.writer.form }
     ensures ready { OnOk result (IsReady orders.now now.moment node.new) }
     ensures going { IfOk result (λ stopped. stopped ≡ false → now.moment < orders.now.stop) }
+    ensures memory { wants_memory result ≡ true → node.new.station.spent ≡ true }
     ensures empty { OnOk result (recorder.new.buffer ≡ []) }
 {
     let turned = turn_into(orders, node, now, came, octets, wire, out, recorder);
