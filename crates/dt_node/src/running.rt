@@ -1,5 +1,5 @@
 //! Turn after turn.
-ghost use Rattle.std.specs.Prelude.{◌≡◌, ◌<◌, ◌≤◌, [], IfOk, IfSome, OnOk, false, length, true, Ok};
+ghost use Rattle.std.specs.Prelude.{◌≡◌, ◌≢◌, ◌<◌, ◌≤◌, [], IfOk, IfSome, OnOk, false, length, true, Ok};
 ghost use Rattle.dt_edges.specs.Sinks.{Grows};
 ghost use Rattle.dt_edges.specs.Wires.{handed};
 ghost use Rattle.dt_fold.specs.Logging.{PassesRest, with_waiting};
@@ -8,6 +8,7 @@ ghost use Rattle.dt_trace.specs.Standing.{HasFound};
 ghost use Rattle.dt_trace.specs.Written.{input_written};
 ghost use Rattle.dt_world_model.specs.Station.{station_wake};
 ghost use Rattle.dt_node.specs.Codes.{IsGood, IsReady, MayTurn, left_of, node_seen, orders_seen, turned};
+ghost use Rattle.dt_node.specs.declared.outcomes.NodeOutcome.TheVariants.{NoMemory};
 ghost use Rattle.dt_node.specs.Deeds.{TurnEnds, scene};
 ghost use Rattle.dt_node.specs.Logging.{NotesFault, noted_text, wants_memory};
 ghost use Rattle.dt_node.specs.Orders.{first_node};
@@ -215,7 +216,8 @@ fn wait_for(orders: &Orders, node: &Node, moment: u64) -> u32
 /// Notes that a call of the wire failed, which ends the run.
 fn fail<K: Sink>(failed: &Input<'_>, out: &mut K, recorder: &mut Recorder) -> NodeOutcome
     requires { recorder.old.buffer ≡ [] }
-    ensures { NotesFault (input_written failed.now) recorder.old.writer.form result (K.sight out.old) (K.sight out.new) }
+    ensures notes { NotesFault (input_written failed.now) recorder.old.writer.form result (K.sight out.old) (K.sight out.new) }
+    ensures memory { result ≢ NoMemory }
 {
     match recorder.note(failed, out) {
         Ok(()) => NodeOutcome::WireFault,
@@ -249,7 +251,8 @@ pub fn run_turns<W: Wire, C: Clock, K: Sink>(
     requires ready { IsReady orders.now 0 node.old }
     requires empty { recorder.old.buffer ≡ [] }
     requires new { recorder.old.writer.gives ≡ 0 }
-    ensures { Serves recorder.old.writer.form (orders_seen orders.now) result (edges (W.sight wire.old) (C.sight clock.old) (K.sight out.old)) (edges (W.sight wire.new) (C.sight clock.new) (K.sight out.new)) }
+    ensures serves { Serves recorder.old.writer.form (orders_seen orders.now) result (edges (W.sight wire.old) (C.sight clock.old) (K.sight out.old)) (edges (W.sight wire.new) (C.sight clock.new) (K.sight out.new)) }
+    ensures memory { result ≡ NoMemory → node.new.station.spent ≡ true }
 {
     if let Err(_) = wire.open(orders.setup.local, &orders.setup.peers) {
         return fail(&Input::FailedOpen, out, recorder);
