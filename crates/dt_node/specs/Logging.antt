@@ -126,6 +126,11 @@ failed_by (Ok done) = false
 failed_by (Err stops.NoMemory) = false
 failed_by (Err stops.WriteFault) = true
 
+abbrev pub wants_memory : {U : Type 0} → Result U Stop → Bool
+wants_memory (Ok done) = false
+wants_memory (Err stops.NoMemory) = true
+wants_memory (Err stops.WriteFault) = false
+
 -- AN INPUT IS NOTED on a sink: its line is written where the form has one
 abbrev pub Notes : {K T E : Type 0} → (K → SinkSight) → Form → Input → Result T E → K → K → Type 0
 Notes sight forms.Log input (Ok done) old new = new ≡ old

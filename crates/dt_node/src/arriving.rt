@@ -1,5 +1,5 @@
 //! Packets that arrive, and the shelf for those that came too early.
-ghost use Rattle.std.specs.Prelude.{◌≡◌, ◌<◌, ◌≤◌, IfOk, IfSome, None, OnOk, false, length, suc};
+ghost use Rattle.std.specs.Prelude.{◌≡◌, ◌<◌, ◌≤◌, IfOk, IfSome, None, OnOk, false, length, suc, true};
 ghost use Rattle.dt_flow_model.specs.Keeping.{most_moment};
 ghost use Rattle.dt_layout.specs.Carried.{IsGram};
 ghost use Rattle.dt_layout.specs.Reading.{gram_in};
@@ -10,7 +10,7 @@ ghost use Rattle.dt_world_model.specs.Station.{Arrive, station_event};
 ghost use Rattle.dt_node.specs.declared.heard.Heard.TheVariants.{Nothing};
 ghost use Rattle.dt_node.specs.Codes.{GoesOn, MayGo, came_seen, fetched_seen, next_seen};
 ghost use Rattle.dt_node.specs.Hearing.{heard_in};
-ghost use Rattle.dt_node.specs.Logging.{LogEnds, failed_by, fixed_of, log_sight, log_tells};
+ghost use Rattle.dt_node.specs.Logging.{LogEnds, failed_by, fixed_of, log_sight, log_tells, wants_memory};
 ghost use Rattle.dt_node.specs.Shelving.{arrive, data_number, datagram, early_number, fetch, first_round, hold_if, inside, is_early, plain, round, round_with, rounds};
 
 use crate::heard::{Heard, hear};
@@ -38,6 +38,7 @@ pub fn tell<W: Wire, K: Sink>(report: &Report<'_>, log: &mut Log<'_, '_, W, K>) 
     requires fine { log.old.failed ≡ false }
     ensures tells { log_tells (log_sight W.sight K.sight) log.old (told report.now) log.new }
     ensures failed { log.new.failed ≡ failed_by result }
+    ensures memory { wants_memory result ≡ false }
     ensures fixed { fixed_of log.new ≡ fixed_of log.old }
 {
     log.tell(report);
@@ -62,6 +63,7 @@ fn answer_to<W: Wire, K: Sink>(
     ensures heard { let script = station_event station.old.rules log.old.moment (Arrive link (plain frame.old)) station.old.state in
         IfOk result (λ heard. heard ≡ heard_in script Nothing) }
     ensures failed { log.new.failed ≡ failed_by result }
+    ensures memory { wants_memory result ≡ true → station.new.spent ≡ true }
     ensures fixed { fixed_of log.new ≡ fixed_of log.old }
     ensures on { OnOk result (GoesOn log.old.moment 0 station.old station.new) }
 {
@@ -132,6 +134,7 @@ fn hold_if<W: Wire, K: Sink>(
     ensures ends { let script = hold_if log.old.moment (came_seen came.now) flow number shelf.old in
         LogEnds (log_sight W.sight K.sight) result script log.old log.new shelf.new }
     ensures failed { log.new.failed ≡ failed_by result }
+    ensures memory { wants_memory result ≡ false }
     ensures fixed { fixed_of log.new ≡ fixed_of log.old }
     ensures past { IsShelfUpTo log.old.moment shelf.new }
 {
@@ -158,6 +161,7 @@ fn fetch<W: Wire, K: Sink>(
     ensures ends { let script = fetch flow number log.old.moment shelf.old in
         LogEnds (log_sight W.sight K.sight) result script log.old log.new (fetched_seen result shelf.new) }
     ensures failed { log.new.failed ≡ failed_by result }
+    ensures memory { wants_memory result ≡ false }
     ensures fixed { fixed_of log.new ≡ fixed_of log.old }
     ensures past { IsShelfUpTo log.old.moment shelf.new }
     ensures fewer { IfOk result (λ next. IfSome next (λ came. IsGram came.frame × (length shelf.new.held < length shelf.old.held))) }
@@ -189,6 +193,7 @@ fn answer<W: Wire, K: Sink>(
     ensures heard { let script = station_event station.old.rules log.old.moment (Arrive came.now.link (plain came.now.frame)) station.old.state in
         IfOk result (λ heard. heard ≡ heard_in script Nothing) }
     ensures failed { log.new.failed ≡ failed_by result }
+    ensures memory { wants_memory result ≡ true → station.new.spent ≡ true }
     ensures fixed { fixed_of log.new ≡ fixed_of log.old }
     ensures on { OnOk result (GoesOn log.old.moment 0 station.old station.new) }
 {
@@ -219,6 +224,7 @@ fn round<W: Wire, K: Sink>(
     ensures ends { let script = round station.old.rules log.old.moment (came_seen came.now) station.old.state shelf.old in
         LogEnds (log_sight W.sight K.sight) result script log.old log.new (round_with station.new.state shelf.new (next_seen result)) }
     ensures failed { log.new.failed ≡ failed_by result }
+    ensures memory { wants_memory result ≡ true → station.new.spent ≡ true }
     ensures fixed { fixed_of log.new ≡ fixed_of log.old }
     ensures on { OnOk result (GoesOn log.old.moment 0 station.old station.new) }
     ensures past { IsShelfUpTo log.old.moment shelf.new }
@@ -249,6 +255,7 @@ fn rounds<W: Wire, K: Sink>(
     ensures ends { let script = rounds (suc (length shelf.old.held)) station.old.rules log.old.moment (first_round (came_seen first) station.old.state shelf.old) in
         LogEnds (log_sight W.sight K.sight) result script log.old log.new (round_with station.new.state shelf.new None) }
     ensures failed { log.new.failed ≡ failed_by result }
+    ensures memory { wants_memory result ≡ true → station.new.spent ≡ true }
     ensures fixed { fixed_of log.new ≡ fixed_of log.old }
     ensures on { OnOk result (GoesOn log.old.moment 0 station.old station.new) }
     ensures past { IsShelfUpTo log.old.moment shelf.new }
@@ -288,6 +295,7 @@ fn arrive_shelved<W: Wire, K: Sink>(
     ensures ends { let script = rounds (suc (length shelf.old.held)) station.old.rules log.old.moment (first_round (datagram link frame.old) station.old.state shelf.old) in
         LogEnds (log_sight W.sight K.sight) result script log.old log.new (round_with station.new.state shelf.new None) }
     ensures failed { log.new.failed ≡ failed_by result }
+    ensures memory { wants_memory result ≡ true → station.new.spent ≡ true }
     ensures fixed { fixed_of log.new ≡ fixed_of log.old }
     ensures on { OnOk result (GoesOn log.old.moment 0 station.old station.new) }
     ensures past { IsShelfUpTo log.old.moment shelf.new }
@@ -311,6 +319,7 @@ pub fn arrive<W: Wire, K: Sink>(
     ensures ends { let script = arrive station.old.rules log.old.moment (datagram link frame.old) station.old.state shelf.old in
         LogEnds (log_sight W.sight K.sight) result script log.old log.new (inside station.new.state shelf.new) }
     ensures failed { log.new.failed ≡ failed_by result }
+    ensures memory { wants_memory result ≡ true → station.new.spent ≡ true }
     ensures fixed { fixed_of log.new ≡ fixed_of log.old }
     ensures on { OnOk result (GoesOn log.old.moment 0 station.old station.new) }
     ensures past { IfSome shelf.new (IsShelfUpTo log.old.moment) }

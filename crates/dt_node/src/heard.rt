@@ -1,5 +1,5 @@
 //! What a station answers to a packet, heard by a visitor between it and another.
-ghost use Rattle.std.specs.Prelude.{◌≡◌, IfOk, OnOk};
+ghost use Rattle.std.specs.Prelude.{◌≡◌, IfOk, OnErr, OnOk, true};
 ghost use Rattle.dt_layout.specs.Carried.{IsGram};
 ghost use Rattle.dt_reports.specs.Told.{told};
 ghost use Rattle.dt_world_model.specs.Script.{Concludes};
@@ -137,6 +137,7 @@ fn listen<V: Visitor<Frame>>(
         OnOk result (listener.new.heard ≡ heard_in script listener.old.heard) }
     ensures same { listener.new.visitor.ghost_name ≡ listener.old.visitor.ghost_name }
     ensures on { OnOk result (GoesOn now 0 station.old station.new) }
+    ensures memory { OnErr result (station.new.spent ≡ true) }
 {
     station.arrive(now, link, frame, (), listener)
 }
@@ -157,6 +158,7 @@ pub fn hear<V: Visitor<Frame>>(
     ensures heard { let script = station_event station.old.rules now (Arrive link (plain frame.old)) station.old.state in
         IfOk result (λ answer. answer ≡ heard_in script heard.Nothing) }
     ensures on { OnOk result (GoesOn now 0 station.old station.new) }
+    ensures memory { OnErr result (station.new.spent ≡ true) }
 {
     let mut listener = Listener {
         visitor,

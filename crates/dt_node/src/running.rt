@@ -1,5 +1,5 @@
 //! Turn after turn.
-ghost use Rattle.std.specs.Prelude.{◌≡◌, ◌<◌, ◌≤◌, [], IfOk, IfSome, OnOk, false, length, Ok};
+ghost use Rattle.std.specs.Prelude.{◌≡◌, ◌≢◌, ◌<◌, ◌≤◌, [], IfOk, IfSome, OnOk, false, length, true, Ok};
 ghost use Rattle.dt_edges.specs.Sinks.{Grows};
 ghost use Rattle.dt_edges.specs.Wires.{handed};
 ghost use Rattle.dt_fold.specs.Logging.{PassesRest, with_waiting};
@@ -8,8 +8,9 @@ ghost use Rattle.dt_trace.specs.Standing.{HasFound};
 ghost use Rattle.dt_trace.specs.Written.{input_written};
 ghost use Rattle.dt_world_model.specs.Station.{station_wake};
 ghost use Rattle.dt_node.specs.Codes.{IsGood, IsReady, MayTurn, left_of, node_seen, orders_seen, turned};
+ghost use Rattle.dt_node.specs.declared.outcomes.NodeOutcome.TheVariants.{NoMemory};
 ghost use Rattle.dt_node.specs.Deeds.{TurnEnds, scene};
-ghost use Rattle.dt_node.specs.Logging.{NotesFault, noted_text};
+ghost use Rattle.dt_node.specs.Logging.{NotesFault, noted_text, wants_memory};
 ghost use Rattle.dt_node.specs.Orders.{first_node};
 ghost use Rattle.dt_node.specs.Runs.{next_moment, wait_until, wakes_by};
 ghost use Rattle.dt_node.specs.Serving.{Serves, edges, most_taken};
@@ -48,6 +49,7 @@ fn turn_by<W: Wire, K: Sink>(
     ensures reached { Grows (K.sight log.old.out.now).reached (K.sight log.new.out.now).reached }
     ensures ready { OnOk result (IsReady orders.now log.old.moment node.new) }
     ensures going { IfOk result (λ stopped. stopped ≡ false → log.old.moment < orders.now.stop) }
+    ensures memory { wants_memory result ≡ true → node.new.station.spent ≡ true }
 {
     turn(orders, node, came, octets, log)
 }
@@ -78,6 +80,7 @@ fn turn_logged<W: Wire, K: Sink>(
     ensures reached { Grows (K.sight out.old).reached (K.sight out.new).reached }
     ensures ready { OnOk result (IsReady orders.now moment node.new) }
     ensures going { IfOk result (λ stopped. stopped ≡ false → moment < orders.now.stop) }
+    ensures memory { wants_memory result ≡ true → node.new.station.spent ≡ true }
 {
     let mut log = Log {
         wire,
@@ -111,6 +114,7 @@ fn turn_onto<W: Wire, K: Sink>(
     ensures reached { Grows (K.sight out.old).reached (K.sight out.new).reached }
     ensures ready { OnOk result (IsReady orders.now now.moment node.new) }
     ensures going { IfOk result (λ stopped. stopped ≡ false → now.moment < orders.now.stop) }
+    ensures memory { wants_memory result ≡ true → node.new.station.spent ≡ true }
 {
     writer.note(&Input::Reading(now.reading), out)?;
     turn_logged(orders, node, now.moment, came, octets, wire, out, writer)
@@ -134,6 +138,7 @@ fn turn_into<W: Wire, K: Sink>(
     ensures reached { Grows (K.sight out.old).held (K.sight out.new).held }
     ensures ready { OnOk result (IsReady orders.now now.moment node.new) }
     ensures going { IfOk result (λ stopped. stopped ≡ false → now.moment < orders.now.stop) }
+    ensures memory { wants_memory result ≡ true → node.new.station.spent ≡ true }
 {
     let buffer = &mut recorder.buffer;
     let mut gathered = Buffered { out, buffer };
@@ -158,6 +163,7 @@ fn pass_rest<K: Sink>(
     ensures puts { PassesRest turned result buffer.old (K.sight out.old) (K.sight out.new) }
     ensures empty { OnOk result (buffer.new ≡ []) }
     ensures same { IfOk result (λ stopped. turned ≡ Ok stopped) }
+    ensures memory { wants_memory result ≡ true → wants_memory turned ≡ true }
 {
     if let Err(Stop::WriteFault) = turned {
         return turned;
@@ -184,6 +190,7 @@ fn turn_at<W: Wire, K: Sink>(
     ensures same_form { recorder.new.writer.form ≡ recorder.old.writer.form }
     ensures ready { OnOk result (IsReady orders.now now.moment node.new) }
     ensures going { IfOk result (λ stopped. stopped ≡ false → now.moment < orders.now.stop) }
+    ensures memory { wants_memory result ≡ true → node.new.station.spent ≡ true }
     ensures empty { OnOk result (recorder.new.buffer ≡ []) }
 {
     let turned = turn_into(orders, node, now, came, octets, wire, out, recorder);
@@ -209,7 +216,8 @@ fn wait_for(orders: &Orders, node: &Node, moment: u64) -> u32
 /// Notes that a call of the wire failed, which ends the run.
 fn fail<K: Sink>(failed: &Input<'_>, out: &mut K, recorder: &mut Recorder) -> NodeOutcome
     requires { recorder.old.buffer ≡ [] }
-    ensures { NotesFault (input_written failed.now) recorder.old.writer.form result (K.sight out.old) (K.sight out.new) }
+    ensures notes { NotesFault (input_written failed.now) recorder.old.writer.form result (K.sight out.old) (K.sight out.new) }
+    ensures memory { result ≢ NoMemory }
 {
     match recorder.note(failed, out) {
         Ok(()) => NodeOutcome::WireFault,
@@ -243,7 +251,8 @@ pub fn run_turns<W: Wire, C: Clock, K: Sink>(
     requires ready { IsReady orders.now 0 node.old }
     requires empty { recorder.old.buffer ≡ [] }
     requires new { recorder.old.writer.gives ≡ 0 }
-    ensures { Serves recorder.old.writer.form (orders_seen orders.now) result (edges (W.sight wire.old) (C.sight clock.old) (K.sight out.old)) (edges (W.sight wire.new) (C.sight clock.new) (K.sight out.new)) }
+    ensures serves { Serves recorder.old.writer.form (orders_seen orders.now) result (edges (W.sight wire.old) (C.sight clock.old) (K.sight out.old)) (edges (W.sight wire.new) (C.sight clock.new) (K.sight out.new)) }
+    ensures memory { result ≡ NoMemory → node.new.station.spent ≡ true }
 {
     if let Err(_) = wire.open(orders.setup.local, &orders.setup.peers) {
         return fail(&Input::FailedOpen, out, recorder);

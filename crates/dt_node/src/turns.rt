@@ -10,7 +10,7 @@ ghost use Rattle.dt_station.specs.Events.{MayHappenHere, local_seen};
 ghost use Rattle.dt_world_model.specs.Station.{Tick, station_event};
 ghost use Rattle.dt_node.specs.Codes.{GoesOn, HasTakenAtMost, IsCommandOf, IsReady, IsTaskOf, MayGo, MayTurn, left_of, most_commands, most_octets, node_seen, octets_sent, orders_seen, task_seen, turned};
 ghost use Rattle.dt_node.specs.Drafts.{has_link};
-ghost use Rattle.dt_node.specs.Logging.{LogEnds, failed_by, fixed_of, log_sight};
+ghost use Rattle.dt_node.specs.Logging.{LogEnds, failed_by, fixed_of, log_sight, wants_memory};
 ghost use Rattle.dt_node.specs.Shelving.{datagram, inside};
 ghost use Rattle.dt_node.specs.Turns.{comes, do_due, event_of, finish, hand_in, turn};
 
@@ -40,6 +40,7 @@ fn happen<W: Wire, K: Sink>(
     ensures ends { let script = station_event station.old.rules log.old.moment (local_seen (length buf.old) event.entry) station.old.state in
         LogEnds (log_sight W.sight K.sight) result script log.old log.new station.new.state }
     ensures failed { log.new.failed ≡ failed_by result }
+    ensures memory { wants_memory result ≡ true → station.new.spent ≡ true }
     ensures fixed { fixed_of log.new ≡ fixed_of log.old }
     ensures on { OnOk result (GoesOn log.old.moment (octets_sent (local_seen (length buf.old) event.entry)) station.old station.new) }
 {
@@ -76,6 +77,7 @@ fn comes<W: Wire, K: Sink>(
     ensures ends { let script = comes station.old.rules log.old.moment (datagram link octets.now) (gram_fault octets.now) station.old.state shelf.old in
         LogEnds (log_sight W.sight K.sight) result script log.old log.new (inside station.new.state shelf.new) }
     ensures failed { log.new.failed ≡ failed_by result }
+    ensures memory { wants_memory result ≡ true → station.new.spent ≡ true }
     ensures fixed { fixed_of log.new ≡ fixed_of log.old }
     ensures on { OnOk result (GoesOn log.old.moment 0 station.old station.new) }
     ensures past { IfSome shelf.new (IsShelfUpTo log.old.moment) }
@@ -107,6 +109,7 @@ fn hand_in<W: Wire, K: Sink>(
     ensures ends { let script = hand_in station.old.rules log.old.moment (handed came octets.now) station.old.state shelf.old in
         LogEnds (log_sight W.sight K.sight) result script log.old log.new (inside station.new.state shelf.new) }
     ensures failed { log.new.failed ≡ failed_by result }
+    ensures memory { wants_memory result ≡ true → station.new.spent ≡ true }
     ensures fixed { fixed_of log.new ≡ fixed_of log.old }
     ensures on { OnOk result (GoesOn log.old.moment 0 station.old station.new) }
     ensures past { IfSome shelf.new (IsShelfUpTo log.old.moment) }
@@ -134,6 +137,7 @@ fn do_task<W: Wire, K: Sink>(
     ensures ends { let script = station_event station.old.rules log.old.moment (event_of (task_seen task.now)) station.old.state in
         LogEnds (log_sight W.sight K.sight) result script log.old log.new station.new.state }
     ensures failed { log.new.failed ≡ failed_by result }
+    ensures memory { wants_memory result ≡ true → station.new.spent ≡ true }
     ensures fixed { fixed_of log.new ≡ fixed_of log.old }
     ensures on { OnOk result (GoesOn log.old.moment most_octets station.old station.new) }
     ensures room { vec_len buf.new ≡ most_octets }
@@ -175,6 +179,7 @@ fn do_due<W: Wire, K: Sink>(
     ensures ends { let script = do_due orders.now.setup.rules log.old.moment node.old.shelf (left_of orders.now node.old.next) node.old.station.state in
         LogEnds (log_sight W.sight K.sight) result script log.old log.new (node_seen orders.now node.new) }
     ensures failed { log.new.failed ≡ failed_by result }
+    ensures memory { wants_memory result ≡ true → node.new.station.spent ≡ true }
     ensures fixed { fixed_of log.new ≡ fixed_of log.old }
     ensures ready { OnOk result (IsReady orders.now log.old.moment node.new) }
 {
@@ -212,6 +217,7 @@ fn tick<W: Wire, K: Sink>(
     ensures ends { let script = station_event station.old.rules log.old.moment Tick station.old.state in
         LogEnds (log_sight W.sight K.sight) result script log.old log.new station.new.state }
     ensures failed { log.new.failed ≡ failed_by result }
+    ensures memory { wants_memory result ≡ true → station.new.spent ≡ true }
     ensures fixed { fixed_of log.new ≡ fixed_of log.old }
     ensures on { OnOk result (GoesOn log.old.moment 0 station.old station.new) }
 {
@@ -233,6 +239,7 @@ fn finish<W: Wire, K: Sink>(
     ensures ends { let script = finish (orders_seen orders.now) log.old.moment (node_seen orders.now node.old) in
         LogEnds (log_sight W.sight K.sight) result script log.old log.new (turned result (node_seen orders.now node.new)) }
     ensures failed { log.new.failed ≡ failed_by result }
+    ensures memory { wants_memory result ≡ true → node.new.station.spent ≡ true }
     ensures fixed { fixed_of log.new ≡ fixed_of log.old }
     ensures ready { OnOk result (IsReady orders.now log.old.moment node.new) }
     ensures going { IfOk result (λ stopped. stopped ≡ false → log.old.moment < orders.now.stop) }
@@ -260,6 +267,7 @@ pub fn turn<W: Wire, K: Sink>(
     ensures ends { let script = turn (orders_seen orders.now) log.old.moment (handed came octets.now) (node_seen orders.now node.old) in
         LogEnds (log_sight W.sight K.sight) result script log.old log.new (turned result (node_seen orders.now node.new)) }
     ensures failed { log.new.failed ≡ failed_by result }
+    ensures memory { wants_memory result ≡ true → node.new.station.spent ≡ true }
     ensures fixed { fixed_of log.new ≡ fixed_of log.old }
     ensures ready { OnOk result (IsReady orders.now log.old.moment node.new) }
     ensures going { IfOk result (λ stopped. stopped ≡ false → log.old.moment < orders.now.stop) }

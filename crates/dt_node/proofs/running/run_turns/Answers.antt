@@ -41,11 +41,11 @@ Appended f found a z = HasAll (noted_text f (Found found)) a z × (z.faults ≡ 
 abbrev Unwritten : Form → Option Datagram → SinkSight → SinkSight → Type 0
 Unwritten f found a z = HasPart (noted_text f (Found found)) a z × HasRisen a.faults z.faults
 
-pub returns-in-Err : goal.returns-in-Err
-returns-in-Err g c =
+pub returns-in-Err-clause-serves : goal.returns-in-Err-clause-serves
+returns-in-Err-clause-serves g c =
     let sight = g.W.Wire.sight in
     unopened_ends c.args.recorder.now.writer.form (orders_seen c.args.orders.now) (sight c.args.wire.now) (sight c.open.new.self) (g.C.Clock.sight c.args.clock.now) (g.K.Sink.sight c.args.out.now) (g.K.Sink.sight c.fail.new.out) c.fail.result
-    c.in-Err.ensures.failed c.fail.ensures
+    c.in-Err.ensures.failed c.fail.ensures.notes
 
 pub turns-init : goal.turns-init
 turns-init g c =
@@ -69,8 +69,8 @@ turns-init g c =
       form = refl;
     }
 
-pub returns-in-Ok-true : goal.returns-in-Ok-true
-returns-in-Ok-true g c =
+pub returns-in-Ok-true-clause-serves : goal.returns-in-Ok-true-clause-serves
+returns-in-Ok-true-clause-serves g c =
     let sight = g.W.Wire.sight in
     let form = c.args.recorder.now.writer.form in
     let o = orders_seen c.args.orders.now in
@@ -88,8 +88,8 @@ returns-in-Ok-true g c =
     let passed = passed_by form o b c.turns.reading gives watch came node n t now (turned (Ok c.in-Ok-true.field-0) after) c.in-Ok-true.field-0 c.moment-moment.ensures c.turns.invariant.going ends in
     serve_done form o b t.gives watch m (subst (λ (x : Bool). Passed form o b t.gives watch (turned (Ok x) after) m) c.in-Ok-true.field-0-test passed)
 
-pub returns-in-Err-NoMemory : goal.returns-in-Err-NoMemory
-returns-in-Err-NoMemory g c =
+pub returns-in-Err-NoMemory-clause-serves : goal.returns-in-Err-NoMemory-clause-serves
+returns-in-Err-NoMemory-clause-serves g c =
     let sight = g.W.Wire.sight in
     let form = c.args.recorder.now.writer.form in
     let o = orders_seen c.args.orders.now in
@@ -104,8 +104,8 @@ returns-in-Err-NoMemory g c =
     let ends = subst (λ (f : Form). Stops f o stops.NoMemory now c.turns.reading came node gives n t) c.turns.invariant.form (rw c.in-Err-NoMemory.field-0-is at c.in-Err-NoMemory.ensures.ends) in
     serve_memory form o b c.turns.reading gives watch came node n t now None c.moment-moment.ensures c.turns.invariant.going ends
 
-pub returns-in-Err-WriteFault : goal.returns-in-Err-WriteFault
-returns-in-Err-WriteFault g c =
+pub returns-in-Err-WriteFault-clause-serves : goal.returns-in-Err-WriteFault-clause-serves
+returns-in-Err-WriteFault-clause-serves g c =
     let sight = g.W.Wire.sight in
     let form = c.args.recorder.now.writer.form in
     let o = orders_seen c.args.orders.now in
@@ -120,8 +120,8 @@ returns-in-Err-WriteFault g c =
     let ends = subst (λ (f : Form). Stops f o stops.WriteFault now c.turns.reading came node gives n t) c.turns.invariant.form (rw c.in-Err-WriteFault.field-0-is at c.in-Err-WriteFault.ensures.ends) in
     serve_write form o b c.turns.reading gives watch came node n t now None c.moment-moment.ensures c.turns.invariant.going ends
 
-pub returns-in-Err-take : goal.returns-in-Err-take
-returns-in-Err-take g c =
+pub returns-in-Err-take-clause-serves : goal.returns-in-Err-take-clause-serves
+returns-in-Err-take-clause-serves g c =
     let sight = g.W.Wire.sight in
     let form = c.args.recorder.now.writer.form in
     let o = orders_seen c.args.orders.now in
@@ -139,12 +139,12 @@ returns-in-Err-take g c =
     let is : wait ≡ wait_in (pause_of o watch after) = asked_wait c.args.orders.now c.turn_at.new.node watch now wait c.in-Ok-false.ensures.ready.rules c.moment-moment.ensures c.wait_for-wait.ensures in
     let ends = subst (λ (f : Form). Ends f o c.in-Ok-false.field-0 now c.turns.reading came node after gives n t) c.turns.invariant.form c.in-Ok-false.ensures.ends in
     let passed = passed_by form o b c.turns.reading gives watch came node n t now (turned (Ok c.in-Ok-false.field-0) after) c.in-Ok-false.field-0 c.moment-moment.ensures c.turns.invariant.going ends in
-    let noted = subst (λ (f : Form). NotesFault FailedTake f c.fail-in-Err-take.result (g.K.Sink.sight c.turn_at.new.out) (g.K.Sink.sight c.fail-in-Err-take.new.out)) (c.in-Ok-false.ensures.same_form ∙ c.turns.invariant.form) c.fail-in-Err-take.ensures in
+    let noted = subst (λ (f : Form). NotesFault FailedTake f c.fail-in-Err-take.result (g.K.Sink.sight c.turn_at.new.out) (g.K.Sink.sight c.fail-in-Err-take.new.out)) (c.in-Ok-false.ensures.same_form ∙ c.turns.invariant.form) c.fail-in-Err-take.ensures.notes in
     untaken_ends form o b t.gives watch after t.wire (sight c.take.new.self) n.clock (g.K.Sink.sight c.turn_at.new.out) (g.K.Sink.sight c.fail-in-Err-take.new.out) wait c.fail-in-Err-take.result
     (subst (λ (x : Bool). Passed form o b t.gives watch (turned (Ok x) after) m) c.in-Ok-false.field-0-test passed) c.in-Err-take.ensures.failed c.take.ensures.waited is noted
 
-pub returns-in-Err-note : goal.returns-in-Err-note
-returns-in-Err-note g c =
+pub returns-in-Err-note-clause-serves : goal.returns-in-Err-note-clause-serves
+returns-in-Err-note-clause-serves g c =
     let sight = g.W.Wire.sight in
     let form = c.args.recorder.now.writer.form in
     let o = orders_seen c.args.orders.now in
@@ -172,8 +172,8 @@ returns-in-Err-note g c =
     let written : Unwritten form found (g.K.Sink.sight c.turn_at.new.out) (g.K.Sink.sight c.note.new.out) = noted_err (Unit {0}) form (Found found) c.in-Err-note.field-0 (g.K.Sink.sight c.turn_at.new.out) (g.K.Sink.sight c.note.new.out) noted in
     serve_take_write form o b t.gives watch after m found (sight c.take.new.self) (g.K.Sink.sight c.note.new.out).held (g.K.Sink.sight c.note.new.out).faults wait fits passed' taken c.take.ensures.waited is written.0 written.1
 
-pub returns-then-watch-eq-MOST_EQUAL : goal.returns-then-watch-eq-MOST_EQUAL
-returns-then-watch-eq-MOST_EQUAL g c =
+pub returns-then-watch-eq-MOST_EQUAL-clause-serves : goal.returns-then-watch-eq-MOST_EQUAL-clause-serves
+returns-then-watch-eq-MOST_EQUAL-clause-serves g c =
     let sight = g.W.Wire.sight in
     let form = c.args.recorder.now.writer.form in
     let o = orders_seen c.args.orders.now in
@@ -250,3 +250,6 @@ turns-preserved g c =
       empty = c.in_default-note.ensures.empty;
       form = ap (λ (w : Writer). w.form) c.in_default-note.ensures.same ∙ c.in-Ok-false.ensures.same_form ∙ c.turns.invariant.form;
     }
+
+pub returns-in-Err-NoMemory-clause-memory : goal.returns-in-Err-NoMemory-clause-memory
+returns-in-Err-NoMemory-clause-memory g c = λ is. (rw c.in-Err-NoMemory.field-0-is at c.in-Err-NoMemory.ensures.memory) refl
