@@ -1,8 +1,8 @@
 -- The entries of the map under its calls are the model's table under the model's calls. A map tests the key that is asked for against an entry's, the model an entry's against the one that is asked for.
-use Rattle.std.proofs.Common.{ℕ, ◌≡◌, ◌==◌, Bool, true, false, List, [], ◌∷◌, Option, Some, None, refl, sym, ap, ◌∙◌, inl, inr, arith}
+use Rattle.std.proofs.Common.{ℕ, ◌≡◌, ◌==◌, Bool, true, false, List, [], ◌∷◌, Option, Some, None, Bor, is_some, refl, sym, ap, ◌∙◌, inl, inr, arith}
 use Rattle.std.specs.Prelude.{◌&&◌, OnSome, unwrap_or}
 use Rattle.std.specs.Borrow.{MutBor}
-use Rattle.std.specs.Option.{option_copied_mut}
+use Rattle.std.specs.Option.{option_copied, option_copied_mut}
 use Rattle.std.specs.List.{AllByRecursion, IsDistinct}
 use Rattle.std.specs.Map.{keys_of, lookup, set_value}
 use Rattle.std.proofs.lemmas.Bool.{cases_Bool}
@@ -11,7 +11,7 @@ use Rattle.indexmap.specs.IndexMap.{insert_entry}
 use Rattle.dt_units.specs.declared.endpoints.Flow.{Flow}
 use Rattle.dt_world_model.specs.Ledgers.{FlowLedger}
 use Rattle.dt_world_model.specs.Tables.{Distinct, Lacks, look, same_flow, write}
-use Rattle.dt_world_model.proofs.Tables.{flow_is}
+use Rattle.dt_world_model.proofs.Tables.{flow_is, flow_self, look_write}
 use Rattle.dt_ledger.specs.Flows.{ledger_in}
 
 -- the equality of flows as it is derived
@@ -104,3 +104,17 @@ all_stays f (row ∷ rows) l e =
 -- where a call on the flow's ledger changes it, or leaves it
 pub unchanged : (f : Flow) (old new : List (Flow × FlowLedger)) (l after : FlowLedger) → Some l ≡ look same_flow f old → after ≡ l → new ≡ write same_flow f after old → new ≡ old
 unchanged f old new l after there is e = e ∙ ap (λ (a : FlowLedger). write same_flow f a old) is ∙ all_stays f old l there
+
+-- a flow that is there is written as it was
+pub begun_already : (f : Flow) (r : Option (Bor FlowLedger)) (rows : List (Flow × FlowLedger)) → option_copied r ≡ look same_flow f rows → true ≡ is_some r → rows ≡ write same_flow f (ledger_in rows f) rows
+begun_already f None rows v e = absurd cc
+begun_already f (Some b) rows v e = sym (all_stays f rows b.now v) ∙ ap (λ (l : FlowLedger). write same_flow f l rows) (ledger_there f rows b.now v)
+
+-- of one that isn't there nothing is found
+pub none_there : (f : Flow) (r : Option (Bor FlowLedger)) (rows : List (Flow × FlowLedger)) → option_copied r ≡ look same_flow f rows → false ≡ is_some r → None ≡ look same_flow f rows
+none_there f None rows v e = v
+none_there f (Some b) rows v e = absurd cc
+
+-- what was written is there
+pub written_there : (f : Flow) (l : FlowLedger) (old new : List (Flow × FlowLedger)) → new ≡ write same_flow f l old → is_some (look same_flow f new) ≡ true
+written_there f l old new e = ap (λ (rows : List (Flow × FlowLedger)). is_some (look same_flow f rows)) e ∙ ap is_some (look_write Flow FlowLedger same_flow flow_self flow_is f l old)

@@ -131,7 +131,7 @@ impl FlowRows {
 
     /// So many octets more were read in a life of the receiving station. `NoMemory` comes only at the
     /// first read of a life, and leaves the ledger as it was.
-    pub fn note_read(&mut self, life: u32, count: u32) -> Result<(), NoMemory>
+    pub fn note_read(&mut self, life: u32, count: u64) -> Result<(), NoMemory>
         requires { read_of_all self.old.reads + count < 2 ^ 62 }
         ensures ok { OnOk result (self.new ≡ record self.old { reads = note_read life count self.old.reads }) }
         ensures err { OnErr result (self.new ≡ self.old) }
@@ -170,10 +170,18 @@ impl FlowRows {
         self.taken.at(place)
     }
 
-    /// The place of the last given row. None comes exactly where there is no given row.
+    /// The number of octets that were read, over all lives.
+    pub fn read_count(&self) -> u64
+        ensures { result ≡ read_of_all self.now.reads }
+    {
+        self.reads.all()
+    }
+
+    /// The place of the last given row, below 2^62 - 1. None comes exactly where there is no given row.
     pub fn last_given(&self) -> Option<u64>
         ensures none { IsNone result ↔ (self.now.given ≡ []) }
         ensures last { IfSome result (λ place. place + 1 ≡ top self.now.given) }
+        ensures below { IfSome result (λ place. place + 1 < 2 ^ 62) }
     {
         self.given.last_place()
     }

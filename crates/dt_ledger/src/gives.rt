@@ -69,6 +69,7 @@ impl GivenRows {
     pub fn last_place(&self) -> Option<u64>
         ensures none { IsNone result ↔ (self.now ≡ []) }
         ensures last { IfSome result (λ place. place + 1 ≡ top self.now) }
+        ensures below { IfSome result (λ place. place + 1 < 2 ^ 62) }
     {
         match self.gives.last() {
             Some(give) => Some(give.place + give.count - 1),

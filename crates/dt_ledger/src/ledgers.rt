@@ -1,4 +1,4 @@
-ghost use Rattle.std.specs.Prelude.{◌≡◌, ◌+◌, ◌^◌, ◌<◌, ◌≤◌, ◌↔◌, [], ◌++◌, false, length, IfSome, IsNone, IsSome, OnErr, OnOk, slice_get, Some};
+ghost use Rattle.std.specs.Prelude.{◌≡◌, ◌+◌, ◌^◌, ◌<◌, ◌≤◌, ◌↔◌, [], ◌++◌, false, length, IfSome, IsNone, IsSome, None, OnErr, OnOk, slice_get, Some};
 ghost use Rattle.std.specs.Borrow.{sem};
 ghost use Rattle.std.specs.Option.{option_copied, option_copied_mut, option_map};
 ghost use Rattle.dt_items.specs.Unread.{marked};
@@ -92,6 +92,21 @@ impl Ledger {
         Ok(())
     }
 
+    /// The flow is there afterwards: one that isn't comes behind all others, with nothing in its ledger.
+    /// `NoMemory` comes only where it wasn't there, and leaves the ledger as it was.
+    pub fn begin(&mut self, flow: &Flow) -> Result<(), NoMemory>
+        ensures ok { OnOk result (self.new ≡ write same_flow flow.now (ledger_in self.old flow.now) self.old) }
+        ensures there { OnOk result (IsSome (look same_flow flow.now self.new)) }
+        ensures err { OnErr result (self.new ≡ self.old) }
+        ensures memory { OnErr result (look same_flow flow.now self.old ≡ None) }
+    {
+        if self.rows(flow).is_some() {
+            return Ok(());
+        }
+        self.flows.insert(*flow, FlowRows::new(self.alloc))?;
+        Ok(())
+    }
+
     /// So many taken rows of the flow from a place on, which are there, get their first moment.
     pub fn note_first(&mut self, flow: &Flow, place: u64, count: u32, at: u64)
         requires flow { IsSome (look same_flow flow.now self.old) }
@@ -119,8 +134,8 @@ impl Ledger {
         }
     }
 
-    /// Octets are given to the receiver of the flow, which is there, with the places from `place` on.
-    /// `NoMemory` leaves the ledger as it was.
+    /// Octets are given to the receiver of the flow, with the places from `place` on. A flow that isn't
+    /// there comes behind all others. `NoMemory` leaves the ledger as it was.
     pub fn give(
         &mut self,
         flow: &Flow,
@@ -132,32 +147,37 @@ impl Ledger {
         life: u32,
         at: u64,
     ) -> Result<(), NoMemory>
-        requires flow { IsSome (look same_flow flow.now self.old) }
         requires below { place + length octets.now < 2 ^ 62 }
         ensures ok { let before = ledger_in self.old flow.now in let rows = given_rows life at run place (marked octets.now begin end false) in
             OnOk result (self.new ≡ write same_flow flow.now (record before { given = before.given ++ rows }) self.old) }
         ensures err { OnErr result (self.new ≡ self.old) }
     {
-        match self.rows_mut(flow) {
-            Some(rows) => rows.give(place, octets, begin, end, run, life, at),
-            None => unreachable!(),
+        if let Some(rows) = self.rows_mut(flow) {
+            return rows.give(place, octets, begin, end, run, life, at);
         }
+        let mut rows = FlowRows::new(self.alloc);
+        rows.give(place, octets, begin, end, run, life, at)?;
+        self.flows.insert(*flow, rows)?;
+        Ok(())
     }
 
-    /// So many octets more of the flow, which is there, were read in a life of the receiving station.
-    /// `NoMemory` comes only at the first read of a life, and leaves the ledger as it was.
-    pub fn note_read(&mut self, flow: &Flow, life: u32, count: u32) -> Result<(), NoMemory>
-        requires flow { IsSome (look same_flow flow.now self.old) }
+    /// So many octets more of the flow were read in a life of the receiving station. A flow that isn't
+    /// there comes behind all others. `NoMemory` comes only at the first read of a life, and leaves the
+    /// ledger as it was.
+    pub fn note_read(&mut self, flow: &Flow, life: u32, count: u64) -> Result<(), NoMemory>
         requires below { read_of_all (ledger_in self.old flow.now).reads + count < 2 ^ 62 }
         ensures ok { let before = ledger_in self.old flow.now in
             OnOk result (self.new ≡ write same_flow flow.now (record before { reads = note_read life count before.reads }) self.old) }
         ensures err { OnErr result (self.new ≡ self.old) }
         ensures memory { OnErr result (HasNoEntry life (ledger_in self.old flow.now).reads) }
     {
-        match self.rows_mut(flow) {
-            Some(rows) => rows.note_read(life, count),
-            None => unreachable!(),
+        if let Some(rows) = self.rows_mut(flow) {
+            return rows.note_read(life, count);
         }
+        let mut rows = FlowRows::new(self.alloc);
+        rows.note_read(life, count)?;
+        self.flows.insert(*flow, rows)?;
+        Ok(())
     }
 
     /// The number of flows. Each stands once.
@@ -211,10 +231,22 @@ impl Ledger {
         }
     }
 
-    /// The place of the flow's last given row. None comes exactly where it has no given row.
+    /// The number of octets of the flow that were read, over all lives, 0 where it isn't there.
+    pub fn read_count(&self, flow: &Flow) -> u64
+        ensures { result ≡ read_of_all (ledger_in self.now flow.now).reads }
+    {
+        match self.rows(flow) {
+            Some(rows) => rows.read_count(),
+            None => 0,
+        }
+    }
+
+    /// The place of the flow's last given row, below 2^62 - 1. None comes exactly where it has no given
+    /// row.
     pub fn last_given(&self, flow: &Flow) -> Option<u64>
         ensures none { IsNone result ↔ ((ledger_in self.now flow.now).given ≡ []) }
         ensures last { IfSome result (λ place. place + 1 ≡ top (ledger_in self.now flow.now).given) }
+        ensures below { IfSome result (λ place. place + 1 < 2 ^ 62) }
     {
         match self.rows(flow) {
             Some(rows) => rows.last_given(),

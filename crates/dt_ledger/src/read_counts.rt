@@ -28,17 +28,17 @@ impl Model for ReadCounts {
 }
 
 /// So many more octets were read in a life.
-fn add(by_life: &mut IndexMap<u32, u64>, life: u32, count: u32) -> Result<(), NoMemory>
+fn add(by_life: &mut IndexMap<u32, u64>, life: u32, count: u64) -> Result<(), NoMemory>
     requires { read_of_all (reads_in by_life.old.entries) + count < 2 ^ 62 }
     ensures ok { OnOk result (reads_in by_life.new.entries ≡ note_read life count (reads_in by_life.old.entries)) }
     ensures err { OnErr result (by_life.new.entries ≡ by_life.old.entries) }
     ensures memory { OnErr result (HasNoEntry life (reads_in by_life.old.entries)) }
 {
     if let Some(read) = by_life.get_mut(&life) {
-        *read += u64::from(count);
+        *read += count;
         return Ok(());
     }
-    by_life.insert(life, u64::from(count))?;
+    by_life.insert(life, count)?;
     Ok(())
 }
 
@@ -62,14 +62,14 @@ impl ReadCounts {
 
     /// So many more octets were read in a life. `NoMemory` comes only where nothing was read in it yet,
     /// and leaves the counts as they were.
-    pub fn note(&mut self, life: u32, count: u32) -> Result<(), NoMemory>
+    pub fn note(&mut self, life: u32, count: u64) -> Result<(), NoMemory>
         requires { read_of_all self.old + count < 2 ^ 62 }
         ensures ok { OnOk result (self.new ≡ note_read life count self.old) }
         ensures err { OnErr result (self.new ≡ self.old) }
         ensures memory { OnErr result (HasNoEntry life self.old) }
     {
         add(&mut self.by_life, life, count)?;
-        self.all += u64::from(count);
+        self.all += count;
         Ok(())
     }
 }

@@ -24,3 +24,6 @@ returns-in-Some-clause-none c =
 
 pub returns-in-Some-clause-last : goal.returns-in-Some-clause-last
 returns-in-Some-clause-last c = omega (arith, (last c).top_is, (last c).some, ap top c.self.view_is)
+
+pub returns-in-Some-clause-below : goal.returns-in-Some-clause-below
+returns-in-Some-clause-below c = omega (arith, (last c).below, (last c).some)

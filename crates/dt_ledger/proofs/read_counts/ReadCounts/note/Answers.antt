@@ -5,4 +5,4 @@ use Rattle.dt_ledger.proofs.read_counts.ReadCounts.note.Goals as goal
 
 pub invariant_of-self-2 : goal.invariant_of-self-2
 invariant_of-self-2 c =
-    omega (arith, c.self.invariant, c.from.ensures, ap read_of_all c.in_ok-add.ensures.ok, read_of_all-note_read c.args.life c.args.count (reads_in c.self.inside.by_life.entries))
+    omega (arith, c.self.invariant, ap read_of_all c.in_ok-add.ensures.ok, read_of_all-note_read c.args.life c.args.count (reads_in c.self.inside.by_life.entries))
