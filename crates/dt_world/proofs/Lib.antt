@@ -1,7 +1,6 @@
 pub mod Beginning
 pub mod Arriving
 pub mod Happening
-pub mod LedgerCalls
 pub mod Possible
 pub mod Restarting
 pub mod RunTables

@@ -16,7 +16,7 @@ use Rattle.dt_world.specs.declared.parts.Parts.{Parts}
 use Rattle.dt_world.specs.Outcomes.{HasHappened, HasStopped, IsDone, IsSpent}
 use Rattle.dt_world.specs.Setups.{AreNumbered}
 use Rattle.dt_world.specs.Steps.{most_now}
-use Rattle.dt_world.specs.Stopping.{ComesTo}
+use Rattle.dt_world.specs.Stopping.{ComesTo, IsAtItsEnd, MayStop}
 use Rattle.dt_world.specs.Worlds.{IsStationOf, IsWhole, WorldValue, most_read, world_seen}
 
 abbrev pub unspent : World → WorldValue
@@ -39,21 +39,22 @@ module _ (parts : Parts) (whole : IsWhole parts) (e : WorldEvent) (can : CanHapp
         facts = (goes h.world_is).0;
       }
 
-  pub is_done : {L : Type 0} (tells : L → Entry → L → Type 0) (u v : L) → HasHappened tells (after_event w e) u v (world_seen after) → IsDone tells (unspent w) e u v (unspent (world_seen after))
-  is_done tells u v h =
+  pub is_done : {L : Type 0} (tells : L → Entry → L → Type 0) (u v : L) → (IsAtItsEnd w e → ⊥) → HasHappened tells (after_event w e) u v (world_seen after) → IsDone tells (unspent w) e u v (unspent (world_seen after))
+  is_done tells u v within h =
       let k = goes h.world_is in
       record {
         told = (after_event w e).0;
         step = ap (λ (o : Option StepFault). step_unless o (after_event w e)) begun ∙ ap (λ (x : World). Stepped (after_event w e).0 x) (sym h.world_is);
         lines = h.lines;
         unspent = refl;
+        within = within;
         safe = λ f. facts_are_safe (world_seen after) f k.0;
         facts = k.0;
         fates = λ f. lifted_fates w.params (view w f) (view (world_seen after) f) (k.1 f);
       }
 
-  pub is_spent : {L : Type 0} (tells : L → Entry → L → Type 0) (u v : L) → HasStopped tells w (ComesTo w e) (after_event w e) u v (world_seen after) → IsSpent tells (unspent w) e u v (record { state = world_seen after; spent = true })
-  is_spent tells u v h = record { begun = begun; noted = h.noted; comes_to = h.comes_to; rest = h.rest; told = h.told; lines = h.lines; spent = refl; has_noted = h.has_noted; kept = h.kept; safe = h.safe }
+  pub is_spent : {L : Type 0} (tells : L → Entry → L → Type 0) (u v : L) → MayStop w e → HasStopped tells w (ComesTo w e) (after_event w e) u v (world_seen after) → IsSpent tells (unspent w) e u v (record { state = world_seen after; spent = true })
+  is_spent tells u v may h = record { begun = begun; may = may; noted = h.noted; comes_to = h.comes_to; rest = h.rest; told = h.told; lines = h.lines; spent = refl; has_noted = h.has_noted; kept = h.kept; safe = h.safe }
 
 -- a refused event, by its fault
 pub refused_by : (w : World) (e : WorldEvent) (fault : StepFault) → first_refusal (refusals w e) ≡ Some fault → world_step w e ≡ Refused fault

@@ -1,5 +1,6 @@
 pub mod Copies
 pub mod Effects
+pub mod Marks
 pub mod Notes
 pub mod Occasions
 pub mod Outcomes

@@ -9,7 +9,7 @@ use Rattle.dt_world_model.specs.Ledgers.{ledger_of}
 use Rattle.dt_world_model.specs.World.{Noted, World, view}
 use Rattle.dt_world_model.specs.WorldFacts.{SafeLedgers, SafeWorld, WorldFacts}
 use Rattle.dt_world_model.specs.WorldStep.{Refused, Stepped, WorldEvent, after_event, first_refusal, refusals, world_step}
-use Rattle.dt_world.specs.Stopping.{ComesTo, HasNoted, KeepsLedger}
+use Rattle.dt_world.specs.Stopping.{ComesTo, HasNoted, IsAtItsEnd, KeepsLedger, MayStop}
 use Rattle.dt_world.specs.Tellers.{TellsAll}
 use Rattle.dt_world.specs.Worlds.{WorldValue}
 
@@ -33,12 +33,13 @@ module _ {L : Type 0} (tells : L → Entry → L → Type 0) where
   Happens (Ok done) w comes r before after world = HasHappened r before after world
   Happens (Err e) w comes r before after world = HasStopped w comes r before after world
 
-  -- A STEP IS DONE: it told the definition's lines, gave its world, changed no fate that isn't open, and each flow is safe. The world has the facts about time, from which the next step goes on.
+  -- A STEP IS DONE: no count would have passed its end; it told the definition's lines, gave its world, changed no fate that isn't open, and each flow is safe. The world has the facts about time, from which the next step goes on.
   pub record IsDone (w : WorldValue) (e : WorldEvent) (before after : L) (new : WorldValue) : Type 0 where
     pub told : List Entry
     pub step : world_step w.state e ≡ Stepped told new.state
     pub lines : TellsAll tells told before after
     pub unspent : new.spent ≡ false
+    pub within : IsAtItsEnd w.state e → ⊥
     pub safe : SafeWorld new.state
     pub facts : WorldFacts new.state
     pub fates : (f : Flow) → KeepsFates (view w.state f).taken (view new.state f).taken
@@ -49,9 +50,10 @@ module _ {L : Type 0} (tells : L → Entry → L → Type 0) where
     pub same : new ≡ w
     pub lines : after ≡ before
 
-  -- It found no memory: it wasn't to be refused, came to some point of its event and told the definition's lines up to there. The world is spent: it has what was noted up to there and nothing else is new. So it has the lives that it had, nothing that was acknowledged, given or read before is gone, and its ledgers are safe.
+  -- It found no memory, where it may want some, or a count would have passed its end: it wasn't to be refused, came to some point of its event and told the definition's lines up to there. The world is spent: it has what was noted up to there and nothing else is new. So it has the lives that it had, nothing that was acknowledged, given or read before is gone, and its ledgers are safe.
   pub record IsSpent (w : WorldValue) (e : WorldEvent) (before after : L) (new : WorldValue) : Type 0 where
     pub begun : first_refusal (refusals w.state e) ≡ None
+    pub may : MayStop w.state e
     pub noted : Noted
     pub comes_to : ComesTo w.state e noted
     pub rest : List Entry

@@ -1,5 +1,5 @@
 //! What happens to the parts of a world in an event that isn't refused.
-ghost use Rattle.std.specs.Prelude.{◌≡◌, ◌≢◌, ◌+◌, ◌<◌, ◌≤◌, OnErr, OnOk, [], length, None};
+ghost use Rattle.std.specs.Prelude.{◌≡◌, ◌==◌, ◌≢◌, ◌+◌, ◌<◌, ◌≤◌, OnErr, OnOk, [], length, None};
 ghost use Rattle.dt_units.specs.Flows.{IsFlow};
 ghost use Rattle.dt_layout.specs.declared.limits.TheConstants.{MOST_DATA};
 ghost use Rattle.dt_layout.specs.Carried.{IsGram};
@@ -9,11 +9,11 @@ ghost use Rattle.dt_flow_model.specs.Frames.{value_in};
 ghost use Rattle.dt_flow_model.specs.Keeping.{octets_below};
 ghost use Rattle.dt_world_model.specs.Ledgers.{ledger_of};
 ghost use Rattle.dt_world_model.specs.Station.{Read, Send, Tick};
-ghost use Rattle.dt_world_model.specs.Tables.{AllEntries};
+ghost use Rattle.dt_world_model.specs.Tables.{AllEntries, look};
 ghost use Rattle.dt_world_model.specs.WorldStep.{Arrives, Loses, Restarts, after_event, at_station, first_refusal, loss, refusals};
 ghost use Rattle.dt_world.specs.Outcomes.{Happens, HasHappened};
 ghost use Rattle.dt_world.specs.Steps.{BringsPacket, most_now};
-ghost use Rattle.dt_world.specs.Stopping.{ComesAt, ComesTo};
+ghost use Rattle.dt_world.specs.Stopping.{ComesAt, ComesTo, IsLastLife};
 ghost use Rattle.dt_world.specs.Worlds.{IsStationOf, IsWhole, world_seen};
 
 use crate::marked::Mark;
@@ -203,6 +203,7 @@ pub fn restart<L: Lines>(parts: &mut Parts, node: u32, lines: &mut L) -> Result<
     requires whole { IsWhole parts.old }
     ensures happens { let w = world_seen parts.old in
         Happens L.tells result w (ComesTo w (Restarts node)) (after_event w (Restarts node)) lines.old lines.new (world_seen parts.new) }
+    ensures within { OnOk result (IsLastLife (look ◌==◌ node (world_seen parts.old).stations) → ⊥) }
     ensures stations { OnOk result (AllEntries (IsStationOf parts.old.rules parts.old.now) parts.new.stations.entries) }
     ensures rules { parts.new.rules ≡ parts.old.rules }
     ensures now { parts.new.now ≡ parts.old.now }
@@ -228,13 +229,15 @@ pub fn restart<L: Lines>(parts: &mut Parts, node: u32, lines: &mut L) -> Result<
 /// The greatest moment of a world.
 const MOST_NOW: u64 = 1 << 61;
 
-/// So many milliseconds pass. `NoMemory` comes where the moment would be above 2^61, and changes
+/// So many milliseconds pass. `NoMemory` comes exactly where the moment would be above 2^61, and changes
 /// nothing.
 pub fn pass(parts: &mut Parts, by: u32) -> Result<(), NoMemory>
     requires whole { IsWhole parts.old }
     ensures passed { OnOk result (parts.new ≡ record parts.old { now = parts.old.now + by }) }
     ensures moment { OnOk result (parts.new.now ≤ most_now) }
     ensures same { OnErr result (parts.new ≡ parts.old) }
+    ensures within { OnOk result (most_now < parts.old.now + by → ⊥) }
+    ensures end { OnErr result (most_now < parts.old.now + by) }
 {
     if parts.now > MOST_NOW - u64::from(by) {
         return Err(NoMemory);

@@ -1,11 +1,14 @@
 //! The mark of a frame that a host made.
-ghost use Rattle.std.specs.Prelude.{◌≡◌, IfSome};
+ghost use Rattle.std.specs.Prelude.{◌≡◌, ◌≢◌, ◌↔◌, IfSome, IsNone};
+ghost use Rattle.dt_layout.specs.Carried.{IsGram};
+ghost use Rattle.dt_layout.specs.Reading.{gram_in, packet_read};
 ghost use Rattle.dt_layout.specs.Spelling.{packet_of};
 ghost use Rattle.dt_flow_model.specs.Flow.{ack_place};
 ghost use Rattle.dt_flow_model.specs.Ledger.{top};
 ghost use Rattle.dt_world_model.specs.Host.{receiver_at, sender_at};
 ghost use Rattle.dt_world_model.specs.Ledgers.{ledger_of, mark_of, place_for, place_sent};
 ghost use Rattle.dt_ledger.specs.Flows.{ledger_in};
+ghost use Rattle.dt_world.specs.Marks.{IsForeign, LacksMark};
 ghost use Rattle.dt_world.specs.Notes.{ledgers_seen};
 ghost use Rattle.dt_world.specs.Occasions.{occasion_seen};
 
@@ -18,14 +21,16 @@ use dt_ledger::Ledger;
 use dt_units::{Flow, NodeId};
 
 /// The mark of a frame that the host made: it is born now, and its place is told from the ledger and
-/// from the host after the act or the reply that made it. None where the frame isn't one of a host of
-/// these rules.
+/// from the host after the act or the reply that made it. None comes exactly where the frame carries no
+/// packet, or one that a sender made, of a host whose numbers begin elsewhere than the event's.
 pub fn mark_of(notes: &Notes, occasion: &Occasion<'_>, host: &Host, frame: &Frame) -> Option<Mark>
-    ensures { IfSome result (λ mark. mark ≡ mark_of (occasion_seen occasion.entry.now) (ledgers_seen notes.now) host.now.state frame.now) }
+    requires gram { IsGram frame.now }
+    ensures mark { IfSome result (λ mark. mark ≡ mark_of (occasion_seen occasion.entry.now) (ledgers_seen notes.now) host.now.state frame.now) }
+    ensures none { IsNone result ↔ LacksMark occasion.entry.now.rules.now host.now.rules (packet_read (gram_in frame.now)) }
 {
     let gram = match read_deltagram(frame.as_slice()) {
         Ok(gram) => gram,
-        Err(_) => return None,
+        Err(_) => unreachable!(),
     };
     let packet = match read_packet(&gram) {
         Ok(packet) => packet,
@@ -38,7 +43,8 @@ pub fn mark_of(notes: &Notes, occasion: &Occasion<'_>, host: &Host, frame: &Fram
     }
 }
 
-/// The place of a packet of the flow.
+/// The place of a packet of the flow. None comes exactly where a sender made it, of a host whose numbers
+/// begin elsewhere than the event's.
 fn place_of(
     notes: &Notes,
     occasion: &Occasion<'_>,
@@ -46,18 +52,21 @@ fn place_of(
     flow: &Flow,
     packet: &Packet<'_>,
 ) -> Option<u64>
-    ensures { IfSome result (λ place. place ≡ place_for (occasion_seen occasion.entry.now) (ledger_of (ledgers_seen notes.now) flow.now) host.now.state flow.now (packet_of packet.now)) }
+    ensures place { IfSome result (λ place. place ≡ place_for (occasion_seen occasion.entry.now) (ledger_of (ledgers_seen notes.now) flow.now) host.now.state flow.now (packet_of packet.now)) }
+    ensures none { IsNone result ↔ IsForeign occasion.entry.now.rules.now host.now.rules (packet_of packet.now) }
 {
     match *packet {
         Packet::Data { number, .. } => sent_place(notes, occasion, host, flow, number),
         Packet::Meet { number, .. } => sent_place(notes, occasion, host, flow, number),
-        Packet::Ack { number, .. } => acknowledged_place(notes, occasion, host, flow, number),
+        Packet::Ack { number, .. } => {
+            Some(acknowledged_place(notes, occasion, host, flow, number))
+        }
         Packet::Close { .. } => Some(0),
     }
 }
 
 /// The place of a number that the flow's sender sent: the count taken, less the count waiting, less how
-/// far the number is before the next one. None where the host's numbers begin elsewhere.
+/// far the number is before the next one. None comes exactly where the host's numbers begin elsewhere.
 fn sent_place(
     notes: &Notes,
     occasion: &Occasion<'_>,
@@ -65,7 +74,8 @@ fn sent_place(
     flow: &Flow,
     number: u32,
 ) -> Option<u64>
-    ensures { IfSome result (λ place. place ≡ place_sent occasion.entry.now.rules.now (ledger_of (ledgers_seen notes.now) flow.now) number (sender_at host.now.state flow.now)) }
+    ensures place { IfSome result (λ place. place ≡ place_sent occasion.entry.now.rules.now (ledger_of (ledgers_seen notes.now) flow.now) number (sender_at host.now.state flow.now)) }
+    ensures none { IsNone result ↔ (host.now.rules.start ≢ occasion.entry.now.rules.now.start) }
 {
     if host.rules().params().start != occasion.rules.params().start {
         return None;
@@ -87,28 +97,27 @@ fn acknowledged_place(
     host: &Host,
     flow: &Flow,
     number: u32,
-) -> Option<u64>
-    ensures { IfSome result (λ place. place ≡ ack_place (receiver_at host.now.state flow.now).standing (ledger_of (ledgers_seen notes.now) flow.now).given number occasion.entry.now.place) }
+) -> u64
+    ensures { result ≡ ack_place (receiver_at host.now.state flow.now).standing (ledger_of (ledgers_seen notes.now) flow.now).given number occasion.entry.now.place }
 {
     match host.expected(flow) {
         Some(expected) => {
             if number == expected {
                 after_given(&notes.ledger, flow)
             } else {
-                Some(occasion.place)
+                occasion.place
             }
         }
-        None => Some(occasion.place),
+        None => occasion.place,
     }
 }
 
-/// The place after the last one that was given to the flow's receiver. None where there is none so
-/// high.
-fn after_given(ledger: &Ledger, flow: &Flow) -> Option<u64>
-    ensures { IfSome result (λ place. place ≡ top (ledger_in ledger.now flow.now).given) }
+/// The place after the last one that was given to the flow's receiver, at most 2^62.
+fn after_given(ledger: &Ledger, flow: &Flow) -> u64
+    ensures { result ≡ top (ledger_in ledger.now flow.now).given }
 {
     match ledger.last_given(flow) {
-        Some(place) => place.checked_add(1),
-        None => Some(0),
+        Some(place) => place + 1,
+        None => 0,
     }
 }

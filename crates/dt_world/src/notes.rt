@@ -1,8 +1,13 @@
 //! What the world notes while a station's event goes on.
-ghost use Rattle.std.specs.Prelude.{◌≡◌, ◌+◌, ◌<◌, ◌^◌, ◌↔◌, IsTrue, OnErr, OnOk};
-ghost use Rattle.dt_world_model.specs.Ledgers.{Accepts, Changes, GivesUp, ReadsOut, Settles, Takes, Transmits, TransmitsAgain, ledgers_by};
+ghost use Rattle.std.specs.Prelude.{◌≡◌, ◌+◌, ◌<◌, ◌≤◌, ◌^◌, ◌↔◌, ◌⊎◌, IsErr, IsTrue, OnErr, OnOk, None, length};
+ghost use Rattle.indexmap.specs.IndexMap.{spare};
+ghost use Rattle.dt_flow_model.specs.Ledger.{HasNoEntry};
+ghost use Rattle.dt_ledger.specs.Flows.{ledger_in};
+ghost use Rattle.dt_ledger.specs.Reads.{read_of_all};
+ghost use Rattle.dt_world_model.specs.Ledgers.{Accepts, Changes, GivesUp, ReadsOut, Settles, Takes, Transmits, TransmitsAgain, ledger_of, ledgers_by};
+ghost use Rattle.dt_world_model.specs.Tables.{look, same_flow, write};
 ghost use Rattle.dt_world.specs.Effects.{change_seen};
-ghost use Rattle.dt_world.specs.Notes.{ledgers_seen};
+ghost use Rattle.dt_world.specs.Notes.{IsBeyond, IsNew, IsThere, WantsRoom, begun, ledgers_seen, run_in};
 ghost use Rattle.dt_world.specs.Occasions.{occasion_seen};
 
 use crate::copies::Copies;
@@ -25,8 +30,13 @@ pub struct Notes {
     pub copies: Copies,
 }
 
-/// A report changes the ledger and the run of its flow. After `NoMemory` nothing has changed. It comes
-/// also where octets are told of a flow that took none, or more than fit: no run of a world tells such.
+/// A report changes the ledger and the run of its flow. A flow that isn't there begins, behind all
+/// others.
+///
+/// `NoMemory` leaves all as it was. It comes for want of memory: where a flow begins, where octets are
+/// taken or given, and at the first read of a life. And it comes where a count would pass its end, and
+/// always there: the places of given octets, and the number of octets of a flow that were read, end
+/// below 2^62.
 pub fn change(
     notes: &mut Notes,
     occasion: &Occasion<'_>,
@@ -36,15 +46,70 @@ pub fn change(
     ensures ok { OnOk result (ledgers_seen notes.new ≡ ledgers_by (occasion_seen occasion.entry.now) (Changes flow.now (change_seen change)) (ledgers_seen notes.old)) }
     ensures err { OnErr result (ledgers_seen notes.new ≡ ledgers_seen notes.old) }
     ensures copies { notes.new.copies ≡ notes.old.copies }
+    ensures beyond { IsBeyond occasion.entry.now (change_seen change) (ledger_of (ledgers_seen notes.old) flow.now) → IsErr result }
+    ensures memory { OnErr result (IsNew flow.now (ledgers_seen notes.old) ⊎ WantsRoom occasion.entry.now (change_seen change) (ledger_of (ledgers_seen notes.old) flow.now) ⊎ IsBeyond occasion.entry.now (change_seen change) (ledger_of (ledgers_seen notes.old) flow.now)) }
 {
     match change {
         Change::Takes => take(notes, occasion, flow),
-        Change::Transmits { count } => transmit(notes, occasion, flow, count),
-        Change::TransmitsAgain => go_on(notes, occasion, flow),
-        Change::GivesUp { count } => give_up(notes, occasion, flow, count),
-        Change::Settles { count } => settle(notes, occasion, flow, count),
         Change::Accepts { run } => accept(notes, occasion, flow, run),
         Change::ReadsOut { count } => read(notes, occasion, flow, count),
+        Change::Transmits { count } => {
+            begin(notes, flow)?;
+            transmit(notes, occasion, flow, count);
+            Ok(())
+        }
+        Change::TransmitsAgain => {
+            begin(notes, flow)?;
+            go_on(notes, occasion, flow);
+            Ok(())
+        }
+        Change::GivesUp { count } => {
+            begin(notes, flow)?;
+            give_up(notes, occasion, flow, count);
+            Ok(())
+        }
+        Change::Settles { count } => {
+            begin(notes, flow)?;
+            settle(notes, occasion, flow, count);
+            Ok(())
+        }
+    }
+}
+
+/// The flow is there afterwards. One that isn't begins: nothing in its ledger, and no run.
+fn begin(notes: &mut Notes, flow: &Flow) -> Result<(), NoMemory>
+    ensures ok { OnOk result (ledgers_seen notes.new ≡ begun flow.now (ledgers_seen notes.old)) }
+    ensures there { OnOk result (IsThere flow.now (ledgers_seen notes.new)) }
+    ensures err { OnErr result (ledgers_seen notes.new ≡ ledgers_seen notes.old) }
+    ensures copies { notes.new.copies ≡ notes.old.copies }
+    ensures memory { OnErr result (IsNew flow.now (ledgers_seen notes.old)) }
+{
+    make_room(&mut notes.runs, flow)?;
+    notes.ledger.begin(flow)?;
+    begin_run(&mut notes.runs, flow);
+    Ok(())
+}
+
+/// There is room for the run of the flow, or the flow has one.
+fn make_room(runs: &mut Runs, flow: &Flow) -> Result<(), NoMemory>
+    ensures same { runs.new.entries ≡ runs.old.entries }
+    ensures room { OnOk result (look same_flow flow.now runs.new.entries ≡ None → 0 < spare runs.new) }
+    ensures memory { OnErr result (look same_flow flow.now runs.old.entries ≡ None) }
+{
+    if runs.contains_key(flow) {
+        return Ok(());
+    }
+    runs.reserve(1)?;
+    Ok(())
+}
+
+/// The flow has a run: one that isn't there hasn't transmitted.
+fn begin_run(runs: &mut Runs, flow: &Flow)
+    requires room { look same_flow flow.now runs.old.entries ≡ None → 0 < spare runs.old }
+    ensures { runs.new.entries ≡ write same_flow flow.now (run_in runs.old.entries flow.now) runs.old.entries }
+{
+    if !runs.contains_key(flow) {
+        let _ = runs.insert(*flow, FlowRun::new());
     }
 }
 
@@ -54,99 +119,68 @@ fn take(notes: &mut Notes, occasion: &Occasion<'_>, flow: &Flow) -> Result<(), N
     ensures err { OnErr result (ledgers_seen notes.new ≡ ledgers_seen notes.old) }
     ensures copies { notes.new.copies ≡ notes.old.copies }
 {
-    notes.runs.reserve(1)?;
-    let Notes { ledger, runs, .. } = notes;
-    ledger.take(
+    make_room(&mut notes.runs, flow)?;
+    notes.ledger.take(
         flow,
         occasion.life,
         occasion.octets,
         occasion.begin,
         occasion.end,
     )?;
-    if !runs.contains_key(flow) {
-        let _ = runs.insert(*flow, FlowRun::new());
-    }
+    begin_run(&mut notes.runs, flow);
     Ok(())
 }
 
 /// Octets of the flow, so many, go out for the first time.
-fn transmit(
-    notes: &mut Notes,
-    occasion: &Occasion<'_>,
-    flow: &Flow,
-    count: u32,
-) -> Result<(), NoMemory>
-    ensures ok { OnOk result (ledgers_seen notes.new ≡ ledgers_by (occasion_seen occasion.entry.now) (Changes flow.now (Transmits count)) (ledgers_seen notes.old)) }
-    ensures err { OnErr result (ledgers_seen notes.new ≡ ledgers_seen notes.old) }
+fn transmit(notes: &mut Notes, occasion: &Occasion<'_>, flow: &Flow, count: u32)
+    requires there { IsThere flow.now (ledgers_seen notes.old) }
+    ensures becomes { ledgers_seen notes.new ≡ ledgers_by (occasion_seen occasion.entry.now) (Changes flow.now (Transmits count)) (ledgers_seen notes.old) }
     ensures copies { notes.new.copies ≡ notes.old.copies }
 {
     let Some(run) = notes.runs.get_mut(flow) else {
-        return Err(NoMemory);
+        unreachable!();
     };
     let Some(rows) = notes.ledger.rows_mut(flow) else {
-        return Err(NoMemory);
+        unreachable!();
     };
     let place = rows.note_next(occasion.life, count, occasion.now);
     run.transmit(occasion.rules, place, occasion.now);
-    Ok(())
 }
 
 /// Something of the flow's run goes out again.
-fn go_on(notes: &mut Notes, occasion: &Occasion<'_>, flow: &Flow) -> Result<(), NoMemory>
-    ensures ok { OnOk result (ledgers_seen notes.new ≡ ledgers_by (occasion_seen occasion.entry.now) (Changes flow.now TransmitsAgain) (ledgers_seen notes.old)) }
-    ensures err { OnErr result (ledgers_seen notes.new ≡ ledgers_seen notes.old) }
+fn go_on(notes: &mut Notes, occasion: &Occasion<'_>, flow: &Flow)
+    requires there { IsThere flow.now (ledgers_seen notes.old) }
+    ensures becomes { ledgers_seen notes.new ≡ ledgers_by (occasion_seen occasion.entry.now) (Changes flow.now TransmitsAgain) (ledgers_seen notes.old) }
     ensures copies { notes.new.copies ≡ notes.old.copies }
 {
-    if notes.ledger.rows(flow).is_none() {
-        return Err(NoMemory);
-    }
     let Some(run) = notes.runs.get_mut(flow) else {
-        return Err(NoMemory);
+        unreachable!();
     };
     run.go_on(occasion.now);
-    Ok(())
 }
 
 /// The leftmost open octets of the present life, so many, are given up.
-fn give_up(
-    notes: &mut Notes,
-    occasion: &Occasion<'_>,
-    flow: &Flow,
-    count: u32,
-) -> Result<(), NoMemory>
-    ensures ok { OnOk result (ledgers_seen notes.new ≡ ledgers_by (occasion_seen occasion.entry.now) (Changes flow.now (GivesUp count)) (ledgers_seen notes.old)) }
-    ensures err { OnErr result (ledgers_seen notes.new ≡ ledgers_seen notes.old) }
+fn give_up(notes: &mut Notes, occasion: &Occasion<'_>, flow: &Flow, count: u32)
+    requires there { IsThere flow.now (ledgers_seen notes.old) }
+    ensures becomes { ledgers_seen notes.new ≡ ledgers_by (occasion_seen occasion.entry.now) (Changes flow.now (GivesUp count)) (ledgers_seen notes.old) }
     ensures copies { notes.new.copies ≡ notes.old.copies }
 {
-    if !notes.runs.contains_key(flow) {
-        return Err(NoMemory);
-    }
     let Some(rows) = notes.ledger.rows_mut(flow) else {
-        return Err(NoMemory);
+        unreachable!();
     };
     rows.settle_open(occasion.life, count, Fate::Uncertain);
-    Ok(())
 }
 
 /// The leftmost open octets of the present life, so many, are acknowledged.
-fn settle(
-    notes: &mut Notes,
-    occasion: &Occasion<'_>,
-    flow: &Flow,
-    count: u32,
-) -> Result<(), NoMemory>
-    ensures ok { OnOk result (ledgers_seen notes.new ≡ ledgers_by (occasion_seen occasion.entry.now) (Changes flow.now (Settles count)) (ledgers_seen notes.old)) }
-    ensures err { OnErr result (ledgers_seen notes.new ≡ ledgers_seen notes.old) }
+fn settle(notes: &mut Notes, occasion: &Occasion<'_>, flow: &Flow, count: u32)
+    requires there { IsThere flow.now (ledgers_seen notes.old) }
+    ensures becomes { ledgers_seen notes.new ≡ ledgers_by (occasion_seen occasion.entry.now) (Changes flow.now (Settles count)) (ledgers_seen notes.old) }
     ensures copies { notes.new.copies ≡ notes.old.copies }
 {
-    if !notes.runs.contains_key(flow) {
-        return Err(NoMemory);
-    }
     let Some(rows) = notes.ledger.rows_mut(flow) else {
-        return Err(NoMemory);
+        unreachable!();
     };
     rows.settle_open(occasion.life, count, Fate::Acked);
-    Ok(())
 }
 
 /// The octets of the event are given to the flow's receiver, from the event's place on.
@@ -159,17 +193,14 @@ fn accept(
     ensures ok { OnOk result (ledgers_seen notes.new ≡ ledgers_by (occasion_seen occasion.entry.now) (Changes flow.now (Accepts run)) (ledgers_seen notes.old)) }
     ensures err { OnErr result (ledgers_seen notes.new ≡ ledgers_seen notes.old) }
     ensures copies { notes.new.copies ≡ notes.old.copies }
+    ensures beyond { 2 ^ 62 ≤ occasion.entry.now.place + length occasion.entry.now.octets.now → IsErr result }
 {
-    if !notes.runs.contains_key(flow) {
-        return Err(NoMemory);
-    }
     if !stays_below(occasion.place, occasion.octets.len() as u64) {
         return Err(NoMemory);
     }
-    let Some(rows) = notes.ledger.rows_mut(flow) else {
-        return Err(NoMemory);
-    };
-    rows.give(
+    make_room(&mut notes.runs, flow)?;
+    notes.ledger.give(
+        flow,
         occasion.place,
         occasion.octets,
         occasion.begin,
@@ -177,7 +208,9 @@ fn accept(
         run,
         occasion.life,
         occasion.now,
-    )
+    )?;
+    begin_run(&mut notes.runs, flow);
+    Ok(())
 }
 
 /// So many unread octets of the flow are read.
@@ -185,17 +218,16 @@ fn read(notes: &mut Notes, occasion: &Occasion<'_>, flow: &Flow, count: u64) -> 
     ensures ok { OnOk result (ledgers_seen notes.new ≡ ledgers_by (occasion_seen occasion.entry.now) (Changes flow.now (ReadsOut count)) (ledgers_seen notes.old)) }
     ensures err { OnErr result (ledgers_seen notes.new ≡ ledgers_seen notes.old) }
     ensures copies { notes.new.copies ≡ notes.old.copies }
+    ensures beyond { 2 ^ 62 ≤ read_of_all (ledger_of (ledgers_seen notes.old) flow.now).reads + count → IsErr result }
+    ensures memory { OnErr result (IsNew flow.now (ledgers_seen notes.old) ⊎ HasNoEntry occasion.entry.now.life (ledger_of (ledgers_seen notes.old) flow.now).reads ⊎ (2 ^ 62 ≤ read_of_all (ledger_of (ledgers_seen notes.old) flow.now).reads + count)) }
 {
-    if !notes.runs.contains_key(flow) || count > u64::from(u32::MAX) {
+    if !stays_below(notes.ledger.read_count(flow), count) {
         return Err(NoMemory);
     }
-    let Some(rows) = notes.ledger.rows_mut(flow) else {
-        return Err(NoMemory);
-    };
-    if !stays_below(rows.totals().read, count) {
-        return Err(NoMemory);
-    }
-    rows.note_read(occasion.life, count as u32)
+    make_room(&mut notes.runs, flow)?;
+    notes.ledger.note_read(flow, occasion.life, count)?;
+    begin_run(&mut notes.runs, flow);
+    Ok(())
 }
 
 /// Octets of a flow are fewer than this.

@@ -1,5 +1,5 @@
 //! The stations of the world, and an event at one.
-ghost use Rattle.std.specs.Prelude.{◌≡◌, ◌+◌, ◌≤◌, IfOk, OnErr, OnOk, false};
+ghost use Rattle.std.specs.Prelude.{◌≡◌, ◌+◌, ◌^◌, ◌<◌, ◌≤◌, IfOk, OnErr, OnOk, false};
 ghost use Rattle.dt_flow_model.specs.Keeping.{most_moment};
 ghost use Rattle.dt_world_model.specs.Relay.{emptied, new_relay, with_outs};
 ghost use Rattle.dt_world_model.specs.Host.{first_host, restarted_host};
@@ -207,6 +207,7 @@ pub fn start_again(
     ensures station { let relay = new_relay placed.old.plan.outs.items placed.old.plan.ins.items placed.old.plan.routes.items in
         OnOk result (placed.new.station.state ≡ station_with (restarted_host rules.now node (now + placed.old.zero)) relay) }
     ensures err { OnErr result (placed.new ≡ placed.old) }
+    ensures within { OnOk result (placed.old.life + 1 < 2 ^ 32) }
     ensures life { OnOk result (placed.new.life ≡ placed.old.life + 1) }
     ensures rules { OnOk result (placed.new.station.rules ≡ rules.now) }
     ensures unspent { OnOk result (placed.new.station.spent ≡ false) }

@@ -1,5 +1,5 @@
 //! What happens to a world in an event that isn't refused.
-ghost use Rattle.std.specs.Prelude.{◌≡◌, ◌+◌, ◌<◌, ◌≤◌, ◌↔◌, IsTrue, OnOk, length, None};
+ghost use Rattle.std.specs.Prelude.{◌≡◌, ◌+◌, ◌<◌, ◌≤◌, ◌↔◌, IsTrue, OnErr, OnOk, length, None};
 ghost use Rattle.dt_flow_model.specs.Keeping.{octets_below};
 ghost use Rattle.dt_world_model.specs.Ledgers.{ledger_of};
 ghost use Rattle.dt_units.specs.Flows.{IsFlow};
@@ -8,7 +8,7 @@ ghost use Rattle.dt_world_model.specs.WorldFacts.{CanHappen};
 ghost use Rattle.dt_world_model.specs.WorldStep.{after_event, first_refusal, refusals};
 ghost use Rattle.dt_world.specs.Outcomes.{Happens};
 ghost use Rattle.dt_world.specs.Steps.{most_now};
-ghost use Rattle.dt_world.specs.Stopping.{ComesTo};
+ghost use Rattle.dt_world.specs.Stopping.{ComesTo, IsAtItsEnd, MayStop};
 ghost use Rattle.dt_world.specs.Worlds.{IsStationOf, IsWhole, MayStep, event_of, most_read, world_seen};
 
 use crate::doing;
@@ -38,6 +38,8 @@ pub fn happen<L: Lines>(
     ensures stations { OnOk result (AllEntries (IsStationOf parts.new.rules parts.new.now) parts.new.stations.entries) }
     ensures moment { OnOk result (parts.new.now ≤ most_now) }
     ensures can { CanHappen (event_of event.now) }
+    ensures within { OnOk result (IsAtItsEnd (world_seen parts.old) (event_of event.now) → ⊥) }
+    ensures may { OnErr result (MayStop (world_seen parts.old) (event_of event.now)) }
     ensures rules { parts.new.rules ≡ parts.old.rules }
     ensures links { parts.new.links ≡ parts.old.links }
 {

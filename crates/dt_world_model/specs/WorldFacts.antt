@@ -1,11 +1,10 @@
 -- The facts of a world: those of each flow, and of each packet that waits or that was put on a link.
-use Rattle.std.specs.Prelude.{ℕ, ◌+◌, ◌-◌, ◌≤◌, ◌≡◌, ◌==◌, Some, None, List, [], ◌∷◌, ◌++◌, All}
+use Rattle.std.specs.Prelude.{ℕ, ◌+◌, ◌-◌, ◌≤◌, ◌≡◌, ◌==◌, Some, List, [], ◌∷◌, All}
 use Rattle.dt_units.specs.declared.parameters.Params.{Params}
 use Rattle.dt_units.specs.declared.endpoints.Flow.{Flow}
 use Rattle.dt_layout.specs.Carried.{IsGram, life_of}
 use Rattle.dt_layout.specs.Spelling.{Carries}
 use Rattle.dt_layout.specs.Reading.{gram_in}
-use Rattle.dt_reports.specs.Entries.{Entry}
 use Rattle.dt_flow_model.specs.Carried.{Carried, Waits, Flies}
 use Rattle.dt_flow_model.specs.Facts.{Facts, FitsSome}
 use Rattle.dt_flow_model.specs.Safe.{Safe, SafeLedger}
@@ -19,7 +18,7 @@ use Rattle.dt_world_model.specs.Relay.{Parcel, Waiting, Out, charge_of}
 use Rattle.dt_world_model.specs.World.{Placed, Copy, World, placed, view}
 use Rattle.dt_world_model.specs.Ledgers.{Ledgers, ledger_of}
 use Rattle.dt_world_model.specs.Station.{Event, Send, Read, Tick, Arrive}
-use Rattle.dt_world_model.specs.WorldStep.{WorldEvent, Passes, Sends, Reads, Ticks, Arrives, Loses, Restarts, after_event, first_refusal, link_in, refusals}
+use Rattle.dt_world_model.specs.WorldStep.{WorldEvent, Passes, Sends, Reads, Ticks, Arrives, Loses, Restarts, link_in}
 
 -- A parcel of the world carries a packet of a flow, and what holds of the flow's packets holds of it. The flows are given by their states. No parcel carries a closing packet.
 pub record IsPacket (p : Params) (views : Flow → FlowState) (parcel : Parcel Mark) : Type 0 where
@@ -91,10 +90,3 @@ SafeWorld w = (f : Flow) → Safe (view w f)
 -- What of it speaks of ledgers and lives alone holds also while an event is played, with the ledgers as they stand then.
 abbrev pub SafeLedgers : World → Ledgers → Type 0
 SafeLedgers w all = (f : Flow) → SafeLedger (view w f).sender_life (ledger_of all f).taken (ledger_of all f).given (ledger_of all f).reads
-
--- A SPENT WORLD found no memory within a step, and is used no more. The lines that it told are the first ones of the step's, and its ledgers are safe.
-pub record IsSpentBy (w : World) (e : WorldEvent) (lines : List Entry) (all : Ledgers) : Type 0 where
-  pub begun : first_refusal (refusals w e) ≡ None
-  pub rest : List Entry
-  pub told : lines ++ rest ≡ (after_event w e).0
-  pub safe : SafeLedgers w all

@@ -1,4 +1,4 @@
-use Rattle.std.proofs.Common.{ℕ, ◌==◌, List, Some, ap, nat_eq, refl, sym, subst, ◌∙◌, arith}
+use Rattle.std.proofs.Common.{ℕ, ◌+◌, ◌^◌, ◌≡◌, ◌==◌, List, Some, ap, nat_eq, refl, sym, subst, ◌∙◌, arith}
 use Rattle.std.specs.Map.{set_value}
 use Rattle.std.specs.Prelude.{option_map}
 use Rattle.dt_reports.specs.declared.reports.Report.TheVariants as report
@@ -10,7 +10,7 @@ use Rattle.dt_world_model.specs.World.{Placed, World}
 use Rattle.dt_world_model.specs.WorldStep.{Restarts, after_event}
 use Rattle.dt_world.specs.declared.placed.Plan.{Plan}
 use Rattle.dt_world.specs.declared.placed.PlacedStation.{PlacedStation}
-use Rattle.dt_world.specs.Stopping.{ComesTo}
+use Rattle.dt_world.specs.Stopping.{ComesTo, IsLastLife}
 use Rattle.dt_world.specs.Worlds.{IsStationOf, placed_seen, stations_seen, world_seen}
 use Rattle.dt_world.proofs.Possible.{is_placed, stopped_at_once, there}
 use Rattle.dt_world.proofs.Restarting.{emptied_new, nobody_restarts, restart_happened, started_again}
@@ -73,3 +73,18 @@ returns-in-Ok-clause-stations g c =
       relay = ap (λ (st : Station Mark). emptied st.relay) c.in-Ok.ensures.station ∙ emptied_new s.plan.outs.items s.plan.ins.items s.plan.routes.items ∙ ap (λ (plan : Plan). let r : Relay Mark = new_relay plan.outs.items plan.ins.items plan.routes.items in r) (sym c.start_again.ensures.plan);
     })
     c.requires.whole.stations)
+
+pub returns-in-None-clause-within : goal.returns-in-None-clause-within
+returns-in-None-clause-within g c =
+    let p = c.args.parts.now in
+    let none = look_seen c.args.node p.stations.entries ∙ ap (λ o. option_map placed_seen o) (sym c.in-None.ensures.value) in
+    λ last. subst IsLastLife none last
+
+pub returns-in-Ok-clause-within : goal.returns-in-Ok-clause-within
+returns-in-Ok-clause-within g c =
+    let p = c.args.parts.now in
+    let n = c.args.node in
+    let s = c.in-Some.placed.now in
+    let here = there p c.requires.whole n s (sym (look_keyed PlacedStation n p.stations.entries) ∙ sym c.in-Some.ensures.value) in
+    let below = c.in-Ok.ensures.within in
+    λ last. (let end : s.life + 1 ≡ 2 ^ 32 = subst IsLastLife here last in omega (arith, end, below))

@@ -1,25 +1,15 @@
-use Rattle.std.proofs.Common.{ℕ, List, ap, sym, ◌∙◌}
-use Rattle.dt_units.specs.declared.endpoints.Flow.{Flow}
+use Rattle.std.proofs.Common.{ℕ, ap, sym, ◌∙◌}
 use Rattle.dt_flow_model.specs.Flow.{crossings_told, run_told}
 use Rattle.dt_flow_model.specs.Ledger.{first_unsent}
-use Rattle.dt_world_model.specs.Ledgers.{FlowLedger, FlowRun, Ledgers, Transmits, ledger_after, ledger_of, run_with}
+use Rattle.dt_world_model.specs.Ledgers.{FlowLedger, FlowRun, Transmits, ledger_after, ledger_of, run_with}
 use Rattle.dt_world_model.specs.Tables.{same_flow, write}
 use Rattle.dt_ledger.proofs.Entries.{changed, ledger_there, on_some}
 use Rattle.dt_world.specs.Occasions.{occasion_seen}
-use Rattle.dt_world.proofs.RunTables.{both_change, run_found, same_set, written}
+use Rattle.dt_world.proofs.RunTables.{both_change, not_found, run_found, written}
 use Rattle.dt_world.proofs.notes.transmit.Goals as goal
 
-pub returns-in_default-rows_mut-clause-err : goal.returns-in_default-rows_mut-clause-err
-returns-in_default-rows_mut-clause-err c =
-    let n = c.args.notes.now in
-    let f = c.args.flow.now in
-    let run = c.in-Some.run'.now in
-    let runs = (c.get_mut.follows.holds run).0 ∙ same_set FlowRun f run n.runs.entries (sym c.in-Some.ensures.value) in
-    ap (λ (rows : List (Flow × FlowLedger)). let all : Ledgers = record { rows = rows; runs = (c.get_mut.follows.lender run).entries } in all) c.rows_mut.follows.holds-at-none
-    ∙ ap (λ (kept : List (Flow × FlowRun)). let all : Ledgers = record { rows = n.ledger; runs = kept } in all) runs
-
-pub returns-clause-ok : goal.returns-clause-ok
-returns-clause-ok c =
+pub returns-clause-becomes : goal.returns-clause-becomes
+returns-clause-becomes c =
     let n = c.args.notes.now in
     let o = occasion_seen c.args.occasion.now in
     let f = c.args.flow.now in
@@ -38,3 +28,6 @@ returns-clause-ok c =
     (c.transmit.ensures
     ∙ ap (λ (place : ℕ). let told : FlowRun = record { run = run_told o.params place o.now run.run; crossings = crossings_told o.params place o.now run.run run.crossings } in told) place
     ∙ ap (λ (r : FlowRun). run_with o (Transmits c.args.count) (ledger_of (record { rows = n.ledger; runs = n.runs.entries }) f) r) (sym here)))
+
+pub unreachable-requires : goal.unreachable-requires
+unreachable-requires c = not_found FlowRun c.args.flow.now c.args.notes.now.runs.entries c.requires.there.run (sym c.in_default.ensures.value)

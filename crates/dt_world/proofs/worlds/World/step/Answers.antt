@@ -27,7 +27,7 @@ returns-in-Ok g c =
     let begun = ap (λ (p : Parts). first_refusal (refusals (world_seen p) e)) (is ∙ sym c.deref.ensures) ∙ sym c.in_default.ensures in
     let seen = ap (λ (p : Parts). let v : WorldValue = record { state = world_seen p; spent = c.self.inside.spent } in v) is ∙ c.self.view_is in
     done_in g.L.Lines.tells (world_seen parts) (world_seen c.happen.new.parts) e c.args.lines.now c.happen.new.lines c.args.self.now c.self.inside.spent unspent seen
-    (is_done parts (subst (λ (p : Parts). IsWhole p) (sym is) (c.self.invariant.1 unspent)) e h.can begun c.happen.new.parts g.L.Lines.tells c.args.lines.now c.happen.new.lines h.happens)
+    (is_done parts (subst (λ (p : Parts). IsWhole p) (sym is) (c.self.invariant.1 unspent)) e h.can begun c.happen.new.parts g.L.Lines.tells c.args.lines.now c.happen.new.lines h.within h.happens)
 
 pub returns-in-Err : goal.returns-in-Err
 returns-in-Err g c =
@@ -39,4 +39,4 @@ returns-in-Err g c =
     let begun = ap (λ (p : Parts). first_refusal (refusals (world_seen p) e)) (is ∙ sym c.deref.ensures) ∙ sym c.in_default.ensures in
     let seen = ap (λ (p : Parts). let v : WorldValue = record { state = world_seen p; spent = c.self.inside.spent } in v) is ∙ c.self.view_is in
     spent_in g.L.Lines.tells (world_seen parts) e c.args.lines.now c.happen.new.lines c.args.self.now _ c.self.inside.spent unspent seen
-    (is_spent parts (subst (λ (p : Parts). IsWhole p) (sym is) (c.self.invariant.1 unspent)) e h.can begun c.happen.new.parts g.L.Lines.tells c.args.lines.now c.happen.new.lines h.happens)
+    (is_spent parts (subst (λ (p : Parts). IsWhole p) (sym is) (c.self.invariant.1 unspent)) e h.can begun c.happen.new.parts g.L.Lines.tells c.args.lines.now c.happen.new.lines h.may h.happens)
