@@ -2,3 +2,4 @@ pub mod Network
 pub mod Steps
 pub mod Duties
 pub mod Beside
+pub mod Octets

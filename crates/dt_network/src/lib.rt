@@ -2,18 +2,33 @@
 //! contract of a public function with an empty body.
 #![tactic(auto)]
 
-ghost use Rattle.std.specs.Prelude.{List};
+ghost use Rattle.std.specs.Prelude.{false, List};
+ghost use Rattle.dt_items.specs.declared.item.Item.{Item};
+ghost use Rattle.dt_units.specs.declared.endpoints.Flow.{Flow};
 ghost use Rattle.dt_units.specs.Limits.{IsWithinLimits};
 ghost use Rattle.dt_world_model.specs.Setup.{Setup, new_world};
 ghost use Rattle.dt_network.specs.Beside.{GoesBeside};
 ghost use Rattle.dt_network.specs.Duties.{KeepsDuties};
 ghost use Rattle.dt_network.specs.Network.{new_network};
+ghost use Rattle.dt_network.specs.Octets.{AreTaken, IsReadOf, all_read};
 ghost use Rattle.dt_network.specs.Steps.{AreSteps, Step};
 
-/// THE LAW OF NETWORKS. Whatever calls a program makes of the endpoints of a network: where it keeps its
+/// A NETWORK IS A WORLD. Whatever calls a program makes of the endpoints of a network: where it keeps its
 /// duties, a world of the definitions goes beside the network, from the new world of the same setup.
-/// After each call every endpoint is its station, every frame that left is a copy of it, and the world
-/// is safe.
+/// Before the calls and after each of them every endpoint is its station, every frame that left is a
+/// copy of it, and the world is safe; from call to call it goes on by its steps, and no fate changes
+/// that isn't open.
 pub fn network_is_a_world()
     ensures { (setup : Setup) (steps : List Step) → IsWithinLimits setup.params → AreSteps setup steps (new_network setup) → KeepsDuties setup steps (new_network setup) → GoesBeside setup steps (new_network setup) (new_world setup) }
+{}
+
+/// WHAT IS READ IS WHAT WAS SENT. Where a program keeps its duties, the octets that the reads of a flow
+/// answered are octets that its sends took: each at most once, in the order of their sending, with the
+/// marks of their messages. Some may be left out; the next that is read has a run mark then. Only of a
+/// send that found no memory it isn't known whether its octets count among those that were taken.
+///
+/// This holds over all openings of the flow's nodes, whatever was lost, came again or came late within
+/// its charge.
+pub fn what_is_read_is_what_was_sent()
+    ensures { (setup : Setup) (steps : List Step) (f : Flow) → IsWithinLimits setup.params → AreSteps setup steps (new_network setup) → KeepsDuties setup steps (new_network setup) → (taken : List Item) × AreTaken f steps taken × IsReadOf false (all_read f steps) taken }
 {}
