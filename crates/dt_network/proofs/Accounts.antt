@@ -19,7 +19,8 @@ use Rattle.dt_calls_laws.specs.Calm.{AllIsGone, Calm, PieceIsGone, count_gone, c
 use Rattle.dt_calls_model.specs.CallFacts.{rows_gone}
 use Rattle.dt_endpoint.specs.Endpoints.{EndpointValue}
 use Rattle.dt_network.proofs.Events.{called}
-use Rattle.dt_network.proofs.Picking.{Chosen, MayBegin, all_lost, all_picked, joined_after}
+use Rattle.dt_network.proofs.Picking.{MayBegin, all_lost, all_picked, joined_after}
+use Rattle.dt_network.specs.Books.{Chosen}
 use Rattle.dt_network.specs.Network.{Network}
 
 -- no row that is gone is of the reader's present life

@@ -43,33 +43,46 @@ use Rattle.dt_endpoint.specs.declared.answers.Sent.{Sent}
 use Rattle.dt_endpoint.specs.declared.answers.Arrived.{Arrived}
 use Rattle.dt_endpoint.specs.declared.answers.Piece.{Piece}
 use Rattle.dt_network.proofs.Accounts.{Account, Sure, calm_account, joined_front, lost_account, read_account, restart_account, spent_event, spent_here, spent_restart, spent_still, taking_account, unspent_here}
-use Rattle.dt_network.proofs.Picking.{Chosen, none, read_of_taken}
+use Rattle.dt_network.proofs.Picking.{read_of_taken}
+use Rattle.dt_network.specs.Books.{Chosen, none}
 use Rattle.dt_network.proofs.Pieces.{piece_read}
 use Rattle.dt_network.proofs.Refusals.{is_refused}
 use Rattle.dt_network.proofs.Told.{read_told, send_items, send_told, taken_if, takes_if}
 use Rattle.dt_network.specs.Octets.{AreTaken, IsReadOf, IsTaken, Takes, TakesIf, TakesIn, all_read, items_read, read_by, read_if, read_in_step}
+use Rattle.dt_reports.specs.Told.{Told}
+use Rattle.dt_flow_model.specs.Safe.{SafeLedger}
+use Rattle.dt_world_model.specs.Relay.{lower_parcel}
+use Rattle.dt_world_model.specs.Tags.{bare_parcel}
+use Rattle.dt_world_model.specs.World.{placed}
+use Rattle.dt_world_model.specs.WorldStep.{occasion}
+use Rattle.dt_endpoint.specs.Acts.{acts_of, reports_in}
+use Rattle.dt_endpoint.specs.Endpoints.{moment_of, script_of}
+use Rattle.dt_network.proofs.Booked.{Booked, again_booked, event_booked, new_booked, safe_untimed}
+use Rattle.dt_network.proofs.Booking.{arrival_free, free_books, untimed}
+use Rattle.dt_network.specs.Books.{AllFound, Book, FoundIn, IsSafeBook, book_after, book_all, book_by, book_from, book_of, items_in, new_book}
 use Rattle.dt_network.proofs.Events.{called, event_beside, is_at, stations_after}
 use Rattle.dt_network.proofs.Frames.{Ends}
 use Rattle.dt_network.proofs.Openings.{again_beside, network_begins}
 use Rattle.dt_network.proofs.Outcomes.{Admits, IsLost, IsPieceOf, IsStill, ReadIsRefused, ReadsTo, SendIsRefused, SendsFrom, arrival_comes_to, pulled_frame_is_still, pulled_report_is_still, read_comes_to, same_is_still, send_comes_to, tick_comes_to}
-use Rattle.dt_network.proofs.Worlds.{Goes, goes_by_read, goes_by_restart, goes_by_send, goes_by_tick, goes_in_time, goes_late, is_named, late_calm, piece_goes, read_is_calm, restart_calm, restart_life, restart_loses, send_does, send_is_steady, tick_calm}
+use Rattle.dt_network.proofs.Worlds.{Goes, goes_by_read, goes_by_restart, goes_by_send, goes_by_tick, goes_in_time, goes_late, is_named, late_calm, piece_goes, read_is_calm, life_again, restart_calm, restart_life, restart_loses, send_does, send_is_steady, tick_calm}
 use Rattle.dt_network.specs.Beside.{GoesBeside, IsBeside, IsLate, IsStationOf, IsUnderWay, stays}
 use Rattle.dt_network.specs.Duties.{IsInTime, Keeps, KeepsCall, KeepsDuties, KeepsFrom, KeepsTime}
 use Rattle.dt_network.specs.Network.{Flight, Network, flights, new_network, opened_at}
 use Rattle.dt_network.specs.Steps.{AreSteps, Call, CallArrive, CallRead, CallSend, CallTick, Calls, Does, DoesFrom, IsStep, OpenAgain, Pass, PullFrame, PullReport, Step, network_after}
 
 -- the world after a step of the network, with what the step takes and reads of each flow
-pub record NextWorld (setup : Setup) (before after : Network) (w : World) (takes : Flow → List Item → Type 0) (read : Flow → List Item) : Type 0 where
+pub record NextWorld (setup : Setup) (before after : Network) (w : World) (takes : Flow → List Item → Type 0) (read : Flow → List Item) (books : Flow → Book → Book) (found : Type 0) : Type 0 where
   pub world : World
   pub goes : Goes w world
   pub beside : IsBeside setup after world
   pub accounts : (g : Flow) (joined : Bool) → Sure before w g joined → Account w world after g (takes g) (read g) joined
+  pub booked : found → (g : Flow) (b : Book) → Booked w g b → Booked world g (books g b)
 
 goes_nowhere : (w : World) → WorldFacts w → Goes w w
 goes_nowhere w facts = record { onward = stays; facts = facts; fates = λ f. lifted_fates w.params (view w f) (view w f) (no_lift w.params (view w f)) }
 
 -- TIME PASSES
-time_beside : (setup : Setup) (net : Network) (w : World) (by : ℕ) → IsWithinLimits w.params → IsBeside setup net w → NextWorld setup net (network_after (Pass by) net) w (λ g. TakesIn g (Pass by)) (λ g. [])
+time_beside : (setup : Setup) (net : Network) (w : World) (by : ℕ) → IsWithinLimits w.params → IsBeside setup net w → NextWorld setup net (network_after (Pass by) net) w (λ g. TakesIn g (Pass by)) (λ g. []) (λ g b. b) (Unit {0})
 time_beside setup net w by limits h =
     let goes = goes_in_time w by limits h.facts in
     let later : World = record w { now = w.now + by } in
@@ -86,6 +99,7 @@ time_beside setup net w by limits h =
         facts = goes.facts;
       };
       accounts = λ g joined sure. calm_account w later net (network_after (Pass by) net) g (TakesIn g (Pass by)) [] joined (others_calm w limits h.facts (Passes by) g tt refl tt tt) refl (λ s. record { reader = s.reader; there = s.there; spent = s.spent }) refl sure;
+      booked = λ found g b k. record { rows = k.rows; lives = k.lives };
     }
 
 calm_same : (w : World) (g : Flow) → Calm w w g
@@ -99,11 +113,15 @@ module _ (setup : Setup) (net : Network) (w : World) (limits : IsWithinLimits w.
   after = called net n e f
 
   abbrev Next : Call → Type 0
-  Next call = NextWorld setup net (called net n e f) w (λ g. Takes g call) (λ g. read_by g call)
+  Next call = NextWorld setup net (called net n e f) w (λ g. Takes g call) (λ g. read_by g call) (λ g b. book_from g n call (Some e) f b) (f.spent ≡ false)
+
+  -- a call whose reports are noted
+  abbrev IsNoted : Call → Type 0
+  IsNoted call = (g : Flow) (b : Book) → book_from g n call (Some e) f b ≡ book_by g n (items_in call) (drop (length e.reports) f.reports) b
 
   -- NOTHING happens to the world
-  still : (call : Call) → IsStill e f → ((g : Flow) → Takes g call []) → ((g : Flow) → read_by g call ≡ []) → Next call
-  still call k takes_none unread =
+  still : (call : Call) → IsNoted call → IsStill e f → ((g : Flow) → Takes g call []) → ((g : Flow) → read_by g call ≡ []) → Next call
+  still call noted k takes_none unread =
       let here : IsStationOf setup w n f =
       record { at = s.at; there = s.there; clock = s.clock; links = s.links; rules = k.rules ∙ s.rules; past = omega (arith, s.past, k.latest); state = λ unspent. k.state ∙ s.state (sym k.spent ∙ unspent) } in
       let nothing : flights net.now (Some e) f ≡ [] = ap (λ (fs : List OutFrameValue). map (λ (g : OutFrameValue). let t : Flight = record { frame = g; put = net.now } in t) fs) k.frames in
@@ -119,15 +137,20 @@ module _ (setup : Setup) (net : Network) (w : World) (limits : IsWithinLimits w.
           facts = h.facts;
         };
         accounts = λ g joined sure. calm_account w w net after g (Takes g call) (read_by g call) joined (calm_same w g) (takes_none g) (spent_still net n e f g found k.spent) (unread g) sure;
+        booked = λ memory g b was. subst (Booked w g) (sym (noted g b)) (record { rows = was.rows ∙ sym (ap (λ (rs : List Told). book_all g (b.lives n) (items_in call) rs b.rows) k.reports); lives = was.lives });
       }
 
   -- AN EVENT
   abbrev Accounts : Call → Event Mark → Type 0
   Accounts call event = (g : Flow) (joined : Bool) → Sure net w g joined → Account w (event_at w n event (Some s.at)).1 after g (Takes g call) (read_by g call) joined
 
-  by_event : (call : Call) (now : ℕ) → KeepsTime setup net n now → e.spent ≡ false → (event : Event Mark) → Ends now (bare_event event) e f → Goes w (event_at w n event (Some s.at)).1 → Accounts call event → Next call
-  by_event call now time unspent event ends goes accounts =
-      record { world = (event_at w n event (Some s.at)).1; goes = goes; beside = event_beside setup net w h n e s now time unspent event f ends goes.facts; accounts = accounts }
+  -- the octets that the world notes for it are those of the call
+  abbrev SameItems : ℕ → Call → Event Mark → Type 0
+  SameItems now call event = (g : Flow) (rows : List rows.Taken) → book_all g (occasion w n event).life (occasion w n event).items (reports_in (acts_of (script_of now (bare_event event) e))) rows ≡ book_all g (placed w n).life (items_in call) (reports_in (acts_of (script_of now (bare_event event) e))) rows
+
+  by_event : (call : Call) (now : ℕ) → KeepsTime setup net n now → e.spent ≡ false → (event : Event Mark) → Ends now (bare_event event) e f → Goes w (event_at w n event (Some s.at)).1 → Accounts call event → IsNoted call → SameItems now call event → Next call
+  by_event call now time unspent event ends goes accounts noted same =
+      record { world = (event_at w n event (Some s.at)).1; goes = goes; beside = event_beside setup net w h n e s now time unspent event f ends goes.facts; accounts = accounts; booked = λ memory g b was. subst (Booked (event_at w n event (Some s.at)).1 g) (sym (noted g b)) (event_booked w n s.at s.there now e f (is_at setup net w h n e s now time unspent) event ends memory g b (items_in call) (same g) was) }
 
   -- an event that takes nothing and reads nothing
   calm_event : (call : Call) (event : Event Mark) → e.spent ≡ false → ((g : Flow) → Calm w (event_at w n event (Some s.at)).1 g) → ((g : Flow) → Takes g call []) → ((g : Flow) → read_by g call ≡ []) → Accounts call event
@@ -143,10 +166,11 @@ module _ (setup : Setup) (net : Network) (w : World) (limits : IsWithinLimits w.
   apart_from a b me same other = grind (arith, nat_tests)
 
   by_tick : (now : ℕ) (answer : Ticked) → KeepsTime setup net n now → (f ≡ e) ⊎ ((e.spent ≡ false) × Ends now Tick e f) → Next (CallTick now answer)
-  by_tick now answer time (inl same) = still (CallTick now answer) (same_is_still e f same) (λ g. refl) (λ g. refl)
+  by_tick now answer time (inl same) = still (CallTick now answer) (λ g b. refl) (same_is_still e f same) (λ g. refl) (λ g. refl)
   by_tick now answer time (inr k) =
       by_event (CallTick now answer) now time k.0 Tick k.1 (goes_by_tick w n s.at s.there limits h.facts)
       (calm_event (CallTick now answer) Tick k.0 (tick_calm w n s.at s.there limits h.facts) (λ g. refl) (λ g. refl))
+      (λ g b. refl) (λ g rows. refl)
 
   -- a send that is refused takes nothing of its flow
   none_if : (same : Bool) (answer : Sent) (items : List Item) → IsTaken answer items [] → TakesIf same answer items []
@@ -167,12 +191,13 @@ module _ (setup : Setup) (net : Network) (w : World) (limits : IsWithinLimits w.
 
   by_send : (now : ℕ) (flow : Flow) (octets : List ℕ) (begin end : Bool) (answer : Sent) → KeepsTime setup net n now → IsFlow flow → SendIsRefused answer e f ⊎ SendsFrom answer now flow octets begin end e f → Next (CallSend now flow octets begin end answer)
   by_send now flow octets begin end answer time is (inl k) =
-      still (CallSend now flow octets begin end answer) (same_is_still e f k.same) (λ g. none_if (same_flow flow g) answer (marked octets begin end false) (k.none (marked octets begin end false))) (λ g. refl)
+      still (CallSend now flow octets begin end answer) (λ g b. refl) (same_is_still e f k.same) (λ g. none_if (same_flow flow g) answer (marked octets begin end false) (k.none (marked octets begin end false))) (λ g. refl)
   by_send now flow octets begin end answer time is (inr k) =
       let from = k.from ∙ named k.unspent in
       by_event (CallSend now flow octets begin end answer) now time k.unspent (Send flow octets begin end) k.ends
       (goes_by_send w n s.at s.there limits h.facts flow octets begin end is from (apart flow.from.0 flow.to.0 e.state.host.me k.from k.to))
       (send_accounts now flow octets begin end answer time is k from)
+      (λ g b. refl) (λ g rows. refl)
 
   none_read_if : (same : Bool) (items : List Item) → items ≡ [] → read_if same items ≡ []
   none_read_if true items h = h
@@ -202,12 +227,13 @@ module _ (setup : Setup) (net : Network) (w : World) (limits : IsWithinLimits w.
       by_flow false o = calm_account w (event_at w n (Read flow room) (Some s.at)).1 net after g IsNothing [] joined (read_is_calm w n s.at s.there limits h.facts flow room is to g o) refl (spent_event net n e f g found k.unspent) refl sure
 
   by_read : (now : ℕ) (flow : Flow) (room : ℕ) (buf : List ℕ) (answer : Piece) → KeepsTime setup net n now → IsFlow flow → ReadIsRefused answer buf e f ⊎ ReadsTo answer now flow room buf e f → Next (CallRead now flow room buf answer)
-  by_read now flow room buf answer time is (inl k) = still (CallRead now flow room buf answer) (same_is_still e f k.same) (λ g. refl) (λ g. none_read_if (same_flow flow g) (items_read answer buf) k.none)
+  by_read now flow room buf answer time is (inl k) = still (CallRead now flow room buf answer) (λ g b. refl) (same_is_still e f k.same) (λ g. refl) (λ g. none_read_if (same_flow flow g) (items_read answer buf) k.none)
   by_read now flow room buf answer time is (inr k) =
       let to = k.to ∙ named k.unspent in
       by_event (CallRead now flow room buf answer) now time k.unspent (Read flow room) k.ends
       (goes_by_read w n s.at s.there limits h.facts flow room is to (apart_from flow.from.0 flow.to.0 e.state.host.me k.to k.from))
       (read_accounts now flow room buf answer time is k to)
+      (λ g b. refl) (λ g rows. refl)
 
   -- the copy of a datagram, and that it comes in time
   by_copy : (now link : ℕ) (datagram : List ℕ) (waited : ℕ) (answer : Arrived) → KeepsTime setup net n now → Admits now link datagram waited e f → (i : IsInTime net e link datagram waited) → IsUnderWay w.copies i.flight → Next (CallArrive now link datagram waited answer)
@@ -228,9 +254,10 @@ module _ (setup : Setup) (net : Network) (w : World) (limits : IsWithinLimits w.
       let call = CallArrive now link datagram waited answer in
       by_event call now time k.unspent (late_event c waited) (subst (λ (ev : Event (Unit {0})). Ends now ev e f) event k.ends) (goes_late w n s.at s.there limits h.facts c waited late)
       (calm_event call (late_event c waited) k.unspent (late_calm w n s.at s.there limits h.facts c waited late) (λ g. refl) (λ g. refl))
+      (λ g b. refl) (λ g rows. free_books (script_of now (bare_event (late_event c waited)) e) g (placed w n).life (occasion w n (late_event c waited)).items rows (arrival_free e.rules (moment_of now e) c.link (bare_parcel (lower_parcel waited c.parcel)) e.state))
 
   by_arrival : (now link : ℕ) (datagram : List ℕ) (waited : ℕ) (answer : Arrived) → KeepsTime setup net n now → (arrive_refusal link datagram waited e ≡ None → IsInTime net e link datagram waited) → (f ≡ e) ⊎ Admits now link datagram waited e f → Next (CallArrive now link datagram waited answer)
-  by_arrival now link datagram waited answer time owed (inl same) = still (CallArrive now link datagram waited answer) (same_is_still e f same) (λ g. refl) (λ g. refl)
+  by_arrival now link datagram waited answer time owed (inl same) = still (CallArrive now link datagram waited answer) (λ g b. refl) (same_is_still e f same) (λ g. refl) (λ g. refl)
   by_arrival now link datagram waited answer time owed (inr k) =
       let i = owed k.clear in
       by_copy now link datagram waited answer time k i (All-contains (IsUnderWay w.copies) net.left i.flight h.left i.left)
@@ -250,6 +277,7 @@ module _ (setup : Setup) (net : Network) (w : World) (limits : IsWithinLimits w.
               restart_account w v after g (Takes g (OpenAgain again)) [] joined h.facts (restart_loses w n s.at s.there limits h.facts g same) (restart_life w n s.at s.there limits h.facts g same) refl refl
           | inr o ↦ calm_account w v net after g (Takes g (OpenAgain again)) [] joined (restart_calm w n s.at s.there limits h.facts g o) refl (spent_restart net n e f g found o) refl sure
         ];
+        booked = λ memory g b was. again_booked w n s.at g b (λ m same. life_again w n s.at s.there limits h.facts m same) was;
       }
 
   -- A CALL
@@ -258,17 +286,17 @@ module _ (setup : Setup) (net : Network) (w : World) (limits : IsWithinLimits w.
   call_beside (CallSend now flow octets begin end answer) does keeps = by_send now flow octets begin end answer keeps does.0 (send_comes_to answer now flow octets begin end e f does.1)
   call_beside (CallRead now flow room buf answer) does keeps = by_read now flow room buf answer keeps does.0 (read_comes_to answer now flow room buf e f does.1)
   call_beside (CallArrive now link datagram waited answer) does keeps = by_arrival now link datagram waited answer keeps.0 keeps.1 (arrival_comes_to answer now link datagram waited e f does)
-  call_beside PullFrame does keeps = still PullFrame (pulled_frame_is_still e f does) (λ g. refl) (λ g. refl)
-  call_beside PullReport does keeps = still PullReport (pulled_report_is_still e f does) (λ g. refl) (λ g. refl)
+  call_beside PullFrame does keeps = still PullFrame (λ g b. refl) (pulled_frame_is_still e f does) (λ g. refl) (λ g. refl)
+  call_beside PullReport does keeps = still PullReport (λ g b. refl) (pulled_report_is_still e f does) (λ g. refl) (λ g. refl)
   call_beside (OpenAgain again) does keeps = by_opening again keeps.now keeps.time (does ∙ ap (opened_at setup n) keeps.told)
 
 -- A STEP
 by_node : (setup : Setup) (net : Network) (w : World) → IsWithinLimits w.params → IsBeside setup net w → (n : ℕ) (call : Call) (f : EndpointValue) (o : Option EndpointValue) → look ◌==◌ n net.endpoints ≡ o → DoesFrom setup n call f o → KeepsFrom setup net n call o
-    → NextWorld setup net (record { now = net.now; endpoints = write ◌==◌ n f net.endpoints; left = net.left ++ flights net.now o f }) w (λ g. Takes g call) (λ g. read_by g call)
+    → NextWorld setup net (record { now = net.now; endpoints = write ◌==◌ n f net.endpoints; left = net.left ++ flights net.now o f }) w (λ g. Takes g call) (λ g. read_by g call) (λ g b. book_from g n call o f b) (f.spent ≡ false)
 by_node setup net w limits h n call f None found does keeps = absurd does
 by_node setup net w limits h n call f (Some e) found does keeps = call_beside setup net w limits h n e found (h.endpoints n e found) f call does keeps
 
-pub step_beside : (setup : Setup) (net : Network) (w : World) → IsWithinLimits w.params → IsBeside setup net w → (s : Step) → IsStep setup s net → Keeps setup s net → NextWorld setup net (network_after s net) w (λ g. TakesIn g s) (λ g. read_in_step g s)
+pub step_beside : (setup : Setup) (net : Network) (w : World) → IsWithinLimits w.params → IsBeside setup net w → (s : Step) → IsStep setup s net → Keeps setup s net → NextWorld setup net (network_after s net) w (λ g. TakesIn g s) (λ g. read_in_step g s) (λ g b. book_after g s net b) (FoundIn s)
 step_beside setup net w limits h (Pass by) does keeps = time_beside setup net w by limits h
 step_beside setup net w limits h (Calls n call f) does keeps = by_node setup net w limits h n call f (look ◌==◌ n net.endpoints) refl does keeps
 
@@ -300,7 +328,7 @@ fronts_of : (taken : List rows.Taken) (xs ys : List Given) → Fronts taken (xs 
 fronts_of taken xs ys h = record { rising = rising_front 0 xs ys h.rising; facts = given_front taken xs ys h.facts; joined = joined_front None xs ys h.joined }
 
 -- ALL THAT WAS TAKEN AND READ of a flow in some steps
-pub record HasRead (setup : Setup) (steps : List Step) (w : World) (g : Flow) (joined : Bool) : Type 0 where
+pub record HasRead (setup : Setup) (steps : List Step) (net : Network) (w : World) (g : Flow) (joined : Bool) : Type 0 where
   pub last : World
   pub facts : WorldFacts last
   pub taken : List Item
@@ -309,10 +337,11 @@ pub record HasRead (setup : Setup) (steps : List Step) (w : World) (g : Flow) (j
   pub rows : List Given
   pub gone : rows_gone last g ≡ rows_gone w g ++ rows
   pub chosen : Chosen joined rows (all_read g steps)
+  pub booked : AllFound steps → (b : Book) → Booked w g b → Booked last g (book_of g steps net b)
 
-pub steps_read : (setup : Setup) (net : Network) (w : World) → IsWithinLimits setup.params → IsBeside setup net w → (steps : List Step) → AreSteps setup steps net → KeepsDuties setup steps net → (g : Flow) (joined : Bool) → Sure net w g joined → HasRead setup steps w g joined
+pub steps_read : (setup : Setup) (net : Network) (w : World) → IsWithinLimits setup.params → IsBeside setup net w → (steps : List Step) → AreSteps setup steps net → KeepsDuties setup steps net → (g : Flow) (joined : Bool) → Sure net w g joined → HasRead setup steps net w g joined
 steps_read setup net w limits h [] does keeps g joined sure =
-    record { last = w; facts = h.facts; taken = []; are_taken = refl; items = sym (append-nil (items_taken w g)); rows = []; gone = sym (append-nil (rows_gone w g)); chosen = none }
+    record { last = w; facts = h.facts; taken = []; are_taken = refl; items = sym (append-nil (items_taken w g)); rows = []; gone = sym (append-nil (rows_gone w g)); chosen = none; booked = λ found b was. was }
 steps_read setup net w limits h (s ∷ steps) does keeps g joined sure =
     let next = step_beside setup net w (subst IsWithinLimits (sym h.params) limits) h s does.0 keeps.0 in
     let a = next.accounts g joined sure in
@@ -326,6 +355,7 @@ steps_read setup net w limits h (s ∷ steps) does keeps g joined sure =
       rows = a.rows ++ rest.rows;
       gone = rest.gone ∙ ap (λ (rs : List Given). rs ++ rest.rows) a.gone ∙ append_assoc (rows_gone w g) a.rows rest.rows;
       chosen = a.chosen rest.rows (all_read g steps) rest.chosen;
+      booked = λ found b was. rest.booked found.1 (book_after g s net b) (next.booked found.0 g b was);
     }
 
 pub network_reads : (setup : Setup) (steps : List Step) (f : Flow) → IsWithinLimits setup.params → AreSteps setup steps (new_network setup) → KeepsDuties setup steps (new_network setup) → (taken : List Item) × AreTaken f steps taken × IsReadOf false (all_read f steps) taken
@@ -341,3 +371,26 @@ network_reads setup steps f limits does keeps =
     let fronts : Fronts taken_rows r.rows =
     subst (Fronts taken_rows) rows_are (fronts_of taken_rows (take k given) (drop k given) (subst (Fronts taken_rows) (sym (take-append-drop k given)) (record { rising = facts.receive_side.rising; facts = facts.receive_side.given_facts; joined = facts.read_side.joined }))) in
     (r.taken, r.are_taken, subst (λ (is : List Item). IsReadOf false (all_read f steps) is) r.items (read_of_taken taken_rows None false r.rows (all_read f steps) fronts.rising fronts.facts fronts.joined r.chosen))
+
+-- THE LEDGER THAT IS TOLD
+pub network_tells : (setup : Setup) (steps : List Step) (f : Flow) → IsWithinLimits setup.params → AreSteps setup steps (new_network setup) → KeepsDuties setup steps (new_network setup) → AllFound steps → IsSafeBook f (book_of f steps (new_network setup) new_book) (all_read f steps)
+network_tells setup steps f limits does keeps found =
+    let w = new_world setup in
+    let start : rows_gone w f ≡ [] = take-nil (length (ledger_of w.ledgers f).given - length (view w f).unread) in
+    let r = steps_read setup (new_network setup) w limits (network_begins setup) steps does keeps f false (λ e. inl (inl start)) in
+    let rows_are : rows_gone r.last f ≡ r.rows = r.gone ∙ ap (λ (rs : List Given). rs ++ r.rows) start in
+    let b = book_of f steps (new_network setup) new_book in
+    let was : Booked r.last f b = r.booked found new_book (new_booked setup f) in
+    let given = (ledger_of r.last.ledgers f).given in
+    let k = length given - length (view r.last f).unread in
+    let reads_told = (ledger_of r.last.ledgers f).reads in
+    let safe : SafeLedger (placed r.last f.from.0).life (map untimed (ledger_of r.last.ledgers f).taken) given reads_told = safe_untimed (placed r.last f.from.0).life (ledger_of r.last.ledgers f).taken given reads_told (facts_are_safe r.last f r.facts).ledger in
+    record {
+      given = given;
+      reads = reads_told;
+      safe = subst (λ (life : ℕ). SafeLedger life b.rows given reads_told) (was.lives f.from.0) (subst (λ (ts : List rows.Taken). SafeLedger (placed r.last f.from.0).life ts given reads_told) was.rows safe);
+      gone = r.rows;
+      unread = drop k given;
+      split = sym (take-append-drop k given) ∙ ap (λ (rs : List Given). rs ++ drop k given) rows_are;
+      chosen = r.chosen;
+    }

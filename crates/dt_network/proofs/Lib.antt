@@ -10,3 +10,5 @@ mod Late
 mod Accounts
 mod Told
 mod Going
+mod Booking
+mod Booked

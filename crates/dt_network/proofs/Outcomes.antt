@@ -37,6 +37,7 @@ pub record IsStill (e f : EndpointValue) : Type 0 where
   pub spent : f.spent ≡ e.spent
   pub state : f.state ≡ e.state
   pub frames : drop (length e.frames) f.frames ≡ []
+  pub reports : drop (length e.reports) f.reports ≡ []
 
 pub same_is_still : (e f : EndpointValue) → f ≡ e → IsStill e f
 same_is_still e f same = record {
@@ -45,6 +46,7 @@ same_is_still e f same = record {
   spent = ap (λ (x : EndpointValue). x.spent) same;
   state = ap (λ (x : EndpointValue). x.state) same;
   frames = ap (λ (x : EndpointValue). drop (length e.frames) x.frames) same ∙ drop-length e.frames;
+  reports = ap (λ (x : EndpointValue). drop (length e.reports) x.reports) same ∙ drop-length e.reports;
 }
 
 pub pulled_frame_is_still : (e f : EndpointValue) → f ≡ record e { frames = drop 1 e.frames } → IsStill e f
@@ -54,6 +56,7 @@ pulled_frame_is_still e f same = record {
   spent = ap (λ (x : EndpointValue). x.spent) same;
   state = ap (λ (x : EndpointValue). x.state) same;
   frames = ap (λ (x : EndpointValue). drop (length e.frames) x.frames) same ∙ drop_of_length-le (drop 1 e.frames) (omega (arith, length-drop 1 e.frames));
+  reports = ap (λ (x : EndpointValue). drop (length e.reports) x.reports) same ∙ drop-length e.reports;
 }
 
 pub pulled_report_is_still : (e f : EndpointValue) → f ≡ record e { reports = drop 1 e.reports } → IsStill e f
@@ -63,6 +66,7 @@ pulled_report_is_still e f same = record {
   spent = ap (λ (x : EndpointValue). x.spent) same;
   state = ap (λ (x : EndpointValue). x.state) same;
   frames = ap (λ (x : EndpointValue). drop (length e.frames) x.frames) same ∙ drop-length e.frames;
+  reports = ap (λ (x : EndpointValue). drop (length e.reports) x.reports) same ∙ drop_of_length-le (drop 1 e.reports) (omega (arith, length-drop 1 e.reports));
 }
 
 -- a refused call with its answer, or one that is done

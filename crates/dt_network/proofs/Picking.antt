@@ -7,13 +7,8 @@ use Rattle.dt_flow_model.specs.declared.rows.Given.{Given}
 use Rattle.dt_flow_model.specs.declared.rows.Taken.{Taken}
 use Rattle.dt_flow_model.specs.Facts.{AllGivenFacts, JoinsTo, Joined, Rising}
 use Rattle.dt_flow_model.specs.Ledger.{given_item_of, item_of, no_row, row_at, sent_item_of}
+use Rattle.dt_network.specs.Books.{Chosen, lost, none, picked}
 use Rattle.dt_network.specs.Octets.{IsReadOf, leaves, nothing, reads}
-
--- given rows in their order, of which some were read. `joined` tells that the row before them was read
-pub data Chosen : (joined : Bool) → List Given → List Item → Type 0 where
-  none : {joined : Bool} → Chosen joined [] []
-  picked : {joined : Bool} {row : Given} {rows : List Given} {items : List Item} → (row.run ≡ false → joined ≡ true) → Chosen true rows items → Chosen joined (row ∷ rows) (given_item_of row ∷ items)
-  lost : {joined : Bool} {row : Given} {rows : List Given} {items : List Item} → Chosen false rows items → Chosen joined (row ∷ rows) items
 
 -- what holds with nothing known of the row before holds always
 pub chosen_so : {joined : Bool} {rows : List Given} {items : List Item} → Chosen false rows items → Chosen joined rows items

@@ -132,10 +132,13 @@ module _ (w : World) (n : ℕ) (at : Placed) (there : look ◌==◌ n w.stations
       let apart : n ≢ g.to.0 = λ same. let yes : (n == g.to.0) ≡ true = rw same (nat_self g.to.0) in let no : true ≡ false = sym yes ∙ other in absurd cc in
       subst (λ (v : World). Calm w v g) restarts (others_calm w limits facts (Restarts n) g tt (rw there refl) tt apart)
 
-  pub restart_life : (g : Flow) → n ≡ g.to.0 → (placed (restart_at w n (Some at)).1 g.to.0).life ≡ (placed w g.to.0).life + 1
-  restart_life g is =
+  pub life_again : (m : ℕ) → n ≡ m → (placed (restart_at w n (Some at)).1 m).life ≡ (placed w m).life + 1
+  life_again m is =
       let new = restarted w.params w.now at in
       let after : look ◌==◌ n (write ◌==◌ n new w.stations) ≡ Some new = look_write ℕ Placed ◌==◌ nat_self nat_is n new w.stations in
       let life : (placed (restart_at w n (Some at)).1 n).life ≡ (placed w n).life + 1 =
       ap (λ (o : Option Placed). (unwrap_or o (no_placed n)).life) after ∙ sym (ap (λ (o : Option Placed). (unwrap_or o (no_placed n)).life + 1) there) in
       subst (λ (k : ℕ). (placed (restart_at w n (Some at)).1 k).life ≡ (placed w k).life + 1) is life
+
+  pub restart_life : (g : Flow) → n ≡ g.to.0 → (placed (restart_at w n (Some at)).1 g.to.0).life ≡ (placed w g.to.0).life + 1
+  restart_life g is = life_again g.to.0 is

@@ -3,3 +3,5 @@ pub mod Steps
 pub mod Duties
 pub mod Beside
 pub mod Octets
+pub mod Books
+pub mod Worked

@@ -2,16 +2,21 @@
 //! contract of a public function with an empty body.
 #![tactic(auto)]
 
+mod worked;
+
 ghost use Rattle.std.specs.Prelude.{false, List};
 ghost use Rattle.dt_items.specs.declared.item.Item.{Item};
 ghost use Rattle.dt_units.specs.declared.endpoints.Flow.{Flow};
 ghost use Rattle.dt_units.specs.Limits.{IsWithinLimits};
 ghost use Rattle.dt_world_model.specs.Setup.{Setup, new_world};
 ghost use Rattle.dt_network.specs.Beside.{GoesBeside};
+ghost use Rattle.dt_network.specs.Books.{AllFound, IsSafeBook, book_of, new_book};
 ghost use Rattle.dt_network.specs.Duties.{KeepsDuties};
 ghost use Rattle.dt_network.specs.Network.{new_network};
 ghost use Rattle.dt_network.specs.Octets.{AreTaken, IsReadOf, all_read};
 ghost use Rattle.dt_network.specs.Steps.{AreSteps, Step};
+
+pub use worked::exchange_keeps_the_duties;
 
 /// A NETWORK IS A WORLD. Whatever calls a program makes of the endpoints of a network: where it keeps its
 /// duties, a world of the definitions goes beside the network, from the new world of the same setup.
@@ -31,4 +36,14 @@ pub fn network_is_a_world()
 /// its charge.
 pub fn what_is_read_is_what_was_sent()
     ensures { (setup : Setup) (steps : List Step) (f : Flow) → IsWithinLimits setup.params → AreSteps setup steps (new_network setup) → KeepsDuties setup steps (new_network setup) → (taken : List Item) × AreTaken f steps taken × IsReadOf false (all_read f steps) taken }
+{}
+
+/// THE LEDGER THAT IS TOLD IS SAFE. Where a program keeps its duties and every call finds memory, the
+/// reports `Took`, `Settled` and `Uncertain` tell a row for each octet that the sends of a flow took, with
+/// its fate; and there are rows of octets that were given, in order and each at the place of its octet,
+/// such that what was acknowledged was given, and what was passed over is uncertain or of an earlier
+/// opening of its sender. Those that are gone were read, which the reads answered, or lost when the reader
+/// opened again; the others lie unread.
+pub fn reports_tell_a_safe_ledger()
+    ensures { (setup : Setup) (steps : List Step) (f : Flow) → IsWithinLimits setup.params → AreSteps setup steps (new_network setup) → KeepsDuties setup steps (new_network setup) → AllFound steps → IsSafeBook f (book_of f steps (new_network setup) new_book) (all_read f steps) }
 {}
