@@ -7,6 +7,7 @@ use Rattle.dt_items.proofs.Pieces.{first_piece-prefix}
 use Rattle.dt_items.specs.declared.item.Item.{Item}
 use Rattle.dt_items.specs.Unread.{first_piece}
 use Rattle.dt_units.specs.declared.endpoints.Flow.{Flow}
+use Rattle.dt_flow_laws.proofs.Ledger.{fall_end}
 use Rattle.dt_flow_model.specs.declared.rows.Given.{Given}
 use Rattle.dt_flow_model.specs.Facts.{JoinsTo, Joined, NeverFall, last_of, life_from, lives_given}
 use Rattle.dt_flow_model.specs.Ledger.{given_at, given_item_of, no_given}
@@ -19,7 +20,7 @@ use Rattle.dt_calls_laws.specs.Calm.{AllIsGone, Calm, PieceIsGone, count_gone, c
 use Rattle.dt_calls_model.specs.CallFacts.{rows_gone}
 use Rattle.dt_endpoint.specs.Endpoints.{EndpointValue}
 use Rattle.dt_network.proofs.Events.{called}
-use Rattle.dt_network.proofs.Picking.{MayBegin, all_lost, all_picked, joined_after}
+use Rattle.dt_network.proofs.Picking.{AllBelow, MayBegin, all_lost, all_picked, joined_after, below_drop, below_take}
 use Rattle.dt_network.specs.Books.{Chosen}
 use Rattle.dt_network.specs.Network.{Network}
 
@@ -46,7 +47,9 @@ pub record Account (w v : World) (net : Network) (g : Flow) (takes : List Item �
   pub gone : rows_gone v g ≡ rows_gone w g ++ rows
   pub next : Bool
   pub sure : Sure net v g next
-  pub chosen : (rest : List Given) (more : List Item) → Chosen next rest more → Chosen joined (rows ++ rest) (read ++ more)
+  pub rise : (placed w g.to.0).life ≤ (placed v g.to.0).life
+  -- what is lost is of an earlier life of the reader, or of this one where the reader found no memory
+  pub chosen : (life : ℕ) → (placed v g.to.0).life ≤ life → (IsSpentAt net g → ⊥) ⊎ ((placed v g.to.0).life < life) → (rest : List Given) (more : List Item) → Chosen life next rest more → Chosen life joined (rows ++ rest) (read ++ more)
 
 -- NOTHING is gone
 module _ (w v : World) (before after : Network) (g : Flow) (takes : List Item → Type 0) (read : List Item) (joined : Bool) where
@@ -67,7 +70,8 @@ module _ (w v : World) (before after : Network) (g : Flow) (takes : List Item �
     gone = gone ∙ sym (append-nil (rows_gone w g));
     next = joined;
     sure = λ e. sure_still gone life on (sure e);
-    chosen = λ rest more k. subst (λ (r : List Item). Chosen joined rest (r ++ more)) (sym none) k;
+    rise = omega (arith, life);
+    chosen = λ last by memory rest more k. subst (λ (r : List Item). Chosen last joined rest (r ++ more)) (sym none) k;
   }
 
   pub calm_account : Calm w v g → takes [] → (IsSpentAt before g → IsSpentAt after g) → read ≡ [] → Sure before w g joined → Account w v after g takes read joined
@@ -86,6 +90,10 @@ last_life n before (row ∷ rows) last e = by_last row rows last e
     by_last row [] last e = let same : row ≡ last = cc in ap (λ (r : Given). r.life) same
     by_last row (next ∷ rows) last e = by_last next rows last e
 
+all_below : (n life last : ℕ) (rows : List Given) → life < last → NeverFall n life (lives_given rows) → AllBelow last rows
+all_below n life last [] less h = tt
+all_below n life last (row ∷ rows) less h = let up : row.life ≤ life = fall_end row.life life (lives_given rows) h.1 in (omega (arith, up, less), all_below row.life life last rows less h.1)
+
 -- THE READER STARTS AGAIN: what was unread is lost
 pub restart_account : (w v : World) (after : Network) (g : Flow) (takes : List Item → Type 0) (read : List Item) (joined : Bool) → WorldFacts w → AllIsGone w v g → (placed v g.to.0).life ≡ (placed w g.to.0).life + 1 → takes [] → read ≡ [] → Account w v after g takes read joined
 restart_account w v after g takes read joined facts all life is none =
@@ -100,7 +108,9 @@ restart_account w v after g takes read joined facts all life is none =
       gone = all.gone ∙ sym (take-append-drop k given);
       next = false;
       sure = λ e. inl (inr (omega (arith, low, life, ap (life_from 0) all.gone)));
-      chosen = λ rest more h. subst (λ (r : List Item). Chosen joined (drop k given ++ rest) (r ++ more)) (sym none) (all_lost joined (drop k given) rest more h);
+      rise = omega (arith, life);
+      chosen = λ last by memory rest more h. subst (λ (r : List Item). Chosen last joined (drop k given ++ rest) (r ++ more)) (sym none)
+          (all_lost last joined (drop k given) rest more (below_drop last k given (all_below 0 (placed w g.to.0).life last given (omega (arith, life, by)) (facts.flows g).read_side.lives)) h);
     }
 
 -- A READ
@@ -185,7 +195,8 @@ module _ (w v : World) (before after : Network) (g : Flow) (takes : List Item �
     gone = rows_are;
     next = joined_after joined the_rows;
     sure = sure_after the_rows rows_are;
-    chosen = λ rest more k. subst (λ (r : List Item). Chosen joined (the_rows ++ rest) (r ++ more)) (items_are ∙ sym same) (all_picked joined the_rows rest more (may unspent sure) k);
+    rise = omega (arith, gone.life);
+    chosen = λ last by memory rest more k. subst (λ (r : List Item). Chosen last joined (the_rows ++ rest) (r ++ more)) (items_are ∙ sym same) (all_picked last joined the_rows rest more (may unspent sure) k);
   }
     where
       by_clear : (rows : List Given) → rows ≡ [] → rows_gone v g ≡ rows_gone w g ++ rows → IsClear w g ⊎ IsSpentAt before g → IsClear v g ⊎ IsSpentAt after g
@@ -206,8 +217,15 @@ module _ (w v : World) (before after : Network) (g : Flow) (takes : List Item �
     gone = rows_are;
     next = false;
     sure = λ e. inr spent;
-    chosen = λ rest more k. subst (λ (r : List Item). Chosen joined (the_rows ++ rest) (r ++ more)) (sym none) (all_lost joined the_rows rest more k);
+    rise = omega (arith, gone.life);
+    chosen = λ last by memory rest more k. subst (λ (r : List Item). Chosen last joined (the_rows ++ rest) (r ++ more)) (sym none) (all_lost last joined the_rows rest more (below last memory) k);
   }
+    where
+      below : (last : ℕ) → (IsSpentAt after g → ⊥) ⊎ ((placed v g.to.0).life < last) → AllBelow last the_rows
+      below last (inl unspent) = absurd (unspent spent)
+      below last (inr less) =
+          below_take last (count_read w g most) (drop (count_gone w g) (rows_given w g))
+          (below_drop last (count_gone w g) (rows_given w g) (all_below 0 (placed w g.to.0).life last (rows_given w g) (omega (arith, gone.life, less)) (facts.flows g).read_side.lives))
 
 -- WHETHER AN ENDPOINT IS SPENT after a call of one
 module _ (net : Network) (n : ℕ) (e f : EndpointValue) (g : Flow) (there : look ◌==◌ n net.endpoints ≡ Some e) where
@@ -235,3 +253,15 @@ module _ (net : Network) (n : ℕ) (e f : EndpointValue) (g : Flow) (there : loo
 
   pub unspent_here : (n == g.to.0) ≡ true → e.spent ≡ false → IsSpentAt net g → ⊥
   unspent_here y unspent s = let no : true ≡ false = sym (spent_there s y) ∙ unspent in absurd cc
+
+  pub none_spent : f.spent ≡ false → (IsSpentAt net g → ⊥) → IsSpentAt (called net n e f) g → ⊥
+  none_spent unspent before s =
+      elim (cases_Bool (n == g.to.0)) [
+        | inl y ↦
+            let found : look ◌==◌ g.to.0 (write ◌==◌ n f net.endpoints) ≡ Some f = subst (λ (k : ℕ). look ◌==◌ k (write ◌==◌ n f net.endpoints) ≡ Some f) (nat_is n g.to.0 y) (look_write ℕ EndpointValue ◌==◌ nat_self nat_is n f net.endpoints) in
+            let both : Some f ≡ Some s.reader = sym found ∙ s.there in
+            let is : f ≡ s.reader = cc in
+            let no : true ≡ false = sym s.spent ∙ sym (ap (λ (x : EndpointValue). x.spent) is) ∙ unspent in
+            absurd cc
+        | inr o ↦ before (record { reader = s.reader; there = sym (look_write_other ℕ EndpointValue ◌==◌ nat_self nat_is g.to.0 n f net.endpoints o) ∙ s.there; spent = s.spent })
+      ]

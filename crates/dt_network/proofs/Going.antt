@@ -1,5 +1,5 @@
 -- The world goes beside the network, call by call.
-use Rattle.std.proofs.Common.{◌≡◌, ◌∙◌, ◌⊎◌, ◌==◌, ◌+◌, ◌-◌, ◌<◌, ℕ, suc, Bool, true, false, List, [], ◌∷◌, ◌++◌, append-nil, append_assoc, drop, length, map, take, Option, Some, None, refl, sym, ap, subst, arith, inl, inr}
+use Rattle.std.proofs.Common.{◌≤◌, ◌≡◌, ◌∙◌, ◌⊎◌, ◌==◌, ◌+◌, ◌-◌, ◌<◌, ℕ, suc, Bool, true, false, List, [], ◌∷◌, ◌++◌, append-nil, append_assoc, drop, length, map, take, Option, Some, None, refl, sym, ap, subst, arith, inl, inr}
 use Rattle.std.specs.Prelude.{All}
 use Rattle.std.proofs.lemmas.Bool.Decides.{nat_tests}
 use Rattle.std.proofs.lemmas.List.{take-append-drop}
@@ -42,7 +42,7 @@ use Rattle.dt_endpoint.specs.declared.answers.Ticked.{Ticked}
 use Rattle.dt_endpoint.specs.declared.answers.Sent.{Sent}
 use Rattle.dt_endpoint.specs.declared.answers.Arrived.{Arrived}
 use Rattle.dt_endpoint.specs.declared.answers.Piece.{Piece}
-use Rattle.dt_network.proofs.Accounts.{Account, Sure, calm_account, joined_front, lost_account, read_account, restart_account, spent_event, spent_here, spent_restart, spent_still, taking_account, unspent_here}
+use Rattle.dt_network.proofs.Accounts.{IsSpentAt, Account, Sure, calm_account, joined_front, lost_account, read_account, restart_account, spent_event, spent_here, spent_restart, spent_still, taking_account, unspent_here, none_spent}
 use Rattle.dt_network.proofs.Picking.{read_of_taken}
 use Rattle.dt_network.specs.Books.{Chosen, none}
 use Rattle.dt_network.proofs.Pieces.{piece_read}
@@ -60,9 +60,14 @@ use Rattle.dt_endpoint.specs.Endpoints.{moment_of, script_of}
 use Rattle.dt_network.proofs.Booked.{Booked, again_booked, event_booked, new_booked, safe_untimed}
 use Rattle.dt_network.proofs.Booking.{arrival_free, free_books, untimed}
 use Rattle.dt_network.specs.Books.{AllFound, Book, FoundIn, IsSafeBook, book_after, book_all, book_by, book_from, book_of, items_in, new_book}
+use Rattle.dt_world_laws.proofs.Worlds.{placed_is}
+use Rattle.dt_world_model.specs.Host.{receiver_at}
+use Rattle.dt_world_model.specs.World.{Placed}
+use Rattle.dt_calls_laws.proofs.UnreadEnd.{unread_end}
+use Rattle.dt_network.specs.Steps.{network_by}
 use Rattle.dt_network.proofs.Events.{called, event_beside, is_at, stations_after}
 use Rattle.dt_network.proofs.Frames.{Ends}
-use Rattle.dt_network.proofs.Openings.{again_beside, network_begins}
+use Rattle.dt_network.proofs.Openings.{again_beside, network_begins, begun}
 use Rattle.dt_network.proofs.Outcomes.{Admits, IsLost, IsPieceOf, IsStill, ReadIsRefused, ReadsTo, SendIsRefused, SendsFrom, arrival_comes_to, pulled_frame_is_still, pulled_report_is_still, read_comes_to, same_is_still, send_comes_to, tick_comes_to}
 use Rattle.dt_network.proofs.Worlds.{Goes, goes_by_read, goes_by_restart, goes_by_send, goes_by_tick, goes_in_time, goes_late, is_named, late_calm, piece_goes, read_is_calm, life_again, restart_calm, restart_life, restart_loses, send_does, send_is_steady, tick_calm}
 use Rattle.dt_network.specs.Beside.{GoesBeside, IsBeside, IsLate, IsStationOf, IsUnderWay, stays}
@@ -77,6 +82,7 @@ pub record NextWorld (setup : Setup) (before after : Network) (w : World) (takes
   pub beside : IsBeside setup after world
   pub accounts : (g : Flow) (joined : Bool) → Sure before w g joined → Account w world after g (takes g) (read g) joined
   pub booked : found → (g : Flow) (b : Book) → Booked w g b → Booked world g (books g b)
+  pub none_spent : found → (g : Flow) → (IsSpentAt before g → ⊥) → IsSpentAt after g → ⊥
 
 goes_nowhere : (w : World) → WorldFacts w → Goes w w
 goes_nowhere w facts = record { onward = stays; facts = facts; fates = λ f. lifted_fates w.params (view w f) (view w f) (no_lift w.params (view w f)) }
@@ -100,6 +106,7 @@ time_beside setup net w by limits h =
       };
       accounts = λ g joined sure. calm_account w later net (network_after (Pass by) net) g (TakesIn g (Pass by)) [] joined (others_calm w limits h.facts (Passes by) g tt refl tt tt) refl (λ s. record { reader = s.reader; there = s.there; spent = s.spent }) refl sure;
       booked = λ found g b k. record { rows = k.rows; lives = k.lives };
+      none_spent = λ found g before s. before (record { reader = s.reader; there = s.there; spent = s.spent });
     }
 
 calm_same : (w : World) (g : Flow) → Calm w w g
@@ -138,6 +145,7 @@ module _ (setup : Setup) (net : Network) (w : World) (limits : IsWithinLimits w.
         };
         accounts = λ g joined sure. calm_account w w net after g (Takes g call) (read_by g call) joined (calm_same w g) (takes_none g) (spent_still net n e f g found k.spent) (unread g) sure;
         booked = λ memory g b was. subst (Booked w g) (sym (noted g b)) (record { rows = was.rows ∙ sym (ap (λ (rs : List Told). book_all g (b.lives n) (items_in call) rs b.rows) k.reports); lives = was.lives });
+        none_spent = λ memory g before. none_spent net n e f g found memory before;
       }
 
   -- AN EVENT
@@ -150,7 +158,7 @@ module _ (setup : Setup) (net : Network) (w : World) (limits : IsWithinLimits w.
 
   by_event : (call : Call) (now : ℕ) → KeepsTime setup net n now → e.spent ≡ false → (event : Event Mark) → Ends now (bare_event event) e f → Goes w (event_at w n event (Some s.at)).1 → Accounts call event → IsNoted call → SameItems now call event → Next call
   by_event call now time unspent event ends goes accounts noted same =
-      record { world = (event_at w n event (Some s.at)).1; goes = goes; beside = event_beside setup net w h n e s now time unspent event f ends goes.facts; accounts = accounts; booked = λ memory g b was. subst (Booked (event_at w n event (Some s.at)).1 g) (sym (noted g b)) (event_booked w n s.at s.there now e f (is_at setup net w h n e s now time unspent) event ends memory g b (items_in call) (same g) was) }
+      record { world = (event_at w n event (Some s.at)).1; goes = goes; beside = event_beside setup net w h n e s now time unspent event f ends goes.facts; accounts = accounts; none_spent = λ memory g before. none_spent net n e f g found memory before; booked = λ memory g b was. subst (Booked (event_at w n event (Some s.at)).1 g) (sym (noted g b)) (event_booked w n s.at s.there now e f (is_at setup net w h n e s now time unspent) event ends memory g b (items_in call) (same g) was) }
 
   -- an event that takes nothing and reads nothing
   calm_event : (call : Call) (event : Event Mark) → e.spent ≡ false → ((g : Flow) → Calm w (event_at w n event (Some s.at)).1 g) → ((g : Flow) → Takes g call []) → ((g : Flow) → read_by g call ≡ []) → Accounts call event
@@ -278,6 +286,7 @@ module _ (setup : Setup) (net : Network) (w : World) (limits : IsWithinLimits w.
           | inr o ↦ calm_account w v net after g (Takes g (OpenAgain again)) [] joined (restart_calm w n s.at s.there limits h.facts g o) refl (spent_restart net n e f g found o) refl sure
         ];
         booked = λ memory g b was. again_booked w n s.at g b (λ m same. life_again w n s.at s.there limits h.facts m same) was;
+        none_spent = λ memory g before. none_spent net n e f g found memory before;
       }
 
   -- A CALL
@@ -336,12 +345,26 @@ pub record HasRead (setup : Setup) (steps : List Step) (net : Network) (w : Worl
   pub items : items_taken last g ≡ items_taken w g ++ taken
   pub rows : List Given
   pub gone : rows_gone last g ≡ rows_gone w g ++ rows
-  pub chosen : Chosen joined rows (all_read g steps)
+  pub rise : (placed w g.to.0).life ≤ (placed last g.to.0).life
+  pub beside : IsBeside setup (network_by steps net) last
+  pub none_spent : AllFound steps → (IsSpentAt net g → ⊥) → IsSpentAt (network_by steps net) g → ⊥
+  pub chosen : (life : ℕ) → (placed last g.to.0).life ≤ life → (AllFound steps × (IsSpentAt net g → ⊥)) ⊎ ((placed last g.to.0).life < life) → Chosen life joined rows (all_read g steps)
   pub booked : AllFound steps → (b : Book) → Booked w g b → Booked last g (book_of g steps net b)
+
+-- memory that is found in all steps is found in the first, and in the others
+memory_parts : (s : Step) (steps : List Step) (before after : Type 0) (first last life : ℕ) → first ≤ last → (FoundIn s → before → after) → (AllFound (s ∷ steps) × before) ⊎ (last < life) → (after ⊎ (first < life)) × ((AllFound steps × after) ⊎ (last < life))
+memory_parts s steps before after first last life rise on (inl found) = (inl (on found.0.0 found.1), inl (found.0.1, on found.0.0 found.1))
+memory_parts s steps before after first last life rise on (inr less) = (inr (omega arith), inr less)
+
+new_unspent : (setup : Setup) (g : Flow) → IsSpentAt (new_network setup) g → ⊥
+new_unspent setup g s =
+    let b = begun setup setup.stations g.to.0 s.reader s.there in
+    let no : false ≡ true = ap (λ (x : EndpointValue). x.spent) b.is ∙ s.spent in
+    absurd cc
 
 pub steps_read : (setup : Setup) (net : Network) (w : World) → IsWithinLimits setup.params → IsBeside setup net w → (steps : List Step) → AreSteps setup steps net → KeepsDuties setup steps net → (g : Flow) (joined : Bool) → Sure net w g joined → HasRead setup steps net w g joined
 steps_read setup net w limits h [] does keeps g joined sure =
-    record { last = w; facts = h.facts; taken = []; are_taken = refl; items = sym (append-nil (items_taken w g)); rows = []; gone = sym (append-nil (rows_gone w g)); chosen = none; booked = λ found b was. was }
+    record { last = w; facts = h.facts; taken = []; are_taken = refl; items = sym (append-nil (items_taken w g)); rows = []; gone = sym (append-nil (rows_gone w g)); rise = omega arith; beside = h; none_spent = λ found unspent. unspent; chosen = λ life by memory. none; booked = λ found b was. was }
 steps_read setup net w limits h (s ∷ steps) does keeps g joined sure =
     let next = step_beside setup net w (subst IsWithinLimits (sym h.params) limits) h s does.0 keeps.0 in
     let a = next.accounts g joined sure in
@@ -354,7 +377,12 @@ steps_read setup net w limits h (s ∷ steps) does keeps g joined sure =
       items = rest.items ∙ ap (λ (is : List Item). is ++ rest.taken) a.items ∙ append_assoc (items_taken w g) a.taken rest.taken;
       rows = a.rows ++ rest.rows;
       gone = rest.gone ∙ ap (λ (rs : List Given). rs ++ rest.rows) a.gone ∙ append_assoc (rows_gone w g) a.rows rest.rows;
-      chosen = a.chosen rest.rows (all_read g steps) rest.chosen;
+      rise = omega (arith, a.rise, rest.rise);
+      beside = rest.beside;
+      none_spent = λ found unspent. rest.none_spent found.1 (next.none_spent found.0 g unspent);
+      chosen = λ life by memory.
+          let parts = memory_parts s steps (IsSpentAt net g → ⊥) (IsSpentAt (network_after s net) g → ⊥) (placed next.world g.to.0).life (placed rest.last g.to.0).life life rest.rise (λ found unspent. next.none_spent found g unspent) memory in
+          a.chosen life (omega (arith, rest.rise, by)) parts.0 rest.rows (all_read g steps) (rest.chosen life by parts.1);
       booked = λ found b was. rest.booked found.1 (book_after g s net b) (next.booked found.0 g b was);
     }
 
@@ -368,12 +396,17 @@ network_reads setup steps f limits does keeps =
     let given = (ledger_of r.last.ledgers f).given in
     let k = length given - length (view r.last f).unread in
     let facts = r.facts.flows f in
+    let life = (placed r.last f.to.0).life + 1 in
     let fronts : Fronts taken_rows r.rows =
     subst (Fronts taken_rows) rows_are (fronts_of taken_rows (take k given) (drop k given) (subst (Fronts taken_rows) (sym (take-append-drop k given)) (record { rising = facts.receive_side.rising; facts = facts.receive_side.given_facts; joined = facts.read_side.joined }))) in
-    (r.taken, r.are_taken, subst (λ (is : List Item). IsReadOf false (all_read f steps) is) r.items (read_of_taken taken_rows None false r.rows (all_read f steps) fronts.rising fronts.facts fronts.joined r.chosen))
+    (r.taken, r.are_taken, subst (λ (is : List Item). IsReadOf false (all_read f steps) is) r.items (read_of_taken life taken_rows None false r.rows (all_read f steps) fronts.rising fronts.facts fronts.joined (r.chosen life (omega arith) (inr (omega arith)))))
 
 -- THE LEDGER THAT IS TOLD
-pub network_tells : (setup : Setup) (steps : List Step) (f : Flow) → IsWithinLimits setup.params → AreSteps setup steps (new_network setup) → KeepsDuties setup steps (new_network setup) → AllFound steps → IsSafeBook f (book_of f steps (new_network setup) new_book) (all_read f steps)
+not_spent : (b : Bool) → (b ≡ true → ⊥) → b ≡ false
+not_spent true h = absurd (h refl)
+not_spent false h = refl
+
+pub network_tells : (setup : Setup) (steps : List Step) (f : Flow) → IsWithinLimits setup.params → AreSteps setup steps (new_network setup) → KeepsDuties setup steps (new_network setup) → AllFound steps → IsSafeBook f (network_by steps (new_network setup)) (book_of f steps (new_network setup) new_book) (all_read f steps)
 network_tells setup steps f limits does keeps found =
     let w = new_world setup in
     let start : rows_gone w f ≡ [] = take-nil (length (ledger_of w.ledgers f).given - length (view w f).unread) in
@@ -392,5 +425,10 @@ network_tells setup steps f limits does keeps found =
       gone = r.rows;
       unread = drop k given;
       split = sym (take-append-drop k given) ∙ ap (λ (rs : List Given). rs ++ drop k given) rows_are;
-      chosen = r.chosen;
+      chosen = subst (λ (life : ℕ). Chosen life false r.rows (all_read f steps)) (was.lives f.to.0) (r.chosen (placed r.last f.to.0).life (omega arith) (inl (found, new_unspent setup f)));
+      unread_is = λ e there.
+          let s = r.beside.endpoints f.to.0 e there in
+          let unspent : e.spent ≡ false = not_spent e.spent (λ y. r.none_spent found (new_unspent setup f) (record { reader = e; there = there; spent = y })) in
+          let seen : (view r.last f).unread ≡ (receiver_at s.at.station.host f).unread = ap (λ (a : Placed). (receiver_at a.station.host f).unread) (placed_is r.last f.to.0 s.at s.there r.facts) in
+          sym (unread_end r.last f r.facts).items ∙ seen ∙ sym (ap (λ (st : Station (Unit {0})). (receiver_at st.host f).unread) (s.state unspent));
     }

@@ -1,5 +1,5 @@
 -- The ledger of a flow as the reports of calls tell it, where every call found memory.
-use Rattle.std.specs.Prelude.{ℕ, ◌+◌, ◌==◌, ◌≡◌, Bool, true, false, List, [], ◌∷◌, ◌++◌, drop, length, Option, Some, None}
+use Rattle.std.specs.Prelude.{ℕ, ◌+◌, ◌<◌, ◌==◌, ◌≡◌, Bool, true, false, List, [], ◌∷◌, ◌++◌, drop, length, map, Option, Some, None}
 use Rattle.dt_items.specs.declared.item.Item.{Item}
 use Rattle.dt_items.specs.Unread.{marked}
 use Rattle.dt_units.specs.declared.endpoints.Flow.{Flow}
@@ -11,7 +11,7 @@ use Rattle.dt_flow_model.specs.declared.rows.ReadCount.{ReadCount}
 use Rattle.dt_flow_model.specs.declared.rows.Taken.{Taken}
 use Rattle.dt_flow_model.specs.Ledger.{given_item_of, settle, take_rows}
 use Rattle.dt_flow_model.specs.Safe.{SafeLedger}
-use Rattle.dt_world_model.specs.Host.{one_if}
+use Rattle.dt_world_model.specs.Host.{one_if, receiver_at}
 use Rattle.dt_world_model.specs.Tables.{look, same_flow}
 use Rattle.dt_endpoint.specs.Endpoints.{EndpointValue}
 use Rattle.dt_network.specs.Network.{Network}
@@ -73,18 +73,19 @@ abbrev pub AllFound : List Step → Type 0
 AllFound [] = Unit {0}
 AllFound (s ∷ steps) = FoundIn s × AllFound steps
 
--- SOME ROWS WERE READ of those that were given, in their order. `joined` tells that the row before them was read: a row without a run mark is read directly behind the one before it
-pub data Chosen : (joined : Bool) → List Given → List Item → Type 0 where
-  none : {joined : Bool} → Chosen joined [] []
-  picked : {joined : Bool} {row : Given} {rows : List Given} {items : List Item} → (row.run ≡ false → joined ≡ true) → Chosen true rows items → Chosen joined (row ∷ rows) (given_item_of row ∷ items)
-  lost : {joined : Bool} {row : Given} {rows : List Given} {items : List Item} → Chosen false rows items → Chosen joined (row ∷ rows) items
+-- SOME ROWS WERE READ of those that are gone, in their order; one that wasn't is of a life of the reader before this one. `joined` tells that the row before them was read: a row without a run mark is read directly behind the one before it
+pub data Chosen (life : ℕ) : (joined : Bool) → List Given → List Item → Type 0 where
+  none : {joined : Bool} → Chosen life joined [] []
+  picked : {joined : Bool} {row : Given} {rows : List Given} {items : List Item} → (row.run ≡ false → joined ≡ true) → Chosen life true rows items → Chosen life joined (row ∷ rows) (given_item_of row ∷ items)
+  lost : {joined : Bool} {row : Given} {rows : List Given} {items : List Item} → row.life < life → Chosen life false rows items → Chosen life joined (row ∷ rows) items
 
--- THE LEDGER THAT IS TOLD IS SAFE, with the rows that were given: of those that are gone some were read, which the reads answered, and the others lie unread at the reader
-pub record IsSafeBook (f : Flow) (book : Book) (read : List Item) : Type 0 where
+-- THE LEDGER THAT IS TOLD IS SAFE, with the rows that were given. Those that are gone were read, as the reads answered, but for some that were given before the reader's last opening; the others lie unread at the reader
+pub record IsSafeBook (f : Flow) (net : Network) (book : Book) (read : List Item) : Type 0 where
   pub given : List Given
   pub reads : List ReadCount
   pub safe : SafeLedger (book.lives f.from.0) book.rows given reads
   pub gone : List Given
   pub unread : List Given
   pub split : given ≡ gone ++ unread
-  pub chosen : Chosen false gone read
+  pub chosen : Chosen (book.lives f.to.0) false gone read
+  pub unread_is : (reader : EndpointValue) → look ◌==◌ f.to.0 net.endpoints ≡ Some reader → map given_item_of unread ≡ (receiver_at reader.state.host f).unread

@@ -14,7 +14,7 @@ ghost use Rattle.dt_network.specs.Books.{AllFound, IsSafeBook, book_of, new_book
 ghost use Rattle.dt_network.specs.Duties.{KeepsDuties};
 ghost use Rattle.dt_network.specs.Network.{new_network};
 ghost use Rattle.dt_network.specs.Octets.{AreTaken, IsReadOf, all_read};
-ghost use Rattle.dt_network.specs.Steps.{AreSteps, Step};
+ghost use Rattle.dt_network.specs.Steps.{AreSteps, Step, network_by};
 
 pub use worked::exchange_keeps_the_duties;
 
@@ -41,9 +41,9 @@ pub fn what_is_read_is_what_was_sent()
 /// THE LEDGER THAT IS TOLD IS SAFE. Where a program keeps its duties and every call finds memory, the
 /// reports `Took`, `Settled` and `Uncertain` tell a row for each octet that the sends of a flow took, with
 /// its fate; and there are rows of octets that were given, in order and each at the place of its octet,
-/// such that what was acknowledged was given, and what was passed over is uncertain or of an earlier
-/// opening of its sender. Those that are gone were read, which the reads answered, or lost when the reader
-/// opened again; the others lie unread.
+/// such that what was settled was given, and what was passed over is uncertain or of an earlier opening
+/// of its sender. The last of them are what is unread at the reader; those before were read, as the reads
+/// answered, but for some that were given before the reader's last opening.
 pub fn reports_tell_a_safe_ledger()
-    ensures { (setup : Setup) (steps : List Step) (f : Flow) → IsWithinLimits setup.params → AreSteps setup steps (new_network setup) → KeepsDuties setup steps (new_network setup) → AllFound steps → IsSafeBook f (book_of f steps (new_network setup) new_book) (all_read f steps) }
+    ensures { (setup : Setup) (steps : List Step) (f : Flow) → IsWithinLimits setup.params → AreSteps setup steps (new_network setup) → KeepsDuties setup steps (new_network setup) → AllFound steps → IsSafeBook f (network_by steps (new_network setup)) (book_of f steps (new_network setup) new_book) (all_read f steps) }
 {}
