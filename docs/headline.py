@@ -20,6 +20,7 @@ COMMANDS = {
     "`calls`, beside those": ["dt_calls/CallAnswers"],
     "`audit`, beside those": ["dt_audit/Audits"],
     "`make`, beside those": ["dt_make/Schedules"],
+    "networks of endpoints, beside those": ["dt_network/Octets", "dt_network/Beside", "dt_network/Duties"],
 }
 REST = "`run` itself: the words, the streams, the statuses, and what each job owes"
 STATED = ["crates/dt_top/src/lib.rt", "crates/dt_top/src/laws.rt"]

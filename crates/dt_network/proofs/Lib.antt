@@ -1,6 +1,14 @@
 mod Frames
 mod Outcomes
+mod Pieces
 mod Worlds
 mod Events
 mod Openings
+mod Picking
+mod Refusals
+mod Late
+mod Accounts
+mod Told
 mod Going
+mod Booking
+mod Booked

@@ -46,13 +46,13 @@ bare_new : (setup : Setup) (n : ℕ) → bare_relay (relay_at setup n) ≡ plain
 bare_new setup n = ap (λ (outs : List (Out (Unit {0}))). let r : Relay (Unit {0}) = record { outs = outs; ins = ins_of n setup.links; routes = routes_of n setup.routes } in r) (bare_outs (outs_of n setup.links))
 
 -- THE BEGINNING
-record Begun (setup : Setup) (ss : List (ℕ × ℕ)) (n : ℕ) (e : EndpointValue) : Type 0 where
+pub record Begun (setup : Setup) (ss : List (ℕ × ℕ)) (n : ℕ) (e : EndpointValue) : Type 0 where
   zero : ℕ
   clock : look ◌==◌ n ss ≡ Some zero
   there : look ◌==◌ n (map (λ (s : ℕ × ℕ). let x : ℕ × Placed = (s.0, placed_first setup s.0 s.1) in x) ss) ≡ Some (placed_first setup n zero)
-  is : opened_at setup n None ≡ e
+  pub is : opened_at setup n None ≡ e
 
-begun : (setup : Setup) (ss : List (ℕ × ℕ)) (n : ℕ) (e : EndpointValue) → look ◌==◌ n (map (λ (s : ℕ × ℕ). let x : ℕ × EndpointValue = (s.0, opened_at setup s.0 None) in x) ss) ≡ Some e → Begun setup ss n e
+pub begun : (setup : Setup) (ss : List (ℕ × ℕ)) (n : ℕ) (e : EndpointValue) → look ◌==◌ n (map (λ (s : ℕ × ℕ). let x : ℕ × EndpointValue = (s.0, opened_at setup s.0 None) in x) ss) ≡ Some e → Begun setup ss n e
 begun setup [] n e found = absurd cc
 begun setup (s ∷ ss) n e found =
     elim (cases_Bool (s.0 == n)) [

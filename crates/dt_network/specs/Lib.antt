@@ -2,3 +2,6 @@ pub mod Network
 pub mod Steps
 pub mod Duties
 pub mod Beside
+pub mod Octets
+pub mod Books
+pub mod Worked

@@ -54,3 +54,8 @@ network_after (Calls n call f) net = record { now = net.now; endpoints = write �
 abbrev pub AreSteps : Setup → List Step → Network → Type 0
 AreSteps setup [] net = Unit {0}
 AreSteps setup (s ∷ steps) net = IsStep setup s net × AreSteps setup steps (network_after s net)
+
+-- the network after all of them
+abbrev pub network_by : List Step → Network → Network
+network_by [] net = net
+network_by (s ∷ steps) net = network_by steps (network_after s net)

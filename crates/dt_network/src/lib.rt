@@ -2,18 +2,48 @@
 //! contract of a public function with an empty body.
 #![tactic(auto)]
 
-ghost use Rattle.std.specs.Prelude.{List};
+mod worked;
+
+ghost use Rattle.std.specs.Prelude.{false, List};
+ghost use Rattle.dt_items.specs.declared.item.Item.{Item};
+ghost use Rattle.dt_units.specs.declared.endpoints.Flow.{Flow};
 ghost use Rattle.dt_units.specs.Limits.{IsWithinLimits};
 ghost use Rattle.dt_world_model.specs.Setup.{Setup, new_world};
 ghost use Rattle.dt_network.specs.Beside.{GoesBeside};
+ghost use Rattle.dt_network.specs.Books.{AllFound, IsSafeBook, book_of, new_book};
 ghost use Rattle.dt_network.specs.Duties.{KeepsDuties};
 ghost use Rattle.dt_network.specs.Network.{new_network};
-ghost use Rattle.dt_network.specs.Steps.{AreSteps, Step};
+ghost use Rattle.dt_network.specs.Octets.{AreTaken, IsReadOf, all_read};
+ghost use Rattle.dt_network.specs.Steps.{AreSteps, Step, network_by};
 
-/// THE LAW OF NETWORKS. Whatever calls a program makes of the endpoints of a network: where it keeps its
+pub use worked::exchange_keeps_the_duties;
+
+/// A NETWORK IS A WORLD. Whatever calls a program makes of the endpoints of a network: where it keeps its
 /// duties, a world of the definitions goes beside the network, from the new world of the same setup.
-/// After each call every endpoint is its station, every frame that left is a copy of it, and the world
-/// is safe.
+/// Before the calls and after each of them every endpoint is its station, every frame that left is a
+/// copy of it, and the world is safe; from call to call it goes on by its steps, and no fate changes
+/// that isn't open.
 pub fn network_is_a_world()
     ensures { (setup : Setup) (steps : List Step) → IsWithinLimits setup.params → AreSteps setup steps (new_network setup) → KeepsDuties setup steps (new_network setup) → GoesBeside setup steps (new_network setup) (new_world setup) }
+{}
+
+/// WHAT IS READ IS WHAT WAS SENT. Where a program keeps its duties, the octets that the reads of a flow
+/// answered are octets that its sends took: each at most once, in the order of their sending, with the
+/// marks of their messages. Some may be left out; the next that is read has a run mark then. Only of a
+/// send that found no memory it isn't known whether its octets count among those that were taken.
+///
+/// This holds over all openings of the flow's nodes, whatever was lost, came again or came late within
+/// its charge.
+pub fn what_is_read_is_what_was_sent()
+    ensures { (setup : Setup) (steps : List Step) (f : Flow) → IsWithinLimits setup.params → AreSteps setup steps (new_network setup) → KeepsDuties setup steps (new_network setup) → (taken : List Item) × AreTaken f steps taken × IsReadOf false (all_read f steps) taken }
+{}
+
+/// THE LEDGER THAT IS TOLD IS SAFE. Where a program keeps its duties and every call finds memory, the
+/// reports `Took`, `Settled` and `Uncertain` tell a row for each octet that the sends of a flow took, with
+/// its fate; and there are rows of octets that were given, in order and each at the place of its octet,
+/// such that what was settled was given, and what was passed over is uncertain or of an earlier opening
+/// of its sender. The last of them are what is unread at the reader; those before were read, as the reads
+/// answered, but for some that were given before the reader's last opening.
+pub fn reports_tell_a_safe_ledger()
+    ensures { (setup : Setup) (steps : List Step) (f : Flow) → IsWithinLimits setup.params → AreSteps setup steps (new_network setup) → KeepsDuties setup steps (new_network setup) → AllFound steps → IsSafeBook f (network_by steps (new_network setup)) (book_of f steps (new_network setup) new_book) (all_read f steps) }
 {}

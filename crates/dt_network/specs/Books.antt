@@ -1,0 +1,91 @@
+-- The ledger of a flow as the reports of calls tell it, where every call found memory.
+use Rattle.std.specs.Prelude.{ℕ, ◌+◌, ◌<◌, ◌==◌, ◌≡◌, Bool, true, false, List, [], ◌∷◌, ◌++◌, drop, length, map, Option, Some, None}
+use Rattle.dt_items.specs.declared.item.Item.{Item}
+use Rattle.dt_items.specs.Unread.{marked}
+use Rattle.dt_units.specs.declared.endpoints.Flow.{Flow}
+use Rattle.dt_reports.specs.Told.{Told}
+use Rattle.dt_reports.specs.declared.reports.Report.TheVariants as report
+use Rattle.dt_flow_model.specs.declared.rows.Fate.TheVariants as fate
+use Rattle.dt_flow_model.specs.declared.rows.Given.{Given}
+use Rattle.dt_flow_model.specs.declared.rows.ReadCount.{ReadCount}
+use Rattle.dt_flow_model.specs.declared.rows.Taken.{Taken}
+use Rattle.dt_flow_model.specs.Ledger.{given_item_of, settle, take_rows}
+use Rattle.dt_flow_model.specs.Safe.{SafeLedger}
+use Rattle.dt_world_model.specs.Host.{one_if, receiver_at}
+use Rattle.dt_world_model.specs.Tables.{look, same_flow}
+use Rattle.dt_endpoint.specs.Endpoints.{EndpointValue}
+use Rattle.dt_network.specs.Network.{Network}
+use Rattle.dt_network.specs.Steps.{Call, CallSend, Calls, OpenAgain, Pass, Step, network_after}
+
+-- the rows of a flow's octets, each with its fate, and how often each node opened again
+pub record Book : Type 0 where
+  pub rows : List Taken
+  pub lives : ℕ → ℕ
+
+abbrev pub new_book : Book
+new_book = record { rows = []; lives = λ n. 0 }
+
+abbrev pub rows_if : Bool → List Taken → List Taken → List Taken
+rows_if true after before = after
+rows_if false after before = before
+
+-- WHAT A REPORT TELLS of a flow: its call's octets were taken, or so many of the open ones of this life, the first of them, were given up or acknowledged
+abbrev pub book_told : Flow → ℕ → List Item → Told → List Taken → List Taken
+book_told f life items (report.Took g count) rows = rows_if (same_flow g f) (take_rows life items rows) rows
+book_told f life items (report.Uncertain g count) rows = rows_if (same_flow g f) (settle life fate.Uncertain count rows) rows
+book_told f life items (report.Settled g count window) rows = rows_if (same_flow g f) (settle life fate.Acked count rows) rows
+book_told f life items other rows = rows
+
+abbrev pub book_all : Flow → ℕ → List Item → List Told → List Taken → List Taken
+book_all f life items [] rows = rows
+book_all f life items (r ∷ rs) rows = book_all f life items rs (book_told f life items r rows)
+
+abbrev pub items_in : Call → List Item
+items_in (CallSend now flow octets begin end answer) = marked octets begin end false
+items_in other = []
+
+-- the reports that a call appended
+abbrev pub reports_by : Option EndpointValue → EndpointValue → List Told
+reports_by None f = []
+reports_by (Some e) f = drop (length e.reports) f.reports
+
+abbrev pub book_by : Flow → ℕ → List Item → List Told → Book → Book
+book_by f n items reports b = record { rows = book_all f (b.lives n) items reports b.rows; lives = b.lives }
+
+abbrev pub book_from : Flow → ℕ → Call → Option EndpointValue → EndpointValue → Book → Book
+book_from f n (OpenAgain again) o after b = record { rows = b.rows; lives = λ m. b.lives m + one_if (n == m) }
+book_from f n call o after b = book_by f n (items_in call) (reports_by o after) b
+
+abbrev pub book_after : Flow → Step → Network → Book → Book
+book_after f (Pass by) net b = b
+book_after f (Calls n call after) net b = book_from f n call (look ◌==◌ n net.endpoints) after b
+
+abbrev pub book_of : Flow → List Step → Network → Book → Book
+book_of f [] net b = b
+book_of f (s ∷ steps) net b = book_of f steps (network_after s net) (book_after f s net b)
+
+-- every call found memory
+abbrev pub FoundIn : Step → Type 0
+FoundIn (Pass by) = Unit {0}
+FoundIn (Calls n call after) = after.spent ≡ false
+
+abbrev pub AllFound : List Step → Type 0
+AllFound [] = Unit {0}
+AllFound (s ∷ steps) = FoundIn s × AllFound steps
+
+-- SOME ROWS WERE READ of those that are gone, in their order; one that wasn't is of a life of the reader before this one. `joined` tells that the row before them was read: a row without a run mark is read directly behind the one before it
+pub data Chosen (life : ℕ) : (joined : Bool) → List Given → List Item → Type 0 where
+  none : {joined : Bool} → Chosen life joined [] []
+  picked : {joined : Bool} {row : Given} {rows : List Given} {items : List Item} → (row.run ≡ false → joined ≡ true) → Chosen life true rows items → Chosen life joined (row ∷ rows) (given_item_of row ∷ items)
+  lost : {joined : Bool} {row : Given} {rows : List Given} {items : List Item} → row.life < life → Chosen life false rows items → Chosen life joined (row ∷ rows) items
+
+-- THE LEDGER THAT IS TOLD IS SAFE, with the rows that were given. Those that are gone were read, as the reads answered, but for some that were given before the reader's last opening; the others lie unread at the reader
+pub record IsSafeBook (f : Flow) (net : Network) (book : Book) (read : List Item) : Type 0 where
+  pub given : List Given
+  pub reads : List ReadCount
+  pub safe : SafeLedger (book.lives f.from.0) book.rows given reads
+  pub gone : List Given
+  pub unread : List Given
+  pub split : given ≡ gone ++ unread
+  pub chosen : Chosen (book.lives f.to.0) false gone read
+  pub unread_is : (reader : EndpointValue) → look ◌==◌ f.to.0 net.endpoints ≡ Some reader → map given_item_of unread ≡ (receiver_at reader.state.host f).unread
