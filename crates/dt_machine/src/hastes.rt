@@ -13,9 +13,9 @@ const MOST_VAIN: u16 = 1023;
 
 /// How soon datagrams come, by which a take looks for one again and again, or waits at once. To be woken
 /// costs both sides more than some looks do, so these pay where a peer answers soon and has a processor
-/// of its own. Where it needs this one they only keep it from sending, or from being woken on it. So they
-/// are tried after some datagrams running that came soon, and after more of them for each time at which
-/// they were in vain: none came, or none sooner than at the waits before.
+/// of its own. A peer that has to share this one runs only while the take waits. So looks are tried after
+/// some datagrams running that came soon, and after more of them for each time at which looks were in
+/// vain: none came, or none sooner than at the waits before.
 #[derive(Clone, Copy, Debug, PartialEq, Eq)]
 pub struct Haste {
     /// How many datagrams running came soon, 65,535 at most.
