@@ -1,6 +1,9 @@
 //! How datagrams come out of a socket: each has waited at most 20 ms.
-ghost use Rattle.std.specs.Prelude.{ℕ, ◌≡◌, ◌≤◌, ◌<◌, All, IfOk, IfSome, length};
+ghost use Rattle.std.specs.Prelude.{ℕ, ◌≡◌, ◌≤◌, ◌<◌, All, Any, IfOk, IfSome, false, length};
+ghost use Rattle.dt_machine.specs.Backlogs.{nothing};
+ghost use Rattle.dt_machine.specs.Hastes.{first_haste};
 ghost use Rattle.dt_machine.specs.Looks.{IsLook};
+ghost use Rattle.dt_machine.specs.Waits.{may_have_waited};
 
 use crate::backlogs::Backlog;
 use crate::hastes::{Haste, SOON};
@@ -50,7 +53,10 @@ pub struct Intake {
 
 impl Intake {
     /// Of a socket that has no datagrams yet. Takes the memory for its backlog.
-    pub fn new(alloc: Global) -> Result<Self, NoMemory> {
+    pub fn new(alloc: Global) -> Result<Self, NoMemory>
+        ensures empty { IfOk result (λ intake. intake.backlog ≡ nothing) }
+        ensures haste { IfOk result (λ intake. intake.haste ≡ first_haste) }
+    {
         Ok(Intake {
             backlog: Backlog::new(alloc)?,
             empty: 0,
@@ -60,11 +66,31 @@ impl Intake {
     }
 
     /// Begins with a new socket, which was made at this moment, in nanoseconds.
-    pub fn begin(&mut self, now: u64) {
+    pub fn begin(&mut self, now: u64)
+        ensures empty { self.new.backlog ≡ nothing }
+        ensures moment { self.new.empty ≡ now }
+        ensures haste { self.new.haste ≡ first_haste }
+    {
         self.backlog.clear();
         self.empty = now;
         self.crowded = false;
         self.haste = Haste::new();
+    }
+
+    /// Hands over the first datagram of the backlog, with the moment `now`, or drops it where it may have
+    /// waited longer than 20 ms by then. None where none waits.
+    fn first(&mut self, now: u64, buf: &mut [u8]) -> Option<Option<(u64, u16, usize)>>
+        ensures link { IfSome result (λ r. IfSome r (λ d. d.1 ≤ 255)) }
+        ensures within { IfSome result (λ r. IfSome r (λ d. d.2 ≤ length buf.old)) }
+        ensures same_room { length buf.new ≡ length buf.old }
+        ensures moment { IfSome result (λ r. IfSome r (λ d. d.0 ≡ now)) }
+        ensures fresh { IfSome result (λ r. IfSome r (λ d. Any (λ w. (w.link ≡ d.1) × (may_have_waited w.empty now ≡ false)) self.old.backlog.waiting)) }
+    {
+        let arrival = self.backlog.next(buf)?;
+        if may_have_waited(arrival.empty, now) {
+            return Some(None);
+        }
+        Some(Some((now, arrival.link, arrival.count)))
     }
 
     /// The first datagram of the backlog that can't have waited longer than 20 ms by the moment `now`.
@@ -73,11 +99,12 @@ impl Intake {
         ensures link { IfSome result (λ d. d.1 ≤ 255) }
         ensures within { IfSome result (λ d. d.2 ≤ length buf.old) }
         ensures same_room { length buf.new ≡ length buf.old }
+        ensures moment { IfSome result (λ d. d.0 ≡ now) }
     {
         for _ in 0..MOST_PASSED {
-            let arrival = self.backlog.next(buf)?;
-            if !may_have_waited(arrival.empty, now) {
-                return Some((now, arrival.link, arrival.count));
+            let first = self.first(now, buf)?;
+            if first.is_some() {
+                return first;
             }
         }
         None
@@ -148,6 +175,9 @@ impl Intake {
         requires { All (λ p. p.link ≤ 255) peers.now }
         ensures link { IfSome result (λ d. d.1 ≤ 255) }
         ensures within { (room : ℕ) → IsLook room look → IfSome result (λ d. d.2 ≤ room) }
+        ensures moment { IfSome result (λ d. d.0 ≡ now) }
+        ensures fresh { IfSome result (λ d. may_have_waited self.old.empty now ≡ false) }
+        ensures peer { IfSome result (λ d. Any (λ p. p.link ≡ d.1) peers.now) }
     {
         let Look::Datagram { from, count } = look else {
             return None;
