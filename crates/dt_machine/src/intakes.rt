@@ -1,8 +1,12 @@
 //! How datagrams come out of a socket: each has waited at most 20 ms.
-ghost use Rattle.std.specs.Prelude.{ℕ, ◌≡◌, ◌≤◌, ◌<◌, All, IfOk, IfSome, length};
+ghost use Rattle.std.specs.Prelude.{ℕ, ◌≡◌, ◌≤◌, ◌<◌, All, Any, IfOk, IfSome, false, length};
+ghost use Rattle.dt_machine.specs.Backlogs.{nothing};
+ghost use Rattle.dt_machine.specs.Hastes.{first_haste};
 ghost use Rattle.dt_machine.specs.Looks.{IsLook};
+ghost use Rattle.dt_machine.specs.Waits.{may_have_waited};
 
 use crate::backlogs::Backlog;
+use crate::hastes::{Haste, SOON};
 use crate::peers::link_of;
 use crate::sockets::{Look, Socket};
 use crate::waits::may_have_waited;
@@ -30,9 +34,8 @@ const MOST_PASSED: u32 = 512;
 /// How many waits and looks a take has, at most.
 const MOST_ROUNDS: u32 = 1024;
 
-/// How often a take looks before it waits: whoever was answered often sends again within the time of
-/// these looks, and to be woken costs both sides more than they do.
-const SOON: u32 = 24;
+/// How often a take looks before it waits, at most, also where the machine's clock stands still.
+const MOST_SOON: u32 = 1024;
 
 /// What is known of the datagrams of a socket.
 #[derive(Drop)]
@@ -44,23 +47,50 @@ pub struct Intake {
     /// Whether it is to be emptied before the next look: there were several when it was last emptied, or
     /// one that may have waited too long.
     crowded: bool,
+    /// How soon the last ones came.
+    haste: Haste,
 }
 
 impl Intake {
     /// Of a socket that has no datagrams yet. Takes the memory for its backlog.
-    pub fn new(alloc: Global) -> Result<Self, NoMemory> {
+    pub fn new(alloc: Global) -> Result<Self, NoMemory>
+        ensures empty { IfOk result (λ intake. intake.backlog ≡ nothing) }
+        ensures haste { IfOk result (λ intake. intake.haste ≡ first_haste) }
+    {
         Ok(Intake {
             backlog: Backlog::new(alloc)?,
             empty: 0,
             crowded: false,
+            haste: Haste::new(),
         })
     }
 
     /// Begins with a new socket, which was made at this moment, in nanoseconds.
-    pub fn begin(&mut self, now: u64) {
+    pub fn begin(&mut self, now: u64)
+        ensures empty { self.new.backlog ≡ nothing }
+        ensures moment { self.new.empty ≡ now }
+        ensures haste { self.new.haste ≡ first_haste }
+    {
         self.backlog.clear();
         self.empty = now;
         self.crowded = false;
+        self.haste = Haste::new();
+    }
+
+    /// Hands over the first datagram of the backlog, with the moment `now`, or drops it where it may have
+    /// waited longer than 20 ms by then. None where none waits.
+    fn first(&mut self, now: u64, buf: &mut [u8]) -> Option<Option<(u64, u16, usize)>>
+        ensures link { IfSome result (λ r. IfSome r (λ d. d.1 ≤ 255)) }
+        ensures within { IfSome result (λ r. IfSome r (λ d. d.2 ≤ length buf.old)) }
+        ensures same_room { length buf.new ≡ length buf.old }
+        ensures moment { IfSome result (λ r. IfSome r (λ d. d.0 ≡ now)) }
+        ensures fresh { IfSome result (λ r. IfSome r (λ d. Any (λ w. (w.link ≡ d.1) × (may_have_waited w.empty now ≡ false)) self.old.backlog.waiting)) }
+    {
+        let arrival = self.backlog.next(buf)?;
+        if may_have_waited(arrival.empty, now) {
+            return Some(None);
+        }
+        Some(Some((now, arrival.link, arrival.count)))
     }
 
     /// The first datagram of the backlog that can't have waited longer than 20 ms by the moment `now`.
@@ -69,11 +99,12 @@ impl Intake {
         ensures link { IfSome result (λ d. d.1 ≤ 255) }
         ensures within { IfSome result (λ d. d.2 ≤ length buf.old) }
         ensures same_room { length buf.new ≡ length buf.old }
+        ensures moment { IfSome result (λ d. d.0 ≡ now) }
     {
         for _ in 0..MOST_PASSED {
-            let arrival = self.backlog.next(buf)?;
-            if !may_have_waited(arrival.empty, now) {
-                return Some((now, arrival.link, arrival.count));
+            let first = self.first(now, buf)?;
+            if first.is_some() {
+                return first;
             }
         }
         None
@@ -144,6 +175,9 @@ impl Intake {
         requires { All (λ p. p.link ≤ 255) peers.now }
         ensures link { IfSome result (λ d. d.1 ≤ 255) }
         ensures within { (room : ℕ) → IsLook room look → IfSome result (λ d. d.2 ≤ room) }
+        ensures moment { IfSome result (λ d. d.0 ≡ now) }
+        ensures fresh { IfSome result (λ d. may_have_waited self.old.empty now ≡ false) }
+        ensures peer { IfSome result (λ d. Any (λ p. p.link ≡ d.1) peers.now) }
     {
         let Look::Datagram { from, count } = look else {
             return None;
@@ -189,6 +223,54 @@ impl Intake {
         Ok(None)
     }
 
+    /// Looks for a datagram, where the take began at the moment `begun`: once, and where the last ones came
+    /// soon, until one came or 50 microseconds have passed.
+    fn look_soon<R: Net + time::Clock>(
+        &mut self,
+        socket: &Socket<'_, R>,
+        begun: u64,
+        buf: &mut [u8],
+    ) -> io::Result<Look>
+        ensures within { IfOk result (IsLook (length buf.old)) }
+        ensures same_room { length buf.new ≡ length buf.old }
+    {
+        let look = self.look_once(socket, begun, buf)?;
+        if look != Look::Empty || !self.haste.is_brisk() {
+            return Ok(look);
+        }
+        for _ in 0..MOST_SOON {
+            let now = socket.now();
+            let took = now.saturating_sub(begun);
+            if took > SOON {
+                break;
+            }
+            let look = self.look_once(socket, now, buf)?;
+            if look != Look::Empty {
+                self.haste = self.haste.met(took);
+                return Ok(look);
+            }
+        }
+        self.haste = self.haste.missed();
+        Ok(Look::Empty)
+    }
+
+    /// Looks for a datagram once, after the moment `now`.
+    fn look_once<R: Net + time::Clock>(
+        &mut self,
+        socket: &Socket<'_, R>,
+        now: u64,
+        buf: &mut [u8],
+    ) -> io::Result<Look>
+        ensures within { IfOk result (IsLook (length buf.old)) }
+        ensures same_room { length buf.new ≡ length buf.old }
+    {
+        let look = socket.look(buf)?;
+        if look == Look::Empty {
+            self.empty = now;
+        }
+        Ok(look)
+    }
+
     /// Waits for a datagram, so many milliseconds, which aren't 0: the moment at which it is handed over,
     /// in nanoseconds, its link, and how many of its octets stand first in the buffer. None where none
     /// came, where a stranger's came, or where all that came may have waited longer than 20 ms. Fails
@@ -204,30 +286,20 @@ impl Intake {
         ensures link { IfOk result (λ t. IfSome t (λ d. d.1 ≤ 255)) }
         ensures within { IfOk result (λ t. IfSome t (λ d. d.2 ≤ length buf.old)) }
     {
-        let now = socket.now();
-        if let Some(found) = self.at_hand(socket, peers, now, buf)? {
+        let begun = socket.now();
+        if let Some(found) = self.at_hand(socket, peers, begun, buf)? {
             return Ok(Some(found));
         }
-        let look = look_soon(socket, buf)?;
+        let look = self.look_soon(socket, begun, buf)?;
         if look != Look::Empty {
             return Ok(self.judged(look, socket.now(), peers));
         }
-        self.empty = now;
-        let until = now.saturating_add(u64::from(wait_ms) * MILLISECOND);
-        self.wait_for(socket, peers, now, until, buf)
+        let until = begun.saturating_add(u64::from(wait_ms) * MILLISECOND);
+        let found = self.wait_for(socket, peers, begun, until, buf)?;
+        self.haste = match found {
+            Some((moment, _, _)) => self.haste.waited(moment.saturating_sub(begun)),
+            None => self.haste.rested(),
+        };
+        Ok(found)
     }
-}
-
-/// Looks for a datagram a few times, until there is something.
-fn look_soon<R: Net + time::Clock>(socket: &Socket<'_, R>, buf: &mut [u8]) -> io::Result<Look>
-    ensures within { IfOk result (IsLook (length buf.old)) }
-    ensures same_room { length buf.new ≡ length buf.old }
-{
-    for _ in 0..SOON {
-        let look = socket.look(buf)?;
-        if look != Look::Empty {
-            return Ok(look);
-        }
-    }
-    Ok(Look::Empty)
 }

@@ -4,6 +4,7 @@
 #![tactic(auto)]
 
 mod backlogs;
+mod hastes;
 mod intakes;
 mod machine_clock;
 mod moments;
@@ -13,9 +14,9 @@ mod udp_wire;
 mod uptime;
 mod waits;
 
+pub use backlogs::{Arrival, Backlog};
+pub use hastes::Haste;
 pub use machine_clock::MachineClock;
 pub use moments::Moments;
 pub use udp_wire::UdpWire;
-
-#[cfg(test)]
-mod tests;
+pub use waits::may_have_waited;

@@ -1,0 +1,110 @@
+//! Wires and sockets of this machine.
+ghost use Rattle.std.specs.Prelude.{◌≤◌};
+
+use dt_edges::{Address, Peer, Wire};
+use dt_items::NoMemory;
+use dt_machine::{Moments, UdpWire};
+use std::io;
+use std::net::{Ipv4Addr, SocketAddr, UdpSocket};
+
+/// The room for a datagram: what a frame has at most.
+pub const ROOM: usize = 8_223;
+
+/// How often a test tries what a loaded machine may be too slow for: a wire hands over and sends only
+/// what is at most 20 ms old.
+pub const TRIES: u32 = 200;
+
+/// An address of this machine at a port.
+pub fn local(port: u16) -> Address {
+    Address {
+        ip: [127, 0, 0, 1],
+        port,
+    }
+}
+
+/// The same address as a socket's calls have it.
+pub fn socket_address(port: u16) -> SocketAddr {
+    SocketAddr::from((Ipv4Addr::LOCALHOST, port))
+}
+
+/// A socket at a port that the machine chooses, and that port.
+pub fn plain(rt: &HostRuntime) -> io::Result<(UdpSocket, u16)> {
+    let socket = UdpSocket::bind(rt, socket_address(0))?;
+    let port = socket.local_addr()?.port();
+    Ok((socket, port))
+}
+
+/// A wire that isn't open.
+pub fn closed<'a>(
+    rt: &'a HostRuntime,
+    moments: &'a Moments,
+) -> Result<UdpWire<'a, HostRuntime>, NoMemory> {
+    UdpWire::new(rt.alloc(), rt, moments)
+}
+
+/// A port that was free a moment ago, or 0 where there is none.
+pub fn free_port(rt: &HostRuntime) -> u16 {
+    match plain(rt) {
+        Ok((_, port)) => port,
+        Err(_) => 0,
+    }
+}
+
+/// Opens a wire at a port. Its peers are one at this link and port, and one at the next link that sends
+/// nothing.
+pub fn open(wire: &mut UdpWire<'_, HostRuntime>, port: u16, link: u16, far: u16) -> bool
+    requires { link ≤ 254 }
+{
+    let peer = Peer {
+        link,
+        address: local(far),
+    };
+    let silent = Peer {
+        link: link + 1,
+        address: local(1),
+    };
+    wire.open(local(port), &[peer, silent]).is_ok()
+}
+
+/// The link and the length of what a wire takes within 100 ms, if it takes anything.
+pub fn taken(wire: &mut UdpWire<'_, HostRuntime>, buf: &mut [u8; ROOM]) -> Option<(u16, usize)> {
+    wire.take(100, buf).ok().flatten()
+}
+
+/// The link and the length of what a wire takes, at last, of a datagram that is sent to it.
+pub fn takes(
+    near: &UdpSocket,
+    octets: &[u8],
+    far: &mut UdpWire<'_, HostRuntime>,
+    port: u16,
+    buf: &mut [u8; ROOM],
+) -> Option<(u16, usize)> {
+    for _ in 0..TRIES {
+        let _none = far.take(1, buf);
+        if near.send_to(octets, socket_address(port)).is_ok()
+            && let Some(taken) = taken(far, buf)
+        {
+            return Some(taken);
+        }
+    }
+    None
+}
+
+/// The link and the length of what a wire takes, at last, of a datagram that another one gives over its
+/// link 3.
+pub fn passes(
+    near: &mut UdpWire<'_, HostRuntime>,
+    octets: &[u8],
+    far: &mut UdpWire<'_, HostRuntime>,
+    buf: &mut [u8; ROOM],
+) -> Option<(u16, usize)> {
+    for _ in 0..TRIES {
+        let _none = far.take(1, buf);
+        if near.give(3, octets).is_ok()
+            && let Some(taken) = taken(far, buf)
+        {
+            return Some(taken);
+        }
+    }
+    None
+}
