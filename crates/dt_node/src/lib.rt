@@ -21,6 +21,3 @@ pub use laws::{frames_go_in_again_with_less_life, lines_stand_in_order};
 pub use outcomes::NodeOutcome;
 pub use serving::{serve, serve_traced};
 pub use worked::{early_data_are_handed_in_again, exchange_is_logged};
-
-#[cfg(test)]
-mod tests;
