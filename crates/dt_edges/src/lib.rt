@@ -33,6 +33,3 @@ pub use sinks::{Sink, put_all};
 pub use sources::Source;
 pub use wires::Wire;
 pub use writers::WriterSink;
-
-#[cfg(test)]
-mod tests;

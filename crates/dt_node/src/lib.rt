@@ -23,6 +23,3 @@ pub use laws::{
 pub use outcomes::NodeOutcome;
 pub use serving::{serve, serve_traced};
 pub use worked::{early_data_are_handed_in_again, exchange_is_logged};
-
-#[cfg(test)]
-mod tests;

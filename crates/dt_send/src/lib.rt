@@ -10,6 +10,3 @@ mod stretches;
 
 pub use dt_flow_model::{Cut, PutFault, SendAct, SendKind, SendMoments};
 pub use senders::Sender;
-
-#[cfg(test)]
-mod tests;

@@ -17,6 +17,3 @@ pub use events::{LocalEvent, StationEvent};
 pub use laws::octets_that_do_not_read_change_nothing;
 pub use stations::Station;
 pub use visitor::Visitor;
-
-#[cfg(test)]
-mod tests;

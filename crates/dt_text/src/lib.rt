@@ -23,6 +23,3 @@ pub use lines::{Form, Line};
 pub use numerals::read_number;
 pub use reading::read_line;
 pub use stages::{Stage, follows};
-
-#[cfg(test)]
-mod tests;

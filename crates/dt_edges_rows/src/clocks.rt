@@ -1,0 +1,11 @@
+use dt_edges::{Clock, MemClock};
+use std::test::Fail;
+
+#[test]
+fn a_clock_repeats_its_last_reading(rt: HostRuntime) -> Result<(), Fail> {
+    let mut clock = MemClock::new(rt.alloc(), &[1000, 1040])?;
+    for reading in [1000, 1040, 1040] {
+        assert_eq!(rt; clock.now(), reading);
+    }
+    Ok(())
+}

@@ -1,0 +1,84 @@
+use crate::rough::Rough;
+use dt_edges::{Buffer, Buffered, Failed, MemSink, Sink, WriterSink, put_all};
+use std::process::Abort;
+use std::test::Fail;
+
+/// What is put, and its answer.
+enum Put {
+    /// A piece in one call.
+    Once(&'static [u8], Result<usize, Failed>),
+    /// All of a text.
+    All(&'static [u8], Result<(), Failed>),
+}
+
+fn puts<K: Sink>(rt: &impl Abort, sink: &mut K, rows: &[Put]) {
+    for row in rows {
+        match row {
+            Put::Once(piece, answer) => {
+                assert!(rt; !piece.is_empty());
+                assert_eq!(rt; sink.put(piece), *answer);
+            }
+            Put::All(text, answer) => assert_eq!(rt; put_all(text, sink), *answer),
+        }
+    }
+}
+
+/// The third call fails, and there is room for eight octets.
+const IN_MEMORY: [Put; 5] = [
+    Put::All(b"", Ok(())),
+    Put::All(b"abc", Ok(())),
+    Put::All(b"def", Ok(())),
+    Put::All(b"x", Err(Failed)),
+    Put::All(b"ghi", Err(Failed)),
+];
+
+const OVER_A_WRITER: [Put; 5] = [
+    Put::Once(b"hello", Ok(2)),
+    Put::Once(b"llo", Err(Failed)),
+    Put::Once(b"llo", Ok(2)),
+    Put::All(b"o", Err(Failed)),
+    Put::All(b"o!!", Ok(())),
+];
+
+/// With room for one octet.
+const OVER_A_FULL_WRITER: [Put; 2] = [Put::Once(b"xy", Ok(1)), Put::Once(b"y", Err(Failed))];
+
+#[test]
+fn a_sink_takes_what_there_is_room_for(rt: HostRuntime) -> Result<(), Fail> {
+    let mut sink = MemSink::new(rt.alloc(), 8, &[3])?;
+    puts(&rt, &mut sink, &IN_MEMORY);
+    assert_eq!(rt; sink.as_slice(), b"abcdefgh".as_slice());
+    Ok(())
+}
+
+#[test]
+fn a_writer_is_a_sink(rt: HostRuntime) {
+    let mut sink = WriterSink::new(Rough::new(Vec::<u8>::new(rt.alloc())));
+    puts(&rt, &mut sink, &OVER_A_WRITER);
+    assert_eq!(rt; sink.get_ref().calm.as_slice(), b"hello!!".as_slice());
+}
+
+#[test]
+fn a_full_writer_fails(rt: HostRuntime) {
+    let mut room = [0; 1];
+    let mut sink = WriterSink::new(room.as_mut_slice());
+    puts(&rt, &mut sink, &OVER_A_FULL_WRITER);
+}
+
+/// Puts octets through the buffer.
+fn is_buffered(octets: &[u8], sink: &mut MemSink, buffer: &mut Buffer) -> bool {
+    let mut log = Buffered { out: sink, buffer };
+    put_all(octets, &mut log).is_ok()
+}
+
+#[test]
+fn a_buffer_passes_on(rt: HostRuntime) -> Result<(), Fail> {
+    let mut sink = MemSink::new(rt.alloc(), 20_000, &[])?;
+    let mut buffer = Buffer::new(rt.alloc())?;
+    for _ in 0..4 {
+        assert!(rt; is_buffered(&[7; 3000], &mut sink, &mut buffer));
+    }
+    assert_eq!(rt; buffer.pass_on(&mut sink), Ok(()));
+    assert_eq!(rt; sink.as_slice().len(), 12_000);
+    Ok(())
+}

@@ -1,0 +1,210 @@
+//! Runs are played as their rows say.
+use crate::inputs::{datagram, script};
+use crate::rows::{ACKNOWLEDGED, FAILURES, LOGS, SHELVES, TRACES};
+use dt_edges::{MemClock, MemSink, MemWire};
+use dt_node::{NodeOutcome, serve, serve_traced};
+use std::alloc::Global;
+use std::process::Abort;
+use std::test::Fail;
+
+/// The parts of a row.
+#[derive(Clone, Copy)]
+struct Row<'a> {
+    script: &'a str,
+    readings: &'a str,
+    takes: &'a str,
+    fails: &'a str,
+    outcome: &'a str,
+    gives: &'a str,
+    text: &'a str,
+}
+
+fn row_of(text: &str) -> Row<'_> {
+    let mut parts = text.split('|');
+    Row {
+        script: parts.next().unwrap_or(""),
+        readings: parts.next().unwrap_or(""),
+        takes: parts.next().unwrap_or(""),
+        fails: parts.next().unwrap_or(""),
+        outcome: parts.next().unwrap_or(""),
+        gives: parts.next().unwrap_or(""),
+        text: parts.next().unwrap_or(""),
+    }
+}
+
+/// The numbers of the calls of a kind that fail: `take 2` is the second take.
+fn failing(alloc: Global, kind: &str, fails: &str) -> Result<Vec<u64>, Fail> {
+    let mut numbers = Vec::new(alloc);
+    match fails.split_once(' ') {
+        Some((of, number)) if of == kind => numbers.push(number.parse::<u64>()?)?,
+        _ => {}
+    }
+    Ok(numbers)
+}
+
+/// A wire on which the datagrams of these names come.
+fn wire_of(alloc: Global, takes: &str, fails: &str) -> Result<MemWire, Fail> {
+    let failing_takes = failing(alloc, "take", fails)?;
+    let failing_gives = failing(alloc, "give", fails)?;
+    let open_fails = fails == "open";
+    let wire = MemWire::new(
+        alloc,
+        open_fails,
+        &failing_takes,
+        &failing_gives,
+        Some(1000),
+    )?;
+    adds(wire, takes)
+}
+
+/// The wire with what comes on it.
+fn adds(mut wire: MemWire, takes: &str) -> Result<MemWire, Fail> {
+    for name in takes.split(',') {
+        match datagram(name) {
+            Some(octets) => wire.add_take(1, octets)?,
+            None if name == "-" => wire.add_nothing()?,
+            None => {}
+        }
+    }
+    Ok(wire)
+}
+
+/// A clock with these readings.
+fn clock_of(alloc: Global, readings: &str) -> Result<MemClock, Fail> {
+    let mut moments = Vec::new(alloc);
+    for reading in readings.split(' ') {
+        moments.push(reading.parse::<u64>()?)?;
+    }
+    if moments.is_empty() {
+        return Err("no reading".into());
+    }
+    Ok(MemClock::new(alloc, &moments)?)
+}
+
+/// Runs a script for its log, or for its trace.
+fn run(
+    alloc: Global,
+    traced: bool,
+    script: &[u8],
+    wire: &mut MemWire,
+    clock: &mut MemClock,
+    out: &mut MemSink,
+) -> NodeOutcome {
+    if script.len() > 1000 {
+        return NodeOutcome::NoMemory;
+    }
+    if traced {
+        serve_traced(alloc, script, wire, clock, out)
+    } else {
+        serve(alloc, script, wire, clock, out)
+    }
+}
+
+/// Whether an outcome has this name.
+fn is_named(outcome: NodeOutcome, name: &str) -> bool {
+    match outcome {
+        NodeOutcome::Done => name == "done",
+        NodeOutcome::Refused => name == "refused",
+        NodeOutcome::WireFault => name == "wire",
+        NodeOutcome::ClockStill => name == "still",
+        NodeOutcome::WriteFault => name == "write",
+        NodeOutcome::NoMemory => false,
+    }
+}
+
+/// Whether octets are a text in which each line ends with `;`.
+fn are_lines(octets: &[u8], text: &str) -> bool {
+    let mut wanted = text.as_bytes().iter();
+    for octet in octets {
+        let shown = if *octet == b'\n' { b';' } else { *octet };
+        if wanted.next() != Some(&shown) {
+            return false;
+        }
+    }
+    wanted.next().is_none()
+}
+
+/// Whether the datagram of a number that the wire took is the one of this name, or there is none.
+fn is_given(wire: &MemWire, number: usize, name: &str) -> bool {
+    match (wire.given(number), datagram(name)) {
+        (Some((link, octets)), Some(wanted)) => link == 1 && octets == wanted,
+        (found, wanted) => found.is_none() && wanted.is_none(),
+    }
+}
+
+/// Whether the wire took the datagrams of these names, if names are there.
+fn are_given(wire: &MemWire, names: &str) -> bool {
+    names.is_empty()
+        || names
+            .split(',')
+            .enumerate()
+            .all(|(number, name)| is_given(wire, number, name))
+}
+
+/// Whether a run ends as its row says, with a sink of so much room.
+fn ends(
+    alloc: Global,
+    traced: bool,
+    row: &Row<'_>,
+    room: usize,
+    outcome: &str,
+    text: &str,
+) -> Result<bool, Fail> {
+    let mut wire = wire_of(alloc, row.takes, row.fails)?;
+    let mut clock = clock_of(alloc, row.readings)?;
+    let mut out = MemSink::new(alloc, room, &[])?;
+    let script = script(row.script).as_bytes();
+    let ended = run(alloc, traced, script, &mut wire, &mut clock, &mut out);
+    Ok(is_named(ended, outcome) && are_lines(out.as_slice(), text) && are_given(&wire, row.gives))
+}
+
+/// Each row ends as it says.
+fn end(rt: &impl Abort, alloc: Global, traced: bool, rows: &str) -> Result<(), Fail> {
+    for text in rows.split('\n') {
+        let row = row_of(text);
+        let is = ends(alloc, traced, &row, 1000, row.outcome, row.text)?;
+        assert!(rt; is, "{text}");
+    }
+    Ok(())
+}
+
+#[test]
+fn each_node_hears_the_other(rt: HostRuntime) -> Result<(), Fail> {
+    end(&rt, rt.alloc(), false, LOGS)
+}
+
+#[test]
+fn failures_and_a_still_clock_are_told(rt: HostRuntime) -> Result<(), Fail> {
+    end(&rt, rt.alloc(), false, FAILURES)
+}
+
+#[test]
+fn data_that_came_too_early_are_handed_in_again(rt: HostRuntime) -> Result<(), Fail> {
+    end(&rt, rt.alloc(), false, SHELVES)
+}
+
+#[test]
+fn a_trace_has_what_came_and_what_failed(rt: HostRuntime) -> Result<(), Fail> {
+    end(&rt, rt.alloc(), true, TRACES)
+}
+
+/// With each room that is less than the log, the run ends with as much of it.
+#[test]
+fn a_full_sink_ends_the_run(rt: HostRuntime) -> Result<(), Fail> {
+    let row = row_of(ACKNOWLEDGED);
+    for room in 0..row.text.len() {
+        let part = row.text.get(..room).unwrap_or("");
+        let is = ends(rt.alloc(), false, &row, room, "write", part)?;
+        assert!(rt; is, "{room}");
+    }
+    Ok(())
+}
+
+/// The line on standard output for a wire that didn't open doesn't fit.
+#[test]
+fn a_full_sink_ends_a_trace(rt: HostRuntime) -> Result<(), Fail> {
+    let row = row_of("first|1000 1040 1100|ack,-|open|write||! 0");
+    let is = ends(rt.alloc(), true, &row, 3, row.outcome, row.text)?;
+    assert!(rt; is);
+    Ok(())
+}

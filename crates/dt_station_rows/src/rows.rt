@@ -1,0 +1,227 @@
+//! The rows of runs: a moment, what happens then, and what is seen of it.
+use crate::audience::Seen;
+use crate::fixtures::FLOW;
+use dt_layout::LayoutFault;
+use dt_reports::Report;
+
+pub enum Step {
+    /// A rendezvous from node 1 comes on link 7, with so much life, to a node.
+    Meets(u32, u32),
+    /// `hello` comes on it.
+    Hello,
+    /// `hello` comes with another octet at a place, as so many octets.
+    Changed(usize, u8, usize),
+    Ticks,
+    /// The wake is this one, and nothing happens.
+    Wakes(Option<u64>),
+}
+
+/// A moment, a step, and what is seen.
+pub type Row = (u64, Step, &'static [Seen]);
+
+/// `hello` from node 1 to node 2, with a life of 999.
+pub const HELLO: [u8; 35] = [
+    1, 1, 0, 19, 0, 0, 3, 231, 0, 0, 0, 1, 0, 0, 0, 2, 1, 7, 0, 10, 0, 20, 0, 0, 0, 0, 0, 0, 0, 0,
+    104, 101, 108, 108, 111,
+];
+
+static FLUSHED: [Row; 8] = [
+    (
+        0,
+        Step::Meets(5000, 2),
+        &[
+            Seen::Told(Report::Put {
+                link: 5,
+                life: 4949,
+            }),
+            Seen::Handed {
+                link: 5,
+                life: 4949,
+                at_once: true,
+            },
+        ],
+    ),
+    (
+        0,
+        Step::Meets(5000, 3),
+        &[
+            Seen::Told(Report::Put {
+                link: 1,
+                life: 4949,
+            }),
+            Seen::Handed {
+                link: 1,
+                life: 4949,
+                at_once: true,
+            },
+        ],
+    ),
+    (0, Step::Wakes(None), &[]),
+    (0, Step::Meets(5000, 3), &[]),
+    (0, Step::Meets(5000, 2), &[]),
+    (0, Step::Wakes(Some(1000)), &[]),
+    (999, Step::Ticks, &[]),
+    (
+        1000,
+        Step::Ticks,
+        &[
+            Seen::Told(Report::Put {
+                link: 5,
+                life: 3949,
+            }),
+            Seen::Handed {
+                link: 5,
+                life: 3949,
+                at_once: false,
+            },
+            Seen::Told(Report::Put {
+                link: 1,
+                life: 3949,
+            }),
+            Seen::Handed {
+                link: 1,
+                life: 3949,
+                at_once: false,
+            },
+        ],
+    ),
+];
+
+/// A packet that isn't for the station is passed on, and what a link keeps back leaves at a tick, in
+/// the order of the links.
+pub fn flushed() -> &'static [Row] {
+    &FLUSHED
+}
+
+static GOING_NOWHERE: [Row; 3] = [
+    (
+        0,
+        Step::Meets(50, 2),
+        &[Seen::Told(Report::ExpiredIn { link: 7 })],
+    ),
+    (
+        0,
+        Step::Meets(5000, 4),
+        &[Seen::Told(Report::NoRoute { to: 4 })],
+    ),
+    (
+        0,
+        Step::Meets(51, 2),
+        &[Seen::Told(Report::ExpiredOut { link: 5 })],
+    ),
+];
+
+/// What can't be passed on is told.
+pub fn going_nowhere() -> &'static [Row] {
+    &GOING_NOWHERE
+}
+
+static ACKNOWLEDGED: [Row; 1] = [(
+    40,
+    Step::Hello,
+    &[
+        Seen::Told(Report::Accepted {
+            flow: FLOW,
+            number: 0,
+            length: 5,
+            run: true,
+        }),
+        Seen::Told(Report::Acked {
+            flow: FLOW,
+            number: 5,
+            window: 4091,
+        }),
+        Seen::Asked,
+        Seen::Told(Report::NoRoute { to: 1 }),
+    ],
+)];
+
+/// Data for the station is accepted, and the acknowledgement that it makes goes out behind its report,
+/// tagged. It goes back to node 1, to which there is no route.
+pub fn acknowledged() -> &'static [Row] {
+    &ACKNOWLEDGED
+}
+
+static NOT_READ: [Row; 6] = [
+    (
+        0,
+        Step::Changed(1, 2, 35),
+        &[Seen::Told(Report::Bad {
+            fault: LayoutFault::Protocol { octet: 2 },
+        })],
+    ),
+    (
+        0,
+        Step::Changed(16, 9, 35),
+        &[Seen::Told(Report::Bad {
+            fault: LayoutFault::Kind { octet: 9 },
+        })],
+    ),
+    (
+        0,
+        Step::Changed(17, 8, 35),
+        &[Seen::Told(Report::Bad {
+            fault: LayoutFault::Flags { octet: 8 },
+        })],
+    ),
+    (
+        0,
+        Step::Changed(29, 1, 35),
+        &[Seen::Told(Report::Bad {
+            fault: LayoutFault::Window { value: 1 },
+        })],
+    ),
+    (
+        0,
+        Step::Changed(3, 13, 29),
+        &[Seen::Told(Report::Bad {
+            fault: LayoutFault::Short { len: 13 },
+        })],
+    ),
+    (
+        0,
+        Step::Changed(3, 14, 30),
+        &[Seen::Told(Report::Bad {
+            fault: LayoutFault::Size { len: 0 },
+        })],
+    ),
+];
+
+/// Octets for the station that don't read are told by their fault.
+pub fn not_read() -> &'static [Row] {
+    &NOT_READ
+}
+
+static SENT: [Seen; 5] = [
+    Seen::Told(Report::Took {
+        flow: FLOW,
+        count: 5,
+    }),
+    Seen::Told(Report::Sent {
+        flow: FLOW,
+        number: 0,
+        length: 5,
+        drf: true,
+        begin: true,
+        end: true,
+    }),
+    Seen::Asked,
+    Seen::Told(Report::Put { link: 5, life: 999 }),
+    Seen::Handed {
+        link: 5,
+        life: 999,
+        at_once: true,
+    },
+];
+
+/// Octets that are sent go out at once.
+pub fn sent() -> &'static [Seen] {
+    &SENT
+}
+
+static NOTHING_READ: [Seen; 1] = [Seen::Told(Report::Nothing { flow: FLOW })];
+
+/// There is nothing to read.
+pub fn nothing_read() -> &'static [Seen] {
+    &NOTHING_READ
+}
