@@ -8,9 +8,8 @@
 #define _GNU_SOURCE
 #include "peer.h"
 #include "deltat.h"
-#include <errno.h>
-#include <poll.h>
 #include <sys/socket.h>
+#include <sys/time.h>
 
 /* a client has a number of its own each time: one that is used again would have to be silent first */
 enum { SERVER = 1, FIRST_CLIENT = 1000, CLIENTS = 64, LINK = 1, PORT = 20, LATE = 20, MOST = 65536 };
@@ -19,7 +18,7 @@ struct end {
     dt_node *node;
     int door;
     struct sockaddr_in peers[CLIENTS]; /* of the server, where its clients are; of a client, where the server is */
-    uint64_t empty_at, events;
+    uint64_t empty_at, now, ticked, events;
 };
 
 /* a message that is read */
@@ -56,8 +55,9 @@ static dt_node *opened(uint32_t me) {
 
 static int opened_door(const struct sockaddr_in *here) {
     int it = socket(AF_INET, SOCK_DGRAM, 0), size = 1 << 22, yes = 1;
+    struct timeval longest = {0, 1000};
     setsockopt(it, SOL_SOCKET, SO_RCVBUF, &size, sizeof size);
-    if (setsockopt(it, SOL_SOCKET, SO_TIMESTAMPNS, &yes, sizeof yes) != 0) fail("no stamps");
+    if (setsockopt(it, SOL_SOCKET, SO_TIMESTAMPNS, &yes, sizeof yes) || setsockopt(it, SOL_SOCKET, SO_RCVTIMEO, &longest, sizeof longest)) fail("no stamps");
     if (here != NULL && bind(it, (const struct sockaddr *)here, sizeof *here) != 0) fail("the address can't be bound");
     return it;
 }
@@ -86,23 +86,24 @@ static uint32_t waited(struct msghdr *head, uint64_t at, uint64_t empty_at) {
     return most > UINT32_MAX ? UINT32_MAX : (uint32_t)most;
 }
 
-/* Takes in a datagram, if one is there. Whether one was. */
-static int receive(struct end *it, uint64_t at) {
+/* Waits for a datagram, as long as the socket does, and takes it in. Whether one came. */
+static int receive(struct end *it) {
     static unsigned char datagram[MOST];
     struct sockaddr_in from;
     char room[128];
     struct iovec octets = {datagram, sizeof datagram};
     struct msghdr head = {.msg_name = &from, .msg_namelen = sizeof from, .msg_iov = &octets, .msg_iovlen = 1, .msg_control = room, .msg_controllen = sizeof room};
-    ssize_t len = recvmsg(it->door, &head, MSG_DONTWAIT);
+    ssize_t len = recvmsg(it->door, &head, 0);
+    it->now = clock_ms(CLOCK_BOOTTIME);
     if (len < 0) {
-        it->empty_at = at;
+        it->empty_at = it->now;
         return 0;
     }
     if (len >= 16) {
         uint32_t maker = (uint32_t)datagram[8] << 24 | (uint32_t)datagram[9] << 16 | (uint32_t)datagram[10] << 8 | datagram[11];
         if (maker != SERVER) it->peers[place_of(maker)] = from;
     }
-    must(dt_arrive(it->node, at, LINK, datagram, (size_t)len, waited(&head, at, it->empty_at)).status, "a datagram");
+    must(dt_arrive(it->node, it->now, LINK, datagram, (size_t)len, waited(&head, it->now, it->empty_at)).status, "a datagram");
     return 1;
 }
 
@@ -139,34 +140,23 @@ static int messages(struct end *it, uint64_t at, int serves) {
     return count;
 }
 
-/* Waits for the socket, to the node's wake and to that moment at most, and does what came and what is due. How many
-   messages came. */
-static int turn(struct end *it, double until, int serves) {
-    struct dt_moment wake = dt_wake(it->node);
-    uint64_t at = clock_ms(CLOCK_BOOTTIME);
-    double left = (until - now()) * 1000, due = wake.some ? (wake.at > at ? (double)(wake.at - at) : 0) : left;
-    struct pollfd door = {it->door, POLLIN, 0};
-    int ready = poll(&door, 1, (int)(due < left ? due : left < 0 ? 0 : left)), count = 0;
-    at = clock_ms(CLOCK_BOOTTIME);
-    if (ready == 0) it->empty_at = at;
-    while (ready > 0 && receive(it, at)) {
-        count += messages(it, at, serves);
-        flush(it, at);
-        if (!serves && count > 0) return count;
-        at = clock_ms(CLOCK_BOOTTIME);
+/* Waits for a datagram, and does what came and, once a millisecond, what is due. How many messages came. */
+static int turn(struct end *it, int serves) {
+    int count = 0;
+    if (receive(it)) count = messages(it, it->now, serves);
+    if (it->now > it->ticked) {
+        must(dt_tick(it->node, it->now), "a tick");
+        count += messages(it, it->now, serves);
+        it->ticked = it->now;
     }
-    if (wake.some && wake.at <= at) {
-        must(dt_tick(it->node, at), "a tick");
-        count += messages(it, at, serves);
-        flush(it, at);
-    }
+    flush(it, it->now);
     return count;
 }
 
 static void serve(const char *address, int port) {
     struct sockaddr_in here = place(address, port);
     struct end it = {.node = opened(SERVER), .door = opened_door(&here), .empty_at = clock_ms(CLOCK_BOOTTIME)};
-    for (;;) turn(&it, now() + 1, 1);
+    for (;;) turn(&it, 1);
 }
 
 /* One request on a flow of its own port, and its answer. */
@@ -176,7 +166,7 @@ static int exchange(struct end *it, uint32_t me, uint16_t port, uint32_t octets,
     give(it, clock_ms(CLOCK_BOOTTIME), flow, sent, HEAD + (size_t)octets);
     free(sent);
     while (now() < until)
-        if (turn(it, until, 0) > 0) return 1;
+        if (turn(it, 0) > 0) return 1;
     return 0;
 }
 
@@ -186,7 +176,7 @@ static void ask_flows(struct end *it, uint32_t me, const struct question *asked,
     int answered = 0;
     for (int i = 0; i < asked->count; i++) give(it, clock_ms(CLOCK_BOOTTIME), (struct dt_flow){me, SERVER, (uint16_t)(100 + i), PORT}, sent, HEAD + (size_t)asked->octets);
     while (answered < asked->count && now() < until) {
-        int came = turn(it, until, 0);
+        int came = turn(it, 0);
         answered += came;
         if (came > 0) last = now();
     }
