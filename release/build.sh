@@ -90,7 +90,7 @@ if [ -f "$libraries/libdeltat.so.0" ]; then
     install -m 644 "$top/include/deltat.h" "$root/usr/include/deltat.h"
     install -m 644 "$libraries/libdeltat.a" "$libraries/libdeltat.so.0" "$root/usr/lib/$(uname -m)-linux-gnu"
     ln -s libdeltat.so.0 "$root/usr/lib/$(uname -m)-linux-gnu/libdeltat.so"
-    install -m 644 "$top/bindings/python/deltat.py" "$root/usr/lib/python3/dist-packages/deltat.py"
+    install -m 644 "$top/bindings/python/deltat.py" "$top/bindings/python/deltat_record.py" "$root/usr/lib/python3/dist-packages"
     python3 "$top/release/manpage.py" "$top/docs/library.md" "$version" "$date" >"$room/library.3"
     gzip -n9 <"$room/library.3" >"$root/usr/share/man/man3/libdeltat.3.gz"
 fi

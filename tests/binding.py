@@ -8,6 +8,9 @@ these fails, and with 77 where there is no library:
   message is one that was sent, none comes twice, those of one life come in their order.
 - processes: two processes over a link that drops 15 of 100 datagrams, repeats 15 and reorders: what they exchange
   comes once and whole, and one that is killed and opened again goes on, with nothing twice.
+- recorded: two nodes that record, over a link that drops, repeats and brings octets that are no datagrams, with gives
+  that fail, one of them opened again: `deltat retrace` of each record writes the very log that the library told. It is
+  left out where there is no program (./build).
 - examples: examples/echo.py asks itself, and examples/echo.c, which is compiled first, at the ports that they name.
 - rust: the tests of bindings/rust, where there is cargo, and its example is asked.
 
@@ -25,7 +28,7 @@ import tempfile
 import threading
 import time
 
-from lib import HOST, TOP, bound, free_port, skip
+from lib import HOST, PROGRAM, TOP, Between, bound, free_port, skip
 
 LIBRARY = TOP / "lib" / "libdeltat.so.0"
 named = [it for it in sys.argv[1:2] if it.endswith(".so") or ".so." in it]
@@ -34,6 +37,7 @@ if not os.path.exists(os.environ["DELTAT_LIBRARY"]):
     skip(f"{os.environ['DELTAT_LIBRARY']} isn't there: make -C lib")
 sys.path.insert(0, str(TOP / "bindings" / "python"))
 import deltat  # noqa: E402
+import deltat_record  # noqa: E402
 
 PARAMS = deltat.Params(mpl=1000, r=3000, a=200, rto=100, probe=800, seg=500, cap=65536, rcap=65536, window=65536)
 CHARGE = 90
@@ -228,6 +232,58 @@ def processes() -> bool:
     return right
 
 
+class Failing(deltat.Udp):
+    """A socket that doesn't take one datagram of ten."""
+
+    chance = random.Random(4)
+
+    def _put(self, octets: bytes, address: tuple[str, int]) -> bool:
+        return self.chance.random() >= 0.1 and super()._put(octets, address)
+
+
+def exchanged(ends: dict[int, deltat.Udp], chance: random.Random, seconds: float) -> int:
+    """The nodes send each other messages of all sizes for so long. How many came."""
+    until, came, count = time.monotonic() + seconds, 0, 0
+    while time.monotonic() < until:
+        for number, udp in ends.items():
+            if chance.random() < 0.1:
+                count += 1
+                try:
+                    udp.send(deltat.Flow(number, 10, 3 - number, 20 + count % 2), chance.randbytes(chance.choice([1, 60, 501, 1200])), chance.random() < 0.95, chance.random() < 0.95)
+                except (deltat.Full, deltat.Quiet):
+                    pass
+            came += len(udp.poll(0.002))
+    return came
+
+
+def recorded() -> bool:
+    if not os.access(PROGRAM, os.X_OK):
+        print("recorded: there is no program: ./build")
+        return True
+    chance, right = random.Random(6), True
+
+    def rule(number: int, octets: bytes) -> int:
+        if chance.random() < 0.05:
+            spoilt = bytearray(octets)
+            spoilt[chance.randrange(len(octets))] ^= 1 << chance.randrange(8)
+            link.ends[2 - number].sendto(chance.choice([bytes(spoilt), octets[: chance.randrange(len(octets))]]), (HOST, link.nodes[2 - number]))
+        return chance.choices([0, 1, 2], [15, 70, 15])[0]
+
+    with tempfile.TemporaryDirectory() as folder, Between(rule) as link:
+        nodes = {number: deltat_record.Recorded(f"{folder}/{number}", number, PARAMS, [deltat.Link(1, CHARGE)], {3 - number: 1}, number == 2) for number in (1, 2)}
+        ends = {number: Failing(node, (HOST, link.nodes[number - 1]), {3 - number: (HOST, link.port(number))}) for number, node in nodes.items()}
+        came = exchanged(ends, chance, PARAMS.quiet / 1000 + 6)
+        for number, udp in ends.items():
+            udp.close()
+            with open(f"{folder}/{number}", "rb") as given, open(f"{folder}/{number}.log", "rb") as log:
+                ran, told = subprocess.run([str(PROGRAM), "retrace"], stdin=given, capture_output=True), log.read()
+            words = {line.split(b" ")[2] for line in told.splitlines()[:-1]}
+            print(f"recorded: node {number} told {told.count(10)} lines of {len(words)} kinds, and {udp.unsent} frames weren't sent")
+            right = right and (ran.returncode, ran.stdout) == (0, told) and {b"unsent", b"bad", b"read", b"resent"} <= words
+    print(f"recorded: {came} messages came")
+    return right and came > 20
+
+
 def asked(service: list[str]) -> bool:
     """Whether a service of the examples answers."""
     with subprocess.Popen(service, stdout=subprocess.DEVNULL) as it:
@@ -272,7 +328,7 @@ def rust() -> bool:
 
 def main() -> int:
     words = sys.argv[2:] if named else sys.argv[1:]
-    tests = {"refusals": refusals, "simulated": simulated, "processes": processes, "examples": examples, "rust": rust}
+    tests = {"refusals": refusals, "simulated": simulated, "processes": processes, "recorded": recorded, "examples": examples, "rust": rust}
     failed = 0
     for name in words or tests:
         begun = time.monotonic()

@@ -456,16 +456,21 @@ class Node:
         while self._reports:
             yield self._reports.popleft()
 
+    def unsent(self) -> None:
+        """Says that the frame that `frames` handed out last wasn't put on the wire: it is a loss, and nothing else."""
+
     def _listen(self) -> None:
         """Takes what the node told, so that none of it waits in the library."""
         while True:
             it = _library.dt_next_report(self._handle)
             if it.status != Status.DONE:
                 return
-            told = Report(Kind(it.kind), _flow_of(it.flow), it.moment, it.number, it.count, it.window, it.begin, it.end, it.run, it.sending)
-            if told.kind is Kind.ACCEPTED:
-                self._unread[told.flow] = None
-            self._reports.append(told)
+            self._hear(Report(Kind(it.kind), _flow_of(it.flow), it.moment, it.number, it.count, it.window, it.begin, it.end, it.run, it.sending))
+
+    def _hear(self, told: Report) -> None:
+        if told.kind is Kind.ACCEPTED:
+            self._unread[told.flow] = None
+        self._reports.append(told)
 
     def messages(self, at: int | None = None) -> Iterator[Message]:
         """The whole messages of all flows to this node that can be read, flow by flow, each once."""
@@ -543,13 +548,17 @@ class Udp:
         """Puts what left the node at that moment on the wire."""
         for frame in self.node.frames():
             address = self._addresses.get(frame.to) or self._next_hop.get(frame.link)
-            if address is None or now() - at > LATE:
+            if address is None or now() - at > LATE or not self._put(frame.octets, address):
                 self.unsent += 1
-                continue
-            try:
-                self.socket.sendto(frame.octets, address)
-            except OSError:
-                self.unsent += 1
+                self.node.unsent()
+
+    def _put(self, octets: bytes, address: tuple[str, int]) -> bool:
+        """Whether the system took a datagram."""
+        try:
+            self.socket.sendto(octets, address)
+        except OSError:
+            return False
+        return True
 
     def _waited(self, ancillary: list[tuple[int, int, bytes]], at: int) -> int:
         """How long a datagram waited in the socket, in ms, rounded up: by the kernel's stamp, or, where the wall clock
