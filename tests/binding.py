@@ -11,12 +11,15 @@ these fails, and with 77 where there is no library:
 - recorded: two nodes that record, over a link that drops, repeats and brings octets that are no datagrams, with gives
   that fail, one of them opened again: `deltat retrace` of each record writes the very log that the library told. It is
   left out where there is no program (./build).
+- asynchronous: in a loop of asyncio a service answers four clients' messages over such a link, a sender waits for room
+  while its messages aren't read, and who waits when it is closed is told.
 - examples: examples/echo.py asks itself, and examples/echo.c, which is compiled first, at the ports that they name.
 - rust: the tests of bindings/rust, where there is cargo, and its example is asked.
 
 In tests/all: no words, 240 s."""
 from __future__ import annotations
 
+import asyncio
 import heapq
 import itertools
 import os
@@ -232,6 +235,80 @@ def processes() -> bool:
     return right
 
 
+async def serve(udp: deltat.AsyncUdp) -> None:
+    async for message in udp:
+        await udp.send(message.flow.reversed(), message.octets[::-1])
+
+
+async def ask(udp: deltat.AsyncUdp, port: int, count: int, answers: dict[bytes, asyncio.Event]) -> None:
+    """Sends so many messages, and asks again where one isn't answered."""
+    for number in range(count):
+        octets = b"%d of %d" % (number, port) + bytes(number * 37 % 2000)
+        answers[octets[::-1]] = asyncio.Event()
+        for _ in range(20):
+            await udp.send(deltat.Flow(1, port, 2, 20), octets)
+            try:
+                async with asyncio.timeout(0.6):
+                    await answers[octets[::-1]].wait()
+                break
+            except TimeoutError:
+                pass
+
+
+async def hear(udp: deltat.AsyncUdp, answers: dict[bytes, asyncio.Event]) -> None:
+    async for message in udp:
+        answers[message.octets].set()
+
+
+async def held_back(one: deltat.AsyncUdp, two: deltat.AsyncUdp) -> bool:
+    """Whether a sender waits while nobody reads, and goes on when somebody does."""
+    sent, messages = 0, [bytes([it]) * 20_000 for it in range(12)]
+
+    async def give() -> None:
+        nonlocal sent
+        for it in messages:
+            await one.send(deltat.Flow(1, 99, 2, 99), it)
+            sent += 1
+
+    giving = asyncio.create_task(give())
+    await asyncio.sleep(1)
+    stopped_at = sent
+    came = []
+    while len(came) < len(messages):
+        async with asyncio.timeout(5):
+            came.append((await two.receive()).octets)
+    await giving
+    return stopped_at < 8 and came == messages
+
+
+async def asynchronously() -> bool:
+    chance = random.Random(9)
+    is_bad = True
+    with Between(lambda number, octets: chance.choices([0, 1, 2], [10, 75, 15])[0] if is_bad else 1) as link:
+        ends = [deltat.AsyncUdp(node_of(number, 3 - number, False, deltat.now()), (HOST, link.nodes[number - 1]), {3 - number: (HOST, link.port(number))}) for number in (1, 2)]
+        answers: dict[bytes, asyncio.Event] = {}
+        serving, hearing = asyncio.create_task(serve(ends[1])), asyncio.create_task(hear(ends[0], answers))
+        await asyncio.gather(*(ask(ends[0], port, 25, answers) for port in range(10, 14)))
+        serving.cancel()
+        hearing.cancel()
+        right = len(answers) == 100 and all(it.is_set() for it in answers.values())
+        is_bad = False
+        await asyncio.sleep(PARAMS.r / 1000)
+        right = right and await held_back(*ends)
+        waiting = [asyncio.create_task(end.receive()) for end in ends]
+        await asyncio.sleep(0.1)
+        for end in ends:
+            end.close()
+            end.close()
+        told = await asyncio.gather(*waiting, return_exceptions=True)
+        print(f"asynchronous: {sum(it.is_set() for it in answers.values())} of 100 were answered")
+        return right and all(isinstance(it, deltat.Spent) for it in told)
+
+
+def asynchronous() -> bool:
+    return asyncio.run(asynchronously())
+
+
 class Failing(deltat.Udp):
     """A socket that doesn't take one datagram of ten."""
 
@@ -328,7 +405,7 @@ def rust() -> bool:
 
 def main() -> int:
     words = sys.argv[2:] if named else sys.argv[1:]
-    tests = {"refusals": refusals, "simulated": simulated, "processes": processes, "recorded": recorded, "examples": examples, "rust": rust}
+    tests = {"refusals": refusals, "simulated": simulated, "processes": processes, "asynchronous": asynchronous, "recorded": recorded, "examples": examples, "rust": rust}
     failed = 0
     for name in words or tests:
         begun = time.monotonic()
