@@ -13,10 +13,11 @@ these fails, and with 77 where there is no library:
   left out where there is no program (./build).
 - asynchronous: in a loop of asyncio a service answers four clients' messages over such a link, a sender waits for room
   while its messages aren't read, and who waits when it is closed is told.
-- examples: examples/echo.py asks itself, and examples/echo.c, which is compiled first, at the ports that they name.
+- examples: examples/echo.py asks itself, and examples/echo.c, which is compiled first, at the ports that they name; and
+  tools/dtcat.py asks examples/counter.py and examples/counter.c.
 - rust: the tests of bindings/rust, where there is cargo, and its example is asked.
 
-In tests/all: no words, 240 s."""
+In tests/all: no words, 300 s."""
 from __future__ import annotations
 
 import asyncio
@@ -373,18 +374,40 @@ def asked(service: list[str]) -> bool:
     return ran.stdout == "olleh\ndlrow\n"
 
 
+def counted(service: list[str]) -> bool:
+    """Whether a service of the examples that keeps sums answers what tools/dtcat.py sends."""
+    with subprocess.Popen(service, stdout=subprocess.DEVNULL) as it:
+        time.sleep(0.7)
+        client = [sys.executable, str(TOP / "tools" / "dtcat.py"), "1@4001", "2@4002", "--linger", "1"]
+        ran = subprocess.run(client, input="apples 3\npears 5\napples 4\n", capture_output=True, text=True, timeout=20)
+        it.kill()
+    if ran.stdout != "apples 3\npears 5\napples 7\n":
+        print(f"examples: {service} was asked, and the answer was {ran.stdout!r} {ran.stderr[-200:]!r}")
+    # the nodes are other lives then
+    time.sleep(1)
+    return ran.stdout == "apples 3\npears 5\napples 7\n"
+
+
+def compiled(compiler: str, name: str, folder: str) -> str | None:
+    """An example in C, compiled, or None where it can't be."""
+    words = [compiler, "-std=gnu11", "-O2", "-Wall", "-Wextra", "-Werror", "-I", str(TOP / "include"), str(TOP / "examples" / f"{name}.c")]
+    built = subprocess.run([*words, str(TOP / "lib" / "libdeltat.a"), "-o", f"{folder}/{name}-{compiler}"], capture_output=True, text=True)
+    if built.returncode:
+        print(f"examples: {compiler}: {built.stderr[-500:]}")
+    return None if built.returncode else f"{folder}/{name}-{compiler}"
+
+
 def examples() -> bool:
     compilers = [it for it in ("gcc", "clang") if shutil.which(it)]
     right = asked([sys.executable, str(TOP / "examples" / "echo.py"), "serve"])
+    right = counted([sys.executable, str(TOP / "examples" / "counter.py")]) and right
     with tempfile.TemporaryDirectory() as folder:
         for compiler in compilers:
+            counter, echo = (compiled(compiler, name, folder) for name in ("counter", "echo"))
+            right = counter is not None and counted([counter]) and right
             # the nodes of the service before have to be forgotten: those of this one are other lives
             time.sleep(PARAMS.quiet / 1000)
-            words = [compiler, "-std=gnu11", "-O2", "-Wall", "-Wextra", "-Werror", "-I", str(TOP / "include"), str(TOP / "examples" / "echo.c")]
-            built = subprocess.run([*words, str(TOP / "lib" / "libdeltat.a"), "-o", f"{folder}/{compiler}"], capture_output=True, text=True)
-            if built.returncode:
-                print(f"examples: {compiler}: {built.stderr[-500:]}")
-            right = right and not built.returncode and asked([f"{folder}/{compiler}"])
+            right = echo is not None and asked([echo]) and right
     return right
 
 
