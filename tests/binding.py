@@ -9,8 +9,8 @@ these fails, and with 77 where there is no library:
 - processes: two processes over a link that drops 15 of 100 datagrams, repeats 15 and reorders: what they exchange
   comes once and whole, and one that is killed and opened again goes on, with nothing twice.
 - recorded: two nodes that record, over a link that drops, repeats and brings octets that are no datagrams, with gives
-  that fail, one of them opened again: `deltat retrace` of each record writes the very log that the library told. It is
-  left out where there is no program (./build).
+  that fail, one of them opened again and with a record that gets full: `deltat retrace` of each record writes the very
+  log that the library told. It is left out where there is no program (./build).
 - asynchronous: in a loop of asyncio a service answers four clients' messages over such a link, a sender waits for room
   while its messages aren't read, and who waits when it is closed is told.
 - examples: examples/echo.py asks itself, and examples/echo.c, which is compiled first, at the ports that they name; and
@@ -45,6 +45,8 @@ import deltat_record  # noqa: E402
 
 PARAMS = deltat.Params(mpl=1000, r=3000, a=200, rto=100, probe=800, seg=500, cap=65536, rcap=65536, window=65536)
 CHARGE = 90
+# a record that is full before its run has ended
+SHORT_RECORD = 1_500_000
 
 
 def node_of(number: int, other: int, again: bool, at: int) -> deltat.Node:
@@ -348,7 +350,10 @@ def recorded() -> bool:
         return chance.choices([0, 1, 2], [15, 70, 15])[0]
 
     with tempfile.TemporaryDirectory() as folder, Between(rule) as link:
-        nodes = {number: deltat_record.Recorded(f"{folder}/{number}", number, PARAMS, [deltat.Link(1, CHARGE)], {3 - number: 1}, number == 2) for number in (1, 2)}
+        nodes = {}
+        for number, most in ((1, deltat_record.MOST), (2, SHORT_RECORD)):
+            deltat_record.MOST = most
+            nodes[number] = deltat_record.Recorded(f"{folder}/{number}", number, PARAMS, [deltat.Link(1, CHARGE)], {3 - number: 1}, number == 2)
         ends = {number: Failing(node, (HOST, link.nodes[number - 1]), {3 - number: (HOST, link.port(number))}) for number, node in nodes.items()}
         came = exchanged(ends, chance, PARAMS.quiet / 1000 + 6)
         for number, udp in ends.items():
@@ -356,8 +361,10 @@ def recorded() -> bool:
             with open(f"{folder}/{number}", "rb") as given, open(f"{folder}/{number}.log", "rb") as log:
                 ran, told = subprocess.run([str(PROGRAM), "retrace"], stdin=given, capture_output=True), log.read()
             words = {line.split(b" ")[2] for line in told.splitlines()[:-1]}
-            print(f"recorded: node {number} told {told.count(10)} lines of {len(words)} kinds, and {udp.unsent} frames weren't sent")
-            right = right and (ran.returncode, ran.stdout) == (0, told) and {b"unsent", b"bad", b"read", b"resent"} <= words
+            size = os.path.getsize(f"{folder}/{number}")
+            print(f"recorded: node {number} told {told.count(10)} lines of {len(words)} kinds, in {size} octets; {udp.unsent} frames weren't sent")
+            wanted = {b"unsent", b"bad", b"read", b"resent"} if number == 1 else {b"refused", b"quiet"}
+            right = right and (ran.returncode, ran.stdout) == (0, told) and wanted <= words and (number == 1 or size <= SHORT_RECORD)
     print(f"recorded: {came} messages came")
     return right and came > 20
 

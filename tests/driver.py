@@ -13,7 +13,8 @@ each three
 - one of these two with other lines: some are left out, doubled, swapped or cut.
 
 Nodes start for the first time or again, clocks go back, leap and stand still, takes and gives fail, an address can't be
-bound, and a parameter is out of its range. Ends with 1 where an input differs, which is kept in a folder; with 77 where
+bound, and a parameter is out of its range. One input of 20 is for the driver with the address and undefined-behaviour
+sanitizers. Ends with 1 where an input differs, which is kept in a folder; with 77 where
 there is no program, no library or no compiler.
 
 In tests/all: PROGRAM, 600 s."""
@@ -336,11 +337,15 @@ def inputs(seed: int, count: int) -> Iterator[tuple[str, bytes]]:
 
 
 def ran(words: list[str], text: bytes) -> tuple[int, bytes]:
-    done_by = subprocess.run(words, input=text, capture_output=True, check=False, timeout=60)
+    # the driver keeps what it read until it ends
+    settings = {**os.environ, "ASAN_OPTIONS": "detect_leaks=0"}
+    done_by = subprocess.run(words, input=text, capture_output=True, check=False, timeout=60, env=settings)
     return done_by.returncode, done_by.stdout
 
 
-def compared(driver: str, program: str, name: str, text: bytes) -> tuple[str, bytes, tuple[int, bytes], tuple[int, bytes]]:
+def compared(drivers: list[str], program: str, at: int, name: str, text: bytes) -> tuple[str, bytes, tuple[int, bytes], tuple[int, bytes]]:
+    """What the program makes of an input, and what the driver does: of 20 inputs one is for that with the sanitizers."""
+    driver = drivers[-1] if at % 20 == 0 else drivers[0]
     return name, text, ran([program, "retrace"], text), ran([driver], text)
 
 
@@ -350,15 +355,16 @@ def first_difference(wanted: bytes, had: bytes) -> str:
     return f"line {at}: {(right or b'nothing')[:200]!r}, and by the library {(wrong or b'nothing')[:200]!r}"
 
 
-def built(archive: pathlib.Path, folder: str) -> str:
-    """The driver, compiled in that folder."""
+def built(archive: pathlib.Path, folder: str) -> list[str]:
+    """The driver, compiled in that folder, and with the sanitizers where the compiler has them."""
     compiler = next((it for it in ("gcc", "clang") if shutil.which(it)), None)
     if compiler is None:
         skip("there is no compiler of C")
-    source, program = TOP / "tests" / "library" / "drive.c", f"{folder}/drive"
-    words = [compiler, "-std=c99", "-O2", "-g", "-Wall", "-Wextra", "-Werror", "-pedantic", f"-I{TOP / 'include'}", str(source), str(archive), "-o", program]
-    subprocess.run(words, check=True)
-    return program
+    source, programs = TOP / "tests" / "library" / "drive.c", [f"{folder}/drive", f"{folder}/sanitized"]
+    words = [compiler, "-std=c99", "-O2", "-g", "-Wall", "-Wextra", "-Werror", "-pedantic", f"-I{TOP / 'include'}", str(source), str(archive), "-o"]
+    subprocess.run([*words, programs[0]], check=True)
+    sanitized = subprocess.run([*words, programs[1], "-fsanitize=address,undefined", "-fno-sanitize-recover=all"], capture_output=True)
+    return programs if sanitized.returncode == 0 else programs[:1]
 
 
 def main() -> int:
@@ -377,10 +383,10 @@ def main() -> int:
     words: collections.Counter[str] = collections.Counter()
     differ, begun, lines = 0, time.monotonic(), 0
     with tempfile.TemporaryDirectory() as folder, concurrent.futures.ThreadPoolExecutor(2) as pool:
-        driver = built(given.library, folder)
-        drawn = inputs(given.seed, given.count)
+        drivers = built(given.library, folder)
+        drawn = enumerate(inputs(given.seed, given.count))
         while batch := list(itertools.islice(drawn, 200)):
-            for name, text, right, found in pool.map(lambda it: compared(driver, given.program, *it), batch):
+            for name, text, right, found in pool.map(lambda it: compared(drivers, given.program, it[0], *it[1]), batch):
                 statuses[right[0]] += 1
                 lines += right[1].count(b"\n")
                 words.update(it.split(b" ")[2].decode() for it in right[1].split(b"\n") if it.count(b" ") > 1)

@@ -14,6 +14,7 @@ what came behind about as many isn't kept."""
 
 from __future__ import annotations
 
+import contextlib
 import pathlib
 import time
 from collections.abc import Iterator, Mapping, Sequence
@@ -257,7 +258,8 @@ class Recorded(deltat.Node):
         if self._is_closed:
             return
         self._is_closed = True
-        self._end_turn()
+        with contextlib.suppress(deltat.DeltatError):
+            self._end_turn()
         super().close()
         run, stop = self._kept or (self._run, self._turn.moment + 1)
         text, log = run.finished(self._setup, stop)
