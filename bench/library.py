@@ -10,7 +10,8 @@ taking turns, N runs (3) each:
 - 64 KiB: messages of 65,536 octets, one after another, each answered by 100 octets: how many a second, of 50 the median
   time.
 
-Plain UDP asks again after 100 ms where nothing comes, and has no messages above a datagram. Then, in one thread with no
+UDP asks again after 100 ms where nothing comes, and has no messages above a datagram; `same` is UDP with the very
+datagrams that two nodes exchange, acknowledgements too, and without what makes them reliable. Then, in one thread with no
 socket: events of two nodes a second, where each call that sends, takes in a datagram, reads or ticks is an event. The
 last lines say how the library stands to the others, by the medians. A peer that can't be built here is left out; ends
 with 2 where the library isn't there."""
@@ -31,16 +32,15 @@ from lib import HOST, free_port  # noqa: E402
 
 C = ["cc", "-O2", "-Wall", "-Wextra", "-Werror"]
 SMALL, LARGE, MESSAGES, EVENTS = 100, 65_536 - 4, 50, 4_000
-NAMES = ("UDP", "ENet", "libdeltat")
+FILES = {"UDP": "udp.c", "same": "same.c", "ENet": "enet.c", "libdeltat": "library.c"}
 
 
 def built(folder: pathlib.Path, library: pathlib.Path) -> dict[str, str]:
     """The programs that can be built here."""
-    more = {"UDP": [], "ENet": ["-lenet"], "libdeltat": [f"-I{TOP / 'include'}", str(library)]}
-    files = {"UDP": "udp.c", "ENet": "enet.c", "libdeltat": "library.c"}
+    more = {"ENet": ["-lenet"], "libdeltat": [f"-I{TOP / 'include'}", str(library)]}
     found = {}
-    for name in NAMES:
-        ran = subprocess.run([*C, str(HERE / "peers" / files[name]), "-o", str(folder / name), *more[name]], capture_output=True, text=True)
+    for name, file in FILES.items():
+        ran = subprocess.run([*C, str(HERE / "peers" / file), "-o", str(folder / name), *more.get(name, [])], capture_output=True, text=True)
         if ran.returncode:
             print(f"{name} isn't there: {(ran.stderr.strip().splitlines() or ['?'])[0]}", file=sys.stderr)
         else:
@@ -85,7 +85,7 @@ def answers(programs: dict[str, str], runs: int, seconds: float) -> dict[str, tu
 
 def messages(programs: dict[str, str], runs: int) -> dict[str, float]:
     """The median seconds of a message of each."""
-    times: dict[str, list[float]] = {name: [] for name in programs if name != "UDP"}
+    times: dict[str, list[float]] = {name: [] for name in programs if name not in ("UDP", "same")}
     for _ in range(runs):
         for name in times:
             done, _ = asked(programs[name], "message", MESSAGES, LARGE, 20)
