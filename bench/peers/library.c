@@ -1,5 +1,6 @@
 /* Nodes of libdeltat over UDP sockets, each request one message. peer.h says how it is run. DELAY_MS and RTO_MS are what
- * the nodes' parameters allow for. And what the library takes by itself:
+ * the nodes' parameters allow for; AGAIN lets the server be opened again, and MANY_FLOWS gives each flow of either end a
+ * room of 4,096 octets. And what the library takes by itself:
  *
  *   library ask - 0 memory COUNT OCTETS 0     two nodes in one thread, with no socket between them: COUNT requests of so
  *                                   many octets, each answered. Prints `done EVENTS SECONDS`: a call that sends, takes in
@@ -41,8 +42,9 @@ static void must(uint8_t status, const char *what) {
 
 static dt_node *opened(uint32_t me) {
     uint32_t charge = setting("DELAY_MS", 1) + 2 * LATE, rto = setting("RTO_MS", 40), mpl = 2 * charge, a = 5;
-    struct dt_params params = {mpl, 12 * rto, a, rto, 2 * rto, 1400, MOST, MOST, MOST, 2147483648u, 0};
-    struct dt_start start = {clock_ms(CLOCK_BOOTTIME), me, false};
+    uint32_t room = getenv("MANY_FLOWS") == NULL ? MOST : 4096;
+    struct dt_params params = {mpl, 12 * rto, a, rto, 2 * rto, 1400, room, room, room, 2147483648u, 0};
+    struct dt_start start = {clock_ms(CLOCK_BOOTTIME), me, me == SERVER && getenv("AGAIN") != NULL};
     struct dt_link link = {charge, 0, LINK};
     struct dt_route routes[CLIENTS + 1] = {{SERVER, LINK}};
     for (uint32_t i = 0; i < CLIENTS; i++) routes[1 + i] = (struct dt_route){FIRST_CLIENT + i, LINK};
