@@ -2,9 +2,9 @@
 """The same log: tests/library/drive.c runs a script and a trace over libdeltat, and has to write what `deltat retrace`
 writes of them, octet for octet, and end with its status.
 
-`tests/driver.py [PROGRAM] [--count N] [--seed N] [--library ARCHIVE] [--keep FOLDER]`. The inputs are the scripts and traces of
-crates/deltat_rows/data that are accepted and ask for no shelf, which the library doesn't have, and N random ones: of
-each three
+`tests/driver.py [PROGRAM] [--count N] [--seed N] [--library ARCHIVE] [--compiler CC] [--under COMMAND] [--keep FOLDER]`.
+The inputs are the scripts and traces of crates/deltat_rows/data that are accepted and ask for no shelf, which the
+library doesn't have, and N random ones: of each three
 
 - one whose datagrams are made up: data, acknowledgements, rendezvous and closing packets of flows to the node, from it
   and past it, with numbers that are the next ones, old ones or any, and octets that are no Deltagram;
@@ -14,8 +14,8 @@ each three
 
 Nodes start for the first time or again, clocks go back, leap and stand still, takes and gives fail, an address can't be
 bound, and a parameter is out of its range. One input of 20 is for the driver with the address and undefined-behaviour
-sanitizers. Ends with 1 where an input differs, which is kept in a folder; with 77 where
-there is no program, no library or no compiler.
+sanitizers. Ends with 1 where an input differs, which is kept in a folder; with 77 where there is no program, no library
+or no compiler.
 
 In tests/all: PROGRAM, 600 s."""
 from __future__ import annotations
@@ -343,10 +343,10 @@ def ran(words: list[str], text: bytes) -> tuple[int, bytes]:
     return done_by.returncode, done_by.stdout
 
 
-def compared(drivers: list[str], program: str, at: int, name: str, text: bytes) -> tuple[str, bytes, tuple[int, bytes], tuple[int, bytes]]:
+def compared(drivers: list[list[str]], program: str, at: int, name: str, text: bytes) -> tuple[str, bytes, tuple[int, bytes], tuple[int, bytes]]:
     """What the program makes of an input, and what the driver does: of 20 inputs one is for that with the sanitizers."""
     driver = drivers[-1] if at % 20 == 0 else drivers[0]
-    return name, text, ran([program, "retrace"], text), ran([driver], text)
+    return name, text, ran([program, "retrace"], text), ran(driver, text)
 
 
 def first_difference(wanted: bytes, had: bytes) -> str:
@@ -355,16 +355,18 @@ def first_difference(wanted: bytes, had: bytes) -> str:
     return f"line {at}: {(right or b'nothing')[:200]!r}, and by the library {(wrong or b'nothing')[:200]!r}"
 
 
-def built(archive: pathlib.Path, folder: str) -> list[str]:
-    """The driver, compiled in that folder, and with the sanitizers where the compiler has them."""
-    compiler = next((it for it in ("gcc", "clang") if shutil.which(it)), None)
+def built(given: argparse.Namespace, folder: str) -> list[list[str]]:
+    """How the driver is called, compiled in that folder, and with the sanitizers where the compiler has them."""
+    compiler = given.compiler or next((it for it in ("gcc", "clang") if shutil.which(it)), None)
     if compiler is None:
         skip("there is no compiler of C")
     source, programs = TOP / "tests" / "library" / "drive.c", [f"{folder}/drive", f"{folder}/sanitized"]
-    words = [compiler, "-std=c99", "-O2", "-g", "-Wall", "-Wextra", "-Werror", "-pedantic", f"-I{TOP / 'include'}", str(source), str(archive), "-o"]
+    words = [compiler, "-std=c99", "-O2", "-g", "-Wall", "-Wextra", "-Werror", "-pedantic", f"-I{TOP / 'include'}", str(source), str(given.library), "-o"]
     subprocess.run([*words, programs[0]], check=True)
+    if given.under:
+        return [[given.under, programs[0]]]
     sanitized = subprocess.run([*words, programs[1], "-fsanitize=address,undefined", "-fno-sanitize-recover=all"], capture_output=True)
-    return programs if sanitized.returncode == 0 else programs[:1]
+    return [[it] for it in (programs if sanitized.returncode == 0 else programs[:1])]
 
 
 def main() -> int:
@@ -373,6 +375,8 @@ def main() -> int:
     reads.add_argument("--count", type=int, default=10_000, help="how many random inputs (%(default)s)")
     reads.add_argument("--seed", type=int, default=1, help="what they are drawn from (%(default)s)")
     reads.add_argument("--library", type=pathlib.Path, default=LIBRARY, metavar="ARCHIVE", help="the archive (%(default)s)")
+    reads.add_argument("--compiler", metavar="CC", help="compile the driver by this (gcc or clang)")
+    reads.add_argument("--under", metavar="COMMAND", help="run the driver by this, as an emulator")
     reads.add_argument("--keep", type=pathlib.Path, metavar="FOLDER", help="keep the inputs that differ there (a new folder below /tmp)")
     given = reads.parse_args()
     if not os.access(given.program, os.X_OK):
@@ -383,7 +387,7 @@ def main() -> int:
     words: collections.Counter[str] = collections.Counter()
     differ, begun, lines = 0, time.monotonic(), 0
     with tempfile.TemporaryDirectory() as folder, concurrent.futures.ThreadPoolExecutor(2) as pool:
-        drivers = built(given.library, folder)
+        drivers = built(given, folder)
         drawn = enumerate(inputs(given.seed, given.count))
         while batch := list(itertools.islice(drawn, 200)):
             for name, text, right, found in pool.map(lambda it: compared(drivers, given.program, it[0], *it[1]), batch):
