@@ -13,7 +13,8 @@ Where a time is over, it says how many were answered till then. Then what the li
 1.2 seconds later, to a server that runs on and to one that was killed and started again in between: how often the
 request is served.
 
-Peers are PEERS below: plain UDP that asks again (what the link can do), TCP, ENet, UDT, QUIC, and two nodes. The
+Peers are PEERS below: plain UDP that asks again (what the link can do), TCP, ENet, UDT, QUIC, two nodes, and two nodes
+over the library (`make -C lib`). The
 programs beside this file are built with cc and c++ first. A peer that can't be built here, or a measure that it can't
 do, is `-`. Each measure has its seconds, so all takes at most half an hour; `--part 0.2` gives each a fifth of them.
 Ends with 1 where a peer that was named with --peers can't be built, and with 2 where there is no such link here."""
@@ -30,7 +31,8 @@ import zlib
 from collections.abc import Callable, Sequence
 
 HERE = pathlib.Path(__file__).resolve().parent
-sys.path.insert(0, str(HERE.parent / "tests"))
+TOP = HERE.parent
+sys.path.insert(0, str(TOP / "tests"))
 
 from lib import PROGRAM  # noqa: E402
 from wan import ADDRESSES, Bound, Link, impaired_link  # noqa: E402
@@ -98,6 +100,11 @@ def node(room: Room, link: Link, words: list[str]) -> list[str]:
     return [sys.executable, str(HERE / "peers" / "node.py"), room.program, str(delay), str(max(40, 2 * link.delay + 10)), *words]
 
 
+def library(room: Room, link: Link, words: list[str]) -> list[str]:
+    delay = link.delay + ADDED_DELAY + link.again
+    return ["env", f"DELAY_MS={delay:.0f}", f"RTO_MS={max(40, 2 * link.delay + 10):.0f}", str(room.folder / "library"), *words]
+
+
 def quic(room: Room, link: Link, words: list[str]) -> list[str]:
     return [sys.executable, str(HERE / "peers" / "quic.py"), *(words[:3] if words[0] == "serve" else words), str(room.folder / "quic")]
 
@@ -112,6 +119,7 @@ PEERS = [
     Peer("UDT", [*CXX, "udt.cc", "-o", "udt", "-ludt", "-lpthread"], built("udt")),
     Peer("QUIC", ["sh", "-c", "command -v gtlsclient && test -x /usr/sbin/gtlsserver && command -v openssl"], quic, lacks=("answers",), tells=False),
     Peer("deltat", [], node, lacks=("16 MiB",)),
+    Peer("libdeltat", [*C, f"-I{TOP / 'include'}", "library.c", str(TOP / "lib" / "libdeltat.a"), "-o", "library"], library, lacks=("16 MiB",)),
 ]
 
 

@@ -8,12 +8,19 @@ these fails, and with 77 where there is no library:
   message is one that was sent, none comes twice, those of one life come in their order.
 - processes: two processes over a link that drops 15 of 100 datagrams, repeats 15 and reorders: what they exchange
   comes once and whole, and one that is killed and opened again goes on, with nothing twice.
-- examples: examples/echo.py asks itself, and examples/echo.c, which is compiled first, at the ports that they name.
+- recorded: two nodes that record, over a link that drops, repeats and brings octets that are no datagrams, with gives
+  that fail, one of them opened again and with a record that gets full: `deltat retrace` of each record writes the very
+  log that the library told. It is left out where there is no program (./build).
+- asynchronous: in a loop of asyncio a service answers four clients' messages over such a link, a sender waits for room
+  while its messages aren't read, and who waits when it is closed is told.
+- examples: examples/echo.py asks itself, and examples/echo.c, which is compiled first, at the ports that they name; and
+  tools/dtcat.py asks examples/counter.py and examples/counter.c.
 - rust: the tests of bindings/rust, where there is cargo, and its example is asked.
 
-In tests/all: no words, 240 s."""
+In tests/all: no words, 300 s."""
 from __future__ import annotations
 
+import asyncio
 import heapq
 import itertools
 import os
@@ -25,7 +32,7 @@ import tempfile
 import threading
 import time
 
-from lib import HOST, TOP, bound, free_port, skip
+from lib import HOST, PROGRAM, TOP, Between, bound, free_port, skip
 
 LIBRARY = TOP / "lib" / "libdeltat.so.0"
 named = [it for it in sys.argv[1:2] if it.endswith(".so") or ".so." in it]
@@ -34,9 +41,12 @@ if not os.path.exists(os.environ["DELTAT_LIBRARY"]):
     skip(f"{os.environ['DELTAT_LIBRARY']} isn't there: make -C lib")
 sys.path.insert(0, str(TOP / "bindings" / "python"))
 import deltat  # noqa: E402
+import deltat_record  # noqa: E402
 
 PARAMS = deltat.Params(mpl=1000, r=3000, a=200, rto=100, probe=800, seg=500, cap=65536, rcap=65536, window=65536)
 CHARGE = 90
+# a record that is full before its run has ended
+SHORT_RECORD = 1_500_000
 
 
 def node_of(number: int, other: int, again: bool, at: int) -> deltat.Node:
@@ -228,6 +238,137 @@ def processes() -> bool:
     return right
 
 
+async def serve(udp: deltat.AsyncUdp) -> None:
+    async for message in udp:
+        await udp.send(message.flow.reversed(), message.octets[::-1])
+
+
+async def ask(udp: deltat.AsyncUdp, port: int, count: int, answers: dict[bytes, asyncio.Event]) -> None:
+    """Sends so many messages, and asks again where one isn't answered."""
+    for number in range(count):
+        octets = b"%d of %d" % (number, port) + bytes(number * 37 % 2000)
+        answers[octets[::-1]] = asyncio.Event()
+        for _ in range(20):
+            await udp.send(deltat.Flow(1, port, 2, 20), octets)
+            try:
+                async with asyncio.timeout(0.6):
+                    await answers[octets[::-1]].wait()
+                break
+            except TimeoutError:
+                pass
+
+
+async def hear(udp: deltat.AsyncUdp, answers: dict[bytes, asyncio.Event]) -> None:
+    async for message in udp:
+        answers[message.octets].set()
+
+
+async def held_back(one: deltat.AsyncUdp, two: deltat.AsyncUdp) -> bool:
+    """Whether a sender waits while nobody reads, and goes on when somebody does."""
+    sent, messages = 0, [bytes([it]) * 20_000 for it in range(12)]
+
+    async def give() -> None:
+        nonlocal sent
+        for it in messages:
+            await one.send(deltat.Flow(1, 99, 2, 99), it)
+            sent += 1
+
+    giving = asyncio.create_task(give())
+    await asyncio.sleep(1)
+    stopped_at = sent
+    came = []
+    while len(came) < len(messages):
+        async with asyncio.timeout(5):
+            came.append((await two.receive()).octets)
+    await giving
+    return stopped_at < 8 and came == messages
+
+
+async def asynchronously() -> bool:
+    chance = random.Random(9)
+    is_bad = True
+    with Between(lambda number, octets: chance.choices([0, 1, 2], [10, 75, 15])[0] if is_bad else 1) as link:
+        ends = [deltat.AsyncUdp(node_of(number, 3 - number, False, deltat.now()), (HOST, link.nodes[number - 1]), {3 - number: (HOST, link.port(number))}) for number in (1, 2)]
+        answers: dict[bytes, asyncio.Event] = {}
+        serving, hearing = asyncio.create_task(serve(ends[1])), asyncio.create_task(hear(ends[0], answers))
+        await asyncio.gather(*(ask(ends[0], port, 25, answers) for port in range(10, 14)))
+        serving.cancel()
+        hearing.cancel()
+        right = len(answers) == 100 and all(it.is_set() for it in answers.values())
+        is_bad = False
+        await asyncio.sleep(PARAMS.r / 1000)
+        right = right and await held_back(*ends)
+        waiting = [asyncio.create_task(end.receive()) for end in ends]
+        await asyncio.sleep(0.1)
+        for end in ends:
+            end.close()
+            end.close()
+        told = await asyncio.gather(*waiting, return_exceptions=True)
+        print(f"asynchronous: {sum(it.is_set() for it in answers.values())} of 100 were answered")
+        return right and all(isinstance(it, deltat.Spent) for it in told)
+
+
+def asynchronous() -> bool:
+    return asyncio.run(asynchronously())
+
+
+class Failing(deltat.Udp):
+    """A socket that doesn't take one datagram of ten."""
+
+    chance = random.Random(4)
+
+    def _put(self, octets: bytes, address: tuple[str, int]) -> bool:
+        return self.chance.random() >= 0.1 and super()._put(octets, address)
+
+
+def exchanged(ends: dict[int, deltat.Udp], chance: random.Random, seconds: float) -> int:
+    """The nodes send each other messages of all sizes for so long. How many came."""
+    until, came, count = time.monotonic() + seconds, 0, 0
+    while time.monotonic() < until:
+        for number, udp in ends.items():
+            if chance.random() < 0.1:
+                count += 1
+                try:
+                    udp.send(deltat.Flow(number, 10, 3 - number, 20 + count % 2), chance.randbytes(chance.choice([1, 60, 501, 1200])), chance.random() < 0.95, chance.random() < 0.95)
+                except (deltat.Full, deltat.Quiet):
+                    pass
+            came += len(udp.poll(0.002))
+    return came
+
+
+def recorded() -> bool:
+    if not os.access(PROGRAM, os.X_OK):
+        print("recorded: there is no program: ./build")
+        return True
+    chance, right = random.Random(6), True
+
+    def rule(number: int, octets: bytes) -> int:
+        if chance.random() < 0.05:
+            spoilt = bytearray(octets)
+            spoilt[chance.randrange(len(octets))] ^= 1 << chance.randrange(8)
+            link.ends[2 - number].sendto(chance.choice([bytes(spoilt), octets[: chance.randrange(len(octets))]]), (HOST, link.nodes[2 - number]))
+        return chance.choices([0, 1, 2], [15, 70, 15])[0]
+
+    with tempfile.TemporaryDirectory() as folder, Between(rule) as link:
+        nodes = {}
+        for number, most in ((1, deltat_record.MOST), (2, SHORT_RECORD)):
+            deltat_record.MOST = most
+            nodes[number] = deltat_record.Recorded(f"{folder}/{number}", number, PARAMS, [deltat.Link(1, CHARGE)], {3 - number: 1}, number == 2)
+        ends = {number: Failing(node, (HOST, link.nodes[number - 1]), {3 - number: (HOST, link.port(number))}) for number, node in nodes.items()}
+        came = exchanged(ends, chance, PARAMS.quiet / 1000 + 6)
+        for number, udp in ends.items():
+            udp.close()
+            with open(f"{folder}/{number}", "rb") as given, open(f"{folder}/{number}.log", "rb") as log:
+                ran, told = subprocess.run([str(PROGRAM), "retrace"], stdin=given, capture_output=True), log.read()
+            words = {line.split(b" ")[2] for line in told.splitlines()[:-1]}
+            size = os.path.getsize(f"{folder}/{number}")
+            print(f"recorded: node {number} told {told.count(10)} lines of {len(words)} kinds, in {size} octets; {udp.unsent} frames weren't sent")
+            wanted = {b"unsent", b"bad", b"read", b"resent"} if number == 1 else {b"refused", b"quiet"}
+            right = right and (ran.returncode, ran.stdout) == (0, told) and wanted <= words and (number == 1 or size <= SHORT_RECORD)
+    print(f"recorded: {came} messages came")
+    return right and came > 20
+
+
 def asked(service: list[str]) -> bool:
     """Whether a service of the examples answers."""
     with subprocess.Popen(service, stdout=subprocess.DEVNULL) as it:
@@ -240,18 +381,40 @@ def asked(service: list[str]) -> bool:
     return ran.stdout == "olleh\ndlrow\n"
 
 
+def counted(service: list[str]) -> bool:
+    """Whether a service of the examples that keeps sums answers what tools/dtcat.py sends."""
+    with subprocess.Popen(service, stdout=subprocess.DEVNULL) as it:
+        time.sleep(0.7)
+        client = [sys.executable, str(TOP / "tools" / "dtcat.py"), "1@4001", "2@4002", "--linger", "1"]
+        ran = subprocess.run(client, input="apples 3\npears 5\napples 4\n", capture_output=True, text=True, timeout=20)
+        it.kill()
+    if ran.stdout != "apples 3\npears 5\napples 7\n":
+        print(f"examples: {service} was asked, and the answer was {ran.stdout!r} {ran.stderr[-200:]!r}")
+    # the nodes are other lives then
+    time.sleep(1)
+    return ran.stdout == "apples 3\npears 5\napples 7\n"
+
+
+def compiled(compiler: str, name: str, folder: str) -> str | None:
+    """An example in C, compiled, or None where it can't be."""
+    words = [compiler, "-std=gnu11", "-O2", "-Wall", "-Wextra", "-Werror", "-I", str(TOP / "include"), str(TOP / "examples" / f"{name}.c")]
+    built = subprocess.run([*words, str(TOP / "lib" / "libdeltat.a"), "-o", f"{folder}/{name}-{compiler}"], capture_output=True, text=True)
+    if built.returncode:
+        print(f"examples: {compiler}: {built.stderr[-500:]}")
+    return None if built.returncode else f"{folder}/{name}-{compiler}"
+
+
 def examples() -> bool:
     compilers = [it for it in ("gcc", "clang") if shutil.which(it)]
     right = asked([sys.executable, str(TOP / "examples" / "echo.py"), "serve"])
+    right = counted([sys.executable, str(TOP / "examples" / "counter.py")]) and right
     with tempfile.TemporaryDirectory() as folder:
         for compiler in compilers:
+            counter, echo = (compiled(compiler, name, folder) for name in ("counter", "echo"))
+            right = counter is not None and counted([counter]) and right
             # the nodes of the service before have to be forgotten: those of this one are other lives
             time.sleep(PARAMS.quiet / 1000)
-            words = [compiler, "-std=gnu11", "-O2", "-Wall", "-Wextra", "-Werror", "-I", str(TOP / "include"), str(TOP / "examples" / "echo.c")]
-            built = subprocess.run([*words, str(TOP / "lib" / "libdeltat.a"), "-o", f"{folder}/{compiler}"], capture_output=True, text=True)
-            if built.returncode:
-                print(f"examples: {compiler}: {built.stderr[-500:]}")
-            right = right and not built.returncode and asked([f"{folder}/{compiler}"])
+            right = echo is not None and asked([echo]) and right
     return right
 
 
@@ -272,7 +435,7 @@ def rust() -> bool:
 
 def main() -> int:
     words = sys.argv[2:] if named else sys.argv[1:]
-    tests = {"refusals": refusals, "simulated": simulated, "processes": processes, "examples": examples, "rust": rust}
+    tests = {"refusals": refusals, "simulated": simulated, "processes": processes, "asynchronous": asynchronous, "recorded": recorded, "examples": examples, "rust": rust}
     failed = 0
     for name in words or tests:
         begun = time.monotonic()

@@ -1,13 +1,20 @@
 #!/usr/bin/env python3
 """Compiles the C programs of tests/library over libdeltat, and runs them.
 
-`tests/library.py ARCHIVE` takes the archive at that path; with no word it is the one that `rt lib` leaves in
-crates/dt_c/out, which it builds where there is none. The header is compiled alone too. Compilers are gcc and clang,
-languages C99, C11 and C++17, all with -Wall -Wextra -Werror; each program runs bare, and those of C99 also under
-valgrind and with the address and undefined-behaviour sanitizers, where the machine has them. The last line is `N
-passed, M failed`; ends with 1 where one failed, and with 77 where there is no compiler or no archive.
+`tests/library.py [ARCHIVE] [--datagrams N]` takes the archive at that path; with no word it is the one that `rt lib`
+leaves in crates/dt_c/out, which it builds where there is none. The header is compiled alone too. Compilers are gcc and
+clang, languages C99, C11 and C++17, all with -Wall -Wextra -Werror; each program runs bare, and those of C99 also under
+valgrind and with the address and undefined-behaviour sanitizers, where the machine has them:
+
+- exchange.c: two nodes, a message that comes whole, and each refusal.
+- each_failure.c: each request for memory fails in turn.
+- strangers.c: N random datagrams (1,000,000), after which the node takes as much memory as before, and some thousand
+  flows from one peer. In C99 alone.
+
+The last line is `N passed, M failed`; ends with 1 where one failed, and with 77 where there is no compiler or no archive.
 
 In tests/all: no words, 900 s."""
+import argparse
 import pathlib
 import shutil
 import subprocess
@@ -47,6 +54,8 @@ class Program(NamedTuple):
 
 
 PROGRAMS = (Program("exchange.c", False), Program("each_failure.c", True))
+# what valgrind and the sanitizers see of the random datagrams, and the flows of one peer that are opened
+FEW_DATAGRAMS, FLOWS = 20_000, 5_000
 
 
 class Tally:
@@ -55,13 +64,15 @@ class Tally:
     def __init__(self) -> None:
         self.passed = self.failed = 0
 
-    def run(self, what: str, command: Sequence[str | pathlib.Path]) -> bool:
-        """Runs a command. Whether it ended with 0."""
+    def run(self, what: str, command: Sequence[str | pathlib.Path], seconds: int = SECONDS, tells: bool = False) -> bool:
+        """Runs a command, and prints what it said where it tells figures. Whether it ended with 0."""
         try:
-            done = subprocess.run([str(word) for word in command], capture_output=True, text=True, timeout=SECONDS)
+            done = subprocess.run([str(word) for word in command], capture_output=True, text=True, timeout=seconds)
             good, said = done.returncode == 0, done.stdout + done.stderr
         except subprocess.TimeoutExpired:
-            good, said = False, f"took more than {SECONDS} s"
+            good, said = False, f"took more than {seconds} s"
+        if good and tells:
+            print(f"{what}: {said}", end="", flush=True)
         if good:
             self.passed += 1
         else:
@@ -70,10 +81,10 @@ class Tally:
         return good
 
 
-def archive() -> pathlib.Path:
-    """The archive: the first word, or the built one."""
-    if len(sys.argv) > 1:
-        return pathlib.Path(sys.argv[1]).resolve()
+def archive(named: pathlib.Path | None) -> pathlib.Path:
+    """The archive: the one that is named, or the built one."""
+    if named is not None:
+        return named.resolve()
     if not ARCHIVE.exists():
         if shutil.which("rt") is None:
             skip("there is no libdt_c.a, and no rt to build it")
@@ -115,10 +126,30 @@ def try_program(tally: Tally, program: Program, driver: str, language: Language,
         tally.run(f"{what}, sanitizers", [sanitized])
 
 
+def try_strangers(tally: Tally, driver: str, count: int, library: pathlib.Path, folder: pathlib.Path) -> None:
+    """Random datagrams, bare, under valgrind and with the sanitizers, and many flows."""
+    language = Language("C99", ("-std=gnu99",), (driver,))
+    heap, bare, sanitized = folder / f"heap-{driver}.o", folder / "strangers", folder / "strangers-sanitized"
+    if not tally.run("strangers.c", compiled(driver, language, [HERE / "strangers.c"], bare, [heap, library])):
+        return
+    few = ["datagrams", str(FEW_DATAGRAMS)]
+    tally.run("random datagrams", [bare, "datagrams", str(count)], SECONDS + count // 10_000, tells=True)
+    tally.run("flows of one peer", [bare, "flows", str(FLOWS), "4096"], tells=True)
+    if shutil.which("valgrind") is not None:
+        tally.run("random datagrams, valgrind", ["valgrind", "--quiet", "--error-exitcode=9", "--leak-check=full", bare, *few])
+    flags = ["-fsanitize=address,undefined", "-fno-sanitize-recover=all"]
+    if tally.run("strangers.c, sanitizers", compiled(driver, language, [HERE / "strangers.c"], sanitized, [*flags, heap, library])):
+        tally.run("random datagrams, sanitizers", [sanitized, *few])
+
+
 def main() -> int:
+    reads = argparse.ArgumentParser(description=__doc__, formatter_class=argparse.RawDescriptionHelpFormatter)
+    reads.add_argument("archive", nargs="?", type=pathlib.Path, help="the archive (crates/dt_c/out/libdt_c.a)")
+    reads.add_argument("--datagrams", type=int, default=1_000_000, metavar="N", help="how many random datagrams (%(default)s)")
+    given = reads.parse_args()
     if not any(ways()):
         skip("there is no compiler of C")
-    library = archive()
+    library = archive(given.archive)
     tally = Tally()
     with tempfile.TemporaryDirectory() as name:
         folder = pathlib.Path(name)
@@ -134,6 +165,7 @@ def main() -> int:
             tally.run(f"deltat.h, {driver}, {language.name}", compiled(driver, language, [folder / "alone.c"], folder / "alone.o", ["-c"]))
             for program in PROGRAMS:
                 try_program(tally, program, driver, language, library, folder)
+        try_strangers(tally, next(ways())[0], given.datagrams, library, folder)
     print(f"{tally.passed} passed, {tally.failed} failed")
     return 1 if tally.failed else 0
 

@@ -6,6 +6,8 @@ hasn't made the library, and with 1 where one of these fails:
   of them, status 1 with what is missing told as uncertain.
 - both: two ends send each other 500 lines; --whole sends 60,000 octets as one message.
 - ping: ten messages to a listener are acknowledged, and one to nobody is uncertain, with status 1.
+- recorded: what two ends and a ping recorded by --record is run again by `deltat retrace` to the very log beside it. It
+  is left out where there is no program (./build).
 - refused: faulty words, a port in use and no library are status 2, with a line that says so.
 
 In tests/all: no words, 120 s."""
@@ -13,9 +15,10 @@ import os
 import re
 import subprocess
 import sys
+import tempfile
 import time
 
-from lib import HOST, TOP, bound, free_port, skip
+from lib import HOST, PROGRAM, TOP, bound, free_port, skip
 
 LIBRARY = TOP / "lib" / "libdeltat.so.0"
 CAT, PING = str(TOP / "tools" / "dtcat.py"), str(TOP / "tools" / "dtping.py")
@@ -91,6 +94,32 @@ def ping() -> bool:
     return status == 0 and re.match(r"10 messages, 0 uncertain, \d+ sent again, [\d. ]+ ms$", last) is not None and lost == 1 and "1: 56 octets, uncertain" in told
 
 
+def is_run_again(path: str) -> bool:
+    with open(path, "rb") as record, open(f"{path}.log", "rb") as log:
+        ran, told = subprocess.run([str(PROGRAM), "retrace"], stdin=record, capture_output=True), log.read()
+    if (ran.returncode, ran.stdout) != (0, told):
+        print(f"recorded: {path} ends with {ran.returncode}, and {len(ran.stdout)} octets of {len(told)}")
+    return (ran.returncode, ran.stdout) == (0, told) and told.count(10) > 20
+
+
+def recorded() -> bool:
+    if not os.access(PROGRAM, os.X_OK):
+        print("recorded: there is no program: ./build")
+        return True
+    with tempfile.TemporaryDirectory() as folder:
+        one, two = ends()
+        records = [f"{folder}/{it}" for it in ("one", "two", "ping", "listens")]
+        texts = ["".join(f"{who} {it}\n" for it in range(300)).encode() for who in (1, 2)]
+        found = [start(CAT, one, two, "--linger", "1", "--record", records[0], given=texts[0]), start(CAT, two, one, "--linger", "1", "--record", records[1], given=texts[1])]
+        statuses = [ended(it)[0] for it in found]
+        one, two = ends()
+        listener = start(CAT, two, one, "--listen", "--record", records[3])
+        time.sleep(0.5)
+        statuses.append(ended(start(PING, one, two, "--count", "10", "--interval", "0.05", "--record", records[2]))[0])
+        stopped(listener)
+        return set(statuses) <= {0, 1} and all([is_run_again(it) for it in records])
+
+
 def refused() -> bool:
     right = True
     one, two = ends()
@@ -107,7 +136,7 @@ def refused() -> bool:
 
 def main() -> int:
     failed = 0
-    for test in (lines, both, ping, refused):
+    for test in (lines, both, ping, recorded, refused):
         well = test()
         failed += not well
         print(f"{test.__name__}: {'ok' if well else 'FAILED'}", flush=True)

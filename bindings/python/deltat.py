@@ -18,11 +18,18 @@ on the wire long after it left the node. What the network and whoever starts the
 slower than its charge, all nodes have the same times and numbers of their own, and a node that may have run shortly
 before is opened with `again=True`.
 
+`AsyncUdp` is the same for a program whose loop is asyncio's:
+
+    async with deltat.AsyncUdp(node, ("127.0.0.1", 4002), {1: ("127.0.0.1", 4001)}) as udp:
+        async for message in udp:
+            await udp.send(message.flow.reversed(), message.octets[::-1])
+
 A node and its socket are used by one thread at a time. The library is looked for at DELTAT_LIBRARY, if that is set,
 then as `libdeltat.so.0` beside this file, in lib/ of the clone that has it, and in the system's places."""
 
 from __future__ import annotations
 
+import asyncio
 import ctypes
 import enum
 import math
@@ -32,13 +39,13 @@ import socket
 import struct
 import time
 from collections import deque
-from collections.abc import Iterator, Mapping, Sequence
+from collections.abc import AsyncIterator, Iterator, Mapping, Sequence
 from dataclasses import astuple, dataclass
 from pathlib import Path
 from typing import NamedTuple
 
 __all__ = [
-    "BadParameter", "DeltatError", "Flow", "Full", "Kind", "Link", "Message", "NoMemory", "Node", "OutFrame", "Params",
+    "AsyncUdp", "BadParameter", "DeltatError", "Flow", "Full", "Kind", "Link", "Message", "NoMemory", "Node", "OutFrame", "Params",
     "Piece", "Quiet", "Report", "Spent", "Status", "Udp", "now",
 ]
 
@@ -456,16 +463,21 @@ class Node:
         while self._reports:
             yield self._reports.popleft()
 
+    def unsent(self) -> None:
+        """Says that the frame that `frames` handed out last wasn't put on the wire: it is a loss, and nothing else."""
+
     def _listen(self) -> None:
         """Takes what the node told, so that none of it waits in the library."""
         while True:
             it = _library.dt_next_report(self._handle)
             if it.status != Status.DONE:
                 return
-            told = Report(Kind(it.kind), _flow_of(it.flow), it.moment, it.number, it.count, it.window, it.begin, it.end, it.run, it.sending)
-            if told.kind is Kind.ACCEPTED:
-                self._unread[told.flow] = None
-            self._reports.append(told)
+            self._hear(Report(Kind(it.kind), _flow_of(it.flow), it.moment, it.number, it.count, it.window, it.begin, it.end, it.run, it.sending))
+
+    def _hear(self, told: Report) -> None:
+        if told.kind is Kind.ACCEPTED:
+            self._unread[told.flow] = None
+        self._reports.append(told)
 
     def messages(self, at: int | None = None) -> Iterator[Message]:
         """The whole messages of all flows to this node that can be read, flow by flow, each once."""
@@ -543,13 +555,17 @@ class Udp:
         """Puts what left the node at that moment on the wire."""
         for frame in self.node.frames():
             address = self._addresses.get(frame.to) or self._next_hop.get(frame.link)
-            if address is None or now() - at > LATE:
+            if address is None or now() - at > LATE or not self._put(frame.octets, address):
                 self.unsent += 1
-                continue
-            try:
-                self.socket.sendto(frame.octets, address)
-            except OSError:
-                self.unsent += 1
+                self.node.unsent()
+
+    def _put(self, octets: bytes, address: tuple[str, int]) -> bool:
+        """Whether the system took a datagram."""
+        try:
+            self.socket.sendto(octets, address)
+        except OSError:
+            return False
+        return True
 
     def _waited(self, ancillary: list[tuple[int, int, bytes]], at: int) -> int:
         """How long a datagram waited in the socket, in ms, rounded up: by the kernel's stamp, or, where the wall clock
@@ -608,6 +624,114 @@ class Udp:
         while (left := end - time.monotonic()) > 0:
             found += self.poll(left)
         return found
+
+
+class AsyncUdp:
+    """A node over a UDP socket in the running loop of asyncio: what comes and is due is done as the loop goes round.
+
+    The loop watches the socket, and the datagrams are read here: a datagram endpoint of asyncio doesn't hand out the
+    kernel's stamps, so what a datagram waited while the loop was busy couldn't be told. A message is read from the node
+    when the program asks for it, so of a program that is slow the senders are held back. NoMemory comes of each call
+    behind the one that found none, and Spent of those that wait when it is closed."""
+
+    def __init__(self, node: Node, bind: tuple[str, int], peers: Mapping[int, tuple[str, int]], routes: Mapping[int, int] | None = None) -> None:
+        """Binds the socket, and joins the running loop: RuntimeError where none runs. As `Udp`."""
+        self._loop = asyncio.get_running_loop()
+        self.udp = Udp(node, bind, peers, routes)
+        self._changed = asyncio.Event()
+        self._timer: asyncio.TimerHandle | None = None
+        self._failure: DeltatError | None = None
+        self._loop.add_reader(self.udp.socket, self._turn)
+
+    async def __aenter__(self) -> AsyncUdp:
+        return self
+
+    async def __aexit__(self, *_: object) -> None:
+        self.close()
+
+    def __aiter__(self) -> AsyncIterator[Message]:
+        return self
+
+    async def __anext__(self) -> Message:
+        return await self.receive()
+
+    @property
+    def node(self) -> Node:
+        return self.udp.node
+
+    def close(self) -> None:
+        """Leaves the loop, and closes the socket and the node. Called again it does nothing."""
+        if self.udp.socket.fileno() >= 0:
+            self._loop.remove_reader(self.udp.socket)
+            self.udp.close()
+        self._fail(Spent("the node is closed"))
+
+    def _fail(self, why: DeltatError) -> None:
+        self._failure = self._failure or why
+        if self._timer:
+            self._timer.cancel()
+        self._changed.set()
+
+    def _turn(self) -> None:
+        """What came and is due is done, and the loop comes back at the node's wake."""
+        try:
+            self.udp._receive()
+            at = now()
+            self.node.tick(at)
+            self.udp.flush(at)
+        except DeltatError as why:
+            self._loop.remove_reader(self.udp.socket)
+            self._fail(why)
+            return
+        self._arm()
+        self._changed.set()
+
+    def _arm(self) -> None:
+        if self._timer:
+            self._timer.cancel()
+        wake = self.node.wake
+        self._timer = None if wake is None else self._loop.call_later(max(wake - now(), 0) / 1000, self._turn)
+
+    async def _wait(self, seconds: float | None = None) -> None:
+        """Waits until something changed, or so long."""
+        self._changed.clear()
+        try:
+            async with asyncio.timeout(seconds):
+                await self._changed.wait()
+        except TimeoutError:
+            pass
+
+    async def send(self, flow: Flow, octets: bytes, begin: bool = True, end: bool = True) -> None:
+        """Sends a message, or a part of one, of at most `cap` octets, as soon as there is room for it and the node isn't
+        silent. Those who wait for room of one flow aren't served in the order in which they came. BadParameter, NoMemory
+        or Spent, and then nothing of it was taken, as where the wait is cancelled."""
+        if len(octets) > self.node.params.cap:
+            raise BadParameter(f"a flow holds {self.node.params.cap} octets, and not {len(octets)}")
+        while True:
+            if self._failure:
+                raise self._failure
+            try:
+                self.udp.send(flow, octets, begin, end)
+            except Full:
+                await self._wait()
+            except Quiet as why:
+                await self._wait(max(why.until - now(), 1) / 1000)
+            else:
+                self._arm()
+                return
+
+    async def receive(self) -> Message:
+        """The next message. NoMemory or Spent."""
+        while True:
+            if self._failure:
+                raise self._failure
+            at = now()
+            message = next(self.node.messages(at), None)
+            self.udp.flush(at)
+            self._arm()
+            if message:
+                return message
+            await self._wait()
 
 
 _SO_TIMESTAMPNS = getattr(socket, "SO_TIMESTAMPNS", 35)

@@ -36,6 +36,7 @@ def add_words(it: argparse.ArgumentParser) -> None:
     it.add_argument("--round-trip", type=number(0, par.DAY), default=20, help="a usual round trip, in ms (20): the same at both ends")
     it.add_argument("--ports", nargs=2, type=number(0, 65_535, int), default=(10, 10), metavar=("OWN", "PEER"), help="the ports of the flow (10 10)")
     it.add_argument("--again", action="store_true", help="this node's number may have been used shortly before: be silent at first")
+    it.add_argument("--record", metavar="PATH", help="keep what the node takes in: `deltat retrace` writes of PATH what is in PATH.log, the node's log")
 
 
 def library() -> ModuleType:
@@ -49,6 +50,12 @@ def library() -> ModuleType:
     return deltat
 
 
+def recorded(path: str, *given: object) -> object:
+    """A node that keeps its run. OSError where nothing can be written there."""
+    import deltat_record
+    return deltat_record.Recorded(path, *given)
+
+
 class Live:
     """The node of a tool, its socket, and what its flow has sent."""
 
@@ -59,7 +66,8 @@ class Live:
         self.params = self.deltat.Params(*astuple(chosen))
         # what a datagram waits at this machine is told and charged beside the link, so the link's charge hasn't it
         links = [self.deltat.Link(1, par.link_charge(hop, chosen) - par.SOCKET_WAIT)]
-        node = self.deltat.Node(asked.own.node, self.params, links, {asked.peer.node: 1}, asked.again)
+        given = asked.own.node, self.params, links, {asked.peer.node: 1}, asked.again
+        node = recorded(asked.record, *given) if asked.record else self.deltat.Node(*given)
         self.udp = self.deltat.Udp(node, (asked.own.host, asked.own.port), {asked.peer.node: (asked.peer.host, asked.peer.port)})
         self.flow = self.deltat.Flow(asked.own.node, asked.ports[0], asked.peer.node, asked.ports[1])
         self.taken = self.settled = self.uncertain = self.resent = 0

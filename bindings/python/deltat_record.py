@@ -1,0 +1,267 @@
+"""A node that keeps what it took in, so that its run can be run again.
+
+    node = deltat_record.Recorded("run.txt", 2, params, links, routes)
+    ...
+    node.close()
+
+Behind that `deltat retrace < run.txt` writes what run.txt.log has: every report of the node, as the library told it. What
+a run did on one machine can so be seen on another one, line by line, and with other eyes.
+
+A script of a node does its commands in the first turn of their moment. So of a node that records a send or a read begins
+a new millisecond, unless it follows another one: it waits for that, and takes up to 1 ms longer. Moments are those since
+the node was opened. What is kept lies in memory until the node is closed; `retrace` reads 16,777,216 octets at most, and
+what came behind about as many isn't kept."""
+
+from __future__ import annotations
+
+import contextlib
+import pathlib
+import time
+from collections.abc import Iterator, Mapping, Sequence
+from dataclasses import dataclass
+
+import deltat
+from deltat import Flow, Kind, Link, OutFrame, Params, Piece, Report, Status
+
+__all__ = ["Recorded"]
+
+MOST = 16_777_216
+"""So many octets of a script and a trace are read, and no more."""
+_MOST_EVENT = 200_000
+
+
+def _letters(all_: str, *marks: bool) -> str:
+    return "".join(letter for letter, mark in zip(all_, marks) if mark) or "-"
+
+
+def _fault(octets: bytes) -> str:
+    """Why octets are no Deltagram (docs/formats.md)."""
+    if len(octets) < 16:
+        return f"short {len(octets)}"
+    told, there = int.from_bytes(octets[2:4], "big"), len(octets) - 16
+    if octets[0] not in (1, 2):
+        return f"version {octets[0]}"
+    if told != there or there > (1038 if octets[0] == 1 else 8206):
+        return f"length {told} {there}"
+    return "dead"
+
+
+_FAULTS = ("", "short", "version", "length", "dead", "protocol", "kind", "flags", "window", "size")
+
+# what stands behind the moment and the node, of each kind but PUT, which may have `unsent` behind it
+_WORDS = {
+    Kind.TOOK: lambda it: f"took {it.flow} {it.count}",
+    Kind.TOLD_QUIET: lambda it: f"refused {it.flow} quiet {it.moment}",
+    Kind.TOLD_FULL: lambda it: f"refused {it.flow} full {it.count}",
+    Kind.SENT: lambda it: f"sent {it.flow} {it.number} {it.count} {_letters('dbe', it.run, it.begin, it.end)}",
+    Kind.RESENT: lambda it: f"resent {it.flow} {it.number} {it.count} {_letters('dbe', it.run, it.begin, it.end)}",
+    Kind.MET: lambda it: f"met {it.flow} {it.number}",
+    Kind.UNCERTAIN: lambda it: f"uncertain {it.flow} {it.count}",
+    Kind.RELEASED: lambda it: f"released {it.flow} {'send' if it.sending else 'receive'}",
+    Kind.RENEWED: lambda it: f"renewed {it.flow}",
+    Kind.ACKED: lambda it: f"acked {it.flow} {it.number} {it.window}",
+    Kind.REPLIED: lambda it: f"replied {it.flow} {it.number} {it.window}",
+    Kind.ACCEPTED: lambda it: f"accepted {it.flow} {it.number} {it.count} {'run' if it.run else 'on'}",
+    Kind.DROPPED: lambda it: f"dropped {it.flow} {it.number}",
+    Kind.CLOSING: lambda it: f"closing {it.flow} {it.number}",
+    Kind.SETTLED: lambda it: f"settled {it.flow} {it.count} {it.window}",
+    Kind.IGNORED: lambda it: f"ignored {it.flow} {it.number} {it.window}",
+    Kind.MET_QUIET: lambda it: f"quiet {it.moment}",
+    Kind.WAS_READ: lambda it: f"read {it.flow} {_letters('rbe', it.run, it.begin, it.end)} ",
+    Kind.NOT_READ: lambda it: f"nothing {it.flow}",
+    Kind.PUT: lambda it: f"put {it.number} {it.count}",
+    Kind.EXPIRED_IN: lambda it: f"expired in {it.number}",
+    Kind.EXPIRED_OUT: lambda it: f"expired out {it.number}",
+    Kind.NO_ROUTE: lambda it: f"noroute {it.number}",
+    Kind.LINK_FULL: lambda it: f"full {it.number}",
+    Kind.UNREADABLE: lambda it: f"bad {_FAULTS[it.number]} {it.count}",
+}
+
+
+@dataclass
+class _Turn:
+    """The turn that is under way: its moment, whether it is the first one of it, and whether its tick is still to come."""
+
+    moment: int
+    is_first: bool
+    is_open: bool = True
+
+
+@dataclass
+class _Run:
+    """What is kept: lines of the script's commands, of the trace and of the log, where in the log packets were put, and
+    which of these weren't sent, counted from 1."""
+
+    commands: list[str]
+    trace: list[str]
+    log: list[str]
+    puts: list[int]
+    failed: list[int]
+
+    def copied(self) -> _Run:
+        return _Run(self.commands[:], self.trace[:], self.log[:], self.puts[:], self.failed[:])
+
+    def finished(self, setup: list[str], stop: int) -> tuple[str, str]:
+        """The script with its trace, and the log, of a run that stops at that moment."""
+        failed = [number for number in self.failed if number <= len(self.puts)]
+        for number in reversed(failed):
+            moment, node, _, link, _ = self.log[self.puts[number - 1]].split(" ")
+            self.log.insert(self.puts[number - 1] + 1, f"{moment} {node} unsent {link}")
+        lines = [*setup, *self.commands, f"at {stop} stop", "trace", *(f"! {number}" for number in failed), *self.trace, "< -", f"@ {stop}"]
+        return "".join(f"{it}\n" for it in lines), "".join(f"{it}\n" for it in [*self.log, f"end {stop}"])
+
+
+class Recorded(deltat.Node):
+    """A node that keeps a script and a trace of its run, which `close` writes to `path`, and the log to `path`.log.
+    The numbers of its links are at most 255."""
+
+    def __init__(
+        self, path: str | pathlib.Path, number: int, params: Params, links: Sequence[Link], routes: Mapping[int, int], again: bool = False,
+        at: int | None = None,
+    ) -> None:
+        """Opens the node. BadParameter or NoMemory; OSError where nothing can be written there."""
+        strange = [it.number for it in links if it.number > 255]
+        if strange:
+            raise deltat.BadParameter(f"a link of a node that records is {strange[0]}, which is above 255")
+        self._path, self._base = pathlib.Path(path), deltat.now() if at is None else at
+        self._path.write_text("")
+        self._setup = self._setup_of(number, params, links, routes, again)
+        self._run = _Run([], ["@ 0"], [], [], [])
+        # the run up to where the record was full, and the moment of its stop
+        self._kept: tuple[_Run, int] | None = None
+        self._left = MOST - sum(len(it) + 1 for it in self._setup)
+        self._turn, self._event_at, self._handed, self._is_closed = _Turn(0, True), 0, 0, False
+        super().__init__(number, params, links, routes, again, 0)
+
+    @staticmethod
+    def _setup_of(number: int, params: Params, links: Sequence[Link], routes: Mapping[int, int], again: bool) -> list[str]:
+        """The setup of the script. Its addresses stand for those that its sockets had: nothing is sent there."""
+        it = params
+        lines = [f"params {it.mpl} {it.r} {it.a} {it.rto} {it.probe} {it.seg} {it.cap} {it.rcap} {it.window} {it.run_limit} {it.start}"]
+        lines += [f"me {number} {'again' if again else 'first'}", "local 127.0.0.1:1"]
+        first = {link.number: link for link in reversed(links)}
+        lines += [f"peer {link.number} 127.0.0.1:1 {link.charge} {link.pace}" for link in links if first[link.number] is link]
+        return lines + [f"route {to} {link}" for to, link in routes.items() if link in first and to != number] + ["go"]
+
+    # --- turns
+
+    def _moment(self, at: int | None) -> int:
+        return max((deltat.now() if at is None else at) - self._base, self._turn.moment)
+
+    def _end_turn(self) -> None:
+        """A turn ends with a tick."""
+        if self._turn.is_open:
+            self._turn.is_open = False
+            self._event_at = self._turn.moment
+            super().tick(self._turn.moment)
+
+    def _begin_turn(self, moment: int, taken: str = "< -") -> None:
+        self._end_turn()
+        self._keep(self._run.trace, taken, f"@ {moment}")
+        self._turn = _Turn(moment, moment > self._turn.moment)
+
+    def _begin_command(self, at: int | None) -> int:
+        """The moment of a send or a read: it is in the first turn of that."""
+        moment = self._moment(at)
+        if not (self._turn.is_open and self._turn.is_first and moment == self._turn.moment) or self._left < _MOST_EVENT:
+            while moment == self._turn.moment:
+                time.sleep(0.0002)
+                moment = self._moment(None)
+            self._fill()
+            self._begin_turn(moment)
+        self._event_at = moment
+        return moment
+
+    def _fill(self) -> None:
+        """Between two turns: where there is no room for another one, what there is up to here is kept."""
+        if self._left < _MOST_EVENT and self._kept is None:
+            self._end_turn()
+            self._kept = self._run.copied(), self._turn.moment + 1
+
+    def _keep(self, where: list[str], *lines: str) -> None:
+        self._left -= sum(len(it) + 1 for it in lines)
+        if self._kept is None:
+            where.extend(lines)
+
+    # --- the node's calls
+
+    def tick(self, at: int | None = None) -> None:
+        moment = self._moment(at)
+        due = super().wake
+        is_due = due is not None and due <= moment
+        if moment > self._turn.moment or (is_due and not self._turn.is_open):
+            self._fill()
+            self._begin_turn(moment)
+        if is_due:
+            self._end_turn()
+
+    def arrive(self, link: int, datagram: bytes, waited: int = 0, at: int | None = None) -> Status:
+        octets, moment = bytes(datagram), self._moment(at)
+        self._end_turn()
+        self._fill()
+        self._event_at = moment
+        status = super().arrive(link, octets, waited, moment)
+        if status is Status.BAD:
+            self._begin_turn(moment, f"< {link} {octets[:8223].hex()}".rstrip())
+            self._run.log.append(f"{moment} {self.number} bad {_fault(octets[:8223])}")
+        elif status is Status.DONE:
+            life = int.from_bytes(octets[4:8], "big") - waited
+            self._begin_turn(moment, f"< {link} {(octets[:4] + life.to_bytes(4, 'big') + octets[8:]).hex()}")
+        return status
+
+    def send(self, flow: Flow, octets: bytes, begin: bool = True, end: bool = True, at: int | None = None) -> None:
+        moment = self._begin_command(at)
+        line = f"at {moment} send {flow} {_letters('be', begin, end)} {bytes(octets).hex()}"
+        try:
+            super().send(flow, octets, begin, end, moment)
+        except (deltat.Full, deltat.Quiet) as why:
+            self._keep(self._run.commands, line)
+            if isinstance(why, deltat.Quiet):
+                raise deltat.Quiet(why.until + self._base) from None
+            raise
+        self._keep(self._run.commands, line)
+
+    def read(self, flow: Flow, at: int | None = None) -> Piece | None:
+        moment, log = self._begin_command(at), self._run.log
+        before = len(log)
+        piece = super().read(flow, moment)
+        self._keep(self._run.commands, f"at {moment} read {flow} {deltat.MOST_SEND}")
+        if piece is not None:
+            # the line of the read, which has no octets yet
+            place = next(it for it in range(before, len(log)) if log[it].endswith(" "))
+            log[place] += piece.octets.hex()
+        return piece
+
+    @property
+    def wake(self) -> int | None:
+        it = super().wake
+        return None if it is None else it + self._base
+
+    def frames(self) -> Iterator[OutFrame]:
+        for frame in super().frames():
+            self._handed += 1
+            yield frame
+
+    def unsent(self) -> None:
+        self._run.failed.append(self._handed)
+
+    def _hear(self, told: Report) -> None:
+        super()._hear(told)
+        if told.kind is Kind.PUT:
+            self._run.puts.append(len(self._run.log))
+        self._run.log.append(f"{self._event_at} {self.number} {_WORDS[told.kind](told)}")
+
+    # --- the end
+
+    def close(self) -> None:
+        """Closes the node, and writes what was kept. Called again it does nothing."""
+        if self._is_closed:
+            return
+        self._is_closed = True
+        with contextlib.suppress(deltat.DeltatError):
+            self._end_turn()
+        super().close()
+        run, stop = self._kept or (self._run, self._turn.moment + 1)
+        text, log = run.finished(self._setup, stop)
+        self._path.write_text(text)
+        self._path.with_name(f"{self._path.name}.log").write_text(log)

@@ -1,0 +1,40 @@
+#!/usr/bin/env python3
+"""A service that keeps sums: a message `NAME NUMBER` adds the number to the name's sum, and is answered by `NAME SUM`.
+No message is added twice, whatever the network repeats, and who sent it needs no number of its own for that.
+
+    examples/counter.py
+    printf 'apples 3\\npears 5\\napples 4\\n' | tools/dtcat.py 1@4001 2@4002 --linger 1
+
+It is node 2 on port 4002, for node 1 on port 4001. Say `again` behind it where it ran less than a second before."""
+import asyncio
+import collections
+import pathlib
+import sys
+
+sys.path.insert(0, str(pathlib.Path(__file__).resolve().parent.parent / "bindings" / "python"))
+import deltat  # noqa: E402
+
+# what `tools/params.py 50 20` tells, and the charge that it tells less the wait in this machine's socket, which is measured
+PARAMS = deltat.Params(mpl=102, r=195, a=2, rto=39, probe=78, seg=1442, cap=65536, rcap=65536, window=65536)
+CHARGE = 74
+
+
+def answer(sums: dict[str, int], message: deltat.Message) -> str:
+    name, _, number = message.octets.decode(errors="replace").partition(" ")
+    try:
+        sums[name] += int(number)
+    except ValueError:
+        return f"{number!r} isn't a number"
+    return f"{name} {sums[name]}"
+
+
+async def serve(again: bool) -> None:
+    sums: dict[str, int] = collections.Counter()
+    node = deltat.Node(2, PARAMS, [deltat.Link(1, CHARGE)], {1: 1}, again)
+    async with deltat.AsyncUdp(node, ("127.0.0.1", 4002), {1: ("127.0.0.1", 4001)}) as udp:
+        async for message in udp:
+            await udp.send(message.flow.reversed(), answer(sums, message).encode())
+
+
+if __name__ == "__main__":
+    asyncio.run(serve("again" in sys.argv[1:]))

@@ -1,0 +1,386 @@
+/* A node's run over libdeltat, by a script and a trace: what `deltat retrace` runs over its own station.
+
+       drive <input >log
+
+   The input is a script without a shelf, a line `trace`, and a trace, as docs/formats.md has them. It is taken to be
+   well formed: what isn't ends the driver with 2. Ends with the statuses of `retrace`: 0 the stop was met, 3 a
+   parameter is out of its range, 4 there was no memory, 5 the wire failed, 6 the clock stands still. */
+#include "deltat.h"
+#include <inttypes.h>
+#include <stdio.h>
+#include <stdlib.h>
+#include <string.h>
+
+enum { DONE = 0, STRANGE = 2, REFUSED = 3, NO_MEMORY = 4, WIRE = 5, STILL = 6 };
+enum { MOST_EQUAL = 100000, MOST_READ = 65536 };
+static const uint64_t LAST = (uint64_t)1 << 62;
+
+/* --- what is read */
+
+struct octets { uint8_t *at; size_t len; };
+
+struct command {
+    uint64_t at;
+    struct dt_flow flow;
+    struct octets sent; /* none: it reads */
+    size_t most;
+    bool begin, end;
+};
+
+struct take { struct octets datagram; uint16_t link; bool found, failed; };
+
+/* a list that grows */
+#define LIST(type) struct { type *at; size_t len, room; }
+#define PUSH(list, it) \
+    do { \
+        if ((list).len == (list).room) { \
+            (list).room = 2 * (list).room + 8; \
+            (list).at = grown((list).at, (list).room * sizeof *(list).at); \
+        } \
+        (list).at[(list).len++] = (it); \
+    } while (0)
+
+static void *grown(void *at, size_t size) {
+    void *it = realloc(at, size);
+    if (it == NULL) exit(NO_MEMORY);
+    return it;
+}
+
+static struct {
+    struct dt_params params;
+    struct dt_start start;
+    uint64_t stop;
+    size_t params_line;
+    LIST(struct dt_link) links;
+    LIST(struct dt_route) routes;
+    LIST(struct command) commands;
+} script;
+
+static struct {
+    LIST(uint64_t) readings;
+    LIST(struct take) takes;
+    LIST(uint64_t) failing; /* the gives that fail; 0: the address can't be bound */
+} trace;
+
+static void strange(const char *what) {
+    fprintf(stderr, "drive: %s\n", what);
+    exit(STRANGE);
+}
+
+/* the next word of the line, behind which there is a 0 */
+static char *word(char **line) {
+    char *it = *line;
+    if (it == NULL) strange("a line ends too early");
+    *line = strchr(it, ' ');
+    if (*line != NULL) *(*line)++ = '\0';
+    return it;
+}
+
+static uint64_t number(char **line) { return strtoull(word(line), NULL, 10); }
+
+static struct dt_flow flow_of(char **line) {
+    struct dt_flow it;
+    if (sscanf(word(line), "%" SCNu32 ":%" SCNu16 ">%" SCNu32 ":%" SCNu16, &it.from, &it.from_port, &it.to, &it.to_port) != 4) strange("no flow");
+    return it;
+}
+
+static unsigned digit(char it) { return it <= '9' ? (unsigned)(it - '0') : (unsigned)((it | 32) - 'a') + 10; }
+
+static struct octets octets_of(const char *hex) {
+    struct octets it;
+    it.len = strlen(hex) / 2;
+    it.at = (uint8_t *)grown(NULL, it.len + 1);
+    for (size_t i = 0; i < it.len; i++) it.at[i] = (uint8_t)(16 * digit(hex[2 * i]) + digit(hex[2 * i + 1]));
+    return it;
+}
+
+static void read_params(char *line) {
+    struct dt_params *p = &script.params;
+    uint32_t *const fields[] = {&p->mpl, &p->r, &p->a, &p->rto, &p->probe, &p->seg, &p->cap, &p->rcap, &p->window, &p->run_limit, &p->start};
+    for (size_t i = 0; i < sizeof fields / sizeof *fields && line != NULL; i++) *fields[i] = (uint32_t)number(&line);
+}
+
+static void read_command(char *line) {
+    struct command it;
+    memset(&it, 0, sizeof it);
+    it.at = number(&line);
+    const char *what = word(&line);
+    if (!strcmp(what, "stop")) {
+        script.stop = it.at;
+        return;
+    }
+    it.flow = flow_of(&line);
+    if (!strcmp(what, "read")) it.most = (size_t)number(&line);
+    else {
+        const char *marks = word(&line);
+        it.begin = strchr(marks, 'b') != NULL;
+        it.end = strchr(marks, 'e') != NULL;
+        it.sent = octets_of(word(&line));
+    }
+    PUSH(script.commands, it);
+}
+
+static void read_script(char *line) {
+    const char *first = word(&line);
+    if (*first == '#' || *first == '\0' || !strcmp(first, "local") || !strcmp(first, "go")) return;
+    if (!strcmp(first, "params")) read_params(line);
+    else if (!strcmp(first, "at")) read_command(line);
+    else if (!strcmp(first, "me")) {
+        script.start.me = (uint32_t)number(&line);
+        script.start.again = !strcmp(word(&line), "again");
+    } else if (!strcmp(first, "peer")) {
+        struct dt_link it;
+        it.link = (uint16_t)number(&line);
+        word(&line);
+        it.charge = (uint32_t)number(&line);
+        it.pace = (uint32_t)number(&line);
+        PUSH(script.links, it);
+    } else if (!strcmp(first, "route")) {
+        struct dt_route it;
+        it.to = (uint32_t)number(&line);
+        it.link = (uint16_t)number(&line);
+        PUSH(script.routes, it);
+    } else strange(first);
+}
+
+static void read_trace(char *line) {
+    const char *first = word(&line);
+    if (*first == '@') PUSH(trace.readings, number(&line));
+    else if (*first == '!') PUSH(trace.failing, number(&line));
+    else {
+        struct take it;
+        memset(&it, 0, sizeof it);
+        const char *second = word(&line);
+        it.failed = *second == 'x';
+        it.found = !it.failed && *second != '-';
+        if (it.found) {
+            it.link = (uint16_t)strtoul(second, NULL, 10);
+            it.datagram = octets_of(line == NULL ? "" : line);
+        }
+        PUSH(trace.takes, it);
+    }
+}
+
+static char *read_all(void) {
+    char *text = NULL;
+    size_t len = 0, room = 0, got = 1;
+    while (got > 0) {
+        if (room - len < 65536) text = (char *)grown(text, room = 2 * room + 131072);
+        got = fread(text + len, 1, room - len - 1, stdin);
+        len += got;
+    }
+    text[len] = '\0';
+    return text;
+}
+
+static void read_input(void) {
+    bool is_traced = false;
+    size_t at = 1;
+    for (char *line = read_all(), *next; *line != '\0'; line = next, at++) {
+        next = strchr(line, '\n');
+        if (next == NULL) next = line + strlen(line);
+        else *next++ = '\0';
+        if (!strncmp(line, "params ", 7)) script.params_line = at;
+        if (is_traced) read_trace(line);
+        else if (!strcmp(line, "trace")) is_traced = true;
+        else read_script(line);
+    }
+    if (!is_traced) strange("no trace");
+}
+
+/* --- the log */
+
+static dt_node *node;
+static uint64_t moment, gives;
+static size_t next_failing;
+static uint8_t room[MOST_READ];
+
+static const char *const FAULTS[] = {"", "short", "version", "length", "dead", "protocol", "kind", "flags", "window", "size"};
+
+static void begun(const char *what) { printf("%" PRIu64 " %" PRIu32 " %s", moment, script.start.me, what); }
+
+static void about(const char *what, const struct dt_report *it) {
+    begun(what);
+    printf(" %" PRIu32 ":%" PRIu16 ">%" PRIu32 ":%" PRIu16, it->flow.from, it->flow.from_port, it->flow.to, it->flow.to_port);
+}
+
+/* up to three letters where their marks are set, or a dash */
+static void letters(const char *all, bool first, bool begin, bool end) {
+    putchar(' ');
+    if (first) putchar(all[0]);
+    if (begin) putchar(all[1]);
+    if (end) putchar(all[2]);
+    if (!first && !begin && !end) putchar('-');
+}
+
+static void segment(const char *what, const struct dt_report *it) {
+    about(what, it);
+    printf(" %" PRIu32 " %" PRIu32, it->number, it->count);
+    letters("dbe", it->run, it->begin, it->end);
+}
+
+static void numbers(const char *what, const struct dt_report *it, uint32_t first, uint32_t second) {
+    about(what, it);
+    printf(" %" PRIu32 " %" PRIu32, first, second);
+}
+
+static void one(const char *what, const struct dt_report *it, uint32_t number) {
+    about(what, it);
+    printf(" %" PRIu32, number);
+}
+
+static void piece(const struct dt_report *it, size_t len) {
+    about("read", it);
+    letters("rbe", it->run, it->begin, it->end);
+    putchar(' ');
+    for (size_t i = 0; i < len; i++) putchar("0123456789abcdef"[room[i] >> 4]), putchar("0123456789abcdef"[room[i] & 15]);
+}
+
+/* a frame goes over the wire, which may not take it */
+static void give(const struct dt_report *it) {
+    static uint8_t frame[DT_MOST_FRAME];
+    struct dt_out out = dt_next_frame(node, frame, sizeof frame);
+    begun("put");
+    printf(" %" PRIu32 " %" PRIu32, it->number, it->count);
+    if (out.status != DT_DONE || out.link != it->number) strange("a packet left, and its frame isn't there");
+    if (out.len < 16 || it->count != ((uint32_t)frame[4] << 24 | (uint32_t)frame[5] << 16 | (uint32_t)frame[6] << 8 | frame[7])) strange("a frame has another life than was told");
+    gives++;
+    while (next_failing < trace.failing.len && trace.failing.at[next_failing] < gives) next_failing++;
+    if (next_failing == trace.failing.len || trace.failing.at[next_failing] != gives) return;
+    putchar('\n');
+    begun("unsent");
+    printf(" %" PRIu32, it->number);
+}
+
+static void bad(uint32_t fault, uint32_t value, size_t len) {
+    begun("bad");
+    printf(" %s", FAULTS[fault]);
+    if (fault != DT_DEAD) printf(" %" PRIu32, value);
+    if (fault == DT_LENGTH) printf(" %zu", len - 16);
+}
+
+static void line_of(const struct dt_report *it, size_t len) {
+    switch (it->kind) {
+    case DT_TOOK: one("took", it, it->count); break;
+    case DT_TOLD_QUIET: about("refused", it), printf(" quiet %" PRIu64, it->moment); break;
+    case DT_TOLD_FULL: about("refused", it), printf(" full %" PRIu32, it->count); break;
+    case DT_SENT: segment("sent", it); break;
+    case DT_RESENT: segment("resent", it); break;
+    case DT_MET: one("met", it, it->number); break;
+    case DT_UNCERTAIN: one("uncertain", it, it->count); break;
+    case DT_RELEASED: about("released", it), printf(it->sending ? " send" : " receive"); break;
+    case DT_RENEWED: about("renewed", it); break;
+    case DT_ACKED: numbers("acked", it, it->number, it->window); break;
+    case DT_REPLIED: numbers("replied", it, it->number, it->window); break;
+    case DT_ACCEPTED: numbers("accepted", it, it->number, it->count), printf(it->run ? " run" : " on"); break;
+    case DT_DROPPED: one("dropped", it, it->number); break;
+    case DT_CLOSING: one("closing", it, it->number); break;
+    case DT_SETTLED: numbers("settled", it, it->count, it->window); break;
+    case DT_IGNORED: numbers("ignored", it, it->number, it->window); break;
+    case DT_MET_QUIET: begun("quiet"), printf(" %" PRIu64, it->moment); break;
+    case DT_WAS_READ: piece(it, len); break;
+    case DT_NOT_READ: about("nothing", it); break;
+    case DT_PUT: give(it); break;
+    case DT_EXPIRED_IN: begun("expired in"), printf(" %" PRIu32, it->number); break;
+    case DT_EXPIRED_OUT: begun("expired out"), printf(" %" PRIu32, it->number); break;
+    case DT_NO_ROUTE: begun("noroute"), printf(" %" PRIu32, it->number); break;
+    case DT_LINK_FULL: begun("full"), printf(" %" PRIu32, it->number); break;
+    case DT_UNREADABLE: bad(it->number, it->count, 0); break;
+    default: strange("a report of another kind");
+    }
+    putchar('\n');
+}
+
+/* The lines of a call, which may have read so many octets. A call without memory ends the run. */
+static void told(uint8_t status, size_t len) {
+    struct dt_report it;
+    while ((it = dt_next_report(node)).status == DT_DONE) line_of(&it, len);
+    if (status == DT_NO_MEMORY) exit(NO_MEMORY);
+}
+
+/* --- the run */
+
+static void arrive(const struct take *it) {
+    static const uint8_t nothing[1];
+    const uint8_t *octets = it->datagram.len > 0 ? it->datagram.at : nothing;
+    struct dt_came came = dt_arrive(node, moment, it->link, octets, it->datagram.len, 0);
+    if (came.status == DT_BAD) bad(came.fault, came.value, it->datagram.len), putchar('\n');
+    else if (came.status != DT_DONE && came.status != DT_REFUSED && came.status != DT_NO_MEMORY) strange("another answer to a datagram");
+    told(came.status, 0);
+}
+
+static void do_command(const struct command *it) {
+    if (it->sent.at == NULL) {
+        struct dt_piece read = dt_read(node, moment, &it->flow, room, it->most);
+        if (read.status != DT_DONE && read.status != DT_NOTHING && read.status != DT_NO_MEMORY) strange("another answer to a read");
+        told(read.status, read.len);
+    } else {
+        struct dt_sent sent = dt_send(node, moment, &it->flow, it->sent.at, it->sent.len, it->begin, it->end);
+        if (sent.status != DT_DONE && sent.status != DT_FULL && sent.status != DT_QUIET && sent.status != DT_NO_MEMORY) strange("another answer to a send");
+        told(sent.status, 0);
+    }
+}
+
+/* A turn; whether the stop was due. */
+static bool turn(const struct take *came, size_t *next) {
+    if (came->found) arrive(came);
+    for (; *next < script.commands.len && script.commands.at[*next].at <= moment; ++*next) do_command(&script.commands.at[*next]);
+    if (script.stop <= moment) {
+        printf("end %" PRIu64 "\n", moment);
+        return true;
+    }
+    told(dt_tick(node, moment), 0);
+    return false;
+}
+
+static uint64_t reading(size_t at) {
+    size_t len = trace.readings.len;
+    uint64_t it = len == 0 ? 0 : trace.readings.at[at < len ? at : len - 1];
+    return it < LAST ? it : LAST;
+}
+
+static int run(void) {
+    uint64_t first = reading(0), greatest = first;
+    uint32_t equal = 1;
+    size_t next = 0;
+    struct take came;
+    memset(&came, 0, sizeof came);
+    if (trace.failing.len > 0 && trace.failing.at[0] == 0) return WIRE;
+    for (size_t at = 0;; at++) {
+        moment = greatest - first;
+        if (turn(&came, &next)) return DONE;
+        memset(&came, 0, sizeof came);
+        if (at < trace.takes.len) came = trace.takes.at[at];
+        if (came.failed) return WIRE;
+        if (equal == MOST_EQUAL) return STILL;
+        uint64_t now = reading(at + 1);
+        equal = now > greatest ? 1 : equal + 1;
+        if (now > greatest) greatest = now;
+    }
+}
+
+static int opened(void) {
+    static const char *const names[] = {"mpl", "r", "a", "rto", "probe", "seg", "cap", "rcap", "window", "run_limit", "start"};
+    static const struct dt_link no_link;
+    static const struct dt_route no_route;
+    const struct dt_link *links = script.links.len > 0 ? script.links.at : &no_link;
+    const struct dt_route *routes = script.routes.len > 0 ? script.routes.at : &no_route;
+    node = (dt_node *)grown(NULL, dt_size());
+    dt_init(node);
+    struct dt_opened it = dt_open(node, &script.params, &script.start, links, script.links.len, routes, script.routes.len);
+    if (it.status == DT_NO_MEMORY) return NO_MEMORY;
+    if (it.status == DT_REFUSED && it.field < sizeof names / sizeof *names) {
+        printf("line %zu: param %s %" PRIu32 "\n", script.params_line, names[it.field], it.value);
+        return REFUSED;
+    }
+    if (it.status != DT_DONE) strange("another answer to the opening");
+    return DONE;
+}
+
+int main(void) {
+    read_input();
+    int status = opened();
+    if (status == DONE) status = run();
+    if (node != NULL) dt_close(node);
+    return status;
+}
