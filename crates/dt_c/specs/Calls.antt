@@ -1,5 +1,5 @@
 -- The calls of the library. Each answers that the handle holds no node and changes nothing, or is the call of its endpoint.
-use Rattle.std.specs.Prelude.{◌≡◌, ◌⊎◌, ℕ, nat_le, Bool, List, [], ◌∷◌, ◌++◌, if◌then◌else◌, drop, length, Option, Some, None, IsNone, IsSome}
+use Rattle.std.specs.Prelude.{◌≡◌, ◌⊎◌, ℕ, nat_le, Bool, true, false, List, [], ◌∷◌, ◌++◌, if◌then◌else◌, drop, length, Option, Some, None, IsNone, IsSome}
 use Rattle.dt_units.specs.Limits.{IsWithinLimits, first_out_of_range, value_of}
 use Rattle.dt_units.specs.Times.{quiet_time}
 use Rattle.dt_reports.specs.Told.{Told}
@@ -10,8 +10,12 @@ use Rattle.dt_endpoint.specs.declared.answers.Ticked.{Ticked}
 use Rattle.dt_endpoint.specs.Acts.{OutFrameValue}
 use Rattle.dt_endpoint.specs.Calls.{Arrives, Reads, Sends, Ticks}
 use Rattle.dt_endpoint.specs.Endpoints.{EndpointValue, endpoint_wake}
+use Rattle.dt_endpoint.specs.Guards.{GuardValue, admission, guard_after}
+use Rattle.dt_endpoint.specs.declared.guards.Admission.{Admission}
+use Rattle.dt_endpoint.specs.declared.guards.Admission.TheVariants.{Admitted, ClosedPort, TooManyFlows}
 use Rattle.dt_c.specs.declared.rows.CameRow.{CameRow}
 use Rattle.dt_c.specs.declared.rows.FlowRow.{FlowRow}
+use Rattle.dt_c.specs.declared.rows.KeptOutRow.{KeptOutRow}
 use Rattle.dt_c.specs.declared.rows.LinkRow.{LinkRow}
 use Rattle.dt_c.specs.declared.rows.MomentRow.{MomentRow}
 use Rattle.dt_c.specs.declared.rows.Opened.{Opened}
@@ -25,27 +29,38 @@ use Rattle.dt_c.specs.declared.rows.RouteRow.{RouteRow}
 use Rattle.dt_c.specs.declared.rows.SentRow.{SentRow}
 use Rattle.dt_c.specs.declared.rows.StartRow.{StartRow}
 use Rattle.dt_c.specs.declared.slots.Slot.{Slot}
-use Rattle.dt_c.specs.Rows.{came_as, came_row, closed, done, flow_of, moment_row, no_frame, no_piece, no_report, nothing, opened_row, params_of, piece_row, report_row, room, sent_as, sent_row, started, ticked_status}
+use Rattle.dt_c.specs.Rows.{came_as, came_row, closed, done, flow_of, kept_out, kept_out_row, moment_row, no_frame, no_memory, no_piece, no_report, nothing, opened_row, params_of, piece_row, report_row, room, sent_as, sent_row, started, ticked_status}
 
 -- Between two contents of a handle: no node stays none, and a node goes on.
-abbrev pub GoesOn : Option EndpointValue → Option EndpointValue → Type 0 → (EndpointValue → EndpointValue → Type 0) → Type 0
-GoesOn None None without does = without
-GoesOn (Some e) (Some f) without does = does e f
-GoesOn None (Some f) without does = ⊥
-GoesOn (Some e) None without does = ⊥
+abbrev pub NodeGoesOn : Option EndpointValue → Option EndpointValue → Type 0 → (EndpointValue → EndpointValue → Type 0) → Type 0
+NodeGoesOn None None without does = without
+NodeGoesOn (Some e) (Some f) without does = does e f
+NodeGoesOn None (Some f) without does = ⊥
+NodeGoesOn (Some e) None without does = ⊥
+
+-- the same, and the guard stays as it is
+abbrev pub GoesOn : Slot → Slot → Type 0 → (EndpointValue → EndpointValue → Type 0) → Type 0
+GoesOn s t without does = NodeGoesOn s.endpoint t.endpoint without does × (t.guard ≡ s.guard)
 
 abbrev pub Ticking : (status now : ℕ) → Slot → Slot → Type 0
-Ticking status now s t = GoesOn s.endpoint t.endpoint (status ≡ closed) (λ e f. (answer : Ticked) × (status ≡ ticked_status answer) × Ticks answer now e f)
+Ticking status now s t = GoesOn s t (status ≡ closed) (λ e f. (answer : Ticked) × (status ≡ ticked_status answer) × Ticks answer now e f)
+
+-- A DATAGRAM that the guard admits is handed to the endpoint. One that it keeps out never came, and is counted
+abbrev pub ArrivesAt : Admission → CameRow → (now link : ℕ) → List ℕ → (waited : ℕ) → EndpointValue → EndpointValue → Type 0
+ArrivesAt Admitted row now link octets waited e f = (answer : Arrived) × (row ≡ came_row answer) × Arrives answer now link octets waited e f
+ArrivesAt ClosedPort row now link octets waited e f = (row ≡ came_as kept_out) × (f ≡ e)
+ArrivesAt TooManyFlows row now link octets waited e f = (row ≡ came_as kept_out) × (f ≡ e)
 
 abbrev pub Arriving : CameRow → (now link : ℕ) → List ℕ → (waited : ℕ) → Slot → Slot → Type 0
-Arriving row now link octets waited s t = GoesOn s.endpoint t.endpoint (row ≡ came_as closed) (λ e f. (answer : Arrived) × (row ≡ came_row answer) × Arrives answer now link octets waited e f)
+Arriving row now link octets waited s t = NodeGoesOn s.endpoint t.endpoint ((row ≡ came_as closed) × (t.guard ≡ s.guard)) (λ e f. let found = admission e.state.host s.guard octets in
+    ArrivesAt found row now link octets waited e f × (t.guard ≡ guard_after found s.guard))
 
 abbrev pub Sending : SentRow → (now : ℕ) → FlowRow → List ℕ → (begin end : Bool) → Slot → Slot → Type 0
-Sending row now flow octets begin end s t = GoesOn s.endpoint t.endpoint (row ≡ sent_as closed) (λ e f. (answer : Sent) × (row ≡ sent_row answer) × Sends answer now (flow_of flow) octets begin end e f)
+Sending row now flow octets begin end s t = GoesOn s t (row ≡ sent_as closed) (λ e f. (answer : Sent) × (row ≡ sent_row answer) × Sends answer now (flow_of flow) octets begin end e f)
 
 -- a buffer of so many octets, and what it has afterwards
 abbrev pub Reading : PieceRow → (now : ℕ) → FlowRow → (size : ℕ) → List ℕ → Slot → Slot → Type 0
-Reading row now flow size buf s t = GoesOn s.endpoint t.endpoint (row ≡ no_piece closed) (λ e f. (answer : Piece) × (row ≡ piece_row answer) × Reads answer now (flow_of flow) size buf e f)
+Reading row now flow size buf s t = GoesOn s t (row ≡ no_piece closed) (λ e f. (answer : Piece) × (row ≡ piece_row answer) × Reads answer now (flow_of flow) size buf e f)
 
 -- THE NEXT FRAME: the first of those that wait, where the buffer has room for it. Else it goes on waiting, and its size is told.
 abbrev pub frame_row : OutFrameValue → (status : ℕ) → OutRow
@@ -74,7 +89,7 @@ abbrev pub HandsOut : OutRow → (before after : List ℕ) → EndpointValue →
 HandsOut row before after e f = (row ≡ out_row e.frames before) × (after ≡ buf_after e.frames before) × (f ≡ record e { frames = frames_after e.frames before })
 
 abbrev pub NextFrame : OutRow → (before after : List ℕ) → Slot → Slot → Type 0
-NextFrame row before after s t = GoesOn s.endpoint t.endpoint ((row ≡ no_frame closed) × (after ≡ before)) (λ e f. HandsOut row before after e f)
+NextFrame row before after s t = GoesOn s t ((row ≡ no_frame closed) × (after ≡ before)) (λ e f. HandsOut row before after e f)
 
 -- THE NEXT REPORT: the first of those that wait
 abbrev pub next_row : List Told → ReportRow
@@ -85,7 +100,7 @@ abbrev pub TakesReport : ReportRow → EndpointValue → EndpointValue → Type 
 TakesReport row e f = (row ≡ next_row e.reports) × (f ≡ record e { reports = drop 1 e.reports })
 
 abbrev pub NextReport : ReportRow → Slot → Slot → Type 0
-NextReport row s t = GoesOn s.endpoint t.endpoint (row ≡ no_report closed) (λ e f. TakesReport row e f)
+NextReport row s t = GoesOn s t (row ≡ no_report closed) (λ e f. TakesReport row e f)
 
 -- THE WAKE. A handle with no node has none.
 abbrev pub slot_wake : Option EndpointValue → Option ℕ
@@ -97,7 +112,7 @@ Waking row s t = (row ≡ moment_row (slot_wake s.endpoint)) × (t ≡ s)
 
 -- AN OPENING
 abbrev pub Opens : Opened → ParamsRow → StartRow → List LinkRow → List RouteRow → Slot → Slot → Type 0
-Opens opens.Done p start links routes s t = IsNone s.endpoint × IsWithinLimits (params_of p) × (t.endpoint ≡ Some (started (params_of p) start links routes))
+Opens opens.Done p start links routes s t = IsNone s.endpoint × IsWithinLimits (params_of p) × (t ≡ record s { endpoint = Some (started (params_of p) start links routes) })
 Opens opens.NoMemory p start links routes s t = IsNone s.endpoint × IsWithinLimits (params_of p) × (t ≡ s)
 Opens opens.Held p start links routes s t = IsSome s.endpoint × (t ≡ s)
 Opens (opens.Refused fault) p start links routes s t = IsNone s.endpoint × (first_out_of_range (params_of p) ≡ Some fault.field) × (fault.value ≡ value_of (params_of p) fault.field) × (t ≡ s)
@@ -108,3 +123,18 @@ Opening row p start links routes s t = (answer : Opened) × (row ≡ opened_row 
 -- THE QUIET TIME, of parameters within their limits
 abbrev pub QuietIs : ℕ → ParamsRow → Type 0
 QuietIs quiet p = ((quiet ≡ quiet_time (params_of p)) × IsWithinLimits (params_of p)) ⊎ ((quiet ≡ 0) × IsSome (first_out_of_range (params_of p)))
+
+-- THE GUARD IS SET: these ports are open, or all of them, and so many flows may have a receiver
+abbrev pub chosen : Bool → List ℕ → Option (List ℕ)
+chosen true ports = None
+chosen false ports = Some ports
+
+abbrev pub IsSet : (status : ℕ) → Option (List ℕ) → (most : ℕ) → GuardValue → GuardValue → Type 0
+IsSet status ports most g h = ((status ≡ done) × (h ≡ record g { ports = ports; most = most })) ⊎ ((status ≡ no_memory) × (h ≡ g))
+
+abbrev pub Guarding : (status : ℕ) → List ℕ → (all : Bool) → (most : ℕ) → Slot → Slot → Type 0
+Guarding status ports all most s t = NodeGoesOn s.endpoint t.endpoint ((status ≡ closed) × (t.guard ≡ s.guard)) (λ e f. (f ≡ e) × IsSet status (chosen all ports) most s.guard t.guard)
+
+-- WHAT IT KEPT OUT
+abbrev pub KeptOut : KeptOutRow → Slot → Slot → Type 0
+KeptOut row s t = (row ≡ kept_out_row s.guard) × (t ≡ s)

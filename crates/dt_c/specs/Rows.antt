@@ -22,8 +22,10 @@ use Rattle.dt_endpoint.specs.declared.answers.Sent.TheVariants as sent
 use Rattle.dt_endpoint.specs.declared.answers.Piece.{Piece}
 use Rattle.dt_endpoint.specs.declared.answers.Piece.TheVariants as piece
 use Rattle.dt_endpoint.specs.Endpoints.{EndpointValue, opened}
+use Rattle.dt_endpoint.specs.Guards.{GuardValue}
 use Rattle.dt_c.specs.declared.rows.CameRow.{CameRow}
 use Rattle.dt_c.specs.declared.rows.FlowRow.{FlowRow}
+use Rattle.dt_c.specs.declared.rows.KeptOutRow.{KeptOutRow}
 use Rattle.dt_c.specs.declared.rows.LinkRow.{LinkRow}
 use Rattle.dt_c.specs.declared.rows.MomentRow.{MomentRow}
 use Rattle.dt_c.specs.declared.rows.Opened.{Opened}
@@ -73,6 +75,9 @@ bad = 11
 
 abbrev pub stale : ℕ
 stale = 12
+
+abbrev pub kept_out : ℕ
+kept_out = 13
 
 -- ARGUMENTS
 abbrev pub params_of : ParamsRow → Params
@@ -253,3 +258,7 @@ report_row (reports.NoRoute to) = elsewhere 23 to 0
 report_row (reports.Full link) = elsewhere 24 link 0
 report_row (reports.Bad fault) = elsewhere 25 (fault_row fault).fault (fault_row fault).value
 report_row other = about_none 0
+
+-- WHAT A GUARD KEPT OUT
+abbrev pub kept_out_row : GuardValue → KeptOutRow
+kept_out_row g = record { closed = g.closed; crowded = g.crowded }

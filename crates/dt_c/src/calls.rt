@@ -1,17 +1,17 @@
 //! The calls, on what a handle holds.
 ghost use Rattle.std.specs.Prelude.{◌≡◌, ◌↔◌, IfOk, IsSome, length, map};
-ghost use Rattle.dt_c.specs.Calls.{Arriving, HandsOut, NextFrame, NextReport, Opening, Opens, QuietIs, Reading, Sending, TakesReport, Ticking, Waking};
+ghost use Rattle.dt_c.specs.Calls.{Arriving, Guarding, HandsOut, KeptOut, NextFrame, NextReport, Opening, Opens, QuietIs, Reading, Sending, TakesReport, Ticking, Waking};
 ghost use Rattle.dt_c.specs.Handle.{empty};
 ghost use Rattle.dt_c.specs.Rows.{in_link, out_link, route, started};
 
 use crate::rows::{
-    CLOSED, CameRow, DONE, FlowRow, LinkRow, MomentRow, NOTHING, Opened, OpenedRow, OutRow,
-    ParamsRow, PieceRow, ROOM, ReportRow, RouteRow, SentRow, StartRow, came_as, came_row,
-    moment_row, no_frame, no_piece, no_report, opened_row, piece_row, report_row, sent_as,
-    sent_row, ticked_status,
+    CLOSED, CameRow, DONE, FlowRow, KEPT_OUT, KeptOutRow, LinkRow, MomentRow, NO_MEMORY, NOTHING,
+    Opened, OpenedRow, OutRow, ParamsRow, PieceRow, ROOM, ReportRow, RouteRow, SentRow, StartRow,
+    came_as, came_row, kept_out_row, moment_row, no_frame, no_piece, no_report, opened_row,
+    piece_row, report_row, sent_as, sent_row, ticked_status,
 };
 use crate::slots::Slot;
-use dt_endpoint::{Endpoint, InLink, Links, OutLink, Route};
+use dt_endpoint::{Admission, Endpoint, Guard, InLink, Links, OutLink, Route};
 use dt_items::NoMemory;
 use dt_units::{NodeId, Rules};
 use std::alloc::Global;
@@ -19,13 +19,16 @@ use std::alloc::Global;
 pub fn empty_slot() -> Slot
     ensures { result ≡ empty }
 {
-    Slot { endpoint: None }
+    Slot {
+        endpoint: None,
+        guard: Guard::new(),
+    }
 }
 
 pub fn close_in(slot: &mut Slot)
     ensures { slot.new ≡ empty }
 {
-    slot.endpoint = None;
+    *slot = empty_slot();
 }
 
 pub fn tick_in(slot: &mut Slot, now: u64) -> u8
@@ -40,10 +43,32 @@ pub fn tick_in(slot: &mut Slot, now: u64) -> u8
 pub fn arrive_in(slot: &mut Slot, now: u64, link: u16, datagram: &[u8], waited: u32) -> CameRow
     ensures { Arriving result now link datagram.now waited slot.old slot.new }
 {
-    match &mut slot.endpoint {
-        Some(endpoint) => came_row(endpoint.arrive(now, link, datagram, waited)),
-        None => came_as(CLOSED),
+    let Some(endpoint) = &mut slot.endpoint else {
+        return came_as(CLOSED);
+    };
+    match slot.guard.admits(endpoint, datagram) {
+        Admission::Admitted => came_row(endpoint.arrive(now, link, datagram, waited)),
+        Admission::ClosedPort | Admission::TooManyFlows => came_as(KEPT_OUT),
     }
+}
+
+pub fn guard_in(slot: &mut Slot, alloc: Global, ports: &[u16], all: bool, most: u32) -> u8
+    ensures { Guarding result ports.now all most slot.old slot.new }
+{
+    if slot.endpoint.is_none() {
+        return CLOSED;
+    }
+    let ports = if all { None } else { Some(ports) };
+    match slot.guard.limit(alloc, ports, most) {
+        Ok(()) => DONE,
+        Err(NoMemory) => NO_MEMORY,
+    }
+}
+
+pub fn kept_out_in(slot: &mut Slot) -> KeptOutRow
+    ensures { KeptOut result slot.old slot.new }
+{
+    kept_out_row(&slot.guard)
 }
 
 pub fn send_in(

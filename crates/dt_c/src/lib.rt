@@ -9,18 +9,18 @@ mod slots;
 ghost use Rattle.std.specs.Prelude.{◌≡◌, length};
 ghost use Rattle.std.specs.Borrow.{sem};
 ghost use Rattle.std.specs.Ptr.{points_to, uninit_at};
-ghost use Rattle.dt_c.specs.Calls.{Arriving, NextFrame, NextReport, Opening, QuietIs, Reading, Sending, Ticking, Waking};
+ghost use Rattle.dt_c.specs.Calls.{Arriving, Guarding, KeptOut, NextFrame, NextReport, Opening, QuietIs, Reading, Sending, Ticking, Waking};
 ghost use Rattle.dt_c.specs.Handle.{empty};
 ghost use Rattle.dt_c.specs.contracts.slots.Slot.{the_row};
 ghost use Rattle.dt_c.specs.declared.slots.Slot.{Slot};
 
 use calls::{
-    arrive_in, close_in, empty_slot, next_frame_in, next_report_in, open_in, quiet_of, read_in,
-    send_in, tick_in, wake_in,
+    arrive_in, close_in, empty_slot, guard_in, kept_out_in, next_frame_in, next_report_in, open_in,
+    quiet_of, read_in, send_in, tick_in, wake_in,
 };
 pub use rows::{
-    CameRow, FlowRow, LinkRow, MomentRow, OpenedRow, OutRow, ParamsRow, PieceRow, ReportRow,
-    RouteRow, SentRow, StartRow,
+    CameRow, FlowRow, KeptOutRow, LinkRow, MomentRow, OpenedRow, OutRow, ParamsRow, PieceRow,
+    ReportRow, RouteRow, SentRow, StartRow,
 };
 pub use slots::{Handle, Slot};
 use std::alloc::Global;
@@ -94,6 +94,38 @@ pub unsafe extern "C" fn dt_arrive(
         datagram,
         waited,
     )
+}
+
+/// From now on the node receives at these ports, or at all, and of so many flows at most.
+#[unsafe(no_mangle)]
+pub unsafe extern "C" fn dt_guard(
+    node: *mut Handle,
+    alloc: Global,
+    ports: &[u16],
+    all: bool,
+    flows: u32,
+) -> u8
+    ghost g: { Slot }
+    requires* { sem 𝓛 (points_to the_row node g) }
+    ensures* { ∃ₛ (λ h. sem 𝓛 (points_to the_row node h) ∗ ⌜ Guarding result ports.now all flows g h ⌝) }
+{
+    guard_in(
+        unsafe { &mut *(node as *mut Slot) },
+        alloc,
+        ports,
+        all,
+        flows,
+    )
+}
+
+/// How many datagrams the guard kept out.
+#[unsafe(no_mangle)]
+pub unsafe extern "C" fn dt_kept_out(node: *mut Handle) -> KeptOutRow
+    ghost g: { Slot }
+    requires* { sem 𝓛 (points_to the_row node g) }
+    ensures* { ∃ₛ (λ h. sem 𝓛 (points_to the_row node h) ∗ ⌜ KeptOut result g h ⌝) }
+{
+    kept_out_in(unsafe { &mut *(node as *mut Slot) })
 }
 
 /// Octets are sent on a flow from this node.

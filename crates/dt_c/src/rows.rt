@@ -1,9 +1,9 @@
 //! Arguments and answers as they lie in C.
 ghost use Rattle.std.specs.Prelude.{◌≡◌};
 ghost use Rattle.dt_reports.specs.Told.{told};
-ghost use Rattle.dt_c.specs.Rows.{about, about_none, came_as, came_row, capped, elsewhere, faulty, fault_row, field_number, flow_of, flow_row, marked, moment_row, no_frame, no_piece, no_report, numbered, opened_row, params_of, piece_row, released, report_row, sent_as, sent_row, ticked_status, until_moment};
+ghost use Rattle.dt_c.specs.Rows.{about, about_none, came_as, came_row, capped, elsewhere, faulty, fault_row, field_number, flow_of, flow_row, kept_out_row, marked, moment_row, no_frame, no_piece, no_report, numbered, opened_row, params_of, piece_row, released, report_row, sent_as, sent_row, ticked_status, until_moment};
 
-use dt_endpoint::{Arrived, Piece, Sent, Ticked};
+use dt_endpoint::{Arrived, Guard, Piece, Sent, Ticked};
 use dt_layout::LayoutFault;
 use dt_reports::{Refusal, Report};
 use dt_units::{Field, Flow, NodeId, ParamFault, Params};
@@ -32,6 +32,8 @@ pub const SPENT: u8 = 9;
 pub const BAD: u8 = 11;
 /// The datagram has no life left, and nothing changed.
 pub const STALE: u8 = 12;
+/// The guard doesn't admit the datagram, which is lost and counted, and nothing else changed.
+pub const KEPT_OUT: u8 = 13;
 
 /// The parameters of the protocol, as [`Params`] has them.
 #[repr(C)]
@@ -109,6 +111,14 @@ pub struct CameRow {
     pub value: u32,
     pub status: u8,
     pub fault: u8,
+}
+
+/// How many datagrams a guard kept out: for ports that aren't open, and of flows too many.
+#[repr(C)]
+#[derive(Clone, Copy)]
+pub struct KeptOutRow {
+    pub closed: u64,
+    pub crowded: u64,
 }
 
 /// The answer to a send.
@@ -277,6 +287,15 @@ pub fn came_row(answer: Arrived) -> CameRow
         Arrived::NoLink => came_as(REFUSED),
         Arrived::Bad { fault } => fault_row(fault),
         Arrived::Stale => came_as(STALE),
+    }
+}
+
+pub fn kept_out_row(guard: &Guard) -> KeptOutRow
+    ensures { result ≡ kept_out_row guard.now }
+{
+    KeptOutRow {
+        closed: guard.closed(),
+        crowded: guard.crowded(),
     }
 }
 

@@ -1,9 +1,11 @@
-use dt_endpoint::Endpoint;
+use dt_endpoint::{Endpoint, Guard};
 
 /// What a handle holds: a node, or none.
 #[derive(Drop)]
 pub struct Slot {
     pub endpoint: Option<Endpoint>,
+    /// What stands before the node.
+    pub guard: Guard,
 }
 
 /// The memory of a handle, as C sees it.

@@ -1,6 +1,7 @@
 ghost use Rattle.std.specs.Prelude.{ℕ, [], ◌≡◌, ◌+◌, ◌<◌, ◌≤◌, ◌++◌, false, IfOk, OnOk, OnErr, drop, length, option_map, option_to_list, take};
 ghost use Rattle.dt_reports.specs.Told.{told};
 ghost use Rattle.dt_flow_model.specs.Keeping.{octets_below};
+ghost use Rattle.dt_world_model.specs.Tables.{has_key, same_flow};
 ghost use Rattle.dt_station.specs.Events.{MayHappenHere, local_seen};
 ghost use Rattle.dt_endpoint.specs.declared.noting.Heard.TheVariants.{Nothing};
 ghost use Rattle.dt_layout.specs.Carried.{IsGram, life_of};
@@ -294,6 +295,21 @@ impl Endpoint {
         ensures { result ≡ waiting_octets flow.now self.now.state.host }
     {
         self.station.host().waiting(flow)
+    }
+
+    /// Whether a flow has a receiver: one that was released stands as long as it has octets that weren't
+    /// read.
+    pub fn has_receiver(&self, flow: &Flow) -> bool
+        ensures { result ≡ has_key same_flow flow.now self.now.state.host.receivers }
+    {
+        self.station.host().has_receiver(flow)
+    }
+
+    /// How many flows have a receiver, as the last event left them: a tick releases those that are due.
+    pub fn receivers(&self) -> usize
+        ensures { result ≡ length self.now.state.host.receivers }
+    {
+        self.station.host().receivers()
     }
 
     /// Whether an event found no memory.

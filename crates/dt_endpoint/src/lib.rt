@@ -7,6 +7,7 @@ mod collecting;
 mod endpoints;
 mod events;
 mod frames;
+mod guards;
 mod laws;
 mod links;
 mod noting;
@@ -15,6 +16,7 @@ pub use answers::{Arrived, Piece, Sent, Ticked};
 pub use dt_station::{InLink, OutLink, Route};
 pub use endpoints::Endpoint;
 pub use frames::OutFrame;
+pub use guards::{Admission, Guard};
 pub use laws::{datagram_that_waited_keeps_the_facts, endpoint_follows_the_world};
 pub use links::Links;
 

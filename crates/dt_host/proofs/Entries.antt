@@ -1,6 +1,6 @@
 -- The entries of a table under the calls of its map are the model's table under the model's calls. A map tests a key that is asked against an entry's, the model an entry's against the one that is asked.
-use Rattle.std.proofs.Common.{◌≡◌, Bool, true, false, List, [], ◌∷◌, Some, refl, sym, ap, subst, ◌∙◌, inl, inr}
-use Rattle.std.specs.Prelude.{option_map}
+use Rattle.std.proofs.Common.{◌≡◌, suc, Bool, true, false, List, [], ◌∷◌, Option, Some, None, refl, sym, ap, subst, ◌∙◌, inl, inr}
+use Rattle.std.specs.Prelude.{is_some, length, option_map}
 use Rattle.std.specs.Map.{keys_of, lookup, set_value, remove_entry}
 use Rattle.std.specs.List.{AllByRecursion, IsDistinct}
 use Rattle.std.proofs.lemmas.Bool.{cases_Bool}
@@ -104,3 +104,12 @@ module _ (test same : Flow → Flow → Bool) (agrees : (f g : Flow) → test f 
           | inl y ↦ rw y (all.1)
           | inr n ↦ rw n (all.0, all_removed f es all.1)
         ]
+
+-- whether there is a value is what the map says, and how many there are
+pub some_mapped : {A B : Type 0} (seen : A → B) (o : Option A) → is_some (option_map seen o) ≡ is_some o
+some_mapped seen None = refl
+some_mapped seen (Some a) = refl
+
+pub as_many : {A B : Type 0} (seen : A → B) (es : List (Flow × A)) → length (records_by seen es) ≡ length es
+as_many seen [] = refl
+as_many seen (e ∷ es) = ap suc (as_many seen es)

@@ -9,6 +9,7 @@ ghost use Rattle.dt_flow_model.specs.Numbering.{number_of};
 ghost use Rattle.dt_flow_model.specs.ReceiveRecord.{expected_of};
 ghost use Rattle.dt_flow_model.specs.SendRecord.{next_of};
 ghost use Rattle.dt_world_model.specs.Host.{IsCurrentHost, arrive, first_host, host_wake, next_turn, read_octets, receiver_at, restarted_host, send_octets, sender_at, work};
+ghost use Rattle.dt_world_model.specs.Tables.{has_key, same_flow};
 ghost use Rattle.dt_host.specs.Answers.{IsAnswerTo, IsMade, frame_made, host_after, or_stays, replied, told_done};
 ghost use Rattle.dt_host.specs.Dues.{IsNext};
 ghost use Rattle.dt_host.specs.Soonest.{missed_senders};
@@ -483,6 +484,21 @@ impl Host {
         ensures { result ≡ expected_of (receiver_at self.now.state flow.now).standing }
     {
         self.receivers.get(flow)?.expected()
+    }
+
+    /// Whether the flow has a receiver: one whose receive record was released stands as long as it has
+    /// octets that weren't read.
+    pub fn has_receiver(&self, flow: &Flow) -> bool
+        ensures { result ≡ has_key same_flow flow.now self.now.state.receivers }
+    {
+        self.receivers.contains_key(flow)
+    }
+
+    /// How many flows have a receiver.
+    pub fn receivers(&self) -> usize
+        ensures { result ≡ length self.now.state.receivers }
+    {
+        self.receivers.len()
     }
 }
 

@@ -1,0 +1,10 @@
+use Rattle.std.proofs.Common.{◌≡◌, subst, sym, ◌∙◌}
+use Rattle.std.specs.Prelude.{length}
+use Rattle.dt_host.specs.Hosts.{HostValue, receiver_in}
+use Rattle.dt_host.proofs.Entries.{as_many}
+use Rattle.dt_host.proofs.hosts.Host.receivers.Goals as goal
+
+pub returns : goal.returns
+returns c =
+    let h = c.self.inside in
+    subst (λ (v : HostValue). c.len.result ≡ length v.state.receivers) c.self.view_is (c.len.ensures.len ∙ sym (as_many receiver_in h.receivers.entries))
