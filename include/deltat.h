@@ -57,7 +57,8 @@ enum dt_status {
     DT_QUIET = 8,     /* the node is silent, and took none; what else was due is done */
     DT_SPENT = 9,     /* an earlier call found no memory; nothing changed */
     DT_BAD = 11,      /* the datagram doesn't read; nothing changed */
-    DT_STALE = 12     /* the datagram waited for all of its life, or longer; nothing changed */
+    DT_STALE = 12,    /* the datagram waited for all of its life, or longer; nothing changed */
+    DT_KEPT_OUT = 13  /* the guard doesn't admit the datagram, which is lost and counted; nothing else changed */
 };
 
 enum dt_fault { /* the first test of a datagram that fails, and what `value` tells */
@@ -102,6 +103,7 @@ struct dt_sent { uint64_t until; uint32_t free; uint8_t status; };
 struct dt_piece { size_t len; uint8_t status; bool begin, end, run; };
 struct dt_out { size_t len; uint32_t to; uint16_t link; uint8_t status; };
 struct dt_moment { uint64_t at; bool some; };
+struct dt_kept_out { uint64_t closed, crowded; };
 
 enum dt_kind { /* what a report tells, and its fields; the others are 0. Those with no flow are told so */
     DT_TOOK = 1,         /* a send was taken: `count` octets */
@@ -165,8 +167,8 @@ uint64_t dt_quiet(const struct dt_params *p);
 uint8_t dt_tick(dt_node *n, uint64_t now);
 
 /* A datagram came on a link and waited so many ms here, which are taken off its life. DONE NO_MEMORY CLOSED SPENT;
- * REFUSED: no packets come on this link; BAD: its header doesn't read (`fault`, `value`); STALE. A header that reads
- * with a packet that doesn't is DONE, and is dropped. */
+ * KEPT_OUT: the guard doesn't admit it; REFUSED: no packets come on this link; BAD: its header doesn't read (`fault`,
+ * `value`); STALE. A header that reads with a packet that doesn't is DONE, and is dropped. */
 struct dt_came dt_arrive(dt_node *n, uint64_t now, uint16_t link, const uint8_t *datagram, size_t len, uint32_t waited);
 
 /* Octets are sent, all of them or none; the first begins a message where `begin` says so, and the last ends one where
@@ -179,6 +181,16 @@ struct dt_sent dt_send(dt_node *n, uint64_t now, const struct dt_flow *f, const 
  * SPENT; NOTHING: none is unread, and what was due is done; REFUSED: the flow doesn't go from another node to this
  * one; ROOM: `room` is 0. */
 struct dt_piece dt_read(dt_node *n, uint64_t now, const struct dt_flow *f, uint8_t *buf, size_t room);
+
+/* THE GUARD: what strangers may open. From now on the node receives at these ports, or at all ports where `all` is set,
+ * and makes no receiver for a flow while `flows` of them have one; those that have one keep it. What comes for another
+ * port, or of one flow too many, is lost before the node sees it. Acknowledgements always come. A node opens with all
+ * ports and 2^32 - 1 flows. DONE CLOSED; NO_MEMORY: nothing changed. */
+uint8_t dt_guard(dt_node *n, const uint16_t *ports, size_t port_count, bool all, uint32_t flows);
+
+/* How many datagrams the guard kept out since dt_open, 2^64 - 1 at most: for ports that aren't open, and of flows too
+ * many. Nothing changes. */
+struct dt_kept_out dt_kept_out(dt_node *n);
 
 /* WHAT IS TO BE TAKEN, AND WHEN TO CALL AGAIN */
 

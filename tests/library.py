@@ -135,6 +135,7 @@ def try_strangers(tally: Tally, driver: str, count: int, library: pathlib.Path, 
     few = ["datagrams", str(FEW_DATAGRAMS)]
     tally.run("random datagrams", [bare, "datagrams", str(count)], SECONDS + count // 10_000, tells=True)
     tally.run("flows of one peer", [bare, "flows", str(FLOWS), "4096"], tells=True)
+    tally.run("a million flows at a guard", [bare, "guard", "1000000", "1000"], tells=True)
     if shutil.which("valgrind") is not None:
         tally.run("random datagrams, valgrind", ["valgrind", "--quiet", "--error-exitcode=9", "--leak-check=full", bare, *few])
     flags = ["-fsanitize=address,undefined", "-fno-sanitize-recover=all"]

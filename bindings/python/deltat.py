@@ -45,7 +45,7 @@ from pathlib import Path
 from typing import NamedTuple
 
 __all__ = [
-    "AsyncUdp", "BadParameter", "DeltatError", "Flow", "Full", "Kind", "Link", "Message", "NoMemory", "Node", "OutFrame", "Params",
+    "AsyncUdp", "BadParameter", "DeltatError", "Flow", "Full", "KeptOut", "Kind", "Link", "Message", "NoMemory", "Node", "OutFrame", "Params",
     "Piece", "Quiet", "Report", "Spent", "Status", "Udp", "now",
 ]
 
@@ -71,6 +71,7 @@ class Status(enum.IntEnum):
     SPENT = 9
     BAD = 11
     STALE = 12
+    KEPT_OUT = 13
 
 
 class Kind(enum.IntEnum):
@@ -186,6 +187,10 @@ class _Piece(ctypes.Structure):
     ]
 
 
+class _KeptOut(ctypes.Structure):
+    _fields_ = [("closed", ctypes.c_uint64), ("crowded", ctypes.c_uint64)]
+
+
 class _Moment(ctypes.Structure):
     _fields_ = [("at", ctypes.c_uint64), ("some", ctypes.c_bool)]
 
@@ -219,6 +224,8 @@ def _calls() -> dict[str, tuple[object, list[object]]]:
         "dt_next_frame": (_Out, [p, octets, size]),
         "dt_next_report": (_Report, [p]),
         "dt_wake": (_Moment, [p]),
+        "dt_guard": (u8, [p, ctypes.POINTER(u16), size, ctypes.c_bool, u32]),
+        "dt_kept_out": (_KeptOut, [p]),
     }
 
 
@@ -328,6 +335,13 @@ class Message(NamedTuple):
     gap: bool
 
 
+class KeptOut(NamedTuple):
+    """How many datagrams a guard kept out: for ports that aren't open, and of flows too many."""
+
+    closed: int
+    crowded: int
+
+
 class Report(NamedTuple):
     """What a node tells of an act: its kind, and what this kind has, else 0 and False. UNCERTAIN tells that `count`
     octets of the flow were given up, and SETTLED that so many came."""
@@ -416,7 +430,8 @@ class Node:
 
     def arrive(self, link: int, datagram: bytes, waited: int = 0, at: int | None = None) -> Status:
         """Hands in a datagram that came on a link and waited so many ms on this machine, rounded up. DONE, or why it was
-        dropped: BAD (it doesn't read), STALE (it has no life left), REFUSED (there is no such link)."""
+        dropped: BAD (it doesn't read), STALE (it has no life left), REFUSED (there is no such link), KEPT_OUT (by the
+        guard)."""
         octets = bytes(datagram)
         came = _library.dt_arrive(
             self._handle, now() if at is None else at, _in_range(link, 16, "a link"), octets, len(octets), min(waited, 0xFFFFFFFF)
@@ -424,6 +439,18 @@ class Node:
         self._raise(came.status)
         self._listen()
         return Status(came.status)
+
+    def guard(self, ports: Sequence[int] | None = None, flows: int = 0xFFFFFFFF) -> None:
+        """From now on the node receives at these ports alone (at all where none are told), and makes no receiver for a
+        flow while so many have one. What strangers send else is dropped before the node sees it, and counted."""
+        chosen = [_in_range(port, 16, "a port") for port in ports or ()]
+        octets = (ctypes.c_uint16 * max(len(chosen), 1))(*chosen)
+        self._raise(_library.dt_guard(self._handle, octets, len(chosen), ports is None, _in_range(flows, 32, "a number of flows")))
+
+    def kept_out(self) -> KeptOut:
+        """How many datagrams the guard kept out since the node was opened."""
+        it = _library.dt_kept_out(self._handle)
+        return KeptOut(it.closed, it.crowded)
 
     def send(self, flow: Flow, octets: bytes, begin: bool = True, end: bool = True, at: int | None = None) -> None:
         """Sends a message of 1 to 65,536 octets, or a part of one. Full, Quiet or BadParameter, and then nothing of it

@@ -2,6 +2,9 @@
  *
  *     strangers datagrams N        N datagrams by chance: no call stops, and of 100,000 or more the memory that is resident
  *                                  at the end is what it was after a tenth of them
+ *     strangers guard N FLOWS      the same at a node whose guard lets FLOWS of them in: no more are made, the others are
+ *                                  counted, the memory is what it was after the first FLOWS, and a port that isn't open
+ *                                  lets none in
  *     strangers flows N ROOM       each datagram opens another flow, from one peer, at a node that holds ROOM octets of each:
  *                                  prints what that takes, and how long the tick that releases them
  *
@@ -162,10 +165,37 @@ static void flows(uint64_t count, uint32_t room) {
     printf("released by one tick of %.2f s: %" PRIu64 " KiB when the node is closed\n", seconds() - begun, (resident() - before) / 1024);
 }
 
+static void guarded(uint64_t count, uint32_t most) {
+    const uint16_t port = 1;
+    uint64_t early = 0;
+    opens(4096);
+    if (dt_guard(node, &port, 1, false, most) != DT_DONE) stop("the guard", 0);
+    for (uint8_t status; taken < count; taken++) {
+        /* the last port of all flows is 1, which is open */
+        size_t len = packet((uint16_t)taken, 1, 1, 7, 0, 1);
+        put(datagram + 8, PEER + 10 * (uint32_t)(taken >> 16), 4);
+        status = dt_arrive(node, now, LINK, datagram, len, 0).status;
+        if (status != (taken < most ? DT_DONE : DT_KEPT_OUT)) stop("a flow", status);
+        take_all();
+        if (taken == most) early = resident();
+    }
+    struct dt_kept_out kept = dt_kept_out(node);
+    if (kept.closed != 0 || kept.crowded != count - most || accepted != most) stop("the count", 0);
+    if (resident() > early + GROWTH) stop("the memory grew", 0);
+    /* a flow that has a receiver goes on; another port is closed; and both again where all are open */
+    if (dt_arrive(node, now, LINK, datagram, packet(0, 1, 1, 7, 0, 1), 0).status != DT_DONE) stop("a flow that stands", 0);
+    if (dt_arrive(node, now, LINK, datagram, packet(0, 2, 1, 7, 0, 1), 0).status != DT_KEPT_OUT) stop("a closed port", 0);
+    if (dt_kept_out(node).closed != 1) stop("the count of closed ports", 0);
+    if (dt_guard(node, &port, 0, true, UINT32_MAX) != DT_DONE) stop("no guard", 0);
+    if (dt_arrive(node, now, LINK, datagram, packet(0, 2, 1, 7, 0, 1), 0).status != DT_DONE) stop("all ports", 0);
+    printf("%" PRIu64 " flows, of which %" PRIu32 " came in\n", count, most);
+}
+
 int main(int argc, char **words) {
     if (argc >= 3 && !strcmp(words[1], "datagrams")) datagrams(strtoull(words[2], NULL, 10));
     else if (argc >= 4 && !strcmp(words[1], "flows")) flows(strtoull(words[2], NULL, 10), (uint32_t)strtoul(words[3], NULL, 10));
-    else return fprintf(stderr, "strangers datagrams N | strangers flows N ROOM\n"), 1;
+    else if (argc >= 4 && !strcmp(words[1], "guard")) guarded(strtoull(words[2], NULL, 10), (uint32_t)strtoul(words[3], NULL, 10));
+    else return fprintf(stderr, "strangers datagrams N | strangers flows N ROOM | strangers guard N FLOWS\n"), 1;
     dt_close(node);
     free(node);
     return 0;

@@ -245,6 +245,21 @@ impl Node {
         }
     }
 
+    /// From now on the node receives at these ports, or at all where there is no list, and makes no receiver for a flow
+    /// while so many have one. What strangers send else is dropped before the node sees it, and counted.
+    pub fn guard(&mut self, ports: Option<&[u16]>, flows: u32) -> Result<(), Error> {
+        let list = ports.unwrap_or(&[]);
+        // SAFETY: as in `arrive`.
+        done(unsafe { sys::dt_guard(self.handle.as_ptr(), list.as_ptr(), list.len(), ports.is_none(), flows) })
+    }
+
+    /// How many datagrams the guard kept out: for ports that aren't open, and of flows too many.
+    pub fn kept_out(&mut self) -> (u64, u64) {
+        // SAFETY: as in `tick`.
+        let it = unsafe { sys::dt_kept_out(self.handle.as_ptr()) };
+        (it.closed, it.crowded)
+    }
+
     /// The moment at which `tick` has something to do, or none.
     pub fn wake(&mut self) -> Option<u64> {
         // SAFETY: as in `tick`.

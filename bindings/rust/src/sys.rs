@@ -66,6 +66,13 @@ pub struct Moment {
 
 #[repr(C)]
 #[derive(Clone, Copy)]
+pub struct KeptOut {
+    pub closed: u64,
+    pub crowded: u64,
+}
+
+#[repr(C)]
+#[derive(Clone, Copy)]
 pub struct Report {
     pub flow: crate::Flow,
     pub moment: u64,
@@ -103,4 +110,6 @@ extern "C" {
     pub fn dt_next_frame(node: *mut Handle, buf: *mut u8, room: usize) -> Out;
     pub fn dt_next_report(node: *mut Handle) -> Report;
     pub fn dt_wake(node: *mut Handle) -> Moment;
+    pub fn dt_guard(node: *mut Handle, ports: *const u16, port_count: usize, all: bool, flows: u32) -> u8;
+    pub fn dt_kept_out(node: *mut Handle) -> KeptOut;
 }
