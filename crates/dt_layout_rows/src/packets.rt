@@ -44,6 +44,14 @@ fn head_of(bytes: &[u8]) -> Option<(u8, u8, u32, u32, u32)> {
     }
 }
 
+/// The version that octets are read in, and the length of the body.
+fn body_of(bytes: &[u8]) -> Option<(u8, usize)> {
+    match read_whole(bytes) {
+        Ok((d, _)) => Some((d.version, d.body.len())),
+        Err(_) => None,
+    }
+}
+
 #[test]
 fn data_is_written_and_read(rt: HostRuntime) {
     let mut frame = Frame::new();
@@ -109,7 +117,9 @@ fn the_longest_packet_is_written_and_read(rt: HostRuntime) {
         end: false,
         octets: &data,
     };
-    assert!(rt; is_spelled(&mut Frame::new(), 1, 2, &packet, &FIRST, &data));
+    let mut frame = Frame::new();
+    assert!(rt; is_spelled(&mut frame, 1, 2, &packet, &FIRST, &data));
+    assert!(rt; body_of(frame.as_slice()) == Some((2, 8_206)));
 }
 
 #[test]

@@ -1,7 +1,7 @@
 //! The top call over the forms in memory: worked inputs of each command, each a row of a table, and each
 //! way in which reading and writing can fail.
-use dt_top::run;
 use dt_edges::{MemClock, MemSink, MemSource, MemWire};
+use dt_top::run;
 use std::alloc::Global;
 use std::test::Fail;
 

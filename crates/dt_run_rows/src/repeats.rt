@@ -1,7 +1,7 @@
 //! Runs that are run again.
-use dt_retrace::retrace;
 use dt_edges::MemSink;
 use dt_node::NodeOutcome;
+use dt_retrace::retrace;
 use std::alloc::Global;
 use std::test::Fail;
 

@@ -20,9 +20,8 @@ mod serving;
 use crate::ending::Ending;
 use crate::serving::serve_words;
 use dt_edges::{Clock, Sink, Source, Wire, put_all};
-use std::alloc::Global;
-
 pub use dt_make::make;
+use std::alloc::Global;
 
 /// The exit status of an ending, whose text is told.
 fn status_told<E: Sink>(ending: Ending, err: &mut E) -> u8
