@@ -86,6 +86,11 @@ def refusals() -> bool:
     frame = next(late.frames())
     right.append(frame.to == 2 and b"in time" in frame.octets)
     right.append(node_of(2, 1, False, 0).arrive(1, frame.octets, waited=1000, at=5) is deltat.Status.STALE)
+    guarded = node_of(2, 1, False, 0)
+    for ports, flows, status in (([21], 9, "KEPT_OUT"), ([20, 21], 0, "KEPT_OUT"), ([20], 1, "DONE"), ([20], 0, "DONE"), ([], 9, "KEPT_OUT"), (None, 0, "DONE")):
+        guarded.guard(ports, flows)
+        right.append(guarded.arrive(1, frame.octets, at=5) is deltat.Status[status])
+    right.append(guarded.kept_out() == (2, 1))
     node.close()
     node.close()
     right.append(refused(deltat.Spent, node.tick, 5))

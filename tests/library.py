@@ -6,10 +6,11 @@ leaves in crates/dt_c/out, which it builds where there is none. The header is co
 clang, languages C99, C11 and C++17, all with -Wall -Wextra -Werror; each program runs bare, and those of C99 also under
 valgrind and with the address and undefined-behaviour sanitizers, where the machine has them:
 
+- layout.c: sizes and places of fields, by the compiler alone: crates/dt_c/src/rows.rt proves the same sizes.
 - exchange.c: two nodes, a message that comes whole, and each refusal.
 - each_failure.c: each request for memory fails in turn.
 - strangers.c: N random datagrams (1,000,000), after which the node takes as much memory as before, and some thousand
-  flows from one peer. In C99 alone.
+  flows from one peer; and a million flows at a guard that lets a thousand in. In C99 alone.
 
 The last line is `N passed, M failed`; ends with 1 where one failed, and with 77 where there is no compiler or no archive.
 
@@ -53,7 +54,7 @@ class Program(NamedTuple):
     has_heap: bool
 
 
-PROGRAMS = (Program("exchange.c", False), Program("each_failure.c", True))
+PROGRAMS = (Program("layout.c", False), Program("exchange.c", False), Program("each_failure.c", True))
 # what valgrind and the sanitizers see of the random datagrams, and the flows of one peer that are opened
 FEW_DATAGRAMS, FLOWS = 20_000, 5_000
 

@@ -7,6 +7,7 @@ use dt_endpoint::{Arrived, Guard, Piece, Sent, Ticked};
 use dt_layout::LayoutFault;
 use dt_reports::{Refusal, Report};
 use dt_units::{Field, Flow, NodeId, ParamFault, Params};
+use std::mem::size_of;
 
 /// The call did what it was asked.
 pub const DONE: u8 = 0;
@@ -188,6 +189,21 @@ pub enum Opened {
     /// The first of the parameters that is out of its range.
     Refused { fault: ParamFault },
 }
+
+// What lies in C is as large there: tests/library/layout.c has the same numbers.
+const _: () = prove!(size_of::<ParamsRow>() == 44);
+const _: () = prove!(size_of::<FlowRow>() == 12);
+const _: () = prove!(size_of::<LinkRow>() == 12);
+const _: () = prove!(size_of::<RouteRow>() == 8);
+const _: () = prove!(size_of::<StartRow>() == 16);
+const _: () = prove!(size_of::<OpenedRow>() == 8);
+const _: () = prove!(size_of::<CameRow>() == 8);
+const _: () = prove!(size_of::<KeptOutRow>() == 16);
+const _: () = prove!(size_of::<SentRow>() == 16);
+const _: () = prove!(size_of::<PieceRow>() == 16);
+const _: () = prove!(size_of::<OutRow>() == 16);
+const _: () = prove!(size_of::<MomentRow>() == 16);
+const _: () = prove!(size_of::<ReportRow>() == 48);
 
 impl ParamsRow {
     pub fn params(&self) -> Params
