@@ -5,7 +5,8 @@ use Rattle.dt_world_model.specs.Tables.{same_flow}
 use Rattle.dt_reports.specs.Entries.{Entry}
 use Rattle.dt_calls_model.specs.Messages.{Piece}
 use Rattle.dt_calls_model.specs.Heard.{ALoss, APiece, ARefusal, ATaking, AnAcceptance, Heard, NoMessage, heard}
-use Rattle.dt_calls.specs.declared.hearing.Marks.{Marks}
+use Rattle.dt_messages.specs.declared.joiners.Marks.{Marks}
+use Rattle.dt_messages.specs.Joining.{piece_with}
 
 pub record HeardValue : Type 0 where
   -- of the last event: the piece that was read, whether a send was refused, the last flow of which data was accepted, and whether that was so of several
@@ -15,9 +16,6 @@ pub record HeardValue : Type 0 where
   pub several : Bool
   -- whether there was no memory for a line
   pub failed : Bool
-
-abbrev pub piece_with : Marks → List ℕ → Piece
-piece_with marks octets = record { run = marks.run; begin = marks.begin; end = marks.end; octets = octets }
 
 abbrev pub piece_seen : List ℕ → Option Marks → Option Piece
 piece_seen octets marks = option_map (λ m. piece_with m octets) marks

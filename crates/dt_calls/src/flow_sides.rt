@@ -5,16 +5,15 @@ ghost use Rattle.dt_calls_model.specs.Calls.{begun_at, flow_read, none_begun, wi
 ghost use Rattle.dt_calls_model.specs.CallStep.{without_reader};
 ghost use Rattle.dt_calls_model.specs.Messages.{begun_with, whole_with};
 ghost use Rattle.dt_calls.specs.Flows.{begun_of};
-ghost use Rattle.dt_calls.specs.Hearing.{piece_with};
+ghost use Rattle.dt_messages.specs.Joining.{piece_with};
 ghost use Rattle.dt_calls.specs.Sides.{side_seen};
 
-use crate::hearing::Marks;
 use crate::messages::reversed;
 use dt_items::NoMemory;
+use dt_messages::{Joiner, Marks};
 use dt_units::{Flow, NodeId};
 use std::alloc::Global;
 use std::marker::Model;
-use std::mem;
 
 /// Who reads at a flow with a call: the server reads requests, and the client reads replies.
 #[derive(Clone, Copy, Debug, PartialEq, Eq)]
@@ -36,30 +35,30 @@ impl Side {
     }
 }
 
-/// What was read of a message that isn't whole yet, if one has begun.
+/// What was read of a message that isn't whole yet, if one has begun. A message of a call may have any
+/// length.
 #[derive(Drop)]
 pub struct Begun {
-    octets: Vec<u8>,
-    is_begun: bool,
+    joiner: Joiner,
 }
 
 impl Model for Begun {
-    ghost use Rattle.std.specs.Prelude.{ℕ, List, Option};
-    ghost use Rattle.dt_calls.specs.Sides.{begun_seen};
+    ghost use Rattle.std.specs.Prelude.{◌≡◌, ℕ, List, None, Option};
 
     ghost Value = { Option (List ℕ) };
 
-    ghost view = { λ b. begun_seen b.is_begun b.octets.items };
+    ghost view = { λ b. b.joiner.begun };
+
+    ghost invariant = { λ b. b.joiner.longest ≡ None };
 }
 
 impl Begun {
     /// No message has begun.
-    pub fn new(alloc: Global) -> Begun
+    pub fn new() -> Begun
         ensures { result ≡ None }
     {
         Begun {
-            octets: Vec::new(alloc),
-            is_begun: false,
+            joiner: Joiner::new(None),
         }
     }
 
@@ -67,8 +66,7 @@ impl Begun {
     pub fn drop_begun(&mut self)
         ensures { self.new ≡ None }
     {
-        self.octets.clear();
-        self.is_begun = false;
+        self.joiner.lose();
     }
 
     /// A piece goes on it. Answers the message that it makes whole, if it does. After `NoMemory` it is
@@ -82,20 +80,10 @@ impl Begun {
         ensures whole { IfOk result (λ whole. option_map (λ message. message.items) whole ≡ whole_with self.old (piece_with marks octets.now)) }
         ensures begun { IfOk result (λ _. self.new ≡ begun_with self.old (piece_with marks octets.now)) }
     {
-        if marks.begin || marks.run {
-            self.octets.clear();
-            self.is_begun = marks.begin;
+        match self.joiner.join(alloc, marks, octets)? {
+            Some(message) => Ok(Some(message.octets)),
+            None => Ok(None),
         }
-        if self.is_begun {
-            self.octets.extend_from_slice(octets)?;
-        }
-        if !marks.end {
-            return Ok(None);
-        }
-        let is_whole = self.is_begun;
-        self.is_begun = false;
-        let message = mem::replace(&mut self.octets, Vec::new(alloc));
-        Ok(is_whole.then_some(message))
     }
 }
 
@@ -110,12 +98,12 @@ pub struct FlowSides {
 
 impl FlowSides {
     /// Nothing has begun.
-    pub fn new(alloc: Global) -> FlowSides
+    pub fn new() -> FlowSides
         ensures { begun_of result ≡ none_begun }
     {
         FlowSides {
-            request: Begun::new(alloc),
-            reply: Begun::new(alloc),
+            request: Begun::new(),
+            reply: Begun::new(),
         }
     }
 

@@ -6,12 +6,12 @@ ghost use Rattle.dt_calls_model.specs.CallStep.{flows_after, without_reader};
 ghost use Rattle.dt_calls_model.specs.Messages.{begun_with, whole_with};
 ghost use Rattle.dt_world.specs.Worlds.{event_of};
 ghost use Rattle.dt_calls.specs.Flows.{begun_in, flows_seen, no_entry, with_sides_in};
-ghost use Rattle.dt_calls.specs.Hearing.{piece_with};
+ghost use Rattle.dt_messages.specs.Joining.{piece_with};
 ghost use Rattle.dt_calls.specs.Sides.{side_seen};
 
 use crate::flow_sides::{FlowSides, Side};
-use crate::hearing::Marks;
 use dt_items::NoMemory;
+use dt_messages::Marks;
 use dt_units::{Flow, NodeId};
 use dt_world::Event;
 use indexmap::IndexMap;
@@ -21,13 +21,13 @@ use std::alloc::Global;
 pub type Flows = IndexMap<Flow, FlowSides>;
 
 /// A flow gets its entry with its first call.
-pub fn add_flow(flows: &mut Flows, alloc: Global, flow: Flow) -> Result<(), NoMemory>
+pub fn add_flow(flows: &mut Flows, flow: Flow) -> Result<(), NoMemory>
     ensures { OnOk result (flows_seen flows.new.entries ≡ with_flow flow (flows_seen flows.old.entries)) }
 {
     if flows.contains_key(&flow) {
         return Ok(());
     }
-    flows.insert(flow, FlowSides::new(alloc))?;
+    flows.insert(flow, FlowSides::new())?;
     Ok(())
 }
 

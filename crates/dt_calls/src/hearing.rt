@@ -1,21 +1,15 @@
 //! What the world's events tell of messages.
 ghost use Rattle.std.specs.Prelude.{◌≡◌, true, false, [], None, Some, MatchOption};
 ghost use Rattle.dt_calls_model.specs.Heard.{AnAcceptance};
-ghost use Rattle.dt_calls.specs.Hearing.{first_piece, for_event, heard_with, piece_with};
+ghost use Rattle.dt_calls.specs.Hearing.{first_piece, for_event, heard_with};
+ghost use Rattle.dt_messages.specs.Joining.{piece_with};
 
+use dt_messages::Marks;
 use dt_reports::{LogLine, Report};
 use dt_units::Flow;
 use dt_world::Lines;
 use std::alloc::Global;
 use std::marker::Model;
-
-/// The marks of a piece that was read.
-#[derive(Clone, Copy, Debug, PartialEq, Eq)]
-pub struct Marks {
-    pub run: bool,
-    pub begin: bool,
-    pub end: bool,
-}
 
 /// What the lines of the world's events told. Where there was no memory for it, it has failed.
 #[derive(Drop)]

@@ -346,7 +346,7 @@ fn add_call<H, L: CallLines>(
         request,
         reply: None,
     })?;
-    add_flow(&mut parts.flows, parts.alloc, flow)
+    add_flow(&mut parts.flows, flow)
 }
 
 /// A call that is made is told, and that it is declined where its request was refused.

@@ -4,7 +4,7 @@ use Rattle.dt_calls_model.specs.Calls as model
 use Rattle.dt_calls_model.specs.Calls.{begun_at, with_begun}
 use Rattle.dt_calls_model.specs.Messages.{begun_with, whole_with}
 use Rattle.dt_calls.specs.Flows.{begun_in, begun_of, flows_seen, with_sides_in}
-use Rattle.dt_calls.specs.Hearing.{piece_with}
+use Rattle.dt_messages.specs.Joining.{piece_with}
 use Rattle.dt_calls.specs.Sides.{side_seen}
 use Rattle.dt_calls.proofs.FlowTables.{begun_found, if_ok_weaker, key_lost, wrote}
 use Rattle.dt_calls.proofs.flows.join.Goals as goal

@@ -1,0 +1,9 @@
+//! Whole messages, taken out of an endpoint.
+#![tactic(auto)]
+
+mod flow_inboxes;
+mod inboxes;
+
+pub use dt_messages::Message;
+pub use flow_inboxes::FlowInboxes;
+pub use inboxes::{Inbox, Taken};

@@ -1,0 +1,93 @@
+use dt_items::NoMemory;
+use dt_messages::{Joiner, Marks, Message};
+use std::alloc::Global;
+use std::process::Abort;
+
+/// The marks of a piece (`r` run, `b` begin, `e` end) and its octets, then the message that it makes whole
+/// and whether that has a gap, and how many messages were dropped by then.
+type Row = (
+    &'static [u8],
+    &'static [u8],
+    Option<(&'static [u8], bool)>,
+    u64,
+);
+
+const ANY_LENGTH: [Row; 16] = [
+    (b"rbe", b"one", Some((b"one", true)), 0),
+    (b"be", b"two", Some((b"two", false)), 0),
+    // in three pieces
+    (b"b", b"th", None, 0),
+    (b"", b"re", None, 0),
+    (b"e", b"e", Some((b"three", false)), 0),
+    // behind a run mark the octets before it are no part of any, and those after it have no begin
+    (b"b", b"lo", None, 0),
+    (b"r", b"st", None, 0),
+    (b"e", b"!", None, 0),
+    (b"be", b"next", Some((b"next", true)), 0),
+    (b"be", b"then", Some((b"then", false)), 0),
+    // a begin mark begins anew
+    (b"b", b"left", None, 0),
+    (b"b", b"ne", None, 0),
+    (b"e", b"w", Some((b"new", false)), 0),
+    // octets outside of a message
+    (b"", b"no", None, 0),
+    (b"e", b"ne", None, 0),
+    (b"rbe", b"end", Some((b"end", true)), 0),
+];
+
+const FOUR_AT_MOST: [Row; 9] = [
+    (b"be", b"four", Some((b"four", false)), 0),
+    (b"be", b"five!", None, 1),
+    // the rest of one that has outgrown it is no part of any, and isn't counted again
+    (b"b", b"sev", None, 1),
+    (b"", b"en", None, 2),
+    (b"", b"more octets", None, 2),
+    (b"e", b"s", None, 2),
+    (b"b", b"ni", None, 2),
+    (b"e", b"ne", Some((b"nine", false)), 2),
+    (b"rb", b"eight", None, 3),
+];
+
+fn marks(letters: &[u8]) -> Marks {
+    Marks {
+        run: letters.contains(&b'r'),
+        begin: letters.contains(&b'b'),
+        end: letters.contains(&b'e'),
+    }
+}
+
+fn is_whole(whole: &Option<Message>, wanted: &Option<(&[u8], bool)>) -> bool {
+    match (whole, wanted) {
+        (Some(message), Some((octets, gap))) => {
+            message.octets.as_slice() == *octets && message.gap == *gap
+        }
+        (None, None) => true,
+        _ => false,
+    }
+}
+
+fn follows(alloc: Global, joiner: &mut Joiner, rows: &[Row]) -> Result<bool, NoMemory> {
+    for row in rows {
+        let whole = joiner.join(alloc, marks(row.0), row.1)?;
+        if !is_whole(&whole, &row.2) || joiner.dropped() != row.3 {
+            return Ok(false);
+        }
+    }
+    Ok(true)
+}
+
+#[test]
+fn messages_are_whole_from_begin_to_end(rt: HostRuntime) -> Result<(), NoMemory> {
+    let mut joiner = Joiner::new(None);
+    let right = follows(rt.alloc(), &mut joiner, &ANY_LENGTH)?;
+    assert!(rt; right);
+    Ok(())
+}
+
+#[test]
+fn longer_messages_are_dropped_and_counted(rt: HostRuntime) -> Result<(), NoMemory> {
+    let mut joiner = Joiner::new(Some(4));
+    let right = follows(rt.alloc(), &mut joiner, &FOUR_AT_MOST)?;
+    assert!(rt; right);
+    Ok(())
+}
