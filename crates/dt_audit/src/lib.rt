@@ -19,6 +19,3 @@ pub use dt_reports::LineFault;
 pub use facts::Fact;
 pub use outcomes::AuditOutcome;
 pub use reading::read_log;
-
-#[cfg(test)]
-mod tests;

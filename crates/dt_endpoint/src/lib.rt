@@ -19,6 +19,3 @@ pub use frames::OutFrame;
 pub use guards::{Admission, Guard};
 pub use laws::{datagram_that_waited_keeps_the_facts, endpoint_follows_the_world};
 pub use links::Links;
-
-#[cfg(test)]
-mod tests;

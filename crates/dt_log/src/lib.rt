@@ -15,6 +15,3 @@ pub use flows::put_flow;
 pub use log_lines::write_line;
 pub use numbers::put_number;
 pub use words::{Word, put_row};
-
-#[cfg(test)]
-mod tests;

@@ -327,6 +327,3 @@ pub fn write_line<K: Sink>(line: &LogLine<'_>, out: &mut K) -> Result<(), Failed
         Fault { line, fault } => put_fault(line, fault, out),
     }
 }
-
-#[cfg(test)]
-mod tests;

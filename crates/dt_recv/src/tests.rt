@@ -97,112 +97,130 @@ fn spelling(number: u32, window: u32) -> [u8; 30] {
     octets
 }
 
-// The frame that an answer leaves: its acknowledgement, or the empty frame that was there.
-fn check_frame(rt: &impl Abort, frame: &Frame, told: Option<(u32, u32)>) {
+// Whether the frame is what an answer leaves: its acknowledgement, or the empty frame that was there.
+fn is_left(frame: &Frame, told: Option<(u32, u32)>) -> bool {
     match told {
-        None => assert!(rt; frame.as_slice().is_empty()),
-        Some((number, window)) => assert_eq!(rt; frame.as_slice(), &spelling(number, window)[..]),
+        None => frame.as_slice().is_empty(),
+        Some((number, window)) => frame.as_slice() == spelling(number, window).as_slice(),
     }
 }
 
-fn check_answer(rt: &impl Abort, frame: &Frame, answer: Arrived, wanted: Answer) {
-    assert_eq!(rt; answer, wanted.arrived());
-    check_frame(rt, frame, wanted.told());
+fn is_answer(frame: &Frame, answer: Arrived, wanted: Answer) -> bool {
+    answer == wanted.arrived() && is_left(frame, wanted.told())
 }
 
-fn check_read<L: Ledger>(
-    rt: &impl Abort,
+fn takes_data<L: Ledger>(
+    receiver: &mut Receiver,
+    now: u64,
+    number: u32,
+    letters: &[u8],
+    octets: &[u8],
+    wanted: Answer,
+    steps: &mut Steps<L>,
+) -> bool {
+    if octets.is_empty() || octets.len() > 8192 || now > 1 << 62 {
+        return false;
+    }
+    let drf = has(letters, b'd');
+    let begin = has(letters, b'b');
+    let end = has(letters, b'e');
+    let mut frame = Frame::new();
+    let answer = receiver.on_data(number, drf, begin, end, octets, now, &mut frame, steps);
+    is_answer(&frame, answer, wanted)
+}
+
+fn meets<L: Ledger>(
+    receiver: &mut Receiver,
+    now: u64,
+    number: u32,
+    wanted: Answer,
+    steps: &mut Steps<L>,
+) -> bool {
+    let mut frame = Frame::new();
+    let answer = receiver.on_meet(number, now, &mut frame, steps);
+    is_answer(&frame, answer, wanted)
+}
+
+fn reads<L: Ledger>(
     receiver: &mut Receiver,
     now: u64,
     most: usize,
     letters: &[u8],
     octets: &[u8],
     steps: &mut Steps<L>,
-) {
+) -> bool {
+    if most == 0 || most > 300 {
+        return false;
+    }
     let mut buf = [b'.'; 300];
-    assert!(rt; 0 < most && most <= 300);
     let wanted = Piece {
         len: octets.len(),
         begin: has(letters, b'b'),
         end: has(letters, b'e'),
         run: has(letters, b'r'),
     };
-    assert_eq!(rt; receiver.read(&mut buf[..most], now, steps), Some(wanted));
-    assert!(rt; buf.starts_with(octets));
+    receiver.read(&mut buf[..most], now, steps) == Some(wanted) && buf.starts_with(octets)
 }
 
-fn check_act<L: Ledger>(
-    rt: &impl Abort,
+fn acts<L: Ledger>(
     receiver: &mut Receiver,
     now: u64,
     wanted: RecvAct,
     told: Option<(u32, u32)>,
     steps: &mut Steps<L>,
-) {
+) -> bool {
+    if receiver.due(now, steps).is_none() {
+        return false;
+    }
     let mut frame = Frame::new();
-    assert!(rt; receiver.due(now, steps).is_some());
-    assert_eq!(rt; receiver.act(now, &mut frame, steps), wanted);
-    check_frame(rt, &frame, told);
+    receiver.act(now, &mut frame, steps) == wanted && is_left(&frame, told)
 }
 
+fn acknowledges<L: Ledger>(
+    receiver: &mut Receiver,
+    now: u64,
+    number: u32,
+    window: u32,
+    steps: &mut Steps<L>,
+) -> bool {
+    let wanted = RecvAct::Acked { number, window };
+    acts(receiver, now, wanted, Some((number, window)), steps)
+}
+
+fn has_moments<L: Ledger>(
+    receiver: &Receiver,
+    release: Option<u64>,
+    ack: Option<u64>,
+    wake: Option<u64>,
+    steps: &mut Steps<L>,
+) -> bool {
+    receiver.moments(steps) == RecvMoments { release, ack } && receiver.wake(steps) == wake
+}
+
+// Whether an event goes as it tells.
 fn happens<L: Ledger>(
-    rt: &impl Abort,
     receiver: &mut Receiver,
     now: u64,
     event: &Event,
     steps: &mut Steps<L>,
-) {
-    let mut frame = Frame::new();
+) -> bool {
     match event {
         Event::Data(number, letters, octets, wanted) => {
-            assert!(rt; !octets.is_empty() && octets.len() <= 8192 && now <= 1 << 62);
-            let answer = receiver.on_data(
-                *number,
-                has(letters, b'd'),
-                has(letters, b'b'),
-                has(letters, b'e'),
-                octets,
-                now,
-                &mut frame,
-                steps,
-            );
-            check_answer(rt, &frame, answer, *wanted);
+            takes_data(receiver, now, *number, letters, octets, *wanted, steps)
         }
-        Event::Meet(number, wanted) => {
-            let answer = receiver.on_meet(*number, now, &mut frame, steps);
-            check_answer(rt, &frame, answer, *wanted);
-        }
+        Event::Meet(number, wanted) => meets(receiver, now, *number, *wanted, steps),
         Event::Close(number, wanted) => {
-            let answer = receiver.on_close(*number, steps);
-            check_answer(rt, &frame, answer, *wanted);
+            is_answer(&Frame::new(), receiver.on_close(*number, steps), *wanted)
         }
-        Event::Idle => assert_eq!(rt; receiver.due(now, steps), None),
-        Event::Due(kind, moment) => {
-            assert_eq!(rt; receiver.due(now, steps), Some((*kind, *moment)));
-        }
-        Event::Acked(number, window) => {
-            let wanted = RecvAct::Acked {
-                number: *number,
-                window: *window,
-            };
-            check_act(rt, receiver, now, wanted, Some((*number, *window)), steps);
-        }
-        Event::Released => check_act(rt, receiver, now, RecvAct::Released, None, steps),
-        Event::Read(most, letters, octets) => {
-            check_read(rt, receiver, now, *most, letters, octets, steps);
-        }
+        Event::Idle => receiver.due(now, steps).is_none(),
+        Event::Due(kind, moment) => receiver.due(now, steps) == Some((*kind, *moment)),
+        Event::Acked(number, window) => acknowledges(receiver, now, *number, *window, steps),
+        Event::Released => acts(receiver, now, RecvAct::Released, None, steps),
+        Event::Read(most, letters, octets) => reads(receiver, now, *most, letters, octets, steps),
         Event::Stands(expected, free) => {
-            assert_eq!(rt; receiver.expected(), *expected);
-            assert_eq!(rt; receiver.free(), *free);
+            receiver.expected() == *expected && receiver.free() == *free
         }
-        Event::Moments(release, ack, wake) => {
-            let wanted = RecvMoments {
-                release: *release,
-                ack: *ack,
-            };
-            assert_eq!(rt; receiver.moments(steps), wanted);
-            assert_eq!(rt; receiver.wake(steps), *wake);
-        }
+        Event::Moments(release, ack, wake) => has_moments(receiver, *release, *ack, *wake, steps),
     }
 }
 
@@ -219,23 +237,18 @@ fn play<L: Ledger>(
     requires some { 0 < ledger.parts }
 {
     let mut steps = Steps::<L>::new(ledger);
-    let rules = match params.check() {
-        Ok(rules) => rules,
-        Err(_) => {
-            assert!(rt; false, "the parameters are refused");
-            return Ok(());
-        }
-    };
+    let rules = params.check().expect(rt, "the parameters are refused");
     let mut receiver = Receiver::new(alloc, &rules, FLOW)?;
     assert!(rt; receiver.is_idle());
     for (now, event) in events {
-        happens(rt, &mut receiver, *now, event, &mut steps);
+        let is = happens(&mut receiver, *now, event, &mut steps);
+        assert!(rt; is, "at {now}");
     }
     Ok(())
 }
 
 // Duplicates, closing packets and the receive timer.
-const ONE_MESSAGE: [(u64, Event); 17] = [
+static ONE_MESSAGE: [(u64, Event); 17] = [
     (0, Event::Stands(None, 4096)),
     (0, Event::Moments(None, None, None)),
     (0, Event::Close(5, Answer::Dropped)),
@@ -256,7 +269,7 @@ const ONE_MESSAGE: [(u64, Event); 17] = [
 ];
 
 // Segments that come out of order.
-const REORDERED: [(u64, Event); 10] = [
+static REORDERED: [(u64, Event); 10] = [
     (0, Event::Data(200, b"e", &[b'a'; 50], Answer::Dropped)),
     (0, Event::Data(0, b"db", &[b'a'; 100], Answer::Run(100))),
     (
@@ -273,7 +286,7 @@ const REORDERED: [(u64, Event); 10] = [
 ];
 
 // Windows that open, with `rcap` 4.
-const WINDOWS: [(u64, Event); 10] = [
+static WINDOWS: [(u64, Event); 10] = [
     (0, Event::Data(0, b"db", b"abcd", Answer::Run(4))),
     (200, Event::Acked(4, 0)),
     (800, Event::Meet(4, Answer::Told(4, 0))),
@@ -287,7 +300,7 @@ const WINDOWS: [(u64, Event); 10] = [
 ];
 
 // Numbers that go round.
-const WRAPPED: [(u64, Event); 6] = [
+static WRAPPED: [(u64, Event); 6] = [
     (
         0,
         Event::Data(4_294_967_292, b"db", b"aaaa", Answer::Run(4)),
@@ -317,7 +330,7 @@ fn the_receiver_answers_as_the_rows_say(rt: HostRuntime) -> Result<(), Fail> {
 
 // The action at each key, by hand: in a line the four keys of `fits` and the data-run flag, and the
 // lines by the record and the relation.
-const ACTIONS: [Action; 32] = [
+static ACTIONS: [Action; 32] = [
     Action::Drop,
     Action::Drop,
     Action::TellNumber,
@@ -355,20 +368,14 @@ const ACTIONS: [Action; 32] = [
 #[test]
 fn each_key_has_its_action(rt: HostRuntime) {
     for key in 0..32 {
-        assert_eq!(rt; action_at(key), ACTIONS[usize::from(key)], "at {key}");
+        assert!(rt; action_at(key) == ACTIONS[usize::from(key)], "at {key}");
     }
-    // numbers go round
-    assert_eq!(rt;
-        action(Some(2), true, 4_294_967_290, 8, 100),
-        Action::TellExpected
-    );
-    assert_eq!(rt;
-        action(Some(4_294_967_290), true, 2, 100, 100),
-        Action::Skip
-    );
-    assert_eq!(rt;
-        action(Some(4_294_967_290), true, 2, 101, 100),
-        Action::TellNumber
-    );
-    assert_eq!(rt; action(None, true, 4_294_967_290, 100, 100), Action::Make);
+}
+
+#[test]
+fn numbers_go_round(rt: HostRuntime) {
+    assert!(rt; action(Some(2), true, 4_294_967_290, 8, 100) == Action::TellExpected);
+    assert!(rt; action(Some(4_294_967_290), true, 2, 100, 100) == Action::Skip);
+    assert!(rt; action(Some(4_294_967_290), true, 2, 101, 100) == Action::TellNumber);
+    assert!(rt; action(None, true, 4_294_967_290, 100, 100) == Action::Make);
 }

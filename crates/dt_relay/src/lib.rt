@@ -12,6 +12,3 @@ pub use dt_world_model::{Entered, InLink, OutLink, Route};
 pub use passages::Passage;
 pub use queues::Left;
 pub use relays::{Relay, earlier};
-
-#[cfg(test)]
-mod tests;

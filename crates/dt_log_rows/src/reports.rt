@@ -1,11 +1,10 @@
-use super::write_line;
+//! The line of each report.
+use crate::writing::{is_line, is_written};
 use dt_edges::{Failed, MemSink};
 use dt_layout::LayoutFault;
-use dt_reports::{Fault, LineFault, LogLine, Refusal, Report, SetupFault, StepFault};
-use dt_units::{Field, Flow, NodeId, ParamFault};
-use std::alloc::Global;
-use std::fmt::Display;
-use std::process::Abort;
+use dt_log::write_line;
+use dt_reports::{LogLine, Refusal, Report};
+use dt_units::{Flow, NodeId};
 use std::test::Fail;
 
 const FLOW: Flow = Flow {
@@ -15,34 +14,8 @@ const FLOW: Flow = Flow {
     to_port: 0,
 };
 
-/// Asserts that the report of node 2 at moment 40 is written as this line.
-fn written(rt: &impl Abort, alloc: Global, report: Report<'_>, text: &str) -> Result<(), Fail> {
-    let line = LogLine {
-        moment: 40,
-        node: Some(2),
-        report,
-    };
-    let mut sink = MemSink::new(alloc, 512, &[])?;
-    write_line(&line, &mut sink)?;
-    assert_eq!(rt; sink.as_slice(), text.as_bytes(), "{text}");
-    Ok(())
-}
-
-/// Asserts that line 9 with this fault is written with this text.
-fn refused(rt: &impl Abort, alloc: Global, fault: Fault, text: &str) -> Result<(), Fail> {
-    let line = format!(in alloc; "line 9: {text}\n")?;
-    written(rt, alloc, Report::Fault { line: 9, fault }, line.as_str())
-}
-
-/// Asserts that an error shows this text.
-fn shown(rt: &impl Abort, alloc: Global, error: &impl Display, text: &str) -> Result<(), Fail> {
-    let shown = error.to_string(alloc)?;
-    assert_eq!(rt; shown.as_str(), text);
-    Ok(())
-}
-
 /// Each report, and the line of it.
-const REPORTS: [(Report<'static>, &str); 39] = [
+static REPORTS: [(Report<'static>, &str); 39] = [
     (
         Report::Took {
             flow: FLOW,
@@ -290,134 +263,31 @@ const REPORTS: [(Report<'static>, &str); 39] = [
 
 #[test]
 fn each_report_has_its_line(rt: HostRuntime) -> Result<(), Fail> {
-    let alloc = rt.alloc();
     for (report, text) in &REPORTS {
-        written(&rt, alloc, *report, text)?;
+        let is = is_written(rt.alloc(), *report, text)?;
+        assert!(rt; is, "{text}");
     }
     Ok(())
 }
 
-/// The faults of a line by itself.
-const LINE_FAULTS: [(LineFault, &str); 6] = [
-    (LineFault::Word, "word"),
-    (LineFault::Count, "count"),
-    (LineFault::Number, "number"),
-    (LineFault::Flow, "flow"),
-    (LineFault::Hex, "hex"),
-    (LineFault::Order, "order"),
-];
-
-/// Those of a line of a setup.
-const SETUP_FAULTS: [(SetupFault, &str); 4] = [
-    (SetupFault::Twice { n: 1 }, "twice 1"),
-    (SetupFault::Unknown { n: 2 }, "unknown 2"),
-    (SetupFault::Stray { n: 3 }, "stray 3"),
-    (SetupFault::NoMemory, "out of memory"),
-];
-
-/// Those of an event.
-const STEP_FAULTS: [(StepFault, &str); 6] = [
-    (StepFault::BadFlow, "bad flow"),
-    (StepFault::NoStation { n: 9 }, "no station 9"),
-    (StepFault::NoCopy { n: 7 }, "no copy 7"),
-    (StepFault::Lost { n: 0 }, "lost 0"),
-    (
-        StepFault::TooLate {
-            held: 1001,
-            charge: 1000,
-        },
-        "too late 1001 1000",
-    ),
-    (StepFault::NoMemory, "out of memory"),
-];
-
-#[test]
-fn each_fault_has_its_text(rt: HostRuntime) -> Result<(), Fail> {
-    let alloc = rt.alloc();
-    for (fault, text) in &LINE_FAULTS {
-        refused(&rt, alloc, Fault::Line(*fault), text)?;
-        shown(&rt, alloc, fault, text)?;
-    }
-    for (fault, text) in &SETUP_FAULTS {
-        refused(&rt, alloc, Fault::Setup(*fault), text)?;
-        shown(&rt, alloc, fault, text)?;
-    }
-    for (fault, text) in &STEP_FAULTS {
-        refused(&rt, alloc, Fault::Step(*fault), text)?;
-        shown(&rt, alloc, fault, text)?;
-    }
-    Ok(())
-}
-
-/// The parameters, each with the value 1 that it may not have.
-const FIELDS: [(Field, &str); 10] = [
-    (Field::Mpl, "param mpl 1"),
-    (Field::R, "param r 1"),
-    (Field::A, "param a 1"),
-    (Field::Rto, "param rto 1"),
-    (Field::Probe, "param probe 1"),
-    (Field::Seg, "param seg 1"),
-    (Field::Cap, "param cap 1"),
-    (Field::Rcap, "param rcap 1"),
-    (Field::Window, "param window 1"),
-    (Field::RunLimit, "param run_limit 1"),
-];
-
-#[test]
-fn each_parameter_has_its_name(rt: HostRuntime) -> Result<(), Fail> {
-    let alloc = rt.alloc();
-    for (field, text) in &FIELDS {
-        let fault = ParamFault {
-            field: *field,
-            value: 1,
-        };
-        refused(&rt, alloc, Fault::Param(fault), text)?;
-    }
-    Ok(())
-}
-
-/// The faults of octets that don't read.
-const LAYOUT_FAULTS: [(LayoutFault, &str); 9] = [
-    (LayoutFault::Short { len: 15 }, "short 15"),
-    (LayoutFault::Version { octet: 3 }, "version 3"),
-    (
-        LayoutFault::Length {
-            told: 8207,
-            there: 0,
-        },
-        "length 8207 0",
-    ),
-    (LayoutFault::Dead, "dead"),
-    (LayoutFault::Protocol { octet: 0 }, "protocol 0"),
-    (LayoutFault::Kind { octet: 4 }, "kind 4"),
-    (LayoutFault::Flags { octet: 255 }, "flags 255"),
-    (LayoutFault::Window { value: 65_537 }, "window 65537"),
-    (LayoutFault::Size { len: 8193 }, "size 8193"),
-];
-
-#[test]
-fn octets_that_do_not_read_have_their_line(rt: HostRuntime) -> Result<(), Fail> {
-    let alloc = rt.alloc();
-    for (fault, text) in &LAYOUT_FAULTS {
-        let line = format!(in alloc; "40 2 bad {text}\n")?;
-        written(&rt, alloc, Report::Bad { fault: *fault }, line.as_str())?;
-        shown(&rt, alloc, fault, text)?;
-    }
-    Ok(())
-}
+/// A line without a node.
+const LINE: LogLine<'static> = LogLine {
+    moment: 40,
+    node: None,
+    report: Report::NoRoute { to: 3 },
+};
 
 #[test]
 fn a_line_without_a_node_leaves_its_word_out(rt: HostRuntime) -> Result<(), Fail> {
-    let line = LogLine {
-        moment: 40,
-        node: None,
-        report: Report::NoRoute { to: 3 },
-    };
-    let mut sink = MemSink::new(rt.alloc(), 512, &[])?;
-    write_line(&line, &mut sink)?;
-    assert_eq!(rt; sink.as_slice(), b"40 noroute 3\n".as_slice());
+    let is = is_line(rt.alloc(), &LINE, b"40 noroute 3\n")?;
+    assert!(rt; is);
+    Ok(())
+}
+
+#[test]
+fn a_put_that_fails_leaves_a_part(rt: HostRuntime) -> Result<(), Fail> {
     let mut sink = MemSink::new(rt.alloc(), 512, &[3])?;
-    assert_eq!(rt; write_line(&line, &mut sink), Err(Failed));
+    assert!(rt; write_line(&LINE, &mut sink) == Err(Failed));
     assert!(rt; b"40 noroute 3".starts_with(sink.as_slice()));
     Ok(())
 }

@@ -1,0 +1,9 @@
+//! Tests of dt_endpoint: two endpoints and what goes between them, and the answers of each call.
+#![tactic(auto)]
+
+#[cfg(test)]
+mod answers;
+#[cfg(test)]
+mod exchange;
+#[cfg(test)]
+mod fixtures;
