@@ -192,17 +192,29 @@ pub enum Opened {
 
 // What lies in C is as large there: tests/library/layout.c has the same numbers.
 const _: () = prove!(size_of::<ParamsRow>() == 44);
+
 const _: () = prove!(size_of::<FlowRow>() == 12);
+
 const _: () = prove!(size_of::<LinkRow>() == 12);
+
 const _: () = prove!(size_of::<RouteRow>() == 8);
+
 const _: () = prove!(size_of::<StartRow>() == 16);
+
 const _: () = prove!(size_of::<OpenedRow>() == 8);
+
 const _: () = prove!(size_of::<CameRow>() == 8);
+
 const _: () = prove!(size_of::<KeptOutRow>() == 16);
+
 const _: () = prove!(size_of::<SentRow>() == 16);
+
 const _: () = prove!(size_of::<PieceRow>() == 16);
+
 const _: () = prove!(size_of::<OutRow>() == 16);
+
 const _: () = prove!(size_of::<MomentRow>() == 16);
+
 const _: () = prove!(size_of::<ReportRow>() == 48);
 
 impl ParamsRow {

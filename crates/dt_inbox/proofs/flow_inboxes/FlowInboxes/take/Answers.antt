@@ -13,8 +13,8 @@ returns c =
     let found = c.index_mut-first.result.now in
     let first : position is_due before ≡ Some place = sym c.first_due.ensures ∙ c.in_ok-place.was in
     let here : found ≡ slice_index_or before place after = c.index_mut-first.ensures.value
-        ∙ ap (λ (v : FlowInboxesValue). slice_index_or v.inboxes place found) c.self.view_is
-        ∙ get_or_default before place found after (position-Some is_due before place after first).0 in
+    ∙ ap (λ (v : FlowInboxesValue). slice_index_or v.inboxes place found) c.self.view_is
+    ∙ get_or_default before place found after (position-Some is_due before place after first).0 in
     record {
       place = place;
       after = after;
