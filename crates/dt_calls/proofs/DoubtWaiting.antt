@@ -130,7 +130,7 @@ module _ {L : Type 0} (tells : L → CallEntry → L → Type 0) (w : World) (al
             }
 
 -- THE NUMBERS of calls that wait no more are dropped
-take_set : (k : ℕ) (xs : List ℕ) (y : ℕ) → k < length xs → take (suc k) (set xs k y) ≡ take k xs ++ y ∷ []
+pub take_set : (k : ℕ) (xs : List ℕ) (y : ℕ) → k < length xs → take (suc k) (set xs k y) ≡ take k xs ++ y ∷ []
 take_set k [] y h = absurd (omega arith)
 take_set zero (x ∷ xs) y h = refl
 take_set (suc k) (x ∷ xs) y h = ap (λ (r : List ℕ). x ∷ r) (take_set k xs y (omega arith))

@@ -26,4 +26,5 @@ pub mod Beginnings
 pub mod CoursesOn
 pub mod Waiting
 pub mod DoubtWaiting
+pub mod WaitingLeft
 pub mod Ways

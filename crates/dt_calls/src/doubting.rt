@@ -4,7 +4,7 @@ ghost use Rattle.dt_calls_model.specs.CallStep.{becomes_unsure, doubt_all, is_do
 ghost use Rattle.dt_calls_model.specs.Messages.{reversed};
 ghost use Rattle.dt_calls.specs.Courses.{HasGoneOn};
 ghost use Rattle.dt_calls.specs.Parts.{calls_seen};
-ghost use Rattle.dt_calls.specs.Waiting.{Covers};
+ghost use Rattle.dt_calls.specs.Waiting.{Covers, waiting_from};
 
 use crate::call_lines::{CallLine, CallLines};
 use crate::messages::reversed;
@@ -22,6 +22,7 @@ pub fn doubt<H, L: CallLines>(parts: &mut Parts<H>, lines: &mut L)
     requires { Covers 0 parts.old.waiting.items parts.old.calls.items }
     ensures goes { HasGoneOn L.tells doubt_all (calls_seen parts.old) lines.old lines.new (calls_seen parts.new) }
     ensures covers { Covers 0 parts.new.waiting.items parts.new.calls.items }
+    ensures left { parts.new.waiting.items ≡ waiting_from 0 parts.new.calls.items }
     ensures same { parts.new ≡ record parts.old { calls = parts.new.calls; waiting = parts.new.waiting } }
 {
     doubt_waiting(parts, lines);
@@ -49,7 +50,8 @@ fn doubt_waiting<H, L: CallLines>(parts: &mut Parts<H>, lines: &mut L)
 /// The numbers of calls that wait no more are dropped.
 fn drop_settled(waiting: &mut Vec<usize>, calls: &[Call])
     requires { Covers 0 waiting.old.items calls.now }
-    ensures { Covers 0 waiting.new.items calls.now }
+    ensures covers { Covers 0 waiting.new.items calls.now }
+    ensures left { waiting.new.items ≡ waiting_from 0 calls.now }
 {
     let mut kept = 0;
     for place in 0..waiting.len() {
