@@ -5,7 +5,8 @@ Usage: tests/parameters.py [PROGRAM] [--write]
 
 - Each row of the table names its words for tools/params.py, and its cells are what follows from them. With
   --write the rows are written anew, and nothing else is done.
-- The examples have the numbers of the row that the page names, and one script has a shelf.
+- The examples have the numbers of the row that the page names, or those for which they name the words, and one script has
+  a shelf.
 - Two nodes with a tenth of the packets lost each way: node 1 sends 100 messages of 30 octets, one each 40 ms.
   With round numbers many are reported uncertain, as with those of the Internet without a shelf, or with one for which
   packets don't live long enough; with those of examples/, and of an office, hardly any.
@@ -31,6 +32,10 @@ MESSAGES, GAP = 100, 40
 MOST = {"Internet, a shelf": 3, "office, no shelf": 20}
 LEAST = 10
 ROUND = "1000 3000 200 500 800 100 65536 65536 65536 2147483648"
+# what tools/params.py allows for the wait in a socket
+SOCKET = 20
+# a serial line has the numbers of its own speed, which it tells
+OWN = {"serial.c"}
 
 
 def told(words: str) -> list[str]:
@@ -73,6 +78,17 @@ def write() -> None:
     PAGE.write_text("".join(lines))
 
 
+def has_numbers_of(words: str, text: str) -> bool:
+    """Whether a service has the numbers that tools/params.py tells for these words, and its charge but for the wait in this
+    machine's socket, which the service measures."""
+    numbers, charge, *_ = told(words)
+    first = [int(it) for it in numbers.split()[1:10]]
+    found = re.search(r"PARAMS = (?:deltat\.Params\(|\{)(.*)[)}]", text)
+    own = re.search(r"CHARGE = (\d+)", text)
+    listed = [int(it) for it in re.findall(r"\d+", found[1])][:9] if found else []
+    return listed == first and own is not None and int(own[1]) == int(charge.split()[1].rstrip(":")) - SOCKET
+
+
 def examples(numbers: str, charge: str) -> list[tuple[str, bool, str]]:
     """Whether each example has these numbers and this charge."""
     first, room = numbers.split()[:6], numbers.split()[6]
@@ -80,8 +96,11 @@ def examples(numbers: str, charge: str) -> list[tuple[str, bool, str]]:
                ".py": rf"Link\(1, charge={charge}\)", ".c": rf"struct dt_link link = {{{charge}, 0, LINK}}"}
     forms = {".py": ", ".join(f"{name}={it}" for name, it in zip("mpl r a rto probe seg cap rcap window".split(), [*first, room, room, room])), ".c": ", ".join([*first, room, room, room])}
     cases, shelves = [], 0
-    for path in sorted(it for it in (TOP / "examples").iterdir() if it.suffix in charges):
+    for path in sorted(it for it in (TOP / "examples").iterdir() if it.suffix in charges and it.name not in OWN):
         text = path.read_text()
+        if named := re.search(r"what `tools/params\.py ([^`]*)` tells", text):
+            cases.append((f"the numbers of {path.name}", has_numbers_of(named[1], text), named[1]))
+            continue
         # (one has shorter segments, since it wants several)
         wanted = forms.get(path.suffix, f"params {' '.join(first[:5])} ")
         shelves += bool(re.search(r"^shelf \d+$", text, re.MULTILINE))
