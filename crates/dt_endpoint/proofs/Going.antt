@@ -8,8 +8,9 @@ use Rattle.dt_world_model.specs.Script.{Concludes}
 use Rattle.dt_world_model.specs.Station.{Event, Station, station_event}
 use Rattle.dt_station.specs.Stations.{StationValue, is_spent_by}
 use Rattle.dt_station.proofs.Playing.{answers_hold}
-use Rattle.dt_endpoint.specs.Endpoints.{GoesOn, HasTakenAtMost, octets_sent}
-use Rattle.dt_endpoint.proofs.Counting.{event_few}
+use Rattle.dt_endpoint.specs.Endpoints.{GoesOn}
+use Rattle.dt_world_laws.specs.Counting.{HasTakenAtMost, octets_sent}
+use Rattle.dt_world_laws.proofs.Counting.{event_few}
 
 module _ {V : Type 0} (tells : V → Told → V → Type 0) (tags : V → Host → List ℕ → Unit {0} → V → Type 0) (hands : V → ℕ → Parcel (Unit {0}) → V → Type 0) (fails : V → V → Type 0) where
   pub event_goes : {E : Type 0} (result : Result (Unit {0}) E) (now : ℕ) (event : Event (Unit {0})) (old new : StationValue (Unit {0})) (v w : V) → Concludes tells tags hands fails result (station_event old.rules now event old.state) v w new.state → new.spent ≡ is_spent_by result → OnOk result (GoesOn now (octets_sent event) old new)

@@ -10,7 +10,8 @@ use Rattle.dt_world_model.specs.declared.links.Route.{Route}
 use Rattle.dt_world_model.specs.Script.{Script}
 use Rattle.dt_station.specs.Stations.{StationValue, station_started}
 use Rattle.dt_endpoint.specs.Collecting.{CollectEnds, Collected, begun}
-use Rattle.dt_endpoint.specs.Endpoints.{GoesOn, HasTakenAtMost, IsEndpoint, capped}
+use Rattle.dt_endpoint.specs.Endpoints.{GoesOn, IsEndpoint, capped}
+use Rattle.dt_world_laws.specs.Counting.{HasTakenAtMost}
 
 pub opened_keeps : (p : Params) (me : ℕ) (again : Option ℕ) (outs : List OutLink) (ins : List InLink) (routes : List Route) (latest : ℕ) (items : List InLink) (station : StationValue (Unit {0})) (collector : Collected) →
     station ≡ station_started p me (option_map capped again) outs ins routes → latest ≡ unwrap_or (option_map capped again) 0 → items ≡ ins → collector.failed ≡ false → IsEndpoint latest 0 false items station collector

@@ -1,4 +1,3 @@
-mod Counting
 mod Collects
 mod Going
 mod Mute

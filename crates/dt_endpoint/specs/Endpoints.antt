@@ -3,17 +3,17 @@ use Rattle.std.specs.Prelude.{◌≡◌, ℕ, ◌+◌, ◌<◌, ◌≤◌, max, 
 use Rattle.dt_units.specs.declared.endpoints.Flow.{Flow}
 use Rattle.dt_units.specs.declared.parameters.Params.{Params}
 use Rattle.dt_reports.specs.Told.{Told}
-use Rattle.dt_flow_model.specs.Keeping.{most_moment, octets_below, taken_by}
+use Rattle.dt_flow_model.specs.Keeping.{most_moment, octets_below}
 use Rattle.dt_world_model.specs.declared.links.InLink.{InLink}
 use Rattle.dt_world_model.specs.declared.links.OutLink.{OutLink}
 use Rattle.dt_world_model.specs.declared.links.Route.{Route}
 use Rattle.dt_world_model.specs.Host.{Host, sender_at}
 use Rattle.dt_world_model.specs.Script.{Script}
-use Rattle.dt_world_model.specs.Station.{Arrive, Event, Read, Send, Station, Tick, station_event, station_wake}
-use Rattle.dt_world_model.specs.Tables.{AllEntries}
+use Rattle.dt_world_model.specs.Station.{Event, Station, station_event, station_wake}
 use Rattle.dt_station.specs.Stations.{StationValue, station_started}
 use Rattle.dt_endpoint.specs.Acts.{OutFrameValue, acts_of, answer_of, frames_in, reports_in}
 use Rattle.dt_endpoint.specs.Collecting.{Collected}
+use Rattle.dt_world_laws.specs.Counting.{HasTakenAtMost, octets_sent}
 
 pub record EndpointValue : Type 0 where
   pub rules : Params
@@ -44,13 +44,6 @@ opened p me again outs ins routes =
 -- AN EVENT, at a moment that is told
 abbrev pub script_of : ℕ → Event (Unit {0}) → EndpointValue → Script (Unit {0}) (Station (Unit {0}))
 script_of now event e = station_event e.rules (moment_of now e) event e.state
-
--- the octets of an event
-abbrev pub octets_sent : Event (Unit {0}) → ℕ
-octets_sent (Send flow octets begin end) = length octets
-octets_sent (Read flow most) = 0
-octets_sent Tick = 0
-octets_sent (Arrive link parcel) = 0
 
 -- the endpoint after it: frames and reports are those of the script, in its order
 abbrev pub after_event : ℕ → Event (Unit {0}) → EndpointValue → EndpointValue
@@ -93,10 +86,6 @@ abbrev pub waiting_octets : Flow → Host → ℕ
 waiting_octets f host = unwrap_or (option_map (λ x. length x.waiting) (sender_at host f)) 0
 
 -- WHAT THE CODE KEEPS
--- no send record of the host has taken more octets than this
-abbrev pub HasTakenAtMost : ℕ → Host → Type 0
-HasTakenAtMost bound host = AllEntries (λ f x. taken_by x ≤ bound) host.senders
-
 -- a station that an event may happen to, at a moment
 pub record MayGo (now : ℕ) (station : StationValue (Unit {0})) : Type 0 where
   pub unspent : station.spent ≡ false

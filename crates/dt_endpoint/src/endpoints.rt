@@ -6,7 +6,8 @@ ghost use Rattle.dt_station.specs.Events.{MayHappenHere, local_seen};
 ghost use Rattle.dt_endpoint.specs.declared.noting.Heard.TheVariants.{Nothing};
 ghost use Rattle.dt_layout.specs.Carried.{IsGram, life_of};
 ghost use Rattle.dt_endpoint.specs.Calls.{ArriveDoes, Arrives, arrive_event, Reads, Sends, Ticks, piece_by, sent_by};
-ghost use Rattle.dt_endpoint.specs.Endpoints.{EventEnds, capped, endpoint_wake, moment_of, octets_sent, opened, script_of, waiting_octets};
+ghost use Rattle.dt_endpoint.specs.Endpoints.{EventEnds, capped, endpoint_wake, moment_of, opened, script_of, waiting_octets};
+ghost use Rattle.dt_world_laws.specs.Counting.{octets_sent};
 ghost use Rattle.dt_endpoint.specs.Hearing.{heard_in, piece_in};
 
 use crate::answers::{Arrived, Piece, Sent, Ticked};

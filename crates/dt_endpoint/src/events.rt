@@ -5,7 +5,8 @@ ghost use Rattle.dt_station.specs.Events.{MayHappenHere, local_seen};
 ghost use Rattle.dt_world_model.specs.Station.{Arrive, station_event};
 ghost use Rattle.dt_endpoint.specs.Acts.{plain};
 ghost use Rattle.dt_endpoint.specs.Collecting.{CollectEnds, begun};
-ghost use Rattle.dt_endpoint.specs.Endpoints.{GoesOn, MayGo, octets_sent};
+ghost use Rattle.dt_endpoint.specs.Endpoints.{GoesOn, MayGo};
+ghost use Rattle.dt_world_laws.specs.Counting.{octets_sent};
 
 use crate::collecting::Collector;
 use dt_items::NoMemory;

@@ -12,7 +12,6 @@ mod Shelved
 mod Served
 mod Endings
 mod Readying
-mod Counting
 mod Fitting
 mod Gathered
 mod Reading

@@ -18,9 +18,10 @@ use Rattle.dt_shelf.specs.declared.held.Held.{Held}
 use Rattle.dt_shelf.specs.Shelves.{IsShelfUpTo, Shelf}
 use Rattle.dt_node.specs.declared.nodes.Node.{Node}
 use Rattle.dt_node.specs.declared.orders.Orders.{Orders}
-use Rattle.dt_node.specs.Codes.{GoesOn, HasTakenAtMost, IsReady, MayGo, most_octets, octets_sent}
+use Rattle.dt_node.specs.Codes.{GoesOn, IsReady, MayGo, most_octets}
+use Rattle.dt_world_laws.specs.Counting.{HasTakenAtMost, octets_sent}
 use Rattle.dt_node.specs.Orders.{restart_of}
-use Rattle.dt_node.proofs.Counting.{event_few, taken_more}
+use Rattle.dt_world_laws.proofs.Counting.{event_few, taken_more}
 
 pub shelf_later : (shelf : Option Shelf) (now after : ℕ) → now ≤ after → IfSome shelf (IsShelfUpTo now) → IfSome shelf (IsShelfUpTo after)
 shelf_later None now after h k = tt

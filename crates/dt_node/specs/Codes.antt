@@ -6,11 +6,8 @@ use Rattle.dt_items.specs.declared.memory.NoMemory.{NoMemory}
 use Rattle.dt_reports.specs.declared.faults.Fault.{Fault}
 use Rattle.dt_fold.specs.declared.stops.Stop.{Stop}
 use Rattle.dt_fold.specs.Folds.{Turned}
-use Rattle.dt_flow_model.specs.Keeping.{most_moment, taken_by}
+use Rattle.dt_flow_model.specs.Keeping.{most_moment}
 use Rattle.dt_world_model.specs.declared.links.InLink.{InLink}
-use Rattle.dt_world_model.specs.Host.{Host}
-use Rattle.dt_world_model.specs.Station.{Arrive, Event, Read, Send, Tick}
-use Rattle.dt_world_model.specs.Tables.{AllEntries}
 use Rattle.dt_station.specs.Stations.{StationValue}
 use Rattle.dt_shelf.specs.Shelves.{IsShelfUpTo, Shelf}
 use Rattle.dt_edges.specs.Wires.{Datagram}
@@ -26,6 +23,7 @@ use Rattle.dt_node.specs.declared.drafts.Part.TheVariants as part
 use Rattle.dt_node.specs.Drafts.{Draft, Empty, Ruled, Named, Prepares, Collects, Complete}
 use Rattle.dt_node.specs.Orders as model
 use Rattle.dt_node.specs.Orders.{Sends, Reads}
+use Rattle.dt_world_laws.specs.Counting.{HasTakenAtMost}
 
 -- ORDERS
 
@@ -111,10 +109,6 @@ left_of o next = map command_seen (drop next o.commands.items)
 abbrev pub node_seen : Orders → Node → model.Node
 node_seen o node = model.node_with node.station.state (left_of o node.next) node.shelf
 
--- no send record of the host has taken more octets than this
-abbrev pub HasTakenAtMost : ℕ → Host → Type 0
-HasTakenAtMost bound host = AllEntries (λ f x. taken_by x ≤ bound) host.senders
-
 -- a station that an event may happen to, at a moment
 pub record MayGo (now : ℕ) (station : StationValue (Unit {0})) : Type 0 where
   pub unspent : station.spent ≡ false
@@ -129,13 +123,6 @@ pub record GoesOn (now octets : ℕ) (before after : StationValue (Unit {0})) : 
   pub ins : after.state.relay.ins ≡ before.state.relay.ins
   pub past : after.latest ≤ now
   pub taken : (bound : ℕ) → HasTakenAtMost bound before.state.host → HasTakenAtMost (bound + octets) after.state.host
-
--- the octets of an event
-abbrev pub octets_sent : Event (Unit {0}) → ℕ
-octets_sent (Send flow octets begin end) = length octets
-octets_sent (Read flow most) = 0
-octets_sent Tick = 0
-octets_sent (Arrive link parcel) = 0
 
 -- a node that can do what its orders say, at a moment
 pub record IsReady (o : Orders) (now : ℕ) (node : Node) : Type 0 where

@@ -1,3 +1,4 @@
+pub mod Counting
 pub mod Lift
 pub mod Follow
 pub mod Lives

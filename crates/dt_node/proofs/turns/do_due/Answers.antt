@@ -3,7 +3,7 @@ use Rattle.std.proofs.lemmas.Result.{err_from_is_err_and}
 use Rattle.dt_node.specs.Codes.{GoesOn, IsTaskOf, command_seen, left_of, most_commands, most_octets}
 use Rattle.dt_node.specs.Logging.{Fixed, log_fails, log_hands, log_sight, log_tags, log_tells}
 use Rattle.dt_node.specs.Turns.{do_due}
-use Rattle.dt_node.proofs.Counting.{taken_more}
+use Rattle.dt_world_laws.proofs.Counting.{taken_more}
 use Rattle.dt_node.proofs.Readying.{ready_on}
 use Rattle.dt_node.proofs.Turning.{due_ends, due_goes, due_stops, left_next, task_at}
 use Rattle.dt_node.proofs.turns.do_due.Goals as goal

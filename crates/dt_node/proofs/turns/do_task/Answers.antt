@@ -2,7 +2,7 @@ use Rattle.std.proofs.Common.{ℕ, ◌*◌, List, arith, length, subst, sym}
 use Rattle.dt_flow_model.specs.Keeping.{octets_below}
 use Rattle.dt_station.specs.Events.{MaySend}
 use Rattle.dt_node.specs.Codes.{most_commands, most_octets}
-use Rattle.dt_node.proofs.Counting.{settled_counts}
+use Rattle.dt_world_laws.proofs.Counting.{settled_counts}
 use Rattle.dt_node.proofs.Readying.{ok_more}
 use Rattle.dt_node.proofs.turns.do_task.Goals as goal
 

@@ -1,7 +1,8 @@
 use Rattle.std.proofs.Common.{ap, arith, length, sym, ◌∙◌}
 use Rattle.dt_station.specs.Events.{local_seen}
 use Rattle.dt_world_model.specs.Station.{station_event}
-use Rattle.dt_endpoint.specs.Endpoints.{EndpointValue, octets_sent}
+use Rattle.dt_endpoint.specs.Endpoints.{EndpointValue}
+use Rattle.dt_world_laws.specs.Counting.{octets_sent}
 use Rattle.dt_endpoint.proofs.Keeping.{event_keeps}
 use Rattle.dt_endpoint.proofs.endpoints.Endpoint.event.Goals as goal
 

@@ -4,8 +4,9 @@ use Rattle.std.proofs.lemmas.Bool.{eqb-false}
 use Rattle.dt_flow_model.specs.Keeping.{octets_below}
 use Rattle.dt_world_model.specs.Host.{Host}
 use Rattle.dt_endpoint.proofs.Answering.{is_equal, send_done, send_unrefused}
-use Rattle.dt_endpoint.proofs.Counting.{settled_counts}
-use Rattle.dt_endpoint.specs.Endpoints.{EndpointValue, HasTakenAtMost, moment_of}
+use Rattle.dt_world_laws.proofs.Counting.{settled_counts}
+use Rattle.dt_endpoint.specs.Endpoints.{EndpointValue, moment_of}
+use Rattle.dt_world_laws.specs.Counting.{HasTakenAtMost}
 use Rattle.dt_endpoint.proofs.endpoints.Endpoint.send.Goals as goal
 
 pub overflow_sub-self-inside : goal.overflow_sub-self-inside
