@@ -9,7 +9,8 @@ It refuses, each with page and line:
   without a row;
 - a clause of `run` that docs/guarantees.md doesn't name;
 - a table of docs/clauses.md that differs from the public functions and their clauses;
-- a word of a line that is written or read and that docs/formats.md doesn't name.
+- a word of a line that is written or read and that docs/formats.md doesn't name;
+- a file of a crate that says nothing of itself, so that docs/files.py would list it without a word.
 
 Usage: docs/check.py            compares
        docs/check.py write      writes the "stands on" column and docs/clauses.md anew
@@ -20,6 +21,8 @@ import sys
 from functools import cache
 from pathlib import Path
 from typing import Iterator, NamedTuple
+
+import files as headings
 
 TOP = Path(__file__).resolve().parent.parent
 PAGES = sorted([TOP / "README.md", TOP / "conformance" / "README.md", *(TOP / "docs").glob("*.md")])
@@ -428,6 +431,13 @@ def check_page_of_clauses() -> Iterator[Complaint]:
         yield Complaint(CLAUSES, 1, "the page differs from the sources: docs/check.py write makes it anew")
 
 
+def check_files() -> Iterator[Complaint]:
+    for crate in sorted((TOP / "crates").iterdir()):
+        for path in headings.files_of(crate) if crate.is_dir() else ():
+            if not headings.heading(path):
+                yield Complaint(path, 1, "nothing says what the file has")
+
+
 def complaints() -> Iterator[Complaint]:
     for page in PAGES:
         yield from check_links(page)
@@ -437,6 +447,7 @@ def complaints() -> Iterator[Complaint]:
     yield from check_page_of_clauses()
     yield from check_crates()
     yield from check_formats()
+    yield from check_files()
 
 
 def main(words: list[str]) -> int:

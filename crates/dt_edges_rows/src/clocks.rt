@@ -1,3 +1,4 @@
+//! A clock of the memory, reading by reading.
 use dt_edges::{Clock, MemClock};
 use std::test::Fail;
 

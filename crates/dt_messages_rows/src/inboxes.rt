@@ -1,3 +1,4 @@
+//! Whole messages taken from two endpoints that hand their frames to each other.
 use dt_endpoint::{Arrived, Endpoint, InLink, Links, OutLink, Route, Sent};
 use dt_inbox::{FlowInboxes, Inbox, Taken};
 use dt_items::NoMemory;

@@ -1,3 +1,4 @@
+//! A table of cases: one row for each key, and tables with two rows or none.
 ghost use Rattle.std.specs.Prelude.{◌<◌};
 
 use dt_cases::{Row, covers, pick};

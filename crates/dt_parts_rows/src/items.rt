@@ -1,3 +1,4 @@
+//! A queue of octets with marks, pushed and read piece by piece.
 use dt_items::{Piece, Queue};
 use std::process::Abort;
 use std::test::Fail;

@@ -1,3 +1,4 @@
+//! Reports and the faults of a setup and of a step.
 use dt_items::NoMemory;
 use dt_reports::{Report, SetupFault, StepFault, Totals};
 use dt_units::{Flow, NodeId};

@@ -1,3 +1,4 @@
+//! A shelf: what it holds, hands back, and finds no room for.
 ghost use Rattle.dt_layout.specs.Carried.{IsGram};
 
 use dt_layout::{Frame, Packet, write_frame};

@@ -1,3 +1,4 @@
+//! A receiver, event by event: each row of its table, and its acts in time.
 ghost use Rattle.std.specs.Prelude.{◌≡◌, ◌<◌};
 
 use crate::Receiver;

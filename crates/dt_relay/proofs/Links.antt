@@ -1,3 +1,4 @@
+-- Out links by their place and by their number, and what a packet that enters or leaves does to the list of them.
 use Rattle.std.proofs.Common.{All, ◌≡◌, ℕ, zero, suc, ◌+◌, ◌<◌, ◌≤◌, ◌==◌, List, [], ◌∷◌, Bool, true, false, cond, Option, Some, None, slice_get, slice_set, get_or, length, refl, sym, subst, ◌∙◌, ap, arith}
 use Rattle.std.proofs.lemmas.Option.{slice_get-get_or}
 use Rattle.dt_layout.specs.Carried.{to_of}
