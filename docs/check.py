@@ -10,10 +10,11 @@ It refuses, each with page and line:
 - a clause of `run` that docs/guarantees.md doesn't name;
 - a table of docs/clauses.md that differs from the public functions and their clauses;
 - a word of a line that is written or read and that docs/formats.md doesn't name;
+- a count of the files that have a row for each written or read line, where the sources have other files;
 - a file of a crate that says nothing of itself, so that docs/files.py would list it without a word.
 
 Usage: docs/check.py            compares
-       docs/check.py write      writes the "stands on" column and docs/clauses.md anew
+       docs/check.py write      writes the "stands on" column, the files that a new line costs, and docs/clauses.md anew
 """
 
 import re
@@ -431,6 +432,52 @@ def check_page_of_clauses() -> Iterator[Complaint]:
         yield Complaint(CLAUSES, 1, "the page differs from the sources: docs/check.py write makes it anew")
 
 
+# --- what a new variant costs
+
+# sums of which a new variant wants a row in many files: what a variant is, the type, and the file that declares it
+SUMS = (
+    ("a line that is written", "Report", "dt_reports/src/reports.rt"),
+    ("a line that is read", "Line", "dt_text/src/lines.rt"),
+)
+
+
+def files_with_all_of(name: str, path: str) -> list[str]:
+    """The files outside the crates of tests that name every variant of a type, lowest crate first."""
+    body = re.search(rf"pub enum {name}(?:<[^>]*>)? \{{(.*?)\n\}}", text_of(TOP / "crates" / path), re.S)
+    assert body, f"{path} declares no {name}"
+    variants = set(re.findall(r"(?m)^    ([A-Z]\w*)", body[1]))
+    order = list(crates())
+    found = []
+    for it in sources("src", "specs", "proofs"):
+        crate = it.relative_to(TOP / "crates").parts[0]
+        if not crate.endswith("_rows") and variants <= set(re.findall(r"\w+", text_of(it))):
+            found.append((order.index(crate), it.relative_to(TOP / "crates").as_posix()))
+    return [name for _, name in sorted(found)]
+
+
+def lines_of_costs() -> list[str]:
+    lines = []
+    for what, name, path in SUMS:
+        found = files_with_all_of(name, path)
+        lines.append(f"| {what} | `{name}` | {len(found)} | {', '.join(f'`{it}`' for it in found)} |")
+    return lines
+
+
+def check_costs() -> Iterator[Complaint]:
+    lines = text_of(ARCHITECTURE).splitlines()
+    for line in lines_of_costs():
+        if line not in lines:
+            yield Complaint(ARCHITECTURE, 1, "the table of what a new variant costs differs from the sources: docs/check.py write")
+
+
+def write_costs() -> None:
+    text = ARCHITECTURE.read_text()
+    for line in lines_of_costs():
+        head = "|".join(line.split("|")[:3])
+        text = re.sub(rf"(?m)^{re.escape(head)}\|.*$", lambda _: line, text)
+    ARCHITECTURE.write_text(text)
+
+
 def check_files() -> Iterator[Complaint]:
     for crate in sorted((TOP / "crates").iterdir()):
         for path in headings.files_of(crate) if crate.is_dir() else ():
@@ -447,6 +494,7 @@ def complaints() -> Iterator[Complaint]:
     yield from check_page_of_clauses()
     yield from check_crates()
     yield from check_formats()
+    yield from check_costs()
     yield from check_files()
 
 
@@ -460,6 +508,7 @@ def main(words: list[str]) -> int:
             return 1 if found else 0
         case ["write"]:
             write_crates()
+            write_costs()
             CLAUSES.write_text(page_of_clauses())
             return 0
         case ["-h" | "--help"]:
