@@ -7,6 +7,7 @@ It refuses, each with page and line:
   a type, a definition;
 - a crate's row in the table of crates whose "stands on" differs from crates.txt, and a crate
   without a row;
+- a library on a crate's line in crates.txt of which the crate names nothing;
 - a clause of `run` that docs/guarantees.md doesn't name;
 - a table of docs/clauses.md that differs from the public functions and their clauses;
 - a word of a line that is written or read and that docs/formats.md doesn't name;
@@ -362,6 +363,19 @@ def check_crates() -> Iterator[Complaint]:
         yield Complaint(ARCHITECTURE, 1, f"the crate {name} has no row")
 
 
+def check_libraries() -> Iterator[Complaint]:
+    """Each library on a crate's line is named in its sources."""
+    for name, below in crates().items():
+        words: set[str] = set()
+        for kind in ("src", "specs", "proofs"):
+            for path in (TOP / "crates" / name / kind).rglob("*"):
+                if path.is_file():
+                    words.update(re.findall(r"\w+", text_of(path)))
+        for library in below:
+            if library not in words:
+                yield Complaint(TOP / "crates.txt", 1, f"{name} names nothing of {library}")
+
+
 def write_crates() -> None:
     lines = text_of(ARCHITECTURE).splitlines(keepends=True)
     for number, cells in rows_of_crates():
@@ -493,6 +507,7 @@ def complaints() -> Iterator[Complaint]:
     yield from check_run()
     yield from check_page_of_clauses()
     yield from check_crates()
+    yield from check_libraries()
     yield from check_formats()
     yield from check_costs()
     yield from check_files()

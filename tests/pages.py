@@ -26,6 +26,7 @@ SPOILT = [
     ("a clause of run that isn't named", "docs/guarantees.md", "`stood_still`", "`stood`"),
     ("a table of clauses that differs", "docs/clauses.md", "| `Relay::enter` |", "| `Relay::entered` |"),
     ("a crate on another stand", "docs/architecture.md", " dt_host, dt_relay |", " dt_host |"),
+    ("a library that isn't used", "crates.txt", "dt_units:", "dt_units: hex"),
     ("a crate without a row", "docs/architecture.md", "| dt_shelf |", "| shelf |"),
     ("a written line that isn't named", "docs/formats.md", "settled", "set"),
     ("a read line that isn't named", "docs/formats.md", "`restart N`", "`again N`"),
