@@ -7,13 +7,14 @@ use Rattle.dt_layout.specs.Spelling.{PacketValue, Data, Ack, Meet, Close}
 use Rattle.dt_layout.specs.Reading.{gram_in, packet_read}
 use Rattle.dt_layout.specs.Carried.{to_of}
 use Rattle.dt_reports.specs.Told.{Told}
-use Rattle.dt_reports.specs.declared.reports.Report.TheVariants as report
+use Rattle.dt_reports.specs.Matters as matter
+use Rattle.dt_reports.specs.Matters.{Matter, matter_of}
 use Rattle.dt_flow_model.specs.declared.arrivals.Arrived.{Arrived}
 use Rattle.dt_flow_model.specs.declared.arrivals.Arrived.TheVariants as arrived
 use Rattle.dt_flow_model.specs.Frames.{Mark, flow_of, reply_frame}
 use Rattle.dt_flow_model.specs.Ledger.{given_rows}
 use Rattle.dt_world_model.specs.Host.{arrive, told_arrival, told_dropped}
-use Rattle.dt_world_model.specs.Ledgers.{Accepts, Change, Changes, Effect, FlowLedger, GivesUp, Leaves, Ledgers, Neither, Occasion, ReadsOut, Settles, Takes, Transmits, TransmitsAgain, effect_of, ledger_after, ledger_of, ledgers_after, ledgers_by}
+use Rattle.dt_world_model.specs.Ledgers.{Accepts, Change, Changes, Effect, FlowLedger, GivesUp, Leaves, Ledgers, Neither, Occasion, ReadsOut, Settles, Takes, Transmits, TransmitsAgain, effect_by, effect_of, ledger_after, ledger_of, ledgers_after, ledgers_by}
 use Rattle.dt_world_model.specs.Relay.{Parcel, admit}
 use Rattle.dt_world_model.specs.Script.{Script, Done, Tell, Ask, Hand, ◌>>=◌, play}
 use Rattle.dt_world_model.specs.Station.{Arrive, Event, Station, Tick, come, come_in, deliver, happen, pass_on, send_off, settle_station, station_event, station_with}
@@ -22,7 +23,7 @@ use Rattle.dt_world_model.specs.World.{Noted, Placed, World, note_copy, note_tol
 use Rattle.dt_world_model.specs.WorldStep.{Arrives, Loses, Passes, Reads, Restarts, Sends, Ticks, WorldEvent, after_event, copy_at, event_at, link_for, noted_at, occasion, restart_at}
 use Rattle.dt_world_model.proofs.Tables.{flow_is}
 use Rattle.dt_world_laws.proofs.Reported.{entry_changes, entry_stays}
-use Rattle.dt_calls_model.specs.Heard.{ALoss, APiece, ARefusal, ATaking, AnAcceptance, Heard, NoMessage, heard}
+use Rattle.dt_calls_model.specs.Heard.{ALoss, APiece, ARefusal, ATaking, AnAcceptance, Heard, NoMessage, heard, heard_by}
 use Rattle.dt_calls_laws.specs.Grown.{GrowsAtEnd, IsNoSendOrRead}
 use Rattle.dt_calls_laws.specs.Silence.{IsSilent, SameOctets, TellsNoMessage}
 use Rattle.dt_calls_laws.proofs.Octets.{changed_same}
@@ -73,42 +74,21 @@ IsGrowingEffect (Changes f change) = IsGrowing change
 IsGrowingEffect (Leaves link life) = Unit {0}
 IsGrowingEffect Neither = Unit {0}
 
-growing_effect : (r : Told) → IsGrowth (heard r) → IsGrowingEffect (effect_of r)
-growing_effect (report.Took f count) h = absurd h
-growing_effect (report.Refused f fault) h = tt
-growing_effect (report.Sent f number count drf begin end) h = tt
-growing_effect (report.Resent f number count drf begin end) h = tt
-growing_effect (report.Met f number) h = tt
-growing_effect (report.Uncertain f count) h = tt
-growing_effect (report.Released f sending) h = tt
-growing_effect (report.Renewed f) h = tt
-growing_effect (report.Acked f number window) h = tt
-growing_effect (report.Replied f number window) h = tt
-growing_effect (report.Accepted f number count run) h = tt
-growing_effect (report.Dropped f number) h = tt
-growing_effect (report.Closing f number) h = tt
-growing_effect (report.Settled f count window) h = tt
-growing_effect (report.Ignored f number window) h = tt
-growing_effect (report.Quiet until) h = tt
-growing_effect (report.Read f run begin end octets) h = absurd h
-growing_effect (report.Nothing f) h = tt
-growing_effect (report.Put link life) h = tt
-growing_effect (report.PutAs link life copy) h = tt
-growing_effect (report.ExpiredIn link) h = tt
-growing_effect (report.ExpiredOut link) h = tt
-growing_effect (report.NoRoute to) h = tt
-growing_effect (report.Full link) h = tt
-growing_effect (report.Bad fault) h = tt
-growing_effect (report.Unsent link) h = tt
-growing_effect (report.Shelved f number) h = tt
-growing_effect (report.NoShelf f number) h = tt
-growing_effect (report.Again f number) h = tt
-growing_effect (report.Stale f number) h = tt
-growing_effect (report.Restarted life) h = tt
-growing_effect (report.Lost copy) h = tt
-growing_effect (report.FlowTotals f taken acked uncertain unsettled given read) h = tt
-growing_effect report.End h = tt
-growing_effect (report.Fault line fault) h = tt
+growing_matter : (m : Matter) → IsGrowth (heard_by m) → IsGrowingEffect (effect_by m)
+growing_matter (matter.Taken f count) h = absurd h
+growing_matter (matter.Refused f fault) h = tt
+growing_matter (matter.Transmitted f number count) h = tt
+growing_matter (matter.Retransmitted f) h = tt
+growing_matter (matter.GivenUp f count) h = tt
+growing_matter (matter.Acknowledged f count window) h = tt
+growing_matter (matter.Accepted f number count run) h = tt
+growing_matter (matter.Replied f number) h = tt
+growing_matter (matter.Dropped f) h = tt
+growing_matter (matter.ReadOut f run begin end octets) h = absurd h
+growing_matter (matter.NothingRead f) h = tt
+growing_matter (matter.Left link life) h = tt
+growing_matter (matter.Begun life) h = tt
+growing_matter matter.Neither h = tt
 
 changed_grows : (o : Occasion) (change : Change) (l : FlowLedger) → IsGrowing change → GrowsAtEnd l (ledger_after o change l)
 changed_grows o Takes l h = absurd h
@@ -155,7 +135,7 @@ play_grows : {A : Type 0} (o : Occasion) (s : Script Mark A) (d : Noted) (g : Fl
 play_grows o (Done a) d g h = grows_nothing (ledger_of d.ledgers g)
 play_grows o (Tell r s) d g h =
     let mid = note_told o r d in
-    grows_then (ledger_of d.ledgers g) (ledger_of mid.ledgers g) (ledger_of (play (world_handler o) s mid).0.ledgers g) (told_grows o r d.ledgers g (effect_of r) refl (growing_effect r h.0)) (play_grows o s mid g h.1)
+    grows_then (ledger_of d.ledgers g) (ledger_of mid.ledgers g) (ledger_of (play (world_handler o) s mid).0.ledgers g) (told_grows o r d.ledgers g (effect_of r) refl (growing_matter (matter_of r) h.0)) (play_grows o s mid g h.1)
 play_grows o (Ask host octets s) d g h = let t = (world_handler o).tag host octets d in play_grows o (s t) d g (h t)
 play_grows o (Hand link parcel s) d g h = play_grows o s (note_copy o link parcel d) g h
 

@@ -3,18 +3,19 @@ use Rattle.std.proofs.Common.{ℕ, zero, suc, ◌≡◌, Bool, true, false, if�
 use Rattle.dt_items.specs.declared.item.Item.{Item}
 use Rattle.dt_units.specs.declared.endpoints.Flow.{Flow}
 use Rattle.dt_reports.specs.Told.{Told}
-use Rattle.dt_reports.specs.declared.reports.Report.TheVariants as report
+use Rattle.dt_reports.specs.Matters as matter
+use Rattle.dt_reports.specs.Matters.{Matter, matter_of}
 use Rattle.dt_flow_model.specs.Frames.{Mark}
 use Rattle.dt_flow_model.specs.declared.rows.Fate.{Fate}
 use Rattle.dt_flow_model.specs.declared.rows.Taken.{Taken}
 use Rattle.dt_flow_model.specs.Ledger.{first_unsent, is_open_in, item_of, note_first, settle}
-use Rattle.dt_world_model.specs.Ledgers.{Accepts, Change, Changes, Effect, FlowLedger, GivesUp, Leaves, Ledgers, Neither, Occasion, ReadsOut, Settles, Takes, Transmits, TransmitsAgain, effect_of, ledger_after, ledger_of, ledgers_after, ledgers_by}
+use Rattle.dt_world_model.specs.Ledgers.{Accepts, Change, Changes, Effect, FlowLedger, GivesUp, Leaves, Ledgers, Neither, Occasion, ReadsOut, Settles, Takes, Transmits, TransmitsAgain, effect_by, effect_of, ledger_after, ledger_of, ledgers_after, ledgers_by}
 use Rattle.dt_world_model.specs.Script.{Script, Done, Tell, Ask, Hand, play}
 use Rattle.dt_world_model.specs.Tables.{same_flow}
 use Rattle.dt_world_model.specs.World.{Noted, note_copy, note_told, world_handler}
 use Rattle.dt_world_model.proofs.Tables.{flow_is}
 use Rattle.dt_world_laws.proofs.Reported.{entry_changes, entry_stays}
-use Rattle.dt_calls_model.specs.Heard.{heard}
+use Rattle.dt_calls_model.specs.Heard.{heard, heard_by}
 use Rattle.dt_calls_laws.specs.Silence.{IsSilent, SameOctets, TellsNoMessage}
 
 pub same_octets : (l : FlowLedger) → SameOctets l l
@@ -57,42 +58,21 @@ IsQuietEffect (Changes f change) = IsQuiet change
 IsQuietEffect (Leaves link life) = Unit {0}
 IsQuietEffect Neither = Unit {0}
 
-quiet_effect : (r : Told) → IsSilent (heard r) → IsQuietEffect (effect_of r)
-quiet_effect (report.Took f count) h = absurd h
-quiet_effect (report.Refused f fault) h = absurd h
-quiet_effect (report.Sent f number count drf begin end) h = tt
-quiet_effect (report.Resent f number count drf begin end) h = tt
-quiet_effect (report.Met f number) h = tt
-quiet_effect (report.Uncertain f count) h = tt
-quiet_effect (report.Released f sending) h = tt
-quiet_effect (report.Renewed f) h = tt
-quiet_effect (report.Acked f number window) h = tt
-quiet_effect (report.Replied f number window) h = tt
-quiet_effect (report.Accepted f number count run) h = absurd h
-quiet_effect (report.Dropped f number) h = tt
-quiet_effect (report.Closing f number) h = tt
-quiet_effect (report.Settled f count window) h = tt
-quiet_effect (report.Ignored f number window) h = tt
-quiet_effect (report.Quiet until) h = tt
-quiet_effect (report.Read f run begin end octets) h = absurd h
-quiet_effect (report.Nothing f) h = tt
-quiet_effect (report.Put link life) h = tt
-quiet_effect (report.PutAs link life copy) h = tt
-quiet_effect (report.ExpiredIn link) h = tt
-quiet_effect (report.ExpiredOut link) h = tt
-quiet_effect (report.NoRoute to) h = tt
-quiet_effect (report.Full link) h = tt
-quiet_effect (report.Bad fault) h = tt
-quiet_effect (report.Unsent link) h = tt
-quiet_effect (report.Shelved f number) h = tt
-quiet_effect (report.NoShelf f number) h = tt
-quiet_effect (report.Again f number) h = tt
-quiet_effect (report.Stale f number) h = tt
-quiet_effect (report.Restarted life) h = tt
-quiet_effect (report.Lost copy) h = tt
-quiet_effect (report.FlowTotals f taken acked uncertain unsettled given read) h = tt
-quiet_effect report.End h = tt
-quiet_effect (report.Fault line fault) h = tt
+quiet_matter : (m : Matter) → IsSilent (heard_by m) → IsQuietEffect (effect_by m)
+quiet_matter (matter.Taken f count) h = absurd h
+quiet_matter (matter.Refused f fault) h = absurd h
+quiet_matter (matter.Transmitted f number count) h = tt
+quiet_matter (matter.Retransmitted f) h = tt
+quiet_matter (matter.GivenUp f count) h = tt
+quiet_matter (matter.Acknowledged f count window) h = tt
+quiet_matter (matter.Accepted f number count run) h = absurd h
+quiet_matter (matter.Replied f number) h = tt
+quiet_matter (matter.Dropped f) h = tt
+quiet_matter (matter.ReadOut f run begin end octets) h = absurd h
+quiet_matter (matter.NothingRead f) h = tt
+quiet_matter (matter.Left link life) h = tt
+quiet_matter (matter.Begun life) h = tt
+quiet_matter matter.Neither h = tt
 
 pub changed_same : (o : Occasion) (change : Change) (l : FlowLedger) → IsQuiet change → SameOctets l (ledger_after o change l)
 changed_same o Takes l h = absurd h
@@ -121,6 +101,6 @@ pub silent_leaves : {A : Type 0} (o : Occasion) (s : Script Mark A) (d : Noted) 
 silent_leaves o (Done a) d g h = same_octets (ledger_of d.ledgers g)
 silent_leaves o (Tell r s) d g h =
     let mid = note_told o r d in
-    octets_then (ledger_of d.ledgers g) (ledger_of mid.ledgers g) (ledger_of (play (world_handler o) s mid).0.ledgers g) (told_case o r d.ledgers g (effect_of r) refl (quiet_effect r h.0)) (silent_leaves o s mid g h.1)
+    octets_then (ledger_of d.ledgers g) (ledger_of mid.ledgers g) (ledger_of (play (world_handler o) s mid).0.ledgers g) (told_case o r d.ledgers g (effect_of r) refl (quiet_matter (matter_of r) h.0)) (silent_leaves o s mid g h.1)
 silent_leaves o (Ask host octets s) d g h = let t = (world_handler o).tag host octets d in silent_leaves o (s t) d g (h t)
 silent_leaves o (Hand link parcel s) d g h = silent_leaves o s (note_copy o link parcel d) g h

@@ -1,7 +1,8 @@
--- What the lines of the world's events tell of messages: the piece that was read, that a send was taken or refused, that data of a flow was accepted, and that octets of a flow were given up. One row a report.
+-- What the lines of the world's events tell of messages: the piece that was read, that a send was taken or refused, that data of a flow was accepted, and that octets of a flow were given up.
 use Rattle.std.specs.Prelude.{ℕ, Bool, true, false, ◌||◌, List, [], ◌∷◌, Option, Some, None}
 use Rattle.dt_units.specs.declared.endpoints.Flow.{Flow}
-use Rattle.dt_reports.specs.declared.reports.Report.TheVariants as report
+use Rattle.dt_reports.specs.Matters as matter
+use Rattle.dt_reports.specs.Matters.{Matter, matter_of}
 use Rattle.dt_reports.specs.Told.{Told}
 use Rattle.dt_reports.specs.Entries.{Entry}
 use Rattle.dt_calls_model.specs.Messages.{Piece}
@@ -14,42 +15,24 @@ pub data Heard : Type 0 where
   ALoss : (flow : Flow) → Heard
   NoMessage : Heard
 
+abbrev pub heard_by : Matter → Heard
+heard_by (matter.Taken f count) = ATaking
+heard_by (matter.Refused f fault) = ARefusal
+heard_by (matter.Transmitted f number count) = NoMessage
+heard_by (matter.Retransmitted f) = NoMessage
+heard_by (matter.GivenUp f count) = ALoss f
+heard_by (matter.Acknowledged f count window) = NoMessage
+heard_by (matter.Accepted f number count run) = AnAcceptance f
+heard_by (matter.Replied f number) = NoMessage
+heard_by (matter.Dropped f) = NoMessage
+heard_by (matter.ReadOut f run begin end octets) = APiece (record { run = run; begin = begin; end = end; octets = octets })
+heard_by (matter.NothingRead f) = NoMessage
+heard_by (matter.Left link life) = NoMessage
+heard_by (matter.Begun life) = NoMessage
+heard_by matter.Neither = NoMessage
+
 abbrev pub heard : Told → Heard
-heard (report.Took f count) = ATaking
-heard (report.Refused f fault) = ARefusal
-heard (report.Sent f number count drf begin end) = NoMessage
-heard (report.Resent f number count drf begin end) = NoMessage
-heard (report.Met f number) = NoMessage
-heard (report.Uncertain f count) = ALoss f
-heard (report.Released f sending) = NoMessage
-heard (report.Renewed f) = NoMessage
-heard (report.Acked f number window) = NoMessage
-heard (report.Replied f number window) = NoMessage
-heard (report.Accepted f number count run) = AnAcceptance f
-heard (report.Dropped f number) = NoMessage
-heard (report.Closing f number) = NoMessage
-heard (report.Settled f count window) = NoMessage
-heard (report.Ignored f number window) = NoMessage
-heard (report.Quiet until) = NoMessage
-heard (report.Read f run begin end octets) = APiece (record { run = run; begin = begin; end = end; octets = octets.now })
-heard (report.Nothing f) = NoMessage
-heard (report.Put link life) = NoMessage
-heard (report.PutAs link life copy) = NoMessage
-heard (report.ExpiredIn link) = NoMessage
-heard (report.ExpiredOut link) = NoMessage
-heard (report.NoRoute to) = NoMessage
-heard (report.Full link) = NoMessage
-heard (report.Bad fault) = NoMessage
-heard (report.Unsent link) = NoMessage
-heard (report.Shelved f number) = NoMessage
-heard (report.NoShelf f number) = NoMessage
-heard (report.Again f number) = NoMessage
-heard (report.Stale f number) = NoMessage
-heard (report.Restarted life) = NoMessage
-heard (report.Lost copy) = NoMessage
-heard (report.FlowTotals f taken acked uncertain unsettled given read) = NoMessage
-heard report.End = NoMessage
-heard (report.Fault line fault) = NoMessage
+heard told = heard_by (matter_of told)
 
 abbrev pub or_later : Heard → Option Piece → Option Piece
 or_later (APiece piece) later = Some piece

@@ -5,9 +5,11 @@
 mod faults;
 mod flow_totals;
 mod log_lines;
+mod matters;
 mod reports;
 
 pub use faults::{Fault, LineFault, Refusal, SetupFault, StepFault};
 pub use flow_totals::Totals;
 pub use log_lines::LogLine;
+pub use matters::Matter;
 pub use reports::Report;

@@ -5,7 +5,8 @@ use Rattle.dt_units.specs.declared.parameters.Params.{Params}
 use Rattle.dt_units.specs.declared.endpoints.Flow.{Flow}
 use Rattle.dt_layout.specs.Spelling.{PacketValue, Data, Ack, Meet, Close}
 use Rattle.dt_reports.specs.declared.flow_totals.Totals.{Totals}
-use Rattle.dt_reports.specs.declared.reports.Report.TheVariants as report
+use Rattle.dt_reports.specs.Matters as matter
+use Rattle.dt_reports.specs.Matters.{Matter, matter_of}
 use Rattle.dt_reports.specs.Told.{Told}
 use Rattle.dt_flow_model.specs.declared.rows.Fate.{Fate}
 use Rattle.dt_flow_model.specs.declared.rows.Fate.TheVariants as fate
@@ -62,42 +63,24 @@ pub data Effect : Type 0 where
   Leaves : (link life : ℕ) → Effect
   Neither : Effect
 
+abbrev pub effect_by : Matter → Effect
+effect_by (matter.Taken f count) = Changes f Takes
+effect_by (matter.Refused f fault) = Neither
+effect_by (matter.Transmitted f number count) = Changes f (Transmits count)
+effect_by (matter.Retransmitted f) = Changes f TransmitsAgain
+effect_by (matter.GivenUp f count) = Changes f (GivesUp count)
+effect_by (matter.Acknowledged f count window) = Changes f (Settles count)
+effect_by (matter.Accepted f number count run) = Changes f (Accepts run)
+effect_by (matter.Replied f number) = Neither
+effect_by (matter.Dropped f) = Neither
+effect_by (matter.ReadOut f run begin end octets) = Changes f (ReadsOut (length octets))
+effect_by (matter.NothingRead f) = Neither
+effect_by (matter.Left link life) = Leaves link life
+effect_by (matter.Begun life) = Neither
+effect_by matter.Neither = Neither
+
 abbrev pub effect_of : Told → Effect
-effect_of (report.Took f count) = Changes f Takes
-effect_of (report.Refused f fault) = Neither
-effect_of (report.Sent f number count drf begin end) = Changes f (Transmits count)
-effect_of (report.Resent f number count drf begin end) = Changes f TransmitsAgain
-effect_of (report.Met f number) = Changes f TransmitsAgain
-effect_of (report.Uncertain f count) = Changes f (GivesUp count)
-effect_of (report.Released f sending) = Neither
-effect_of (report.Renewed f) = Neither
-effect_of (report.Acked f number window) = Neither
-effect_of (report.Replied f number window) = Neither
-effect_of (report.Accepted f number count run) = Changes f (Accepts run)
-effect_of (report.Dropped f number) = Neither
-effect_of (report.Closing f number) = Neither
-effect_of (report.Settled f count window) = Changes f (Settles count)
-effect_of (report.Ignored f number window) = Neither
-effect_of (report.Quiet until) = Neither
-effect_of (report.Read f run begin end octets) = Changes f (ReadsOut (length octets.now))
-effect_of (report.Nothing f) = Neither
-effect_of (report.Put link life) = Leaves link life
-effect_of (report.PutAs link life copy) = Neither
-effect_of (report.ExpiredIn link) = Neither
-effect_of (report.ExpiredOut link) = Neither
-effect_of (report.NoRoute to) = Neither
-effect_of (report.Full link) = Neither
-effect_of (report.Bad fault) = Neither
-effect_of (report.Unsent link) = Neither
-effect_of (report.Shelved f number) = Neither
-effect_of (report.NoShelf f number) = Neither
-effect_of (report.Again f number) = Neither
-effect_of (report.Stale f number) = Neither
-effect_of (report.Restarted life) = Neither
-effect_of (report.Lost copy) = Neither
-effect_of (report.FlowTotals f taken acked uncertain unsettled given read) = Neither
-effect_of report.End = Neither
-effect_of (report.Fault line fault) = Neither
+effect_of told = effect_by (matter_of told)
 
 -- an event at a station, at a moment of the world
 pub record Occasion : Type 0 where
