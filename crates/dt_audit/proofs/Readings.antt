@@ -55,80 +55,25 @@ letters false false false = refl
 -- WHAT EACH REPORT'S LINE TELLS, where no node tells it
 by_none : (moment : ℕ) (told : Told) → told_fact (line_words moment None told) ≡ Ok Other
 unfolding numeral digits_number
-by_none moment (report.Took f count) = not_told (line_words moment None (report.Took f count)) (and_right (is_some (numeral 18446744073709551615 (decimal moment))) (is_some (numeral 4294967295 (codes "took"))) refl)
-by_none moment (report.Refused f fault) = not_told (line_words moment None (report.Refused f fault)) (and_right (is_some (numeral 18446744073709551615 (decimal moment))) (is_some (numeral 4294967295 (codes "refused"))) refl)
-by_none moment (report.Sent f number count drf begin end) = not_told (line_words moment None (report.Sent f number count drf begin end)) (and_right (is_some (numeral 18446744073709551615 (decimal moment))) (is_some (numeral 4294967295 (codes "sent"))) refl)
-by_none moment (report.Resent f number count drf begin end) = not_told (line_words moment None (report.Resent f number count drf begin end)) (and_right (is_some (numeral 18446744073709551615 (decimal moment))) (is_some (numeral 4294967295 (codes "resent"))) refl)
-by_none moment (report.Met f number) = not_told (line_words moment None (report.Met f number)) (and_right (is_some (numeral 18446744073709551615 (decimal moment))) (is_some (numeral 4294967295 (codes "met"))) refl)
-by_none moment (report.Uncertain f count) = not_told (line_words moment None (report.Uncertain f count)) (and_right (is_some (numeral 18446744073709551615 (decimal moment))) (is_some (numeral 4294967295 (codes "uncertain"))) refl)
-by_none moment (report.Released f sending) = not_told (line_words moment None (report.Released f sending)) (and_right (is_some (numeral 18446744073709551615 (decimal moment))) (is_some (numeral 4294967295 (codes "released"))) refl)
-by_none moment (report.Renewed f) = not_told (line_words moment None (report.Renewed f)) (and_right (is_some (numeral 18446744073709551615 (decimal moment))) (is_some (numeral 4294967295 (codes "renewed"))) refl)
-by_none moment (report.Acked f number window) = not_told (line_words moment None (report.Acked f number window)) (and_right (is_some (numeral 18446744073709551615 (decimal moment))) (is_some (numeral 4294967295 (codes "acked"))) refl)
-by_none moment (report.Replied f number window) = not_told (line_words moment None (report.Replied f number window)) (and_right (is_some (numeral 18446744073709551615 (decimal moment))) (is_some (numeral 4294967295 (codes "replied"))) refl)
-by_none moment (report.Accepted f number count run) = not_told (line_words moment None (report.Accepted f number count run)) (and_right (is_some (numeral 18446744073709551615 (decimal moment))) (is_some (numeral 4294967295 (codes "accepted"))) refl)
-by_none moment (report.Dropped f number) = not_told (line_words moment None (report.Dropped f number)) (and_right (is_some (numeral 18446744073709551615 (decimal moment))) (is_some (numeral 4294967295 (codes "dropped"))) refl)
-by_none moment (report.Closing f number) = not_told (line_words moment None (report.Closing f number)) (and_right (is_some (numeral 18446744073709551615 (decimal moment))) (is_some (numeral 4294967295 (codes "closing"))) refl)
-by_none moment (report.Settled f count window) = not_told (line_words moment None (report.Settled f count window)) (and_right (is_some (numeral 18446744073709551615 (decimal moment))) (is_some (numeral 4294967295 (codes "settled"))) refl)
-by_none moment (report.Ignored f number window) = not_told (line_words moment None (report.Ignored f number window)) (and_right (is_some (numeral 18446744073709551615 (decimal moment))) (is_some (numeral 4294967295 (codes "ignored"))) refl)
-by_none moment (report.Quiet until) = not_told (line_words moment None (report.Quiet until)) (and_right (is_some (numeral 18446744073709551615 (decimal moment))) (is_some (numeral 4294967295 (codes "quiet"))) refl)
-by_none moment (report.Read f run begin end octets) = not_told (line_words moment None (report.Read f run begin end octets)) (and_right (is_some (numeral 18446744073709551615 (decimal moment))) (is_some (numeral 4294967295 (codes "read"))) refl)
-by_none moment (report.Nothing f) = not_told (line_words moment None (report.Nothing f)) (and_right (is_some (numeral 18446744073709551615 (decimal moment))) (is_some (numeral 4294967295 (codes "nothing"))) refl)
-by_none moment (report.Put link life) = not_told (line_words moment None (report.Put link life)) (and_right (is_some (numeral 18446744073709551615 (decimal moment))) (is_some (numeral 4294967295 (codes "put"))) refl)
-by_none moment (report.PutAs link life copy) = not_told (line_words moment None (report.PutAs link life copy)) (and_right (is_some (numeral 18446744073709551615 (decimal moment))) (is_some (numeral 4294967295 (codes "put"))) refl)
-by_none moment (report.ExpiredIn link) = not_told (line_words moment None (report.ExpiredIn link)) (and_right (is_some (numeral 18446744073709551615 (decimal moment))) (is_some (numeral 4294967295 (codes "expired"))) refl)
-by_none moment (report.ExpiredOut link) = not_told (line_words moment None (report.ExpiredOut link)) (and_right (is_some (numeral 18446744073709551615 (decimal moment))) (is_some (numeral 4294967295 (codes "expired"))) refl)
-by_none moment (report.NoRoute to) = not_told (line_words moment None (report.NoRoute to)) (and_right (is_some (numeral 18446744073709551615 (decimal moment))) (is_some (numeral 4294967295 (codes "noroute"))) refl)
-by_none moment (report.Full link) = not_told (line_words moment None (report.Full link)) (and_right (is_some (numeral 18446744073709551615 (decimal moment))) (is_some (numeral 4294967295 (codes "full"))) refl)
-by_none moment (report.Bad fault) = not_told (line_words moment None (report.Bad fault)) (and_right (is_some (numeral 18446744073709551615 (decimal moment))) (is_some (numeral 4294967295 (codes "bad"))) refl)
-by_none moment (report.Unsent link) = not_told (line_words moment None (report.Unsent link)) (and_right (is_some (numeral 18446744073709551615 (decimal moment))) (is_some (numeral 4294967295 (codes "unsent"))) refl)
-by_none moment (report.Shelved f number) = not_told (line_words moment None (report.Shelved f number)) (and_right (is_some (numeral 18446744073709551615 (decimal moment))) (is_some (numeral 4294967295 (codes "shelved"))) refl)
-by_none moment (report.NoShelf f number) = not_told (line_words moment None (report.NoShelf f number)) (and_right (is_some (numeral 18446744073709551615 (decimal moment))) (is_some (numeral 4294967295 (codes "noshelf"))) refl)
-by_none moment (report.Again f number) = not_told (line_words moment None (report.Again f number)) (and_right (is_some (numeral 18446744073709551615 (decimal moment))) (is_some (numeral 4294967295 (codes "again"))) refl)
-by_none moment (report.Stale f number) = not_told (line_words moment None (report.Stale f number)) (and_right (is_some (numeral 18446744073709551615 (decimal moment))) (is_some (numeral 4294967295 (codes "stale"))) refl)
-by_none moment (report.Restarted life) = not_told (line_words moment None (report.Restarted life)) (and_right (is_some (numeral 18446744073709551615 (decimal moment))) (is_some (numeral 4294967295 (codes "restarted"))) refl)
-by_none moment (report.Lost copy) = not_told (line_words moment None (report.Lost copy)) (and_right (is_some (numeral 18446744073709551615 (decimal moment))) (is_some (numeral 4294967295 (codes "lost"))) refl)
 by_none moment (report.FlowTotals f taken acked uncertain unsettled given read) = not_told (line_words moment None (report.FlowTotals f taken acked uncertain unsettled given read)) (and_left (is_some (numeral 18446744073709551615 (codes "flow"))) (is_some (numeral 4294967295 (flow_text f))) refl)
 by_none moment report.End = refl
 by_none moment (report.Fault line fault) = not_told (line_words moment None (report.Fault line fault)) (and_left (is_some (numeral 18446744073709551615 (codes "line"))) (is_some (numeral 4294967295 (decimal line ++ codes ":"))) refl)
+by_none moment other = not_told (line_words moment None other) (and_right _ _ refl)
 
 -- and where a node does
 by_node : (moment node : ℕ) (told : Told) → moment < 2 ^ 64 → node < 2 ^ 32 → IsInRange told → told_fact (line_words moment (Some node) told) ≡ Ok (fact_by node told)
 by_node moment node (report.Took f count) m k h = rw (long moment m, short node k, flow-text f h.0, short count h.1, from_0 count) refl
-by_node moment node (report.Refused f fault) m k h = other_named (line_words moment (Some node) (report.Refused f fault)) refl
 by_node moment node (report.Sent f number count drf begin end) m k h = rw (long moment m, short node k, flow-text f h.0, short number h.1, short count h.2, from_0 number, from_0 count, letters drf begin end) refl
-by_node moment node (report.Resent f number count drf begin end) m k h = other_named (line_words moment (Some node) (report.Resent f number count drf begin end)) refl
-by_node moment node (report.Met f number) m k h = other_named (line_words moment (Some node) (report.Met f number)) refl
 by_node moment node (report.Uncertain f count) m k h = rw (long moment m, short node k, flow-text f h.0, short count h.1, from_0 count) refl
-by_node moment node (report.Released f sending) m k h = other_named (line_words moment (Some node) (report.Released f sending)) refl
-by_node moment node (report.Renewed f) m k h = other_named (line_words moment (Some node) (report.Renewed f)) refl
-by_node moment node (report.Acked f number window) m k h = other_named (line_words moment (Some node) (report.Acked f number window)) refl
-by_node moment node (report.Replied f number window) m k h = other_named (line_words moment (Some node) (report.Replied f number window)) refl
 by_node moment node (report.Accepted f number count true) m k h = rw (long moment m, short node k, flow-text f h.0, short number h.1, short count h.2, from_0 number, from_0 count) refl
 by_node moment node (report.Accepted f number count false) m k h = rw (long moment m, short node k, flow-text f h.0, short number h.1, short count h.2, from_0 number, from_0 count) refl
-by_node moment node (report.Dropped f number) m k h = other_named (line_words moment (Some node) (report.Dropped f number)) refl
-by_node moment node (report.Closing f number) m k h = other_named (line_words moment (Some node) (report.Closing f number)) refl
 by_node moment node (report.Settled f count window) m k h = rw (long moment m, short node k, flow-text f h.0, short count h.1, short window h.2, from_0 count, from_0 window) refl
-by_node moment node (report.Ignored f number window) m k h = other_named (line_words moment (Some node) (report.Ignored f number window)) refl
-by_node moment node (report.Quiet until) m k h = other_named (line_words moment (Some node) (report.Quiet until)) refl
-by_node moment node (report.Read f run begin end octets) m k h = other_named (line_words moment (Some node) (report.Read f run begin end octets)) refl
-by_node moment node (report.Nothing f) m k h = other_named (line_words moment (Some node) (report.Nothing f)) refl
-by_node moment node (report.Put link life) m k h = other_named (line_words moment (Some node) (report.Put link life)) refl
-by_node moment node (report.PutAs link life copy) m k h = other_named (line_words moment (Some node) (report.PutAs link life copy)) refl
-by_node moment node (report.ExpiredIn link) m k h = other_named (line_words moment (Some node) (report.ExpiredIn link)) refl
-by_node moment node (report.ExpiredOut link) m k h = other_named (line_words moment (Some node) (report.ExpiredOut link)) refl
-by_node moment node (report.NoRoute to) m k h = other_named (line_words moment (Some node) (report.NoRoute to)) refl
-by_node moment node (report.Full link) m k h = other_named (line_words moment (Some node) (report.Full link)) refl
-by_node moment node (report.Bad fault) m k h = other_named (line_words moment (Some node) (report.Bad fault)) refl
-by_node moment node (report.Unsent link) m k h = other_named (line_words moment (Some node) (report.Unsent link)) refl
-by_node moment node (report.Shelved f number) m k h = other_named (line_words moment (Some node) (report.Shelved f number)) refl
-by_node moment node (report.NoShelf f number) m k h = other_named (line_words moment (Some node) (report.NoShelf f number)) refl
-by_node moment node (report.Again f number) m k h = other_named (line_words moment (Some node) (report.Again f number)) refl
-by_node moment node (report.Stale f number) m k h = other_named (line_words moment (Some node) (report.Stale f number)) refl
 by_node moment node (report.Restarted life) m k h = rw (long moment m, short node k, short life h, from_0 node, from_0 life) refl
 by_node moment node (report.Lost copy) m k h = by_none moment (report.Lost copy)
 by_node moment node (report.FlowTotals f taken acked uncertain unsettled given read) m k h = by_none moment (report.FlowTotals f taken acked uncertain unsettled given read)
 by_node moment node report.End m k h = by_none moment report.End
 by_node moment node (report.Fault line fault) m k h = by_none moment (report.Fault line fault)
+by_node moment node other m k h = other_named (line_words moment (Some node) other) refl
 
 pub told_is : (entry : Entry) → IsWritten entry → told_fact (entry_words entry) ≡ Ok (fact_told entry)
 told_is entry h = by entry.node h.node

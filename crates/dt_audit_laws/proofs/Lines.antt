@@ -3,6 +3,8 @@ use Rattle.std.proofs.Common.{ℕ, ◌≡◌, List, [], ◌∷◌, ◌++◌, map
 use Rattle.dt_units.specs.declared.parameters.Params.{Params}
 use Rattle.dt_units.specs.declared.endpoints.Flow.{Flow}
 use Rattle.dt_reports.specs.Entries.{Entry}
+use Rattle.dt_reports.specs.Matters as matter
+use Rattle.dt_reports.specs.Matters.{Matter, matter_of}
 use Rattle.dt_reports.specs.Told.{Told}
 use Rattle.dt_reports.specs.declared.reports.Report.TheVariants as report
 use Rattle.dt_flow_model.specs.Flow.{FlowState}
@@ -12,7 +14,7 @@ use Rattle.dt_audit.specs.declared.facts.Fact.{Fact}
 use Rattle.dt_audit.specs.declared.facts.Fact.TheVariants.{Other}
 use Rattle.dt_audit.specs.Books.{Book, follow_fact, kept}
 use Rattle.dt_audit.specs.LogRows.{FlowLog, by_rows}
-use Rattle.dt_audit.specs.Telling.{IsInRange, fact_by, fact_told}
+use Rattle.dt_audit.specs.Telling.{IsInRange, IsMatterInRange, fact_by, fact_by_matter, fact_told}
 use Rattle.dt_audit_laws.specs.Books.{FollowsAll, GoesOn}
 use Rattle.dt_audit_laws.specs.Following.{FollowsFlow}
 use Rattle.dt_audit_laws.specs.Logs.{AreInRange, FactsPass, LogOf, ShowsAlike}
@@ -54,120 +56,36 @@ other_goes p before after start lines entry other within a h =
 
 -- what the world adds to a report says nothing of octets
 pub world_fact : (node copies : ℕ) (told : Told) → fact_by node (world_told copies told (effect_of told)) ≡ fact_by node told
-world_fact node copies (report.Took f count) = refl
-world_fact node copies (report.Refused f fault) = refl
-world_fact node copies (report.Sent f number count drf begin end) = refl
-world_fact node copies (report.Resent f number count drf begin end) = refl
-world_fact node copies (report.Met f number) = refl
-world_fact node copies (report.Uncertain f count) = refl
-world_fact node copies (report.Released f sending) = refl
-world_fact node copies (report.Renewed f) = refl
-world_fact node copies (report.Acked f number window) = refl
-world_fact node copies (report.Replied f number window) = refl
-world_fact node copies (report.Accepted f number count run) = refl
-world_fact node copies (report.Dropped f number) = refl
-world_fact node copies (report.Closing f number) = refl
-world_fact node copies (report.Settled f count window) = refl
-world_fact node copies (report.Ignored f number window) = refl
-world_fact node copies (report.Quiet until) = refl
-world_fact node copies (report.Read f run begin end octets) = refl
-world_fact node copies (report.Nothing f) = refl
 world_fact node copies (report.Put link life) = refl
-world_fact node copies (report.PutAs link life copy) = refl
-world_fact node copies (report.ExpiredIn link) = refl
-world_fact node copies (report.ExpiredOut link) = refl
-world_fact node copies (report.NoRoute to) = refl
-world_fact node copies (report.Full link) = refl
-world_fact node copies (report.Bad fault) = refl
-world_fact node copies (report.Unsent link) = refl
-world_fact node copies (report.Shelved f number) = refl
-world_fact node copies (report.NoShelf f number) = refl
-world_fact node copies (report.Again f number) = refl
-world_fact node copies (report.Stale f number) = refl
-world_fact node copies (report.Restarted life) = refl
-world_fact node copies (report.Lost copy) = refl
-world_fact node copies (report.FlowTotals f taken acked uncertain unsettled given read) = refl
-world_fact node copies report.End = refl
-world_fact node copies (report.Fault line fault) = refl
+world_fact node copies other = search
 
 -- nor leaves it a range
 pub world_range : (copies : ℕ) (told : Told) → IsInRange told → IsInRange (world_told copies told (effect_of told))
-world_range copies (report.Took f count) h = h
-world_range copies (report.Refused f fault) h = h
-world_range copies (report.Sent f number count drf begin end) h = h
-world_range copies (report.Resent f number count drf begin end) h = h
-world_range copies (report.Met f number) h = h
-world_range copies (report.Uncertain f count) h = h
-world_range copies (report.Released f sending) h = h
-world_range copies (report.Renewed f) h = h
-world_range copies (report.Acked f number window) h = h
-world_range copies (report.Replied f number window) h = h
-world_range copies (report.Accepted f number count run) h = h
-world_range copies (report.Dropped f number) h = h
-world_range copies (report.Closing f number) h = h
-world_range copies (report.Settled f count window) h = h
-world_range copies (report.Ignored f number window) h = h
-world_range copies (report.Quiet until) h = h
-world_range copies (report.Read f run begin end octets) h = h
-world_range copies (report.Nothing f) h = h
 world_range copies (report.Put link life) h = h
-world_range copies (report.PutAs link life copy) h = h
-world_range copies (report.ExpiredIn link) h = h
-world_range copies (report.ExpiredOut link) h = h
-world_range copies (report.NoRoute to) h = h
-world_range copies (report.Full link) h = h
-world_range copies (report.Bad fault) h = h
-world_range copies (report.Unsent link) h = h
-world_range copies (report.Shelved f number) h = h
-world_range copies (report.NoShelf f number) h = h
-world_range copies (report.Again f number) h = h
-world_range copies (report.Stale f number) h = h
-world_range copies (report.Restarted life) h = h
-world_range copies (report.Lost copy) h = h
-world_range copies (report.FlowTotals f taken acked uncertain unsettled given read) h = h
-world_range copies report.End h = h
-world_range copies (report.Fault line fault) h = h
+world_range copies other h = search
 
 -- what says nothing of octets and lives has no range
 abbrev pub SaysNothing : Told → Type 0
 SaysNothing told = (node : ℕ) → fact_by node told ≡ Other
 
+matter_in_range : (m : Matter) → ((node : ℕ) → fact_by_matter node m ≡ Other) → IsMatterInRange m
+matter_in_range (matter.Taken f count) h = let k = h 0 in absurd cc
+matter_in_range (matter.Refused f fault) h = tt
+matter_in_range (matter.Transmitted f number count) h = let k = h 0 in absurd cc
+matter_in_range (matter.Retransmitted f) h = tt
+matter_in_range (matter.GivenUp f count) h = let k = h 0 in absurd cc
+matter_in_range (matter.Acknowledged f count window) h = let k = h 0 in absurd cc
+matter_in_range (matter.Accepted f number count run) h = let k = h 0 in absurd cc
+matter_in_range (matter.Replied f number) h = tt
+matter_in_range (matter.Dropped f) h = tt
+matter_in_range (matter.ReadOut f run begin end octets) h = tt
+matter_in_range (matter.NothingRead f) h = tt
+matter_in_range (matter.Left link life) h = tt
+matter_in_range (matter.Begun life) h = let k = h 0 in absurd cc
+matter_in_range matter.Neither h = tt
+
 pub nothing_in_range : (told : Told) → SaysNothing told → IsInRange told
-nothing_in_range (report.Took f count) h = let k = h 0 in absurd cc
-nothing_in_range (report.Refused f fault) h = tt
-nothing_in_range (report.Sent f number count drf begin end) h = let k = h 0 in absurd cc
-nothing_in_range (report.Resent f number count drf begin end) h = tt
-nothing_in_range (report.Met f number) h = tt
-nothing_in_range (report.Uncertain f count) h = let k = h 0 in absurd cc
-nothing_in_range (report.Released f sending) h = tt
-nothing_in_range (report.Renewed f) h = tt
-nothing_in_range (report.Acked f number window) h = tt
-nothing_in_range (report.Replied f number window) h = tt
-nothing_in_range (report.Accepted f number count run) h = let k = h 0 in absurd cc
-nothing_in_range (report.Dropped f number) h = tt
-nothing_in_range (report.Closing f number) h = tt
-nothing_in_range (report.Settled f count window) h = let k = h 0 in absurd cc
-nothing_in_range (report.Ignored f number window) h = tt
-nothing_in_range (report.Quiet until) h = tt
-nothing_in_range (report.Read f run begin end octets) h = tt
-nothing_in_range (report.Nothing f) h = tt
-nothing_in_range (report.Put link life) h = tt
-nothing_in_range (report.PutAs link life copy) h = tt
-nothing_in_range (report.ExpiredIn link) h = tt
-nothing_in_range (report.ExpiredOut link) h = tt
-nothing_in_range (report.NoRoute to) h = tt
-nothing_in_range (report.Full link) h = tt
-nothing_in_range (report.Bad fault) h = tt
-nothing_in_range (report.Unsent link) h = tt
-nothing_in_range (report.Shelved f number) h = tt
-nothing_in_range (report.NoShelf f number) h = tt
-nothing_in_range (report.Again f number) h = tt
-nothing_in_range (report.Stale f number) h = tt
-nothing_in_range (report.Restarted life) h = let k = h 0 in absurd cc
-nothing_in_range (report.Lost copy) h = tt
-nothing_in_range (report.FlowTotals f taken acked uncertain unsettled given read) h = tt
-nothing_in_range report.End h = tt
-nothing_in_range (report.Fault line fault) h = tt
+nothing_in_range told h = matter_in_range (matter_of told) h
 
 -- WHAT THE LINES LEAD TO, from the end of some to that of others
 pub passes_then : (facts more : List Fact) (start book next : Book FlowLog) → FactsPass facts start book → FactsPass more book next → FactsPass (facts ++ more) start next

@@ -75,42 +75,11 @@ fault_third (faults.Step step_faults.NoMemory) moment me line = refl
 
 -- the third word of a node's line is `unsent` exactly where that is told
 third_is : (moment me : ℕ) (told : Told) → is_third (line_words moment (Some me) told) ≡ is_unsent told
-third_is moment me (reports.Took flow count) = refl
 third_is moment me (reports.Refused flow (refusals.Quiet until)) = refl
 third_is moment me (reports.Refused flow (refusals.Full free)) = refl
-third_is moment me (reports.Sent flow number length drf begin end) = refl
-third_is moment me (reports.Resent flow number length drf begin end) = refl
-third_is moment me (reports.Met flow number) = refl
-third_is moment me (reports.Uncertain flow count) = refl
-third_is moment me (reports.Released flow sending) = refl
-third_is moment me (reports.Renewed flow) = refl
-third_is moment me (reports.Acked flow number window) = refl
-third_is moment me (reports.Replied flow number window) = refl
-third_is moment me (reports.Accepted flow number length run) = refl
-third_is moment me (reports.Dropped flow number) = refl
-third_is moment me (reports.Closing flow number) = refl
-third_is moment me (reports.Settled flow count window) = refl
-third_is moment me (reports.Ignored flow number window) = refl
-third_is moment me (reports.Quiet until) = refl
-third_is moment me (reports.Read flow run begin end octets) = refl
-third_is moment me (reports.Nothing flow) = refl
-third_is moment me (reports.Put link life) = refl
-third_is moment me (reports.PutAs link life copy) = refl
-third_is moment me (reports.ExpiredIn link) = refl
-third_is moment me (reports.ExpiredOut link) = refl
-third_is moment me (reports.NoRoute to) = refl
-third_is moment me (reports.Full link) = refl
-third_is moment me (reports.Bad fault) = refl
-third_is moment me (reports.Unsent link) = refl
-third_is moment me (reports.Shelved flow number) = refl
-third_is moment me (reports.NoShelf flow number) = refl
-third_is moment me (reports.Again flow number) = refl
-third_is moment me (reports.Stale flow number) = refl
-third_is moment me (reports.Restarted life) = refl
 third_is moment me (reports.Lost copy) = not_unsent (decimal copy) (low_number copy)
-third_is moment me (reports.FlowTotals flow taken acked uncertain unsettled given read) = refl
-third_is moment me reports.End = refl
 third_is moment me (reports.Fault line fault) = fault_third fault moment me line
+third_is moment me other = search refl
 
 line_is : (moment me : ℕ) (told : Told) → is_unsent_line (spaced (entry_words (entry me moment told))) ≡ is_unsent told
 line_is moment me told = ap is_third (words_again (entry me moment told)) ∙ third_is moment me told

@@ -2,7 +2,8 @@
 use Rattle.std.specs.Prelude.{◌≡◌, ℕ, List, Some, None}
 use Rattle.dt_units.specs.Numbers.{number_after}
 use Rattle.dt_reports.specs.Told.{Told}
-use Rattle.dt_reports.specs.declared.reports.Report.TheVariants as report
+use Rattle.dt_reports.specs.Matters as matter
+use Rattle.dt_reports.specs.Matters.{Matter, matter_of}
 use Rattle.dt_world_model.specs.Host.{Host}
 use Rattle.dt_world_model.specs.Relay.{Parcel}
 use Rattle.dt_world_model.specs.Script.{Script, Done, Tell, Ask, Hand}
@@ -10,43 +11,25 @@ use Rattle.dt_node.specs.declared.heard.Heard.{Heard}
 use Rattle.dt_node.specs.declared.heard.Heard.TheVariants as heard
 use Rattle.dt_node.specs.declared.heard.Listener.{Listener}
 
--- what is heard after a report. All but three of them leave it as it was
+-- what is heard after a report: what was accepted, and what was replied to or dropped; all else leaves it as it was
+abbrev pub hears_by : Matter → Heard → Heard
+hears_by (matter.Accepted flow number count run) before = heard.Accepted flow (number_after number count)
+hears_by (matter.Replied flow number) before = heard.Refused flow (Some number)
+hears_by (matter.Dropped flow) before = heard.Refused flow None
+hears_by (matter.Taken flow count) before = before
+hears_by (matter.Refused flow fault) before = before
+hears_by (matter.Transmitted flow number count) before = before
+hears_by (matter.Retransmitted flow) before = before
+hears_by (matter.GivenUp flow count) before = before
+hears_by (matter.Acknowledged flow count window) before = before
+hears_by (matter.ReadOut flow run begin end octets) before = before
+hears_by (matter.NothingRead flow) before = before
+hears_by (matter.Left link life) before = before
+hears_by (matter.Begun life) before = before
+hears_by matter.Neither before = before
+
 abbrev pub hears : Told → Heard → Heard
-hears (report.Accepted flow number length run) before = heard.Accepted flow (number_after number length)
-hears (report.Replied flow number window) before = heard.Refused flow (Some number)
-hears (report.Dropped flow number) before = heard.Refused flow None
-hears (report.Took f count) before = before
-hears (report.Refused f fault) before = before
-hears (report.Sent f number count drf begin end) before = before
-hears (report.Resent f number count drf begin end) before = before
-hears (report.Met f number) before = before
-hears (report.Uncertain f count) before = before
-hears (report.Released f sending) before = before
-hears (report.Renewed f) before = before
-hears (report.Acked f number window) before = before
-hears (report.Closing f number) before = before
-hears (report.Settled f count window) before = before
-hears (report.Ignored f number window) before = before
-hears (report.Quiet until) before = before
-hears (report.Read f run begin end octets) before = before
-hears (report.Nothing f) before = before
-hears (report.Put link life) before = before
-hears (report.PutAs link life copy) before = before
-hears (report.ExpiredIn link) before = before
-hears (report.ExpiredOut link) before = before
-hears (report.NoRoute to) before = before
-hears (report.Full link) before = before
-hears (report.Bad fault) before = before
-hears (report.Unsent link) before = before
-hears (report.Shelved f number) before = before
-hears (report.NoShelf f number) before = before
-hears (report.Again f number) before = before
-hears (report.Stale f number) before = before
-hears (report.Restarted life) before = before
-hears (report.Lost copy) before = before
-hears (report.FlowTotals f taken acked uncertain unsettled given read) before = before
-hears report.End before = before
-hears (report.Fault line fault) before = before
+hears told before = hears_by (matter_of told) before
 
 -- what is heard in the end of a script over plain frames
 abbrev pub heard_in : {A : Type 0} → Script (Unit {0}) A → Heard → Heard

@@ -1,18 +1,19 @@
 //! What a station answers to a packet, heard by a visitor between it and another.
 ghost use Rattle.std.specs.Prelude.{◌≡◌, IfOk, OnErr, OnOk, true};
 ghost use Rattle.dt_layout.specs.Carried.{IsGram};
+ghost use Rattle.dt_reports.specs.Matters.{matter_seen};
 ghost use Rattle.dt_reports.specs.Told.{told};
 ghost use Rattle.dt_world_model.specs.Script.{Concludes};
 ghost use Rattle.dt_world_model.specs.Station.{Arrive, station_event};
 ghost use Rattle.dt_node.specs.declared.heard.Heard.TheVariants as heard;
 ghost use Rattle.dt_node.specs.Codes.{GoesOn, MayGo};
-ghost use Rattle.dt_node.specs.Hearing.{heard_in, hears};
+ghost use Rattle.dt_node.specs.Hearing.{heard_in, hears, hears_by};
 ghost use Rattle.dt_node.specs.Shelving.{plain};
 
 use dt_host::Host;
 use dt_items::NoMemory;
 use dt_layout::Frame;
-use dt_reports::Report;
+use dt_reports::{Matter, Report};
 use dt_station::{Station, Visitor};
 use dt_units::Flow;
 
@@ -67,56 +68,42 @@ impl<'v, V: Visitor<Frame>> Visitor<Frame> for Listener<'v, V> {
 fn heard_after(report: &Report<'_>, before: Heard) -> Heard
     ensures { result ≡ hears (told report.now) before }
 {
-    match *report {
-        Report::Accepted {
+    heard_by(report.matter(), before)
+}
+
+/// What is heard after this was said.
+fn heard_by(matter: Matter<'_>, before: Heard) -> Heard
+    ensures { result ≡ hears_by (matter_seen matter.entry) before }
+{
+    match matter {
+        Matter::Accepted {
             flow,
             number,
-            length,
+            count,
             ..
         } => Heard::Accepted {
             flow,
-            next: number.wrapping_add(length),
+            next: number.wrapping_add(count),
         },
-        Report::Replied { flow, number, .. } => Heard::Refused {
+        Matter::Replied { flow, number } => Heard::Refused {
             flow,
             replied: Some(number),
         },
-        Report::Dropped { flow, .. } => Heard::Refused {
+        Matter::Dropped { flow } => Heard::Refused {
             flow,
             replied: None,
         },
-        Report::Took { .. }
-        | Report::Refused { .. }
-        | Report::Sent { .. }
-        | Report::Resent { .. }
-        | Report::Met { .. }
-        | Report::Uncertain { .. }
-        | Report::Released { .. }
-        | Report::Renewed { .. }
-        | Report::Acked { .. }
-        | Report::Closing { .. }
-        | Report::Settled { .. }
-        | Report::Ignored { .. }
-        | Report::Quiet { .. }
-        | Report::Read { .. }
-        | Report::Nothing { .. }
-        | Report::Put { .. }
-        | Report::PutAs { .. }
-        | Report::ExpiredIn { .. }
-        | Report::ExpiredOut { .. }
-        | Report::NoRoute { .. }
-        | Report::Full { .. }
-        | Report::Bad { .. }
-        | Report::Unsent { .. }
-        | Report::Shelved { .. }
-        | Report::NoShelf { .. }
-        | Report::Again { .. }
-        | Report::Stale { .. }
-        | Report::Restarted { .. }
-        | Report::Lost { .. }
-        | Report::FlowTotals { .. }
-        | Report::End
-        | Report::Fault { .. } => before,
+        Matter::Taken { .. }
+        | Matter::Refused { .. }
+        | Matter::Transmitted { .. }
+        | Matter::Retransmitted { .. }
+        | Matter::GivenUp { .. }
+        | Matter::Acknowledged { .. }
+        | Matter::ReadOut { .. }
+        | Matter::NothingRead { .. }
+        | Matter::Left { .. }
+        | Matter::Begun { .. }
+        | Matter::Neither => before,
     }
 }
 

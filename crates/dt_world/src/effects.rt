@@ -1,11 +1,12 @@
 //! What a report says of the world.
 ghost use Rattle.std.specs.Prelude.{◌≡◌};
 ghost use Rattle.dt_reports.specs.Told.{told};
-ghost use Rattle.dt_world_model.specs.Ledgers.{effect_of};
+ghost use Rattle.dt_reports.specs.Matters.{matter_seen};
+ghost use Rattle.dt_world_model.specs.Ledgers.{effect_by, effect_of};
 ghost use Rattle.dt_world.specs.Effects.{effect_seen};
 ghost use Rattle.dt_world.specs.declared.effects.Effect.TheVariants as variant;
 
-use dt_reports::Report;
+use dt_reports::{Matter, Report};
 use dt_units::Flow;
 
 /// What becomes of a flow's octets.
@@ -38,50 +39,35 @@ pub enum Effect {
     Neither,
 }
 
-/// What a report says of the world: one row a report.
+/// What a report says of the world.
 pub fn effect_of(report: &Report<'_>) -> Effect
     ensures { effect_seen result ≡ effect_of (told report.now) }
 {
-    match *report {
-        Report::Took { flow, .. } => changes(flow, Change::Takes),
-        Report::Sent { flow, length, .. } => changes(flow, Change::Transmits { count: length }),
-        Report::Resent { flow, .. } | Report::Met { flow, .. } => {
-            changes(flow, Change::TransmitsAgain)
-        }
-        Report::Uncertain { flow, count } => changes(flow, Change::GivesUp { count }),
-        Report::Settled { flow, count, .. } => changes(flow, Change::Settles { count }),
-        Report::Accepted { flow, run, .. } => changes(flow, Change::Accepts { run }),
-        Report::Read { flow, octets, .. } => {
+    effect_by(report.matter())
+}
+
+/// What is said of octets, packets and lives, as the world has it.
+fn effect_by(matter: Matter<'_>) -> Effect
+    ensures { effect_seen result ≡ effect_by (matter_seen matter.entry) }
+{
+    match matter {
+        Matter::Taken { flow, .. } => changes(flow, Change::Takes),
+        Matter::Transmitted { flow, count, .. } => changes(flow, Change::Transmits { count }),
+        Matter::Retransmitted { flow } => changes(flow, Change::TransmitsAgain),
+        Matter::GivenUp { flow, count } => changes(flow, Change::GivesUp { count }),
+        Matter::Acknowledged { flow, count, .. } => changes(flow, Change::Settles { count }),
+        Matter::Accepted { flow, run, .. } => changes(flow, Change::Accepts { run }),
+        Matter::ReadOut { flow, octets, .. } => {
             let count = octets.len() as u64;
             changes(flow, Change::ReadsOut { count })
         }
-        Report::Put { link, life } => Effect::Leaves { link, life },
-        Report::Refused { .. }
-        | Report::Released { .. }
-        | Report::Renewed { .. }
-        | Report::Acked { .. }
-        | Report::Replied { .. }
-        | Report::Dropped { .. }
-        | Report::Closing { .. }
-        | Report::Ignored { .. }
-        | Report::Quiet { .. }
-        | Report::Nothing { .. }
-        | Report::PutAs { .. }
-        | Report::ExpiredIn { .. }
-        | Report::ExpiredOut { .. }
-        | Report::NoRoute { .. }
-        | Report::Full { .. }
-        | Report::Bad { .. }
-        | Report::Unsent { .. }
-        | Report::Shelved { .. }
-        | Report::NoShelf { .. }
-        | Report::Again { .. }
-        | Report::Stale { .. }
-        | Report::Restarted { .. }
-        | Report::Lost { .. }
-        | Report::FlowTotals { .. }
-        | Report::End
-        | Report::Fault { .. } => Effect::Neither,
+        Matter::Left { link, life } => Effect::Leaves { link, life },
+        Matter::Refused { .. }
+        | Matter::Replied { .. }
+        | Matter::Dropped { .. }
+        | Matter::NothingRead { .. }
+        | Matter::Begun { .. }
+        | Matter::Neither => Effect::Neither,
     }
 }
 
