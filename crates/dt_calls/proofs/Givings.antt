@@ -77,41 +77,15 @@ TacitFor g (Leaves link life) = Unit {0}
 TacitFor g Neither = Unit {0}
 
 tacit_told : (g : Flow) (copies : ℕ) (r : Told) → GivesNone g (heard (world_told copies r (effect_of r))) → TacitFor g (effect_of r)
+tacit_told g copies (report.Accepted f number count run) h = inr h
+tacit_told g copies (report.Read f run begin end octets) h = absurd h
 tacit_told g copies (report.Took f count) h = inl tt
-tacit_told g copies (report.Refused f fault) h = tt
 tacit_told g copies (report.Sent f number count drf begin end) h = inl tt
 tacit_told g copies (report.Resent f number count drf begin end) h = inl tt
 tacit_told g copies (report.Met f number) h = inl tt
 tacit_told g copies (report.Uncertain f count) h = inl tt
-tacit_told g copies (report.Released f sending) h = tt
-tacit_told g copies (report.Renewed f) h = tt
-tacit_told g copies (report.Acked f number window) h = tt
-tacit_told g copies (report.Replied f number window) h = tt
-tacit_told g copies (report.Accepted f number count run) h = inr h
-tacit_told g copies (report.Dropped f number) h = tt
-tacit_told g copies (report.Closing f number) h = tt
 tacit_told g copies (report.Settled f count window) h = inl tt
-tacit_told g copies (report.Ignored f number window) h = tt
-tacit_told g copies (report.Quiet until) h = tt
-tacit_told g copies (report.Read f run begin end octets) h = absurd h
-tacit_told g copies (report.Nothing f) h = tt
-tacit_told g copies (report.Put link life) h = tt
-tacit_told g copies (report.PutAs link life copy) h = tt
-tacit_told g copies (report.ExpiredIn link) h = tt
-tacit_told g copies (report.ExpiredOut link) h = tt
-tacit_told g copies (report.NoRoute to) h = tt
-tacit_told g copies (report.Full link) h = tt
-tacit_told g copies (report.Bad fault) h = tt
-tacit_told g copies (report.Unsent link) h = tt
-tacit_told g copies (report.Shelved f number) h = tt
-tacit_told g copies (report.NoShelf f number) h = tt
-tacit_told g copies (report.Again f number) h = tt
-tacit_told g copies (report.Stale f number) h = tt
-tacit_told g copies (report.Restarted life) h = tt
-tacit_told g copies (report.Lost copy) h = tt
-tacit_told g copies (report.FlowTotals f taken acked uncertain unsettled given read) h = tt
-tacit_told g copies report.End h = tt
-tacit_told g copies (report.Fault line fault) h = tt
+tacit_told g copies other h = tt
 
 module _ (o : Occasion) (told : Told) (all : Ledgers) (g : Flow) where
   flow_case : (b : Bool) (f : Flow) (change : Change) → same_flow f g ≡ b → effect_of told ≡ Changes f change → IsTacit change ⊎ (same_flow f g ≡ false) → SameReads (ledger_of all g) (ledger_of (ledgers_after o told all) g)
