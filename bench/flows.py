@@ -1,8 +1,14 @@
 #!/usr/bin/env python3
-"""What many flows cost `replay`: a schedule on 20,000 flows beside one of the same lines on 20, in
-seconds, peak memory and the factor between their times, for two sizes of the records' rooms. Each
-flow's records stand to the end, so each event finds its act among those of all flows. `bench/flows.py
-[PROGRAM]`. Ends with 1 where a schedule isn't accepted."""
+"""What many flows cost `replay`. `bench/flows.py [PROGRAM]`.
+
+- A schedule on 20,000 flows beside one of the same lines on 20, in seconds, peak memory and the factor between
+  their times, for two sizes of the records' rooms. Each flow's records stand to the end, so each event finds its
+  act among those of all flows.
+- A release: each of 2,000 and of 20,000 flows has sent one message and goes quiet, and then one tick of either node
+  releases all of their records. Beside it the same schedule without its end: the rest is what the two ticks took. The
+  factor is that of a flow: 1 where a tick's cost grows with the flows that it releases, 10 where it grows with their square.
+
+Ends with 1 where a schedule isn't accepted."""
 import os
 import subprocess
 import sys
@@ -18,6 +24,9 @@ MANY = 20_000
 ROOMS = (64, 4096)
 ROUNDS = 3600
 RUNS = 3
+RELEASED = (2_000, 20_000)
+# longer than any record stands behind its flow's last packet, in ms
+QUIET = 10_000
 OCTETS = "".join(f"{i:02x}" for i in range(16))
 
 
@@ -26,12 +35,12 @@ def setup(room: int) -> str:
     return two_stations(params(16, room, room))
 
 
-def schedule(flows, room, out):
+def schedule(flows, room, rounds, out):
     """Each round sends a message on the next 20 flows, hands over the packets and then the
     acknowledgements, reads, and ticks both nodes. A round is 2 ms, so 20,000 flows come round again
     after 2 s; a record stands for 4.2 s and more. Returns the number of lines."""
     out.write(setup(room))
-    for number in range(ROUNDS):
+    for number in range(rounds):
         first, copy = number * FEW, number * FEW * 2
         names = [f"1:{i % flows}>2:{i % flows}" for i in range(first, first + FEW)]
         out.writelines(f"send {name} be {OCTETS}\n" for name in names)
@@ -41,7 +50,7 @@ def schedule(flows, room, out):
         out.writelines(f"arrive {copy + FEW + i}\n" for i in range(FEW))
         out.writelines(f"read {name} 65536\n" for name in names)
         out.write("tick 1\ntick 2\n")
-    return setup(room).count("\n") + ROUNDS * (4 * FEW + 4)
+    return setup(room).count("\n") + rounds * (4 * FEW + 4)
 
 
 def run(binary, path):
@@ -53,17 +62,28 @@ def run(binary, path):
     return time.monotonic() - begun, usage.ru_maxrss * 1024, os.waitstatus_to_exitcode(status)
 
 
-def measure(binary, flows, room):
+def measure(binary, flows, room, rounds=ROUNDS, end=""):
     """The least seconds of some runs, or None where one isn't accepted. Prints a row."""
     with tempfile.NamedTemporaryFile("w", suffix=".schedule") as file:
-        lines = schedule(flows, room, file)
+        lines = schedule(flows, room, rounds, file) + end.count("\n")
+        file.write(end)
         file.flush()
         runs = [run(binary, file.name) for _ in range(RUNS)]
     seconds = min(seconds for seconds, _, _ in runs)
     peak = max(peak for _, peak, _ in runs)
     statuses = {status for _, _, status in runs}
-    print(f"{room:4}  {flows:5}  {lines}  {seconds:7.2f}  {peak / 1e6:7.1f}  {max(statuses)}")
+    print(f"{room:4}  {flows:5}  {lines:6}  {seconds:7.2f}  {peak / 1e6:7.1f}  {max(statuses)}")
     return seconds if statuses == {0} else None
+
+
+def release(binary, flows):
+    """The seconds that a flow's release takes, where one tick of either node releases so many, or None
+    where a schedule isn't accepted."""
+    room, rounds = ROOMS[0], flows // FEW
+    stand = measure(binary, flows, room, rounds)
+    gone = measure(binary, flows, room, rounds, f"pass {QUIET}\ntick 1\ntick 2\n")
+    # by chance the difference of two measured times may be none
+    return None if stand is None or gone is None else max(gone - stand, 1e-6) / flows
 
 
 def main():
@@ -74,6 +94,12 @@ def main():
         if few is None or many is None:
             return 1
         print(f"factor {many / few:.2f}")
+    each = [release(binary, flows) for flows in RELEASED]
+    if None in each:
+        return 1
+    for flows, seconds in zip(RELEASED, each):
+        print(f"release of {flows} in a tick of either node: {seconds * flows * 1e3:.1f} ms, {seconds * 1e6:.2f} us a flow")
+    print(f"factor {each[1] / each[0]:.2f}")
     return 0
 
 

@@ -8,15 +8,14 @@ use Rattle.dt_flow_model.specs.declared.acts.SendKind.{SendKind}
 use Rattle.dt_flow_model.specs.declared.acts.SendKind.TheVariants.{GiveUp, Release, Resend, Send, Meet}
 use Rattle.dt_flow_model.specs.declared.acts.RecvKind.{RecvKind}
 use Rattle.dt_flow_model.specs.declared.moments.SendMoments.{SendMoments}
-use Rattle.dt_flow_model.specs.SendRecord.{SendRecord}
-use Rattle.dt_flow_model.specs.SendActs.{send_moment, send_moments}
-use Rattle.dt_flow_model.specs.ReceiveRecord.{Receiver, recv_moment}
+use Rattle.dt_flow_model.specs.declared.moments.RecvMoments.{RecvMoments}
+use Rattle.dt_flow_model.specs.SendActs.{send_moment}
+use Rattle.dt_flow_model.specs.ReceiveRecord.{recv_moment}
 use Rattle.dt_send.specs.Senders.{SenderValue}
 use Rattle.dt_recv.specs.Receivers.{ReceiverValue}
 use Rattle.dt_host.specs.declared.dues.DueKind.{DueKind}
-use Rattle.dt_host.specs.declared.dues.DueAct.{DueAct}
-use Rattle.dt_host.specs.Agendas.{HasNone, IsFirstIn, RecvNote, SendNote, moment_in}
-use Rattle.dt_host.specs.Hosts.{receiver_in, receivers_of, records_by, send_record, send_records}
+use Rattle.dt_host.specs.Agendas.{HasNone, IsFirstIn, SendNote, moment_in}
+use Rattle.dt_host.specs.Hosts.{records_by}
 use Rattle.dt_host.specs.Notes.{AreNoted, IsRecvNoted, IsSendNoted}
 use Rattle.dt_host.specs.Soonest.{IsQuiet, IsSoonest, receiver_moment, sender_moment}
 use Rattle.dt_host.proofs.Noting.{none_some, same_some}
@@ -101,8 +100,8 @@ send_exact p now Resend s n other is m e = absurd (other refl)
 send_exact p now Send s n other is m e = sym (ap (λ (k : SendMoments). k.send) is.moments) ∙ e
 send_exact p now Meet s n other is m e = sym (ap (λ (k : SendMoments). k.meet) is.moments) ∙ e
 
-pub recv_exact : (p : Params) (kind : RecvKind) (r : ReceiverValue) (n : RecvNote) → IsRecvNoted p r.state n → recv_moment n.moments kind ≡ receiver_moment p kind r
-recv_exact p kind r n is = ap (λ (k : RecvNote). recv_moment k.moments kind) is
+pub recv_exact : (p : Params) (kind : RecvKind) (r : ReceiverValue) (n : RecvMoments) → IsRecvNoted p r.state n → recv_moment n kind ≡ receiver_moment p kind r
+recv_exact p kind r n is = ap (λ (k : RecvMoments). recv_moment k kind) is
 
-pub recv_later : (p : Params) (kind : RecvKind) (r : ReceiverValue) (n : RecvNote) → IsRecvNoted p r.state n → (m : ℕ) → receiver_moment p kind r ≡ Some m → (v : ℕ) × (recv_moment n.moments kind ≡ Some v) × (v ≤ m)
+pub recv_later : (p : Params) (kind : RecvKind) (r : ReceiverValue) (n : RecvMoments) → IsRecvNoted p r.state n → (m : ℕ) → receiver_moment p kind r ≡ Some m → (v : ℕ) × (recv_moment n kind ≡ Some v) × (v ≤ m)
 recv_later p kind r n is m e = (m, recv_exact p kind r n is ∙ e, omega arith)

@@ -6,7 +6,8 @@ use Rattle.dt_flow_model.specs.SendRecord.{SendRecord}
 use Rattle.dt_flow_model.specs.SendActs.{earlier, wake_of}
 use Rattle.dt_flow_model.specs.ReceiveRecord.{Receiver, recv_wake_of}
 use Rattle.dt_world_model.specs.Tables.{earliest}
-use Rattle.dt_host.specs.Agendas.{RecvNote, SendNote}
+use Rattle.dt_flow_model.specs.declared.moments.RecvMoments.{RecvMoments}
+use Rattle.dt_host.specs.Agendas.{SendNote, recv_wake}
 use Rattle.dt_host.specs.Notes.{AreNoted, IsRecvNoted, IsSendNoted}
 
 pub later_noted : (p : Params) (latest now : ℕ) → latest ≤ now → (rs : List (Flow × SendRecord)) (ns : List SendNote) → AreNoted (IsSendNoted p latest) rs ns → AreNoted (IsSendNoted p now) rs ns
@@ -24,8 +25,8 @@ senders_wake p latest [] (n ∷ ns) all = absurd all
 senders_wake p latest (e ∷ rs) [] all = absurd all
 senders_wake p latest (e ∷ rs) (n ∷ ns) all = ap (λ (o : Option ℕ). earlier o (earliest (λ (n : SendNote). n.wake) ns)) all.0.wake ∙ ap (earlier (wake_of p e.1)) (senders_wake p latest rs ns all.1)
 
-pub receivers_wake : (p : Params) (rs : List (Flow × Receiver)) (ns : List RecvNote) → AreNoted (IsRecvNoted p) rs ns → earliest (λ (n : RecvNote). n.wake) ns ≡ earliest (λ (e : Flow × Receiver). recv_wake_of p e.1.standing) rs
+pub receivers_wake : (p : Params) (rs : List (Flow × Receiver)) (ns : List RecvMoments) → AreNoted (IsRecvNoted p) rs ns → earliest recv_wake ns ≡ earliest (λ (e : Flow × Receiver). recv_wake_of p e.1.standing) rs
 receivers_wake p [] [] all = refl
 receivers_wake p [] (n ∷ ns) all = absurd all
 receivers_wake p (e ∷ rs) [] all = absurd all
-receivers_wake p (e ∷ rs) (n ∷ ns) all = ap (λ (o : Option ℕ). earlier o (earliest (λ (n : RecvNote). n.wake) ns)) (ap (λ (k : RecvNote). k.wake) all.0) ∙ ap (earlier (recv_wake_of p e.1.standing)) (receivers_wake p rs ns all.1)
+receivers_wake p (e ∷ rs) (n ∷ ns) all = ap (λ (o : Option ℕ). earlier o (earliest recv_wake ns)) (ap recv_wake all.0) ∙ ap (earlier (recv_wake_of p e.1.standing)) (receivers_wake p rs ns all.1)

@@ -9,20 +9,18 @@ use Rattle.dt_units.specs.declared.parameters.Params.{Params}
 use Rattle.dt_units.specs.declared.endpoints.Flow.{Flow}
 use Rattle.dt_flow_model.specs.declared.arrivals.Arrived.{Arrived}
 use Rattle.dt_flow_model.specs.declared.arrivals.Action.{Action}
-use Rattle.dt_flow_model.specs.declared.arrivals.Action.TheVariants.{Drop, Make, TellNumber, TellExpected, Accept, Skip, Close}
+use Rattle.dt_flow_model.specs.declared.arrivals.Action.TheVariants.{Make}
 use Rattle.dt_flow_model.specs.declared.moments.RecvMoments.{RecvMoments}
-use Rattle.dt_flow_model.specs.SendActs.{earlier}
 use Rattle.dt_flow_model.specs.Frames.{reply_frame}
-use Rattle.dt_flow_model.specs.ReceiveRecord.{Receiver, action_on, action_without, after_action, after_data, after_meet, after_read, answer_to, answer_to_data, free_of, recv_moments, recv_wake_of}
+use Rattle.dt_flow_model.specs.ReceiveRecord.{Receiver, action_on, action_without, after_action, after_data, after_meet, after_read, answer_to, answer_to_data, free_of, recv_moments}
 use Rattle.dt_recv.specs.Receivers.{ReceiverValue}
-use Rattle.dt_world_model.specs.Host.{Host, first_host, kept_if, no_receiver, read_octets, read_piece, receiver_at}
-use Rattle.dt_world_model.specs.Tables.{erase, look, same_flow, write, write_or_erase}
-use Rattle.dt_host.specs.Agendas.{RecvNote}
+use Rattle.dt_world_model.specs.Host.{Host, first_host, kept_if, no_receiver, read_octets, read_piece}
+use Rattle.dt_world_model.specs.Tables.{erase, look, same_flow, write_or_erase}
 use Rattle.dt_host.specs.Answers.{IsDataTaken}
 use Rattle.dt_host.specs.Hosts.{AreReceiveEntries, IsReceiveEntry, receiver_in, receivers_of}
 use Rattle.dt_host.specs.Notes.{IsRecvNoted, place, recv_noted}
 use Rattle.dt_host.proofs.Flows.{equal_flows}
-use Rattle.dt_host.proofs.Noting.{looked_none, none_erased, none_some, place_is, record_at, rewritten, same_some, some_none, unwritten}
+use Rattle.dt_host.proofs.Noting.{none_erased, none_some, place_is, record_at, rewritten, same_some, unwritten}
 
 pub noted_now : (p : Params) (r : Receiver) → IsRecvNoted p r (recv_noted p r)
 noted_now p r = refl
@@ -63,12 +61,11 @@ module _ (p : Params) (es : List (Flow × ReceiverValue)) (all : AreReceiveEntri
   state_is : (g : Flow) (x : Receiver) → slice_get (receivers_of es) i ≡ Some (g, x) → s.state ≡ x
   state_is g x at = ap (λ (r : Flow × Receiver). r.1) (same_some (f, s.state) (g, x) (sym (ap (option_map (λ (e : Flow × ReceiverValue). let r : Flow × Receiver = (e.0, e.1.state) in r)) (sym there)) ∙ sym (record_at receiver_in f es i) ∙ at))
 
-  pub noted_at : (g : Flow) (x : Receiver) → slice_get (receivers_of es) i ≡ Some (g, x) → (m : RecvMoments) (wake : Option ℕ) → m ≡ recv_moments s.rules s.state.standing → wake ≡ earlier m.release m.ack → (let n : RecvNote = record { moments = m; wake = wake } in n) ≡ recv_noted p x
-  noted_at g x at m wake e w =
+  pub noted_at : (g : Flow) (x : Receiver) → slice_get (receivers_of es) i ≡ Some (g, x) → (m : RecvMoments) → m ≡ recv_moments s.rules s.state.standing → m ≡ recv_noted p x
+  noted_at g x at m e =
       let entry = entry_at p es i f s all (sym there) in
       let y = state_is g x at in
-      let woken : wake ≡ recv_wake_of s.rules s.state.standing = w ∙ ap (λ (n : RecvMoments). earlier n.release n.ack) e in
-      (λ j. record { moments = e j; wake = woken j })
+      e
       ∙ ap (λ (q : Params). recv_noted q s.state) entry.rules
       ∙ ap (recv_noted p) y
 

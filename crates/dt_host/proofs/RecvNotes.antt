@@ -1,70 +1,66 @@
 -- The notes of receivers after one of their tables' keys changed, in all tables at once.
-use Rattle.std.proofs.Common.{ℕ, ◌≡◌, ◌≢◌, ◌<◌, ◌++◌, ◌∷◌, [], List, Option, Some, None, length, get_or, map, refl, sym, ap, subst, ◌∙◌, arith}
-use Rattle.std.proofs.lemmas.List.{length-map}
-use Rattle.dt_host.specs.Agendas.{Covers, CoverReceivers, IsTried, RecvNote, RecvTables, Table, moment_at, no_recv_note, recv_note}
+use Rattle.std.proofs.Common.{ℕ, ◌≡◌, ◌≢◌, ◌<◌, ◌++◌, ◌∷◌, [], List, length, get_or, map, refl, sym, ap, subst, ◌∙◌, arith}
+use Rattle.dt_host.specs.Agendas.{CoverReceivers, IsTried, RecvTables, moment_at, no_recv_note, recv_note}
 use Rattle.std.specs.Prelude.{remove, set, true, ◌+◌, Result, Ok, Err, OnOk, OnErr}
 use Rattle.dt_items.specs.declared.memory.NoMemory.{NoMemory}
-use Rattle.dt_host.specs.Orders.{Holds, IsRising, OrderValue}
+use Rattle.dt_host.specs.Orders.{IsRising, OrderValue}
 use Rattle.std.specs.FinMap.{contains_key, insert}
 use Rattle.std.specs.FinMap as map_of
 use Rattle.dt_flow_model.specs.declared.moments.RecvMoments.{RecvMoments}
-use Rattle.dt_host.proofs.Covering.{apart_from_made, covers_added, covers_left, covers_set, covers_tried, left_moment, made_moment, other_moment, set_moment, tried_moment}
+use Rattle.dt_host.proofs.Covering.{covers_added, covers_left, covers_set, covers_tried, left_moment, made_moment, other_moment, set_moment, tried_moment}
 use Rattle.dt_host.proofs.Orders.{one_index}
 use Rattle.dt_host.proofs.Rows.{row_added, row_removed, row_same, row_set}
 
 -- two tables' worth of moments are those of one note
-same_note : (t u : RecvTables) (j k : ℕ) → moment_at t.release j ≡ moment_at u.release k → moment_at t.ack j ≡ moment_at u.ack k → moment_at t.wake j ≡ moment_at u.wake k → recv_note t j ≡ recv_note u k
-same_note t u j k e1 e4 e5 = λ i. record { moments = record { release = e1 i; ack = e4 i }; wake = e5 i }
+same_note : (t u : RecvTables) (j k : ℕ) → moment_at t.release j ≡ moment_at u.release k → moment_at t.ack j ≡ moment_at u.ack k → recv_note t j ≡ recv_note u k
+same_note t u j k e1 e4 = λ i. record { release = e1 i; ack = e4 i }
 
 -- the tables after each was set, after a number was tried in each, and after it went from each
-abbrev pub tables_set : RecvTables → ℕ → RecvMoments → Option ℕ → RecvTables
-tables_set t k m wake = record { release = insert t.release k m.release; ack = insert t.ack k m.ack; wake = insert t.wake k wake }
+abbrev pub tables_set : RecvTables → ℕ → RecvMoments → RecvTables
+tables_set t k m = record { release = insert t.release k m.release; ack = insert t.ack k m.ack }
 
 abbrev pub tables_left : RecvTables → ℕ → RecvTables
-tables_left t k = record { release = map_of.remove t.release k; ack = map_of.remove t.ack k; wake = map_of.remove t.wake k }
+tables_left t k = record { release = map_of.remove t.release k; ack = map_of.remove t.ack k }
 
 pub record AreTried (k : ℕ) (t u : RecvTables) : Type 0 where
   pub release : IsTried k t.release u.release
   pub ack : IsTried k t.ack u.ack
-  pub wake : IsTried k t.wake u.wake
 
 pub record AreHeld (k : ℕ) (u : RecvTables) : Type 0 where
   pub release : contains_key u.release k ≡ true
   pub ack : contains_key u.ack k ≡ true
-  pub wake : contains_key u.wake k ≡ true
 
 module _ (numbers : List ℕ) (made : ℕ) (rising : IsRising numbers made) (t : RecvTables) (covers : CoverReceivers numbers t) where
   -- A RECEIVER'S MOMENTS ARE SET
-  module _ (i : ℕ) (within : i < length numbers) (m : RecvMoments) (wake : Option ℕ) where
+  module _ (i : ℕ) (within : i < length numbers) (m : RecvMoments) where
     abbrev number : ℕ
     number = get_or numbers i 0
 
-    pub covers_noted : CoverReceivers numbers (tables_set t number m wake)
+    pub covers_noted : CoverReceivers numbers (tables_set t number m)
     covers_noted = record {
       release = covers_set numbers t.release covers.release number i m.release (record { within = within; is = refl });
       ack = covers_set numbers t.ack covers.ack number i m.ack (record { within = within; is = refl });
-      wake = covers_set numbers t.wake covers.wake number i wake (record { within = within; is = refl });
     }
 
-    pub noted : map (recv_note (tables_set t number m wake)) numbers ≡ set (map (recv_note t) numbers) i (record { moments = m; wake = wake })
-    noted = row_set (recv_note t) (recv_note (tables_set t number m wake)) numbers i (record { moments = m; wake = wake }) within others here
+    pub noted : map (recv_note (tables_set t number m)) numbers ≡ set (map (recv_note t) numbers) i m
+    noted = row_set (recv_note t) (recv_note (tables_set t number m)) numbers i m within others here
       where
-        others : (j : ℕ) → j < length numbers → j ≢ i → recv_note (tables_set t number m wake) (get_or numbers j 0) ≡ recv_note t (get_or numbers j 0)
+        others : (j : ℕ) → j < length numbers → j ≢ i → recv_note (tables_set t number m) (get_or numbers j 0) ≡ recv_note t (get_or numbers j 0)
         others j j_in apart =
             let other : get_or numbers j 0 ≢ number = λ e. apart (one_index numbers made rising j i j_in within e) in
-            same_note (tables_set t number m wake) t (get_or numbers j 0) (get_or numbers j 0) (other_moment t.release number m.release (get_or numbers j 0) other) (other_moment t.ack number m.ack (get_or numbers j 0) other) (other_moment t.wake number wake (get_or numbers j 0) other)
+            same_note (tables_set t number m) t (get_or numbers j 0) (get_or numbers j 0) (other_moment t.release number m.release (get_or numbers j 0) other) (other_moment t.ack number m.ack (get_or numbers j 0) other)
 
-        here : recv_note (tables_set t number m wake) number ≡ record { moments = m; wake = wake }
-        here = λ j. record { moments = record { release = set_moment t.release number m.release j; ack = set_moment t.ack number m.ack j }; wake = set_moment t.wake number wake j }
+        here : recv_note (tables_set t number m) number ≡ m
+        here = λ j. record { release = set_moment t.release number m.release j; ack = set_moment t.ack number m.ack j }
 
-    module _ (u : RecvTables) (k : ℕ) (is : k ≡ number) (e : u ≡ tables_set t k m wake) where
-      set_is : u ≡ tables_set t number m wake
-      set_is = e ∙ ap (λ (n : ℕ). tables_set t n m wake) is
+    module _ (u : RecvTables) (k : ℕ) (is : k ≡ number) (e : u ≡ tables_set t k m) where
+      set_is : u ≡ tables_set t number m
+      set_is = e ∙ ap (λ (n : ℕ). tables_set t n m) is
 
       pub note_covers : CoverReceivers numbers u
       note_covers = subst (CoverReceivers numbers) (sym set_is) covers_noted
 
-      pub note_is : map (recv_note u) numbers ≡ set (map (recv_note t) numbers) i (record { moments = m; wake = wake })
+      pub note_is : map (recv_note u) numbers ≡ set (map (recv_note t) numbers) i m
       note_is = ap (λ (v : RecvTables). map (recv_note v) numbers) set_is ∙ noted
 
   -- A RECEIVER GOES
@@ -76,7 +72,6 @@ module _ (numbers : List ℕ) (made : ℕ) (rising : IsRising numbers made) (t :
     covers_gone = record {
       release = covers_left numbers made rising i within t.release covers.release;
       ack = covers_left numbers made rising i within t.ack covers.ack;
-      wake = covers_left numbers made rising i within t.wake covers.wake;
     }
 
     pub left : map (recv_note (tables_left t gone)) (remove numbers i) ≡ remove (map (recv_note t) numbers) i
@@ -85,7 +80,7 @@ module _ (numbers : List ℕ) (made : ℕ) (rising : IsRising numbers made) (t :
         others : (j : ℕ) → j < length numbers → j ≢ i → recv_note (tables_left t gone) (get_or numbers j 0) ≡ recv_note t (get_or numbers j 0)
         others j j_in apart =
             let other : get_or numbers j 0 ≢ gone = λ e. apart (one_index numbers made rising j i j_in within e) in
-            same_note (tables_left t gone) t (get_or numbers j 0) (get_or numbers j 0) (left_moment t.release gone (get_or numbers j 0) other) (left_moment t.ack gone (get_or numbers j 0) other) (left_moment t.wake gone (get_or numbers j 0) other)
+            same_note (tables_left t gone) t (get_or numbers j 0) (get_or numbers j 0) (left_moment t.release gone (get_or numbers j 0) other) (left_moment t.ack gone (get_or numbers j 0) other)
 
     module _ (u : RecvTables) (k : ℕ) (is : k ≡ gone) (e : u ≡ tables_left t k) (after : List ℕ) (fewer : after ≡ remove numbers i) where
       left_is : u ≡ tables_left t gone
@@ -103,13 +98,12 @@ module _ (numbers : List ℕ) (made : ℕ) (rising : IsRising numbers made) (t :
     covers_still = record {
       release = covers_tried numbers made rising t.release u.release covers.release tried.release;
       ack = covers_tried numbers made rising t.ack u.ack covers.ack tried.ack;
-      wake = covers_tried numbers made rising t.wake u.wake covers.wake tried.wake;
     }
 
     others : (j : ℕ) → j < length numbers → recv_note u (get_or numbers j 0) ≡ recv_note t (get_or numbers j 0)
     others j j_in =
         let other : get_or numbers j 0 ≢ made = λ e. (let b = rising.below j j_in in omega arith) in
-        same_note u t (get_or numbers j 0) (get_or numbers j 0) (tried_moment numbers made rising t.release u.release covers.release tried.release (get_or numbers j 0) other) (tried_moment numbers made rising t.ack u.ack covers.ack tried.ack (get_or numbers j 0) other) (tried_moment numbers made rising t.wake u.wake covers.wake tried.wake (get_or numbers j 0) other)
+        same_note u t (get_or numbers j 0) (get_or numbers j 0) (tried_moment numbers made rising t.release u.release covers.release tried.release (get_or numbers j 0) other) (tried_moment numbers made rising t.ack u.ack covers.ack tried.ack (get_or numbers j 0) other)
 
     pub still : map (recv_note u) numbers ≡ map (recv_note t) numbers
     still = row_same (recv_note t) (recv_note u) numbers others
@@ -118,11 +112,10 @@ module _ (numbers : List ℕ) (made : ℕ) (rising : IsRising numbers made) (t :
     covers_made held = record {
       release = covers_added numbers made rising t.release u.release covers.release tried.release held.release;
       ack = covers_added numbers made rising t.ack u.ack covers.ack tried.ack held.ack;
-      wake = covers_added numbers made rising t.wake u.wake covers.wake tried.wake held.wake;
     }
 
     pub added : map (recv_note u) (numbers ++ made ∷ []) ≡ map (recv_note t) numbers ++ no_recv_note ∷ []
-    added = row_added (recv_note t) (recv_note u) numbers made no_recv_note others (λ j. record { moments = record { release = made_moment numbers made rising t.release u.release covers.release tried.release j; ack = made_moment numbers made rising t.ack u.ack covers.ack tried.ack j }; wake = made_moment numbers made rising t.wake u.wake covers.wake tried.wake j })
+    added = row_added (recv_note t) (recv_note u) numbers made no_recv_note others (λ j. record { release = made_moment numbers made rising t.release u.release covers.release tried.release j; ack = made_moment numbers made rising t.ack u.ack covers.ack tried.ack j })
 
     -- with the answer of its number
     module _ (order : OrderValue) (r : Result (Unit {0}) NoMemory) (ok : OnOk r (order ≡ record { numbers = numbers ++ made ∷ []; made = made + 1 })) (err : OnErr r (order ≡ record { numbers = numbers; made = made })) (held : AreHeld made u) where

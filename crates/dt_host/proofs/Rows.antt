@@ -93,3 +93,25 @@ module _ {A : Type 0} (moment : A → Option ℕ) where
       by [] i e least = absurd cc
       by (x ∷ xs) zero e least = ap (λ (o : Option ℕ). earlier o (earliest moment xs)) e ∙ front m (earliest moment xs) (all_not_below m xs (λ j n f. least (suc j) n f))
       by (x ∷ xs) (suc i) e least = ap (earlier (moment x)) (by xs i e (λ j n f. least (suc j) n f)) ∙ back m (moment x) (not_below m (moment x) (least 0))
+
+-- THE EARLIEST of notes is that of what their numbers have. Of the lesser of two moments it is the lesser of the earliest two
+pub row_earliest : {A : Type 0} (f : ℕ → A) (moment : A → Option ℕ) (ks : List ℕ) → earliest moment (map f ks) ≡ earliest (λ k. moment (f k)) ks
+row_earliest f moment [] = refl
+row_earliest f moment (k ∷ ks) = ap (earlier (moment (f k))) (row_earliest f moment ks)
+
+swapped : (a b c d : Option ℕ) → earlier (earlier a b) (earlier c d) ≡ earlier (earlier a c) (earlier b d)
+swapped None None c d = refl
+swapped None (Some b) None d = refl
+swapped None (Some b) (Some c) None = ap (λ (k : ℕ). Some k) (omega arith)
+swapped None (Some b) (Some c) (Some d) = ap (λ (k : ℕ). Some k) (omega arith)
+swapped (Some a) None None d = refl
+swapped (Some a) None (Some c) None = refl
+swapped (Some a) None (Some c) (Some d) = ap (λ (k : ℕ). Some k) (omega arith)
+swapped (Some a) (Some b) None None = refl
+swapped (Some a) (Some b) None (Some d) = ap (λ (k : ℕ). Some k) (omega arith)
+swapped (Some a) (Some b) (Some c) None = ap (λ (k : ℕ). Some k) (omega arith)
+swapped (Some a) (Some b) (Some c) (Some d) = ap (λ (k : ℕ). Some k) (omega arith)
+
+pub earliest_of_both : {A : Type 0} (f g : A → Option ℕ) (xs : List A) → earliest (λ x. earlier (f x) (g x)) xs ≡ earlier (earliest f xs) (earliest g xs)
+earliest_of_both f g [] = refl
+earliest_of_both f g (x ∷ xs) = ap (earlier (earlier (f x) (g x))) (earliest_of_both f g xs) ∙ swapped (f x) (g x) (earliest f xs) (earliest g xs)

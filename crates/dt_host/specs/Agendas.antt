@@ -1,10 +1,11 @@
--- Agendas: what is noted of each record that stands, in the order of making: from when on each kind of its acts is due, and when it is to be woken. And how the tables of deadlines tell it, which are keyed by the numbers of the records.
-use Rattle.std.specs.Prelude.{ℕ, ◌≡◌, ◌≢◌, ◌<◌, ◌≤◌, ◌⊎◌, true, List, map, slice_get, slice_index_or, Option, Some, None}
+-- Agendas: what is noted of each record that stands, in the order of making: from when on each kind of its acts is due, and of a sender when it is to be woken. And how the tables of deadlines tell it, which are keyed by the numbers of the records.
+use Rattle.std.specs.Prelude.{ℕ, ◌≡◌, ◌≢◌, ◌<◌, ◌≤◌, ◌⊎◌, true, List, slice_get, slice_index_or, Option, Some, None}
 use Rattle.std.specs.Option.{MatchOption, option_and_then, unwrap_or}
 use Rattle.std.specs.Ordering.{nat_cmp}
 use Rattle.std.specs.FinMap.{FinMap, contains_key, get}
 use Rattle.dt_flow_model.specs.declared.moments.SendMoments.{SendMoments}
 use Rattle.dt_flow_model.specs.declared.moments.RecvMoments.{RecvMoments}
+use Rattle.dt_flow_model.specs.SendActs.{earlier}
 use Rattle.dt_host.specs.Orders.{Holds}
 
 -- a table of deadlines
@@ -25,21 +26,20 @@ pub record IsTried (number : ℕ) (before after : Table) : Type 0 where
   pub others : (other : ℕ) → other ≢ number → get after other ≡ get before other
   pub here : (get after number ≡ get before number) ⊎ ((get before number ≡ None) × (get after number ≡ Some None))
 
--- what is noted of a sender, and of a receiver
+-- what is noted of a sender. Of a receiver its moments are noted: they tell when to wake it
 pub record SendNote : Type 0 where
   pub moments : SendMoments
   pub wake : Option ℕ
 
-pub record RecvNote : Type 0 where
-  pub moments : RecvMoments
-  pub wake : Option ℕ
+abbrev pub recv_wake : RecvMoments → Option ℕ
+recv_wake m = earlier m.release m.ack
 
 -- of one that was just made
 abbrev pub no_send_note : SendNote
 no_send_note = record { moments = record { give_up = None; release = None; resend = None; send = None; meet = None }; wake = None }
 
-abbrev pub no_recv_note : RecvNote
-no_recv_note = record { moments = record { release = None; ack = None }; wake = None }
+abbrev pub no_recv_note : RecvMoments
+no_recv_note = record { release = None; ack = None }
 
 -- a note with another moment of the resend, and the note of an index
 abbrev pub with_resend : SendNote → Option ℕ → SendNote
@@ -48,7 +48,7 @@ with_resend n moment = record n { moments = record n.moments { resend = moment }
 abbrev pub note_at : List SendNote → ℕ → SendNote
 note_at notes i = slice_index_or notes i no_send_note
 
--- one table for each class of acts, and one for when to wake
+-- one table for each class of acts, and of senders one for when to wake
 pub record SendTables : Type 0 where
   pub give_up : Table
   pub release : Table
@@ -60,7 +60,6 @@ pub record SendTables : Type 0 where
 pub record RecvTables : Type 0 where
   pub release : Table
   pub ack : Table
-  pub wake : Table
 
 abbrev pub send_note : SendTables → ℕ → SendNote
 send_note t number =
@@ -69,8 +68,8 @@ send_note t number =
       wake = moment_at t.wake number;
     }
 
-abbrev pub recv_note : RecvTables → ℕ → RecvNote
-recv_note t number = record { moments = record { release = moment_at t.release number; ack = moment_at t.ack number }; wake = moment_at t.wake number }
+abbrev pub recv_note : RecvTables → ℕ → RecvMoments
+recv_note t number = record { release = moment_at t.release number; ack = moment_at t.ack number }
 
 pub record CoverSenders (numbers : List ℕ) (t : SendTables) : Type 0 where
   pub give_up : Covers numbers t.give_up
@@ -83,7 +82,6 @@ pub record CoverSenders (numbers : List ℕ) (t : SendTables) : Type 0 where
 pub record CoverReceivers (numbers : List ℕ) (t : RecvTables) : Type 0 where
   pub release : Covers numbers t.release
   pub ack : Covers numbers t.ack
-  pub wake : Covers numbers t.wake
 
 -- THE FIRST of the moments that members of a list have: the least, and of equals that of the member that stands first.
 module _ {A : Type 0} (moment : A → Option ℕ) where

@@ -4,9 +4,10 @@ use Rattle.dt_units.specs.declared.parameters.Params.{Params}
 use Rattle.dt_units.specs.declared.endpoints.Flow.{Flow}
 use Rattle.dt_flow_model.specs.SendRecord.{SendRecord}
 use Rattle.dt_flow_model.specs.SendActs.{send_moments, wake_of}
-use Rattle.dt_flow_model.specs.ReceiveRecord.{Receiver, recv_moments, recv_wake_of}
+use Rattle.dt_flow_model.specs.declared.moments.RecvMoments.{RecvMoments}
+use Rattle.dt_flow_model.specs.ReceiveRecord.{Receiver, recv_moments}
 use Rattle.dt_world_model.specs.Tables.{Distinct, same_flow, write_or_erase}
-use Rattle.dt_host.specs.Agendas.{RecvNote, SendNote}
+use Rattle.dt_host.specs.Agendas.{SendNote}
 
 -- A sender's moments are noted as they stood at some moment of the past. All but that of a resend stand as long as the record does.
 pub record IsSendNoted (p : Params) (latest : ℕ) (x : SendRecord) (n : SendNote) : Type 0 where
@@ -18,10 +19,10 @@ pub record IsSendNoted (p : Params) (latest : ℕ) (x : SendRecord) (n : SendNot
 abbrev pub send_noted : Params → ℕ → SendRecord → SendNote
 send_noted p now x = record { moments = send_moments p now x; wake = wake_of p x }
 
-abbrev pub recv_noted : Params → Receiver → RecvNote
-recv_noted p r = record { moments = recv_moments p r.standing; wake = recv_wake_of p r.standing }
+abbrev pub recv_noted : Params → Receiver → RecvMoments
+recv_noted p r = recv_moments p r.standing
 
-abbrev pub IsRecvNoted : Params → Receiver → RecvNote → Type 0
+abbrev pub IsRecvNoted : Params → Receiver → RecvMoments → Type 0
 IsRecvNoted p r n = n ≡ recv_noted p r
 
 -- each record has its note, in the order of making

@@ -1,9 +1,10 @@
 ghost use Rattle.std.specs.Prelude.{◌≡◌, ◌<◌, [], ◌∷◌, ◌++◌, length, OnErr, OnOk, remove, set};
 ghost use Rattle.dt_flow_model.specs.ReceiveRecord.{recv_moment};
-ghost use Rattle.dt_host.specs.Agendas.{IsFirstOf, no_recv_note};
+ghost use Rattle.dt_host.specs.Agendas.{IsFirstOf, no_recv_note, recv_wake};
 ghost use Rattle.dt_world_model.specs.Tables.{earliest};
 
 use crate::order::Order;
+use crate::sending::lesser;
 use crate::tables;
 use dt_flow_model::{RecvKind, RecvMoments};
 use dt_items::NoMemory;
@@ -12,7 +13,8 @@ use std::alloc::Global;
 use std::marker::Model;
 
 /// What is noted of a host's receivers, in the order of their making: from when on each kind of their
-/// acts is due, and when they are to be woken, in milliseconds. A contract sees the list of notes.
+/// acts is due, in milliseconds. A contract sees the list of notes. A receiver is to be woken when an act
+/// of any kind is due, so that there is no table of its own for that.
 ///
 /// The first moment of a kind is at hand, and a note is changed at a cost that grows with the number of
 /// receivers as its logarithm does. Memory is taken by [`RecvAgenda::hold`] alone.
@@ -21,18 +23,18 @@ pub struct RecvAgenda {
     order: Order,
     release: Deadlines,
     ack: Deadlines,
-    wake: Deadlines,
 }
 
 impl Model for RecvAgenda {
     ghost use Rattle.std.specs.Prelude.{List, map};
-    ghost use Rattle.dt_host.specs.Agendas.{CoverReceivers, RecvNote, RecvTables, recv_note};
+    ghost use Rattle.dt_flow_model.specs.declared.moments.RecvMoments.{RecvMoments};
+    ghost use Rattle.dt_host.specs.Agendas.{CoverReceivers, RecvTables, recv_note};
 
-    ghost Value = { List RecvNote };
+    ghost Value = { List RecvMoments };
 
-    ghost view = { λ a. map (recv_note (record { release = a.release; ack = a.ack; wake = a.wake })) a.order.numbers };
+    ghost view = { λ a. map (recv_note (record { release = a.release; ack = a.ack })) a.order.numbers };
 
-    ghost invariant = { λ a. CoverReceivers a.order.numbers (record { release = a.release; ack = a.ack; wake = a.wake }) };
+    ghost invariant = { λ a. CoverReceivers a.order.numbers (record { release = a.release; ack = a.ack }) };
 }
 
 impl RecvAgenda {
@@ -44,7 +46,6 @@ impl RecvAgenda {
             order: Order::new(alloc),
             release: Deadlines::new(alloc),
             ack: Deadlines::new(alloc),
-            wake: Deadlines::new(alloc),
         }
     }
 
@@ -57,23 +58,20 @@ impl RecvAgenda {
         let number = self.order.next();
         let release = tables::hold(&mut self.release, number);
         let ack = tables::hold(&mut self.ack, number);
-        let wake = tables::hold(&mut self.wake, number);
         release?;
         ack?;
-        wake?;
         self.order.add()
     }
 
     /// Notes the moments of the receiver with this index.
-    pub fn note(&mut self, index: usize, moments: RecvMoments, wake: Option<u64>)
+    pub fn note(&mut self, index: usize, moments: RecvMoments)
         requires { index < length self.old }
-        ensures { self.new ≡ set self.old index (record { moments = moments; wake = wake }) }
+        ensures { self.new ≡ set self.old index moments }
     {
         let number = self.order.number(index);
         // The tables hold the same numbers, each in the same place.
         let place = self.release.set(number, index, moments.release);
-        let place = self.ack.set(number, place, moments.ack);
-        self.wake.set(number, place, wake);
+        self.ack.set(number, place, moments.ack);
     }
 
     /// The receiver with this index goes, and those made after it move up by one place.
@@ -84,14 +82,13 @@ impl RecvAgenda {
         let number = self.order.number(index);
         self.release.forget(number);
         self.ack.forget(number);
-        self.wake.forget(number);
         self.order.remove(index);
     }
 
     /// The least moment of a kind, and the index of the receiver that was made first of those that have
     /// it. None comes exactly where no receiver has a moment of that kind.
     pub fn first(&self, kind: RecvKind) -> Option<(u64, usize)>
-        ensures { IsFirstOf (λ n. recv_moment n.moments kind) self.now result }
+        ensures { IsFirstOf (λ n. recv_moment n kind) self.now result }
     {
         match kind {
             RecvKind::Release => tables::first(&self.order, &self.release),
@@ -101,9 +98,11 @@ impl RecvAgenda {
 
     /// The least moment at which a receiver is to be woken.
     pub fn wake(&self) -> Option<u64>
-        ensures { result ≡ earliest (λ n. n.wake) self.now }
+        ensures { result ≡ earliest recv_wake self.now }
     {
-        let (moment, _) = tables::first(&self.order, &self.wake)?;
-        Some(moment)
+        lesser(
+            tables::soonest(&self.order, &self.release),
+            tables::soonest(&self.order, &self.ack),
+        )
     }
 }

@@ -17,7 +17,6 @@ ghost use Rattle.dt_host.specs.Notes.{AreNoted, IsChanged, IsNotMade, IsRecvNote
 
 use crate::receiving::{self, Receivers, Segment};
 use crate::recv_agenda::RecvAgenda;
-use crate::sending::lesser;
 use dt_flow_model::{Arrived, RecvAct};
 use dt_items::{NoMemory, Piece};
 use dt_layout::Frame;
@@ -224,5 +223,5 @@ fn note<L: Ledger>(
         unreachable!();
     };
     let moments = receiver.moments(steps);
-    agenda.note(index, moments, lesser(moments.release, moments.ack));
+    agenda.note(index, moments);
 }

@@ -133,7 +133,6 @@ impl SendAgenda {
     pub fn wake(&self) -> Option<u64>
         ensures { result ≡ earliest (λ n. n.wake) self.now }
     {
-        let (moment, _) = tables::first(&self.order, &self.wake)?;
-        Some(moment)
+        tables::soonest(&self.order, &self.wake)
     }
 }

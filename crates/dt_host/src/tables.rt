@@ -2,6 +2,7 @@
 ghost use Rattle.std.specs.Prelude.{◌≡◌, true, OnOk};
 ghost use Rattle.std.specs.FinMap.{contains_key};
 ghost use Rattle.dt_host.specs.Agendas.{Covers, IsFirstOf, IsTried, moment_at};
+ghost use Rattle.dt_world_model.specs.Tables.{earliest};
 
 use crate::order::Order;
 use dt_items::NoMemory;
@@ -26,4 +27,13 @@ pub fn first(order: &Order, table: &Deadlines) -> Option<(u64, usize)>
 {
     let (moment, number) = table.first()?;
     Some((moment, order.index(number)))
+}
+
+/// The first moment of the table.
+pub fn soonest(order: &Order, table: &Deadlines) -> Option<u64>
+    requires { Covers order.now.numbers table.now }
+    ensures { result ≡ earliest (moment_at table.now) order.now.numbers }
+{
+    let (moment, _) = first(order, table)?;
+    Some(moment)
 }

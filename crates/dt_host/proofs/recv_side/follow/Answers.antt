@@ -1,6 +1,4 @@
-use Rattle.std.proofs.Common.{ℕ, ◌≡◌, ◌<◌, List, Option, Some, None, length, sym, ap, subst, ◌∙◌}
-use Rattle.std.specs.Prelude.{remove}
-use Rattle.dt_host.specs.Agendas.{RecvNote}
+use Rattle.std.proofs.Common.{sym, subst}
 use Rattle.dt_host.specs.Hosts.{receivers_of}
 use Rattle.dt_host.specs.Notes.{AreNoted, IsRecvNoted, recv_noted}
 use Rattle.dt_host.proofs.Noting.{gone_within, left_out, never_there, not_made, set_again, still_within}

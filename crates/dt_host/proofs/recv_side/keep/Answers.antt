@@ -1,6 +1,5 @@
-use Rattle.std.proofs.Common.{ℕ, ◌≡◌, ◌++◌, ◌∷◌, [], List, Option, None, sym, ap, subst, ◌∙◌}
-use Rattle.std.specs.Prelude.{Ok, Err, OnErr, OnOk}
-use Rattle.dt_host.specs.Agendas.{RecvNote, no_recv_note}
+use Rattle.std.proofs.Common.{sym, ap, subst, ◌∙◌}
+use Rattle.dt_host.specs.Agendas.{no_recv_note}
 use Rattle.dt_host.specs.Hosts.{AreReceiveEntries, IsReceiveEntry, receiver_in, receivers_of}
 use Rattle.dt_recv.specs.Receivers.{ReceiverValue}
 use Rattle.dt_flow_model.specs.ReceiveRecord.{Receiver}

@@ -1,4 +1,4 @@
-use Rattle.std.proofs.Common.{ℕ, [], List, ap, sym, subst, ◌≡◌}
+use Rattle.std.proofs.Common.{[], sym, subst, ◌≡◌}
 use Rattle.std.specs.FinMap.{empty}
 use Rattle.dt_host.specs.Agendas.{Covers, Table}
 use Rattle.dt_host.specs.Orders.{OrderValue}
@@ -12,5 +12,4 @@ pub invariant_of-result : goal.invariant_of-result
 invariant_of-result c = record {
   release = nothing c.new.result c.new-2.result c.new.ensures c.new-2.ensures;
   ack = nothing c.new.result c.new-3.result c.new.ensures c.new-3.ensures;
-  wake = nothing c.new.result c.new-4.result c.new.ensures c.new-4.ensures;
 }

@@ -1,19 +1,18 @@
-use Rattle.std.proofs.Common.{ℕ, ◌≡◌, List, Option, Some, None, map, ap, sym, subst, ◌∙◌}
+use Rattle.std.proofs.Common.{ℕ, Option, ap, sym, ◌∙◌}
+use Rattle.dt_flow_model.specs.SendActs.{earlier}
 use Rattle.dt_world_model.specs.Tables.{earliest}
-use Rattle.dt_host.specs.Agendas.{IsFirstOf, RecvNote, RecvTables, recv_note}
-use Rattle.dt_host.proofs.Rows.{first_row, none_earliest, some_earliest}
+use Rattle.dt_host.specs.Agendas.{RecvTables, moment_at, recv_note, recv_wake}
+use Rattle.dt_host.proofs.Rows.{earliest_of_both, row_earliest}
 use Rattle.dt_host.proofs.recv_agenda.RecvAgenda.wake.Goals as goal
-
-pub returns-in_err-moment : goal.returns-in_err-moment
-returns-in_err-moment c =
-    let a = c.self.inside in
-    let t : RecvTables = record { release = a.release; ack = a.ack; wake = a.wake } in
-    let none = first_row (recv_note t) (λ (n : RecvNote). n.wake) a.order.numbers None c.in_err-moment.ensures in
-    c.from_residual.ensures ∙ sym (none_earliest (λ (n : RecvNote). n.wake) (map (recv_note t) a.order.numbers) none) ∙ ap (earliest (λ (n : RecvNote). n.wake)) c.self.view_is
 
 pub returns : goal.returns
 returns c =
     let a = c.self.inside in
-    let t : RecvTables = record { release = a.release; ack = a.ack; wake = a.wake } in
-    let first = first_row (recv_note t) (λ (n : RecvNote). n.wake) a.order.numbers (Some (c.in_ok-moment.moment, c.in_ok-moment.field-0-1)) c.in_ok-moment.ensures in
-    sym (some_earliest (λ (n : RecvNote). n.wake) (map (recv_note t) a.order.numbers) c.in_ok-moment.moment c.in_ok-moment.field-0-1 first) ∙ ap (earliest (λ (n : RecvNote). n.wake)) c.self.view_is
+    let t : RecvTables = record { release = a.release; ack = a.ack } in
+    let both = earliest_of_both (moment_at t.release) (moment_at t.ack) a.order.numbers in
+    c.lesser.ensures
+    ∙ ap (λ (o : Option ℕ). earlier o c.soonest-2.result) c.soonest.ensures
+    ∙ ap (earlier (earliest (moment_at t.release) a.order.numbers)) c.soonest-2.ensures
+    ∙ sym both
+    ∙ sym (row_earliest (recv_note t) recv_wake a.order.numbers)
+    ∙ ap (earliest recv_wake) c.self.view_is
