@@ -1,8 +1,8 @@
 -- The item at a place of octets that come together.
-use Rattle.std.proofs.Common.{◌≡◌, ℕ, zero, suc, ◌+◌, ◌<◌, Bool, true, false, ◌&&◌, List, [], ◌∷◌, length, get_or, refl, ap, eqb, arith}
+use Rattle.std.proofs.Common.{◌≡◌, ℕ, zero, suc, ◌+◌, ◌-◌, ◌<◌, Bool, true, false, ◌&&◌, List, [], ◌∷◌, ◌++◌, length, get_or, take, drop, refl, ap, eqb, arith}
 use Rattle.std.proofs.lemmas.Bool.Decides.{nat_tests}
 use Rattle.dt_items.specs.declared.item.Item.{Item}
-use Rattle.dt_items.specs.Unread.{marked}
+use Rattle.dt_items.specs.Unread.{marked, unmarked, unmarked_item}
 
 -- what stands at a place past the end
 abbrev pub blank : Item
@@ -33,3 +33,17 @@ marked-at (x ∷ y ∷ rest) (suc i) begin end run d h =
     let later : eqb (suc i) 0 ≡ false = grind (arith, nat_tests) in
     let same : eqb (suc i + 1) (suc (suc (length rest))) ≡ eqb (i + 1) (suc (length rest)) = grind (arith, nat_tests) in
     rw (later, same, and_no begin, and_no run) (marked-at (y ∷ rest) i false end false d (omega arith))
+
+but_last : (octet : ℕ) (rest : List ℕ) (end : Bool) → take (length rest) (marked (octet ∷ rest) false end false) ≡ unmarked (take (length rest) (octet ∷ rest))
+but_last octet [] end = refl
+but_last octet (next ∷ rest) end = ap (λ items. unmarked_item octet ∷ items) (but_last next rest end)
+
+-- between the first octet and the last none has a mark
+pub middle : (octets : List ℕ) (last : ℕ) (begin end run : Bool) → suc last ≡ length octets → 0 < last → take last (marked octets begin end run) ≡ take 1 (marked octets begin end run) ++ unmarked (take (last - 1) (drop 1 octets))
+middle [] last begin end run h p = absurd (omega arith)
+middle (x ∷ []) last begin end run h p = absurd (omega arith)
+middle (x ∷ y ∷ rest) zero begin end run h p = absurd (omega arith)
+middle (x ∷ y ∷ rest) (suc n) begin end run h p =
+    let one : suc n - 1 ≡ n = omega arith in
+    let all : n ≡ length rest = omega arith in
+    rw (one, all) (ap (λ items. record { octet = x; begin = begin; end = false; run = run } ∷ items) (but_last y rest end))

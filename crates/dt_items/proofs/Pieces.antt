@@ -1,8 +1,8 @@
 -- How a loop takes the piece of a read, one item after another.
-use Rattle.std.proofs.Common.{◌≡◌, ℕ, zero, suc, ◌+◌, ◌-◌, ◌<◌, ◌≤◌, true, false, cond, List, [], ◌∷◌, ◌++◌, length, get_or, set, take, drop, subst, append_assoc, Some, None, refl, sym, ap, ◌∙◌, arith}
-use Rattle.std.proofs.lemmas.List.{append-nil, length-append, length-map, drop_more, map_push, set_at}
+use Rattle.std.proofs.Common.{◌≡◌, ℕ, zero, suc, ◌+◌, ◌-◌, ◌<◌, ◌≤◌, true, false, cond, List, [], ◌∷◌, ◌++◌, length, get_or, set, take, drop, append_assoc, Some, refl, sym, ap, ◌∙◌, arith}
+use Rattle.std.proofs.lemmas.List.{append-nil, length-append, length-map, drop_at, drop_more, map_push, set_at}
 use Rattle.dt_items.specs.declared.item.Item.{Item}
-use Rattle.dt_items.specs.Unread.{goes_on, following, first_piece, last_item, piece_told, octets_of, TakesNext, TakesPiece}
+use Rattle.dt_items.specs.Unread.{goes_on, following, first_piece, last_item, piece_told, octets_of, TakesPiece}
 
 -- What a read of at most n octets has done so far: it took the first item and more behind it, of
 -- which `last` is the last, and their octets stand in the buffer. What it takes yet follows that one.
@@ -37,10 +37,9 @@ last_item-push first (item ∷ more) next = last_item-push item more next
 following_yes : (n : ℕ) (before item : Item) (items : List Item) → goes_on before item ≡ true → following (suc n) before (item ∷ items) ≡ item ∷ following n item items
 following_yes n before item items h = ap (λ b. cond b (item ∷ following n item items) []) h
 
-following_no : (n : ℕ) (before : Item) (items : List Item) → ((item : Item) (rest : List Item) → items ≡ item ∷ rest → goes_on before item ≡ false) → following n before items ≡ []
-following_no n before [] h = refl
-following_no zero before (item ∷ items) h = refl
-following_no (suc n) before (item ∷ items) h = ap (λ b. cond b (item ∷ following n item items) []) (h item items refl)
+following_no : (n : ℕ) (before item : Item) (items : List Item) → goes_on before item ≡ false → following n before (item ∷ items) ≡ []
+following_no zero before item items h = refl
+following_no (suc n) before item items h = ap (λ b. cond b (item ∷ following n item items) []) h
 
 following_none : (before : Item) (items : List Item) → following 0 before items ≡ []
 following_none before [] = refl
@@ -86,9 +85,19 @@ taken_full {n} {items} {was} {first} {last} {len} {rest} {buf} t p =
     let e : n - len ≡ 0 = omega arith in
     taken_all t (ap (λ k. following k last rest) e ∙ following_none last rest)
 
-pub taken_to_the_end : {n : ℕ} {items : List Item} {was : List ℕ} {first last : Item} {len : ℕ} {rest after : List Item} {buf : List ℕ} → HasTaken n items was first last len rest buf → TakesNext last rest None after → TakesPiece n items was (record { len = len; begin = first.begin; end = last.end; run = first.run }) after buf
-taken_to_the_end {n} {items} {was} {first} {last} {len} {rest} {after} {buf} t f =
-    subst (λ r. TakesPiece n items was (record { len = len; begin = first.begin; end = last.end; run = first.run }) r buf) (sym f.0) (taken_all t (following_no (n - len) last rest f.1))
+pub taken_to_the_end : {n : ℕ} {items : List Item} {was : List ℕ} {first last : Item} {len : ℕ} {rest : List Item} {buf : List ℕ} → HasTaken n items was first last len rest buf → rest ≡ [] → TakesPiece n items was (record { len = len; begin = first.begin; end = last.end; run = first.run }) rest buf
+taken_to_the_end {n} {items} {was} {first} {last} {len} {rest} {buf} t none =
+    taken_all t (ap (λ r. following (n - len) last r) none)
+
+pub taken_to_a_mark : {n : ℕ} {items : List Item} {was : List ℕ} {first last : Item} {len : ℕ} {rest : List Item} {buf : List ℕ} → HasTaken n items was first last len rest buf → (next : Item) (left : List Item) → rest ≡ next ∷ left → goes_on last next ≡ false → TakesPiece n items was (record { len = len; begin = first.begin; end = last.end; run = first.run }) rest buf
+taken_to_a_mark {n} {items} {was} {first} {last} {len} {rest} {buf} t next left split stops =
+    taken_all t (ap (λ r. following (n - len) last r) split ∙ following_no (n - len) last next left stops)
+
+-- what a read leaves
+pub left_behind : {n : ℕ} {tail : List Item} {was : List ℕ} {first last : Item} {len : ℕ} {rest : List Item} {buf : List ℕ} → HasTaken n (first ∷ tail) was first last len rest buf → rest ≡ drop (len - 1) tail
+left_behind {n} {tail} {was} {first} {last} {len} {rest} {buf} t =
+    let long : len - 1 ≡ length t.more = omega (arith, t.len_is) in
+    sym (ap (λ k. drop k tail) long ∙ ap (λ items. drop (length t.more) (drop 1 items)) t.items_are ∙ drop_at t.more rest (length t.more) refl)
 
 -- a prefix of as many items as the piece has is the piece
 following_prefix : (n : ℕ) (before : Item) (items : List Item) → take (length (following n before items)) items ≡ following n before items

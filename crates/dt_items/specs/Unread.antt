@@ -1,5 +1,5 @@
 -- What waits to be read: octets with their marks, and the pieces that reads take of them.
-use Rattle.std.specs.Prelude.{ℕ, zero, suc, ◌+◌, ◌<◌, ◌≤◌, ◌≡◌, Bool, true, false, not, ◌||◌, if◌then◌else◌, List, [], ◌∷◌, ◌++◌, length, take, drop, map, slice_index_or, Option, Some, None}
+use Rattle.std.specs.Prelude.{ℕ, zero, suc, ◌+◌, ◌<◌, ◌≤◌, ◌≡◌, Bool, false, not, ◌||◌, if◌then◌else◌, List, [], ◌∷◌, ◌++◌, length, take, drop, map, slice_index_or, Option, Some, None}
 use Rattle.dt_items.specs.declared.item.Item.{Item}
 use Rattle.dt_items.specs.declared.piece.Piece.{Piece}
 
@@ -16,6 +16,13 @@ marked (octet ∷ []) begin end run = record { octet = octet; begin = begin; end
 marked (octet ∷ next ∷ rest) begin end run =
     record { octet = octet; begin = begin; end = false; run = run } ∷ marked (next ∷ rest) false end false
 
+-- an octet without marks, and octets without marks
+abbrev pub unmarked_item : ℕ → Item
+unmarked_item octet = record { octet = octet; begin = false; end = false; run = false }
+
+abbrev pub unmarked : List ℕ → List Item
+unmarked octets = map unmarked_item octets
+
 abbrev pub octets_of : List Item → List ℕ
 octets_of items = map (λ item. item.octet) items
 
@@ -29,12 +36,6 @@ abbrev pub following : ℕ → Item → List Item → List Item
 following n before [] = []
 following zero before (item ∷ items) = []
 following (suc n) before (item ∷ items) = if goes_on before item then item ∷ following n item items else []
-
--- The next of these items is taken where it goes on the piece of the item before it; else nothing
--- is, and the items stay.
-abbrev pub TakesNext : Item → List Item → Option Item → List Item → Type 0
-TakesNext before items (Some next) rest = (items ≡ next ∷ rest) × (goes_on before next ≡ true)
-TakesNext before items None rest = (rest ≡ items) × ((next : Item) (more : List Item) → items ≡ next ∷ more → goes_on before next ≡ false)
 
 -- What a read of n octets takes: the longest prefix of at most n items in which an end mark stands
 -- only on the last and a begin or run mark only on the first.

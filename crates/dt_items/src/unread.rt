@@ -1,6 +1,6 @@
-ghost use Rattle.std.specs.Prelude.{◌≡◌, ◌+◌, ◌^◌, ◌<◌, ◌≤◌, ◌↔◌, [], ◌∷◌, ◌++◌, drop, length, slice_get, slice_index, ◌==◌, ◌&&◌, IfOk, IfSome, IfNone, IsNone, IsSome};
+ghost use Rattle.std.specs.Prelude.{◌≡◌, ◌+◌, ◌-◌, ◌^◌, ◌<◌, ◌≤◌, ◌↔◌, [], ◌∷◌, ◌++◌, drop, take, length, slice_get, slice_index, ◌==◌, ◌&&◌, IfOk, IfSome, IfNone, IsNone, IsSome};
 ghost use Rattle.circular_buffer.specs.Buffer.{buffer};
-ghost use Rattle.dt_items.specs.Unread.{Backlog, marked, octets_of, goes_on, first_piece, piece_told, IsLongestPiece, TakesNext, TakesPiece};
+ghost use Rattle.dt_items.specs.Unread.{Backlog, marked, unmarked, unmarked_item, octets_of, goes_on, first_piece, piece_told, IsLongestPiece, TakesPiece};
 
 use crate::item::Item;
 use crate::memory::NoMemory;
@@ -32,17 +32,30 @@ fn goes_on(before: &Item, item: &Item) -> bool
     !(before.end || item.begin || item.run)
 }
 
-/// Takes the next item, where it goes on the piece of the item before it.
-fn take_following(before: &Item, ring: &mut HeapCircularBuffer<Item>) -> Option<Item>
-    ensures follows { TakesNext before.now ring.old.items result ring.new.items }
-    ensures capacity { ring.new.capacity ≡ ring.old.capacity }
+/// Copies the octets of the first item, and of those behind it that go on its piece, as many as fit, to
+/// the front of the buffer, and tells the piece.
+fn copy_piece(first: &Item, items: &HeapCircularBuffer<Item>, buf: &mut [u8]) -> Piece
+    requires { 0 < length buf.old }
+    ensures copied { let left = drop (result.len - 1) items.now.items in
+        TakesPiece (length buf.old) (first.now ∷ items.now.items) buf.old result left buf.new }
+    ensures within { (0 < result.len) × (result.len ≤ length items.now.items + 1) }
 {
-    let next = *ring.front()?;
-    if goes_on(before, &next) {
-        let _next = ring.pop_front();
-        Some(next)
-    } else {
-        None
+    buf[0] = first.octet;
+    let mut last = *first;
+    let mut len = 1;
+    for next in items.iter() {
+        if len == buf.len() || !goes_on(&last, next) {
+            break;
+        }
+        buf[len] = next.octet;
+        last = *next;
+        len += 1;
+    }
+    Piece {
+        len,
+        begin: first.begin,
+        end: last.end,
+        run: first.run,
     }
 }
 
@@ -54,22 +67,23 @@ fn take_piece(first: &Item, ring: &mut HeapCircularBuffer<Item>, buf: &mut [u8])
         TakesPiece (length buf.old) items buf.old result ring.new.items buf.new }
     ensures capacity { ring.new.capacity ≡ ring.old.capacity }
 {
-    buf[0] = first.octet;
-    let mut last = *first;
-    let mut len = 1;
-    while len < buf.len() {
-        let Some(next) = take_following(&last, ring) else {
-            break;
-        };
-        buf[len] = next.octet;
-        last = next;
-        len += 1;
-    }
-    Piece {
-        len,
-        begin: first.begin,
-        end: last.end,
-        run: first.run,
+    let piece = copy_piece(first, ring, buf);
+    ring.truncate_front(ring.len() - (piece.len - 1));
+    piece
+}
+
+/// How many items are made before they are appended.
+const STAGE: usize = 128;
+
+/// The item of an octet without marks.
+fn unmarked(octet: u8) -> Item
+    ensures { result ≡ unmarked_item octet }
+{
+    Item {
+        octet,
+        begin: false,
+        end: false,
+        run: false,
     }
 }
 
@@ -91,6 +105,32 @@ fn item_at(octets: &[u8], i: usize, begin: bool, end: bool, run: bool) -> Item
     }
 }
 
+/// Writes the items of octets without marks to the front of the stage, and leaves its rest.
+fn fill_unmarked(stage: &mut [Item], octets: &[u8])
+    requires { length octets.now ≤ length stage.old }
+    ensures len { length stage.new ≡ length stage.old }
+    ensures items { take (length octets.now) stage.new ≡ unmarked octets.now }
+{
+    for i in 0..octets.len() {
+        stage[i] = unmarked(octets[i]);
+    }
+}
+
+/// Appends octets without marks, which fit into the ring: as many at a time as the stage holds.
+fn append_unmarked(ring: &mut HeapCircularBuffer<Item>, octets: &[u8])
+    requires { length ring.old.items + length octets.now ≤ ring.old.capacity }
+    ensures { ring.new ≡ buffer (ring.old.items ++ unmarked octets.now) ring.old.capacity }
+{
+    let mut stage = [unmarked(0); STAGE];
+    let mut done = 0;
+    while done < octets.len() {
+        let count = STAGE.min(octets.len() - done);
+        fill_unmarked(&mut stage, &octets[done..done + count]);
+        ring.extend_from_slice(&stage[..count]);
+        done += count;
+    }
+}
+
 /// Appends octets that come together, with their marks: the first item gets the marks begin and run,
 /// the last gets the mark end, and all other marks are off. They fit into the ring. The cost is that
 /// of the octets, and no memory is taken.
@@ -104,8 +144,14 @@ pub fn append_marked(
     requires { length ring.old.items + length octets.now ≤ ring.old.capacity }
     ensures { ring.new ≡ buffer (ring.old.items ++ marked octets.now begin end run) ring.old.capacity }
 {
-    for i in 0..octets.len() {
-        ring.push_back(item_at(octets, i, begin, end, run));
+    if octets.is_empty() {
+        return;
+    }
+    let last = octets.len() - 1;
+    ring.push_back(item_at(octets, 0, begin, end, run));
+    if 0 < last {
+        append_unmarked(ring, &octets[1..last]);
+        ring.push_back(item_at(octets, last, begin, end, run));
     }
 }
 
