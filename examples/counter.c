@@ -19,7 +19,7 @@ enum { LINK = 1, CHARGE = 74, LATE = 20, MOST = 1024, NAMES = 1000 };
 static const struct dt_params PARAMS = {102, 195, 2, 39, 78, 1442, 65536, 65536, 65536, 2147483648u, 0};
 
 static struct { char name[32]; long long sum; } sums[NAMES];
-static struct { char octets[MOST + 1]; size_t len; bool begun; } message; /* node 1 has one flow to here, so one is enough */
+static char message[MOST + 1];
 static uint64_t empty_at; /* when the socket was last found empty */
 
 static uint64_t milliseconds(clockid_t clock) {
@@ -72,7 +72,7 @@ static void answer(dt_node *node, uint64_t at, const struct dt_flow *flow) {
     struct dt_flow back = {flow->to, flow->from, flow->to_port, flow->from_port};
     char name[32], text[64] = "that isn't a name and a number";
     long long number;
-    if (sscanf(message.octets, "%31s %lld", name, &number) == 2)
+    if (sscanf(message, "%31s %lld", name, &number) == 2)
         for (int i = 0; i < NAMES; i++)
             if (!sums[i].name[0] || !strcmp(sums[i].name, name)) {
                 strcpy(sums[i].name, name);
@@ -82,19 +82,12 @@ static void answer(dt_node *node, uint64_t at, const struct dt_flow *flow) {
     stop_on(dt_send(node, at, &back, (uint8_t *)text, strlen(text), true, true).status);
 }
 
-/* reads what is unread of a flow, joins it to messages, and answers those that are whole and not too long */
-static void serve(dt_node *node, uint64_t at, const struct dt_flow *flow) {
-    struct dt_piece piece;
-    uint8_t octets[MOST];
-    while ((piece = dt_read(node, at, flow, octets, sizeof octets)).status == DT_DONE) {
-        if (piece.begin || piece.run) message.begun = piece.begin, message.len = 0;
-        if (message.len + piece.len > MOST) message.begun = false;
-        if (!message.begun) continue;
-        memcpy(message.octets + message.len, octets, piece.len);
-        message.octets[message.len += piece.len] = '\0';
-        if (piece.end) answer(node, at, flow), message.begun = false;
-    }
-    stop_on(piece.status);
+/* answers the messages that are whole; one that is too long is dropped by the library */
+static void serve(dt_node *node, uint64_t at) {
+    struct dt_message it;
+    while ((it = dt_take(node, at, (uint8_t *)message, MOST)).status == DT_DONE || it.status == DT_MORE || it.status == DT_LOST)
+        if (it.status == DT_DONE) message[it.len] = '\0', answer(node, at, &it.flow);
+    stop_on(it.status);
 }
 
 int main(int count, char **words) {
@@ -106,7 +99,7 @@ int main(int count, char **words) {
     dt_node *node = aligned_alloc(dt_align(), (dt_size() + dt_align() - 1) / dt_align() * dt_align());
     if (!node || dt_abi() != DT_ABI) return 1;
     dt_init(node);
-    if (dt_open(node, &PARAMS, &start, &(struct dt_link){CHARGE, 0, LINK}, 1, &(struct dt_route){1, LINK}, 1).status != DT_DONE) return 1;
+    if (dt_open(node, &PARAMS, &start, &(struct dt_link){CHARGE, 0, LINK}, 1, &(struct dt_route){1, LINK}, 1).status != DT_DONE || dt_inbox(node, MOST) != DT_DONE) return 1;
     for (empty_at = now();;) {
         struct dt_moment wake = dt_wake(node);
         uint64_t at = now();
@@ -114,7 +107,8 @@ int main(int count, char **words) {
         receive(wire, node);
         stop_on(dt_tick(node, at = now()));
         for (struct dt_report it; (it = dt_next_report(node)).status == DT_DONE;)
-            if (it.kind == DT_ACCEPTED) serve(node, at, &it.flow);
+            if (it.kind == DT_ACCEPTED || it.kind == DT_RELEASED) stop_on(dt_hear(node, &it.flow));
+        serve(node, at);
         flush(wire, node, at);
     }
 }

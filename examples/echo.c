@@ -23,8 +23,7 @@ static const struct dt_params PARAMS = {482, 450, 5, 90, 180, 1442, 65536, 65536
 static struct sockaddr_in client; /* node 1 */
 static uint64_t empty_at;         /* when the socket was last found empty */
 
-/* a message that is read: node 1 has one flow to here, so one is enough */
-static struct { uint8_t octets[MOST]; size_t len; bool begun; } message;
+static uint8_t message[MOST];
 
 static uint64_t milliseconds(clockid_t clock) {
     struct timespec it;
@@ -80,31 +79,24 @@ static void receive(int wire, dt_node *node) {
 }
 
 /* answers a whole message on the way back */
-static void answer(dt_node *node, uint64_t at, const struct dt_flow *flow) {
+static void answer(dt_node *node, uint64_t at, const struct dt_flow *flow, size_t len) {
     struct dt_flow back = {flow->to, flow->from, flow->to_port, flow->from_port};
-    for (size_t i = 0, j = message.len; i + 1 < j; i++) {
-        uint8_t it = message.octets[i];
-        message.octets[i] = message.octets[--j];
-        message.octets[j] = it;
+    for (size_t i = 0, j = len; i + 1 < j; i++) {
+        uint8_t it = message[i];
+        message[i] = message[--j];
+        message[j] = it;
     }
-    struct dt_sent sent = dt_send(node, at, &back, message.octets, message.len, true, true);
+    struct dt_sent sent = dt_send(node, at, &back, message, len, true, true);
     stop_on(sent.status, "an answer");
     if (sent.status != DT_DONE) fprintf(stderr, "echo: an answer wasn't sent: status %u\n", sent.status);
 }
 
-/* reads what is unread of a flow, joins it to messages, and answers those that are whole */
-static void serve(dt_node *node, uint64_t at, const struct dt_flow *flow) {
-    struct dt_piece piece;
-    while (message.len < MOST && (piece = dt_read(node, at, flow, message.octets + (message.begun ? message.len : 0), MOST - (message.begun ? message.len : 0))).status == DT_DONE) {
-        if (piece.begin || piece.run) {
-            if (message.begun) memmove(message.octets, message.octets + message.len, piece.len);
-            message.begun = piece.begin, message.len = 0;
-        }
-        if (!message.begun) continue;
-        message.len += piece.len;
-        if (piece.end) answer(node, at, flow);
-        if (piece.end || message.len == MOST) message.begun = false, message.len = 0;
-    }
+/* answers the messages that are whole */
+static void serve(dt_node *node, uint64_t at) {
+    struct dt_message it;
+    while ((it = dt_take(node, at, message, sizeof message)).status == DT_DONE || it.status == DT_MORE || it.status == DT_LOST)
+        if (it.status == DT_DONE) answer(node, at, &it.flow, it.len);
+    stop_on(it.status, "a message");
 }
 
 int main(int count, char **words) {
@@ -119,7 +111,7 @@ int main(int count, char **words) {
     dt_node *node = aligned_alloc(dt_align(), (dt_size() + dt_align() - 1) / dt_align() * dt_align());
     if (!node || dt_abi() != DT_ABI) return fprintf(stderr, "echo: no memory, or another library\n"), 1;
     dt_init(node);
-    if (dt_open(node, &PARAMS, &start, &link, 1, &route, 1).status != DT_DONE) return fprintf(stderr, "echo: the node can't be opened\n"), 1;
+    if (dt_open(node, &PARAMS, &start, &link, 1, &route, 1).status != DT_DONE || dt_inbox(node, MOST) != DT_DONE) return fprintf(stderr, "echo: the node can't be opened\n"), 1;
 
     for (empty_at = now();;) {
         struct dt_moment wake = dt_wake(node);
@@ -131,7 +123,8 @@ int main(int count, char **words) {
         stop_on(dt_tick(node, at), "a tick");
         struct dt_report report;
         while ((report = dt_next_report(node)).status == DT_DONE)
-            if (report.kind == DT_ACCEPTED) serve(node, at, &report.flow);
+            if (report.kind == DT_ACCEPTED || report.kind == DT_RELEASED) stop_on(dt_hear(node, &report.flow), "a flow");
+        serve(node, at);
         flush(wire, node, at);
     }
 }

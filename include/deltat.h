@@ -7,8 +7,10 @@
  *   for (;;) {
  *       struct dt_moment wake = dt_wake(node);        wait for the socket, at most until `wake`
  *       a datagram came: dt_arrive(node, now(), link, buf, len, waited);   none did: dt_tick(node, now());
+ *       while ((r = dt_next_report(node)).status == DT_DONE)
+ *           if (r.kind == DT_ACCEPTED || r.kind == DT_RELEASED) dt_hear(node, &r.flow);
+ *       while ((m = dt_take(node, now(), buf, sizeof buf)).status == DT_DONE)     m.len octets of m.flow are a message
  *       while ((f = dt_next_frame(node, buf, sizeof buf)).status == DT_DONE)     send it on f.link, or to f.to
- *       while ((p = dt_read(node, now(), &flow, buf, sizeof buf)).status == DT_DONE)     p.len octets came
  *   }
  *
  * What you owe
@@ -48,17 +50,19 @@ enum dt_status {
     DT_DONE = 0,
     DT_NO_MEMORY = 1, /* dt_open: nothing changed. Else a first part was done, and the node is spent: what waits can
                          still be taken, then it is closed and opened `again` */
-    DT_CLOSED = 2,    /* the handle holds no node; nothing changed */
+    DT_CLOSED = 2,    /* the handle holds no node, or none with an inbox; nothing changed */
     DT_REFUSED = 3,   /* an argument is out of its range; nothing changed */
-    DT_HELD = 4,      /* the handle holds a node already; nothing changed */
+    DT_HELD = 4,      /* the handle holds a node already, or the node an inbox; nothing changed */
     DT_NOTHING = 5,   /* there is nothing to hand over */
-    DT_ROOM = 6,      /* the buffer is too small; nothing changed */
+    DT_ROOM = 6,      /* the buffer is too small, and what was to go into it waits on */
     DT_FULL = 7,      /* the octets don't fit, and weren't taken; what else was due is done */
     DT_QUIET = 8,     /* the node is silent, and took none; what else was due is done */
     DT_SPENT = 9,     /* an earlier call found no memory; nothing changed */
     DT_BAD = 11,      /* the datagram doesn't read; nothing changed */
     DT_STALE = 12,    /* the datagram waited for all of its life, or longer; nothing changed */
-    DT_KEPT_OUT = 13  /* the guard doesn't admit the datagram, which is lost and counted; nothing else changed */
+    DT_KEPT_OUT = 13, /* the guard doesn't admit the datagram, which is lost and counted; nothing else changed */
+    DT_MORE = 14,     /* many flows were looked at, and none had a message; others may have one */
+    DT_LOST = 15      /* there was no memory for octets of the flow that were read: they are lost, the node goes on */
 };
 
 enum dt_fault { /* the first test of a datagram that fails, and what `value` tells */
@@ -101,6 +105,7 @@ struct dt_opened { uint32_t value; uint8_t status, field; };
 struct dt_came { uint32_t value; uint8_t status, fault; };
 struct dt_sent { uint64_t until; uint32_t free; uint8_t status; };
 struct dt_piece { size_t len; uint8_t status; bool begin, end, run; };
+struct dt_message { struct dt_flow flow; size_t len; uint64_t too_long; uint8_t status; bool gap; };
 struct dt_out { size_t len; uint32_t to; uint16_t link; uint8_t status; };
 struct dt_moment { uint64_t at; bool some; };
 struct dt_kept_out { uint64_t closed, crowded; };
@@ -181,6 +186,27 @@ struct dt_sent dt_send(dt_node *n, uint64_t now, const struct dt_flow *f, const 
  * SPENT; NOTHING: none is unread, and what was due is done; REFUSED: the flow doesn't go from another node to this
  * one; ROOM: `room` is 0. */
 struct dt_piece dt_read(dt_node *n, uint64_t now, const struct dt_flow *f, uint8_t *buf, size_t room);
+
+/* MESSAGES, put together from what is read: each from its begin mark to its end mark, whole and once, those of a flow
+ * in the order in which they were sent. Who takes the messages of a flow doesn't call dt_read for it. */
+
+/* From now on messages of at most `longest` octets are put together; a longer one is dropped and counted. What has come
+ * of a message that isn't whole lies in memory. DONE CLOSED HELD */
+uint8_t dt_inbox(dt_node *n, size_t longest);
+
+/* Octets of this flow may be unread, so dt_take looks for a message of it. Call it at each report ACCEPTED, and at each
+ * RELEASED, so that nothing is kept of a flow that has no receiver. It takes a look at each flow that was heard of and
+ * isn't read to its end. DONE CLOSED; NO_MEMORY: nothing changed. */
+uint8_t dt_hear(dt_node *n, const struct dt_flow *f);
+
+/* A whole message of the first flow that was heard of and has one: the first `len` octets of the buffer, the rest of
+ * which is as it was. `gap`: octets of the flow before it are lost, or may be. `too_long`: so many messages of all
+ * flows were longer than `longest` since dt_inbox, 2^64 - 1 at most. Flows are read as by dt_read, and what is due at
+ * `now` is done then. DONE CLOSED, and where it isn't DONE the buffer is as it was; NOTHING: no flow has one; ROOM: it
+ * has `len` octets, and waits; LOST: the message of this flow is lost, and the next one has a gap; MORE: 65,537 flows
+ * had none, and others may have one; NO_MEMORY SPENT: a flow can't be read. A message that waits for room is handed
+ * out all the same. */
+struct dt_message dt_take(dt_node *n, uint64_t now, uint8_t *buf, size_t room);
 
 /* THE GUARD: what strangers may open. From now on the node receives at these ports, or at all ports where `all` is set,
  * and makes no receiver for a flow while `flows` of them have one; those that have one keep it. What comes for another

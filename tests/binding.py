@@ -4,6 +4,8 @@
 these fails, and with 77 where there is no library:
 
 - refusals: what is out of range, too long, for no one or too early is refused by its own exception, and nothing is sent.
+- whole: a message in parts that is longer than any send comes whole; one that is too long is dropped and counted; what
+  is lost between two is told as a gap, once.
 - simulated: 300 random runs of two nodes in memory, over links that drop, repeat and reorder, with restarts: each
   message is one that was sent, none comes twice, those of one life come in their order.
 - processes: two processes over a link that drops 15 of 100 datagrams, repeats 15 and reorders: what they exchange
@@ -95,6 +97,48 @@ def refusals() -> bool:
     node.close()
     right.append(refused(deltat.Spent, node.tick, 5))
     return all(right)
+
+
+def taken(nodes: list[deltat.Node], at: int, is_lost: bool = False) -> list[tuple[int, bytes, bool]]:
+    """What waits at one of two nodes comes to the other, or is lost. The messages that node 2 has then, by their ports."""
+    for node, other in (nodes, nodes[::-1]):
+        node.tick(at)
+        for frame in node.frames():
+            if not is_lost:
+                other.arrive(1, frame.octets, at=at)
+    found = [(it.flow.source_port, it.octets, it.gap) for it in nodes[1].messages(at)]
+    for frame in nodes[1].frames():
+        if not is_lost:
+            nodes[0].arrive(1, frame.octets, at=at)
+    return found
+
+
+def whole() -> bool:
+    longest = 150_000
+    nodes, flow, found = [node_of(1, 2, False, 0), deltat.Node(2, PARAMS, [deltat.Link(1, CHARGE)], {1: 1}, False, 0, longest)], deltat.Flow(1, 10, 2, 20), []
+    octets, at = random.Random(3).randbytes(longest), 0
+    for place in range(0, longest, 50_000):
+        nodes[0].send(flow, octets[place : place + 50_000], place == 0, place == 100_000, at=at)
+        for at in range(at, at + 1000, 50):
+            found += taken(nodes, at)
+    nodes[0].send(flow, b"next", at=at)
+    nodes[0].send(deltat.Flow(1, 11, 2, 20), b"other", at=at)
+    found += sorted(taken(nodes, at))
+    nodes[0].send(flow, b"lost", at=at)
+    for at in range(at, at + 10_000, 50):
+        found += taken(nodes, at, True)
+    nodes[0].send(flow, b"behind", at=at)
+    nodes[0].send(flow, b"last", at=at)
+    for at in range(at, at + 1000, 50):
+        found += taken(nodes, at)
+    wanted = [(10, octets, True), (10, b"next", False), (11, b"other", True), (10, b"behind", True), (10, b"last", False)]
+    if found != wanted:
+        print(f"whole: {[(port, it[:10], len(it), gap) for port, it, gap in found]} came")
+    right = found == wanted and nodes[1].too_long == 0
+    nodes = [node_of(1, 2, False, 0), deltat.Node(2, PARAMS, [deltat.Link(1, CHARGE)], {1: 1}, False, 0, longest=5)]
+    for it in (b"longer", b"short", b"longest", b"end"):
+        nodes[0].send(flow, it, at=1)
+    return right and taken(nodes, 1) == [(10, b"short", True), (10, b"end", False)] and nodes[1].too_long == 2
 
 
 class Run:
@@ -440,7 +484,7 @@ def rust() -> bool:
 
 def main() -> int:
     words = sys.argv[2:] if named else sys.argv[1:]
-    tests = {"refusals": refusals, "simulated": simulated, "processes": processes, "asynchronous": asynchronous, "recorded": recorded, "examples": examples, "rust": rust}
+    tests = {"refusals": refusals, "whole": whole, "simulated": simulated, "processes": processes, "asynchronous": asynchronous, "recorded": recorded, "examples": examples, "rust": rust}
     failed = 0
     for name in words or tests:
         begun = time.monotonic()

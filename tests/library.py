@@ -8,9 +8,11 @@ valgrind and with the address and undefined-behaviour sanitizers, where the mach
 
 - layout.c: sizes and places of fields, by the compiler alone: crates/dt_c/src/rows.rt proves the same sizes.
 - exchange.c: two nodes, a message that comes whole, and each refusal.
+- messages.c: whole messages: with gaps, in parts, too long, for a buffer that is too small, of many flows.
 - each_failure.c: each request for memory fails in turn.
 - strangers.c: N random datagrams (1,000,000), after which the node takes as much memory as before, and some thousand
-  flows from one peer; and a million flows at a guard that lets a thousand in. In C99 alone.
+  flows from one peer; a million flows at a guard that lets a thousand in; and 200,000 that come and go, each with half a
+  message for an inbox. In C99 alone.
 
 The last line is `N passed, M failed`; ends with 1 where one failed, and with 77 where there is no compiler or no archive.
 
@@ -54,7 +56,7 @@ class Program(NamedTuple):
     has_heap: bool
 
 
-PROGRAMS = (Program("layout.c", False), Program("exchange.c", False), Program("each_failure.c", True))
+PROGRAMS = (Program("layout.c", False), Program("exchange.c", False), Program("messages.c", False), Program("each_failure.c", True))
 # what valgrind and the sanitizers see of the random datagrams, and the flows of one peer that are opened
 FEW_DATAGRAMS, FLOWS = 20_000, 5_000
 
@@ -137,6 +139,7 @@ def try_strangers(tally: Tally, driver: str, count: int, library: pathlib.Path, 
     tally.run("random datagrams", [bare, "datagrams", str(count)], SECONDS + count // 10_000, tells=True)
     tally.run("flows of one peer", [bare, "flows", str(FLOWS), "4096"], tells=True)
     tally.run("a million flows at a guard", [bare, "guard", "1000000", "1000"], tells=True)
+    tally.run("messages of flows that come and go", [bare, "messages", "200000"], tells=True)
     if shutil.which("valgrind") is not None:
         tally.run("random datagrams, valgrind", ["valgrind", "--quiet", "--error-exitcode=9", "--leak-check=full", bare, *few])
     flags = ["-fsanitize=address,undefined", "-fno-sanitize-recover=all"]

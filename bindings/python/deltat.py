@@ -10,7 +10,7 @@
 
 A `Node` is the proved node of libdeltat, which has no socket, no clock and no thread: it is handed datagrams,
 octets and the time, and hands out datagrams, what came, and the moment at which it wants to be called again. What the
-calls of the library say is proved; this file, which calls them and puts messages together, is tested only.
+calls of the library say is proved, whole messages too; this file, which calls them, is tested only.
 
 `Udp` drives a node over a socket. It keeps what the library asks of its caller: one clock that goes on while the
 machine sleeps (CLOCK_BOOTTIME), what a datagram waited in the socket (by the kernel's stamps), and that nothing is put
@@ -52,6 +52,8 @@ __all__ = [
 ABI = 1
 MOST_FRAME = 8222
 MOST_SEND = 65536
+MOST_MESSAGE = (1 << 64) - 1
+"""As long as there is memory for."""
 LATE = 20
 """A frame that left the node more than so many milliseconds ago isn't put on the wire."""
 
@@ -72,6 +74,8 @@ class Status(enum.IntEnum):
     BAD = 11
     STALE = 12
     KEPT_OUT = 13
+    MORE = 14
+    LOST = 15
 
 
 class Kind(enum.IntEnum):
@@ -187,6 +191,13 @@ class _Piece(ctypes.Structure):
     ]
 
 
+class _Message(ctypes.Structure):
+    _fields_ = [
+        ("flow", _Flow), ("len", ctypes.c_size_t), ("too_long", ctypes.c_uint64), ("status", ctypes.c_uint8),
+        ("gap", ctypes.c_bool),
+    ]
+
+
 class _KeptOut(ctypes.Structure):
     _fields_ = [("closed", ctypes.c_uint64), ("crowded", ctypes.c_uint64)]
 
@@ -221,6 +232,9 @@ def _calls() -> dict[str, tuple[object, list[object]]]:
         "dt_arrive": (_Came, [p, u64, u16, octets, size, u32]),
         "dt_send": (_Sent, [p, u64, flow, octets, size, ctypes.c_bool, ctypes.c_bool]),
         "dt_read": (_Piece, [p, u64, flow, octets, size]),
+        "dt_inbox": (u8, [p, size]),
+        "dt_hear": (u8, [p, flow]),
+        "dt_take": (_Message, [p, u64, octets, size]),
         "dt_next_frame": (_Out, [p, octets, size]),
         "dt_next_report": (_Report, [p]),
         "dt_wake": (_Moment, [p]),
@@ -328,7 +342,8 @@ class Piece(NamedTuple):
 
 
 class Message(NamedTuple):
-    """A whole message of a flow. `gap`: something of the flow before it was passed over; its sender was told."""
+    """A whole message of a flow. `gap`: octets of the flow before it, behind the message before, were passed over, or may
+    have been."""
 
     flow: Flow
     octets: bytes
@@ -376,13 +391,17 @@ def _flow_of(it: _Flow) -> Flow:
 
 
 class Node:
-    """A node of a network, without a socket. Moments are in ms; left out, they are `now()`."""
+    """A node of a network, without a socket. Moments are in ms; left out, they are `now()`. `too_long`: how many messages
+    were longer than `longest`, and dropped, when `messages` last looked."""
+
+    _TELL_OF_FLOWS: tuple[Kind, ...] = (Kind.ACCEPTED, Kind.RELEASED)
 
     def __init__(
         self, number: int, params: Params, links: Sequence[Link], routes: Mapping[int, int], again: bool = False,
-        at: int | None = None,
+        at: int | None = None, longest: int = MOST_MESSAGE,
     ) -> None:
-        """Opens the node. `routes` has the link that leads to each node. BadParameter or NoMemory."""
+        """Opens the node. `routes` has the link that leads to each node; `longest`, how many octets a message that comes may
+        have. BadParameter or NoMemory."""
         self.number, self.params = number, params
         size, align = _library.dt_size(), _library.dt_align()
         self._memory = ctypes.create_string_buffer(size + align)
@@ -390,10 +409,11 @@ class Node:
         self._handle = ctypes.c_void_p(at_octet + -at_octet % align)
         self._room = ctypes.create_string_buffer(MOST_SEND)
         self._unread: dict[Flow, None] = {}
-        self._begun: dict[Flow, tuple[bytearray, bool]] = {}
+        self.too_long = 0
         self._reports: deque[Report] = deque(maxlen=10_000)
         _library.dt_init(self._handle)
         self._open(links, routes, again, now() if at is None else at)
+        self._raise(_library.dt_inbox(self._handle, _in_range(longest, 64, "the longest message")))
 
     def _open(self, links: Sequence[Link], routes: Mapping[int, int], again: bool, at: int) -> None:
         for name, value in zip(_Params._fields_, astuple(self.params)):
@@ -480,7 +500,7 @@ class Node:
     def frames(self) -> Iterator[OutFrame]:
         """The datagrams that left the node, in their order, each once."""
         while True:
-            out = _library.dt_next_frame(self._handle, self._room, MOST_SEND)
+            out = _library.dt_next_frame(self._handle, self._room, len(self._room))
             if out.status != Status.DONE:
                 return
             yield OutFrame(out.link, out.to, ctypes.string_at(self._room, out.len))
@@ -502,36 +522,36 @@ class Node:
             self._hear(Report(Kind(it.kind), _flow_of(it.flow), it.moment, it.number, it.count, it.window, it.begin, it.end, it.run, it.sending))
 
     def _hear(self, told: Report) -> None:
-        if told.kind is Kind.ACCEPTED:
+        if told.kind in self._TELL_OF_FLOWS and not told.sending:
             self._unread[told.flow] = None
         self._reports.append(told)
 
     def messages(self, at: int | None = None) -> Iterator[Message]:
-        """The whole messages of all flows to this node that can be read, flow by flow, each once."""
+        """The whole messages of all flows to this node that can be read, each once, those of a flow in their order. NoMemory
+        or Spent."""
+        while message := self._take(at):
+            yield message
+
+    def _take(self, at: int | None) -> Message | None:
+        while True:
+            self._hear_flows()
+            it = _library.dt_take(self._handle, now() if at is None else at, self._room, len(self._room))
+            self._raise(it.status)
+            self._listen()
+            self.too_long = it.too_long
+            if it.status == Status.DONE:
+                return Message(_flow_of(it.flow), ctypes.string_at(self._room, it.len), it.gap)
+            if it.status == Status.NOTHING:
+                return None
+            if it.status == Status.ROOM:
+                self._room = ctypes.create_string_buffer(it.len)
+
+    def _hear_flows(self) -> None:
+        """Tells the library of which flows octets may be unread."""
         while self._unread:
             flow = next(iter(self._unread))
-            piece = self.read(flow, at)
-            if piece is None:
-                del self._unread[flow]
-                continue
-            message = self._join(flow, piece)
-            if message:
-                yield message
-
-    def _join(self, flow: Flow, piece: Piece) -> Message | None:
-        """Joins a piece to what was begun of its flow. A begin mark begins anew, and behind a run mark what stood before
-        is no part of any message."""
-        before = self._begun.pop(flow, None)
-        if piece.begin:
-            before = bytearray(), piece.run
-        elif piece.run or before is None:
-            return None
-        octets, gap = before
-        octets += piece.octets
-        if piece.end:
-            return Message(flow, bytes(octets), gap)
-        self._begun[flow] = octets, gap
-        return None
+            self._raise(_library.dt_hear(self._handle, _flow(flow)))
+            del self._unread[flow]
 
     @property
     def wake(self) -> int | None:

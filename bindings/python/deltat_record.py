@@ -21,7 +21,7 @@ from collections.abc import Iterator, Mapping, Sequence
 from dataclasses import dataclass
 
 import deltat
-from deltat import Flow, Kind, Link, OutFrame, Params, Piece, Report, Status
+from deltat import Flow, Kind, Link, Message, OutFrame, Params, Piece, Report, Status
 
 __all__ = ["Recorded"]
 
@@ -115,6 +115,8 @@ class Recorded(deltat.Node):
     """A node that keeps a script and a trace of its run, which `close` writes to `path`, and the log to `path`.log.
     The numbers of its links are at most 255."""
 
+    _TELL_OF_FLOWS = (Kind.ACCEPTED,)
+
     def __init__(
         self, path: str | pathlib.Path, number: int, params: Params, links: Sequence[Link], routes: Mapping[int, int], again: bool = False,
         at: int | None = None,
@@ -131,6 +133,8 @@ class Recorded(deltat.Node):
         self._kept: tuple[_Run, int] | None = None
         self._left = MOST - sum(len(it) + 1 for it in self._setup)
         self._turn, self._event_at, self._handed, self._is_closed = _Turn(0, True), 0, 0, False
+        self._begun: dict[Flow, bytearray] = {}
+        self._gaps: set[Flow] = set()
         super().__init__(number, params, links, routes, again, 0)
 
     @staticmethod
@@ -231,6 +235,34 @@ class Recorded(deltat.Node):
             place = next(it for it in range(before, len(log)) if log[it].endswith(" "))
             log[place] += piece.octets.hex()
         return piece
+
+    def messages(self, at: int | None = None) -> Iterator[Message]:
+        """As those of a `Node`, however long. They are read by pieces and joined here, since the log has each piece."""
+        while self._unread:
+            flow = next(iter(self._unread))
+            piece = self.read(flow, at)
+            if piece is None:
+                del self._unread[flow]
+            elif message := self._joined(flow, piece):
+                yield message
+
+    def _joined(self, flow: Flow, piece: Piece) -> Message | None:
+        """The message that a piece makes whole. A begin mark begins anew, and behind a run mark what stood before is no
+        part of any message."""
+        begun = self._begun.pop(flow, None)
+        if piece.run:
+            self._gaps.add(flow)
+        if piece.begin:
+            begun = bytearray()
+        elif piece.run or begun is None:
+            return None
+        begun += piece.octets
+        if not piece.end:
+            self._begun[flow] = begun
+            return None
+        gap = flow in self._gaps
+        self._gaps.discard(flow)
+        return Message(flow, bytes(begun), gap)
 
     @property
     def wake(self) -> int | None:

@@ -1,6 +1,6 @@
 /* Each request for memory fails in turn, in an exchange of two nodes. A call that can't do without says so once, and
-   from then on the node is spent; where a call can do without, the message comes whole. In the end all memory was
-   given back. It is linked in place of lib/heap.c. */
+   from then on the node is spent, but for octets that an inbox has no room for: they are lost, and it says so; where a
+   call can do without, the message comes whole. In the end all memory was given back. It is linked in place of lib/heap.c. */
 #include "deltat.h"
 #include <stdio.h>
 #include <stdlib.h>
@@ -84,43 +84,67 @@ static bool carry(dt_node *from, dt_node *to, uint64_t now) {
     }
 }
 
-static bool exchange_fails(dt_node *one, dt_node *two) {
+/* Takes a whole message, where there is one. To hear of a flow a request is made again. Where there is no memory for
+   octets that were read they are lost, and the node goes on. Whether the node found no memory. */
+static bool take_fails(dt_node *n, uint64_t now, size_t *had, bool *lost) {
+    struct dt_message it;
+    while (dt_hear(n, &flow) == DT_NO_MEMORY) *lost = true;
+    while ((it = dt_take(n, now, came, sizeof came)).status == DT_LOST) *lost = true;
+    if (it.status == DT_DONE) *had = it.len;
+    return failed(n, it.status);
+}
+
+/* Reads a piece of the message, where there is one. Whether the node found no memory. */
+static bool read_fails(dt_node *n, uint64_t now, size_t *had) {
+    struct dt_piece piece = dt_read(n, now, &flow, came + *had, *had < sizeof came ? sizeof came - *had : 1);
+    if (piece.status == DT_DONE) *had += piece.len;
+    return failed(n, piece.status);
+}
+
+static bool exchange_fails(dt_node *one, dt_node *two, bool whole) {
     size_t had = 0;
+    bool lost = false;
     uint8_t first = opens(one, 1, 2), second = opens(two, 2, 1);
     WANT(first == DT_DONE || first == DT_NO_MEMORY);
     WANT(second == DT_DONE || second == DT_NO_MEMORY);
     if (first != DT_DONE) WANT(dt_tick(one, 0) == DT_CLOSED);
     if (second != DT_DONE) WANT(dt_tick(two, 0) == DT_CLOSED);
     if (first != DT_DONE || second != DT_DONE) return true;
+    if (whole) WANT(dt_inbox(two, sizeof came) == DT_DONE);
     if (failed(one, dt_send(one, 0, &flow, message, sizeof message, true, true).status)) return true;
     for (uint64_t now = 0; now < 3000; now += 50) {
         if (failed(one, dt_tick(one, now)) || failed(two, dt_tick(two, now))) return true;
         if (carry(one, two, now) || carry(two, one, now)) return true;
-        struct dt_piece piece = dt_read(two, now, &flow, came + had, had < sizeof came ? sizeof came - had : 1);
-        if (failed(two, piece.status)) return true;
-        if (piece.status == DT_DONE) had += piece.len;
+        if (whole ? take_fails(two, now, &had, &lost) : read_fails(two, now, &had)) return true;
     }
-    WANT(had == sizeof message && memcmp(message, came, had) == 0);
-    return false;
+    WANT(lost || (had == sizeof message && memcmp(message, came, had) == 0));
+    return lost;
 }
 
-int main(void) {
-    dt_node *one = (dt_node *)malloc(dt_size()), *two = (dt_node *)malloc(dt_size());
+/* the exchange, read by pieces or taken whole, with each request failing */
+static void each_fails(dt_node *one, dt_node *two, bool whole) {
     unsigned long told = 0;
-    WANT(one != NULL && two != NULL);
-    for (size_t i = 0; i < sizeof message; i++) message[i] = (uint8_t)(i * 31 + i / 256);
+    fail_at = 0;
     do {
         fail_at++;
         requests = 0;
         dt_init(one);
         dt_init(two);
-        if (exchange_fails(one, two)) told++;
+        if (exchange_fails(one, two, whole)) told++;
         dt_close(one);
         dt_close(two);
         WANT(held == 0);
     } while (requests >= fail_at);
     printf("each of %lu requests for memory failed in turn, and %lu were told\n", fail_at - 1, told);
     WANT(told > 10);
+}
+
+int main(void) {
+    dt_node *one = (dt_node *)malloc(dt_size()), *two = (dt_node *)malloc(dt_size());
+    WANT(one != NULL && two != NULL);
+    for (size_t i = 0; i < sizeof message; i++) message[i] = (uint8_t)(i * 31 + i / 256);
+    each_fails(one, two, false);
+    each_fails(one, two, true);
     free(one);
     free(two);
     return 0;

@@ -120,6 +120,7 @@ static void a_closed_handle_says_so(dt_node *n) {
     WANT(dt_arrive(n, 5, LINK, frame, 3, 0).status == DT_CLOSED);
     WANT(dt_send(n, 5, &flow, message, 1, true, true).status == DT_CLOSED);
     WANT(dt_read(n, 5, &flow, came, 1).status == DT_CLOSED);
+    WANT(dt_inbox(n, 5) == DT_CLOSED && dt_hear(n, &flow) == DT_CLOSED && dt_take(n, 5, came, 1).status == DT_CLOSED);
     WANT(dt_next_frame(n, frame, sizeof frame).status == DT_CLOSED);
     WANT(!dt_wake(n).some);
 }

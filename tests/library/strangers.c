@@ -5,6 +5,8 @@
  *     strangers guard N FLOWS      the same at a node whose guard lets FLOWS of them in: no more are made, the others are
  *                                  counted, the memory is what it was after the first FLOWS, and a port that isn't open
  *                                  lets none in
+ *     strangers messages N         N flows, each of which has a message and then half of one for an inbox, and goes: the
+ *                                  memory at the end is what it was after a tenth of them
  *     strangers flows N ROOM       each datagram opens another flow, from one peer, at a node that holds ROOM octets of each:
  *                                  prints what that takes, and how long the tick that releases them
  *
@@ -191,11 +193,40 @@ static void guarded(uint64_t count, uint32_t most) {
     printf("%" PRIu64 " flows, of which %" PRIu32 " came in\n", count, most);
 }
 
+static void messages(uint64_t count) {
+    uint64_t early = 0, whole = 0;
+    struct dt_report report;
+    struct dt_message it;
+    opens(64);
+    if (dt_inbox(node, 100) != DT_DONE) stop("an inbox", 0);
+    for (; taken < count; now += 20) {
+        /* a data run of two packets: a message, and what begins one */
+        for (uint32_t i = 0; i < 2; i++) {
+            size_t len = packet((uint16_t)taken, (uint16_t)(taken >> 16), 1, i == 0 ? 7 : 2, i, 1);
+            uint8_t status = dt_arrive(node, now, LINK, datagram, len, 0).status;
+            if (status != DT_DONE) stop("a packet", status);
+        }
+        taken++;
+        while (dt_next_frame(node, frame, sizeof frame).status == DT_DONE) answered++;
+        while ((report = dt_next_report(node)).status == DT_DONE)
+            if ((report.kind == DT_ACCEPTED || report.kind == DT_RELEASED) && dt_hear(node, &report.flow) != DT_DONE) stop("a flow", 0);
+        while ((it = dt_take(node, now, came, sizeof came)).status == DT_DONE) whole++;
+        if (it.status != DT_NOTHING) stop("a message", it.status);
+        if (taken == count / 10) early = resident();
+    }
+    uint64_t late = resident();
+    printf("%" PRIu64 " flows with half a message each, %" PRIu64 " whole ones; resident %" PRIu64 " KiB after a tenth, %" PRIu64 " KiB at the end\n", taken, whole,
+           early / 1024, late / 1024);
+    if (whole != taken) stop("messages", 0);
+    if (late > early + GROWTH) stop("the memory grew", 0);
+}
+
 int main(int argc, char **words) {
     if (argc >= 3 && !strcmp(words[1], "datagrams")) datagrams(strtoull(words[2], NULL, 10));
     else if (argc >= 4 && !strcmp(words[1], "flows")) flows(strtoull(words[2], NULL, 10), (uint32_t)strtoul(words[3], NULL, 10));
     else if (argc >= 4 && !strcmp(words[1], "guard")) guarded(strtoull(words[2], NULL, 10), (uint32_t)strtoul(words[3], NULL, 10));
-    else return fprintf(stderr, "strangers datagrams N | strangers flows N ROOM | strangers guard N FLOWS\n"), 1;
+    else if (argc >= 3 && !strcmp(words[1], "messages")) messages(strtoull(words[2], NULL, 10));
+    else return fprintf(stderr, "strangers datagrams N | strangers messages N | strangers flows N ROOM | strangers guard N FLOWS\n"), 1;
     dt_close(node);
     free(node);
     return 0;

@@ -5,7 +5,7 @@ use std::io::ErrorKind;
 use std::net::UdpSocket;
 use std::time::{Duration, Instant};
 
-use deltat::{Error, Link, Messages, Node, Params, Route, Told, MOST_FRAME};
+use deltat::{Error, Link, Node, Params, Route, Told, MOST_FRAME};
 
 const PARAMS: Params =
     Params { mpl: 482, r: 450, a: 5, rto: 90, probe: 180, seg: 1442, cap: 65536, rcap: 65536, window: 65536, run_limit: 1 << 31, start: 0 };
@@ -30,7 +30,8 @@ fn main() -> Result<(), Box<dyn std::error::Error>> {
     let now = || begun.elapsed().as_millis() as u64;
     let again = std::env::args().nth(1).as_deref() == Some("again");
     let mut node = Node::open(&PARAMS, 2, &[Link { charge: 294, pace: 0, link: 1 }], &[Route { to: 1, link: 1 }], again, now())?;
-    let (mut messages, mut buf, mut empty_at) = (Messages::default(), vec![0; 65536], now());
+    node.inbox(65536)?;
+    let (mut buf, mut empty_at) = (vec![0; 65536], now());
     loop {
         // in slices: so a datagram is never charged for more than one that it didn't wait
         let wait = node.wake().map_or(SLICE, |it| it.saturating_sub(now()).clamp(1, SLICE));
@@ -56,13 +57,14 @@ fn main() -> Result<(), Box<dyn std::error::Error>> {
         let at = now();
         node.tick(at)?;
         while let Some(told) = node.next_report() {
-            let Told::Accepted { flow, .. } = told else { continue };
-            while let Some(piece) = node.read(at, flow, &mut buf)? {
-                let Some(mut message) = messages.join(flow, piece, &buf) else { continue };
-                message.reverse();
-                if let Err(why) = node.send(at, flow.reversed(), &message, true, true) {
-                    eprintln!("echo: an answer wasn't sent: {why}");
-                }
+            if let Told::Accepted { flow, .. } | Told::Released { flow } = told {
+                node.hear(flow)?;
+            }
+        }
+        while let Some(message) = node.take(at, &mut buf)? {
+            buf[..message.len].reverse();
+            if let Err(why) = node.send(at, message.flow.reversed(), &buf[..message.len], true, true) {
+                eprintln!("echo: an answer wasn't sent: {why}");
             }
         }
         flush(&wire, &mut node, begun, at)?;

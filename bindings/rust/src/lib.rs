@@ -99,6 +99,8 @@ pub enum Error {
     Dropped,
     /// The buffer has too little room: so many octets are wanted.
     Room { wanted: usize },
+    /// There was no memory for octets of this flow that were read. They are lost, and the node goes on.
+    Lost { flow: Flow },
 }
 
 impl fmt::Display for Error {
@@ -111,6 +113,7 @@ impl fmt::Display for Error {
             Error::Quiet { until } => write!(f, "the node is silent until {until} ms"),
             Error::Dropped => write!(f, "the datagram was dropped"),
             Error::Room { wanted } => write!(f, "{wanted} octets of room are wanted"),
+            Error::Lost { flow } => write!(f, "there was no memory for octets of {flow}"),
         }
     }
 }
@@ -137,6 +140,16 @@ pub struct Piece {
     pub run: bool,
 }
 
+/// A whole message: its flow, how many octets stand at the head of the buffer, whether octets of the flow before it are
+/// lost or may be, and how many messages of all flows were longer than the longest so far.
+#[derive(Clone, Copy, Debug, PartialEq, Eq)]
+pub struct Message {
+    pub flow: Flow,
+    pub len: usize,
+    pub gap: bool,
+    pub too_long: u64,
+}
+
 /// A datagram that left: how many octets stand at the head of the buffer, its link, and the node that it goes to.
 #[derive(Clone, Copy, Debug, PartialEq, Eq)]
 pub struct Frame {
@@ -156,6 +169,8 @@ pub enum Told {
     Uncertain { flow: Flow, count: u32 },
     /// Octets were accepted, and can be read.
     Accepted { flow: Flow, count: u32 },
+    /// The flow has no receiver any more.
+    Released { flow: Flow },
     Other { kind: u8, flow: Flow },
 }
 
@@ -219,6 +234,41 @@ impl Node {
         }
     }
 
+    /// From now on whole messages of at most so many octets are put together: a longer one is dropped and counted.
+    /// Refused where they are already.
+    pub fn inbox(&mut self, longest: usize) -> Result<(), Error> {
+        // SAFETY: as in `tick`.
+        done(unsafe { sys::dt_inbox(self.handle.as_ptr(), longest) })
+    }
+
+    /// Octets of this flow may be unread, so `take` looks for a message of it: for each `Told::Accepted`, and for each
+    /// `Told::Released`, so that nothing is kept of a flow that has no receiver. Refused where there is no inbox; NoMemory:
+    /// nothing has changed.
+    pub fn hear(&mut self, flow: Flow) -> Result<(), Error> {
+        // SAFETY: as in `tick`; the flow is only read.
+        match unsafe { sys::dt_hear(self.handle.as_ptr(), &flow) } {
+            2 => Err(Error::Refused),
+            status => done(status),
+        }
+    }
+
+    /// The next whole message of the flows that were heard of; none where none is whole. One for which the buffer has too
+    /// little room waits. Refused where there is no inbox.
+    pub fn take(&mut self, now: u64, buf: &mut [u8]) -> Result<Option<Message>, Error> {
+        loop {
+            // SAFETY: as in `read`.
+            let it = unsafe { sys::dt_take(self.handle.as_ptr(), now, buf.as_mut_ptr(), buf.len()) };
+            return match it.status {
+                2 => Err(Error::Refused),
+                5 => Ok(None),
+                6 => Err(Error::Room { wanted: it.len }),
+                14 => continue,
+                15 => Err(Error::Lost { flow: it.flow }),
+                status => done(status).map(|()| Some(Message { flow: it.flow, len: it.len, gap: it.gap, too_long: it.too_long })),
+            };
+        }
+    }
+
     /// The datagram that left first of those that wait; none where none does.
     pub fn next_frame(&mut self, buf: &mut [u8]) -> Result<Option<Frame>, Error> {
         // SAFETY: as in `read`.
@@ -237,6 +287,7 @@ impl Node {
         let sys::Report { flow, count, .. } = it;
         match (it.status, it.kind) {
             (0, 1) => Some(Told::Took { flow, count }),
+            (0, 8) if !it.sending => Some(Told::Released { flow }),
             (0, 7) => Some(Told::Uncertain { flow, count }),
             (0, 12) => Some(Told::Accepted { flow, count }),
             (0, 15) => Some(Told::Settled { flow, count }),
@@ -278,30 +329,6 @@ impl Drop for Node {
     }
 }
 
-/// Joins the pieces of flows to whole messages.
-#[derive(Default)]
-pub struct Messages {
-    begun: std::collections::HashMap<Flow, Vec<u8>>,
-}
-
-impl Messages {
-    /// The message that a piece makes whole, if it does. A begin mark begins anew, and behind a run mark what stood before
-    /// is no part of any message.
-    pub fn join(&mut self, flow: Flow, piece: Piece, octets: &[u8]) -> Option<Vec<u8>> {
-        let mut whole = match self.begun.remove(&flow) {
-            _ if piece.begin => Vec::new(),
-            Some(before) if !piece.run => before,
-            _ => return None,
-        };
-        whole.extend_from_slice(&octets[..piece.len]);
-        if piece.end {
-            return Some(whole);
-        }
-        self.begun.insert(flow, whole);
-        None
-    }
-}
-
 #[cfg(test)]
 mod tests {
     use super::*;
@@ -327,12 +354,30 @@ mod tests {
                 two.arrive(5, 1, &frame[..it.len], 1).unwrap();
             }
         }
-        let (mut messages, mut found, mut buf) = (Messages::default(), Vec::new(), [0; 300]);
-        while let Some(piece) = two.read(6, flow, &mut buf).unwrap() {
-            found.extend(messages.join(flow, piece, &buf));
-        }
-        assert_eq!(found, [octets]);
+        two.inbox(5000).unwrap();
+        assert_eq!(two.inbox(5000), Err(Error::Refused));
+        let mut buf = [0; 2000];
+        assert_eq!(two.take(6, &mut buf), Ok(None));
         assert!(std::iter::from_fn(|| two.next_report()).any(|it| matches!(it, Told::Accepted { count: 500, .. })));
+        two.hear(flow).unwrap();
+        assert_eq!(two.take(6, &mut buf[..1999]), Err(Error::Room { wanted: 2000 }));
+        assert_eq!(two.take(6, &mut buf), Ok(Some(Message { flow, len: 2000, gap: true, too_long: 0 })));
+        assert_eq!(&buf[..], octets);
+        assert_eq!(two.take(6, &mut buf), Ok(None));
+    }
+
+    #[test]
+    fn pieces_are_read_as_they_come() {
+        let (mut one, mut two) = (node(1, false, 0), node(2, false, 0));
+        let flow = Flow { from: 1, to: 2, from_port: 10, to_port: 20 };
+        one.send(1, flow, b"hello", true, true).unwrap();
+        let (mut frame, mut buf) = ([0; MOST_FRAME], [0; 3]);
+        let it = one.next_frame(&mut frame).unwrap().unwrap();
+        two.arrive(5, 1, &frame[..it.len], 1).unwrap();
+        assert_eq!((two.hear(flow), two.take(6, &mut buf)), (Err(Error::Refused), Err(Error::Refused)));
+        assert_eq!(two.read(6, flow, &mut buf), Ok(Some(Piece { len: 3, begin: true, end: false, run: true })));
+        assert_eq!(two.read(6, flow, &mut buf), Ok(Some(Piece { len: 2, begin: false, end: true, run: false })));
+        assert_eq!(two.read(6, flow, &mut buf), Ok(None));
     }
 
     #[test]

@@ -50,6 +50,16 @@ pub struct Piece {
 
 #[repr(C)]
 #[derive(Clone, Copy)]
+pub struct Message {
+    pub flow: crate::Flow,
+    pub len: usize,
+    pub too_long: u64,
+    pub status: u8,
+    pub gap: bool,
+}
+
+#[repr(C)]
+#[derive(Clone, Copy)]
 pub struct Out {
     pub len: usize,
     pub to: u32,
@@ -107,6 +117,9 @@ extern "C" {
     pub fn dt_arrive(node: *mut Handle, now: u64, link: u16, datagram: *const u8, len: usize, waited: u32) -> Came;
     pub fn dt_send(node: *mut Handle, now: u64, flow: *const crate::Flow, octets: *const u8, len: usize, begin: bool, end: bool) -> Sent;
     pub fn dt_read(node: *mut Handle, now: u64, flow: *const crate::Flow, buf: *mut u8, room: usize) -> Piece;
+    pub fn dt_inbox(node: *mut Handle, longest: usize) -> u8;
+    pub fn dt_hear(node: *mut Handle, flow: *const crate::Flow) -> u8;
+    pub fn dt_take(node: *mut Handle, now: u64, buf: *mut u8, room: usize) -> Message;
     pub fn dt_next_frame(node: *mut Handle, buf: *mut u8, room: usize) -> Out;
     pub fn dt_next_report(node: *mut Handle) -> Report;
     pub fn dt_wake(node: *mut Handle) -> Moment;

@@ -13,10 +13,14 @@ use Rattle.dt_endpoint.specs.Endpoints.{EndpointValue, endpoint_wake}
 use Rattle.dt_endpoint.specs.Guards.{GuardValue, admission, guard_after}
 use Rattle.dt_endpoint.specs.declared.guards.Admission.{Admission}
 use Rattle.dt_endpoint.specs.declared.guards.Admission.TheVariants.{Admitted, ClosedPort, TooManyFlows}
+use Rattle.dt_inbox.specs.FlowInboxes.{heard}
+use Rattle.dt_inbox.specs.Mailboxes.{MailboxValue, TakesInto, new_mailbox}
+use Rattle.dt_inbox.specs.declared.mailboxes.Handed.{Handed}
 use Rattle.dt_c.specs.declared.rows.CameRow.{CameRow}
 use Rattle.dt_c.specs.declared.rows.FlowRow.{FlowRow}
 use Rattle.dt_c.specs.declared.rows.KeptOutRow.{KeptOutRow}
 use Rattle.dt_c.specs.declared.rows.LinkRow.{LinkRow}
+use Rattle.dt_c.specs.declared.rows.MessageRow.{MessageRow}
 use Rattle.dt_c.specs.declared.rows.MomentRow.{MomentRow}
 use Rattle.dt_c.specs.declared.rows.Opened.{Opened}
 use Rattle.dt_c.specs.declared.rows.Opened.TheVariants as opens
@@ -29,18 +33,18 @@ use Rattle.dt_c.specs.declared.rows.RouteRow.{RouteRow}
 use Rattle.dt_c.specs.declared.rows.SentRow.{SentRow}
 use Rattle.dt_c.specs.declared.rows.StartRow.{StartRow}
 use Rattle.dt_c.specs.declared.slots.Slot.{Slot}
-use Rattle.dt_c.specs.Rows.{came_as, came_row, closed, done, flow_of, kept_out, kept_out_row, moment_row, no_frame, no_memory, no_piece, no_report, nothing, opened_row, params_of, piece_row, report_row, room, sent_as, sent_row, started, ticked_status}
+use Rattle.dt_c.specs.Rows.{came_as, came_row, closed, done, flow_of, kept_out, held, kept_out_row, message_row, moment_row, no_frame, no_memory, no_message, no_piece, no_report, nothing, opened_row, params_of, piece_row, report_row, room, sent_as, sent_row, started, ticked_status}
 
--- Between two contents of a handle: no node stays none, and a node goes on.
-abbrev pub NodeGoesOn : Option EndpointValue → Option EndpointValue → Type 0 → (EndpointValue → EndpointValue → Type 0) → Type 0
-NodeGoesOn None None without does = without
-NodeGoesOn (Some e) (Some f) without does = does e f
-NodeGoesOn None (Some f) without does = ⊥
-NodeGoesOn (Some e) None without does = ⊥
+-- Between two contents of a handle: where a part isn't there it stays so, and one that is there goes on.
+abbrev pub PartGoesOn : {A : Type 0} → Option A → Option A → Type 0 → (A → A → Type 0) → Type 0
+PartGoesOn None None without does = without
+PartGoesOn (Some e) (Some f) without does = does e f
+PartGoesOn None (Some f) without does = ⊥
+PartGoesOn (Some e) None without does = ⊥
 
--- the same, and the guard stays as it is
+-- the node goes on, and what is beside it stays as it is
 abbrev pub GoesOn : Slot → Slot → Type 0 → (EndpointValue → EndpointValue → Type 0) → Type 0
-GoesOn s t without does = NodeGoesOn s.endpoint t.endpoint without does × (t.guard ≡ s.guard)
+GoesOn s t without does = PartGoesOn s.endpoint t.endpoint without does × (t.guard ≡ s.guard) × (t.mailbox ≡ s.mailbox)
 
 abbrev pub Ticking : (status now : ℕ) → Slot → Slot → Type 0
 Ticking status now s t = GoesOn s t (status ≡ closed) (λ e f. (answer : Ticked) × (status ≡ ticked_status answer) × Ticks answer now e f)
@@ -52,8 +56,8 @@ ArrivesAt ClosedPort row now link octets waited e f = (row ≡ came_as kept_out)
 ArrivesAt TooManyFlows row now link octets waited e f = (row ≡ came_as kept_out) × (f ≡ e)
 
 abbrev pub Arriving : CameRow → (now link : ℕ) → List ℕ → (waited : ℕ) → Slot → Slot → Type 0
-Arriving row now link octets waited s t = NodeGoesOn s.endpoint t.endpoint ((row ≡ came_as closed) × (t.guard ≡ s.guard)) (λ e f. let found = admission e.state.host s.guard octets in
-    ArrivesAt found row now link octets waited e f × (t.guard ≡ guard_after found s.guard))
+Arriving row now link octets waited s t = PartGoesOn s.endpoint t.endpoint ((row ≡ came_as closed) × (t.guard ≡ s.guard)) (λ e f. let found = admission e.state.host s.guard octets in
+    ArrivesAt found row now link octets waited e f × (t.guard ≡ guard_after found s.guard)) × (t.mailbox ≡ s.mailbox)
 
 abbrev pub Sending : SentRow → (now : ℕ) → FlowRow → List ℕ → (begin end : Bool) → Slot → Slot → Type 0
 Sending row now flow octets begin end s t = GoesOn s t (row ≡ sent_as closed) (λ e f. (answer : Sent) × (row ≡ sent_row answer) × Sends answer now (flow_of flow) octets begin end e f)
@@ -133,8 +137,37 @@ abbrev pub IsSet : (status : ℕ) → Option (List ℕ) → (most : ℕ) → Gua
 IsSet status ports most g h = ((status ≡ done) × (h ≡ record g { ports = ports; most = most })) ⊎ ((status ≡ no_memory) × (h ≡ g))
 
 abbrev pub Guarding : (status : ℕ) → List ℕ → (all : Bool) → (most : ℕ) → Slot → Slot → Type 0
-Guarding status ports all most s t = NodeGoesOn s.endpoint t.endpoint ((status ≡ closed) × (t.guard ≡ s.guard)) (λ e f. (f ≡ e) × IsSet status (chosen all ports) most s.guard t.guard)
+Guarding status ports all most s t = PartGoesOn s.endpoint t.endpoint ((status ≡ closed) × (t.guard ≡ s.guard)) (λ e f. (f ≡ e) × IsSet status (chosen all ports) most s.guard t.guard) × (t.mailbox ≡ s.mailbox)
 
 -- WHAT IT KEPT OUT
 abbrev pub KeptOut : KeptOutRow → Slot → Slot → Type 0
 KeptOut row s t = (row ≡ kept_out_row s.guard) × (t ≡ s)
+
+-- AN INBOX IS MADE beside the node, where there is none
+abbrev pub inbox_status : Option EndpointValue → Option MailboxValue → ℕ
+inbox_status None mailbox = closed
+inbox_status (Some e) (Some m) = held
+inbox_status (Some e) None = done
+
+abbrev pub inbox_after : Option EndpointValue → Option MailboxValue → (longest : ℕ) → Option MailboxValue
+inbox_after None mailbox longest = mailbox
+inbox_after (Some e) (Some m) longest = Some m
+inbox_after (Some e) None longest = Some (new_mailbox (Some longest))
+
+abbrev pub MakesInbox : (status longest : ℕ) → Slot → Slot → Type 0
+MakesInbox status longest s t = (status ≡ inbox_status s.endpoint s.mailbox) × (t ≡ record s { mailbox = inbox_after s.endpoint s.mailbox longest })
+
+-- A FLOW IS HEARD OF
+abbrev pub HearsIn : (status : ℕ) → FlowRow → (m n : MailboxValue) → Type 0
+HearsIn status flow m n = ((status ≡ done) × (n ≡ record m { inboxes = heard (flow_of flow) m.inboxes })) ⊎ ((status ≡ no_memory) × (n ≡ m))
+
+abbrev pub Hearing : (status : ℕ) → FlowRow → Slot → Slot → Type 0
+Hearing status flow s t = PartGoesOn s.mailbox t.mailbox (status ≡ closed) (HearsIn status flow) × (t.endpoint ≡ s.endpoint) × (t.guard ≡ s.guard)
+
+-- A MESSAGE IS TAKEN by the inbox out of the node
+abbrev pub TakesFor : MessageRow → (now : ℕ) → (before after : List ℕ) → (m n : MailboxValue) → (e f : EndpointValue) → Type 0
+TakesFor row now before after m n e f = (answer : Handed) × (row ≡ message_row answer n.inboxes.dropped) × TakesInto m.waiting answer now before after m n e f
+
+abbrev pub Taking : MessageRow → (now : ℕ) → (before after : List ℕ) → Slot → Slot → Type 0
+Taking row now before after s t = let untaken = (row ≡ no_message closed 0) × (after ≡ before) in
+    PartGoesOn s.endpoint t.endpoint (untaken × (t.mailbox ≡ s.mailbox)) (λ e f. PartGoesOn s.mailbox t.mailbox (untaken × (f ≡ e)) (λ m n. TakesFor row now before after m n e f)) × (t.guard ≡ s.guard)

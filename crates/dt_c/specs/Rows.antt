@@ -27,6 +27,9 @@ use Rattle.dt_c.specs.declared.rows.CameRow.{CameRow}
 use Rattle.dt_c.specs.declared.rows.FlowRow.{FlowRow}
 use Rattle.dt_c.specs.declared.rows.KeptOutRow.{KeptOutRow}
 use Rattle.dt_c.specs.declared.rows.LinkRow.{LinkRow}
+use Rattle.dt_inbox.specs.declared.mailboxes.Handed.{Handed}
+use Rattle.dt_inbox.specs.declared.mailboxes.Handed.TheVariants as handed
+use Rattle.dt_c.specs.declared.rows.MessageRow.{MessageRow}
 use Rattle.dt_c.specs.declared.rows.MomentRow.{MomentRow}
 use Rattle.dt_c.specs.declared.rows.Opened.{Opened}
 use Rattle.dt_c.specs.declared.rows.Opened.TheVariants as opens
@@ -78,6 +81,12 @@ stale = 12
 
 abbrev pub kept_out : ℕ
 kept_out = 13
+
+abbrev pub more : ℕ
+more = 14
+
+abbrev pub lost : ℕ
+lost = 15
 
 -- ARGUMENTS
 abbrev pub params_of : ParamsRow → Params
@@ -206,9 +215,11 @@ flow_row f = record { from = f.from.0; to = f.to.0; from_port = f.from_port; to_
 abbrev pub about : ℕ → FlowRow → ReportRow
 about kind flow = record { flow = flow; moment = 0; number = 0; count = 0; window = 0; status = done; kind = kind; begin = false; end = false; run = false; sending = false }
 
--- of no flow
+abbrev pub no_flow : FlowRow
+no_flow = record { from = 0; to = 0; from_port = 0; to_port = 0 }
+
 abbrev pub about_none : ℕ → ReportRow
-about_none kind = about kind (record { from = 0; to = 0; from_port = 0; to_port = 0 })
+about_none kind = about kind no_flow
 
 -- an answer where no report is handed out
 abbrev pub no_report : ℕ → ReportRow
@@ -262,3 +273,19 @@ report_row other = about_none 0
 -- WHAT A GUARD KEPT OUT
 abbrev pub kept_out_row : GuardValue → KeptOutRow
 kept_out_row g = record { closed = g.closed; crowded = g.crowded }
+
+-- A MESSAGE, when so many were too long so far
+abbrev pub no_message : (status too_long : ℕ) → MessageRow
+no_message status too_long = record { flow = no_flow; len = 0; too_long = too_long; status = status; gap = false }
+
+abbrev pub message_of : (status : ℕ) → Flow → (len : ℕ) → (gap : Bool) → (too_long : ℕ) → MessageRow
+message_of status flow len gap too_long = record { flow = flow_row flow; len = len; too_long = too_long; status = status; gap = gap }
+
+abbrev pub message_row : Handed → (too_long : ℕ) → MessageRow
+message_row (handed.Done flow len gap) too_long = message_of done flow len gap too_long
+message_row (handed.NoRoom flow len gap) too_long = message_of room flow len gap too_long
+message_row (handed.Lost flow) too_long = message_of lost flow 0 false too_long
+message_row handed.Nothing too_long = no_message nothing too_long
+message_row handed.More too_long = no_message more too_long
+message_row handed.NoMemory too_long = no_message no_memory too_long
+message_row handed.Spent too_long = no_message spent too_long

@@ -1,17 +1,19 @@
 //! The calls, on what a handle holds.
 ghost use Rattle.std.specs.Prelude.{◌≡◌, ◌↔◌, IfOk, IsSome, length, map};
-ghost use Rattle.dt_c.specs.Calls.{Arriving, Guarding, HandsOut, KeptOut, NextFrame, NextReport, Opening, Opens, QuietIs, Reading, Sending, TakesReport, Ticking, Waking};
+ghost use Rattle.dt_c.specs.Calls.{Arriving, Guarding, HandsOut, Hearing, KeptOut, MakesInbox, NextFrame, NextReport, Opening, Opens, QuietIs, Reading, Sending, TakesReport, Taking, Ticking, Waking};
 ghost use Rattle.dt_c.specs.Handle.{empty};
 ghost use Rattle.dt_c.specs.Rows.{in_link, out_link, route, started};
 
 use crate::rows::{
-    CLOSED, CameRow, DONE, FlowRow, KEPT_OUT, KeptOutRow, LinkRow, MomentRow, NO_MEMORY, NOTHING,
-    Opened, OpenedRow, OutRow, ParamsRow, PieceRow, ROOM, ReportRow, RouteRow, SentRow, StartRow,
-    came_as, came_row, kept_out_row, moment_row, no_frame, no_piece, no_report, opened_row,
-    piece_row, report_row, sent_as, sent_row, ticked_status,
+    CLOSED, CameRow, DONE, FlowRow, HELD, KEPT_OUT, KeptOutRow, LinkRow, MessageRow, MomentRow,
+    NO_MEMORY, NOTHING, Opened, OpenedRow, OutRow, ParamsRow, PieceRow, ROOM, ReportRow, RouteRow,
+    SentRow, StartRow, came_as, came_row, kept_out_row, message_row, moment_row, no_frame,
+    no_message, no_piece, no_report, opened_row, piece_row, report_row, sent_as, sent_row,
+    ticked_status,
 };
 use crate::slots::Slot;
 use dt_endpoint::{Admission, Endpoint, Guard, InLink, Links, OutLink, Route};
+use dt_inbox::Mailbox;
 use dt_items::NoMemory;
 use dt_units::{NodeId, Rules};
 use std::alloc::Global;
@@ -22,6 +24,7 @@ pub fn empty_slot() -> Slot
     Slot {
         endpoint: None,
         guard: Guard::new(),
+        mailbox: None,
     }
 }
 
@@ -94,6 +97,44 @@ pub fn read_in(slot: &mut Slot, now: u64, flow: &FlowRow, buf: &mut [u8]) -> Pie
         Some(endpoint) => piece_row(endpoint.read(now, flow.flow(), buf)),
         None => no_piece(CLOSED),
     }
+}
+
+pub fn inbox_in(slot: &mut Slot, alloc: Global, longest: usize) -> u8
+    ensures { MakesInbox result longest slot.old slot.new }
+{
+    let Some(_) = &slot.endpoint else {
+        return CLOSED;
+    };
+    if slot.mailbox.is_some() {
+        return HELD;
+    }
+    slot.mailbox = Some(Mailbox::new(alloc, Some(longest)));
+    DONE
+}
+
+pub fn hear_in(slot: &mut Slot, flow: &FlowRow) -> u8
+    ensures { Hearing result flow.now slot.old slot.new }
+{
+    let Some(mailbox) = &mut slot.mailbox else {
+        return CLOSED;
+    };
+    match mailbox.hear(flow.flow()) {
+        Ok(()) => DONE,
+        Err(NoMemory) => NO_MEMORY,
+    }
+}
+
+pub fn take_in(slot: &mut Slot, alloc: Global, now: u64, buf: &mut [u8]) -> MessageRow
+    ensures { Taking result now buf.old buf.new slot.old slot.new }
+{
+    let Some(endpoint) = &mut slot.endpoint else {
+        return no_message(CLOSED, 0);
+    };
+    let Some(mailbox) = &mut slot.mailbox else {
+        return no_message(CLOSED, 0);
+    };
+    let answer = mailbox.take(alloc, endpoint, now, buf);
+    message_row(answer, mailbox.dropped())
 }
 
 /// The first frame that waits goes out, where the buffer has room for it.

@@ -9,18 +9,18 @@ mod slots;
 ghost use Rattle.std.specs.Prelude.{◌≡◌, length};
 ghost use Rattle.std.specs.Borrow.{sem};
 ghost use Rattle.std.specs.Ptr.{points_to, uninit_at};
-ghost use Rattle.dt_c.specs.Calls.{Arriving, Guarding, KeptOut, NextFrame, NextReport, Opening, QuietIs, Reading, Sending, Ticking, Waking};
+ghost use Rattle.dt_c.specs.Calls.{Arriving, Guarding, Hearing, KeptOut, MakesInbox, NextFrame, NextReport, Opening, QuietIs, Reading, Sending, Taking, Ticking, Waking};
 ghost use Rattle.dt_c.specs.Handle.{empty};
 ghost use Rattle.dt_c.specs.contracts.slots.Slot.{the_row};
 ghost use Rattle.dt_c.specs.declared.slots.Slot.{Slot};
 
 use calls::{
-    arrive_in, close_in, empty_slot, guard_in, kept_out_in, next_frame_in, next_report_in, open_in,
-    quiet_of, read_in, send_in, tick_in, wake_in,
+    arrive_in, close_in, empty_slot, guard_in, hear_in, inbox_in, kept_out_in, next_frame_in,
+    next_report_in, open_in, quiet_of, read_in, send_in, take_in, tick_in, wake_in,
 };
 pub use rows::{
-    CameRow, FlowRow, KeptOutRow, LinkRow, MomentRow, OpenedRow, OutRow, ParamsRow, PieceRow,
-    ReportRow, RouteRow, SentRow, StartRow,
+    CameRow, FlowRow, KeptOutRow, LinkRow, MessageRow, MomentRow, OpenedRow, OutRow, ParamsRow,
+    PieceRow, ReportRow, RouteRow, SentRow, StartRow,
 };
 pub use slots::{Handle, Slot};
 use std::alloc::Global;
@@ -165,6 +165,41 @@ pub unsafe extern "C" fn dt_read(
     ensures* { ∃ₛ (λ h. sem 𝓛 (points_to the_row node h) ∗ ⌜ Reading result now flow.now (length buf.old) buf.new g h ⌝) }
 {
     read_in(unsafe { &mut *(node as *mut Slot) }, now, flow, buf)
+}
+
+/// From now on whole messages of at most so many octets are put together.
+#[unsafe(no_mangle)]
+pub unsafe extern "C" fn dt_inbox(node: *mut Handle, alloc: Global, longest: usize) -> u8
+    ghost g: { Slot }
+    requires* { sem 𝓛 (points_to the_row node g) }
+    ensures* { ∃ₛ (λ h. sem 𝓛 (points_to the_row node h) ∗ ⌜ MakesInbox result longest g h ⌝) }
+{
+    inbox_in(unsafe { &mut *(node as *mut Slot) }, alloc, longest)
+}
+
+/// Octets of a flow to this node may be unread.
+#[unsafe(no_mangle)]
+pub unsafe extern "C" fn dt_hear(node: *mut Handle, flow: &FlowRow) -> u8
+    ghost g: { Slot }
+    requires* { sem 𝓛 (points_to the_row node g) }
+    ensures* { ∃ₛ (λ h. sem 𝓛 (points_to the_row node h) ∗ ⌜ Hearing result flow.now g h ⌝) }
+{
+    hear_in(unsafe { &mut *(node as *mut Slot) }, flow)
+}
+
+/// A whole message of the first flow that was heard of and has one, where the buffer has room for it.
+#[unsafe(no_mangle)]
+pub unsafe extern "C" fn dt_take(
+    node: *mut Handle,
+    alloc: Global,
+    now: u64,
+    buf: &mut [u8],
+) -> MessageRow
+    ghost g: { Slot }
+    requires* { sem 𝓛 (points_to the_row node g) }
+    ensures* { ∃ₛ (λ h. sem 𝓛 (points_to the_row node h) ∗ ⌜ Taking result now buf.old buf.new g h ⌝) }
+{
+    take_in(unsafe { &mut *(node as *mut Slot) }, alloc, now, buf)
 }
 
 /// The first frame that waits, where the buffer has room for it.

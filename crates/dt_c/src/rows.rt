@@ -1,9 +1,10 @@
 //! Arguments and answers as they lie in C.
 ghost use Rattle.std.specs.Prelude.{◌≡◌};
 ghost use Rattle.dt_reports.specs.Told.{told};
-ghost use Rattle.dt_c.specs.Rows.{about, about_none, came_as, came_row, capped, elsewhere, faulty, fault_row, field_number, flow_of, flow_row, kept_out_row, marked, moment_row, no_frame, no_piece, no_report, numbered, opened_row, params_of, piece_row, released, report_row, sent_as, sent_row, ticked_status, until_moment};
+ghost use Rattle.dt_c.specs.Rows.{about, about_none, came_as, came_row, capped, elsewhere, faulty, fault_row, field_number, flow_of, flow_row, kept_out_row, marked, message_row, moment_row, no_flow, no_frame, no_message, no_piece, no_report, numbered, opened_row, params_of, piece_row, released, report_row, sent_as, sent_row, ticked_status, until_moment};
 
 use dt_endpoint::{Arrived, Guard, Piece, Sent, Ticked};
+use dt_inbox::Handed;
 use dt_layout::LayoutFault;
 use dt_reports::{Refusal, Report};
 use dt_units::{Field, Flow, NodeId, ParamFault, Params};
@@ -35,6 +36,10 @@ pub const BAD: u8 = 11;
 pub const STALE: u8 = 12;
 /// The guard doesn't admit the datagram, which is lost and counted, and nothing else changed.
 pub const KEPT_OUT: u8 = 13;
+/// So many flows without a message were looked at that the call ends. Others may have one.
+pub const MORE: u8 = 14;
+/// There was no memory for octets that were read. They are lost, and the node goes on.
+pub const LOST: u8 = 15;
 
 /// The parameters of the protocol, as [`Params`] has them.
 #[repr(C)]
@@ -144,6 +149,19 @@ pub struct PieceRow {
     pub run: bool,
 }
 
+/// The answer where a message is taken: so many octets stand at the head of the buffer, or are wanted.
+#[repr(C)]
+#[derive(Clone, Copy)]
+pub struct MessageRow {
+    pub flow: FlowRow,
+    pub len: usize,
+    /// How many messages were longer than the longest so far.
+    pub too_long: u64,
+    pub status: u8,
+    /// Octets before the message are lost, or may be.
+    pub gap: bool,
+}
+
 /// A frame that left: so many octets stand at the head of the buffer, or are wanted.
 #[repr(C)]
 #[derive(Clone, Copy)]
@@ -210,6 +228,8 @@ const _: () = prove!(size_of::<KeptOutRow>() == 16);
 const _: () = prove!(size_of::<SentRow>() == 16);
 
 const _: () = prove!(size_of::<PieceRow>() == 16);
+
+const _: () = prove!(size_of::<MessageRow>() == 40);
 
 const _: () = prove!(size_of::<OutRow>() == 16);
 
@@ -396,6 +416,60 @@ pub fn piece_row(answer: Piece) -> PieceRow
     }
 }
 
+/// Of no flow.
+fn no_flow() -> FlowRow
+    ensures { result ≡ no_flow }
+{
+    FlowRow {
+        from: 0,
+        to: 0,
+        from_port: 0,
+        to_port: 0,
+    }
+}
+
+/// An answer where no message is taken.
+pub fn no_message(status: u8, too_long: u64) -> MessageRow
+    ensures { result ≡ no_message status too_long }
+{
+    MessageRow {
+        flow: no_flow(),
+        len: 0,
+        too_long,
+        status,
+        gap: false,
+    }
+}
+
+/// The answer where a message is taken, when so many were too long so far.
+pub fn message_row(answer: Handed, too_long: u64) -> MessageRow
+    ensures { result ≡ message_row answer too_long }
+{
+    let mut row = no_message(DONE, too_long);
+    match answer {
+        Handed::Done { flow, len, gap } => {
+            row.flow = flow_row(flow);
+            row.len = len;
+            row.gap = gap;
+        }
+        Handed::NoRoom { flow, len, gap } => {
+            row.flow = flow_row(flow);
+            row.len = len;
+            row.gap = gap;
+            row.status = ROOM;
+        }
+        Handed::Lost { flow } => {
+            row.flow = flow_row(flow);
+            row.status = LOST;
+        }
+        Handed::Nothing => row.status = NOTHING,
+        Handed::More => row.status = MORE,
+        Handed::NoMemory => row.status = NO_MEMORY,
+        Handed::Spent => row.status = SPENT,
+    }
+    row
+}
+
 /// An answer where no frame is handed out.
 pub fn no_frame(status: u8) -> OutRow
     ensures { result ≡ no_frame status }
@@ -485,13 +559,7 @@ fn about(kind: u8, flow: FlowRow) -> ReportRow
 fn about_none(kind: u8) -> ReportRow
     ensures { result ≡ about_none kind }
 {
-    let flow = FlowRow {
-        from: 0,
-        to: 0,
-        from_port: 0,
-        to_port: 0,
-    };
-    about(kind, flow)
+    about(kind, no_flow())
 }
 
 /// An answer where no report is handed out.

@@ -1,4 +1,5 @@
 use dt_endpoint::{Endpoint, Guard};
+use dt_inbox::Mailbox;
 
 /// What a handle holds: a node, or none.
 #[derive(Drop)]
@@ -6,6 +7,8 @@ pub struct Slot {
     pub endpoint: Option<Endpoint>,
     /// What stands before the node.
     pub guard: Guard,
+    /// Its whole messages, where they are asked for.
+    pub mailbox: Option<Mailbox>,
 }
 
 /// The memory of a handle, as C sees it.

@@ -1,8 +1,9 @@
 -- The inboxes of the flows that a node receives. A message is taken of any of them.
-use Rattle.std.specs.Prelude.{◌≡◌, ℕ, Bool, true, false, List, [], ◌∷◌, ◌++◌, set, slice_index_or, Option, Some, None}
+use Rattle.std.specs.Prelude.{◌≡◌, ◌⊎◌, ℕ, ◌+◌, ◌^◌, ◌-◌, ◌&&◌, ◌||◌, min, not, Bool, true, false, List, [], ◌∷◌, ◌++◌, set, slice_index_or, if◌then◌else◌, Option, Some, None}
 use Rattle.std.specs.List.{position, remove}
 use Rattle.dt_units.specs.declared.endpoints.Flow.{Flow}
-use Rattle.dt_world_model.specs.Tables.{same_flow}
+use Rattle.dt_messages.specs.Joining.{is_idle}
+use Rattle.dt_world_model.specs.Tables.{has_key, same_flow}
 use Rattle.dt_endpoint.specs.Endpoints.{EndpointValue}
 use Rattle.dt_inbox.specs.Inboxes.{InboxValue, Takes, new_inbox}
 use Rattle.dt_inbox.specs.declared.inboxes.Taken.{Taken}
@@ -17,9 +18,11 @@ pub record FlowInboxesValue : Type 0 where
   pub longest : Option ℕ
   -- in the order in which the flows were heard of
   pub inboxes : List FlowInboxValue
+  -- how many messages were longer than the longest, up to 2^64 - 1
+  pub dropped : ℕ
 
 abbrev pub no_inboxes : Option ℕ → FlowInboxesValue
-no_inboxes longest = record { longest = longest; inboxes = [] }
+no_inboxes longest = record { longest = longest; inboxes = []; dropped = 0 }
 
 abbrev pub is_of : Flow → FlowInboxValue → Bool
 is_of flow i = same_flow i.inbox.flow flow
@@ -59,14 +62,62 @@ pub record TakesHere (answer : Flow × Taken) (now room : ℕ) (i k : FlowInboxV
   pub takes : Takes answer.1 now room i.inbox k.inbox e f
   pub due : k.due ≡ stays_due answer.1
 
+-- An inbox may go: it isn't due, and nothing is begun in it, or its flow has no receiver, so that what is begun can't be ended.
+abbrev pub is_over : FlowInboxValue → EndpointValue → Bool
+is_over i f = not i.due && (is_idle i.inbox.joiner || not (has_key same_flow i.inbox.flow f.state.host.receivers))
+
+abbrev pub inboxes_after : ℕ → FlowInboxValue → EndpointValue → List FlowInboxValue → List FlowInboxValue
+inboxes_after place after f inboxes = if is_over after f then remove (set inboxes place after) place else set inboxes place after
+
+-- what a flow's count grew by goes on the count of all, 2^64 - 1 at most
+abbrev pub counted_on : (all before after : ℕ) → ℕ
+counted_on all before after = min (all + (after - before)) (2 ^ 64 - 1)
+
 -- the first flow that is due, and the others stay as they are
 pub record TakesFrom (answer : Flow × Taken) (now room : ℕ) (v w : FlowInboxesValue) (e f : EndpointValue) : Type 0 where
   pub place : ℕ
+  pub before : FlowInboxValue
   pub after : FlowInboxValue
   pub first : position is_due v.inboxes ≡ Some place
-  pub takes : TakesHere answer now room (slice_index_or v.inboxes place after) after e f
-  pub others : w ≡ record v { inboxes = set v.inboxes place after }
+  pub found : before ≡ slice_index_or v.inboxes place after
+  pub takes : TakesHere answer now room before after e f
+  pub others : w ≡ record v { inboxes = inboxes_after place after f v.inboxes; dropped = counted_on v.dropped before.inbox.joiner.dropped after.inbox.joiner.dropped }
 
 abbrev pub TakesAny : Option (Flow × Taken) → (now room : ℕ) → (v w : FlowInboxesValue) → (e f : EndpointValue) → Type 0
 TakesAny None now room v w e f = (position is_due v.inboxes ≡ None) × (w ≡ v) × (f ≡ e)
 TakesAny (Some answer) now room v w e f = TakesFrom answer now room v w e f
+
+-- FLOW BY FLOW: a flow without a message is passed over, and the next one is asked.
+abbrev pub passes_on : Taken → Bool
+passes_on taken.Nothing = true
+passes_on taken.Unfinished = true
+passes_on taken.BadFlow = true
+passes_on (taken.Whole message) = false
+passes_on taken.Lost = false
+passes_on taken.NoMemory = false
+passes_on taken.Spent = false
+passes_on taken.NoRoom = false
+
+abbrev pub asks_on : Option (Flow × Taken) → Bool
+asks_on None = false
+asks_on (Some answer) = passes_on answer.1
+
+-- octets of a piece at most, and flows that are passed over in one call
+abbrev pub piece_room : ℕ
+piece_room = 4096
+
+abbrev pub most_passes : ℕ
+most_passes = 65536
+
+pub data PassesOn (now : ℕ) (v : FlowInboxesValue) (e : EndpointValue) : ℕ → FlowInboxesValue → EndpointValue → Type 0 where
+  no_pass : PassesOn now v e 0 v e
+  one_more : {n : ℕ} {w x : FlowInboxesValue} {f g : EndpointValue} (answer : Flow × Taken) → PassesOn now v e n w f → TakesFrom answer now piece_room w x f g → passes_on answer.1 ≡ true → PassesOn now v e (n + 1) x g
+
+-- The last flow that is asked has a message or wants memory, or none is due; or as many as may be were passed over.
+pub record TakesNext (answer : Option (Flow × Taken)) (now : ℕ) (v x : FlowInboxesValue) (e g : EndpointValue) : Type 0 where
+  pub count : ℕ
+  pub before : FlowInboxesValue
+  pub host : EndpointValue
+  pub passes : PassesOn now v e count before host
+  pub last : TakesAny answer now piece_room before x host g
+  pub ends : (asks_on answer ≡ false) ⊎ (count ≡ most_passes)

@@ -1,2 +1,3 @@
 pub mod Inboxes
 pub mod FlowInboxes
+pub mod Mailboxes

@@ -1,7 +1,7 @@
 //! The messages of many flows.
 ghost use Rattle.std.specs.Prelude.{◌≡◌, length, OnErr, OnOk};
 ghost use Rattle.std.specs.List.{position};
-ghost use Rattle.dt_inbox.specs.FlowInboxes.{FlowInboxValue, FlowInboxesValue, TakesAny, TakesHere, heard, is_due, is_of, no_inboxes, stays_due, without};
+ghost use Rattle.dt_inbox.specs.FlowInboxes.{FlowInboxValue, FlowInboxesValue, TakesAny, TakesHere, TakesNext, heard, is_due, is_of, is_over, no_inboxes, passes_on, stays_due, without};
 
 use crate::inboxes::{Inbox, Taken};
 use dt_endpoint::Endpoint;
@@ -9,6 +9,12 @@ use dt_items::NoMemory;
 use dt_units::Flow;
 use std::alloc::Global;
 use std::marker::Model;
+
+/// Octets of a piece that is read for a message.
+const ROOM: usize = 4096;
+
+/// So many flows are looked at for one message at most.
+const MOST_PASSES: u32 = 65_536;
 
 /// The inbox of a flow, and whether it is to be read.
 #[derive(Drop)]
@@ -37,22 +43,31 @@ impl FlowInbox {
         self.due = stays_due(&taken);
         (self.inbox.flow(), taken)
     }
+
+    /// Whether the inbox may go: it isn't due, and nothing is begun in it, or what is can't be ended.
+    fn is_over(&self, endpoint: &Endpoint) -> bool
+        ensures { result ≡ is_over self.now endpoint.now }
+    {
+        !self.due && (self.inbox.is_idle() || !endpoint.has_receiver(&self.inbox.flow()))
+    }
 }
 
 /// The inboxes of the flows that a node receives, in the order in which they were heard of.
 ///
 /// Whoever has it pulls the reports of the endpoint, and hands in the flow of each `Accepted`: octets of
-/// it may be unread then.
+/// it may be unread then. An inbox goes when all of its flow was read and no message is begun, or its
+/// flow has no receiver any more: who hands in the flow of each `Released` too keeps none for longer.
 #[derive(Drop)]
 pub struct FlowInboxes {
     longest: Option<usize>,
     inboxes: Vec<FlowInbox>,
+    dropped: u64,
 }
 
 impl Model for FlowInboxes {
     ghost Value = { FlowInboxesValue };
 
-    ghost view = { λ i. record { longest = i.longest; inboxes = i.inboxes.items } };
+    ghost view = { λ i. record { longest = i.longest; inboxes = i.inboxes.items; dropped = i.dropped } };
 }
 
 impl FlowInboxes {
@@ -63,6 +78,7 @@ impl FlowInboxes {
         FlowInboxes {
             longest,
             inboxes: Vec::new(alloc),
+            dropped: 0,
         }
     }
 
@@ -83,7 +99,7 @@ impl FlowInboxes {
 
     /// A message is taken of the first flow that is due, as [`Inbox::take`] does, or nothing is done where
     /// none is. A flow of which nothing is unread is due no more, nor is any that the endpoint doesn't
-    /// read. The cost is a look at each inbox, beside that of the taking.
+    /// read, and its inbox goes where it may. The cost is a look at each inbox, beside that of the taking.
     pub fn take(
         &mut self,
         alloc: Global,
@@ -95,7 +111,36 @@ impl FlowInboxes {
     {
         let place = self.first_due()?;
         let first = &mut self.inboxes[place];
-        Some(first.take(alloc, endpoint, now, buf))
+        let before = first.inbox.dropped();
+        let answer = first.take(alloc, endpoint, now, buf);
+        let more = first.inbox.dropped().saturating_sub(before);
+        let is_over = first.is_over(endpoint);
+        self.dropped = self.dropped.saturating_add(more);
+        if is_over {
+            self.inboxes.remove(place);
+        }
+        Some(answer)
+    }
+
+    /// [`FlowInboxes::take`] flow by flow, in pieces of 4096 octets at most, until one has a message, none
+    /// is due or there is want of memory. So many flows are looked at in one call, 65537 at most: then it
+    /// answers that the last one has no message.
+    pub fn take_next(
+        &mut self,
+        alloc: Global,
+        endpoint: &mut Endpoint,
+        now: u64,
+    ) -> Option<(Flow, Taken)>
+        ensures { TakesNext result now self.old self.new endpoint.old endpoint.new }
+    {
+        let mut buf = [0; ROOM];
+        for _ in 0..MOST_PASSES {
+            let (flow, taken) = self.take(alloc, endpoint, now, &mut buf)?;
+            if !passes_on(&taken) {
+                return Some((flow, taken));
+            }
+        }
+        self.take(alloc, endpoint, now, &mut buf)
     }
 
     /// The inbox of a flow goes, if it has one, with what was begun in it: as where the endpoint has no
@@ -113,6 +158,13 @@ impl FlowInboxes {
         ensures { result ≡ length self.now.inboxes }
     {
         self.inboxes.len()
+    }
+
+    /// How many messages were longer than the longest, of all flows: 2^64 - 1 at most.
+    pub fn dropped(&self) -> u64
+        ensures { result ≡ self.now.dropped }
+    {
+        self.dropped
     }
 
     fn first_due(&self) -> Option<usize>
@@ -147,5 +199,15 @@ fn stays_due(taken: &Taken) -> bool
     match taken {
         Taken::Whole(_) | Taken::Lost | Taken::Unfinished | Taken::NoRoom => true,
         Taken::Nothing | Taken::NoMemory | Taken::Spent | Taken::BadFlow => false,
+    }
+}
+
+/// Whether the next flow is asked.
+fn passes_on(taken: &Taken) -> bool
+    ensures { result ≡ passes_on taken.now }
+{
+    match taken {
+        Taken::Nothing | Taken::Unfinished | Taken::BadFlow => true,
+        Taken::Whole(_) | Taken::Lost | Taken::NoMemory | Taken::Spent | Taken::NoRoom => false,
     }
 }

@@ -1,7 +1,7 @@
 //! The messages of one flow.
 ghost use Rattle.std.specs.Prelude.{◌≡◌, length};
 ghost use Rattle.dt_inbox.specs.Inboxes.{InboxValue, Joins, Reading, Takes, new_inbox};
-ghost use Rattle.dt_messages.specs.Joining.{piece_with};
+ghost use Rattle.dt_messages.specs.Joining.{is_idle, piece_with};
 
 use dt_endpoint::{Endpoint, Piece};
 use dt_items::NoMemory;
@@ -129,6 +129,13 @@ impl Inbox {
         ensures { result ≡ self.now.flow }
     {
         self.flow
+    }
+
+    /// Whether nothing is begun and no gap is to be told.
+    pub fn is_idle(&self) -> bool
+        ensures { result ≡ is_idle self.now.joiner }
+    {
+        self.joiner.is_idle()
     }
 
     /// How many messages were longer than the longest: 2^64 - 1 at most.

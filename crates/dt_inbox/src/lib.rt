@@ -3,7 +3,9 @@
 
 mod flow_inboxes;
 mod inboxes;
+mod mailboxes;
 
 pub use dt_messages::Message;
 pub use flow_inboxes::FlowInboxes;
 pub use inboxes::{Inbox, Taken};
+pub use mailboxes::{Handed, Mailbox};

@@ -82,3 +82,7 @@ grown j p =
 -- Octets that were read are lost with what was begun, and that is told as a gap.
 abbrev pub lost : JoinerValue → JoinerValue
 lost j = record j { begun = None; gap = true }
+
+-- Nothing is begun and no gap is to be told: but for its count it is as a new one.
+abbrev pub is_idle : JoinerValue → Bool
+is_idle j = not (is_some j.begun) && not j.gap

@@ -1,6 +1,6 @@
 //! Messages are put together from pieces.
 ghost use Rattle.std.specs.Prelude.{◌≡◌, ◌+◌, None, true, false, IfOk, OnErr, OnOk, length, option_map};
-ghost use Rattle.dt_messages.specs.Joining.{MessageValue, counted_up, fits, grown, joiner_after, lost, message_with, new_joiner, piece_with};
+ghost use Rattle.dt_messages.specs.Joining.{MessageValue, counted_up, fits, grown, is_idle, joiner_after, lost, message_with, new_joiner, piece_with};
 
 use dt_items::NoMemory;
 use std::alloc::Global;
@@ -95,6 +95,13 @@ impl Joiner {
     {
         self.begun = None;
         self.gap = true;
+    }
+
+    /// Whether nothing is begun and no gap is to be told: but for its count it is as a new one.
+    pub fn is_idle(&self) -> bool
+        ensures { result ≡ is_idle self.now }
+    {
+        self.begun.is_none() && !self.gap
     }
 
     /// How many messages were longer than the longest: 2^64 - 1 at most.
