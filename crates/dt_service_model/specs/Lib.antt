@@ -1,0 +1,9 @@
+pub mod Names
+pub mod Halves
+pub mod Hearing
+pub mod Whole
+pub mod Ends
+pub mod Turns
+pub mod Asked
+pub mod Worked
+pub mod Runs

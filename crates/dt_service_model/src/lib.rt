@@ -1,0 +1,24 @@
+//! Request and reply at one node in definitions: what it keeps of its calls and of the requests that it
+//! was handed, and its turns, each an event of its endpoint and then an end. The definitions stand in
+//! specs/; here are the plain types that they share with the program.
+#![tactic(auto)]
+
+mod answers;
+mod calls;
+mod counts;
+mod happenings;
+mod names;
+mod ports;
+mod worked;
+
+pub use answers::{Declined, Forgot, Made, Replied, Unfit};
+pub use calls::{Call, Cause};
+pub use counts::Counts;
+pub use happenings::{Happening, Payload};
+pub use names::{CallNumber, Token};
+pub use ports::{Kind, Most, Port};
+pub use worked::{
+    answered_in_any_order, asked_again, client_restarts_at_a_slow_service, given_up_and_served,
+    life_used_twice, no_room_for_a_reply, reply_late, request_lost,
+    server_restarts_before_its_reply, tail_and_head_lost,
+};
