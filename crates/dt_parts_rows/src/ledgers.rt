@@ -1,11 +1,118 @@
-ghost use Rattle.std.specs.Prelude.{◌≡◌, ◌+◌, ◌^◌, ◌<◌, ◌≤◌, length, IfOk, IsSome};
+ghost use Rattle.std.specs.Prelude.{◌<◌, length};
 
-use dt_items::NoMemory;
-use dt_ledger::{Fate, FlowRows, Ledger, Taken, Totals};
+use dt_ledger::{Fate, FlowRows, Ledger, Totals};
 use dt_units::{Flow, NodeId};
-use std::alloc::Global;
 use std::process::Abort;
-use std::test::Fail;
+
+/// What happens to a flow. Both stations are in their first life.
+enum Step {
+    /// A message is taken.
+    Take(&'static [u8]),
+    /// So many octets go out at a moment, from this place on.
+    Send {
+        count: u32,
+        at: u32,
+        place: u64,
+    },
+    /// Octets are given from a place on, at a moment. Of the marks `r` is run, `b` begin and `e` end.
+    Give {
+        place: u32,
+        octets: &'static [u8],
+        marks: &'static [u8],
+        at: u64,
+    },
+    /// The leftmost octets without a fate are acknowledged, so many.
+    Acknowledge(u32),
+}
+
+fn has(marks: &[u8], mark: u8) -> bool {
+    marks.contains(&mark)
+}
+
+fn is_taken(rows: &mut FlowRows, octets: &[u8]) -> bool {
+    rows.take(0, octets, true, true).is_ok()
+}
+
+fn goes_out(rows: &mut FlowRows, count: u32, at: u32, place: u64) -> bool {
+    rows.note_next(0, count, u64::from(at)) == place
+}
+
+fn is_given(rows: &mut FlowRows, place: u32, octets: &[u8], marks: &[u8], at: u64) -> bool
+    requires { length octets.now < 100 }
+{
+    let (begin, end, run) = (has(marks, b'b'), has(marks, b'e'), has(marks, b'r'));
+    rows.give(u64::from(place), octets, begin, end, run, 0, at)
+        .is_ok()
+}
+
+fn is_done(rt: &impl Abort, rows: &mut FlowRows, step: &Step) -> bool {
+    match step {
+        Step::Take(octets) => is_taken(rows, octets),
+        Step::Send { count, at, place } => goes_out(rows, *count, *at, *place),
+        Step::Give {
+            place,
+            octets,
+            marks,
+            at,
+        } => {
+            assert!(rt; octets.len() < 100);
+            is_given(rows, *place, octets, marks, *at)
+        }
+        Step::Acknowledge(count) => {
+            rows.settle_open(0, *count, Fate::Acked);
+            true
+        }
+    }
+}
+
+/// A window of 4 octets: 4 of 6 octets go out, are given, acknowledged and read, and then the other 2
+/// go out and are given, as a packet that goes on with its run.
+static SMALL_WINDOW: [Step; 7] = [
+    Step::Take(b"abcdef"),
+    Step::Send {
+        count: 4,
+        at: 0,
+        place: 0,
+    },
+    Step::Give {
+        place: 0,
+        octets: b"abcd",
+        marks: b"rb",
+        at: 0,
+    },
+    Step::Acknowledge(4),
+    Step::Acknowledge(0),
+    Step::Send {
+        count: 2,
+        at: 1600,
+        place: 4,
+    },
+    Step::Give {
+        place: 4,
+        octets: b"ef",
+        marks: b"e",
+        at: 1600,
+    },
+];
+
+const LEFT: Totals = Totals {
+    taken: 6,
+    acked: 4,
+    uncertain: 0,
+    unsettled: 2,
+    given: 6,
+    read: 0,
+};
+
+#[test]
+fn octets_wait_for_a_window(rt: HostRuntime) {
+    let mut rows = FlowRows::new(rt.alloc());
+    for step in &SMALL_WINDOW {
+        assert!(rt; is_done(&rt, &mut rows, step));
+    }
+    assert!(rt; rows.totals() == LEFT);
+    assert!(rt; rows.last_given() == Some(5));
+}
 
 /// From port 10 of node 1 to port 20 of node 2.
 const FLOW: Flow = Flow {
@@ -23,41 +130,38 @@ const OTHER: Flow = Flow {
     to_port: 20,
 };
 
-/// A window of 4 octets: 4 of 6 octets go out, are given, acknowledged and read, and then the other 2
-/// go out and are given, as a packet that goes on with its run.
-#[test]
-fn octets_wait_for_a_window(rt: HostRuntime) -> Result<(), Fail> {
-    let mut rows = FlowRows::new(rt.alloc());
-    rows.take(0, b"abcdef", true, true)?;
-    assert_eq!(rt; rows.note_next(0, 4, 0), 0);
-    rows.give(0, b"abcd", true, false, true, 0, 0)?;
-    rows.settle_open(0, 4, Fate::Acked);
-    rows.settle_open(0, 0, Fate::Acked);
-    assert_eq!(rt; rows.note_next(0, 2, 1600), 4);
-    rows.give(4, b"ef", false, true, false, 0, 1600)?;
-    let totals = rows.totals();
-    assert_eq!(rt; totals.taken, 6);
-    assert_eq!(rt; totals.acked, 4);
-    assert_eq!(rt; totals.uncertain, 0);
-    assert_eq!(rt; totals.unsettled, 2);
-    assert_eq!(rt; totals.given, 6);
-    assert_eq!(rt; rows.last_given(), Some(5));
-    Ok(())
+/// A message of one octet is taken.
+fn takes_in(ledger: &mut Ledger, life: u32, octets: &[u8]) -> bool {
+    ledger.take(&FLOW, life, octets, true, true).is_ok()
+}
+
+fn sends_first(rt: &impl Abort, ledger: &mut Ledger) {
+    assert!(rt; ledger.rows(&FLOW).is_some());
+    assert!(rt; ledger.taken_count(&FLOW) == 1);
+    ledger.note_first(&FLOW, 0, 1, 0);
+}
+
+fn is_given_and_read(rt: &impl Abort, ledger: &mut Ledger) -> bool {
+    let is_given = ledger
+        .give(&FLOW, 1, b"b", true, true, true, 0, 6200)
+        .is_ok();
+    assert!(rt; ledger.read_count(&FLOW) == 0);
+    is_given && ledger.note_read(&FLOW, 0, 1).is_ok()
+}
+
+fn has_counts(ledger: &Ledger, flow: &Flow, taken: u64, last_given: Option<u64>) -> bool {
+    ledger.taken_count(flow) == taken && ledger.last_given(flow) == last_given
 }
 
 /// A sender starts again: its first octet stays open, and the other one is of its next life. The
 /// receiver is given the second alone, and reads it.
 #[test]
-fn a_sender_starts_again(rt: HostRuntime) -> Result<(), Fail> {
+fn a_sender_starts_again(rt: HostRuntime) {
     let mut ledger = Ledger::new(rt.alloc());
-    ledger.take(&FLOW, 0, b"a", true, true)?;
-    ledger.note_first(&FLOW, 0, 1, 0);
-    ledger.take(&FLOW, 1, b"b", true, true)?;
-    ledger.give(&FLOW, 1, b"b", true, true, true, 0, 6200)?;
-    ledger.note_read(&FLOW, 0, 1)?;
-    assert_eq!(rt; ledger.taken_count(&FLOW), 2);
-    assert_eq!(rt; ledger.last_given(&FLOW), Some(1));
-    assert_eq!(rt; ledger.taken_count(&OTHER), 0);
-    assert_eq!(rt; ledger.last_given(&OTHER), None);
-    Ok(())
+    assert!(rt; takes_in(&mut ledger, 0, b"a"));
+    sends_first(&rt, &mut ledger);
+    assert!(rt; takes_in(&mut ledger, 1, b"b"));
+    assert!(rt; is_given_and_read(&rt, &mut ledger));
+    assert!(rt; has_counts(&ledger, &FLOW, 2, Some(1)));
+    assert!(rt; has_counts(&ledger, &OTHER, 0, None));
 }

@@ -1,7 +1,7 @@
 ghost use Rattle.std.specs.Prelude.{◌≡◌, ◌<◌, ◌+◌};
 
 use dt_units::numbers::relation;
-use dt_units::{Field, ParamFault, Params, Relation, Steps, later};
+use dt_units::{Field, ParamFault, Params, Relation, Steps, Times, later};
 use std::marker::Brand;
 use std::sync::ledger::{Blank, Ledger};
 
@@ -19,75 +19,114 @@ const STANDARD: Params = Params {
     start: 0,
 };
 
-#[test]
-fn time_bounds_are_the_sums(rt: HostRuntime) {
-    let rules = match STANDARD.check() {
-        Ok(rules) => rules,
-        Err(_) => return assert!(rt; false, "the standard parameters are refused"),
-    };
-    assert_eq!(rt; *rules.params(), STANDARD);
-    assert_eq!(rt; rules.times().receive, 4200);
-    assert_eq!(rt; rules.times().give, 5200);
-    assert_eq!(rt; rules.times().send, 6200);
-    assert_eq!(rt; rules.times().quiet, 6200);
-    assert_eq!(rt; rules.times().spacing, 9200);
-}
+const SUMS: Times = Times {
+    receive: 4200,
+    give: 5200,
+    send: 6200,
+    quiet: 6200,
+    spacing: 9200,
+};
 
-#[test]
-fn the_first_field_out_of_range_is_named(rt: HostRuntime) {
-    let one_late = Params {
-        a: 0,
-        seg: 8193,
-        ..STANDARD
-    };
-    let late_probe = Params {
-        probe: 6200,
-        ..STANDARD
-    };
-    let cases = [
-        (Params { mpl: 1, ..STANDARD }, Field::Mpl, 1),
-        (one_late, Field::A, 0),
-        (late_probe, Field::Probe, 6200),
-        (
-            Params {
-                window: 65_537,
-                ..STANDARD
-            },
-            Field::Window,
-            65_537,
-        ),
-        (
-            Params {
-                run_limit: 0,
-                ..STANDARD
-            },
-            Field::RunLimit,
-            0,
-        ),
-    ];
-    for (params, field, value) in &cases {
-        let fault = ParamFault {
-            field: *field,
-            value: *value,
-        };
-        match params.check() {
-            Ok(_) => assert!(rt; false, "accepted: {field:?}"),
-            Err(found) => assert_eq!(rt; found, fault),
-        }
+fn has_rules(params: &Params, times: Times) -> bool {
+    match params.check() {
+        Ok(rules) => *rules.params() == *params && *rules.times() == times,
+        Err(_) => false,
     }
 }
 
 #[test]
+fn time_bounds_are_the_sums(rt: HostRuntime) {
+    assert!(rt; has_rules(&STANDARD, SUMS));
+}
+
+/// Parameters, and the field that is named of them, with its value.
+static OUT_OF_RANGE: [(Params, ParamFault); 5] = [
+    (
+        Params { mpl: 1, ..STANDARD },
+        ParamFault {
+            field: Field::Mpl,
+            value: 1,
+        },
+    ),
+    (
+        Params {
+            a: 0,
+            seg: 8193,
+            ..STANDARD
+        },
+        ParamFault {
+            field: Field::A,
+            value: 0,
+        },
+    ),
+    (
+        Params {
+            probe: 6200,
+            ..STANDARD
+        },
+        ParamFault {
+            field: Field::Probe,
+            value: 6200,
+        },
+    ),
+    (
+        Params {
+            window: 65_537,
+            ..STANDARD
+        },
+        ParamFault {
+            field: Field::Window,
+            value: 65_537,
+        },
+    ),
+    (
+        Params {
+            run_limit: 0,
+            ..STANDARD
+        },
+        ParamFault {
+            field: Field::RunLimit,
+            value: 0,
+        },
+    ),
+];
+
+fn is_fault(params: &Params, fault: ParamFault) -> bool {
+    match params.check() {
+        Ok(_) => false,
+        Err(found) => found == fault,
+    }
+}
+
+#[test]
+fn the_first_field_out_of_range_is_named(rt: HostRuntime) {
+    for (params, fault) in &OUT_OF_RANGE {
+        assert!(rt; is_fault(params, *fault), "{fault:?}");
+    }
+}
+
+/// A number, the one that is expected, and where it stands.
+static NUMBERS: [(u32, u32, Relation); 7] = [
+    (99, 100, Relation::Below),
+    (100, 100, Relation::Equal),
+    (101, 100, Relation::Above),
+    (5, 4_294_967_290, Relation::Above),
+    (4_294_967_290, 5, Relation::Below),
+    (2_147_483_647, 0, Relation::Above),
+    (2_147_483_648, 0, Relation::Below),
+];
+
+fn stands(n: u32, expected: u32, wanted: Relation) -> bool {
+    relation(n, expected) == wanted
+}
+
+#[test]
 fn numbers_are_in_order(rt: HostRuntime) {
-    assert_eq!(rt; relation(99, 100), Relation::Below);
-    assert_eq!(rt; relation(100, 100), Relation::Equal);
-    assert_eq!(rt; relation(101, 100), Relation::Above);
-    assert_eq!(rt; relation(5, 4_294_967_290), Relation::Above);
-    assert_eq!(rt; relation(4_294_967_290, 5), Relation::Below);
-    assert_eq!(rt; relation(2_147_483_647, 0), Relation::Above);
-    assert_eq!(rt; relation(2_147_483_648, 0), Relation::Below);
-    assert_eq!(rt; later(100, 50), 150);
-    assert_eq!(rt; later(4_294_967_290, 10), 4);
+    for (n, expected, wanted) in &NUMBERS {
+        assert!(rt; stands(*n, *expected, *wanted), "{n} beside {expected}");
+    }
+    assert!(rt; later(100, 50) == 150);
+    assert!(rt; later(4_294_967_290, 10) == 4);
 }
 
 /// Takes two looks.
