@@ -45,7 +45,7 @@ class Token(NamedTuple):
 
 
 class Report(NamedTuple):
-    """What a station told: `took`, `settled`, `uncertain` and `accepted` octets of a flow, or that its receiver was
+    """What a station told: `took`, `settled`, `uncertain` and `accepted` octets of a flow, or that its receive record was
     `released`. Other words say nothing here."""
 
     word: str
@@ -133,7 +133,7 @@ class Node:
         self.open: dict[Token, None] = {}
         self.begun: dict[Flow, bytes] = {}
         self.unread: dict[Flow, None] = {}
-        self.receivers: set[Flow] = set()
+        self.records: set[Flow] = set()
         self.counts: Counter[str] = Counter()
         self.queue: deque[Told] = deque()
         """What was told and nobody took yet."""
@@ -241,7 +241,8 @@ class Node:
                     del self.unread[flow]
                     break
                 self._join(flow, piece)
-        for flow in [it for it in self.begun if it not in self.receivers]:
+        # a station keeps a receiver as long as it has a record or unread octets
+        for flow in [it for it in self.begun if it not in self.records and it not in self.unread]:
             self._cut(flow)
         self._judge(doubted)
 
@@ -254,11 +255,11 @@ class Node:
             elif word == "uncertain":
                 doubted |= self._count_off(flow, count)
             elif word == "accepted":
-                self.receivers.add(flow)
+                self.records.add(flow)
                 if flow.target_port in self.kinds:
                     self.unread[flow] = None
             elif word == "released":
-                self.receivers.discard(flow)
+                self.records.discard(flow)
         return doubted
 
     def _count_off(self, flow: Flow, count: int) -> set[int]:

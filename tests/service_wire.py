@@ -83,7 +83,7 @@ class SafeStation:
         self.last: dict[Flow, int] = {}
         # where the message begins that is read of each flow, and where its next octet stands
         self.reading: dict[Flow, tuple[int, int]] = {}
-        self.receivers: set[Flow] = set()
+        self.records: set[Flow] = set()
         self.wholes: list[Ghost] = []
         self.doubts: list[Ghost] = []
         self.wake = None
@@ -118,7 +118,7 @@ class SafeStation:
         track.given[first:behind] = b"\1" * (behind - first)
         track.top = behind
         self.last[flow] = behind
-        self.receivers.add(flow)
+        self.records.add(flow)
         self.rows[flow].append((first, behind, run))
         self.told.append(Report("accepted", flow, behind - first))
 
@@ -135,7 +135,7 @@ class SafeStation:
         self.told.append(Report("uncertain", flow, count))
 
     def release(self, flow: Flow) -> None:
-        self.receivers.discard(flow)
+        self.records.discard(flow)
         self.last.pop(flow, None)
         self.told.append(Report("released", flow))
 
@@ -167,8 +167,8 @@ class SafeStation:
             self.reading[flow] = begun, behind
 
     def end_turn(self) -> None:
-        """What was begun goes with the receiver."""
-        for flow in [it for it in self.reading if it not in self.receivers]:
+        """What was begun goes with the receiver, which has a record or unread octets."""
+        for flow in [it for it in self.reading if it not in self.records and not self.rows[it]]:
             del self.reading[flow]
 
     def is_unread(self, flow: Flow) -> bool:
@@ -283,7 +283,7 @@ class Referee:
             track = self.wire.tracks[flow]
             is_right = sum(it.left for it in posted) == len(track.octets) - track.front and all(it.left for it in posted)
             holds(is_right, "unsure exactly: posted is what is held")
-        holds(all(it in station.receivers for it in node.begun), "bounded: begun without a receiver")
+        holds(all(it in station.records or station.rows[it] for it in node.begun), "bounded: begun without a receiver")
 
 
 # --- a run
@@ -383,7 +383,7 @@ class Run:
         if into and chance.random() < 0.8:
             flow = chance.choice(into)
             acts += self.give(flow)
-        held = sorted(self.hosts[me].station.receivers)
+        held = sorted(self.hosts[me].station.records)
         if held and chance.random() < 0.02:
             acts.insert(0, ("release", chance.choice(held)))
         return acts
