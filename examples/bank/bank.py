@@ -1,0 +1,184 @@
+"""The bank's servers and clients, over calls between nodes and over TCP. `demo.py` starts them, kills them, and starts
+them again.
+
+    bank.py serve|serve-tcp FOLDER
+    bank.py ask|ask-tcp FOLDER NUMBER UNTIL SEED
+
+UNTIL is a moment in ms of `deltat.now()`: until then a client gives orders, and after it only finds out what became of
+them. In FOLDER are the journal of the bank, and the notes of each client."""
+import asyncio
+import pathlib
+import random
+import socket
+import sys
+import time
+
+from accounts import ACCOUNTS, Bank, Notes
+
+# the calls of this module are to come from the library
+import service
+from service import deltat
+
+BANK_HOST, CLIENT_HOST = "10.9.0.1", "10.9.0.2"
+PORT = 4_700
+BANK, CLIENTS = 100, 20
+"""Node numbers: the bank's, and how many clients there are, from 1 on."""
+# as `tools/params.py 300 50` tells them: delays of 20 ms, late ones of 60, and a machine under load
+PARAMS = deltat.Params(mpl=352, r=450, a=5, rto=90, probe=180, seg=1442, cap=65536, rcap=65536, window=65536)
+CHARGE = 344
+# a request that was sent at once and its answer are over after 2 (r + mpl) and the bank's time
+PATIENCE = 2.0
+DRAIN_MS = 15_000
+HOSTS = (BANK_HOST, CLIENT_HOST)
+
+
+def bank_udp(folder: pathlib.Path, hosts: tuple[str, str] = HOSTS) -> deltat.Udp:
+    """The bank's node: each client is a link of its own."""
+    notes = Notes(folder / "bank.notes", BANK)
+    life = notes.new_life()
+    links = [deltat.Link(it, CHARGE) for it in range(1, CLIENTS + 1)]
+    routes = {it: it for it in range(1, CLIENTS + 1)}
+    node = service.Node(BANK, life, PARAMS, links, routes, again=life > 1)
+    node.port(20, service.Kind.SERVICE)
+    return deltat.Udp(node, (hosts[0], PORT), {it: (hosts[1], PORT + it) for it in routes}, routes)
+
+
+def serve(folder: pathlib.Path, hosts: tuple[str, str] = HOSTS) -> None:
+    bank = Bank(folder / "journal")
+    with bank_udp(folder, hosts) as udp:
+        calls = service.Calls(udp)
+        for request in calls.requests():
+            calls.reply(request.token, bank.handle(request.payload))
+
+
+class Client:
+    """A client with its notes: it gives orders until a moment, and then finds out what became of them."""
+
+    def __init__(self, folder: pathlib.Path, number: int, until: int, seed: int) -> None:
+        self.number, self.until = number, until
+        self.notes = Notes(folder / f"client-{number}.notes", number)
+        self.life = self.notes.new_life()
+        self.chance = random.Random(f"{seed} {number} {self.life}")
+
+    def order(self) -> str:
+        """A new order, which is written down before it is given."""
+        payer, payee = self.chance.sample(range(ACCOUNTS), 2)
+        return self.notes.new_order(f"{payer} {payee} {self.chance.randint(1, 50)}")
+
+    def is_early(self) -> bool:
+        return deltat.now() < self.until
+
+    def is_over(self) -> bool:
+        return not self.is_early() and (not self.notes.open_orders() or deltat.now() > self.until + DRAIN_MS)
+
+    def think(self) -> float:
+        return self.chance.uniform(0, 0.1)
+
+
+class CallingClient(Client):
+    """Over calls: where it is unsure it asks, by another call on the same flow. An answer to that is the last word: the
+    order was handed out before the question, or never will be."""
+
+    def run(self, hosts: tuple[str, str] = HOSTS) -> None:
+        node = service.Node(self.number, self.life, PARAMS, [deltat.Link(1, CHARGE)], {BANK: 1}, again=self.life > 1)
+        node.port(10, service.Kind.CALLER)
+        with deltat.Udp(node, (hosts[1], PORT + self.number), {BANK: (hosts[0], PORT)}) as self.udp:
+            self.calls = service.Calls(self.udp)
+            while not self.is_over():
+                for order in self.notes.open_orders():
+                    self.look(order)
+                if self.is_early():
+                    self.give(self.order())
+                    self.udp.settle(self.think())
+            if self.number == 1 and (told := self.asked(b"sum")):
+                self.notes.note(f"sum {told}")
+
+    def asked(self, payload: bytes) -> str | None:
+        """What was answered, or None: it is unsure. Where it is declined it waits, and tries again."""
+        while True:
+            try:
+                return self.calls.call(deltat.Flow(self.number, 10, BANK, 20), payload, PATIENCE).decode()
+            except service.Unsure:
+                return None
+            except service.Declined as why:
+                self.udp.settle(max(why.until - deltat.now(), 50) / 1000)
+
+    def give(self, order: str) -> None:
+        fate = self.asked(f"transfer {order} {self.notes.orders[order]}".encode())
+        if fate is None:
+            self.notes.note(f"unsure {order}")
+        else:
+            self.notes.note(f"fate {order} {fate}")
+
+    def look(self, order: str) -> None:
+        fate = self.asked(f"booked? {order}".encode())
+        if fate is not None:
+            self.notes.note(f"fate {order} {fate}")
+
+
+async def serve_tcp(folder: pathlib.Path, host: str = BANK_HOST) -> None:
+    bank = Bank(folder / "journal")
+
+    async def answer(reader: asyncio.StreamReader, writer: asyncio.StreamWriter) -> None:
+        try:
+            while line := await reader.readline():
+                writer.write(bank.handle(line) + b"\n")
+                await writer.drain()
+        except OSError:
+            pass
+        writer.close()
+
+    server = await asyncio.start_server(answer, host, PORT, reuse_address=True)
+    await server.serve_forever()
+
+
+class TcpClient(Client):
+    """Over TCP: an order that isn't answered in time, or whose connection breaks, is given again."""
+
+    stream: socket.socket | None = None
+    host = BANK_HOST
+
+    def run(self) -> None:
+        while not self.is_over():
+            order = next(iter(self.notes.open_orders()), None) or self.order()
+            fate = self.asked(f"transfer {order} {self.notes.orders[order]}\n".encode())
+            if fate is not None:
+                self.notes.note(f"fate {order} {fate}")
+                time.sleep(self.think())
+        if self.number == 1 and (told := self.asked(b"sum\n")):
+            self.notes.note(f"sum {told}")
+
+    def asked(self, request: bytes) -> str | None:
+        """What was answered, or None: there was no connection, it broke, or it took too long."""
+        try:
+            if self.stream is None:
+                self.stream = socket.create_connection((self.host, PORT), PATIENCE)
+            self.stream.sendall(request)
+            answer = b""
+            while not answer.endswith(b"\n"):
+                part = self.stream.recv(4096)
+                if not part:
+                    raise ConnectionError("closed")
+                answer += part
+            return answer.decode().strip()
+        except OSError:
+            if self.stream:
+                self.stream.close()
+            self.stream = None
+            time.sleep(0.05)
+            return None
+
+
+def main() -> None:
+    word, folder, *words = sys.argv[1:]
+    if word == "serve":
+        serve(pathlib.Path(folder))
+    elif word == "serve-tcp":
+        asyncio.run(serve_tcp(pathlib.Path(folder)))
+    else:
+        number, until, seed = map(int, words)
+        (CallingClient if word == "ask" else TcpClient)(pathlib.Path(folder), number, until, seed).run()
+
+
+if __name__ == "__main__":
+    main()

@@ -1,0 +1,220 @@
+#!/usr/bin/env python3
+"""A bank whose servers and clients are killed, over a link that drops, repeats and reorders: by calls, and over TCP.
+
+    examples/bank/demo.py [--seconds 60] [--seed 1] [--loss 0.05] [--repeat 0.05] [--late 0.05] [--keep FOLDER]
+
+20 clients give orders to a bank of 100 accounts, each written down, each given once by a call, or again and again over
+TCP until it is answered. The link is that of tests/wan.py, two network namespaces with 20 ms between them each way, so
+it wants root and /dev/net/tun; it ends with 2 where there are none. A client is killed every 0.5 s, the bank every 5 s,
+each at a random moment, and started again. Behind the time that was asked for nobody is killed any more, and each
+client finds out what became of its last orders.
+
+Then the journal of the bank is compared with the notes of all clients. It ends with 0 where by calls the sum of the
+accounts is what it was, no order was booked twice, and each order of which its client was told is as it was told; else
+with 1. What TCP with retries did stands beside it. At last the first answer of both is measured over the same delay
+without losses: a flow or a connection of its own for each."""
+import argparse
+import asyncio
+import json
+import pathlib
+import random
+import statistics
+import subprocess
+import sys
+import tempfile
+import threading
+import time
+from collections import Counter
+
+HERE = pathlib.Path(__file__).resolve().parent
+sys.path[:0] = [str(HERE), str(HERE.parents[1] / "tests")]
+
+import bank  # noqa: E402
+import service  # noqa: E402
+from accounts import ACCOUNTS, START, Bank, Notes  # noqa: E402
+from service import deltat  # noqa: E402
+from wan import Bound, Link, impaired_link  # noqa: E402
+
+DELAY = 20
+KILL_CLIENT, KILL_BANK = 0.5, 5.0
+FIRSTS = 20
+WAYS = {"calls": ("serve", "ask"), "TCP": ("serve-tcp", "ask-tcp")}
+
+
+class Keeper:
+    """Programs that are killed at random moments, and started again."""
+
+    def __init__(self, commands: dict[str, list[str]], each: float, until: int, chance: random.Random, kills: pathlib.Path) -> None:
+        self.commands, self.each, self.until, self.chance, self.kills = commands, each, until, chance, kills
+        self.running: dict[str, "subprocess.Popen[bytes]"] = {}
+        # those that were killed, and when they start again
+        self.due = {name: 0 for name in commands}
+
+    def go(self) -> int:
+        """Until each has ended by itself. Ends with 1 where one failed."""
+        kill_at, killed = deltat.now() + 1000 * self.chance.expovariate(1 / self.each), 0
+        while self.running or self.due:
+            now = deltat.now()
+            for name in [name for name, at in self.due.items() if at <= now]:
+                del self.due[name]
+                self.running[name] = subprocess.Popen([sys.executable, *self.commands[name]])
+            if kill_at <= now < self.until and self.running:
+                name = self.chance.choice(sorted(self.running))
+                self.running[name].kill()
+                self.running.pop(name).wait()
+                self.due[name] = now + self.chance.randint(0, 300)
+                killed += 1
+                self.kills.write_text(str(killed))
+                kill_at = now + 1000 * self.chance.expovariate(1 / self.each)
+            for name, it in list(self.running.items()):
+                if it.poll() is not None:
+                    if it.returncode:
+                        print(f"{name} ended with {it.returncode}", file=sys.stderr)
+                        return 1
+                    del self.running[name]
+            time.sleep(0.01)
+        return 0
+
+
+def keep(words: list[str]) -> int:
+    """One side of the link: the bank, or all clients."""
+    side, way, folder, until, seed = words
+    serve, ask = WAYS[way]
+    program = str(HERE / "bank.py")
+    chance = random.Random(f"{side} {seed}")
+    if side == "bank":
+        commands = {"bank": [program, serve, folder]}
+    else:
+        commands = {f"client {it}": [program, ask, folder, str(it), until, seed] for it in range(1, bank.CLIENTS + 1)}
+    each = KILL_BANK if side == "bank" else KILL_CLIENT
+    return Keeper(commands, each, int(until), chance, pathlib.Path(folder) / f"killed-{side}").go()
+
+
+def outcome(folder: pathlib.Path) -> dict[str, int]:
+    """What the journal and the notes say."""
+    books = Bank(folder / "journal")
+    notes = [Notes(folder / f"client-{it}.notes", it) for it in range(1, bank.CLIENTS + 1)]
+    orders = {order: fate for it in notes for order, fate in {**dict.fromkeys(it.orders), **it.fates}.items()}
+    journal = Counter(line.split()[0] for line in (folder / "journal").read_text().splitlines())
+    sums = [told for it in notes for told in it.sums]
+    killed = {side: int((folder / f"killed-{side}").read_text()) if (folder / f"killed-{side}").exists() else 0 for side in ("bank", "clients")}
+    return {
+        "orders": len(orders),
+        "booked": len(journal),
+        "booked more than once": sum(it > 1 for it in journal.values()),
+        "times an order was unsure": sum(it.doubts for it in notes),
+        "told otherwise than it is booked": sum((fate == "booked") != (order in journal) for order, fate in orders.items() if fate),
+        "not found out": sum(not fate for fate in orders.values()),
+        "booked, and given by nobody": sum(it not in orders for it in journal),
+        "kills of clients": killed["clients"],
+        "kills of the bank": killed["bank"],
+        "the sum, less what it was": sum(books.accounts) - ACCOUNTS * START,
+        "sums that clients were told wrongly": sum(it != ACCOUNTS * START for it in sums),
+    }
+
+
+def over(way: str, link: Link, seconds: float, seed: int, folder: pathlib.Path) -> dict[str, int]:
+    """A run of the bank over a link."""
+    folder.mkdir()
+    until = deltat.now() + round(1000 * seconds) + 1_000
+    words = [sys.executable, str(HERE / "demo.py"), "keep"]
+    commands = [[*words, side, way, str(folder), str(until), str(seed)] for side in ("bank", "clients")]
+    ran = impaired_link(commands, link, Bound(seconds + 60), seed, serves=True)
+    if ran.stopped or any(ran.statuses):
+        raise SystemExit(f"demo: {way}: the clients ended with {ran.statuses[1]}" + (", stopped" if ran.stopped else ""))
+    print(f"{way}: {ran.counts}", flush=True)
+    return outcome(folder)
+
+
+# --- first answers
+
+
+def first_serve(folder: pathlib.Path) -> None:
+    """Both banks at once, each with its journal."""
+    other = folder / "tcp"
+    other.mkdir(exist_ok=True)
+    threading.Thread(target=lambda: asyncio.run(bank.serve_tcp(other)), daemon=True).start()
+    bank.serve(folder)
+
+
+def first_ask(folder: pathlib.Path) -> None:
+    """How long a first answer takes, in ms: on a flow, or a connection, that was never used."""
+    time.sleep(1)
+    took: dict[str, list[float]] = {"calls": [], "TCP": []}
+    node = service.Node(1, 1, bank.PARAMS, [deltat.Link(1, bank.CHARGE)], {bank.BANK: 1})
+    with deltat.Udp(node, (bank.CLIENT_HOST, bank.PORT + 1), {bank.BANK: (bank.BANK_HOST, bank.PORT)}) as udp:
+        calls = service.Calls(udp)
+        for at in range(FIRSTS):
+            node.port(10 + at, service.Kind.CALLER)
+            begun = time.monotonic()
+            calls.call(deltat.Flow(1, 10 + at, bank.BANK, 20), b"balance 7", 5.0)
+            took["calls"].append(1000 * (time.monotonic() - begun))
+            client = bank.TcpClient(folder, 2, 0, at)
+            begun = time.monotonic()
+            client.asked(b"balance 7\n")
+            took["TCP"].append(1000 * (time.monotonic() - begun))
+            client.stream.close()
+    (folder / "first").write_text(json.dumps(took))
+
+
+def firsts(folder: pathlib.Path) -> dict[str, float]:
+    """The median of the first answers, in ms."""
+    folder.mkdir()
+    words = [sys.executable, str(HERE / "demo.py")]
+    ran = impaired_link([[*words, "first-serve", str(folder)], [*words, "first-ask", str(folder)]], Link(DELAY), Bound(40), 1, serves=True)
+    if ran.stopped or any(ran.statuses):
+        raise SystemExit("demo: the first answers didn't come")
+    return {way: statistics.median(it) for way, it in json.loads((folder / "first").read_text()).items()}
+
+
+def table(found: dict[str, dict[str, int]], first: dict[str, float]) -> str:
+    names = list(next(iter(found.values())))
+    lines = [["", *found]] + [[name, *(str(it[name]) for it in found.values())] for name in names]
+    lines.append([f"first answer, {DELAY} ms each way", *(f"{first[way]:.0f} ms" for way in found)])
+    return "\n".join(f"{it[0]:36}" + "".join(f"{word:>12}" for word in it[1:]) for it in lines)
+
+
+def is_kept(it: dict[str, int]) -> bool:
+    """Whether the promise was kept, and something happened."""
+    wrong = ("booked more than once", "told otherwise than it is booked", "booked, and given by nobody", "the sum, less what it was",
+             "sums that clients were told wrongly")
+    return not any(it[name] for name in wrong) and it["booked"] > 0 and it["kills of clients"] > 0
+
+
+def demonstrate(folder: pathlib.Path, given: argparse.Namespace) -> int:
+    link = Link(DELAY, given.loss, given.repeat, given.late)
+    print(f"{DELAY} ms each way; of 100 packets {100 * link.loss:.0f} dropped, {100 * link.dup:.0f} repeated, {100 * link.reorder:.0f} late by up to "
+          f"{2 * DELAY} ms more; two namespaces by tests/wan.py; {given.seconds:.0f} s, seed {given.seed}", flush=True)
+    try:
+        found = {way: over(way, link, given.seconds, given.seed, folder / way) for way in WAYS}
+        first = firsts(folder / "firsts")
+    except (OSError, subprocess.CalledProcessError) as error:
+        print(f"demo: there is no such link here: {error}", file=sys.stderr)
+        return 2
+    print(table(found, first))
+    return 0 if is_kept(found["calls"]) else 1
+
+
+def main() -> int:
+    if sys.argv[1:2] == ["keep"]:
+        return keep(sys.argv[2:])
+    if sys.argv[1:2] == ["first-serve"]:
+        return first_serve(pathlib.Path(sys.argv[2])) or 0
+    if sys.argv[1:2] == ["first-ask"]:
+        return first_ask(pathlib.Path(sys.argv[2])) or 0
+    reads = argparse.ArgumentParser(description=__doc__, formatter_class=argparse.RawDescriptionHelpFormatter)
+    reads.add_argument("--seconds", type=float, default=60)
+    reads.add_argument("--seed", type=int, default=1)
+    for name in ("loss", "repeat", "late"):
+        reads.add_argument(f"--{name}", type=float, default=0.05, metavar="P")
+    reads.add_argument("--keep", type=pathlib.Path, metavar="FOLDER", help="where journals and notes stay")
+    given = reads.parse_args()
+    if given.keep:
+        given.keep.mkdir(parents=True)
+        return demonstrate(given.keep, given)
+    with tempfile.TemporaryDirectory(prefix="deltat-bank-") as folder:
+        return demonstrate(pathlib.Path(folder), given)
+
+
+if __name__ == "__main__":
+    sys.exit(main())

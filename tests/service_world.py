@@ -1,0 +1,386 @@
+"""Calls between nodes of the library, in simulated time: the definitions over plain nodes of it, worked runs, and random
+runs in which another maker of calls is judged by the definitions.
+
+In tests/all: not a test."""
+import heapq
+import importlib
+import itertools
+import os
+import pathlib
+import random
+import sys
+import types
+from collections import Counter, defaultdict
+
+import service_model
+from lib import TOP
+from service_model import CALLER, SERVICE, Flow, Limits, Piece, Report, Token
+from service_rows import FLOW_NAMES, Row
+from service_wire import Broken, holds
+
+
+def library(path: str | None) -> types.ModuleType | None:
+    """The binding, or None where there is no library."""
+    found = pathlib.Path(path) if path else TOP / "lib" / "libdeltat.so.0"
+    if not found.exists():
+        return None
+    os.environ["DELTAT_LIBRARY"] = str(found.resolve())
+    sys.path.insert(0, str(TOP / "bindings" / "python"))
+    sys.path.insert(0, str(TOP / "examples" / "bank"))
+    return importlib.import_module("deltat")
+
+
+class LibraryStation:
+    """A station of the library: a plain node of it. `arrive` takes a link, a datagram, and what it waited."""
+
+    def __init__(self, deltat: types.ModuleType, node: object) -> None:
+        self.deltat, self.node, self.cap = deltat, node, node.params.cap
+        self.row: list[str] = []
+        # the reports of the event, and the frames that left with them
+        self.all: list[object] = []
+
+    def reports(self) -> list[Report]:
+        words = []
+        for it in self.node.reports():
+            self.all.append(it)
+            name = it.kind.name.lower()
+            if name in ("took", "settled", "uncertain", "accepted") or name == "released" and not it.sending:
+                words.append(Report(name, it.flow, it.count))
+        return words
+
+    def send(self, at: int, flow: Flow, octets: bytes) -> tuple[object, ...]:
+        try:
+            self.node.send(flow, octets, at=at)
+        except self.deltat.Quiet as why:
+            return "quiet", why.until
+        except self.deltat.Full as why:
+            return "full", why.free
+        return ("taken",)
+
+    def read(self, at: int, flow: Flow) -> Piece | None:
+        return self.node.read(flow, at)
+
+    def arrive(self, at: int, came: object) -> None:
+        link, datagram, waited = came
+        self.node.arrive(link, datagram, waited, at)
+
+    def tick(self, at: int) -> None:
+        self.node.tick(at)
+
+    @property
+    def wake(self) -> int | None:
+        return self.node.wake
+
+    def lines(self) -> list[str]:
+        """What an event told of octets, as a row has it."""
+        lines = []
+        for it in self.all:
+            name, word = FLOW_NAMES.get(Flow(*it.flow), "?"), it.kind.name.lower()
+            marks = ("d" if it.run else "") + ("b" if it.begin else "") + ("e" if it.end else "")
+            if word in ("sent", "resent"):
+                lines.append(f"{word} {name} {it.number} {it.count} {marks or '-'}")
+            elif word == "accepted":
+                lines.append(f"{word} {name} {it.number} {it.count} {'run' if it.run else 'on'}")
+            elif word == "settled":
+                lines.append(f"{word} {name} {it.count} {it.window}")
+            elif word == "uncertain":
+                lines.append(f"{word} {name} {it.count}")
+        return lines
+
+
+class Simulated:
+    """The ground of a worked run over nodes of the library: the frames that left, by what was told as they did."""
+
+    deltat: types.ModuleType
+
+    def __init__(self, params: dict[str, int]) -> None:
+        usual = {"mpl": 1000, "r": 3000, "a": 200, "rto": 500, "probe": 800, "seg": 100, "cap": 4096, "rcap": 4096, "window": 4096}
+        self.params = self.deltat.Params(**usual | params)
+        self.frames: dict[tuple[str, str], bytes] = {}
+        self.stations: list[LibraryStation] = []
+
+    def station(self, me: int, at: int, is_again: bool) -> LibraryStation:
+        node = self.deltat.Node(me, self.params, [self.deltat.Link(1, charge=50)], {3 - me: 1}, is_again, at)
+        self.stations.append(LibraryStation(self.deltat, node))
+        return self.stations[-1]
+
+    def collect(self, station: LibraryStation) -> None:
+        """Keeps the frames that left, the last one of each flow and number, and of each flow the last acknowledgement."""
+        left = [it for it in station.all if it.kind.name in ("SENT", "RESENT", "ACKED", "REPLIED", "MET", "CLOSING")]
+        frames = [it.octets for it in station.node.frames()]
+        makers = [it for it in left if it.kind.name != "CLOSING"]
+        if len(makers) != len(frames):
+            raise Broken(f"{len(frames)} frames, and told {[it.kind.name for it in station.all]}")
+        for it, octets in zip(makers, frames):
+            name = FLOW_NAMES[Flow(*it.flow)]
+            self.frames[("settled", name) if it.kind.name in ("ACKED", "REPLIED") else ("accepted", name, str(it.number))] = octets
+        station.all = []
+
+    def before(self, nodes: dict[int, service_model.Node], me: int, at: int) -> None:
+        """Each node has ticked where that was due before the event."""
+        for station in self.stations:
+            self.collect(station)
+        while True:
+            due = min(((node.wake, it) for it, node in nodes.items() if node.wake is not None and node.wake <= at - (it == me)), default=None)
+            if due is None:
+                return
+            nodes[due[1]].tick(due[0])
+            holds(not nodes[due[1]].told, f"node {due[1]} tells {nodes[due[1]].told} at {due[0]}")
+            self.collect(nodes[due[1]].station)
+
+    def came(self, row: Row) -> object:
+        what = next(it.split() for it in row.told if it.startswith(("accepted", "settled")))
+        return 1, self.frames[tuple(what[:3] if what[0] == "accepted" else what[:2])], 0
+
+
+class Half:
+    """The node of examples/bank/service.py, asked as the model is. What is judged otherwise is asked the same way."""
+
+    def __init__(self, service: types.ModuleType, node: object) -> None:
+        self.service, self.node = service, node
+
+    def port(self, port: int, kind: str) -> None:
+        self.node.port(port, self.service.Kind(kind))
+
+    def call(self, at: int, flow: Flow, payload: bytes, patience: int) -> tuple[object, ...]:
+        try:
+            return "made", self.node.call(flow, payload, patience, at)
+        except self.service.Declined as why:
+            return "declined", why.why, *([why.until] if why.why == "quiet" else [why.free] if why.why == "full" else [])
+        except self.service.deltat.BadParameter:
+            return ("refused",)
+
+    def reply(self, at: int, token: Token, payload: bytes) -> tuple[object, ...]:
+        return self._said(self.node.reply, self.service.Token(*token), payload, at)
+
+    def forget(self, at: int, token: Token) -> tuple[object, ...]:
+        return self._said(self.node.forget, self.service.Token(*token), at)
+
+    def raise_life(self, life: int) -> tuple[object, ...]:
+        return self._said(self.node.raise_life, life)
+
+    def _said(self, ask: object, *words: object) -> tuple[object, ...]:
+        try:
+            ask(*words)
+        except self.service.Gone:
+            return ("gone",)
+        except self.service.deltat.Full as why:
+            return "full", why.free
+        except self.service.deltat.BadParameter:
+            return ("refused",)
+        return ("done",)
+
+    def arrive(self, at: int, came: object) -> None:
+        link, datagram, waited = came
+        self.node.arrive(link, datagram, waited, at)
+
+    def tick(self, at: int) -> None:
+        self.node.tick(at)
+
+    def close(self, at: int) -> None:
+        self.node.close()
+
+    def taken(self) -> list[tuple[object, ...]]:
+        told = []
+        for it in self.node.happenings():
+            if isinstance(it, self.service.Request):
+                told.append(("request", Token(Flow(*it.token.flow), it.token.number), it.payload))
+            elif isinstance(it, self.service.Answered):
+                told.append(("answered", *it))
+            else:
+                told.append(("unsure", it.number, it.cause.value))
+        return told
+
+
+WORLD_CHARGE = 30
+WORLD_FLOWS = [Flow(1, 10, 2, 20), Flow(1, 11, 2, 20), Flow(3, 10, 2, 20), Flow(1, 10, 3, 20)]
+
+
+class Pair:
+    """The model over a node of the library, and what is judged over another one; both are asked the same."""
+
+    def __init__(self, run: "World", me: int, is_again: bool) -> None:
+        deltat, others = Simulated.deltat, [it for it in (1, 2, 3) if it != me]
+        links, routes = [deltat.Link(it, WORLD_CHARGE) for it in others], {it: it for it in others}
+        self.life = next(run.lives[me])
+        plain = deltat.Node(me, run.params, links, routes, is_again, run.at)
+        self.model = service_model.Node(me, self.life, LibraryStation(deltat, plain), run.limits, run.at)
+        service = importlib.import_module("service")
+        limits = service.Limits(run.limits.most_waiting, run.limits.most_open, run.limits.most_each)
+        self.other = Half(service, service.Node(me, self.life, run.params, links, routes, is_again, run.at, limits))
+        for port, kind in ((10, CALLER), (11, CALLER), (20, SERVICE)):
+            self.model.port(port, kind)
+            self.other.port(port, kind)
+        self.deadlines: dict[int, int] = {}
+
+    def asked(self, what: str, *words: object) -> tuple[object, ...]:
+        statuses = getattr(self.model, what)(*words), getattr(self.other, what)(*words)
+        self.model.station.all = []
+        holds(statuses[0] == statuses[1], f"{what} {words}: {statuses[1]}, and the definitions say {statuses[0]}")
+        if what != "close":
+            wakes = self.model.wake, self.other.node.wake
+            holds(wakes[0] == wakes[1], f"{what} {words}: the wake is {wakes[1]}, and the definitions say {wakes[0]}")
+            counts = +self.model.counts, +self.other.node.counts
+            holds(counts[0] == counts[1], f"{what} {words}: counted {counts[1]}, and the definitions say {counts[0]}")
+        return statuses[0] or ()
+
+    def frames(self) -> list[object]:
+        frames = list(self.model.station.node.frames()), list(self.other.node.frames())
+        holds(frames[0] == frames[1], "other frames than by the definitions")
+        return frames[0]
+
+    def taken(self) -> list[tuple[object, ...]]:
+        told = list(self.model.queue)
+        self.model.queue.clear()
+        others = self.other.taken()
+        holds(told == others, f"told {others}, and the definitions say {told}")
+        return told
+
+
+class World:
+    """A random run of three nodes of the library over links that drop, repeat and reorder. The theorems are checked by
+    the names of calls."""
+
+    def __init__(self, seed: int) -> None:
+        self.chance = chance = random.Random(seed)
+        seg, room = chance.choice([10, 100]), chance.choice([40, 400])
+        self.params = Simulated.deltat.Params(mpl=100, r=300, a=20, rto=50, probe=80, seg=seg, cap=room, rcap=400, window=chance.choice([25, 400]))
+        self.limits = Limits(*([chance.randint(1, 4) for _ in range(3)] if chance.random() < 0.3 else [50] * 3))
+        self.loss = chance.choice([0.0, 0.1, 0.4])
+        self.at, self.count, self.words = 0, itertools.count(), itertools.count()
+        self.lives = {me: itertools.count(1) for me in (1, 2, 3)}
+        self.pairs = {me: Pair(self, me, False) for me in (1, 2, 3)}
+        self.links: list[tuple[int, int, int, int, bytes]] = []
+        # the names of calls by their node and number
+        self.names: dict[tuple[int, int], Token] = {}
+        # by the name of each call: what it carried, its place among those of its flow, how often it was handed out, the
+        # replies that were taken, and its ends
+        self.payloads: dict[Token, bytes] = {}
+        self.places: dict[Token, int] = {}
+        self.handed: Counter[Token] = Counter()
+        self.last: dict[Flow, int] = {}
+        self.replies: dict[Token, list[bytes]] = defaultdict(list)
+        self.ends: Counter[tuple[Token, int]] = Counter()
+        self.tokens: dict[int, list[Token]] = {2: [], 3: []}
+        self.totals: Counter[str] = Counter()
+
+    def after(self, me: int) -> None:
+        """What leaves goes on the links; what was told is taken, sooner or later."""
+        pair, chance = self.pairs[me], self.chance
+        for frame in pair.frames():
+            for _ in range(0 if chance.random() < self.loss else chance.choice([1, 1, 1, 2])):
+                delay = chance.randrange(WORLD_CHARGE) if chance.random() < 0.3 else 5
+                heapq.heappush(self.links, (self.at + delay, next(self.count), frame.to, me, frame.octets))
+        if chance.random() < 0.8:
+            for it in pair.taken():
+                self.told(me, it)
+        holds(all(it.deadline > pair.model.now for it in pair.model.waiting.values()), "a deadline has passed")
+
+    def told(self, me: int, it: tuple[object, ...]) -> None:
+        if it[0] == "request":
+            token = it[1]
+            holds(self.payloads.get(token) == it[2], "a request that no call made")
+            self.handed[token] += 1
+            holds(self.handed[token] == 1, "handed out twice")
+            holds(self.last.get(token.flow, -1) < self.places[token], "not in the order of the calls")
+            self.last[token.flow] = self.places[token]
+            self.tokens[me].append(token)
+            self.totals["handed out"] += 1
+            return
+        token = self.names[me, it[1]]
+        self.ends[token] += 1
+        holds(self.ends[token] == 1, "a call has two ends")
+        self.totals[str(it[0] if it[0] == "answered" else it[2])] += 1
+        if it[0] == "answered":
+            holds(self.replies[token] == [it[2]], "another answer")
+            # its request may not be taken yet
+            holds(self.handed[token] <= 1, "handed out twice")
+
+    def event(self) -> None:
+        chance, what = self.chance, self.chance.random()
+        if what < 0.1:
+            self.call(chance.choice(WORLD_FLOWS))
+        elif what < 0.2:
+            self.reply(chance.choice((2, 3)))
+        elif what < 0.205:
+            self.restart(chance.choice((1, 2, 3)))
+        elif what < 0.21:
+            me = chance.choice((1, 2, 3))
+            life = next(self.lives[me])
+            self.pairs[me].asked("raise_life", life)
+        elif what < 0.75 and self.links:
+            due, _, to, link, octets = heapq.heappop(self.links)
+            self.at = max(self.at, due)
+            self.pairs[to].asked("arrive", self.at, (link, octets, 0))
+            self.after(to)
+        else:
+            self.pass_time()
+
+    def pass_time(self) -> None:
+        """To the next wake, or a little, but not beyond what is due on a link."""
+        wakes = [it.model.wake for it in self.pairs.values() if it.model.wake is not None]
+        to = min(wakes) if wakes and self.chance.random() < 0.7 else self.at + self.chance.choice([1, 10, 300])
+        self.at = max(self.at, min([to, *(it[0] for it in self.links[:1])]))
+        me = self.chance.choice((1, 2, 3))
+        for me in (me, *(it for it in self.pairs if it != me and self.pairs[it].model.wake is not None and self.pairs[it].model.wake <= self.at)):
+            self.pairs[me].asked("tick", self.at)
+            self.after(me)
+
+    def call(self, flow: Flow) -> None:
+        pair, chance = self.pairs[flow.source], self.chance
+        payload = b"%d" % next(self.words) + bytes(chance.choice([0, 0, 5, 20]))
+        status = pair.asked("call", self.at, flow, payload, chance.choice([1, 100, 900, 3000, 3000]))
+        self.totals[" ".join(str(it) for it in status[:2] if not isinstance(it, int))] += 1
+        if status[0] == "made":
+            token = Token(flow, status[1])
+            self.names[flow.source, status[1]] = token
+            self.payloads[token], self.places[token] = payload, len(self.places)
+        self.after(flow.source)
+
+    def reply(self, me: int) -> None:
+        if self.tokens[me]:
+            token = self.tokens[me][-1] if self.chance.random() < 0.6 else self.chance.choice(self.tokens[me])
+            if self.chance.random() < 0.05:
+                self.pairs[me].asked("forget", self.at, token)
+            else:
+                payload = b"answer %d to " % next(self.words) + self.payloads[token][:4]
+                status = self.pairs[me].asked("reply", self.at, token, payload)
+                self.totals[f"reply {status[0]}"] += 1
+                if status[0] == "done":
+                    self.replies[token].append(payload)
+                    holds(len(self.replies[token]) == 1, "two replies for a token")
+            self.after(me)
+
+    def restart(self, me: int) -> None:
+        pair = self.pairs[me]
+        for it in pair.taken():
+            self.told(me, it)
+        pair.asked("close", self.at)
+        for it in pair.taken():
+            self.told(me, it)
+        pair.model.station.node.close()
+        self.pairs[me] = Pair(self, me, True)
+        self.totals["restarts"] += 1
+
+    def go(self) -> None:
+        for _ in range(self.chance.choice([200, 600])):
+            self.event()
+        for pair in self.pairs.values():
+            for name in pair.model.counts:
+                self.totals[name] += pair.model.counts[name]
+            pair.model.station.node.close()
+            pair.other.close(self.at)
+
+
+def world(count: int, first: int) -> bool:
+    totals: Counter[str] = Counter()
+    for seed in range(first, first + count):
+        run = World(seed)
+        try:
+            run.go()
+        except Broken as why:
+            print(f"run {seed} over the library fails: {why}")
+            return False
+        totals += run.totals
+    print(f"{count} runs over the library hold, and examples/bank/service.py tells the same: " + ", ".join(f"{name} {it}" for name, it in sorted(totals.items())), flush=True)
+    return totals["strange"] + totals["reused"] == 0 and all(totals[it] for it in ("answered", "given up", "patience", "closed", "reply gone", "reply full", "old", "late", "cut"))
