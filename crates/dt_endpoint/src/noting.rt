@@ -1,9 +1,10 @@
 //! What is kept of a report.
 ghost use Rattle.std.specs.Prelude.{◌≡◌};
 ghost use Rattle.dt_reports.specs.Told.{told};
-ghost use Rattle.dt_endpoint.specs.Hearing.{hears, kept};
+ghost use Rattle.dt_reports.specs.Matters.{matter_seen};
+ghost use Rattle.dt_endpoint.specs.Hearing.{hears, hears_by, kept};
 
-use dt_reports::{Refusal, Report};
+use dt_reports::{Matter, Refusal, Report};
 
 /// What the station answered to the call, as far as it was told.
 #[derive(Clone, Copy, Debug, PartialEq, Eq)]
@@ -31,11 +32,18 @@ pub enum Heard {
 pub fn heard_after(report: &Report<'_>, before: Heard) -> Heard
     ensures { result ≡ hears (told report.now) before }
 {
-    match *report {
-        Report::Took { .. } => Heard::Took,
-        Report::Refused { fault, .. } => Heard::Refused { fault },
-        Report::Nothing { .. } => Heard::NoPiece,
-        Report::Read {
+    heard_by(report.matter(), before)
+}
+
+/// What is heard after this was said.
+fn heard_by(matter: Matter<'_>, before: Heard) -> Heard
+    ensures { result ≡ hears_by (matter_seen matter.entry) before }
+{
+    match matter {
+        Matter::Taken { .. } => Heard::Took,
+        Matter::Refused { fault, .. } => Heard::Refused { fault },
+        Matter::NothingRead { .. } => Heard::NoPiece,
+        Matter::ReadOut {
             run,
             begin,
             end,
@@ -47,7 +55,16 @@ pub fn heard_after(report: &Report<'_>, before: Heard) -> Heard
             begin,
             end,
         },
-        _ => before,
+        Matter::Transmitted { .. }
+        | Matter::Retransmitted { .. }
+        | Matter::GivenUp { .. }
+        | Matter::Acknowledged { .. }
+        | Matter::Accepted { .. }
+        | Matter::Replied { .. }
+        | Matter::Dropped { .. }
+        | Matter::Left { .. }
+        | Matter::Begun { .. }
+        | Matter::Neither => before,
     }
 }
 
