@@ -1,7 +1,8 @@
 -- What an endpoint counts: datagrams, frames, and octets by what is told of them. No count passes 2^64 - 1.
 use Rattle.std.specs.Prelude.{ℕ, ◌+◌, ◌-◌, ◌^◌, min, List, [], ◌∷◌, length}
 use Rattle.dt_reports.specs.Told.{Told}
-use Rattle.dt_reports.specs.declared.reports.Report.TheVariants as report
+use Rattle.dt_reports.specs.Matters as matter
+use Rattle.dt_reports.specs.Matters.{Matter, matter_of}
 use Rattle.dt_world_model.specs.Station.{Arrive, Event, Read, Send, Tick}
 use Rattle.dt_endpoint.specs.declared.counts.Counts.{Counts}
 use Rattle.dt_endpoint.specs.declared.counts.Octets.{Octets}
@@ -17,14 +18,25 @@ no_octets = record { taken = 0; settled = 0; uncertain = 0; accepted = 0; read =
 abbrev pub no_counts : Counts
 no_counts = record { came = 0; refused = 0; left = 0; octets = no_octets }
 
--- OCTETS, by a report. All but five reports tell of none
+-- OCTETS, by a report
+abbrev pub octets_by : Matter → Octets → Octets
+octets_by (matter.Taken f count) o = record o { taken = counted count o.taken }
+octets_by (matter.Acknowledged f count window) o = record o { settled = counted count o.settled }
+octets_by (matter.GivenUp f count) o = record o { uncertain = counted count o.uncertain }
+octets_by (matter.Accepted f number count run) o = record o { accepted = counted count o.accepted }
+octets_by (matter.ReadOut f run begin end octets) o = record o { read = counted (length octets) o.read }
+octets_by (matter.Refused f fault) o = o
+octets_by (matter.Transmitted f number count) o = o
+octets_by (matter.Retransmitted f) o = o
+octets_by (matter.Replied f number) o = o
+octets_by (matter.Dropped f) o = o
+octets_by (matter.NothingRead f) o = o
+octets_by (matter.Left link life) o = o
+octets_by (matter.Begun life) o = o
+octets_by matter.Neither o = o
+
 abbrev pub octets_told : Told → Octets → Octets
-octets_told (report.Took f count) o = record o { taken = counted count o.taken }
-octets_told (report.Settled f count window) o = record o { settled = counted count o.settled }
-octets_told (report.Uncertain f count) o = record o { uncertain = counted count o.uncertain }
-octets_told (report.Accepted f number size run) o = record o { accepted = counted size o.accepted }
-octets_told (report.Read f run begin end octets) o = record o { read = counted (length octets.now) o.read }
-octets_told other o = o
+octets_told told o = octets_by (matter_of told) o
 
 -- WHAT AN ACT ADDS: a report its octets, and what is handed out one frame
 abbrev pub counts_act : Act → Counts → Counts

@@ -1,9 +1,10 @@
 //! What an endpoint counts.
 ghost use Rattle.std.specs.Prelude.{◌≡◌};
+ghost use Rattle.dt_reports.specs.Matters.{matter_seen};
 ghost use Rattle.dt_reports.specs.Told.{told};
-ghost use Rattle.dt_endpoint.specs.Counts.{counted, no_counts, no_octets, octets_told};
+ghost use Rattle.dt_endpoint.specs.Counts.{counted, no_counts, no_octets, octets_by, octets_told};
 
-use dt_reports::Report;
+use dt_reports::{Matter, Report};
 
 /// Octets by what was told of them, since the endpoint opened. Each number stays at 2^64 - 1 once it is
 /// there.
@@ -39,17 +40,34 @@ impl Octets {
     pub(crate) fn note(&mut self, report: &Report<'_>)
         ensures { self.new ≡ octets_told (told report.now) self.old }
     {
-        match *report {
-            Report::Took { count, .. } => self.taken = more(self.taken, u64::from(count)),
-            Report::Settled { count, .. } => self.settled = more(self.settled, u64::from(count)),
-            Report::Uncertain { count, .. } => {
+        self.count(report.matter())
+    }
+
+    /// The octets of which this says something are counted.
+    fn count(&mut self, matter: Matter<'_>)
+        ensures { self.new ≡ octets_by (matter_seen matter.entry) self.old }
+    {
+        match matter {
+            Matter::Taken { count, .. } => self.taken = more(self.taken, u64::from(count)),
+            Matter::Acknowledged { count, .. } => {
+                self.settled = more(self.settled, u64::from(count))
+            }
+            Matter::GivenUp { count, .. } => {
                 self.uncertain = more(self.uncertain, u64::from(count))
             }
-            Report::Accepted { length, .. } => {
-                self.accepted = more(self.accepted, u64::from(length))
+            Matter::Accepted { count, .. } => {
+                self.accepted = more(self.accepted, u64::from(count))
             }
-            Report::Read { octets, .. } => self.read = more(self.read, octets.len() as u64),
-            _ => {}
+            Matter::ReadOut { octets, .. } => self.read = more(self.read, octets.len() as u64),
+            Matter::Refused { .. }
+            | Matter::Transmitted { .. }
+            | Matter::Retransmitted { .. }
+            | Matter::Replied { .. }
+            | Matter::Dropped { .. }
+            | Matter::NothingRead { .. }
+            | Matter::Left { .. }
+            | Matter::Begun { .. }
+            | Matter::Neither => {}
         }
     }
 }
