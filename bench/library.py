@@ -8,7 +8,8 @@ taking turns, N runs (3) each:
 - answers: requests of 100 octets, one after another for S seconds (3), each answered by 100 octets: how many a second,
   and the microseconds of processor that one takes at both ends, system calls and all;
 - 64 KiB: messages of 65,536 octets, one after another, each answered by 100 octets: how many a second, of 50 the median
-  time.
+  time, and how many datagrams a message and its answer take, acknowledgements too: of the runs the least, since all that
+  the machine sends meanwhile is counted.
 
 UDP asks again after 100 ms where nothing comes, and has no messages above a datagram; `same` is UDP with the very
 datagrams that two nodes exchange, acknowledgements too, and without what makes them reliable. Then, in one thread with no
@@ -64,6 +65,12 @@ def asked(program: str, what: str, count: int, octets: int, seconds: float) -> t
     return done, used.ru_utime + used.ru_stime + other.ru_utime + other.ru_stime
 
 
+def datagrams() -> int:
+    """How many datagrams this machine has sent."""
+    names, counts = [it.split() for it in pathlib.Path("/proc/net/snmp").read_text().splitlines() if it.startswith("Udp:")]
+    return int(counts[names.index("OutDatagrams")])
+
+
 def numbers(found: list[float]) -> str:
     return " ".join(f"{it:,.0f}" if it >= 100 else f"{it:.1f}" for it in found)
 
@@ -86,13 +93,17 @@ def answers(programs: dict[str, str], runs: int, seconds: float) -> dict[str, tu
 def messages(programs: dict[str, str], runs: int) -> dict[str, float]:
     """The median seconds of a message of each."""
     times: dict[str, list[float]] = {name: [] for name in programs if name not in ("UDP", "same")}
+    sent: dict[str, list[float]] = {name: [] for name in times}
     for _ in range(runs):
         for name in times:
+            before = datagrams()
             done, _ = asked(programs[name], "message", MESSAGES, LARGE, 20)
             if len(done) == MESSAGES:
                 times[name].append(statistics.median(it for _, it in done))
+                sent[name].append((datagrams() - before) / MESSAGES)
     for name, found in times.items():
-        print(f"64 KiB {name}: {numbers([1 / it for it in found])} a second; {numbers([1e6 * it for it in found])} us each", flush=True)
+        least = f"; {min(sent[name]):.1f} datagrams" if sent[name] else ""
+        print(f"64 KiB {name}: {numbers([1 / it for it in found])} a second; {numbers([1e6 * it for it in found])} us each{least}", flush=True)
     return {name: statistics.median(found or [0]) for name, found in times.items()}
 
 

@@ -11,3 +11,4 @@ pub mod SendLemmas
 pub mod Choices
 pub mod SenderLemmas
 pub mod GramLemmas
+pub mod Copies

@@ -1,8 +1,11 @@
 -- The test of the table computes.
-use Rattle.std.proofs.Common.{◌≡◌, true}
+use Rattle.std.proofs.Common.{◌≡◌, true, ap}
 use Rattle.dt_cases.specs.Tables.{is_covered}
+use Rattle.dt_cases.proofs.Covered.{each_from_covered}
 use Rattle.dt_recv.proofs.cases.cases.Goals as goal
 
-pub prove-unreachable-requires : goal.prove-unreachable-requires
+pub returns-clause-covered : goal.returns-clause-covered
 unfolding is_covered
-prove-unreachable-requires c = let h : c.covers.result ≡ true = c.covers.ensures.test in cc
+returns-clause-covered c =
+    let covered : is_covered c.table.result 32 ≡ true = ap (λ rows. is_covered rows 32) c.table.ensures in
+    each_from_covered c.table.result 32 covered
