@@ -32,3 +32,4 @@ pub mod Lifting
 pub mod Reported
 pub mod Adding
 pub mod Counted
+pub mod Brought

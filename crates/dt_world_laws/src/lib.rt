@@ -29,7 +29,7 @@ ghost use Rattle.dt_world_model.specs.Setup.{Setup, new_world};
 ghost use Rattle.dt_world_model.specs.WorldStep.{Arrives, Stepped, WorldEvent, copy_at, first_refusal, link_for, noted_at, occasion, refusals, world_step};
 ghost use Rattle.dt_world_model.specs.WorldFacts.{CanHappen, IsPossible, SafeLedgers, WorldFacts};
 
-pub use meeting::numbers_are_in_the_order_of_places;
+pub use meeting::{numbers_are_in_the_order_of_places, packets_bring_octets_that_were_taken};
 pub use reports::{
     ledgers_follow_the_small_steps, report_changes_one_flow, tag_is_place_and_birth,
 };
