@@ -33,3 +33,4 @@ pub mod Reported
 pub mod Adding
 pub mod Counted
 pub mod Brought
+pub mod Taking
