@@ -12,7 +12,7 @@ use Rattle.dt_calls.specs.declared.world_calls.Parts.{Parts}
 use Rattle.dt_calls.specs.CallOutcomes.{IsNew}
 use Rattle.dt_calls.specs.Flows.{flows_seen}
 use Rattle.dt_calls.specs.Going.{IsSettled}
-use Rattle.dt_calls.specs.Parts.{calls_seen}
+use Rattle.dt_calls.specs.Parts.{AreShort, calls_seen}
 use Rattle.dt_calls.specs.Waiting.{Covers}
 use Rattle.dt_calls.proofs.Kept.{world_kept}
 
@@ -30,4 +30,4 @@ module _ {H : Type 0} (answer : List ℕ → List ℕ) (p : Parts H) (new : IsNe
   covered = subst (λ (ks : List ℕ). Covers 0 ks p.calls.items) (sym no_waiting) (subst (λ (cs : List Call). Covers 0 [] cs) (sym no_calls) tt)
 
   pub begins_settled : p.world.spent ≡ false → p.heard.failed ≡ false → IsSettled answer p
-  begins_settled unspent heard = record { whole = record { unspent = unspent; heard = heard; world = world_kept answer (calls_seen p) facts.course; waiting = covered }; facts = facts }
+  begins_settled unspent heard = record { whole = record { unspent = unspent; heard = heard; world = world_kept answer (calls_seen p) facts.course; waiting = covered; requests = subst AreShort (sym no_calls) tt }; facts = facts }

@@ -1,19 +1,17 @@
 -- Where one flow alone is due, its two sides are read and no others; where nothing is due, none.
-use Rattle.std.proofs.Common.{ℕ, ◌≡◌, ◌≤◌, ◌^◌, true, List, [], ◌∷◌, ◌++◌, fold, length, map, Result, Ok, Err, refl, ap, sym, subst, ◌∙◌, inl, inr, ◌⊎◌}
+use Rattle.std.proofs.Common.{ℕ, ◌≡◌, ◌≤◌, ◌^◌, true, List, length, Result, Ok, Err, refl, ap, sym, ◌∙◌, inl, inr, ◌⊎◌}
 use Rattle.std.proofs.lemmas.List.Elements.{All-nil}
 use Rattle.dt_units.specs.declared.endpoints.Flow.{Flow}
 use Rattle.dt_world_model.specs.Tables.{has_key, same_flow}
 use Rattle.dt_world_model.specs.World.{World}
 use Rattle.dt_calls_laws.specs.Leads as laws
 use Rattle.dt_calls_laws.specs.Leads.{Leads}
-use Rattle.dt_calls_laws.specs.Onward.{StaysQuiet}
 use Rattle.dt_calls_laws.specs.Told.{IsOn, IsTold}
 use Rattle.dt_calls_laws.proofs.SideReads.{side_leads}
 use Rattle.dt_calls_model.specs.CallFacts.{CourseFacts}
-use Rattle.dt_calls_model.specs.Calls.{Begun, Calls, Client, Server, Side, flow_read}
+use Rattle.dt_calls_model.specs.Calls.{Calls, Client, Server, Side, flow_read}
 use Rattle.dt_calls_model.specs.CallTold.{CallEntry}
 use Rattle.dt_calls_model.specs.Reads.{Course, read_all, read_side, read_sides}
-use Rattle.dt_calls.specs.declared.dues.Due.{Due}
 use Rattle.dt_calls.specs.declared.dues.Due.TheVariants as due
 use Rattle.dt_calls.specs.Courses.{GoesOn, HasGoneOn, HasStopped, from_calls}
 use Rattle.dt_calls.specs.Dues.{BothRest, IsDue}

@@ -1,5 +1,5 @@
 -- What holds of the calls of an input, after each of its lines, and of what is told of them.
-use Rattle.std.proofs.Common.{ℕ, ◌≡◌, ◌+◌, ◌<◌, ◌≤◌, ◌^◌, suc, List, [], ◌∷◌, ◌++◌, flat_map, length, reverse, take, drop, Option, Some, None, Result, Ok, Err, IfSome, refl, ap, sym, subst, ◌∙◌, arith, append-nil, append_assoc, length-append}
+use Rattle.std.proofs.Common.{ℕ, ◌≡◌, ◌+◌, ◌<◌, ◌≤◌, ◌^◌, suc, List, [], ◌∷◌, ◌++◌, length, reverse, take, drop, Option, Some, None, Result, Ok, Err, IfSome, refl, ap, sym, subst, ◌∙◌, arith, append-nil, append_assoc, length-append}
 use Rattle.std.proofs.lemmas.Grind.{flat_map-append}
 use Rattle.std.proofs.lemmas.List.{get_or_append_left, length-take, take-append-drop, take_at}
 use Rattle.std.proofs.lemmas.List.Elements.{All-append, All-nil, All-weaker}
@@ -37,7 +37,7 @@ use Rattle.dt_scenario.specs.Scenes.{Empty, Prepares, Runs, Scene, adds, by_para
 use Rattle.dt_scenario.proofs.Keeping.{read_line}
 use Rattle.dt_scenario.proofs.LineCounts.{lines_count}
 use Rattle.dt_calls.specs.CallAnswers.{AreCallsOf, Closed, Faulted, Last, TellsOwnAnswers, called_by, called_in, calls_of, first_called, octets_called, text_of_last}
-use Rattle.dt_calls.specs.CallInputs.{by_calls, calls_after_lines, calls_read, calls_text, does, simulates_calls}
+use Rattle.dt_calls.specs.CallInputs.{by_calls, calls_after_lines, calls_read, does, simulates_calls}
 use Rattle.dt_calls.specs.CallTexts.{call_text, entries_text}
 
 abbrev Payloads : Type 0

@@ -3,17 +3,16 @@ use Rattle.std.specs.Prelude.{◌&&◌}
 use Rattle.std.proofs.Common.{ℕ, zero, suc, ◌≡◌, Bool, true, false, if◌then◌else◌, List, [], ◌∷◌, ◌++◌, fold, length, map, Option, Some, None, refl, ap, sym, subst, ◌∙◌, append_assoc, append-nil}
 use Rattle.dt_units.specs.declared.endpoints.Flow.{Flow}
 use Rattle.dt_world_model.specs.WorldStep.{Reads}
-use Rattle.dt_world_model.specs.World.{World, view}
+use Rattle.dt_world_model.specs.World.{view}
 use Rattle.dt_calls_model.specs.declared.calls.CallState.{CallState}
 use Rattle.dt_calls_model.specs.declared.calls.CallState.TheVariants as state
-use Rattle.dt_calls_model.specs.declared.calls.Posted.{Posted}
-use Rattle.dt_calls_model.specs.Calls.{Begun, Calls, Client, Server, Side, begun_at, begun_of, call_at, flow_read, is_call, with_begun, with_sides}
+use Rattle.dt_calls_model.specs.Calls.{Calls, Client, Server, Side, begun_at, begun_of, call_at, flow_read, is_call, with_begun, with_sides}
 use Rattle.dt_calls_model.specs.CallTold.{CallEntry}
 use Rattle.dt_calls_model.specs.CallStep.{doubt_all, finish}
 use Rattle.dt_calls_model.specs.Heard.{piece_in}
 use Rattle.dt_calls_model.specs.Messages.{Piece, begun_with, carried_in, has_number, number_in, whole_with}
-use Rattle.dt_calls_model.specs.Reads.{Course, answered_if, happens, in_world, most_read, read_all, read_side, read_sides, read_times, serve_call, take_message, take_piece, take_read, take_whole}
-use Rattle.dt_calls.specs.Courses.{GoesOn, HasGoneOn, HasStopped, from_calls}
+use Rattle.dt_calls_model.specs.Reads.{Course, answered_if, happens, in_world, most_read, read_all, read_side, read_sides, read_times, take_message, take_piece, take_read, take_whole}
+use Rattle.dt_calls.specs.Courses.{HasGoneOn, HasStopped, from_calls}
 use Rattle.dt_calls.specs.Telling.{TellsCalls}
 
 abbrev pub at : List CallEntry → Calls → Course

@@ -1,16 +1,14 @@
 -- What is known of the flows with a call behind an event: which of them may have something to read.
-use Rattle.std.proofs.Common.{ℕ, ◌≡◌, ◌==◌, Bool, true, false, not, if◌then◌else◌, List, [], ◌∷◌, ◌++◌, map, Option, Some, None, refl, ap, sym, subst, ◌∙◌, inl, inr, ◌⊎◌}
+use Rattle.std.proofs.Common.{ℕ, ◌≡◌, Bool, true, false, if◌then◌else◌, List, [], ◌∷◌, map, Option, Some, None, refl, ap, sym, subst, ◌∙◌, inl, inr}
 use Rattle.std.specs.Prelude.{◌||◌, is_some}
 use Rattle.std.proofs.lemmas.Bool.{cases_Bool}
 use Rattle.dt_units.specs.declared.endpoints.Flow.{Flow}
 use Rattle.dt_units.specs.Flows.{IsFlow}
 use Rattle.dt_reports.specs.Entries.{Entry}
-use Rattle.dt_reports.specs.declared.faults.StepFault.{StepFault}
-use Rattle.dt_reports.specs.declared.faults.StepFault.TheVariants as fault
 use Rattle.dt_world_model.specs.Tables.{has_key, look, same_flow}
 use Rattle.dt_world_model.specs.World.{World}
 use Rattle.dt_world_model.specs.WorldFacts.{CanHappen}
-use Rattle.dt_world_model.specs.WorldStep.{Arrives, Loses, Passes, Reads, Restarts, Sends, Ticks, WorldEvent, first_refusal}
+use Rattle.dt_world_model.specs.WorldStep.{Arrives, Loses, Passes, Reads, Restarts, Sends, Ticks, WorldEvent}
 use Rattle.dt_world_model.proofs.Tables.{all_look, flow_is, flow_self}
 use Rattle.dt_calls_laws.specs.Grown.{IsNoSendOrRead}
 use Rattle.dt_calls_laws.specs.NoPass.{IsNoPass}

@@ -1,8 +1,7 @@
 -- An event whose lines tell no data of a flow gives and reads none of it: so what is unread of it stays, where the reader doesn't start again.
-use Rattle.std.proofs.Common.{ℕ, zero, suc, ◌+◌, ◌≡◌, ◌==◌, Bool, true, false, List, [], ◌∷◌, ◌++◌, drop, length, Option, Some, None, refl, ap, sym, subst, ◌∙◌, inl, inr, ◌⊎◌, append_assoc, append-nil}
+use Rattle.std.proofs.Common.{ℕ, ◌+◌, ◌≡◌, ◌==◌, Bool, true, false, List, [], ◌∷◌, ◌++◌, drop, length, Option, Some, None, refl, ap, sym, subst, ◌∙◌, inl, inr, ◌⊎◌, append_assoc, append-nil}
 use Rattle.std.specs.Prelude.{unwrap_or}
 use Rattle.std.proofs.lemmas.Bool.{cases_Bool}
-use Rattle.dt_items.specs.declared.item.Item.{Item}
 use Rattle.dt_units.specs.declared.endpoints.Flow.{Flow}
 use Rattle.dt_reports.specs.Entries.{Entry}
 use Rattle.dt_reports.specs.Told.{Told}
@@ -10,13 +9,13 @@ use Rattle.dt_reports.specs.declared.faults.StepFault.{StepFault}
 use Rattle.dt_reports.specs.declared.reports.Report.TheVariants as report
 use Rattle.dt_flow_model.specs.Frames.{Mark}
 use Rattle.dt_flow_model.specs.Ledger.{given_in, read_in}
-use Rattle.dt_world_model.specs.Host.{first_host, receiver_at}
+use Rattle.dt_world_model.specs.Host.{first_host}
 use Rattle.dt_world_model.specs.Ledgers.{Accepts, Change, Changes, Effect, FlowLedger, GivesUp, Leaves, Ledgers, Neither, Occasion, ReadsOut, Settles, Takes, Transmits, TransmitsAgain, effect_of, ledger_after, ledger_of, ledgers_after, ledgers_by}
 use Rattle.dt_world_model.specs.Relay.{new_relay}
 use Rattle.dt_world_model.specs.Script.{Script, Done, Tell, Ask, Hand, play}
 use Rattle.dt_world_model.specs.Station.{Event, Arrive, Read, Send, Tick, station_event, station_with}
 use Rattle.dt_world_model.specs.Tables.{look, same_flow, write}
-use Rattle.dt_world_model.specs.World.{Noted, Placed, World, note_copy, note_told, placed, view, world_handler, world_told}
+use Rattle.dt_world_model.specs.World.{Noted, Placed, World, note_copy, note_told, placed, world_handler, world_told}
 use Rattle.dt_world_model.specs.WorldFacts.{CanHappen, WorldFacts}
 use Rattle.dt_world_model.specs.WorldStep.{Arrives, Loses, Passes, Reads, Restarts, Sends, Ticks, WorldEvent, after_event, copy_at, event_at, first_refusal, link_for, noted_at, occasion, refusals, restart_at, step_unless, then_step}
 use Rattle.dt_world_model.proofs.Tables.{flow_is, look_write, look_write_other, nat_is, nat_self}

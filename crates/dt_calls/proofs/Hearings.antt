@@ -1,12 +1,11 @@
 -- What was heard of all lines of an event.
-use Rattle.std.proofs.Common.{◌≡◌, Bool, true, false, ◌||◌, List, [], ◌∷◌, ◌++◌, Option, Some, None, Result, Ok, Err, refl, ap, sym, subst, ◌∙◌}
-use Rattle.dt_units.specs.declared.endpoints.Flow.{Flow}
+use Rattle.std.proofs.Common.{◌≡◌, Bool, true, false, ◌||◌, List, [], ◌∷◌, Option, Some, None, Result, Ok, Err, refl, ap, sym, ◌∙◌}
 use Rattle.dt_reports.specs.Entries.{Entry}
 use Rattle.dt_reports.specs.declared.faults.StepFault.{StepFault}
 use Rattle.dt_reports.specs.declared.faults.StepFault.TheVariants as fault
 use Rattle.dt_world_model.specs.World.{World}
-use Rattle.dt_world_model.specs.WorldStep.{Refused, Stepped, WorldEvent, run, then_step, world_step}
-use Rattle.dt_world.specs.Outcomes.{Answers, FailsWith, IsDone, IsRefused}
+use Rattle.dt_world_model.specs.WorldStep.{Refused, Stepped, WorldEvent, then_step, world_step}
+use Rattle.dt_world.specs.Outcomes.{Answers, IsDone, IsRefused}
 use Rattle.dt_world.specs.Tellers.{TellsAll}
 use Rattle.dt_world.specs.Worlds.{WorldValue}
 use Rattle.dt_calls_model.specs.Heard.{ALoss, APiece, ARefusal, ATaking, AnAcceptance, Heard, NoMessage, heard, is_refusal, or_later, piece_in, tells_refusal}

@@ -28,3 +28,4 @@ pub mod Waiting
 pub mod DoubtWaiting
 pub mod WaitingLeft
 pub mod Ways
+pub mod Requests

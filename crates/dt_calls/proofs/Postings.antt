@@ -1,5 +1,5 @@
 -- A message that was handed in.
-use Rattle.std.proofs.Common.{◌≡◌, ℕ, Bool, true, false, if◌then◌else◌, List, length, refl, ap, sym, subst, ◌∙◌}
+use Rattle.std.proofs.Common.{◌≡◌, ℕ, Bool, true, false, if◌then◌else◌, List, length, refl, ap, sym, ◌∙◌}
 use Rattle.dt_units.specs.declared.endpoints.Flow.{Flow}
 use Rattle.dt_world_model.specs.Ledgers.{ledger_of}
 use Rattle.dt_world_model.specs.World.{World}

@@ -1,15 +1,13 @@
 -- What the code has behind a read of a side, and behind the message that it makes whole.
-use Rattle.std.proofs.Common.{ℕ, ◌≡◌, true, false, List, Option, Some, None, Result, Ok, Err, refl, ap, sym, subst, ◌∙◌}
+use Rattle.std.proofs.Common.{ℕ, ◌≡◌, true, false, List, Option, Some, None, Result, Err, refl, ap, sym, subst, ◌∙◌}
 use Rattle.std.specs.Prelude.{MatchOption, is_some}
 use Rattle.dt_units.specs.declared.endpoints.Flow.{Flow}
 use Rattle.dt_units.specs.Flows.{IsFlow}
-use Rattle.dt_reports.specs.Entries.{Entry}
 use Rattle.dt_world_model.specs.Tables.{has_key, same_flow}
 use Rattle.dt_world_model.specs.World.{World}
 use Rattle.dt_world_model.specs.WorldStep.{Reads}
 use Rattle.dt_world.specs.Worlds.{WorldValue}
 use Rattle.dt_calls_model.specs.declared.calls.Call.{Call}
-use Rattle.dt_calls_model.specs.Calls as model
 use Rattle.dt_calls_model.specs.Calls.{Begun, Calls, Side, flow_read}
 use Rattle.dt_calls_model.specs.CallTold.{CallEntry}
 use Rattle.dt_calls_model.specs.Heard.{piece_in}
@@ -19,11 +17,12 @@ use Rattle.dt_calls.specs.declared.world_calls.Parts.{Parts}
 use Rattle.dt_calls.specs.Courses.{GoesOn, HasGoneOn, HasStopped, from_calls}
 use Rattle.dt_calls.specs.Flows.{flows_seen}
 use Rattle.dt_calls.specs.Happening.{HasHappened}
-use Rattle.dt_calls.specs.Hearing.{HeardValue, heard_all, for_event}
+use Rattle.dt_calls.specs.Hearing.{HeardValue}
 use Rattle.dt_calls.specs.Waiting.{Covers}
-use Rattle.dt_calls.specs.Parts.{HasJoined, IsKeptWorld, calls_seen, keys_in}
+use Rattle.dt_calls.specs.Parts.{AreShort, HasJoined, IsKeptWorld, calls_seen, keys_in}
 use Rattle.dt_calls.proofs.FlowTables.{key_written, keys_seen, keys_written}
 use Rattle.dt_calls.proofs.Hearings.{piece_heard}
+use Rattle.dt_calls.proofs.Requests.{whole_short}
 use Rattle.dt_calls.proofs.Waiting.{whole_covers}
 use Rattle.dt_calls.proofs.Worlds.{happens_keeps}
 use Rattle.dt_calls.proofs.Readings.{ReadsOn, ends_here, has_joined, has_read, made_whole, piece_read}
@@ -116,3 +115,11 @@ module _ {L : Type 0} (tells : L → CallEntry → L → Type 0) (answer : List 
         let there : Covers 0 p.waiting.items next.calls.items = subst (λ (cs : List Call). Covers 0 p.waiting.items cs) (ap (λ (x : Calls). x.calls) (sym gone.calls)) (whole_covers answer p.waiting.items side f whole_is (from_calls e) here) in
         let kept : next.waiting.items ≡ p.waiting.items = ap (λ v. v.items) same ∙ ap (λ x. x.waiting.items) j.same in
         subst (λ (ks : List ℕ). Covers 0 ks next.calls.items) (sym kept) there
+
+    -- and the requests
+    pub still_short : AreShort p.calls.items → (m n : L) (next : Parts H)
+        → HasGoneOn tells (take_whole answer side f (made_whole tells answer side f j.piece (has_read tells answer side f d))) (has_joined tells answer side f j.piece (has_read tells answer side f d)) m n (calls_seen next) → AreShort next.calls.items
+    still_short h m n next gone =
+        let e = has_joined tells answer side f j.piece (has_read tells answer side f d) in
+        let here : AreShort e.calls = subst AreShort (ap (λ (x : Calls). x.calls) seen) h in
+        subst AreShort (ap (λ (x : Calls). x.calls) (sym gone.calls)) (whole_short answer side f (made_whole tells answer side f j.piece (has_read tells answer side f d)) (from_calls e) here)

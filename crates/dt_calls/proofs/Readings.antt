@@ -1,5 +1,5 @@
 -- A side is read until nothing is there: what was told so far, and what is still to be read.
-use Rattle.std.proofs.Common.{ℕ, zero, suc, ◌≡◌, ◌<◌, ◌≤◌, List, [], ◌∷◌, ◌++◌, length, Option, Some, None, refl, ap, sym, subst, ◌∙◌, arith, append_assoc, append-nil}
+use Rattle.std.proofs.Common.{ℕ, zero, suc, ◌≡◌, ◌<◌, List, [], ◌++◌, length, Option, Some, None, refl, ap, sym, subst, ◌∙◌, arith, append_assoc, append-nil}
 use Rattle.dt_units.specs.declared.endpoints.Flow.{Flow}
 use Rattle.dt_units.specs.Flows.{IsFlow}
 use Rattle.dt_world_model.specs.WorldStep.{Reads}
@@ -7,11 +7,11 @@ use Rattle.dt_calls_model.specs.Calls.{Calls, Client, Server, Side, begun_at, be
 use Rattle.dt_calls_model.specs.CallTold.{CallEntry}
 use Rattle.dt_calls_model.specs.Heard.{piece_in}
 use Rattle.dt_calls_model.specs.Messages.{Piece, begun_with, whole_with}
-use Rattle.dt_calls_model.specs.Reads.{Course, happens, in_world, most_read, read_side, read_times, take_piece, take_read, take_whole}
+use Rattle.dt_calls_model.specs.Reads.{Course, happens, in_world, most_read, read_side, read_times, take_read, take_whole}
 use Rattle.dt_calls.specs.Courses.{HasGoneOn, HasStopped, from_calls}
 use Rattle.dt_calls.specs.Parts.{IsKeptWorld}
 use Rattle.dt_calls.specs.Telling.{TellsCalls}
-use Rattle.dt_calls.proofs.Courses.{adds_times, adds_whole, at, behind, behind_behind, tells_then}
+use Rattle.dt_calls.proofs.Courses.{adds_times, at, behind, behind_behind, tells_then}
 use Rattle.dt_calls.proofs.Worlds.{Leaves, flow_back, happens_keeps, read_takes, unread_in, whole_leaves}
 
 -- what a side reads is a flow

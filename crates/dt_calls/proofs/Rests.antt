@@ -1,43 +1,34 @@
 -- A side at which nothing is unread and whose station rests need not be read. What leaves it so.
-use Rattle.std.proofs.Common.{ℕ, zero, suc, ◌+◌, ◌≡◌, ◌≢◌, ◌==◌, ◌<◌, ◌≤◌, Bool, true, false, not, if◌then◌else◌, List, [], ◌∷◌, length, drop, Option, Some, None, refl, ap, sym, subst, ◌∙◌, inl, inr, ◌⊎◌, arith}
-use Rattle.std.specs.Prelude.{is_some, unwrap_or}
+use Rattle.std.proofs.Common.{ℕ, ◌≡◌, ◌==◌, true, List, [], length, Option, Some, None, refl, ap, sym, subst, ◌∙◌, inl, inr}
+use Rattle.std.specs.Prelude.{unwrap_or}
 use Rattle.std.proofs.lemmas.Bool.{cases_Bool}
-use Rattle.dt_items.specs.declared.item.Item.{Item}
-use Rattle.dt_items.specs.Unread.{first_piece}
 use Rattle.dt_units.specs.declared.endpoints.Flow.{Flow}
 use Rattle.dt_units.specs.Flows.{IsFlow}
 use Rattle.dt_reports.specs.Entries.{Entry}
 use Rattle.dt_reports.specs.declared.faults.StepFault.{StepFault}
-use Rattle.dt_reports.specs.declared.reports.Report.TheVariants as report
-use Rattle.dt_flow_model.specs.Frames.{Mark}
-use Rattle.dt_world_model.specs.Host.{first_host, receiver_at, restarted_host}
+use Rattle.dt_world_model.specs.Host.{first_host}
 use Rattle.dt_world_model.specs.Relay.{new_relay}
-use Rattle.dt_world_model.specs.Script.{play}
-use Rattle.dt_world_model.specs.Station.{Event, Arrive, Read, Send, Tick, station_event, station_with}
-use Rattle.dt_world_model.specs.Tables.{has_key, look, same_flow, write}
-use Rattle.dt_world_model.specs.World.{Placed, World, view, world_handler}
-use Rattle.dt_world_model.specs.WorldFacts.{CanHappen, IsPlaced}
-use Rattle.dt_world_model.specs.WorldStep.{Arrives, Loses, Passes, Reads, Restarts, Sends, Ticks, WorldEvent, after_event, copy_at, event_at, first_refusal, is_own, lacks_station, link_for, noted_at, occasion, refusals, restart_at, restarted, step_unless, then_step}
-use Rattle.dt_world_model.proofs.Tables.{flow_is, look_write, look_write_other, nat_is, nat_self}
+use Rattle.dt_world_model.specs.Station.{Read, station_with}
+use Rattle.dt_world_model.specs.Tables.{look, write}
+use Rattle.dt_world_model.specs.World.{Placed, World}
+use Rattle.dt_world_model.specs.WorldFacts.{CanHappen}
+use Rattle.dt_world_model.specs.WorldStep.{Reads, Restarts, Sends, WorldEvent, after_event, event_at, first_refusal, refusals, restart_at, restarted, step_unless, then_step}
+use Rattle.dt_world_model.proofs.Tables.{look_write, look_write_other, nat_is, nat_self}
 use Rattle.dt_calls_laws.specs.HasRead.{unread_at}
 use Rattle.dt_calls_laws.specs.NoPass.{IsNoPass}
-use Rattle.dt_calls_laws.specs.ReadTold.{piece_of}
-use Rattle.dt_calls_laws.proofs.Ended.{rests_after}
-use Rattle.dt_calls_laws.proofs.Reading.{read_tells_the_next}
 use Rattle.dt_calls_laws.proofs.StayingAtRest.{stays_at_rest}
-use Rattle.dt_calls_laws.proofs.Takings.{station_has_read}
 use Rattle.dt_calls_laws.proofs.Unread.{read_changes_nothing}
 use Rattle.dt_calls_model.specs.Calls.{Calls, Side, flow_read}
 use Rattle.dt_calls_model.specs.CallTold.{CallEntry}
 use Rattle.dt_calls_model.specs.Heard.{piece_in}
 use Rattle.dt_calls_model.specs.Messages.{Piece}
-use Rattle.dt_calls_model.specs.Reads.{Course, happens, in_world, most_read, post, read_side, read_times, take_read}
-use Rattle.dt_calls_model.specs.Rests.{Rests, RestsIn}
+use Rattle.dt_calls_model.specs.Reads.{happens, in_world, most_read, post, read_side, read_times, take_read}
+use Rattle.dt_calls_model.specs.Rests.{RestsIn}
 use Rattle.dt_calls.specs.Parts.{IsKeptWorld}
 use Rattle.dt_calls.specs.Resting.{RestsAt}
 use Rattle.dt_calls.proofs.Courses.{at}
 use Rattle.dt_calls.proofs.Givings.{AllGiveNone, IsNoRestart, still_unread}
-use Rattle.dt_calls.proofs.Worlds.{sent_unless, there_is, unread_in}
+use Rattle.dt_calls.proofs.Worlds.{sent_unless, unread_in}
 
 -- A READ THERE changes nothing
 module _ (w : World) (g : Flow) (rest : RestsAt w g) where

@@ -1,5 +1,5 @@
 -- The sides of all flows are read one after another.
-use Rattle.std.proofs.Common.{ℕ, zero, suc, ◌+◌, ◌≡◌, ◌<◌, ◌≤◌, List, [], ◌∷◌, ◌++◌, fold, length, map, drop, Option, Some, None, refl, ap, sym, subst, ◌∙◌, arith, append_assoc, append-nil, add-one}
+use Rattle.std.proofs.Common.{ℕ, zero, suc, ◌+◌, ◌≡◌, ◌≤◌, List, [], ◌∷◌, ◌++◌, fold, length, drop, Some, refl, ap, sym, subst, ◌∙◌, arith, append_assoc, append-nil, add-one}
 use Rattle.std.specs.Prelude.{slice_get}
 use Rattle.dt_units.specs.declared.endpoints.Flow.{Flow}
 use Rattle.dt_calls_model.specs.Calls.{Calls, Side}

@@ -1,9 +1,8 @@
 -- Sides that rest are passed over.
-use Rattle.std.proofs.Common.{ℕ, zero, suc, ◌+◌, ◌≡◌, ◌≤◌, Bool, true, false, if◌then◌else◌, List, [], ◌∷◌, ◌++◌, fold, length, map, take, drop, Option, Some, None, refl, ap, sym, subst, ◌∙◌, inl, inr, ◌⊎◌, arith, add-one}
-use Rattle.std.specs.Prelude.{is_some}
+use Rattle.std.proofs.Common.{ℕ, ◌≡◌, Bool, true, false, List, [], ◌∷◌, ◌++◌, fold, refl, ap, sym, subst, ◌∙◌, inl, inr, ◌⊎◌}
 use Rattle.std.proofs.lemmas.Bool.{cases_Bool}
 use Rattle.dt_units.specs.declared.endpoints.Flow.{Flow}
-use Rattle.dt_world_model.specs.Tables.{has_key, look, same_flow}
+use Rattle.dt_world_model.specs.Tables.{has_key, same_flow}
 use Rattle.dt_world_model.specs.World.{World}
 use Rattle.dt_world_model.proofs.Tables.{flow_is, flow_self}
 use Rattle.dt_calls_model.specs.Calls.{Begun, Calls, Side, flow_read, with_flow}

@@ -1,5 +1,5 @@
 -- Where only numbers of calls that wait are kept, they are all of these.
-use Rattle.std.proofs.Common.{ℕ, zero, suc, ◌+◌, ◌≡◌, ◌<◌, ◌≤◌, Bool, true, false, if◌then◌else◌, List, [], ◌∷◌, ◌++◌, drop, get_or, length, set, take, refl, ap, sym, subst, ◌∙◌, inl, inr, arith, add-one, append-nil}
+use Rattle.std.proofs.Common.{ℕ, suc, ◌+◌, ◌≡◌, ◌<◌, ◌≤◌, Bool, true, false, if◌then◌else◌, List, [], ◌∷◌, ◌++◌, drop, get_or, length, set, take, refl, ap, sym, subst, ◌∙◌, inl, inr, arith, add-one, append-nil}
 use Rattle.std.proofs.lemmas.List.{get_or_default}
 use Rattle.dt_calls_model.specs.declared.calls.Call.{Call}
 use Rattle.dt_calls_model.specs.Calls.{call_in, no_call}

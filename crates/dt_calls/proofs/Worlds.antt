@@ -9,14 +9,13 @@ use Rattle.dt_units.specs.declared.endpoints.Flow.{Flow}
 use Rattle.dt_units.specs.Flows.{IsFlow}
 use Rattle.dt_units.specs.Limits.{IsWithinLimits}
 use Rattle.dt_reports.specs.declared.faults.StepFault.{StepFault}
-use Rattle.dt_flow_model.specs.Frames.{Mark}
-use Rattle.dt_world_model.specs.Host.{first_host, receiver_at}
+use Rattle.dt_world_model.specs.Host.{first_host}
 use Rattle.dt_world_model.specs.Relay.{new_relay}
 use Rattle.dt_world_model.specs.Script.{play}
-use Rattle.dt_world_model.specs.Station.{Event, Read, Send, Station, station_event, station_with}
+use Rattle.dt_world_model.specs.Station.{Read, Send, station_event, station_with}
 use Rattle.dt_world_model.specs.Tables.{look, write}
 use Rattle.dt_world_model.specs.World.{Placed, World, view, world_handler}
-use Rattle.dt_world_model.specs.WorldFacts.{CanHappen, IsPlaced, WorldFacts}
+use Rattle.dt_world_model.specs.WorldFacts.{CanHappen, IsPlaced}
 use Rattle.dt_world_model.specs.WorldStep.{Reads, Sends, WorldEvent, after_event, event_at, first_refusal, noted_at, occasion, refusals, step_unless, then_step}
 use Rattle.dt_world_model.proofs.Tables.{all_look, look_write, look_write_other, nat_is, nat_self}
 use Rattle.dt_world_laws.proofs.Running.{run_goes}

@@ -1,7 +1,5 @@
 -- What a step of calls answers, tells and leaves.
-use Rattle.std.specs.Prelude.{ℕ, ◌≡◌, ◌<◌, ◌≤◌, true, false, Bool, List, ◌++◌, length, Result, Ok, Err}
-use Rattle.dt_units.specs.Flows.{IsFlow}
-use Rattle.dt_units.specs.declared.endpoints.Flow.{Flow}
+use Rattle.std.specs.Prelude.{ℕ, ◌≡◌, ◌≤◌, true, false, Bool, List, ◌++◌, length, Result, Ok, Err}
 use Rattle.dt_units.specs.Limits.{IsWithinLimits}
 use Rattle.dt_reports.specs.declared.faults.StepFault.{StepFault}
 use Rattle.dt_reports.specs.declared.faults.StepFault.TheVariants as fault

@@ -1,13 +1,11 @@
 -- Which sides must be read behind an event, by what was heard of it; and what is known of the others.
-use Rattle.std.specs.Prelude.{ℕ, ◌≡◌, ◌⊎◌, ◌==◌, Bool, true, false, ◌||◌, if◌then◌else◌, is_some, List, [], ◌∷◌, Option, Some, None}
-use Rattle.dt_items.specs.declared.item.Item.{Item}
+use Rattle.std.specs.Prelude.{◌≡◌, ◌⊎◌, Bool, true, false, ◌||◌, if◌then◌else◌, is_some, List, Option, Some, None}
 use Rattle.dt_units.specs.declared.endpoints.Flow.{Flow}
 use Rattle.dt_world_model.specs.Tables.{has_key, same_flow}
-use Rattle.dt_world_model.specs.World.{World, view}
+use Rattle.dt_world_model.specs.World.{World}
 use Rattle.dt_world_model.specs.WorldStep.{Arrives, Loses, Passes, Reads, Restarts, Sends, Ticks, WorldEvent}
 use Rattle.dt_calls_model.specs.Calls.{Begun, Side, flow_read}
 use Rattle.dt_calls_model.specs.Messages.{reversed}
-use Rattle.dt_calls_model.specs.Rests.{RestsIn}
 use Rattle.dt_calls.specs.declared.dues.Due.{Due}
 use Rattle.dt_calls.specs.declared.dues.Due.TheVariants as due
 use Rattle.dt_calls.specs.Hearing.{HeardValue}

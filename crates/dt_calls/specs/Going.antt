@@ -10,7 +10,6 @@ use Rattle.dt_calls_model.specs.Promises.{AreServedOnce}
 use Rattle.dt_calls_model.specs.Reads.{Course}
 use Rattle.dt_calls.specs.declared.world_calls.Parts.{Parts}
 use Rattle.dt_calls.specs.declared.dues.Due.{Due}
-use Rattle.dt_calls.specs.declared.dues.Due.TheVariants as due
 use Rattle.dt_calls.specs.Dues.{IsDue}
 use Rattle.dt_calls.specs.Flows.{flows_seen}
 use Rattle.dt_calls.specs.Parts.{IsWhole, calls_seen}

@@ -1,15 +1,16 @@
 -- What the code keeps of calls, as the definitions have it.
-use Rattle.std.specs.Prelude.{ℕ, ◌≡◌, false, List, map, Option, Some, Result, Ok, Err}
+use Rattle.std.specs.Prelude.{ℕ, ◌≡◌, ◌≤◌, false, List, [], ◌∷◌, map, Option, Some, Result, Ok, Err}
 use Rattle.dt_units.specs.declared.endpoints.Flow.{Flow}
 use Rattle.dt_units.specs.Limits.{IsWithinLimits}
 use Rattle.dt_world_model.specs.World.{World}
 use Rattle.dt_world_model.specs.WorldFacts.{WorldFacts}
+use Rattle.dt_calls_model.specs.declared.calls.Call.{Call}
 use Rattle.dt_calls_model.specs.declared.calls.Posted.{Posted}
+use Rattle.dt_calls_model.specs.declared.calls.Posted.TheVariants.{Refused, Taken}
 use Rattle.dt_calls_model.specs.Messages.{Piece, begun_with, whole_with}
 use Rattle.dt_calls_model.specs.Calls as model
 use Rattle.dt_calls_model.specs.Calls.{Calls}
 use Rattle.dt_calls_model.specs.Reads as reads
-use Rattle.dt_calls.specs.declared.flow_sides.FlowSides.{FlowSides}
 use Rattle.dt_calls.specs.declared.world_calls.Parts.{Parts}
 use Rattle.dt_calls.specs.Flows.{flows_seen}
 use Rattle.dt_calls.specs.Waiting.{Covers}
@@ -18,6 +19,15 @@ use Rattle.dt_calls.specs.Waiting.{Covers}
 pub record IsKeptWorld (w : World) : Type 0 where
   pub limits : IsWithinLimits w.params
   pub facts : WorldFacts w
+
+-- A REQUEST that was taken is a message of 65,536 octets at most: the number of its call in eight of them, and a payload that a handler takes.
+abbrev pub IsShort : Posted → Type 0
+IsShort (Taken place count) = count ≤ 65536
+IsShort Refused = Unit {0}
+
+abbrev pub AreShort : List Call → Type 0
+AreShort [] = Unit {0}
+AreShort (call ∷ calls) = IsShort call.request × AreShort calls
 
 -- the flows, in the order of first calls
 abbrev pub keys_in : {A : Type 0} → List (Flow × A) → List Flow
@@ -33,6 +43,7 @@ module _ {H : Type 0} where
     pub heard : p.heard.failed ≡ false
     pub world : IsKeptWorld p.world.state
     pub waiting : Covers 0 p.waiting.items p.calls.items
+    pub requests : AreShort p.calls.items
 
   -- A MESSAGE WAS HANDED IN: only the world and what was heard of it have changed. Where memory was wanted the calls are what they were.
   pub record HasPosted (flow : Flow) (p : Parts H) (posted : Posted) (after : Parts H) : Type 0 where

@@ -1,7 +1,6 @@
 -- Where a read tells nothing and changes nothing: nothing is unread, and the station rests.
-use Rattle.std.specs.Prelude.{ℕ, ◌≡◌, ◌==◌, true, List, [], ◌∷◌}
+use Rattle.std.specs.Prelude.{◌≡◌, List, [], ◌∷◌}
 use Rattle.dt_units.specs.declared.endpoints.Flow.{Flow}
-use Rattle.dt_world_model.specs.Tables.{has_key}
 use Rattle.dt_world_model.specs.World.{World, view}
 use Rattle.dt_calls_model.specs.Calls.{Side, flow_read}
 use Rattle.dt_calls_model.specs.Rests.{RestsIn}

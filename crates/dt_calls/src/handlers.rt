@@ -3,9 +3,6 @@ ghost use Rattle.std.specs.Prelude.{ℕ, ◌≡◌, ◌≤◌, List, OnOk, lengt
 
 use dt_items::NoMemory;
 
-/// The most octets of a payload and of an answer: a message has eight octets more.
-pub const MOST_CARRIED: usize = 65_528;
-
 /// Answers calls. The answer is told by the payload alone.
 pub trait Handler {
     ghost answer: { Self → List ℕ → List ℕ };

@@ -4,8 +4,8 @@ ghost use Rattle.dt_units.specs.Flows.{IsFlow};
 ghost use Rattle.dt_world.specs.Worlds.{MayStep, event_of};
 ghost use Rattle.dt_world_model.specs.Tables.{has_key, same_flow};
 ghost use Rattle.dt_calls_model.specs.CallFacts.{CourseFacts};
-ghost use Rattle.dt_calls_model.specs.Calls.{call_in, is_call_in};
-ghost use Rattle.dt_calls_model.specs.Messages.{message_of, reversed};
+ghost use Rattle.dt_calls_model.specs.Calls.{Server, call_in, is_call_in};
+ghost use Rattle.dt_calls_model.specs.Messages.{carried_in, message_of, reversed};
 ghost use Rattle.dt_calls_model.specs.Promises.{AreServedOnce};
 ghost use Rattle.dt_calls_model.specs.Reads as reads;
 ghost use Rattle.dt_calls_model.specs.Reads.{answered_if, read_all, read_side, read_sides, serve_call, take_whole};
@@ -21,7 +21,7 @@ use crate::call_lines::{CallLine, CallLines};
 use crate::dues::Due;
 use crate::flow_sides::Side;
 use crate::flows;
-use crate::handlers::{Handler, MOST_CARRIED};
+use crate::handlers::Handler;
 use crate::hearing::Heard;
 use crate::messages::{read_message, reversed, write_message};
 use crate::totals::is_waiting;
@@ -197,7 +197,7 @@ fn join<H>(parts: &mut Parts<H>, flow: &Flow, side: Side) -> Result<Option<Vec<u
     flows::join(&mut parts.flows, flow, side, parts.alloc, marks, octets)
 }
 
-/// A whole message of a call of the flow is taken.
+/// A whole message of a call of the flow is taken. What a request carries is no longer than a handler takes.
 fn take_message<H: Handler, L: CallLines>(
     parts: &mut Parts<H>,
     flow: &Flow,
@@ -207,6 +207,8 @@ fn take_message<H: Handler, L: CallLines>(
 ) -> Result<(), NoMemory>
     requires unspent { parts.old.world.spent ≡ false }
     requires heard { parts.old.heard.failed ≡ false }
+    requires served { AreServedOnce (calls_seen parts.old) }
+    requires short { side_seen side ≡ Server → length (carried_in message.now) ≤ 65528 }
     ensures goes { GoesOn L.tells (take_whole (H.answer parts.old.handler) (side_seen side) flow.now (Some message.now)) (calls_seen parts.old) lines.old lines.new result (calls_seen parts.new) }
     ensures stays { OnErr result (parts.new.calls.items ≡ parts.old.calls.items) }
     ensures unspent { OnOk result (parts.new.world.spent ≡ false) }
@@ -241,8 +243,7 @@ fn call_on(calls: &[Call], number: u64, flow: &Flow) -> Option<usize>
     (calls[place].flow == *flow).then_some(place)
 }
 
-/// A request is served: its answer goes back with its number. No request of a call has more octets than
-/// a handler takes, so the want of memory that would be told of a longer one isn't met.
+/// A request is served: its answer goes back with its number.
 fn serve<H: Handler, L: CallLines>(
     parts: &mut Parts<H>,
     flow: &Flow,
@@ -251,6 +252,8 @@ fn serve<H: Handler, L: CallLines>(
     lines: &mut L,
 ) -> Result<(), NoMemory>
     requires call { call < vec_len parts.old.calls }
+    requires served { AreServedOnce (calls_seen parts.old) }
+    requires few { length payload.now ≤ 65528 }
     requires unspent { parts.old.world.spent ≡ false }
     requires heard { parts.old.heard.failed ≡ false }
     ensures goes { GoesOn L.tells (serve_call (H.answer parts.old.handler) flow.now call payload.now) (calls_seen parts.old) lines.old lines.new result (calls_seen parts.new) }
@@ -265,18 +268,20 @@ fn serve<H: Handler, L: CallLines>(
     lines.line(parts.world.now(), &CallLine::Served { call: number });
     let reply = reply(parts, flow, number, payload)?;
     let served = &mut parts.calls[call];
-    served.served = served.served.checked_add(1).ok_or(NoMemory)?;
+    served.served += 1;
     served.reply = Some(reply);
     Ok(())
 }
 
-/// The answer to a payload is handed in on the way of the replies, with the number of its call.
+/// The answer to a payload is handed in on the way of the replies, with the number of its call. `NoMemory`
+/// comes for want of memory alone: each reply takes that of its octets.
 fn reply<H: Handler>(
     parts: &mut Parts<H>,
     flow: &Flow,
     number: u64,
     payload: &[u8],
 ) -> Result<Posted, NoMemory>
+    requires few { length payload.now ≤ 65528 }
     requires unspent { parts.old.world.spent ≡ false }
     requires heard { parts.old.heard.failed ≡ false }
     ensures posts { IfOk result (λ posted. reads.post (reversed flow.now) (message_of number (H.answer parts.old.handler payload.now)) parts.old.world.state ≡ (posted, parts.new.world.state)) }
@@ -287,9 +292,6 @@ fn reply<H: Handler>(
     ensures flows { parts.new.flows ≡ parts.old.flows }
     ensures handler { parts.new.handler ≡ parts.old.handler }
 {
-    if payload.len() > MOST_CARRIED {
-        return Err(NoMemory);
-    }
     parts.handler.serve(payload, &mut parts.answer)?;
     write_message(number, &parts.answer, &mut parts.message)?;
     post(parts, reversed(*flow))

@@ -18,7 +18,7 @@ ghost use Rattle.dt_calls.specs.Courses.{GoesOn};
 ghost use Rattle.dt_calls.specs.Dues.{IsDue};
 ghost use Rattle.dt_calls.specs.Flows.{flows_seen};
 ghost use Rattle.dt_calls.specs.Going.{WorldGoesOn, then_made};
-ghost use Rattle.dt_calls.specs.Parts.{IsWhole, calls_seen};
+ghost use Rattle.dt_calls.specs.Parts.{AreShort, IsShort, IsWhole, calls_seen};
 ghost use Rattle.dt_calls.specs.Telling.{TellsCalls};
 ghost use Rattle.dt_calls.specs.Totals.{totals_seen};
 ghost use Rattle.dt_calls.specs.Waiting.{Covers};
@@ -334,6 +334,7 @@ fn add_call<H, L: CallLines>(
     ensures once { AreServedOnce (calls_seen parts.old) → AreServedOnce (calls_seen parts.new) }
     ensures flows { OnOk result (flows_seen parts.new.flows.entries ≡ with_flow flow (flows_seen parts.old.flows.entries)) }
     ensures waiting { OnOk result (Covers 0 parts.old.waiting.items parts.old.calls.items → Covers 0 parts.new.waiting.items parts.new.calls.items) }
+    ensures requests { OnOk result (IsShort request → AreShort parts.old.calls.items → AreShort parts.new.calls.items) }
     ensures same { parts.new ≡ record parts.old { calls = parts.new.calls; waiting = parts.new.waiting; flows = parts.new.flows } }
     ensures range { IsFlow flow }
 {

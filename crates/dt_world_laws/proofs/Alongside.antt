@@ -37,7 +37,7 @@ use Rattle.dt_world_laws.proofs.Events.{Possible, event_done, happens, possible_
 use Rattle.dt_world_laws.proofs.Worlds.{possible_here, starts}
 
 -- what changes no ledger: a packet that leaves, or what is no flow's
-abbrev IsQuiet : Effect → Type 0
+abbrev pub IsQuiet : Effect → Type 0
 IsQuiet (Changes f change) = ⊥
 IsQuiet (Leaves link life) = Unit {0}
 IsQuiet Neither = Unit {0}
@@ -48,7 +48,7 @@ quiet_by o (Leaves link life) all h = refl
 quiet_by o Neither all h = refl
 
 -- a script that tells nothing about a ledger, and one that does so at its first node at most
-abbrev Silent : {A : Type 0} → Script Mark A → Type 0
+abbrev pub Silent : {A : Type 0} → Script Mark A → Type 0
 Silent (Done a) = Unit {0}
 Silent (Tell r s) = IsQuiet (effect_of r) × Silent s
 Silent (Ask h o k) = (t : Mark) → Silent (k t)
@@ -60,7 +60,7 @@ Single (Done a) = Unit {0}
 Single (Ask h o k) = (t : Mark) → Silent (k t)
 Single (Hand l p s) = Silent s
 
-silent_bind : {A B : Type 0} (s : Script Mark A) (k : A → Script Mark B) → Silent s → ((a : A) → Silent (k a)) → Silent (s >>= k)
+pub silent_bind : {A B : Type 0} (s : Script Mark A) (k : A → Script Mark B) → Silent s → ((a : A) → Silent (k a)) → Silent (s >>= k)
 silent_bind (Done a) k h g = g a
 silent_bind (Tell r s) k h g = (h.0, silent_bind s k h.1 g)
 silent_bind (Ask x o c) k h g = λ t. silent_bind (c t) k (h t) g
@@ -93,16 +93,16 @@ at_silent link now (out ∷ outs) =
       | inr n ↦ rw n (silent_bind (flush_at link now outs) (λ rest. Done (out ∷ rest)) (at_silent link now outs) (λ r. tt))
     ]
 
-links_silent : (now : ℕ) (links : List ℕ) (outs : List (Out Mark)) → Silent (flush_links now links outs)
+pub links_silent : (now : ℕ) (links : List ℕ) (outs : List (Out Mark)) → Silent (flush_links now links outs)
 links_silent now [] outs = tt
 links_silent now (link ∷ links) outs = silent_bind (flush_at link now outs) (λ rest. flush_links now links rest) (at_silent link now outs) (λ rest. links_silent now links rest)
 
-entered_silent : (now : ℕ) (r : Entered × Relay Mark) → Silent (flush_entered now r)
+pub entered_silent : (now : ℕ) (r : Entered × Relay Mark) → Silent (flush_entered now r)
 entered_silent now (Queued link, relay) = silent_bind (flush_at link now relay.outs) (λ outs. Done (with_outs relay outs)) (at_silent link now relay.outs) (λ outs. tt)
 entered_silent now (NoRoute to, relay) = (tt, tt)
 entered_silent now (Full link, relay) = (tt, tt)
 
-off_silent : (now : ℕ) (host : Host) (frame : Option (List ℕ)) (relay : Relay Mark) → Silent (send_off now host frame relay)
+pub off_silent : (now : ℕ) (host : Host) (frame : Option (List ℕ)) (relay : Relay Mark) → Silent (send_off now host frame relay)
 off_silent now host None relay = tt
 off_silent now host (Some octets) relay = λ t. silent_bind (pass_on (record { octets = octets; tag = t }) now relay) (λ after. Done (station_with host after)) (entered_silent now (enter (record { octets = octets; tag = t }) now relay)) (λ after. tt)
 

@@ -33,3 +33,5 @@ pub mod Reported
 pub mod Adding
 pub mod Counted
 pub mod Counting
+pub mod Brought
+pub mod Taking

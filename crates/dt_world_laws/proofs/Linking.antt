@@ -1,6 +1,6 @@
 -- An event leaves a relay's links, their paces, its charges and its routes: emptied, it is the relay that it was.
-use Rattle.std.proofs.Common.{ℕ, zero, suc, ◌≡◌, ◌==◌, Bool, true, false, List, [], ◌∷◌, length, map, Option, Some, None, Result, Ok, Err, refl, sym, ap, subst, ◌∙◌, inl, inr}
-use Rattle.std.specs.Prelude.{nat_le, nat_lt}
+use Rattle.std.proofs.Common.{ℕ, zero, suc, ◌≡◌, ◌==◌, Bool, true, false, List, [], ◌∷◌, length, map, Option, Some, None, Result, Ok, Err, refl, ap, ◌∙◌, inl, inr}
+use Rattle.std.specs.Prelude.{nat_lt}
 use Rattle.std.proofs.lemmas.Bool.{cases_Bool}
 use Rattle.dt_units.specs.declared.parameters.Params.{Params}
 use Rattle.dt_layout.specs.declared.faults.LayoutFault.{LayoutFault}
@@ -12,7 +12,7 @@ use Rattle.dt_world_model.specs.declared.links.Entered.{Entered}
 use Rattle.dt_world_model.specs.declared.links.Entered.TheVariants.{Queued, NoRoute, Full}
 use Rattle.dt_world_model.specs.Host.{Host, Turn, arrive, next_turn, work}
 use Rattle.dt_world_model.specs.Relay.{Parcel, Waiting, Left, Goes, Expired, Out, Relay, admit, emptied, empty_out, enter, enter_by, leave, leave_first, may_leave_from, most_on_link, on_link, push, route_to, with_outs}
-use Rattle.dt_world_model.specs.Script.{Script, Done, Tell, Ask, Hand, ◌>>=◌, Answers}
+use Rattle.dt_world_model.specs.Script.{Script, Done, ◌>>=◌, Answers}
 use Rattle.dt_world_model.specs.Station.{Station, Event, Send, Read, Tick, Arrive, come, come_in, deliver, do_turns, flush, flush_at, flush_entered, flush_links, flush_on, flush_turns, go_on, happen, pass_on, send_off, settle_station, station_event, station_with}
 use Rattle.dt_world_laws.proofs.Plays.{do_turn, link_of}
 use Rattle.dt_world_laws.proofs.Settles.{answers_then}

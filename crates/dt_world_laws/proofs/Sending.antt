@@ -1,5 +1,5 @@
 -- Settling takes no octets: the offset at which those end that a flow's send record has taken doesn't rise, whatever tags are answered.
-use Rattle.std.proofs.Common.{ℕ, zero, suc, ◌+◌, ◌<◌, ◌≤◌, ◌≡◌, Bool, true, false, List, map, Option, Some, None, refl, sym, ap, subst, ◌∙◌, inl, inr, arith}
+use Rattle.std.proofs.Common.{ℕ, zero, suc, ◌+◌, ◌<◌, ◌≤◌, ◌≡◌, map, Option, Some, None, refl, sym, ap, subst, inl, inr, arith}
 use Rattle.std.proofs.lemmas.Bool.{cases_Bool}
 use Rattle.dt_units.specs.declared.parameters.Params.{Params}
 use Rattle.dt_units.specs.declared.endpoints.Flow.{Flow}
@@ -8,13 +8,13 @@ use Rattle.dt_flow_model.proofs.Chosen.{act_is_due}
 use Rattle.dt_flow_model.proofs.Records.{act_counts}
 use Rattle.dt_flow_model.specs.Acting.{record_for}
 use Rattle.dt_flow_model.specs.Keeping.{taken_by}
-use Rattle.dt_flow_model.specs.SendActs.{Act, record_after}
+use Rattle.dt_flow_model.specs.SendActs.{record_after}
 use Rattle.dt_flow_model.specs.SendRecord.{SendRecord}
 use Rattle.dt_world_model.specs.Host.{Host, HostAct, IsHost, Turn, host_with_sender, next_turn, recv_act, send_act, sender_at, turn_of, work}
 use Rattle.dt_world_model.specs.Relay.{with_outs}
 use Rattle.dt_world_model.specs.Script.{Answers}
 use Rattle.dt_world_model.specs.Station.{Station, do_turns, flush_links, go_on, settle_station, station_with}
-use Rattle.dt_world_model.specs.Tables.{look, same_flow}
+use Rattle.dt_world_model.specs.Tables.{same_flow}
 use Rattle.dt_world_model.proofs.Offers.{IsOf, next_turn_is}
 use Rattle.dt_world_model.proofs.Tables.{flow_is, flow_self, look_set, look_set_other}
 use Rattle.dt_world_laws.proofs.Hosts.{turn_keeps}

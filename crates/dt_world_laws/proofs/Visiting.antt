@@ -1,5 +1,5 @@
 -- A visitor that goes as a handler does, and may fail: in a report or a packet, which then do nothing, or where it is asked for a tag. As long as it has not failed, it is seen as the handler's state; from then on as the state that it had. So it ends where the play ends, or it is seen as a state on the way.
-use Rattle.std.proofs.Common.{◌≡◌, ◌⊎◌, ℕ, Bool, true, false, List, [], ◌∷◌, ◌++◌, Result, Ok, Err, refl, sym, ap, subst, ◌∙◌, inl, inr, append_assoc}
+use Rattle.std.proofs.Common.{◌≡◌, ℕ, Bool, true, false, List, [], ◌++◌, Result, Ok, Err, refl, sym, ap, subst, ◌∙◌, inl, inr, append_assoc}
 use Rattle.std.proofs.lemmas.Bool.{cases_Bool}
 use Rattle.std.proofs.lemmas.List.{append-nil}
 use Rattle.dt_reports.specs.Told.{Told}

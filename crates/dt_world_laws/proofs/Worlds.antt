@@ -57,7 +57,7 @@ abbrev pub GoesTo : World → World → Type 0
 GoesTo w after = WorldFacts after × ((f : Flow) → IsLifted w.params (view w f) (view after f))
 
 -- what holds of a copy of the list
-all_get : (P : Copy → Type 0) (cs : List Copy) (k : ℕ) (d : Copy) → All P cs → k < length cs → P (get_or cs k d)
+pub all_get : (P : Copy → Type 0) (cs : List Copy) (k : ℕ) (d : Copy) → All P cs → k < length cs → P (get_or cs k d)
 all_get P [] k d h lt = absurd (omega arith)
 all_get P (c ∷ cs) zero d h lt = All-head P c cs h
 all_get P (c ∷ cs) (suc k) d h lt = all_get P cs k d (All-tail P c cs h) (omega arith)

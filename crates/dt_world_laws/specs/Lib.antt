@@ -6,3 +6,4 @@ pub mod Meeting
 pub mod Schedule
 pub mod Visits
 pub mod Waking
+pub mod Handed

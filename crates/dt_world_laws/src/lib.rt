@@ -29,7 +29,7 @@ ghost use Rattle.dt_world_model.specs.Setup.{Setup, new_world};
 ghost use Rattle.dt_world_model.specs.WorldStep.{Arrives, Stepped, WorldEvent, copy_at, first_refusal, link_for, noted_at, occasion, refusals, world_step};
 ghost use Rattle.dt_world_model.specs.WorldFacts.{CanHappen, IsPossible, SafeLedgers, WorldFacts};
 
-pub use meeting::numbers_are_in_the_order_of_places;
+pub use meeting::{numbers_are_in_the_order_of_places, packets_bring_octets_that_were_taken};
 pub use reports::{
     ledgers_follow_the_small_steps, report_changes_one_flow, tag_is_place_and_birth,
 };
@@ -43,7 +43,10 @@ pub use settling::{
     acts_come_to_an_end, event_leaves_links_and_routes, settled_station_has_no_act_due,
     settling_takes_no_octets, station_sleeps_until_its_wake,
 };
-pub use totals::{lives_are_counted_by_restarts, no_more_is_read_than_was_taken, totals_add_up};
+pub use totals::{
+    lives_are_counted_by_restarts, no_more_is_read_than_was_taken,
+    no_more_is_taken_than_was_handed_in, totals_add_up,
+};
 pub use visits::visitor_ends_where_the_play_ends;
 
 /// Each step of the world that isn't refused keeps its facts; and for each flow it is a list of small

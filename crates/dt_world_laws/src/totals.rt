@@ -13,6 +13,7 @@ ghost use Rattle.dt_world_model.specs.Tables.{look, total};
 ghost use Rattle.dt_world_model.specs.World.{Placed, World, placed, world_handler};
 ghost use Rattle.dt_world_model.specs.WorldFacts.{CanHappen, IsPossible, WorldFacts};
 ghost use Rattle.dt_world_model.specs.WorldStep.{WorldEvent, noted_at, occasion, world_after};
+ghost use Rattle.dt_world_laws.specs.Handed.{handed_in_all};
 ghost use Rattle.dt_world_laws.specs.Lives.{restarts_in};
 
 /// Each octet that was taken is acknowledged, uncertain or unsettled. After every run no more were given
@@ -30,6 +31,12 @@ pub fn no_more_is_read_than_was_taken()
     ensures read { (life : ℕ) (l : FlowLedger) → SafeLedger life l.taken l.given l.reads → total (λ r. r.count) l.reads ≤ length l.given }
     ensures given { (life : ℕ) (l : FlowLedger) → SafeLedger life l.taken l.given l.reads → length l.given ≤ length l.taken }
     ensures along { (w : World) (n : ℕ) (at : Placed) (e : Event Mark) (f : Flow) → IsWithinLimits w.params → WorldFacts w → look ◌==◌ n w.stations ≡ Some at → IsPossible w n e → Along (world_handler (occasion w n e)) (λ d. total (λ r. r.count) (ledger_of d.ledgers f).reads ≤ length (ledger_of d.ledgers f).taken) (station_event w.params (w.now + (placed w n).zero) e (placed w n).station) (noted_at w) }
+{}
+
+/// A flow takes no more octets than were handed in, whatever was refused.
+#[tactic(auto, using(crate::proofs::Taking::takes_counted))]
+pub fn no_more_is_taken_than_was_handed_in()
+    ensures { (setup : Setup) (events : List WorldEvent) (f : Flow) → length (ledger_of (world_after (new_world setup) events).ledgers f).taken ≤ handed_in_all f events }
 {}
 
 /// A station's life number is at most the count of the events that start it again.

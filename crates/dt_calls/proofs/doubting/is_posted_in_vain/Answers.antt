@@ -1,7 +1,6 @@
-use Rattle.std.proofs.Common.{ℕ, ◌+◌, ◌≡◌, ◌<◌, ◌≤◌, List, length, true, false, Some, get_or, take, drop, below_more, refl, sym, ap, subst, ◌∙◌, arith}
+use Rattle.std.proofs.Common.{ℕ, ◌+◌, ◌≡◌, ◌<◌, ◌≤◌, length, true, false, take, drop, below_more, sym, ap, subst, ◌∙◌, arith}
 use Rattle.std.specs.Prelude.{slice_get}
 use Rattle.dt_calls_model.specs.CallStep.{is_doubtful, is_posted_in_vain}
-use Rattle.dt_calls_model.specs.declared.calls.Posted.{Posted}
 use Rattle.dt_ledger.specs.Flows.{ledger_in}
 use Rattle.dt_world_model.specs.Ledgers.{ledger_of}
 use Rattle.std.specs.List.{list_any}

@@ -2,7 +2,6 @@ use Rattle.std.proofs.Common.{true, false, ap, sym, ◌∙◌}
 use Rattle.dt_calls.specs.declared.dues.Due.TheVariants as due
 use Rattle.dt_calls.proofs.FlowTables.{due_is, key_found, piece_none}
 use Rattle.dt_calls.specs.Flows.{flows_seen}
-use Rattle.dt_calls_model.specs.Messages.{reversed}
 use Rattle.dt_calls.proofs.dues.due_after.Goals as goal
 
 pub returns-in-true-true : goal.returns-in-true-true

@@ -1,9 +1,8 @@
-use Rattle.std.proofs.Common.{◌≡◌, List, ℕ, false, true, None, sym, ap, subst, ◌∙◌}
-use Rattle.std.specs.Prelude.{IfOk, is_some, option_map}
+use Rattle.std.proofs.Common.{◌≡◌, sym, subst}
+use Rattle.std.specs.Prelude.{IfOk, option_map}
 use Rattle.dt_calls_model.specs.Calls as model
 use Rattle.dt_calls_model.specs.Calls.{begun_at, with_begun}
 use Rattle.dt_calls_model.specs.Messages.{begun_with, whole_with}
-use Rattle.dt_calls.specs.Flows.{begun_in, begun_of, flows_seen, with_sides_in}
 use Rattle.dt_messages.specs.Joining.{piece_with}
 use Rattle.dt_calls.specs.Sides.{side_seen}
 use Rattle.dt_calls.proofs.FlowTables.{begun_found, if_ok_weaker, key_lost, wrote}

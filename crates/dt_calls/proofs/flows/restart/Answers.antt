@@ -1,4 +1,4 @@
-use Rattle.std.proofs.Common.{◌<◌, length, arith}
+use Rattle.std.proofs.Common.{arith}
 use Rattle.dt_calls.proofs.FlowTables.{restarted_next}
 use Rattle.dt_calls.proofs.flows.restart.Goals as goal
 

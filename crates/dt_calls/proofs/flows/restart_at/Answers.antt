@@ -1,4 +1,4 @@
-use Rattle.std.proofs.Common.{sym, ◌∙◌}
+use Rattle.std.proofs.Common.{sym}
 use Rattle.dt_calls.proofs.FlowTables.{restarted_at}
 use Rattle.dt_calls.proofs.flows.restart_at.Goals as goal
 

@@ -2,7 +2,7 @@ use Rattle.std.proofs.Common.{subst, sym}
 use Rattle.std.proofs.lemmas.Result.{err_from_is_err_and}
 use Rattle.dt_calls_model.specs.Calls.{Client, Server}
 use Rattle.dt_calls_model.specs.CallFacts.{CourseFacts}
-use Rattle.dt_calls_model.specs.Reads.{Course, read_all, read_sides}
+use Rattle.dt_calls_model.specs.Reads.{read_all, read_sides}
 use Rattle.dt_calls.specs.declared.dues.Due.{Due}
 use Rattle.dt_calls.specs.Courses.{GoesOn}
 use Rattle.dt_calls.specs.Dues.{IsDue}

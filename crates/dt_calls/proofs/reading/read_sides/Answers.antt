@@ -5,8 +5,7 @@ use Rattle.dt_units.specs.declared.endpoints.Flow.{Flow}
 use Rattle.dt_calls_model.specs.CallFacts.{CourseFacts}
 use Rattle.dt_calls_model.specs.Reads.{Course, read_side, read_sides}
 use Rattle.dt_calls.specs.Courses.{HasGoneOn, HasStopped}
-use Rattle.dt_calls.specs.Flows.{flows_seen}
-use Rattle.dt_calls.specs.Parts.{calls_seen, keys_in}
+use Rattle.dt_calls.specs.Parts.{calls_seen}
 use Rattle.dt_calls.specs.Sides.{side_seen}
 use Rattle.dt_calls.proofs.CoursesOn.{side_on}
 use Rattle.dt_calls.proofs.FlowTables.{key_found, keys_seen}

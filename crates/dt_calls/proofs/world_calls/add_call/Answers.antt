@@ -1,7 +1,9 @@
 use Rattle.std.proofs.Common.{ℕ, ◌≡◌, ◌++◌, ◌∷◌, [], List, length, sym, subst, rules}
 use Rattle.dt_calls_model.specs.declared.calls.Call.{Call}
+use Rattle.dt_calls.specs.Parts.{AreShort}
 use Rattle.dt_calls.specs.Waiting.{Covers}
 use Rattle.dt_calls.proofs.Makings.{call_for, on_ok}
+use Rattle.dt_calls.proofs.Requests.{short_added}
 use Rattle.dt_calls.proofs.Waiting.{covers_added}
 use Rattle.dt_calls.proofs.world_calls.add_call.Goals as goal
 
@@ -15,3 +17,10 @@ returns-clause-waiting g c =
     on_ok _ c.add_flow.result (λ h.
     subst (λ (ks : List ℕ). Covers 0 ks c.push-2.new.self.items) (sym numbers)
     (subst (λ (cs : List Call). Covers 0 (p.waiting.items ++ n ∷ []) cs) (sym more) (covers_added p.waiting.items p.calls.items call h)))
+
+pub returns-clause-requests : goal.returns-clause-requests
+returns-clause-requests g c =
+    let p = c.args.parts.now in
+    let call : Call = call_for c.args.flow c.args.request in
+    let more : c.push-2.new.self.items ≡ p.calls.items ++ call ∷ [] = search rules in
+    on_ok _ c.add_flow.result (λ one h. subst AreShort (sym more) (short_added p.calls.items call one h))

@@ -1,10 +1,11 @@
-use Rattle.std.proofs.Common.{refl, sym, subst, ◌∙◌}
+use Rattle.std.proofs.Common.{refl, ap, sym, subst, ◌∙◌}
 use Rattle.std.proofs.lemmas.Result.{err_from_is_err_and}
 use Rattle.dt_calls_model.specs.CallStep.{doubt_all, finish}
 use Rattle.dt_calls_model.specs.Reads.{read_all}
-use Rattle.dt_calls.specs.Parts.{calls_seen}
+use Rattle.dt_calls.specs.Parts.{AreShort, IsKeptWorld, calls_seen}
 use Rattle.dt_calls.proofs.Courses.{gone_then, stop_then}
 use Rattle.dt_calls.proofs.ReadSides.{stopped_with}
+use Rattle.dt_calls.proofs.Requests.{doubted_short}
 use Rattle.dt_calls.proofs.world_calls.finish.Goals as goal
 
 pub returns-in_err-read_due-clause-goes : goal.returns-in_err-read_due-clause-goes
@@ -20,3 +21,16 @@ returns-clause-goes g c =
     let tells = g.L.CallLines.tells in
     let answer = g.H.Handler.answer c.args.parts.now.handler in
     gone_then tells (read_all answer) doubt_all (λ told d. refl) (calls_seen c.args.parts.now) (calls_seen c.read_due.new.parts) (calls_seen c.doubt.new.parts) c.args.lines.now c.read_due.new.lines c.doubt.new.lines c.in_ok-read_due.ensures.goes c.doubt.ensures.goes
+
+pub returns-clause-whole : goal.returns-clause-whole
+returns-clause-whole g c =
+    let p = c.read_due.new.parts in
+    let same = c.doubt.ensures.same in
+    let whole = c.in_ok-read_due.ensures.whole in
+    record {
+      unspent = ap (λ x. x.world.spent) same ∙ whole.unspent;
+      heard = ap (λ x. x.heard.failed) same ∙ whole.heard;
+      world = subst IsKeptWorld (sym (ap (λ x. x.world.state) same)) whole.world;
+      waiting = c.doubt.ensures.covers;
+      requests = subst AreShort (sym (ap (λ x. x.calls) c.doubt.ensures.goes.calls)) (doubted_short p.world.state p.calls.items whole.requests);
+    }

@@ -1,12 +1,13 @@
-use Rattle.std.proofs.Common.{◌≡◌, List, ℕ, length, sym, ap, subst, ◌∙◌, rules}
+use Rattle.std.proofs.Common.{◌≡◌, ◌≤◌, List, ℕ, length, sym, ap, subst, ◌∙◌, rules}
 use Rattle.std.proofs.lemmas.Result.{on_ok_weaker}
 use Rattle.dt_calls_model.specs.Calls.{with_flow}
 use Rattle.dt_calls_model.specs.Messages.{message_of}
 use Rattle.dt_calls_model.specs.Reads.{post}
 use Rattle.dt_calls.specs.Flows.{flows_seen}
-use Rattle.dt_calls.specs.Parts.{IsKeptWorld, calls_seen}
+use Rattle.dt_calls.specs.Parts.{AreShort, IsKeptWorld, calls_seen}
 use Rattle.dt_calls.specs.Waiting.{Covers}
 use Rattle.dt_calls.proofs.Makings.{made_due_in, made_world}
+use Rattle.dt_calls.proofs.Requests.{on_ok_both, posted_short}
 use Rattle.dt_calls.proofs.world_calls.make.Goals as goal
 
 pub returns-clause-whole : goal.returns-clause-whole
@@ -19,12 +20,15 @@ returns-clause-whole g c =
     let number : c.len-call.result ≡ length p.calls.items = search rules in
     let octets : c.write_message.new.message.items ≡ message_of (length p.calls.items) c.args.payload.now = c.in_ok-write_message.ensures ∙ ap (λ (n : ℕ). message_of n c.args.payload.now) number in
     let is : post f (message_of (length p.calls.items) c.args.payload.now) p.world.state ≡ (c.in_ok-request.request, w) = ap (λ (os : List ℕ). post f os p.world.state) (sym octets) ∙ posted.posts in
-    on_ok_weaker c.add_call.result (λ waiting. record {
+    let few : length c.write_message.new.message.items ≤ 65536 = search rules in
+    let request = posted_short f c.write_message.new.message.items p.world.state c.in_ok-request.request w posted.posts few in
+    on_ok_both _ _ _ c.add_call.result (λ waiting requests. record {
       unspent = ap (λ x. x.world.spent) same ∙ posted.unspent;
       heard = ap (λ x. x.heard.failed) same ∙ posted.heard;
       world = subst IsKeptWorld (sym (ap (λ x. x.world.state) same)) (made_world f c.args.payload.now (calls_seen p) c.in_ok-request.request w is c.add_call.ensures.range c.requires.whole.world);
       waiting = waiting (subst (λ x. Covers 0 x.waiting.items x.calls.items) (sym posted.same) c.requires.whole.waiting);
-    }) c.add_call.ensures.waiting
+      requests = requests request (subst (λ x. AreShort x.calls.items) (sym posted.same) c.requires.whole.requests);
+    }) c.add_call.ensures.waiting c.add_call.ensures.requests
 
 pub returns-clause-due : goal.returns-clause-due
 returns-clause-due g c =
