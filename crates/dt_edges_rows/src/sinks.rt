@@ -82,3 +82,10 @@ fn a_buffer_passes_on(rt: HostRuntime) -> Result<(), Fail> {
     assert_eq!(rt; sink.as_slice().len(), 12_000);
     Ok(())
 }
+
+#[test]
+fn standard_error_is_a_sink(rt: HostRuntime) {
+    let mut err = WriterSink::new(rt.stderr());
+    let text = b"a test writes on standard error\n";
+    assert!(rt; put_all(text, &mut err).is_ok());
+}

@@ -60,17 +60,3 @@ pub fn deltat(rt: &HostRuntime) -> ExitCode {
         }
     }
 }
-
-#[cfg(test)]
-mod tests {
-    use super::*;
-
-    #[test]
-    fn standard_error_is_a_sink(rt: HostRuntime) {
-        let mut err = WriterSink::new(rt.stderr());
-        assert_eq!(rt;
-            put_all(b"a test writes on standard error\n", &mut err),
-            Ok(())
-        );
-    }
-}
