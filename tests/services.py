@@ -7,10 +7,12 @@
 - mutants: each defence is taken out of the definitions in turn (MUTANTS), and the runs fail; so they do where a life is
   used twice.
 - cases: single ones, of lengths, marks, refusals, limits and counts.
-- rows: ten worked runs tell exactly what is written (`tests/service_rows.py`): over reports as they are written there, and,
-  where `make -C lib` has made the library, over its nodes in simulated time, whose reports are then compared too.
-- world: random runs of three nodes of the library over links that drop, repeat and reorder, with restarts: the theorems
-  hold, by the names of the calls, and examples/bank/service.py tells just what the definitions say.
+- rows: ten worked runs tell exactly what is written (`tests/service_rows.py`): over reports as they are written there;
+  over plain stations (`tests/station_model.py`) in simulated time, whose reports are compared too; and, where
+  `make -C lib` has made the library, over its nodes.
+- world: random runs of three nodes over links that drop, repeat and reorder, with restarts: the theorems hold, by the
+  names of the calls, over plain stations, and over nodes of the library. There examples/bank/service.py is asked beside
+  the definitions, and tells just what they say.
 
 In tests/all: --runs 3000, 300 s."""
 import argparse
@@ -239,14 +241,15 @@ def main() -> int:
     reads = argparse.ArgumentParser(description=__doc__, formatter_class=argparse.RawDescriptionHelpFormatter)
     reads.add_argument("--runs", type=int, default=10_000)
     reads.add_argument("--first", type=int, default=0, metavar="SEED")
-    reads.add_argument("--worlds", type=int, default=200, help="the runs over the library")
+    reads.add_argument("--worlds", type=int, default=200, help="the runs of three nodes")
     reads.add_argument("--tries", type=int, default=3_000, help="the runs that a mutant gets")
     reads.add_argument("library", nargs="?")
     given = reads.parse_args()
-    Simulated.deltat = library(given.library)
+    deltat = library(given.library)
     right = [cases(), rows(Scripted, "scripts"), runs(given.runs, given.first), mutants(given.tries)]
-    if Simulated.deltat:
-        right += [rows(Simulated, "the library"), world(given.worlds, given.first)]
+    right += [rows(lambda params: Simulated(params, None), "plain stations"), world(given.worlds, given.first, None)]
+    if deltat:
+        right += [rows(lambda params: Simulated(params, deltat), "the library"), world(given.worlds, given.first, deltat)]
     else:
         print("nothing was tried over the library, since it isn't there: make -C lib")
     return 0 if all(right) else 1
