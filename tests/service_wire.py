@@ -64,7 +64,6 @@ class Track:
         self.life_from = self.front = 0
         # the receiver: the least place that may still be given
         self.top = 0
-        self.is_free: bool = False
 
     def ghost_at(self, place: int) -> Ghost:
         return self.ghosts[bisect.bisect_right(self.firsts, place) - 1]

@@ -429,5 +429,7 @@ def world(count: int, first: int, deltat: types.ModuleType | None) -> bool:
             print(f"run {seed} over {over} fails: {why}")
             return False
         totals += run.totals
-    print(f"{count} runs over {over} hold" + (", and examples/bank/service.py tells the same: " if deltat else ": ") + ", ".join(f"{name} {it}" for name, it in sorted(totals.items())), flush=True)
-    return totals["strange"] + totals["reused"] == 0 and all(totals[it] for it in ("answered", "given up", "patience", "closed", "reply gone", "reply full", "old", "late", "cut"))
+    agrees = ", and examples/bank/service.py tells the same" if deltat else ""
+    print(f"{count} runs over {over} hold{agrees}: " + ", ".join(f"{name} {it}" for name, it in sorted(totals.items())), flush=True)
+    wanted = ("answered", "given up", "patience", "closed", "reply gone", "reply full", "old", "late", "cut")
+    return totals["strange"] + totals["reused"] == 0 and all(totals[it] for it in wanted)

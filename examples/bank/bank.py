@@ -28,9 +28,9 @@ BANK_HOST, CLIENT_HOST = ("127.0.0.1", "127.0.0.1") if IS_RELAYED else ("10.9.0.
 TO_BANK, TO_CLIENT = 100, 200
 BANK, CLIENTS = 100, 20
 """Node numbers: the bank's, and how many clients there are, from 1 on."""
-# as `tools/params.py 300 50` tells them: delays of 20 ms, late ones of 60, and a machine under load
-PARAMS = deltat.Params(mpl=352, r=450, a=5, rto=90, probe=180, seg=1442, cap=65536, rcap=65536, window=65536)
-CHARGE = 344
+# as `tools/params.py 200 50` tells them: delays of 20 ms, late ones of 60, and a machine under load
+PARAMS = deltat.Params(mpl=252, r=450, a=5, rto=90, probe=180, seg=1442, cap=65536, rcap=65536, window=65536)
+CHARGE = 244
 # a request that was sent at once and its answer are over after 2 (r + mpl) and the bank's time
 PATIENCE = 2.0
 DRAIN_MS = 15_000

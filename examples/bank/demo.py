@@ -6,7 +6,7 @@
 20 clients give orders to a bank of 100 accounts, each written down, each given once by a call, or again and again over
 TCP until it is answered. The link is that of tests/wan.py, two network namespaces with 20 ms between them each way,
 which wants root and /dev/net/tun. Where there are none, or with --relay, both ends are on this machine, and a relay
-between them does the same to the datagrams of calls; TCP has no losses and no delay then. A client is killed every 0.5 s, the bank every 5 s,
+between them does the same to the datagrams of calls; TCP has no losses and no delay then. A client is killed every 0.7 s, the bank every 10 s,
 each at a random moment, and started again. Behind the time that was asked for nobody is killed any more, and each
 client finds out what became of its last orders.
 
@@ -42,7 +42,7 @@ from service import deltat  # noqa: E402
 from wan import Bound, Carrier, Link, Outcome, impaired_link, stop  # noqa: E402
 
 DELAY = 20
-KILL_CLIENT, KILL_BANK = 0.5, 5.0
+KILL_CLIENT, KILL_BANK = 0.7, 10.0
 FIRSTS = 20
 WAYS = {"calls": ("serve", "ask"), "TCP": ("serve-tcp", "ask-tcp")}
 
