@@ -123,7 +123,7 @@ def files(root: Path) -> list[Case]:
         wanted += ["usr/include/deltat.h", "usr/lib/python3/dist-packages/deltat.py", "usr/lib/python3/dist-packages/deltat_record.py", "usr/share/man/man3/libdeltat.3.gz"]
         wanted += [f"usr/lib/{os.uname().machine}-linux-gnu/{it}" for it in ("libdeltat.a", "libdeltat.so.0", "libdeltat.so", "pkgconfig/deltat.pc")]
     missing = [it for it in wanted if not (root / it).is_file()] + [it.name for it in (TOP / "docs").glob("*.md") if not (doc / "docs" / it.name).is_file()]
-    missing += [it.name for it in (TOP / "examples").iterdir() if not (doc / "examples" / it.name).is_file()]
+    missing += [it.name for it in (TOP / "examples").rglob("*") if it.is_file() and it.suffix != ".pyc" and not (doc / it.relative_to(TOP)).is_file()]
     said = (doc / "PROVED").read_text()
     helps = [it for it in (root / "usr/lib/deltat").iterdir() if os.access(it, os.X_OK) and it.is_file() and run(str(it), "--help").returncode]
     return [

@@ -64,7 +64,6 @@ class Track:
         self.life_from = self.front = 0
         # the receiver: the least place that may still be given
         self.top = 0
-        self.is_free: bool = False
 
     def ghost_at(self, place: int) -> Ghost:
         return self.ghosts[bisect.bisect_right(self.firsts, place) - 1]
@@ -393,8 +392,8 @@ class Run:
     def event(self) -> None:
         chance = self.chance
         what = chance.random()
-        if chance.random() < 0.4:
-            self.at += chance.choice([0, 1, 3, 20, 300]) if chance.random() < 0.97 else 10_000
+        if chance.random() < 0.3:
+            self.at += chance.choice([1, 3, 20, 300]) if chance.random() < 0.98 else 10_000
         if what < 0.14:
             self.call(chance.choice(self.flows))
         elif what < 0.68:
@@ -403,11 +402,11 @@ class Run:
             self.reply(chance.choice((2, 3)))
         elif what < 0.92:
             self.tick(chance.choice(NODES))
-        elif what < 0.95:
+        elif what < 0.935:
             self.restart(chance.choice(NODES), is_closed=chance.random() < 0.3)
-        elif what < 0.96:
+        elif what < 0.945:
             self.forget(chance.choice((2, 3)))
-        elif what < 0.97:
+        elif what < 0.955:
             self.raise_life(chance.choice(NODES))
         if chance.random() < 0.7:
             self.hosts[chance.choice(NODES)].node.queue.clear()
@@ -416,7 +415,7 @@ class Run:
         host, chance = self.hosts[flow.source], self.chance
         node, track = host.node, self.wire.tracks[flow]
         payload = b"%d" % next(self.words) + bytes(chance.choice([0, 0, 3, 12]))
-        patience = chance.choice([0, 1, 5, 60, 5000, 5000]) if chance.random() < 0.9 else 1 << 32
+        patience = chance.choice([0, 1, 60, 5000, 50_000, 50_000, 50_000, (1 << 32) - 1]) if chance.random() < 0.98 else 1 << 32
         before = len(track.octets)
         # the referee has to know it before its turn ends
         call = GhostCall(flow, self.model.number_of(host.life, host.number), payload, max(self.at, node.now) + patience)

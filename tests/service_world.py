@@ -1,7 +1,8 @@
-"""Calls between nodes of the library, in simulated time: the definitions over plain nodes of it, worked runs, and random
-runs in which another maker of calls is judged by the definitions.
+"""Calls between nodes in simulated time: the definitions over stations of the plain model or of the library, worked runs,
+and random runs in which another maker of calls is judged by the definitions.
 
 In tests/all: not a test."""
+import dataclasses
 import heapq
 import importlib
 import itertools
@@ -13,10 +14,13 @@ import types
 from collections import Counter, defaultdict
 
 import service_model
+import station_model
 from lib import TOP
 from service_model import CALLER, SERVICE, Flow, Limits, Piece, Report, Token
-from service_rows import FLOW_NAMES, Row
+from service_rows import FLOW_NAMES, STATION_WORDS, Row
 from service_wire import Broken, holds
+
+CHARGE = 50
 
 
 def library(path: str | None) -> types.ModuleType | None:
@@ -73,64 +77,76 @@ class LibraryStation:
 
     def lines(self) -> list[str]:
         """What an event told of octets, as a row has it."""
-        lines = []
-        for it in self.all:
-            name, word = FLOW_NAMES.get(Flow(*it.flow), "?"), it.kind.name.lower()
-            marks = ("d" if it.run else "") + ("b" if it.begin else "") + ("e" if it.end else "")
-            if word in ("sent", "resent"):
-                lines.append(f"{word} {name} {it.number} {it.count} {marks or '-'}")
-            elif word == "accepted":
-                lines.append(f"{word} {name} {it.number} {it.count} {'run' if it.run else 'on'}")
-            elif word == "settled":
-                lines.append(f"{word} {name} {it.count} {it.window}")
-            elif word == "uncertain":
-                lines.append(f"{word} {name} {it.count}")
-        return lines
+        return [row_line(it.kind.name.lower(), it) for it in self.all if it.kind.name.lower() in STATION_WORDS]
+
+    def left(self) -> list[tuple[tuple[str, ...], object]]:
+        """What left since this was asked last, to be handed over: beside each what was told as it was made."""
+        told, self.all = self.all, []
+        makers = [before for before, it in zip(told, told[1:]) if it.kind.name == "PUT"]
+        return [(made(it.kind.name.lower(), it), (1, frame.octets, 0)) for it, frame in zip(makers, self.node.frames(), strict=True)]
+
+
+class PlainStation(station_model.Station):
+    """A station of the plain model."""
+
+    row: list[str]
+
+    def lines(self) -> list[str]:
+        return [row_line(it.word, it) for it in self.log if it.word in STATION_WORDS]
+
+    def left(self) -> list[tuple[tuple[str, ...], object]]:
+        left = [(made(it.word, it), (CHARGE, frame)) for it, frame in self.frames]
+        self.forget()
+        return left
+
+
+def row_line(word: str, it: object) -> str:
+    """What a station told of octets, as a row has it."""
+    name = FLOW_NAMES.get(Flow(*it.flow), "?")
+    marks = ("d" if it.run else "") + ("b" if it.begin else "") + ("e" if it.end else "")
+    rest = {"accepted": [it.number, it.count, "run" if it.run else "on"], "settled": [it.count, it.window], "uncertain": [it.count]}
+    return " ".join(str(part) for part in [word, name, *rest.get(word, [it.number, it.count, marks])])
+
+
+def made(word: str, it: object) -> tuple[str, ...]:
+    """The first words of the row in which a frame comes."""
+    name = FLOW_NAMES.get(Flow(*it.flow), "?")
+    return ("settled", name) if word in ("acked", "replied") else ("accepted", name, str(it.number))
 
 
 class Simulated:
-    """The ground of a worked run over nodes of the library: the frames that left, by what was told as they did."""
+    """The ground of a worked run: stations in simulated time, and of what left the last frame of each flow and number,
+    and the last acknowledgement of each flow."""
 
-    deltat: types.ModuleType
+    def __init__(self, params: dict[str, int], deltat: types.ModuleType | None) -> None:
+        self.params, self.deltat = station_model.Params(**params), deltat
+        self.frames: dict[tuple[str, ...], object] = {}
+        self.stations: list[PlainStation | LibraryStation] = []
 
-    def __init__(self, params: dict[str, int]) -> None:
-        usual = {"mpl": 1000, "r": 3000, "a": 200, "rto": 500, "probe": 800, "seg": 100, "cap": 4096, "rcap": 4096, "window": 4096}
-        self.params = self.deltat.Params(**usual | params)
-        self.frames: dict[tuple[str, str], bytes] = {}
-        self.stations: list[LibraryStation] = []
-
-    def station(self, me: int, at: int, is_again: bool) -> LibraryStation:
-        node = self.deltat.Node(me, self.params, [self.deltat.Link(1, charge=50)], {3 - me: 1}, is_again, at)
-        self.stations.append(LibraryStation(self.deltat, node))
+    def station(self, me: int, at: int, is_again: bool) -> PlainStation | LibraryStation:
+        if self.deltat:
+            params = self.deltat.Params(**dataclasses.asdict(self.params))
+            node = self.deltat.Node(me, params, [self.deltat.Link(1, CHARGE)], {3 - me: 1}, is_again, at)
+            self.stations.append(LibraryStation(self.deltat, node))
+        else:
+            self.stations.append(PlainStation(me, self.params, at, is_again))
         return self.stations[-1]
-
-    def collect(self, station: LibraryStation) -> None:
-        """Keeps the frames that left, the last one of each flow and number, and of each flow the last acknowledgement."""
-        left = [it for it in station.all if it.kind.name in ("SENT", "RESENT", "ACKED", "REPLIED", "MET", "CLOSING")]
-        frames = [it.octets for it in station.node.frames()]
-        makers = [it for it in left if it.kind.name != "CLOSING"]
-        if len(makers) != len(frames):
-            raise Broken(f"{len(frames)} frames, and told {[it.kind.name for it in station.all]}")
-        for it, octets in zip(makers, frames):
-            name = FLOW_NAMES[Flow(*it.flow)]
-            self.frames[("settled", name) if it.kind.name in ("ACKED", "REPLIED") else ("accepted", name, str(it.number))] = octets
-        station.all = []
 
     def before(self, nodes: dict[int, service_model.Node], me: int, at: int) -> None:
         """Each node has ticked where that was due before the event."""
         for station in self.stations:
-            self.collect(station)
+            self.frames |= dict(station.left())
         while True:
             due = min(((node.wake, it) for it, node in nodes.items() if node.wake is not None and node.wake <= at - (it == me)), default=None)
             if due is None:
                 return
             nodes[due[1]].tick(due[0])
             holds(not nodes[due[1]].told, f"node {due[1]} tells {nodes[due[1]].told} at {due[0]}")
-            self.collect(nodes[due[1]].station)
+            self.frames |= dict(nodes[due[1]].station.left())
 
     def came(self, row: Row) -> object:
         what = next(it.split() for it in row.told if it.startswith(("accepted", "settled")))
-        return 1, self.frames[tuple(what[:3] if what[0] == "accepted" else what[:2])], 0
+        return self.frames[tuple(what[:3] if what[0] == "accepted" else what[:2])]
 
 
 class Half:
@@ -193,25 +209,53 @@ class Half:
 
 
 WORLD_CHARGE = 30
+PORTS = ((10, CALLER), (11, CALLER), (20, SERVICE))
 WORLD_FLOWS = [Flow(1, 10, 2, 20), Flow(1, 11, 2, 20), Flow(3, 10, 2, 20), Flow(1, 10, 3, 20)]
 
 
-class Pair:
+class Alone:
+    """The model over a plain station."""
+
+    def __init__(self, run: "World", me: int, is_again: bool) -> None:
+        self.life = next(run.lives[me])
+        self.model = service_model.Node(me, self.life, PlainStation(me, run.params, run.at, is_again), run.limits, run.at)
+        for port, kind in PORTS:
+            self.model.port(port, kind)
+
+    def asked(self, what: str, *words: object) -> tuple[object, ...]:
+        return getattr(self.model, what)(*words) or ()
+
+    def left(self, me: int) -> list[tuple[int, object]]:
+        """What left, to be handed over: beside each the node that it goes to."""
+        frames = [it for _, it in self.model.station.frames]
+        self.model.station.forget()
+        return [(it.flow.source if it.kind == "ack" else it.flow.target, (WORLD_CHARGE, it)) for it in frames]
+
+    def taken(self) -> list[tuple[object, ...]]:
+        told = list(self.model.queue)
+        self.model.queue.clear()
+        return told
+
+    def end(self) -> None:
+        pass
+
+
+class Pair(Alone):
     """The model over a node of the library, and what is judged over another one; both are asked the same."""
 
     def __init__(self, run: "World", me: int, is_again: bool) -> None:
-        deltat, others = Simulated.deltat, [it for it in (1, 2, 3) if it != me]
+        deltat, others = run.deltat, [it for it in (1, 2, 3) if it != me]
         links, routes = [deltat.Link(it, WORLD_CHARGE) for it in others], {it: it for it in others}
         self.life = next(run.lives[me])
-        plain = deltat.Node(me, run.params, links, routes, is_again, run.at)
+        params = deltat.Params(**dataclasses.asdict(run.params))
+        plain = deltat.Node(me, params, links, routes, is_again, run.at)
         self.model = service_model.Node(me, self.life, LibraryStation(deltat, plain), run.limits, run.at)
         service = importlib.import_module("service")
         limits = service.Limits(run.limits.most_waiting, run.limits.most_open, run.limits.most_each)
-        self.other = Half(service, service.Node(me, self.life, run.params, links, routes, is_again, run.at, limits))
-        for port, kind in ((10, CALLER), (11, CALLER), (20, SERVICE)):
+        self.other = Half(service, service.Node(me, self.life, params, links, routes, is_again, run.at, limits))
+        for port, kind in PORTS:
             self.model.port(port, kind)
             self.other.port(port, kind)
-        self.deadlines: dict[int, int] = {}
 
     def asked(self, what: str, *words: object) -> tuple[object, ...]:
         statuses = getattr(self.model, what)(*words), getattr(self.other, what)(*words)
@@ -224,33 +268,36 @@ class Pair:
             holds(counts[0] == counts[1], f"{what} {words}: counted {counts[1]}, and the definitions say {counts[0]}")
         return statuses[0] or ()
 
-    def frames(self) -> list[object]:
+    def left(self, me: int) -> list[tuple[int, object]]:
         frames = list(self.model.station.node.frames()), list(self.other.node.frames())
         holds(frames[0] == frames[1], "other frames than by the definitions")
-        return frames[0]
+        return [(it.to, (me, it.octets, 0)) for it in frames[0]]
 
     def taken(self) -> list[tuple[object, ...]]:
-        told = list(self.model.queue)
-        self.model.queue.clear()
-        others = self.other.taken()
+        told, others = super().taken(), self.other.taken()
         holds(told == others, f"told {others}, and the definitions say {told}")
         return told
 
+    def end(self) -> None:
+        self.model.station.node.close()
+        self.other.node.close()
+
 
 class World:
-    """A random run of three nodes of the library over links that drop, repeat and reorder. The theorems are checked by
-    the names of calls."""
+    """A random run of three nodes over links that drop, repeat and reorder: of the library, or plain ones where there is
+    none. The theorems are checked by the names of calls."""
 
-    def __init__(self, seed: int) -> None:
-        self.chance = chance = random.Random(seed)
+    def __init__(self, seed: int, deltat: types.ModuleType | None) -> None:
+        self.chance, self.deltat = random.Random(seed), deltat
+        self.make, chance = Pair if deltat else Alone, self.chance
         seg, room = chance.choice([10, 100]), chance.choice([40, 400])
-        self.params = Simulated.deltat.Params(mpl=100, r=300, a=20, rto=50, probe=80, seg=seg, cap=room, rcap=400, window=chance.choice([25, 400]))
+        self.params = station_model.Params(mpl=100, r=chance.choice([60, 300]), a=20, rto=50, probe=80, seg=seg, cap=room, rcap=400, window=chance.choice([25, 400]))
         self.limits = Limits(*([chance.randint(1, 4) for _ in range(3)] if chance.random() < 0.3 else [50] * 3))
         self.loss = chance.choice([0.0, 0.1, 0.4])
         self.at, self.count, self.words = 0, itertools.count(), itertools.count()
         self.lives = {me: itertools.count(1) for me in (1, 2, 3)}
-        self.pairs = {me: Pair(self, me, False) for me in (1, 2, 3)}
-        self.links: list[tuple[int, int, int, int, bytes]] = []
+        self.pairs = {me: self.make(self, me, False) for me in (1, 2, 3)}
+        self.links: list[tuple[int, int, int, object]] = []
         # the names of calls by their node and number
         self.names: dict[tuple[int, int], Token] = {}
         # by the name of each call: what it carried, its place among those of its flow, how often it was handed out, the
@@ -264,17 +311,18 @@ class World:
         self.tokens: dict[int, list[Token]] = {2: [], 3: []}
         self.totals: Counter[str] = Counter()
 
-    def after(self, me: int) -> None:
-        """What leaves goes on the links; what was told is taken, sooner or later."""
+    def after(self, me: int, is_turn: bool = True) -> None:
+        """What leaves goes on the links; what was told is taken, sooner or later. What is refused is no turn."""
         pair, chance = self.pairs[me], self.chance
-        for frame in pair.frames():
+        for to, came in pair.left(me):
             for _ in range(0 if chance.random() < self.loss else chance.choice([1, 1, 1, 2])):
                 delay = chance.randrange(WORLD_CHARGE) if chance.random() < 0.3 else 5
-                heapq.heappush(self.links, (self.at + delay, next(self.count), frame.to, me, frame.octets))
+                heapq.heappush(self.links, (self.at + delay, next(self.count), to, came))
         if chance.random() < 0.8:
             for it in pair.taken():
                 self.told(me, it)
-        holds(all(it.deadline > pair.model.now for it in pair.model.waiting.values()), "a deadline has passed")
+        if is_turn:
+            holds(all(it.deadline > pair.model.now for it in pair.model.waiting.values()), "a deadline has passed")
 
     def told(self, me: int, it: tuple[object, ...]) -> None:
         if it[0] == "request":
@@ -293,8 +341,7 @@ class World:
         self.totals[str(it[0] if it[0] == "answered" else it[2])] += 1
         if it[0] == "answered":
             holds(self.replies[token] == [it[2]], "another answer")
-            # its request may not be taken yet
-            holds(self.handed[token] <= 1, "handed out twice")
+            holds(self.handed[token] == 1, "answered, and not handed out once")
 
     def event(self) -> None:
         chance, what = self.chance, self.chance.random()
@@ -309,9 +356,9 @@ class World:
             life = next(self.lives[me])
             self.pairs[me].asked("raise_life", life)
         elif what < 0.75 and self.links:
-            due, _, to, link, octets = heapq.heappop(self.links)
+            due, _, to, came = heapq.heappop(self.links)
             self.at = max(self.at, due)
-            self.pairs[to].asked("arrive", self.at, (link, octets, 0))
+            self.pairs[to].asked("arrive", self.at, came)
             self.after(to)
         else:
             self.pass_time()
@@ -335,13 +382,13 @@ class World:
             token = Token(flow, status[1])
             self.names[flow.source, status[1]] = token
             self.payloads[token], self.places[token] = payload, len(self.places)
-        self.after(flow.source)
+        self.after(flow.source, status[0] == "made" or status[1:2] in (("quiet",), ("full",)))
 
     def reply(self, me: int) -> None:
         if self.tokens[me]:
             token = self.tokens[me][-1] if self.chance.random() < 0.6 else self.chance.choice(self.tokens[me])
             if self.chance.random() < 0.05:
-                self.pairs[me].asked("forget", self.at, token)
+                status = self.pairs[me].asked("forget", self.at, token)
             else:
                 payload = b"answer %d to " % next(self.words) + self.payloads[token][:4]
                 status = self.pairs[me].asked("reply", self.at, token, payload)
@@ -349,7 +396,7 @@ class World:
                 if status[0] == "done":
                     self.replies[token].append(payload)
                     holds(len(self.replies[token]) == 1, "two replies for a token")
-            self.after(me)
+            self.after(me, status[0] in ("done", "full"))
 
     def restart(self, me: int) -> None:
         pair = self.pairs[me]
@@ -358,8 +405,8 @@ class World:
         pair.asked("close", self.at)
         for it in pair.taken():
             self.told(me, it)
-        pair.model.station.node.close()
-        self.pairs[me] = Pair(self, me, True)
+        pair.end()
+        self.pairs[me] = self.make(self, me, True)
         self.totals["restarts"] += 1
 
     def go(self) -> None:
@@ -368,19 +415,21 @@ class World:
         for pair in self.pairs.values():
             for name in pair.model.counts:
                 self.totals[name] += pair.model.counts[name]
-            pair.model.station.node.close()
-            pair.other.close(self.at)
+            pair.end()
 
 
-def world(count: int, first: int) -> bool:
+def world(count: int, first: int, deltat: types.ModuleType | None) -> bool:
+    over = "the library" if deltat else "plain stations"
     totals: Counter[str] = Counter()
     for seed in range(first, first + count):
-        run = World(seed)
+        run = World(seed, deltat)
         try:
             run.go()
         except Broken as why:
-            print(f"run {seed} over the library fails: {why}")
+            print(f"run {seed} over {over} fails: {why}")
             return False
         totals += run.totals
-    print(f"{count} runs over the library hold, and examples/bank/service.py tells the same: " + ", ".join(f"{name} {it}" for name, it in sorted(totals.items())), flush=True)
-    return totals["strange"] + totals["reused"] == 0 and all(totals[it] for it in ("answered", "given up", "patience", "closed", "reply gone", "reply full", "old", "late", "cut"))
+    agrees = ", and examples/bank/service.py tells the same" if deltat else ""
+    print(f"{count} runs over {over} hold{agrees}: " + ", ".join(f"{name} {it}" for name, it in sorted(totals.items())), flush=True)
+    wanted = ("answered", "given up", "patience", "closed", "reply gone", "reply full", "old", "late", "cut")
+    return totals["strange"] + totals["reused"] == 0 and all(totals[it] for it in wanted)

@@ -7,10 +7,12 @@
 - mutants: each defence is taken out of the definitions in turn (MUTANTS), and the runs fail; so they do where a life is
   used twice.
 - cases: single ones, of lengths, marks, refusals, limits and counts.
-- rows: ten worked runs tell exactly what is written (`tests/service_rows.py`): over reports as they are written there, and,
-  where `make -C lib` has made the library, over its nodes in simulated time, whose reports are then compared too.
-- world: random runs of three nodes of the library over links that drop, repeat and reorder, with restarts: the theorems
-  hold, by the names of the calls, and examples/bank/service.py tells just what the definitions say.
+- rows: ten worked runs tell exactly what is written (`tests/service_rows.py`): over reports as they are written there;
+  over plain stations (`tests/station_model.py`) in simulated time, whose reports are compared too; and, where
+  `make -C lib` has made the library, over its nodes.
+- world: random runs of three nodes over links that drop, repeat and reorder, with restarts: the theorems hold, by the
+  names of the calls, over plain stations, and over nodes of the library. There examples/bank/service.py is asked beside
+  the definitions, and tells just what they say.
 
 In tests/all: --runs 3000, 300 s."""
 import argparse
@@ -32,8 +34,10 @@ MODEL = pathlib.Path(service_model.__file__)
 
 MUTANTS: dict[str, list[tuple[str, str]]] = {
     "the life in the number": [("return life << 32 | count", "return count")],
-    "the token goes with its reply": [('            del self.open[token]\n        self._end()\n        return ("done",) if', '            pass\n        self._end()\n        return ("done",) if')],
-    "dropping at run marks": [("        if piece.begin or piece.run:\n            self._cut(flow)", "        if piece.begin:\n            self._cut(flow)")],
+    "the token goes with its reply": [
+        ('            del self.open[token]\n        self._end()\n        return ("done",) if', '            pass\n        self._end()\n        return ("done",) if'),
+    ],
+    "dropping at run marks": [("        if piece.begin or piece.run:\n", "        if piece.begin:\n")],
     "patience": [("elif it.deadline <= self.now:", "elif False:")],
     "patience at its very moment": [("elif it.deadline <= self.now:", "elif it.deadline < self.now:")],
     "the name as token": [
@@ -45,19 +49,28 @@ MUTANTS: dict[str, list[tuple[str, str]]] = {
         ("        for flow in list(self.unread):\n", "        self._judge(doubted)\n        for flow in list(self.unread):\n"),
     ],
     "given up before patience": [
-        ('            if number in doubted:\n                self._finish(("unsure", number, "given up"))\n            elif it.deadline <= self.now:\n                self._finish(("unsure", number, "patience"))',
-         '            if it.deadline <= self.now:\n                self._finish(("unsure", number, "patience"))\n            elif number in doubted:\n                self._finish(("unsure", number, "given up"))'),
+        ('            if number in doubted:\n                self._finish(("unsure", number, "given up"))\n            elif it.deadline',
+         '            if number in doubted and it.deadline > self.now:\n                self._finish(("unsure", number, "given up"))\n            elif it.deadline'),
     ],
     "counting off what was settled": [('if word == "settled":', 'if word == "settled" and False:')],
     "a final state stays": [("        del self.waiting[end[1]]\n", '        if end[0] == "answered":\n            del self.waiting[end[1]]\n')],
-    "a token that stays open where its reply is full": [('        if sent[0] == "taken":\n            del self.open[token]', "        if sent[0]:\n            del self.open[token]")],
-    "a service that is full reads no more": [("        return len(kept) < self.limits.most_open and", "        return len(kept) <= self.limits.most_open and")],
-    "a declined call uses up no number": [("        number = number_of(self.life, self.count)\n", "        number = number_of(self.life, self.count)\n        self.count += 1\n"),
-                                           ("        self.waiting[number] = Waiting(flow, self.now + patience)\n        self.count += 1\n", "        self.waiting[number] = Waiting(flow, self.now + patience)\n")],
-    "a reply is matched by its flow": [("elif number in self.waiting and self.waiting[number].flow == flow.reversed():", "elif number in self.waiting:")],
-    "who is read until nothing is there": [("            while self._may_read(flow):", "            if self._may_read(flow):"), ("                    break\n", "                    continue\n")],
+    "a token that stays open where its reply is full": [
+        ('        if sent[0] == "taken":\n            del self.open[token]', "        if sent[0]:\n            del self.open[token]"),
+    ],
+    "a service that is full reads no more": [("len(kept) < self.limits.most_open and", "len(kept) <= self.limits.most_open and")],
+    "a declined call uses up no number": [
+        ("        number = number_of(self.life, self.count)\n", "        number = number_of(self.life, self.count)\n        self.count += 1\n"),
+        ("self.now + patience)\n        self.count += 1\n", "self.now + patience)\n"),
+    ],
+    "a reply is matched by its flow": [
+        ("elif number in self.waiting and self.waiting[number].flow == flow.reversed():", "elif number in self.waiting:"),
+    ],
+    "all is read until nothing is there": [
+        ("            while self._may_read(flow):", "            if self._may_read(flow):"),
+        ("                    break\n", "                    continue\n"),
+    ],
 }
-# those that no theorem needs, since other facts hold them too: they bound what is kept
+# those that no run needs, since other facts hold what they hold: a single case shows them
 SILENT = {"a reply is matched by its flow"}
 
 
@@ -85,9 +98,12 @@ def first_failure(model: types.ModuleType, tries: int, has_lives_twice: bool = F
 def mutants(tries: int) -> bool:
     right = True
     for name, edits in MUTANTS.items():
-        found = first_failure(mutant(edits), tries)
-        right &= (found is None) == (name in SILENT)
-        print(f"without {name!r}: " + (f"run {found[0]} fails: {found[1]}" if found else f"none of {tries} runs fails"), flush=True)
+        module = mutant(edits)
+        found = first_failure(module, tries)
+        failed = failed_cases(module) if name in SILENT else []
+        right &= bool(failed) if name in SILENT else found is not None
+        told = f"run {found[0]} fails: {found[1]}" if found else f"none of {tries} runs fails"
+        print(f"without {name!r}: {told}" + "".join(f"; the case fails: {it}" for it in failed), flush=True)
     found = first_failure(service_model, tries, has_lives_twice=True)
     print("with lives that are used twice: " + (f"run {found[0]} fails: {found[1]}" if found else "no run fails"), flush=True)
     return right and found is not None
@@ -192,8 +208,8 @@ CASES: list[tuple[str, list[tuple[object, ...]], list[list[tuple[object, ...]]],
 ]
 
 
-def node_of(limits: Limits = Limits()) -> service_model.Node:
-    node = service_model.Node(1, 5, Pieces(), limits)
+def node_of(limits: Limits = Limits(), model: types.ModuleType = service_model) -> service_model.Node:
+    node = model.Node(1, 5, Pieces(), limits)
     node.port(10, CALLER)
     node.port(20, SERVICE)
     return node
@@ -205,33 +221,43 @@ def limited() -> list[tuple[str, bool]]:
     events = [came(INTO, message(9), message(10)), ("reply", 6, Token(INTO, 9), b""), ("take",), ("tick", 7)]
     each = judged(node_of(Limits(9, 9, 1)), events, keeps=True)
     taken = judged(node_of(Limits(9, 9, 1)), events)
-    many = judged(node_of(Limits(1, 9, 9)), [("call", 1, OUT, b"", 9), ("call", 1, OUT, b"", 9), ("tick", 20), ("call", 21, OUT, b"", 9), ("take",), ("call", 22, OUT, b"", 9)], keeps=True)
+    call = "call", 1, OUT, b"", 9
+    many = judged(node_of(Limits(1, 9, 9)), [call, call, ("tick", 20), call, ("take",), call], keeps=True)
     last = node_of()
     last.count = (1 << 32) - 1
-    numbers = judged(last, [("call", 1, OUT, b"", 9), ("call", 1, OUT, b"", 9), ("raise_life", 6), ("call", 1, OUT, b"", 9)])
+    numbers = judged(last, [call, call, ("raise_life", 6), call])
     # the head of 9 is read, then there is no room; its tail stays unread, and its record is released
     other = Token(INTO._replace(source=8), 4)
-    kept = judged(node_of(Limits(9, 1, 9)), [came(INTO, message(9, b"a", end=False)), came(other.flow, message(4)), came(INTO, Piece(b"b", False, True, False)), came(INTO, None), ("reply", 6, other, b"")])
+    kept = judged(node_of(Limits(9, 1, 9)), [
+        came(INTO, message(9, b"a", end=False)), came(other.flow, message(4)), came(INTO, Piece(b"b", False, True, False)),
+        came(INTO, None), ("reply", 6, other, b""),
+    ])
     return [
         ("a receiver with unread octets keeps what was begun", kept == [[], [("request", other, b"")], [], [], [("done",), request(9, b"ab")]]),
         ("an untaken request has a place", each == [[request(9)], [("done",)], [request(9)], [request(10)]]),
         ("a reply makes room", taken == [[request(9)], [("done",), request(10)], [], []]),
-        ("an untaken end has a place", [it[:1] for it in many] == [[("made", 5 << 32)], [("declined", "many")], [("unsure", 5 << 32, "patience")], [("declined", "many")], [("unsure", 5 << 32, "patience")], [("made", 5 << 32 | 1)]]),
+        ("an untaken end has a place", [it[:1] for it in many] == [
+            [("made", 5 << 32)], [("declined", "many")], [("unsure", 5 << 32, "patience")], [("declined", "many")],
+            [("unsure", 5 << 32, "patience")], [("made", 5 << 32 | 1)],
+        ]),
         ("a life has 2^32 numbers", numbers == [[("made", (6 << 32) - 1)], [("declined", "numbers")], [("done",)], [("made", 6 << 32)]]),
     ]
 
 
-def cases() -> bool:
-    found = []
+def failed_cases(model: types.ModuleType) -> list[str]:
+    """The single cases that differ."""
+    failed = []
     for name, events, told, counts in CASES:
-        node = node_of()
-        log = judged(node, events)
-        found.append((name, log == told and dict(node.counts) == counts))
-        if not found[-1][1]:
-            print(f"{name}: {log}, counted {dict(node.counts)}")
-    found += limited()
-    failed = [name for name, is_right in found if not is_right]
-    print(f"{len(found)} single cases" + (f", FAILED: {', '.join(failed)}" if failed else " are right"), flush=True)
+        node = node_of(model=model)
+        if judged(node, events) != told or dict(node.counts) != counts:
+            failed.append(name)
+    return failed
+
+
+def cases() -> bool:
+    found = limited()
+    failed = failed_cases(service_model) + [name for name, is_right in found if not is_right]
+    print(f"{len(CASES) + len(found)} single cases" + (f", FAILED: {', '.join(failed)}" if failed else " are right"), flush=True)
     return not failed
 
 
@@ -239,14 +265,15 @@ def main() -> int:
     reads = argparse.ArgumentParser(description=__doc__, formatter_class=argparse.RawDescriptionHelpFormatter)
     reads.add_argument("--runs", type=int, default=10_000)
     reads.add_argument("--first", type=int, default=0, metavar="SEED")
-    reads.add_argument("--worlds", type=int, default=200, help="the runs over the library")
+    reads.add_argument("--worlds", type=int, default=200, help="the runs of three nodes")
     reads.add_argument("--tries", type=int, default=3_000, help="the runs that a mutant gets")
     reads.add_argument("library", nargs="?")
     given = reads.parse_args()
-    Simulated.deltat = library(given.library)
+    deltat = library(given.library)
     right = [cases(), rows(Scripted, "scripts"), runs(given.runs, given.first), mutants(given.tries)]
-    if Simulated.deltat:
-        right += [rows(Simulated, "the library"), world(given.worlds, given.first)]
+    right += [rows(lambda params: Simulated(params, None), "plain stations"), world(given.worlds, given.first, None)]
+    if deltat:
+        right += [rows(lambda params: Simulated(params, deltat), "the library"), world(given.worlds, given.first, deltat)]
     else:
         print("nothing was tried over the library, since it isn't there: make -C lib")
     return 0 if all(right) else 1

@@ -7,6 +7,7 @@ them again.
 UNTIL is a moment in ms of `deltat.now()`: until then a client gives orders, and after it only finds out what became of
 them. In FOLDER are the journal of the bank, and the notes of each client."""
 import asyncio
+import os
 import pathlib
 import random
 import socket
@@ -19,20 +20,23 @@ from accounts import ACCOUNTS, Bank, Notes
 import service
 from service import deltat
 
-BANK_HOST, CLIENT_HOST = "10.9.0.1", "10.9.0.2"
 PORT = 4_700
+# whether the ends are on this machine, with a relay between them (demo.py), or in two namespaces (tests/wan.py)
+IS_RELAYED = os.environ.get("BANK_RELAYED") == "1"
+BANK_HOST, CLIENT_HOST = ("127.0.0.1", "127.0.0.1") if IS_RELAYED else ("10.9.0.1", "10.9.0.2")
+# what is added to the port of a client where it sends to the bank, and where the bank sends to it, over a relay
+TO_BANK, TO_CLIENT = 100, 200
 BANK, CLIENTS = 100, 20
 """Node numbers: the bank's, and how many clients there are, from 1 on."""
-# as `tools/params.py 300 50` tells them: delays of 20 ms, late ones of 60, and a machine under load
-PARAMS = deltat.Params(mpl=352, r=450, a=5, rto=90, probe=180, seg=1442, cap=65536, rcap=65536, window=65536)
-CHARGE = 344
+# as `tools/params.py 200 50` tells them: delays of 20 ms, late ones of 60, and a machine under load
+PARAMS = deltat.Params(mpl=252, r=450, a=5, rto=90, probe=180, seg=1442, cap=65536, rcap=65536, window=65536)
+CHARGE = 244
 # a request that was sent at once and its answer are over after 2 (r + mpl) and the bank's time
 PATIENCE = 2.0
 DRAIN_MS = 15_000
-HOSTS = (BANK_HOST, CLIENT_HOST)
 
 
-def bank_udp(folder: pathlib.Path, hosts: tuple[str, str] = HOSTS) -> deltat.Udp:
+def bank_udp(folder: pathlib.Path) -> deltat.Udp:
     """The bank's node: each client is a link of its own."""
     notes = Notes(folder / "bank.notes", BANK)
     life = notes.new_life()
@@ -40,12 +44,18 @@ def bank_udp(folder: pathlib.Path, hosts: tuple[str, str] = HOSTS) -> deltat.Udp
     routes = {it: it for it in range(1, CLIENTS + 1)}
     node = service.Node(BANK, life, PARAMS, links, routes, again=life > 1)
     node.port(20, service.Kind.SERVICE)
-    return deltat.Udp(node, (hosts[0], PORT), {it: (hosts[1], PORT + it) for it in routes}, routes)
+    peers = {it: (CLIENT_HOST, PORT + it + (TO_CLIENT if IS_RELAYED else 0)) for it in routes}
+    return deltat.Udp(node, (BANK_HOST, PORT), peers, routes)
 
 
-def serve(folder: pathlib.Path, hosts: tuple[str, str] = HOSTS) -> None:
+def client_udp(node: service.Node) -> deltat.Udp:
+    """A client's socket, whose only peer is the bank."""
+    return deltat.Udp(node, (CLIENT_HOST, PORT + node.number), {BANK: (BANK_HOST, PORT + (TO_BANK + node.number if IS_RELAYED else 0))})
+
+
+def serve(folder: pathlib.Path) -> None:
     bank = Bank(folder / "journal")
-    with bank_udp(folder, hosts) as udp:
+    with bank_udp(folder) as udp:
         calls = service.Calls(udp)
         for request in calls.requests():
             calls.reply(request.token, bank.handle(request.payload))
@@ -79,10 +89,10 @@ class CallingClient(Client):
     """Over calls: where it is unsure it asks, by another call on the same flow. An answer to that is the last word: the
     order was handed out before the question, or never will be."""
 
-    def run(self, hosts: tuple[str, str] = HOSTS) -> None:
+    def run(self) -> None:
         node = service.Node(self.number, self.life, PARAMS, [deltat.Link(1, CHARGE)], {BANK: 1}, again=self.life > 1)
         node.port(10, service.Kind.CALLER)
-        with deltat.Udp(node, (hosts[1], PORT + self.number), {BANK: (hosts[0], PORT)}) as self.udp:
+        with client_udp(node) as self.udp:
             self.calls = service.Calls(self.udp)
             while not self.is_over():
                 for order in self.notes.open_orders():
@@ -116,7 +126,7 @@ class CallingClient(Client):
             self.notes.note(f"fate {order} {fate}")
 
 
-async def serve_tcp(folder: pathlib.Path, host: str = BANK_HOST) -> None:
+async def serve_tcp(folder: pathlib.Path) -> None:
     bank = Bank(folder / "journal")
 
     async def answer(reader: asyncio.StreamReader, writer: asyncio.StreamWriter) -> None:
@@ -128,7 +138,7 @@ async def serve_tcp(folder: pathlib.Path, host: str = BANK_HOST) -> None:
             pass
         writer.close()
 
-    server = await asyncio.start_server(answer, host, PORT, reuse_address=True)
+    server = await asyncio.start_server(answer, BANK_HOST, PORT, reuse_address=True)
     await server.serve_forever()
 
 
@@ -136,7 +146,6 @@ class TcpClient(Client):
     """Over TCP: an order that isn't answered in time, or whose connection breaks, is given again."""
 
     stream: socket.socket | None = None
-    host = BANK_HOST
 
     def run(self) -> None:
         while not self.is_over():
@@ -152,7 +161,7 @@ class TcpClient(Client):
         """What was answered, or None: there was no connection, it broke, or it took too long."""
         try:
             if self.stream is None:
-                self.stream = socket.create_connection((self.host, PORT), PATIENCE)
+                self.stream = socket.create_connection((BANK_HOST, PORT), PATIENCE)
             self.stream.sendall(request)
             answer = b""
             while not answer.endswith(b"\n"):

@@ -1,11 +1,12 @@
 #!/usr/bin/env python3
 """A bank whose servers and clients are killed, over a link that drops, repeats and reorders: by calls, and over TCP.
 
-    examples/bank/demo.py [--seconds 60] [--seed 1] [--loss 0.05] [--repeat 0.05] [--late 0.05] [--keep FOLDER]
+    examples/bank/demo.py [--seconds 60] [--seed 1] [--loss 0.05] [--repeat 0.05] [--late 0.05] [--keep FOLDER] [--relay]
 
 20 clients give orders to a bank of 100 accounts, each written down, each given once by a call, or again and again over
-TCP until it is answered. The link is that of tests/wan.py, two network namespaces with 20 ms between them each way, so
-it wants root and /dev/net/tun; it ends with 2 where there are none. A client is killed every 0.5 s, the bank every 5 s,
+TCP until it is answered. The link is that of tests/wan.py, two network namespaces with 20 ms between them each way,
+which wants root and /dev/net/tun. Where there are none, or with --relay, both ends are on this machine, and a relay
+between them does the same to the datagrams of calls; TCP has no losses and no delay then. A client is killed every 0.7 s, the bank every 10 s,
 each at a random moment, and started again. Behind the time that was asked for nobody is killed any more, and each
 client finds out what became of its last orders.
 
@@ -15,9 +16,14 @@ with 1. What TCP with retries did stands beside it. At last the first answer of 
 without losses: a flow or a connection of its own for each."""
 import argparse
 import asyncio
+import heapq
+import importlib
 import json
+import os
 import pathlib
 import random
+import select
+import socket
 import statistics
 import subprocess
 import sys
@@ -33,10 +39,10 @@ import bank  # noqa: E402
 import service  # noqa: E402
 from accounts import ACCOUNTS, START, Bank, Notes  # noqa: E402
 from service import deltat  # noqa: E402
-from wan import Bound, Link, impaired_link  # noqa: E402
+from wan import Bound, Carrier, Link, Outcome, impaired_link, stop  # noqa: E402
 
 DELAY = 20
-KILL_CLIENT, KILL_BANK = 0.5, 5.0
+KILL_CLIENT, KILL_BANK = 0.7, 10.0
 FIRSTS = 20
 WAYS = {"calls": ("serve", "ask"), "TCP": ("serve-tcp", "ask-tcp")}
 
@@ -113,16 +119,83 @@ def outcome(folder: pathlib.Path) -> dict[str, int]:
     }
 
 
+class Relay(threading.Thread):
+    """What tests/wan.py does to packets, done to datagrams between ends on this machine."""
+
+    def __init__(self, link: Link, seed: int) -> None:
+        super().__init__(daemon=True)
+        self.carrier = Carrier(link, random.Random(seed), [])
+        self.over = threading.Event()
+        # beside each socket the one that passes on what came to it, and the port that it goes to
+        self.ways: dict[socket.socket, tuple[socket.socket, int]] = {}
+        for number in range(1, bank.CLIENTS + 1):
+            near, far = self.bound(bank.TO_BANK + number), self.bound(bank.TO_CLIENT + number)
+            self.ways |= {near: (far, bank.PORT), far: (near, bank.PORT + number)}
+        self.sockets = list(self.ways)
+
+    @staticmethod
+    def bound(offset: int) -> socket.socket:
+        it = socket.socket(socket.AF_INET, socket.SOCK_DGRAM)
+        it.bind((bank.BANK_HOST, bank.PORT + offset))
+        return it
+
+    def run(self) -> None:
+        waiting = self.carrier.waiting
+        while not self.over.is_set():
+            due = waiting[0][0] - time.monotonic() if waiting else 0.02
+            for it in select.select(self.sockets, [], [], min(max(due, 0.0), 0.02))[0]:
+                # a carrier hands over to the side that is 1 less the one that it took from
+                self.carrier.accept(1 - self.sockets.index(it), it.recv(65_536), time.monotonic())
+            while waiting and waiting[0][0] <= time.monotonic():
+                _, _, at, octets = heapq.heappop(waiting)
+                out, port = self.ways[self.sockets[at]]
+                out.sendto(octets, (bank.BANK_HOST, port))
+
+    def stop(self) -> None:
+        self.over.set()
+        self.join()
+        for it in self.sockets:
+            it.close()
+
+
+def relayed(commands: list[list[str]], link: Link, bound: Bound, seed: int) -> Outcome:
+    """What `impaired_link` does, without namespaces."""
+    relay = Relay(link, seed)
+    relay.start()
+    running = [subprocess.Popen(it, start_new_session=True) for it in commands]
+    try:
+        return Outcome([0, running[1].wait(bound.seconds)], relay.carrier.counts)
+    except subprocess.TimeoutExpired:
+        return Outcome([0, 0], relay.carrier.counts, stopped=True)
+    finally:
+        stop(running)
+        relay.stop()
+
+
+def linked(commands: list[list[str]], link: Link, bound: Bound, seed: int = 1) -> Outcome:
+    """Runs the bank and its clients over a link, until the clients have ended."""
+    if bank.IS_RELAYED:
+        return relayed(commands, link, bound, seed)
+    return impaired_link(commands, link, bound, seed, serves=True)
+
+
+def has_namespaces() -> bool:
+    try:
+        return not any(impaired_link([["true"], ["true"]], Link(0), Bound(5)).statuses)
+    except (OSError, subprocess.CalledProcessError):
+        return False
+
+
 def over(way: str, link: Link, seconds: float, seed: int, folder: pathlib.Path) -> dict[str, int]:
     """A run of the bank over a link."""
     folder.mkdir()
     until = deltat.now() + round(1000 * seconds) + 1_000
     words = [sys.executable, str(HERE / "demo.py"), "keep"]
     commands = [[*words, side, way, str(folder), str(until), str(seed)] for side in ("bank", "clients")]
-    ran = impaired_link(commands, link, Bound(seconds + 60), seed, serves=True)
+    ran = linked(commands, link, Bound(seconds + 60), seed)
     if ran.stopped or any(ran.statuses):
         raise SystemExit(f"demo: {way}: the clients ended with {ran.statuses[1]}" + (", stopped" if ran.stopped else ""))
-    print(f"{way}: {ran.counts}", flush=True)
+    print(f"{way}: {ran.counts if ran.counts.went else 'without losses'}", flush=True)
     return outcome(folder)
 
 
@@ -142,7 +215,7 @@ def first_ask(folder: pathlib.Path) -> None:
     time.sleep(1)
     took: dict[str, list[float]] = {"calls": [], "TCP": []}
     node = service.Node(1, 1, bank.PARAMS, [deltat.Link(1, bank.CHARGE)], {bank.BANK: 1})
-    with deltat.Udp(node, (bank.CLIENT_HOST, bank.PORT + 1), {bank.BANK: (bank.BANK_HOST, bank.PORT)}) as udp:
+    with bank.client_udp(node) as udp:
         calls = service.Calls(udp)
         for at in range(FIRSTS):
             node.port(10 + at, service.Kind.CALLER)
@@ -161,17 +234,18 @@ def firsts(folder: pathlib.Path) -> dict[str, float]:
     """The median of the first answers, in ms."""
     folder.mkdir()
     words = [sys.executable, str(HERE / "demo.py")]
-    ran = impaired_link([[*words, "first-serve", str(folder)], [*words, "first-ask", str(folder)]], Link(DELAY), Bound(40), 1, serves=True)
+    ran = linked([[*words, "first-serve", str(folder)], [*words, "first-ask", str(folder)]], Link(DELAY), Bound(40))
     if ran.stopped or any(ran.statuses):
         raise SystemExit("demo: the first answers didn't come")
-    return {way: statistics.median(it) for way, it in json.loads((folder / "first").read_text()).items()}
+    took = {way: statistics.median(it) for way, it in json.loads((folder / "first").read_text()).items()}
+    return {way: it for way, it in took.items() if way == "calls" or not bank.IS_RELAYED}
 
 
 def table(found: dict[str, dict[str, int]], first: dict[str, float]) -> str:
     names = list(next(iter(found.values())))
     lines = [["", *found]] + [[name, *(str(it[name]) for it in found.values())] for name in names]
-    lines.append([f"first answer, {DELAY} ms each way", *(f"{first[way]:.0f} ms" for way in found)])
-    return "\n".join(f"{it[0]:36}" + "".join(f"{word:>12}" for word in it[1:]) for it in lines)
+    lines.append([f"first answer, {DELAY} ms each way", *(f"{first[way]:.0f} ms" if way in first else "-" for way in found)])
+    return "\n".join(f"{it[0]:44}" + "".join(f"{word:>12}" for word in it[1:]) for it in lines)
 
 
 def is_kept(it: dict[str, int]) -> bool:
@@ -182,16 +256,16 @@ def is_kept(it: dict[str, int]) -> bool:
 
 
 def demonstrate(folder: pathlib.Path, given: argparse.Namespace) -> int:
+    if given.relay or not has_namespaces():
+        os.environ["BANK_RELAYED"] = "1"
+        # this process relays, and those that it starts are told by their environment
+        importlib.reload(bank)
     link = Link(DELAY, given.loss, given.repeat, given.late)
+    place = "a relay on this machine" if bank.IS_RELAYED else "two namespaces by tests/wan.py"
     print(f"{DELAY} ms each way; of 100 packets {100 * link.loss:.0f} dropped, {100 * link.dup:.0f} repeated, {100 * link.reorder:.0f} late by up to "
-          f"{2 * DELAY} ms more; two namespaces by tests/wan.py; {given.seconds:.0f} s, seed {given.seed}", flush=True)
-    try:
-        found = {way: over(way, link, given.seconds, given.seed, folder / way) for way in WAYS}
-        first = firsts(folder / "firsts")
-    except (OSError, subprocess.CalledProcessError) as error:
-        print(f"demo: there is no such link here: {error}", file=sys.stderr)
-        return 2
-    print(table(found, first))
+          f"{2 * DELAY} ms more; {place}; {given.seconds:.0f} s, seed {given.seed}", flush=True)
+    found = {way: over(way, link, given.seconds, given.seed, folder / way) for way in WAYS}
+    print(table(found, firsts(folder / "firsts")))
     return 0 if is_kept(found["calls"]) else 1
 
 
@@ -208,6 +282,7 @@ def main() -> int:
     for name in ("loss", "repeat", "late"):
         reads.add_argument(f"--{name}", type=float, default=0.05, metavar="P")
     reads.add_argument("--keep", type=pathlib.Path, metavar="FOLDER", help="where journals and notes stay")
+    reads.add_argument("--relay", action="store_true", help="without namespaces, also where there are some")
     given = reads.parse_args()
     if given.keep:
         given.keep.mkdir(parents=True)

@@ -14,7 +14,7 @@ A life is a number of 32 bits that this node number never had at an earlier open
 that is written before the first call. A port is a caller's or a service's in each life of its node, and callers call
 services alone. Moments are ms of `deltat.now()`.
 
-The node below is proved; this file is tested only (`tests/service.py` compares it with a model of the definitions)."""
+The node below is proved; this file is tested only (`tests/services.py` compares it with a model of the definitions)."""
 from __future__ import annotations
 
 import enum
@@ -122,7 +122,7 @@ class Node(deltat.Node):
         self._untaken_ends = 0
         self._untaken: Counter[Token] = Counter()
         self._messages: dict[deltat.Flow, bytearray] = {}
-        self._receivers: set[deltat.Flow] = set()
+        self._records: set[deltat.Flow] = set()
         self._to_read: dict[deltat.Flow, None] = {}
         self._doubted: set[int] = set()
         self._latest = deltat.now() if at is None else at
@@ -254,9 +254,9 @@ class Node(deltat.Node):
         if told.kind in (deltat.Kind.SETTLED, deltat.Kind.UNCERTAIN):
             self._count_off(told.flow, told.count, told.kind is deltat.Kind.UNCERTAIN)
         elif told.kind is deltat.Kind.ACCEPTED:
-            self._receivers.add(told.flow)
+            self._records.add(told.flow)
         elif told.kind is deltat.Kind.RELEASED and not told.sending:
-            self._receivers.discard(told.flow)
+            self._records.discard(told.flow)
         if told.kind is deltat.Kind.ACCEPTED and told.flow.target_port in self._kinds:
             self._to_read[told.flow] = None
             self._reports.append(told)
@@ -286,7 +286,8 @@ class Node(deltat.Node):
                     del self._to_read[flow]
                     break
                 self._put_together(flow, piece)
-        for flow in [it for it in self._messages if it not in self._receivers]:
+        # a receiver is kept as long as it has a record or unread octets
+        for flow in [it for it in self._messages if it not in self._records and it not in self._to_read]:
             self._cut(flow)
         doubted, self._doubted = self._doubted, set()
         for number, (_, deadline) in list(self._waiting.items()):
