@@ -5,6 +5,7 @@ mod Worlds
 mod Events
 mod Rerouting
 mod Openings
+mod Away
 mod Picking
 mod Refusals
 mod Late

@@ -23,7 +23,7 @@ use Rattle.dt_network.proofs.Booked.{Booked}
 use Rattle.dt_network.specs.Beside.{reroute, rerouted}
 use Rattle.dt_network.specs.Books.{Book}
 
-all_entries_weaker : (P Q : ℕ → Placed → Type 0) → ((k : ℕ) (a : Placed) → P k a → Q k a) → (es : List (ℕ × Placed)) → AllEntries P es → AllEntries Q es
+pub all_entries_weaker : (P Q : ℕ → Placed → Type 0) → ((k : ℕ) (a : Placed) → P k a → Q k a) → (es : List (ℕ × Placed)) → AllEntries P es → AllEntries Q es
 all_entries_weaker P Q on [] h = tt
 all_entries_weaker P Q on (e ∷ es) h = (on e.0 e.1 h.0, all_entries_weaker P Q on es h.1)
 

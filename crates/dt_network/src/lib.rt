@@ -4,11 +4,20 @@
 
 mod worked;
 
-ghost use Rattle.std.specs.Prelude.{false, List};
+ghost use Rattle.std.specs.Prelude.{ℕ, ◌≡◌, ◌==◌, false, List, None, Some};
 ghost use Rattle.dt_items.specs.declared.item.Item.{Item};
 ghost use Rattle.dt_units.specs.declared.endpoints.Flow.{Flow};
 ghost use Rattle.dt_units.specs.Limits.{IsWithinLimits};
 ghost use Rattle.dt_world_model.specs.Setup.{Setup, new_world};
+ghost use Rattle.dt_units.specs.declared.parameters.Params.{Params};
+ghost use Rattle.dt_world_model.specs.declared.links.InLink.{InLink};
+ghost use Rattle.dt_world_model.specs.declared.links.OutLink.{OutLink};
+ghost use Rattle.dt_world_model.specs.declared.links.Route.{Route};
+ghost use Rattle.dt_world_model.specs.Tables.{look};
+ghost use Rattle.dt_world_model.specs.World.{Placed, World};
+ghost use Rattle.dt_world_model.specs.WorldFacts.{SafeWorld, WorldFacts};
+ghost use Rattle.dt_endpoint.specs.Endpoints.{opened};
+ghost use Rattle.dt_network.specs.Away.{WasAway, open_at_once, opened_at_once};
 ghost use Rattle.dt_network.specs.Beside.{GoesBeside};
 ghost use Rattle.dt_network.specs.Books.{AllFound, IsSafeBook, book_of, new_book};
 ghost use Rattle.dt_network.specs.Duties.{KeepsDuties};
@@ -37,6 +46,17 @@ pub fn network_is_a_world()
 /// its charge.
 pub fn what_is_read_is_what_was_sent()
     ensures { (setup : Setup) (steps : List Step) (f : Flow) → IsWithinLimits setup.params → AreSteps setup steps (new_network setup) → KeepsDuties setup steps (new_network setup) → (taken : List Item) × AreTaken f steps taken × IsReadOf false (all_read f steps) taken }
+{}
+
+/// A NODE THAT WAS AWAY OPENS WITHOUT SILENCE. Where a station sent nothing on any flow and accepted
+/// nothing for the quiet time, `3 mpl + r + a`, it may start again with the host of a first start: all
+/// facts of its world stand, and each flow is safe. So a node that is known to have been away for so long
+/// may open without `again`; of one of which that isn't known, `again` is a duty.
+pub fn node_that_was_away_opens_at_once()
+    ensures facts { (w : World) (n : ℕ) (at : Placed) → look ◌==◌ n w.stations ≡ Some at → IsWithinLimits w.params → WorldFacts w → WasAway w n → WorldFacts (open_at_once w n at) }
+    ensures safe { (w : World) (n : ℕ) (at : Placed) → look ◌==◌ n w.stations ≡ Some at → IsWithinLimits w.params → WorldFacts w → WasAway w n → SafeWorld (open_at_once w n at) }
+    // It is what an endpoint of the node is that opens so.
+    ensures host { (p : Params) (n now : ℕ) (at : Placed) (outs : List OutLink) (ins : List InLink) (routes : List Route) → at.station.host.me ≡ n → (opened p n None outs ins routes).state.host ≡ (opened_at_once p now at).station.host }
 {}
 
 /// THE LEDGER THAT IS TOLD IS SAFE. Where a program keeps its duties and every call finds memory, the
