@@ -7,17 +7,18 @@ use Rattle.dt_world_model.specs.Host.{Host}
 use Rattle.dt_world_model.specs.Relay.{Parcel}
 use Rattle.dt_world_model.specs.Script.{Ask, Concludes, Done, Hand, Plays, Script, Stops, Tell}
 use Rattle.dt_endpoint.specs.Acts.{acts_of, answer_of, frames_in, out_frame, reports_in}
+use Rattle.dt_endpoint.specs.Counts.{counts_acts}
 use Rattle.dt_endpoint.specs.Hearing.{kept}
 use Rattle.dt_endpoint.specs.Collecting.{CollectEnds, CollectFails, CollectHands, CollectTags, CollectTells, Collected, CollectsPart, Same, collected, with_handed, with_told}
 
 same_self : (s : Collected) → Same s s
-same_self s = record { frames = refl; reports = refl }
+same_self s = record { frames = refl; reports = refl; counts = refl }
 
 same_then : (s m t : Collected) → Same s m → Same m t → Same s t
-same_then s m t h k = record { frames = k.frames ∙ h.frames; reports = k.reports ∙ h.reports }
+same_then s m t h k = record { frames = k.frames ∙ h.frames; reports = k.reports ∙ h.reports; counts = k.counts ∙ h.counts }
 
 same_is : (s t : Collected) → s ≡ t → Same s t
-same_is s t e = record { frames = sym (ap (λ (c : Collected). c.frames) e); reports = sym (ap (λ (c : Collected). c.reports) e) }
+same_is s t e = record { frames = sym (ap (λ (c : Collected). c.frames) e); reports = sym (ap (λ (c : Collected). c.reports) e); counts = sym (ap (λ (c : Collected). c.counts) e) }
 
 -- a collector that has failed collects nothing more
 pub record Still (s t : Collected) : Type 0 where
@@ -53,6 +54,7 @@ part_none script s t h = record {
   count = 0;
   frames = h.frames ∙ sym (append-nil s.frames);
   reports = h.reports ∙ sym (append-nil s.reports);
+  counts = h.counts;
 }
 
 part_told : {A : Type 0} (r : Told) (k : Script (Unit {0}) A) (s m t : Collected) → m ≡ with_told r s → CollectsPart k m t → CollectsPart (Tell r k) s t
@@ -60,6 +62,7 @@ part_told r k s m t e h = record {
   count = suc h.count;
   frames = h.frames ∙ ap (λ (c : Collected). c.frames ++ frames_in (take h.count (acts_of k))) e;
   reports = h.reports ∙ ap (λ (c : Collected). c.reports ++ reports_in (take h.count (acts_of k))) e ∙ append_assoc s.reports (kept r ∷ []) (reports_in (take h.count (acts_of k)));
+  counts = h.counts ∙ ap (λ (c : Collected). counts_acts (take h.count (acts_of k)) c.counts) e;
 }
 
 part_handed : {A : Type 0} (link : ℕ) (parcel : Parcel (Unit {0})) (k : Script (Unit {0}) A) (s m t : Collected) → m ≡ with_handed link parcel s → CollectsPart k m t → CollectsPart (Hand link parcel k) s t
@@ -67,6 +70,7 @@ part_handed link parcel k s m t e h = record {
   count = suc h.count;
   frames = h.frames ∙ ap (λ (c : Collected). c.frames ++ frames_in (take h.count (acts_of k))) e ∙ append_assoc s.frames (out_frame link parcel.octets ∷ []) (frames_in (take h.count (acts_of k)));
   reports = h.reports ∙ ap (λ (c : Collected). c.reports ++ reports_in (take h.count (acts_of k))) e;
+  counts = h.counts ∙ ap (λ (c : Collected). counts_acts (take h.count (acts_of k)) c.counts) e;
 }
 
 part_asked : {A : Type 0} (host : Host) (octets : List ℕ) (k : Unit {0} → Script (Unit {0}) A) (s m t : Collected) → m ≡ s → CollectsPart (k tt) m t → CollectsPart (Ask host octets k) s t
@@ -74,6 +78,7 @@ part_asked host octets k s m t e h = record {
   count = h.count;
   frames = h.frames ∙ ap (λ (c : Collected). c.frames ++ frames_in (take h.count (acts_of (k tt)))) e;
   reports = h.reports ∙ ap (λ (c : Collected). c.reports ++ reports_in (take h.count (acts_of (k tt)))) e;
+  counts = h.counts ∙ ap (λ (c : Collected). counts_acts (take h.count (acts_of (k tt))) c.counts) e;
 }
 
 -- A FIRST PART is collected where it stops

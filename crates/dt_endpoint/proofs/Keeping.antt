@@ -27,6 +27,15 @@ opened_keeps p me (Some now) outs ins routes latest items station collector e l 
   fine = λ h. record { unspent = ap (λ (s : StationValue (Unit {0})). s.spent) e; fine = f; taken = subst (λ (s : StationValue (Unit {0})). HasTakenAtMost 0 s.state.host) (sym e) tt; few = omega arith };
 }
 
+-- a collector that only counted
+pub counting_keeps : (latest asked : ℕ) (spent : Bool) (ins : List InLink) (station : StationValue (Unit {0})) (c d : Collected) → d.failed ≡ c.failed → IsEndpoint latest asked spent ins station c → IsEndpoint latest asked spent ins station d
+counting_keeps latest asked spent ins station c d same inv = record {
+  past = inv.past;
+  moment = inv.moment;
+  links = inv.links;
+  fine = λ h. let f = inv.fine h in record { unspent = f.unspent; fine = same ∙ f.fine; taken = f.taken; few = f.few };
+}
+
 -- an event that didn't want memory leaves a fine endpoint
 pub event_keeps : {A F : Type 0} (result : Result (Unit {0}) F) (script : Script (Unit {0}) A) (answer : A) (latest asked now count sent : ℕ) (spent : Bool) (ins : List InLink) (old new : StationValue (Unit {0})) (c d : Collected) →
     IsEndpoint latest asked spent ins old c → spent ≡ false → is_err result ≡ false → CollectEnds result script (begun c) d answer → OnOk result (GoesOn now sent old new) → new.latest ≡ now → new.state.relay.ins ≡ old.state.relay.ins → count ≡ sent → now ≤ most_moment → asked + count < octets_below → IsEndpoint now (asked + count) spent ins new d

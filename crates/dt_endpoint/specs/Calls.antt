@@ -1,5 +1,5 @@
 -- The calls of an endpoint. Each is refused and changes nothing, or is one event.
-use Rattle.std.specs.Prelude.{◌≡◌, ◌==◌, ℕ, ◌+◌, ◌∷◌, nat_le, not, Bool, false, ◌||◌, List, [], if◌then◌else◌, length, take, Option, Some, None}
+use Rattle.std.specs.Prelude.{◌≡◌, ◌==◌, ℕ, ◌+◌, ◌∷◌, nat_le, not, Bool, false, ◌||◌, List, [], if◌then◌else◌, is_some, length, take, Option, Some, None}
 use Rattle.std.specs.List.{list_any}
 use Rattle.dt_items.specs.declared.item.Item.{Item}
 use Rattle.dt_items.specs.declared.piece.Piece.{Piece as ItemPiece}
@@ -12,6 +12,9 @@ use Rattle.dt_reports.specs.declared.faults.Refusal.{Refusal}
 use Rattle.dt_reports.specs.declared.faults.Refusal.TheVariants as refusal
 use Rattle.dt_flow_model.specs.Keeping.{octets_below}
 use Rattle.dt_world_model.specs.declared.links.InLink.{InLink}
+use Rattle.dt_world_model.specs.declared.links.Route.{Route}
+use Rattle.dt_world_model.specs.Relay.{route_to}
+use Rattle.dt_relay.specs.Places.{link_of, place_of}
 use Rattle.dt_world_model.specs.Station.{Arrive, Event, Read, Send, Station, Tick, settle_station}
 use Rattle.dt_world_model.specs.Host.{read_octets, send_octets}
 use Rattle.dt_world_model.specs.WorldStep.{first_refusal}
@@ -22,16 +25,18 @@ use Rattle.dt_endpoint.specs.declared.answers.Sent.TheVariants as sent
 use Rattle.dt_endpoint.specs.declared.answers.Arrived.{Arrived}
 use Rattle.dt_endpoint.specs.declared.answers.Arrived.TheVariants as arrived
 use Rattle.dt_endpoint.specs.declared.answers.Piece.{Piece}
+use Rattle.dt_endpoint.specs.declared.answers.Routed.{Routed}
+use Rattle.dt_endpoint.specs.declared.answers.Routed.TheVariants as routed
 use Rattle.dt_endpoint.specs.declared.answers.Piece.TheVariants as piece
 use Rattle.dt_endpoint.specs.declared.noting.Heard.{Heard}
 use Rattle.dt_endpoint.specs.declared.noting.Heard.TheVariants as heard
 use Rattle.dt_endpoint.specs.Acts.{answer_of, plain}
-use Rattle.dt_endpoint.specs.Endpoints.{Breaks, EndpointValue, after_event, moment_of}
+use Rattle.dt_endpoint.specs.Endpoints.{Breaks, EndpointValue, after_event, moment_of, with_refused, with_route}
 
 abbrev pub has_link : ℕ → List InLink → Bool
 has_link link ins = list_any (λ i. i.link == link) ins
 
--- A CALL is refused with an answer, and changes nothing, or it is done.
+-- A CALL is refused with an answer, and leaves the endpoint that is named, or it is done.
 abbrev pub Unless : {A : Type 0} → Option A → A → EndpointValue → EndpointValue → Type 0 → Type 0
 Unless (Some refusal) answer e f done = (answer ≡ refusal) × (f ≡ e)
 Unless None answer e f done = done
@@ -61,12 +66,28 @@ arrive_refusal link octets waited e =
 abbrev pub arrive_event : ℕ → List ℕ → ℕ → Event (Unit {0})
 arrive_event link octets waited = Arrive link (plain (lowered waited octets))
 
+-- a datagram that is refused changes nothing but the count of these
 abbrev pub ArriveDoes : Arrived → ℕ → Event (Unit {0}) → EndpointValue → EndpointValue → Type 0
 ArriveDoes arrived.NoMemory now event e f = Breaks now event e f
 ArriveDoes other now event e f = (other ≡ arrived.Done) × (f ≡ after_event now event e)
 
 abbrev pub Arrives : Arrived → ℕ → ℕ → List ℕ → ℕ → EndpointValue → EndpointValue → Type 0
-Arrives answer now link octets waited e f = Unless (arrive_refusal link octets waited e) answer e f (ArriveDoes answer now (arrive_event link octets waited) e f)
+Arrives answer now link octets waited e f = Unless (arrive_refusal link octets waited e) answer (with_refused e) f (ArriveDoes answer now (arrive_event link octets waited) e f)
+
+-- A ROUTE is added. Where there is no memory nothing changes, and the endpoint isn't spent: it is no event
+abbrev pub route_refusals : Route → EndpointValue → List (Bool × Routed)
+route_refusals route e =
+    (e.spent, routed.Spent)
+    ∷ (not (is_some (place_of link_of route.link e.state.relay.outs)), routed.NoLink)
+    ∷ (is_some (route_to route.to e.state.relay.routes), routed.Known)
+    ∷ []
+
+abbrev pub RouteDoes : Routed → Route → EndpointValue → EndpointValue → Type 0
+RouteDoes routed.NoMemory route e f = f ≡ e
+RouteDoes other route e f = (other ≡ routed.Done) × (f ≡ with_route route e)
+
+abbrev pub AddsRoute : Routed → Route → EndpointValue → EndpointValue → Type 0
+AddsRoute answer route e f = Unless (first_refusal (route_refusals route e)) answer e f (RouteDoes answer route e f)
 
 -- OCTETS ARE SENT
 abbrev pub send_refusals : Flow → List ℕ → EndpointValue → List (Bool × Sent)

@@ -6,7 +6,9 @@ use Rattle.dt_world_model.specs.Relay.{Parcel}
 use Rattle.dt_world_model.specs.Script.{Script}
 use Rattle.dt_endpoint.specs.declared.noting.Heard.{Heard}
 use Rattle.dt_endpoint.specs.declared.noting.Heard.TheVariants as heard
-use Rattle.dt_endpoint.specs.Acts.{OutFrameValue, acts_of, answer_of, frames_in, out_frame, reports_in}
+use Rattle.dt_endpoint.specs.Acts.{Hands, OutFrameValue, Tells, acts_of, answer_of, frames_in, out_frame, reports_in}
+use Rattle.dt_endpoint.specs.declared.counts.Counts.{Counts}
+use Rattle.dt_endpoint.specs.Counts.{counts_act, counts_acts}
 use Rattle.dt_endpoint.specs.Hearing.{heard_in, hears, kept, piece_after, piece_in}
 
 pub record Collected : Type 0 where
@@ -15,23 +17,25 @@ pub record Collected : Type 0 where
   -- what was answered to the call that is under way
   pub heard : Heard
   pub piece : List ℕ
+  pub counts : Counts
   pub failed : Bool
 
 -- a report is told, and a frame handed out
 abbrev pub with_told : Told → Collected → Collected
-with_told told s = record { frames = s.frames; reports = s.reports ++ kept told ∷ []; heard = hears told s.heard; piece = piece_after told s.piece; failed = s.failed }
+with_told told s = record { frames = s.frames; reports = s.reports ++ kept told ∷ []; heard = hears told s.heard; piece = piece_after told s.piece; counts = counts_act (Tells told) s.counts; failed = s.failed }
 
 abbrev pub with_handed : ℕ → Parcel (Unit {0}) → Collected → Collected
-with_handed link parcel s = record { frames = s.frames ++ out_frame link parcel.octets ∷ []; reports = s.reports; heard = s.heard; piece = s.piece; failed = s.failed }
+with_handed link parcel s = record { frames = s.frames ++ out_frame link parcel.octets ∷ []; reports = s.reports; heard = s.heard; piece = s.piece; counts = counts_act (Hands link parcel.octets) s.counts; failed = s.failed }
 
 -- a call begins
 abbrev pub begun : Collected → Collected
-begun s = record { frames = s.frames; reports = s.reports; heard = heard.Nothing; piece = []; failed = s.failed }
+begun s = record { frames = s.frames; reports = s.reports; heard = heard.Nothing; piece = []; counts = s.counts; failed = s.failed }
 
 -- nothing was collected
 pub record Same (s t : Collected) : Type 0 where
   pub frames : t.frames ≡ s.frames
   pub reports : t.reports ≡ s.reports
+  pub counts : t.counts ≡ s.counts
 
 -- AS A VISITOR
 pub record CollectTells (s : Collected) (told : Told) (t : Collected) : Type 0 where
@@ -55,6 +59,7 @@ collected script s = record {
   reports = s.reports ++ reports_in (acts_of script);
   heard = heard_in script s.heard;
   piece = piece_in script s.piece;
+  counts = counts_acts (acts_of script) s.counts;
   failed = s.failed;
 }
 
@@ -63,6 +68,7 @@ pub record CollectsPart {A : Type 0} (script : Script (Unit {0}) A) (s t : Colle
   pub count : ℕ
   pub frames : t.frames ≡ s.frames ++ frames_in (take count (acts_of script))
   pub reports : t.reports ≡ s.reports ++ reports_in (take count (acts_of script))
+  pub counts : t.counts ≡ counts_acts (take count (acts_of script)) s.counts
 
 abbrev pub CollectEnds : {A U E : Type 0} → Result U E → Script (Unit {0}) A → Collected → Collected → A → Type 0
 CollectEnds (Ok done) script s t answer = (t ≡ collected script s) × (answer_of script ≡ answer)

@@ -9,10 +9,13 @@ use Rattle.dt_world_model.specs.declared.links.OutLink.{OutLink}
 use Rattle.dt_world_model.specs.declared.links.Route.{Route}
 use Rattle.dt_world_model.specs.Host.{Host, sender_at}
 use Rattle.dt_world_model.specs.Script.{Script}
-use Rattle.dt_world_model.specs.Station.{Arrive, Event, Read, Send, Station, Tick, station_event, station_wake}
+use Rattle.dt_world_model.specs.Station.{Arrive, Event, Read, Send, Station, Tick, station_event, station_wake, station_with}
 use Rattle.dt_world_model.specs.Tables.{AllEntries}
+use Rattle.dt_relay.specs.Ways as ways
 use Rattle.dt_station.specs.Stations.{StationValue, station_started}
 use Rattle.dt_endpoint.specs.Acts.{OutFrameValue, acts_of, answer_of, frames_in, reports_in}
+use Rattle.dt_endpoint.specs.declared.counts.Counts.{Counts}
+use Rattle.dt_endpoint.specs.Counts.{counts_acts, counts_event, counts_refused, no_counts}
 use Rattle.dt_endpoint.specs.Collecting.{Collected}
 
 pub record EndpointValue : Type 0 where
@@ -27,6 +30,8 @@ pub record EndpointValue : Type 0 where
   -- what waits to be pulled, in the order in which it came
   pub frames : List OutFrameValue
   pub reports : List Told
+  -- what was counted since it opened
+  pub counts : Counts
 
 -- a moment that is told: one above 2^62 counts as 2^62, and one before the greatest as that
 abbrev pub capped : ℕ → ℕ
@@ -39,7 +44,7 @@ moment_of now e = max e.latest (capped now)
 abbrev pub opened : Params → ℕ → Option ℕ → List OutLink → List InLink → List Route → EndpointValue
 opened p me again outs ins routes =
     let started = station_started p me (option_map capped again) outs ins routes in
-    record { rules = p; latest = started.latest; spent = false; asked = 0; state = started.state; frames = []; reports = [] }
+    record { rules = p; latest = started.latest; spent = false; asked = 0; state = started.state; frames = []; reports = []; counts = no_counts }
 
 -- AN EVENT, at a moment that is told
 abbrev pub script_of : ℕ → Event (Unit {0}) → EndpointValue → Script (Unit {0}) (Station (Unit {0}))
@@ -64,6 +69,7 @@ after_event now event e =
       state = answer_of script;
       frames = e.frames ++ frames_in (acts_of script);
       reports = e.reports ++ reports_in (acts_of script);
+      counts = counts_acts (acts_of script) (counts_event event e.counts);
     }
 
 -- The event found no memory: a first part of it was done, and nothing more is said of the station but that it is of the same node.
@@ -75,6 +81,7 @@ pub record Breaks (now : ℕ) (event : Event (Unit {0})) (e f : EndpointValue) :
   pub count : ℕ
   pub frames : f.frames ≡ e.frames ++ frames_in (take count (acts_of (script_of now event e)))
   pub reports : f.reports ≡ e.reports ++ reports_in (take count (acts_of (script_of now event e)))
+  pub counts : f.counts ≡ counts_acts (take count (acts_of (script_of now event e))) (counts_event event e.counts)
 
 abbrev pub EventEnds : {U F : Type 0} → Result U F → ℕ → Event (Unit {0}) → EndpointValue → EndpointValue → Type 0
 EventEnds (Ok done) now event e f = f ≡ after_event now event e
@@ -87,6 +94,14 @@ wake_unless false wake = wake
 
 abbrev pub endpoint_wake : EndpointValue → Option ℕ
 endpoint_wake e = wake_unless e.spent (station_wake e.rules e.state)
+
+-- one route more, behind the others
+abbrev pub with_route : Route → EndpointValue → EndpointValue
+with_route route e = record e { state = station_with e.state.host (ways.with_route route e.state.relay) }
+
+-- a datagram that was refused is counted
+abbrev pub with_refused : EndpointValue → EndpointValue
+with_refused e = record e { counts = counts_refused e.counts }
 
 -- how many octets of a flow wait to be sent
 abbrev pub waiting_octets : Flow → Host → ℕ

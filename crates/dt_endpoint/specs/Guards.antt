@@ -8,6 +8,7 @@ use Rattle.dt_layout.specs.Spelling.{Ack, Close, Data, DeltagramValue, Meet, Pac
 use Rattle.dt_flow_model.specs.Frames.{flow_of}
 use Rattle.dt_world_model.specs.Host.{Host}
 use Rattle.dt_world_model.specs.Tables.{has_key, same_flow}
+use Rattle.dt_endpoint.specs.Counts.{counted}
 use Rattle.dt_endpoint.specs.declared.guards.Admission.{Admission}
 use Rattle.dt_endpoint.specs.declared.guards.Admission.TheVariants.{Admitted, ClosedPort, TooManyFlows}
 
@@ -59,9 +60,9 @@ gram_admission host g (Ok d) = if d.to == host.me then body_admission host g d.f
 abbrev pub admission : Host → GuardValue → List ℕ → Admission
 admission host g octets = gram_admission host g (gram_read octets)
 
--- one more, and 2^64 - 1 at most
+-- one more
 abbrev pub counted_up : ℕ → ℕ
-counted_up n = min (n + 1) (2 ^ 64 - 1)
+counted_up n = counted 1 n
 
 -- the guard after it: what was kept out is counted
 abbrev pub guard_after : Admission → GuardValue → GuardValue

@@ -5,8 +5,10 @@ ghost use Rattle.dt_endpoint.specs.declared.noting.Heard.TheVariants.{Nothing};
 ghost use Rattle.dt_layout.specs.Carried.{IsGram};
 ghost use Rattle.dt_endpoint.specs.Acts.{plain};
 ghost use Rattle.dt_endpoint.specs.Collecting.{CollectFails, CollectHands, Same, begun, with_told};
+ghost use Rattle.dt_endpoint.specs.Counts.{counted, counts_refused, no_counts};
 ghost use Rattle.dt_endpoint.specs.Hearing.{piece_after};
 
+use crate::counts::{Counts, more};
 use crate::frames::OutFrame;
 use crate::noting::{Heard, heard_after, kept_report};
 use dt_host::Host;
@@ -28,6 +30,7 @@ pub struct Collector {
     heard: Heard,
     /// The octets of the piece that was read.
     piece: Vec<u8>,
+    counts: Counts,
     failed: bool,
 }
 
@@ -38,13 +41,13 @@ impl Model for Collector {
 
     ghost Value = { Collected };
 
-    ghost view = { λ c. record { frames = c.frames.items; reports = map told c.reports.items; heard = c.heard; piece = c.piece.items; failed = c.failed } };
+    ghost view = { λ c. record { frames = c.frames.items; reports = map told c.reports.items; heard = c.heard; piece = c.piece.items; counts = c.counts; failed = c.failed } };
 }
 
 impl Collector {
     /// Nothing was collected.
     pub fn new(alloc: Global) -> Collector
-        ensures { result ≡ record { frames = []; reports = []; heard = Nothing; piece = []; failed = false } }
+        ensures { result ≡ record { frames = []; reports = []; heard = Nothing; piece = []; counts = no_counts; failed = false } }
     {
         Collector {
             alloc,
@@ -52,6 +55,7 @@ impl Collector {
             reports: VecDeque::new(alloc),
             heard: Heard::Nothing,
             piece: Vec::new(alloc),
+            counts: Counts::none(),
             failed: false,
         }
     }
@@ -74,6 +78,26 @@ impl Collector {
         ensures { result.now ≡ self.now.piece }
     {
         &self.piece
+    }
+
+    pub fn counts(&self) -> Counts
+        ensures { result ≡ self.now.counts }
+    {
+        self.counts
+    }
+
+    /// A datagram comes.
+    pub fn count_arrival(&mut self)
+        ensures { self.new ≡ record self.old { counts = record self.old.counts { came = counted 1 self.old.counts.came } } }
+    {
+        self.counts.came = more(self.counts.came, 1);
+    }
+
+    /// A datagram was refused.
+    pub fn count_refusal(&mut self)
+        ensures { self.new ≡ record self.old { counts = counts_refused self.old.counts } }
+    {
+        self.counts.refused = more(self.counts.refused, 1);
     }
 
     pub fn failed(&self) -> bool
@@ -116,6 +140,7 @@ impl Collector {
         }
         let left = OutFrame::copy_of(self.alloc, link, frame)?;
         self.frames.push_back(left)?;
+        self.counts.left = more(self.counts.left, 1);
         Ok(())
     }
 
@@ -128,6 +153,7 @@ impl Collector {
         keep_piece(report, &mut self.piece)?;
         self.reports.push_back(kept_report(report))?;
         self.heard = heard_after(report, self.heard);
+        self.counts.octets.note(report);
         Ok(())
     }
 }

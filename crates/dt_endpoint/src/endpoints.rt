@@ -1,16 +1,18 @@
-ghost use Rattle.std.specs.Prelude.{ℕ, [], ◌≡◌, ◌+◌, ◌<◌, ◌≤◌, ◌++◌, false, IfOk, OnOk, OnErr, drop, length, option_map, option_to_list, take};
+ghost use Rattle.std.specs.Prelude.{ℕ, [], ◌≡◌, ◌+◌, ◌<◌, ◌≤◌, ◌++◌, false, IfNone, IfOk, OnOk, OnErr, is_some, drop, length, option_map, option_to_list, take};
 ghost use Rattle.dt_reports.specs.Told.{told};
 ghost use Rattle.dt_flow_model.specs.Keeping.{octets_below};
+ghost use Rattle.dt_world_model.specs.Relay.{route_to};
 ghost use Rattle.dt_world_model.specs.Tables.{has_key, same_flow};
 ghost use Rattle.dt_station.specs.Events.{MayHappenHere, local_seen};
 ghost use Rattle.dt_endpoint.specs.declared.noting.Heard.TheVariants.{Nothing};
 ghost use Rattle.dt_layout.specs.Carried.{IsGram, life_of};
-ghost use Rattle.dt_endpoint.specs.Calls.{ArriveDoes, Arrives, arrive_event, Reads, Sends, Ticks, piece_by, sent_by};
+ghost use Rattle.dt_endpoint.specs.Calls.{AddsRoute, ArriveDoes, Arrives, arrive_event, arrive_refusal, Reads, Sends, Ticks, piece_by, sent_by};
 ghost use Rattle.dt_endpoint.specs.Endpoints.{EventEnds, capped, endpoint_wake, moment_of, octets_sent, opened, script_of, waiting_octets};
 ghost use Rattle.dt_endpoint.specs.Hearing.{heard_in, piece_in};
 
-use crate::answers::{Arrived, Piece, Sent, Ticked};
+use crate::answers::{Arrived, Piece, Routed, Sent, Ticked};
 use crate::collecting::Collector;
+use crate::counts::Counts;
 use crate::events::{happen, receive};
 use crate::frames::OutFrame;
 use crate::links::{Links, has_link};
@@ -18,7 +20,7 @@ use crate::noting::Heard;
 use dt_items::NoMemory;
 use dt_layout::{Frame, read_deltagram};
 use dt_reports::{Refusal, Report};
-use dt_station::{InLink, LocalEvent, Station};
+use dt_station::{InLink, LocalEvent, Route, Station};
 use dt_units::{Flow, NodeId, Rules};
 use std::alloc::Global;
 use std::marker::Model;
@@ -56,7 +58,7 @@ impl Model for Endpoint {
 
     ghost Value = { EndpointValue };
 
-    ghost view = { λ e. record { rules = e.station.rules; latest = e.latest; spent = e.spent; asked = e.asked; state = e.station.state; frames = e.collector.frames; reports = e.collector.reports } };
+    ghost view = { λ e. record { rules = e.station.rules; latest = e.latest; spent = e.spent; asked = e.asked; state = e.station.state; frames = e.collector.frames; reports = e.collector.reports; counts = e.collector.counts } };
 
     ghost invariant = { λ e. IsEndpoint e.latest e.asked e.spent e.ins.items e.station e.collector };
 }
@@ -132,6 +134,7 @@ impl Endpoint {
         fill(&mut *self.slot, datagram);
         self.slot.lower(waited);
         self.latest = now;
+        self.collector.count_arrival();
         let done = receive(
             &mut self.station,
             &mut self.collector,
@@ -166,17 +169,60 @@ impl Endpoint {
     pub fn arrive(&mut self, now: u64, link: u16, datagram: &[u8], waited: u32) -> Arrived
         ensures { Arrives result now link datagram.now waited self.old self.new }
     {
+        if let Some(refusal) = self.refuses(link, datagram, waited) {
+            self.collector.count_refusal();
+            return refusal;
+        }
+        self.admit(now, link, datagram, waited)
+    }
+
+    /// Why a datagram is refused, or none where it comes.
+    fn refuses(&self, link: u16, datagram: &[u8], waited: u32) -> Option<Arrived>
+        ensures refusal { result ≡ arrive_refusal link datagram.now waited self.now }
+        ensures unspent { IfNone result (self.now.spent ≡ false) }
+        ensures gram { IfNone result (IsGram datagram.now) }
+        ensures life { IfNone result (waited < life_of datagram.now) }
+    {
         if self.spent {
-            return Arrived::Spent;
+            return Some(Arrived::Spent);
         }
         if !has_link(link, &self.ins) {
-            return Arrived::NoLink;
+            return Some(Arrived::NoLink);
         }
         match read_deltagram(datagram) {
-            Err(fault) => Arrived::Bad { fault },
-            Ok(gram) if gram.life <= waited => Arrived::Stale,
-            Ok(_) => self.admit(now, link, datagram, waited),
+            Err(fault) => Some(Arrived::Bad { fault }),
+            Ok(gram) if gram.life <= waited => Some(Arrived::Stale),
+            Ok(_) => None,
         }
+    }
+
+    /// From now on packets to the route's node go by its link, as they do by a route of the opening. The
+    /// cause of each refusal is that of its name, the first of `Spent`, `NoLink` and `Known`.
+    /// [`Endpoint::has_route`] tells whether there is a route. Its cost is that of two look-ups. A node
+    /// that opens again begins with the routes that are handed in then.
+    pub fn add_route(&mut self, route: Route) -> Routed
+        ensures { AddsRoute result route self.old self.new }
+    {
+        if self.spent {
+            return Routed::Spent;
+        }
+        if !self.station.has_out_link(route.link) {
+            return Routed::NoLink;
+        }
+        if self.station.has_route(route.to) {
+            return Routed::Known;
+        }
+        match self.station.add_route(route) {
+            Ok(()) => Routed::Done,
+            Err(NoMemory) => Routed::NoMemory,
+        }
+    }
+
+    /// Whether a route names the node.
+    pub fn has_route(&self, to: NodeId) -> bool
+        ensures { result ≡ is_some (route_to to.0 self.now.state.relay.routes) }
+    {
+        self.station.has_route(to.0)
     }
 
     /// Octets are sent on a flow from this node to another. The first begins a message and the last ends
@@ -310,6 +356,13 @@ impl Endpoint {
         ensures { result ≡ length self.now.state.host.receivers }
     {
         self.station.host().receivers()
+    }
+
+    /// What was counted since the endpoint opened. Its cost is that of a copy.
+    pub fn counts(&self) -> Counts
+        ensures { result ≡ self.now.counts }
+    {
+        self.collector.counts()
     }
 
     /// Whether an event found no memory.

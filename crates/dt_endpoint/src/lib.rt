@@ -4,6 +4,7 @@
 
 mod answers;
 mod collecting;
+mod counts;
 mod endpoints;
 mod events;
 mod frames;
@@ -12,7 +13,8 @@ mod laws;
 mod links;
 mod noting;
 
-pub use answers::{Arrived, Piece, Sent, Ticked};
+pub use answers::{Arrived, Piece, Routed, Sent, Ticked};
+pub use counts::{Counts, Octets};
 pub use dt_station::{InLink, OutLink, Route};
 pub use endpoints::Endpoint;
 pub use frames::OutFrame;

@@ -8,8 +8,8 @@ use Rattle.dt_flow_model.specs.Frames.{Mark}
 use Rattle.dt_world_laws.proofs.Linking.{event_kept}
 use Rattle.dt_world_laws.proofs.Settles.{answers_play}
 use Rattle.dt_world_model.proofs.Tables.{look_write, look_write_other, nat_is, nat_self}
-use Rattle.dt_world_model.specs.Relay.{emptied}
-use Rattle.dt_world_model.specs.Setup.{Setup, relay_at}
+use Rattle.dt_world_model.specs.Relay.{Relay, emptied}
+use Rattle.dt_world_model.specs.Setup.{Setup, relay_at, routes_of}
 use Rattle.dt_world_model.specs.Station.{Event, Station, station_event}
 use Rattle.dt_world_model.specs.Tables.{look, write}
 use Rattle.dt_world_model.specs.Tags.{bare_event, bare_station}
@@ -21,7 +21,7 @@ use Rattle.dt_endpoint.specs.Acts.{OutFrameValue, acts_of, frames_in}
 use Rattle.dt_endpoint.specs.Endpoints.{EndpointValue, after_event, moment_of, script_of}
 use Rattle.dt_endpoint.specs.Networks.{Follows, IsAt, frame_of, world_play}
 use Rattle.dt_network.proofs.Frames.{Ends, appended, put_under_way, still_under_way}
-use Rattle.dt_network.specs.Beside.{IsBeside, IsStationOf, IsUnderWay}
+use Rattle.dt_network.specs.Beside.{IsBeside, IsStationOf, IsUnderWay, routed}
 use Rattle.dt_network.specs.Duties.{KeepsTime}
 use Rattle.dt_network.specs.Network.{Network, clock_of, flights}
 
@@ -84,10 +84,13 @@ module _ (setup : Setup) (net : Network) (w : World) (h : IsBeside setup net w) 
     follows : Follows w n s.at event now e
     follows = endpoint_follows w n s.at event now e (is_at now time unspent)
 
-    links_stay : emptied (world_play w n s.at event).1.relay ≡ relay_at setup n
+    links_stay : routed (routes_of n setup.routes) (emptied (world_play w n s.at event).1.relay) ≡ relay_at setup n
     links_stay =
-        answers_play (world_handler (occasion w n event)) (λ (st : Station Mark). emptied st.relay ≡ relay_at setup n) (station_event w.params (w.now + s.at.zero) event s.at.station) (noted_at w)
-        (event_kept (relay_at setup n) w.params (w.now + s.at.zero) event s.at.station s.links)
+        let before = emptied s.at.station.relay in
+        ap (λ (r : Relay Mark). routed (routes_of n setup.routes) r)
+        (answers_play (world_handler (occasion w n event)) (λ (st : Station Mark). emptied st.relay ≡ before) (station_event w.params (w.now + s.at.zero) event s.at.station) (noted_at w)
+        (event_kept before w.params (w.now + s.at.zero) event s.at.station refl))
+        ∙ s.links
 
     abbrev Kept : EndpointValue → Type 0
     Kept x = (x.rules ≡ w.params) × (x.latest ≤ w.now + s.at.zero) × (x.spent ≡ false → x.state ≡ bare_station (world_play w n s.at event).1)

@@ -13,7 +13,7 @@ use Rattle.dt_world_laws.proofs.Lifting.{lifted_fates, no_lift}
 use Rattle.dt_world_laws.proofs.Promise.{facts_are_safe}
 use Rattle.dt_world_model.specs.Relay.{charge_of}
 use Rattle.dt_world_model.specs.Setup.{Setup, new_world}
-use Rattle.dt_world_model.specs.Station.{Event, Read, Send, Station, Tick}
+use Rattle.dt_world_model.specs.Station.{Event, Read, Send, Station, Tick, station_with}
 use Rattle.dt_world_model.specs.Tables.{look, write}
 use Rattle.dt_world_model.specs.Tags.{bare_event}
 use Rattle.dt_world_model.specs.World.{World, view}
@@ -21,9 +21,9 @@ use Rattle.dt_world_model.specs.WorldFacts.{WorldFacts}
 use Rattle.dt_world_model.specs.WorldStep.{event_at, restart_at}
 use Rattle.dt_endpoint.specs.Acts.{OutFrameValue}
 use Rattle.dt_endpoint.specs.Calls.{arrive_event, arrive_refusal, read_answer, send_answer}
-use Rattle.dt_endpoint.specs.Endpoints.{EndpointValue}
+use Rattle.dt_endpoint.specs.Endpoints.{EndpointValue, with_route}
 use Rattle.dt_endpoint.specs.Networks.{late_event}
-use Rattle.std.proofs.Math.Seq.{take-nil}
+use Rattle.std.proofs.Math.Seq.{drop-length, take-nil}
 use Rattle.std.proofs.lemmas.Bool.{cases_Bool}
 use Rattle.dt_items.specs.declared.item.Item.{Item}
 use Rattle.dt_items.specs.Unread.{first_piece, marked}
@@ -65,20 +65,25 @@ use Rattle.dt_world_model.specs.Host.{receiver_at}
 use Rattle.dt_world_model.specs.World.{Placed}
 use Rattle.dt_calls_laws.proofs.UnreadEnd.{unread_end}
 use Rattle.dt_network.specs.Steps.{network_by}
-use Rattle.dt_network.proofs.Events.{called, event_beside, is_at, stations_after}
+use Rattle.dt_network.proofs.Events.{called, event_beside, is_at, stations_after, stays_station}
+use Rattle.dt_network.proofs.Rerouting.{booked_stands, calm_stands, calm_through, facts_stand, moved_there, same_life}
+use Rattle.dt_relay.specs.Ways as ways
+use Rattle.dt_world_model.specs.declared.links.Route.{Route}
+use Rattle.dt_endpoint.specs.declared.answers.Routed.{Routed}
 use Rattle.dt_network.proofs.Frames.{Ends}
 use Rattle.dt_network.proofs.Openings.{again_beside, network_begins, begun}
-use Rattle.dt_network.proofs.Outcomes.{Admits, IsLost, IsPieceOf, IsStill, ReadIsRefused, ReadsTo, SendIsRefused, SendsFrom, arrival_comes_to, pulled_frame_is_still, pulled_report_is_still, read_comes_to, same_is_still, send_comes_to, tick_comes_to}
+use Rattle.dt_network.proofs.Outcomes.{Admits, IsLost, IsPieceOf, IsStill, ReadIsRefused, ReadsTo, SendIsRefused, SendsFrom, arrival_comes_to, pulled_frame_is_still, pulled_report_is_still, read_comes_to, route_comes_to, same_is_still, send_comes_to, tick_comes_to}
 use Rattle.dt_network.proofs.Worlds.{Goes, goes_by_read, goes_by_restart, goes_by_send, goes_by_tick, goes_in_time, goes_late, is_named, late_calm, piece_goes, read_is_calm, life_again, restart_calm, restart_life, restart_loses, send_does, send_is_steady, tick_calm}
-use Rattle.dt_network.specs.Beside.{GoesBeside, IsBeside, IsLate, IsStationOf, IsUnderWay, stays}
+use Rattle.dt_network.specs.Beside.{GoesBeside, GoesOn, GoesOnBy, IsBeside, IsLate, IsStationOf, IsUnderWay, KeepsAllFates, reroute, rerouted, stays}
 use Rattle.dt_network.specs.Duties.{IsInTime, Keeps, KeepsCall, KeepsDuties, KeepsFrom, KeepsTime}
-use Rattle.dt_network.specs.Network.{Flight, Network, flights, new_network, opened_at}
-use Rattle.dt_network.specs.Steps.{AreSteps, Call, CallArrive, CallRead, CallSend, CallTick, Calls, Does, DoesFrom, IsStep, OpenAgain, Pass, PullFrame, PullReport, Step, network_after}
+use Rattle.dt_network.specs.Network.{Flight, Network, flights, new_network, opened_with}
+use Rattle.dt_network.specs.Steps.{AddRoute, AreSteps, Call, CallArrive, CallRead, CallSend, CallTick, Calls, Does, DoesFrom, IsStep, OpenAgain, Pass, PullFrame, PullReport, Step, network_after}
 
--- the world after a step of the network, with what the step takes and reads of each flow
-pub record NextWorld (setup : Setup) (before after : Network) (w : World) (takes : Flow → List Item → Type 0) (read : Flow → List Item) (books : Flow → Book → Book) (found : Type 0) : Type 0 where
+-- the world after a step of the network, which goes on to it so, with what the step takes and reads of each flow
+pub record NextWorld (setup : Setup) (before after : Network) (w : World) (on : World → Type 0) (takes : Flow → List Item → Type 0) (read : Flow → List Item) (books : Flow → Book → Book) (found : Type 0) : Type 0 where
   pub world : World
-  pub goes : Goes w world
+  pub goes_on : on world
+  pub fates : KeepsAllFates w world
   pub beside : IsBeside setup after world
   pub accounts : (g : Flow) (joined : Bool) → Sure before w g joined → Account w world after g (takes g) (read g) joined
   pub booked : found → (g : Flow) (b : Book) → Booked w g b → Booked world g (books g b)
@@ -88,13 +93,14 @@ goes_nowhere : (w : World) → WorldFacts w → Goes w w
 goes_nowhere w facts = record { onward = stays; facts = facts; fates = λ f. lifted_fates w.params (view w f) (view w f) (no_lift w.params (view w f)) }
 
 -- TIME PASSES
-time_beside : (setup : Setup) (net : Network) (w : World) (by : ℕ) → IsWithinLimits w.params → IsBeside setup net w → NextWorld setup net (network_after (Pass by) net) w (λ g. TakesIn g (Pass by)) (λ g. []) (λ g b. b) (Unit {0})
+time_beside : (setup : Setup) (net : Network) (w : World) (by : ℕ) → IsWithinLimits w.params → IsBeside setup net w → NextWorld setup net (network_after (Pass by) net) w (GoesOn (Pass by) w) (λ g. TakesIn g (Pass by)) (λ g. []) (λ g b. b) (Unit {0})
 time_beside setup net w by limits h =
     let goes = goes_in_time w by limits h.facts in
     let later : World = record w { now = w.now + by } in
     record {
       world = record w { now = w.now + by };
-      goes = goes;
+      goes_on = goes.onward;
+      fates = goes.fates;
       beside = record {
         params = h.params;
         now = ap (λ (k : ℕ). k + by) h.now;
@@ -120,22 +126,23 @@ module _ (setup : Setup) (net : Network) (w : World) (limits : IsWithinLimits w.
   after = called net n e f
 
   abbrev Next : Call → Type 0
-  Next call = NextWorld setup net (called net n e f) w (λ g. Takes g call) (λ g. read_by g call) (λ g b. book_from g n call (Some e) f b) (f.spent ≡ false)
+  Next call = NextWorld setup net (called net n e f) w (GoesOnBy call n w) (λ g. Takes g call) (λ g. read_by g call) (λ g b. book_from g n call (Some e) f b) (f.spent ≡ false)
 
   -- a call whose reports are noted
   abbrev IsNoted : Call → Type 0
   IsNoted call = (g : Flow) (b : Book) → book_from g n call (Some e) f b ≡ book_by g n (items_in call) (drop (length e.reports) f.reports) b
 
   -- NOTHING happens to the world
-  still : (call : Call) → IsNoted call → IsStill e f → ((g : Flow) → Takes g call []) → ((g : Flow) → read_by g call ≡ []) → Next call
-  still call noted k takes_none unread =
+  still : (call : Call) → GoesOnBy call n w w → IsNoted call → IsStill e f → ((g : Flow) → Takes g call []) → ((g : Flow) → read_by g call ≡ []) → Next call
+  still call on noted k takes_none unread =
       let here : IsStationOf setup w n f =
       record { at = s.at; there = s.there; clock = s.clock; links = s.links; rules = k.rules ∙ s.rules; past = omega (arith, s.past, k.latest); state = λ unspent. k.state ∙ s.state (sym k.spent ∙ unspent) } in
       let nothing : flights net.now (Some e) f ≡ [] = ap (λ (fs : List OutFrameValue). map (λ (g : OutFrameValue). let t : Flight = record { frame = g; put = net.now } in t) fs) k.frames in
       let same : net.left ++ flights net.now (Some e) f ≡ net.left = ap (λ (fs : List Flight). net.left ++ fs) nothing ∙ append-nil net.left in
       record {
         world = w;
-        goes = goes_nowhere w h.facts;
+        goes_on = on;
+        fates = (goes_nowhere w h.facts).fates;
         beside = record {
           params = h.params;
           now = h.now;
@@ -156,9 +163,9 @@ module _ (setup : Setup) (net : Network) (w : World) (limits : IsWithinLimits w.
   abbrev SameItems : ℕ → Call → Event Mark → Type 0
   SameItems now call event = (g : Flow) (rows : List rows.Taken) → book_all g (occasion w n event).life (occasion w n event).items (reports_in (acts_of (script_of now (bare_event event) e))) rows ≡ book_all g (placed w n).life (items_in call) (reports_in (acts_of (script_of now (bare_event event) e))) rows
 
-  by_event : (call : Call) (now : ℕ) → KeepsTime setup net n now → e.spent ≡ false → (event : Event Mark) → Ends now (bare_event event) e f → Goes w (event_at w n event (Some s.at)).1 → Accounts call event → IsNoted call → SameItems now call event → Next call
-  by_event call now time unspent event ends goes accounts noted same =
-      record { world = (event_at w n event (Some s.at)).1; goes = goes; beside = event_beside setup net w h n e s now time unspent event f ends goes.facts; accounts = accounts; none_spent = λ memory g before. none_spent net n e f g found memory before; booked = λ memory g b was. subst (Booked (event_at w n event (Some s.at)).1 g) (sym (noted g b)) (event_booked w n s.at s.there now e f (is_at setup net w h n e s now time unspent) event ends memory g b (items_in call) (same g) was) }
+  by_event : (call : Call) (now : ℕ) → KeepsTime setup net n now → e.spent ≡ false → (event : Event Mark) → Ends now (bare_event event) e f → (goes : Goes w (event_at w n event (Some s.at)).1) → GoesOnBy call n w (event_at w n event (Some s.at)).1 → Accounts call event → IsNoted call → SameItems now call event → Next call
+  by_event call now time unspent event ends goes on accounts noted same =
+      record { world = (event_at w n event (Some s.at)).1; goes_on = on; fates = goes.fates; beside = event_beside setup net w h n e s now time unspent event f ends goes.facts; accounts = accounts; none_spent = λ memory g before. none_spent net n e f g found memory before; booked = λ memory g b was. subst (Booked (event_at w n event (Some s.at)).1 g) (sym (noted g b)) (event_booked w n s.at s.there now e f (is_at setup net w h n e s now time unspent) event ends memory g b (items_in call) (same g) was) }
 
   -- an event that takes nothing and reads nothing
   calm_event : (call : Call) (event : Event Mark) → e.spent ≡ false → ((g : Flow) → Calm w (event_at w n event (Some s.at)).1 g) → ((g : Flow) → Takes g call []) → ((g : Flow) → read_by g call ≡ []) → Accounts call event
@@ -174,9 +181,9 @@ module _ (setup : Setup) (net : Network) (w : World) (limits : IsWithinLimits w.
   apart_from a b me same other = grind (arith, nat_tests)
 
   by_tick : (now : ℕ) (answer : Ticked) → KeepsTime setup net n now → (f ≡ e) ⊎ ((e.spent ≡ false) × Ends now Tick e f) → Next (CallTick now answer)
-  by_tick now answer time (inl same) = still (CallTick now answer) (λ g b. refl) (same_is_still e f same) (λ g. refl) (λ g. refl)
+  by_tick now answer time (inl same) = still (CallTick now answer) stays (λ g b. refl) (same_is_still e f same) (λ g. refl) (λ g. refl)
   by_tick now answer time (inr k) =
-      by_event (CallTick now answer) now time k.0 Tick k.1 (goes_by_tick w n s.at s.there limits h.facts)
+      by_event (CallTick now answer) now time k.0 Tick k.1 (goes_by_tick w n s.at s.there limits h.facts) (goes_by_tick w n s.at s.there limits h.facts).onward
       (calm_event (CallTick now answer) Tick k.0 (tick_calm w n s.at s.there limits h.facts) (λ g. refl) (λ g. refl))
       (λ g b. refl) (λ g rows. refl)
 
@@ -199,11 +206,11 @@ module _ (setup : Setup) (net : Network) (w : World) (limits : IsWithinLimits w.
 
   by_send : (now : ℕ) (flow : Flow) (octets : List ℕ) (begin end : Bool) (answer : Sent) → KeepsTime setup net n now → IsFlow flow → SendIsRefused answer e f ⊎ SendsFrom answer now flow octets begin end e f → Next (CallSend now flow octets begin end answer)
   by_send now flow octets begin end answer time is (inl k) =
-      still (CallSend now flow octets begin end answer) (λ g b. refl) (same_is_still e f k.same) (λ g. none_if (same_flow flow g) answer (marked octets begin end false) (k.none (marked octets begin end false))) (λ g. refl)
+      still (CallSend now flow octets begin end answer) stays (λ g b. refl) (same_is_still e f k.same) (λ g. none_if (same_flow flow g) answer (marked octets begin end false) (k.none (marked octets begin end false))) (λ g. refl)
   by_send now flow octets begin end answer time is (inr k) =
       let from = k.from ∙ named k.unspent in
-      by_event (CallSend now flow octets begin end answer) now time k.unspent (Send flow octets begin end) k.ends
-      (goes_by_send w n s.at s.there limits h.facts flow octets begin end is from (apart flow.from.0 flow.to.0 e.state.host.me k.from k.to))
+      let goes = goes_by_send w n s.at s.there limits h.facts flow octets begin end is from (apart flow.from.0 flow.to.0 e.state.host.me k.from k.to) in
+      by_event (CallSend now flow octets begin end answer) now time k.unspent (Send flow octets begin end) k.ends goes goes.onward
       (send_accounts now flow octets begin end answer time is k from)
       (λ g b. refl) (λ g rows. refl)
 
@@ -235,11 +242,11 @@ module _ (setup : Setup) (net : Network) (w : World) (limits : IsWithinLimits w.
       by_flow false o = calm_account w (event_at w n (Read flow room) (Some s.at)).1 net after g IsNothing [] joined (read_is_calm w n s.at s.there limits h.facts flow room is to g o) refl (spent_event net n e f g found k.unspent) refl sure
 
   by_read : (now : ℕ) (flow : Flow) (room : ℕ) (buf : List ℕ) (answer : Piece) → KeepsTime setup net n now → IsFlow flow → ReadIsRefused answer buf e f ⊎ ReadsTo answer now flow room buf e f → Next (CallRead now flow room buf answer)
-  by_read now flow room buf answer time is (inl k) = still (CallRead now flow room buf answer) (λ g b. refl) (same_is_still e f k.same) (λ g. refl) (λ g. none_read_if (same_flow flow g) (items_read answer buf) k.none)
+  by_read now flow room buf answer time is (inl k) = still (CallRead now flow room buf answer) stays (λ g b. refl) (same_is_still e f k.same) (λ g. refl) (λ g. none_read_if (same_flow flow g) (items_read answer buf) k.none)
   by_read now flow room buf answer time is (inr k) =
       let to = k.to ∙ named k.unspent in
-      by_event (CallRead now flow room buf answer) now time k.unspent (Read flow room) k.ends
-      (goes_by_read w n s.at s.there limits h.facts flow room is to (apart_from flow.from.0 flow.to.0 e.state.host.me k.to k.from))
+      let goes = goes_by_read w n s.at s.there limits h.facts flow room is to (apart_from flow.from.0 flow.to.0 e.state.host.me k.to k.from) in
+      by_event (CallRead now flow room buf answer) now time k.unspent (Read flow room) k.ends goes goes.onward
       (read_accounts now flow room buf answer time is k to)
       (λ g b. refl) (λ g rows. refl)
 
@@ -260,32 +267,78 @@ module _ (setup : Setup) (net : Network) (w : World) (limits : IsWithinLimits w.
         in_time = omega (arith, i.in_time, charge, under.put, h.now);
       } in
       let call = CallArrive now link datagram waited answer in
-      by_event call now time k.unspent (late_event c waited) (subst (λ (ev : Event (Unit {0})). Ends now ev e f) event k.ends) (goes_late w n s.at s.there limits h.facts c waited late)
+      by_event call now time k.unspent (late_event c waited) (subst (λ (ev : Event (Unit {0})). Ends now ev e f) event k.ends) (goes_late w n s.at s.there limits h.facts c waited late) (goes_late w n s.at s.there limits h.facts c waited late).onward
       (calm_event call (late_event c waited) k.unspent (late_calm w n s.at s.there limits h.facts c waited late) (λ g. refl) (λ g. refl))
       (λ g b. refl) (λ g rows. free_books (script_of now (bare_event (late_event c waited)) e) g (placed w n).life (occasion w n (late_event c waited)).items rows (arrival_free e.rules (moment_of now e) c.link (bare_parcel (lower_parcel waited c.parcel)) e.state))
 
-  by_arrival : (now link : ℕ) (datagram : List ℕ) (waited : ℕ) (answer : Arrived) → KeepsTime setup net n now → (arrive_refusal link datagram waited e ≡ None → IsInTime net e link datagram waited) → (f ≡ e) ⊎ Admits now link datagram waited e f → Next (CallArrive now link datagram waited answer)
-  by_arrival now link datagram waited answer time owed (inl same) = still (CallArrive now link datagram waited answer) (λ g b. refl) (same_is_still e f same) (λ g. refl) (λ g. refl)
+  by_arrival : (now link : ℕ) (datagram : List ℕ) (waited : ℕ) (answer : Arrived) → KeepsTime setup net n now → (arrive_refusal link datagram waited e ≡ None → IsInTime net e link datagram waited) → IsStill e f ⊎ Admits now link datagram waited e f → Next (CallArrive now link datagram waited answer)
+  by_arrival now link datagram waited answer time owed (inl same) = still (CallArrive now link datagram waited answer) stays (λ g b. refl) same (λ g. refl) (λ g. refl)
   by_arrival now link datagram waited answer time owed (inr k) =
       let i = owed k.clear in
       by_copy now link datagram waited answer time k i (All-contains (IsUnderWay w.copies) net.left i.flight h.left i.left)
 
-  -- A NODE OPENS AGAIN
-  by_opening : (again : Option ℕ) (now : ℕ) → KeepsTime setup net n now → f ≡ opened_at setup n (Some now) → Next (OpenAgain again)
-  by_opening again now time is =
-      let goes = goes_by_restart w n s.at s.there limits h.facts in
-      let v = (restart_at w n (Some s.at)).1 in
+  -- A ROUTE IS ADDED: the station has one more
+  route_beside : (route : Route) → f ≡ with_route route e → IsStationOf setup (reroute w n s.at (s.at.station.relay.routes ++ route ∷ [])) n f
+  route_beside route is = record {
+    at = rerouted (s.at.station.relay.routes ++ route ∷ []) s.at;
+    there = moved_there w n s.at s.there (s.at.station.relay.routes ++ route ∷ []);
+    clock = s.clock;
+    links = s.links;
+    rules = ap (λ (x : EndpointValue). x.rules) is ∙ s.rules;
+    past = omega (arith, s.past, ap (λ (x : EndpointValue). x.latest) is);
+    state = λ unspent. ap (λ (x : EndpointValue). x.state) is ∙ ap (λ (st : Station (Unit {0})). let t : Station (Unit {0}) = station_with st.host (ways.with_route route st.relay) in t) (s.state (sym (ap (λ (x : EndpointValue). x.spent) is) ∙ unspent));
+  }
+
+  by_route : (route : Route) (answer : Routed) → (f ≡ e) ⊎ (f ≡ with_route route e) → Next (AddRoute route answer)
+  by_route route answer (inl same) = still (AddRoute route answer) (inl refl) (λ g b. refl) (same_is_still e f same) (λ g. refl) (λ g. refl)
+  by_route route answer (inr is) =
+      let call = AddRoute route answer in
+      let routes = s.at.station.relay.routes ++ route ∷ [] in
+      let v = reroute w n s.at routes in
+      let facts = facts_stand w n s.at s.there routes h.facts in
+      let none_left : drop (length e.frames) f.frames ≡ [] = ap (λ (x : EndpointValue). drop (length e.frames) x.frames) is ∙ drop-length e.frames in
+      let none_told : drop (length e.reports) f.reports ≡ [] = ap (λ (x : EndpointValue). drop (length e.reports) x.reports) is ∙ drop-length e.reports in
+      let nothing : flights net.now (Some e) f ≡ [] = ap (λ (fs : List OutFrameValue). map (λ (g : OutFrameValue). let t : Flight = record { frame = g; put = net.now } in t) fs) none_left in
+      let same : net.left ++ flights net.now (Some e) f ≡ net.left = ap (λ (fs : List Flight). net.left ++ fs) nothing ∙ append-nil net.left in
       record {
         world = v;
-        goes = goes;
-        beside = again_beside setup net w h n e s (is_named w n s.at s.there limits h.facts) now time f is goes.facts;
+        goes_on = inr (record { at = s.at; there = s.there; is = refl });
+        fates = (goes_nowhere w h.facts).fates;
+        beside = record {
+          params = h.params;
+          now = h.now;
+          endpoints = stations_after setup net.endpoints v n f (route_beside route is) (λ m g other found. stays_station setup w v n m (rerouted routes s.at) g refl refl refl other (h.endpoints m g found));
+          left = subst (λ (fs : List Flight). All (IsUnderWay w.copies) fs) (sym same) h.left;
+          facts = facts;
+        };
+        accounts = λ g joined sure. calm_account w v net after g (Takes g call) (read_by g call) joined (calm_stands w n s.at s.there routes g) refl (spent_still net n e f g found (ap (λ (x : EndpointValue). x.spent) is)) refl sure;
+        booked = λ memory g b was. booked_stands w n s.at s.there routes g _ (record { rows = was.rows ∙ sym (ap (λ (rs : List Told). book_all g (b.lives n) (items_in call) rs b.rows) none_told); lives = was.lives });
+        none_spent = λ memory g before. none_spent net n e f g found memory before;
+      }
+
+  -- A NODE OPENS AGAIN: its station has the routes that it is handed, and starts again
+  by_opening : (again : Option ℕ) (routes : List Route) (now : ℕ) → KeepsTime setup net n now → f ≡ opened_with setup n (Some now) routes → Next (OpenAgain again routes)
+  by_opening again routes now time is =
+      let call = OpenAgain again routes in
+      let at = rerouted routes s.at in
+      let u = reroute w n s.at routes in
+      let there = moved_there w n s.at s.there routes in
+      let facts = facts_stand w n s.at s.there routes h.facts in
+      let goes = goes_by_restart u n at there limits facts in
+      let v = (restart_at u n (Some at)).1 in
+      record {
+        world = v;
+        goes_on = (u, record { at = s.at; there = s.there; is = refl }, goes.onward);
+        fates = goes.fates;
+        beside = again_beside setup net w h n e s (is_named w n s.at s.there limits h.facts) now time routes f is goes.facts;
         accounts = λ g joined sure. elim (cases_Bool (n == g.to.0)) [
           | inl y ↦
               let same = nat_is n g.to.0 y in
-              restart_account w v after g (Takes g (OpenAgain again)) [] joined h.facts (restart_loses w n s.at s.there limits h.facts g same) (restart_life w n s.at s.there limits h.facts g same) refl refl
-          | inr o ↦ calm_account w v net after g (Takes g (OpenAgain again)) [] joined (restart_calm w n s.at s.there limits h.facts g o) refl (spent_restart net n e f g found o) refl sure
+              let lost = restart_loses u n at there limits facts g same in
+              restart_account w v after g (Takes g call) [] joined h.facts (record { items = lost.items; gone = lost.gone }) (restart_life u n at there limits facts g same ∙ ap (λ (k : ℕ). k + 1) (same_life w n s.at s.there routes g.to.0)) refl refl
+          | inr o ↦ calm_account w v net after g (Takes g call) [] joined (calm_through w u v g (calm_stands w n s.at s.there routes g) (restart_calm u n at there limits facts g o)) refl (spent_restart net n e f g found o) refl sure
         ];
-        booked = λ memory g b was. again_booked w n s.at g b (λ m same. life_again w n s.at s.there limits h.facts m same) was;
+        booked = λ memory g b was. again_booked u n at g b (λ m same. life_again u n at there limits facts m same) (booked_stands w n s.at s.there routes g b was);
         none_spent = λ memory g before. none_spent net n e f g found memory before;
       }
 
@@ -295,17 +348,18 @@ module _ (setup : Setup) (net : Network) (w : World) (limits : IsWithinLimits w.
   call_beside (CallSend now flow octets begin end answer) does keeps = by_send now flow octets begin end answer keeps does.0 (send_comes_to answer now flow octets begin end e f does.1)
   call_beside (CallRead now flow room buf answer) does keeps = by_read now flow room buf answer keeps does.0 (read_comes_to answer now flow room buf e f does.1)
   call_beside (CallArrive now link datagram waited answer) does keeps = by_arrival now link datagram waited answer keeps.0 keeps.1 (arrival_comes_to answer now link datagram waited e f does)
-  call_beside PullFrame does keeps = still PullFrame (λ g b. refl) (pulled_frame_is_still e f does) (λ g. refl) (λ g. refl)
-  call_beside PullReport does keeps = still PullReport (λ g b. refl) (pulled_report_is_still e f does) (λ g. refl) (λ g. refl)
-  call_beside (OpenAgain again) does keeps = by_opening again keeps.now keeps.time (does ∙ ap (opened_at setup n) keeps.told)
+  call_beside PullFrame does keeps = still PullFrame stays (λ g b. refl) (pulled_frame_is_still e f does) (λ g. refl) (λ g. refl)
+  call_beside PullReport does keeps = still PullReport stays (λ g b. refl) (pulled_report_is_still e f does) (λ g. refl) (λ g. refl)
+  call_beside (AddRoute route answer) does keeps = by_route route answer (route_comes_to answer route e f does)
+  call_beside (OpenAgain again routes) does keeps = by_opening again routes keeps.now keeps.time (does ∙ ap (λ (o : Option ℕ). opened_with setup n o routes) keeps.told)
 
 -- A STEP
 by_node : (setup : Setup) (net : Network) (w : World) → IsWithinLimits w.params → IsBeside setup net w → (n : ℕ) (call : Call) (f : EndpointValue) (o : Option EndpointValue) → look ◌==◌ n net.endpoints ≡ o → DoesFrom setup n call f o → KeepsFrom setup net n call o
-    → NextWorld setup net (record { now = net.now; endpoints = write ◌==◌ n f net.endpoints; left = net.left ++ flights net.now o f }) w (λ g. Takes g call) (λ g. read_by g call) (λ g b. book_from g n call o f b) (f.spent ≡ false)
+    → NextWorld setup net (record { now = net.now; endpoints = write ◌==◌ n f net.endpoints; left = net.left ++ flights net.now o f }) w (GoesOnBy call n w) (λ g. Takes g call) (λ g. read_by g call) (λ g b. book_from g n call o f b) (f.spent ≡ false)
 by_node setup net w limits h n call f None found does keeps = absurd does
 by_node setup net w limits h n call f (Some e) found does keeps = call_beside setup net w limits h n e found (h.endpoints n e found) f call does keeps
 
-pub step_beside : (setup : Setup) (net : Network) (w : World) → IsWithinLimits w.params → IsBeside setup net w → (s : Step) → IsStep setup s net → Keeps setup s net → NextWorld setup net (network_after s net) w (λ g. TakesIn g s) (λ g. read_in_step g s) (λ g b. book_after g s net b) (FoundIn s)
+pub step_beside : (setup : Setup) (net : Network) (w : World) → IsWithinLimits w.params → IsBeside setup net w → (s : Step) → IsStep setup s net → Keeps setup s net → NextWorld setup net (network_after s net) w (GoesOn s w) (λ g. TakesIn g s) (λ g. read_in_step g s) (λ g b. book_after g s net b) (FoundIn s)
 step_beside setup net w limits h (Pass by) does keeps = time_beside setup net w by limits h
 step_beside setup net w limits h (Calls n call f) does keeps = by_node setup net w limits h n call f (look ◌==◌ n net.endpoints) refl does keeps
 
@@ -314,7 +368,7 @@ pub steps_beside : (setup : Setup) (net : Network) (w : World) → IsWithinLimit
 steps_beside setup net w limits h [] does keeps = (h, λ f. facts_are_safe w f h.facts)
 steps_beside setup net w limits h (s ∷ steps) does keeps =
     let next = step_beside setup net w (subst IsWithinLimits (sym h.params) limits) h s does.0 keeps.0 in
-    (h, λ f. facts_are_safe w f h.facts, (next.world, next.goes.onward, next.goes.fates, steps_beside setup (network_after s net) next.world limits next.beside steps does.1 keeps.1))
+    (h, λ f. facts_are_safe w f h.facts, (next.world, next.goes_on, next.fates, steps_beside setup (network_after s net) next.world limits next.beside steps does.1 keeps.1))
 
 pub network_goes : (setup : Setup) (steps : List Step) → IsWithinLimits setup.params → AreSteps setup steps (new_network setup) → KeepsDuties setup steps (new_network setup) → GoesBeside setup steps (new_network setup) (new_world setup)
 network_goes setup steps limits does keeps = steps_beside setup (new_network setup) (new_world setup) limits (network_begins setup) steps does keeps

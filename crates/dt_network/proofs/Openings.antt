@@ -11,6 +11,7 @@ use Rattle.dt_flow_model.specs.Keeping.{most_moment}
 use Rattle.dt_world_laws.proofs.Starts.{new_world_facts}
 use Rattle.dt_world_model.proofs.Tables.{look_write, nat_is, nat_self}
 use Rattle.dt_world_model.specs.declared.links.OutLink.{OutLink}
+use Rattle.dt_world_model.specs.declared.links.Route.{Route}
 use Rattle.dt_world_model.specs.Host.{Host, restarted_host}
 use Rattle.dt_world_model.specs.Relay.{Out, Relay, empty_out, emptied, new_relay}
 use Rattle.dt_world_model.specs.Setup.{Setup, ins_of, new_world, outs_of, placed_first, relay_at, routes_of}
@@ -23,9 +24,9 @@ use Rattle.dt_world_model.specs.WorldStep.{restart_at, restarted}
 use Rattle.dt_endpoint.specs.Acts.{OutFrameValue}
 use Rattle.dt_endpoint.specs.Endpoints.{EndpointValue}
 use Rattle.dt_network.proofs.Events.{called, stations_after, stays_station}
-use Rattle.dt_network.specs.Beside.{IsBeside, IsStationOf, IsUnderWay}
+use Rattle.dt_network.specs.Beside.{IsBeside, IsStationOf, IsUnderWay, reroute, rerouted, routed}
 use Rattle.dt_network.specs.Duties.{KeepsTime}
-use Rattle.dt_network.specs.Network.{Flight, Network, flights, new_network, opened_at}
+use Rattle.dt_network.specs.Network.{Flight, Network, flights, new_network, opened_at, opened_with}
 
 -- RELAYS
 emptied_outs : (outs : List OutLink) → map (λ (o : Out Mark). let q : Out Mark = empty_out o.link o.pace in q) (map (λ (o : OutLink). let q : Out Mark = empty_out o.link o.pace in q) outs) ≡ map (λ (o : OutLink). let q : Out Mark = empty_out o.link o.pace in q) outs
@@ -95,12 +96,16 @@ network_begins setup = record {
 }
 
 -- A NODE OPENS AGAIN
-module _ (setup : Setup) (net : Network) (w : World) (h : IsBeside setup net w) (n : ℕ) (e : EndpointValue) (s : IsStationOf setup w n e) (named : s.at.station.host.me ≡ n) (now : ℕ) (time : KeepsTime setup net n now) where
+module _ (setup : Setup) (net : Network) (w : World) (h : IsBeside setup net w) (n : ℕ) (e : EndpointValue) (s : IsStationOf setup w n e) (named : s.at.station.host.me ≡ n) (now : ℕ) (time : KeepsTime setup net n now) (routes : List Route) where
+  -- its station has the routes first that are handed in
+  abbrev between : World
+  between = reroute w n s.at routes
+
   abbrev again : Placed
-  again = restarted w.params w.now s.at
+  again = restarted w.params w.now (rerouted routes s.at)
 
   abbrev anew : World
-  anew = (restart_at w n (Some s.at)).1
+  anew = (restart_at between n (Some (rerouted routes s.at))).1
 
   reading : min now most_moment ≡ w.now + s.at.zero
   reading = omega (arith, time.clock, time.most, s.clock, h.now)
@@ -111,18 +116,18 @@ module _ (setup : Setup) (net : Network) (w : World) (h : IsBeside setup net w) 
       ∙ ap (λ (m : ℕ). restarted_host setup.params m (w.now + s.at.zero)) (sym named)
       ∙ ap (λ p. restarted_host p s.at.station.host.me (w.now + s.at.zero)) (sym h.params)
 
-  relay_again : plain_relay setup n ≡ bare_relay (emptied s.at.station.relay)
-  relay_again = sym (bare_new setup n) ∙ ap bare_relay (sym s.links)
+  relay_again : routed routes (plain_relay setup n) ≡ bare_relay (emptied (routed routes s.at.station.relay))
+  relay_again = ap (λ (r : Relay (Unit {0})). routed routes r) (sym (bare_new setup n) ∙ ap bare_relay (sym s.links))
 
-  state_again : (opened_at setup n (Some now)).state ≡ bare_station again.station
+  state_again : (opened_with setup n (Some now) routes).state ≡ bare_station again.station
   state_again =
-      ap (λ (host : Host). let st : Station (Unit {0}) = station_with host (plain_relay setup n) in st) host_again
+      ap (λ (host : Host). let st : Station (Unit {0}) = station_with host (routed routes (plain_relay setup n)) in st) host_again
       ∙ ap (λ (r : Relay (Unit {0})). let st : Station (Unit {0}) = station_with again.station.host r in st) relay_again
 
-  opened_again : IsStationOf setup anew n (opened_at setup n (Some now))
+  opened_again : IsStationOf setup anew n (opened_with setup n (Some now) routes)
   opened_again = record {
     at = again;
-    there = look_write ℕ Placed ◌==◌ nat_self nat_is n again w.stations;
+    there = look_write ℕ Placed ◌==◌ nat_self nat_is n again between.stations;
     clock = s.clock;
     links = ap emptied s.links ∙ emptied_new setup n;
     rules = sym h.params;
@@ -130,11 +135,11 @@ module _ (setup : Setup) (net : Network) (w : World) (h : IsBeside setup net w) 
     state = λ unspent. state_again;
   }
 
-  pub again_beside : (f : EndpointValue) → f ≡ opened_at setup n (Some now) → WorldFacts anew → IsBeside setup (called net n e f) anew
+  pub again_beside : (f : EndpointValue) → f ≡ opened_with setup n (Some now) routes → WorldFacts anew → IsBeside setup (called net n e f) anew
   again_beside f is facts = record {
     params = h.params;
     now = h.now;
-    endpoints = stations_after setup net.endpoints anew n f (subst (λ (x : EndpointValue). IsStationOf setup anew n x) (sym is) opened_again) (λ m g other found. stays_station setup w anew n m again g refl refl refl other (h.endpoints m g found));
+    endpoints = stations_after setup net.endpoints anew n f (subst (λ (x : EndpointValue). IsStationOf setup anew n x) (sym is) opened_again) (λ m g other found. stays_station setup between anew n m again g refl refl refl other (stays_station setup w between n m (rerouted routes s.at) g refl refl refl other (h.endpoints m g found)));
     left = subst (λ (fs : List Flight). All (IsUnderWay w.copies) (net.left ++ fs)) (sym nothing_left) (subst (λ (fs : List Flight). All (IsUnderWay w.copies) fs) (sym (append-nil net.left)) h.left);
     facts = facts;
   }

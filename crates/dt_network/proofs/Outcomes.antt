@@ -26,8 +26,11 @@ use Rattle.dt_endpoint.specs.declared.answers.Arrived.{Arrived}
 use Rattle.dt_endpoint.specs.declared.answers.Arrived.TheVariants as arrived
 use Rattle.dt_endpoint.specs.declared.answers.Piece.{Piece}
 use Rattle.dt_endpoint.specs.declared.answers.Piece.TheVariants as piece
-use Rattle.dt_endpoint.specs.Calls.{ArriveDoes, Arrives, ReadDoes, Reads, SendDoes, Sends, TickDoes, Ticks, Unless, arrive_event, arrive_fault, arrive_refusal, has_link, piece_of, read_answer, read_refusals, send_answer, send_refusals, tick_refusals}
-use Rattle.dt_endpoint.specs.Endpoints.{EndpointValue}
+use Rattle.dt_endpoint.specs.declared.answers.Routed.{Routed}
+use Rattle.dt_endpoint.specs.declared.answers.Routed.TheVariants as routed
+use Rattle.dt_world_model.specs.declared.links.Route.{Route}
+use Rattle.dt_endpoint.specs.Calls.{AddsRoute, ArriveDoes, Arrives, RouteDoes, route_refusals, ReadDoes, Reads, SendDoes, Sends, TickDoes, Ticks, Unless, arrive_event, arrive_fault, arrive_refusal, has_link, piece_of, read_answer, read_refusals, send_answer, send_refusals, tick_refusals}
+use Rattle.dt_endpoint.specs.Endpoints.{EndpointValue, with_refused, with_route}
 use Rattle.dt_network.proofs.Frames.{Ends}
 
 -- NOTHING that the network sees: what the endpoint keeps of its node stays, and no frame is appended
@@ -67,6 +70,17 @@ pulled_report_is_still e f same = record {
   state = ap (λ (x : EndpointValue). x.state) same;
   frames = ap (λ (x : EndpointValue). drop (length e.frames) x.frames) same ∙ drop-length e.frames;
   reports = ap (λ (x : EndpointValue). drop (length e.reports) x.reports) same ∙ drop_of_length-le (drop 1 e.reports) (omega (arith, length-drop 1 e.reports));
+}
+
+-- a refused datagram is counted
+refused_is_still : (e f : EndpointValue) → f ≡ with_refused e → IsStill e f
+refused_is_still e f same = record {
+  rules = ap (λ (x : EndpointValue). x.rules) same;
+  latest = ap (λ (x : EndpointValue). x.latest) same;
+  spent = ap (λ (x : EndpointValue). x.spent) same;
+  state = ap (λ (x : EndpointValue). x.state) same;
+  frames = ap (λ (x : EndpointValue). drop (length e.frames) x.frames) same ∙ drop-length e.frames;
+  reports = ap (λ (x : EndpointValue). drop (length e.reports) x.reports) same ∙ drop-length e.reports;
 }
 
 -- a refused call with its answer, or one that is done
@@ -285,9 +299,9 @@ fresh_if waited datagram None h =
       | inr n ↦ grind (arith, nat_tests)
     ]
 
-pub arrival_comes_to : (answer : Arrived) (now link : ℕ) (datagram : List ℕ) (waited : ℕ) (e f : EndpointValue) → Arrives answer now link datagram waited e f → (f ≡ e) ⊎ Admits now link datagram waited e f
+pub arrival_comes_to : (answer : Arrived) (now link : ℕ) (datagram : List ℕ) (waited : ℕ) (e f : EndpointValue) → Arrives answer now link datagram waited e f → IsStill e f ⊎ Admits now link datagram waited e f
 arrival_comes_to answer now link datagram waited e f h =
-    by_cases (done_or_same (arrive_refusal link datagram waited e) answer e f (ArriveDoes answer now (arrive_event link datagram waited) e f) h)
+    by_cases (done_or_same (arrive_refusal link datagram waited e) answer (with_refused e) f (ArriveDoes answer now (arrive_event link datagram waited) e f) h)
   where
     ends : (a : Arrived) → ArriveDoes a now (arrive_event link datagram waited) e f → Ends now (arrive_event link datagram waited) e f
     ends arrived.NoMemory k = inr k
@@ -297,8 +311,23 @@ arrival_comes_to answer now link datagram waited e f h =
     ends (arrived.Bad fault) k = inl k.1
     ends arrived.Stale k = inl k.1
 
-    by_cases : IsRefused (arrive_refusal link datagram waited e) answer e f ⊎ ((arrive_refusal link datagram waited e ≡ None) × ArriveDoes answer now (arrive_event link datagram waited) e f) → (f ≡ e) ⊎ Admits now link datagram waited e f
-    by_cases (inl refused) = inl refused.same
+    by_cases : IsRefused (arrive_refusal link datagram waited e) answer (with_refused e) f ⊎ ((arrive_refusal link datagram waited e ≡ None) × ArriveDoes answer now (arrive_event link datagram waited) e f) → IsStill e f ⊎ Admits now link datagram waited e f
+    by_cases (inl refused) = inl (refused_is_still e f refused.same)
     by_cases (inr k) =
         let u = unspent_if link datagram waited e k.0 in
         inr (record { clear = k.0; unspent = u.0; below = fresh_if waited datagram (gram_fault datagram) u.1; ends = ends answer k.1 })
+
+-- A ROUTE, that is added or not
+pub route_comes_to : (answer : Routed) (route : Route) (e f : EndpointValue) → AddsRoute answer route e f → (f ≡ e) ⊎ (f ≡ with_route route e)
+route_comes_to answer route e f h = by_cases (done_or_same (first_refusal (route_refusals route e)) answer e f (RouteDoes answer route e f) h)
+  where
+    done : (a : Routed) → RouteDoes a route e f → (f ≡ e) ⊎ (f ≡ with_route route e)
+    done routed.NoMemory k = inl k
+    done routed.Done k = inr k.1
+    done routed.Spent k = inr k.1
+    done routed.NoLink k = inr k.1
+    done routed.Known k = inr k.1
+
+    by_cases : IsRefused (first_refusal (route_refusals route e)) answer e f ⊎ ((first_refusal (route_refusals route e) ≡ None) × RouteDoes answer route e f) → (f ≡ e) ⊎ (f ≡ with_route route e)
+    by_cases (inl refused) = inl refused.same
+    by_cases (inr k) = done answer k.1

@@ -1,5 +1,6 @@
 -- A network of endpoints: the endpoint of each node, and all frames that left one.
 use Rattle.std.specs.Prelude.{ℕ, ◌==◌, List, [], drop, length, map, Option, Some, None, unwrap_or}
+use Rattle.dt_world_model.specs.declared.links.Route.{Route}
 use Rattle.dt_world_model.specs.Setup.{Setup, ins_of, outs_of, routes_of}
 use Rattle.dt_world_model.specs.Tables.{look}
 use Rattle.dt_endpoint.specs.Acts.{OutFrameValue}
@@ -21,9 +22,13 @@ pub record Network : Type 0 where
 abbrev pub clock_of : Setup → ℕ → ℕ
 clock_of setup n = unwrap_or (look ◌==◌ n setup.stations) 0
 
--- a node opens, for the first time or again, with its links and routes
+-- a node opens, for the first time or again, with its links and the routes that it is handed
+abbrev pub opened_with : Setup → ℕ → Option ℕ → List Route → EndpointValue
+opened_with setup n again routes = opened setup.params n again (outs_of n setup.links) (ins_of n setup.links) routes
+
+-- with those of the setup
 abbrev pub opened_at : Setup → ℕ → Option ℕ → EndpointValue
-opened_at setup n again = opened setup.params n again (outs_of n setup.links) (ins_of n setup.links) (routes_of n setup.routes)
+opened_at setup n again = opened_with setup n again (routes_of n setup.routes)
 
 -- THE NETWORK OF A SETUP: each node has opened for the first time. An endpoint does nothing before its first call, so a node that opens later is one that wasn't called so far
 abbrev pub new_network : Setup → Network

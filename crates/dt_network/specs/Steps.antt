@@ -2,15 +2,17 @@
 use Rattle.std.specs.Prelude.{◌≡◌, ◌==◌, ℕ, ◌+◌, Bool, List, [], ◌∷◌, ◌++◌, drop, Option, Some, None}
 use Rattle.dt_units.specs.declared.endpoints.Flow.{Flow}
 use Rattle.dt_units.specs.Flows.{IsFlow}
+use Rattle.dt_world_model.specs.declared.links.Route.{Route}
 use Rattle.dt_world_model.specs.Setup.{Setup}
 use Rattle.dt_world_model.specs.Tables.{look, write}
 use Rattle.dt_endpoint.specs.declared.answers.Ticked.{Ticked}
 use Rattle.dt_endpoint.specs.declared.answers.Sent.{Sent}
 use Rattle.dt_endpoint.specs.declared.answers.Arrived.{Arrived}
 use Rattle.dt_endpoint.specs.declared.answers.Piece.{Piece}
-use Rattle.dt_endpoint.specs.Calls.{Arrives, Reads, Sends, Ticks}
+use Rattle.dt_endpoint.specs.declared.answers.Routed.{Routed}
+use Rattle.dt_endpoint.specs.Calls.{AddsRoute, Arrives, Reads, Sends, Ticks}
 use Rattle.dt_endpoint.specs.Endpoints.{EndpointValue}
-use Rattle.dt_network.specs.Network.{Network, flights, opened_at}
+use Rattle.dt_network.specs.Network.{Network, flights, opened_with}
 
 -- A CALL with its answer. Of a read it has the room of the buffer, and the octets that stood in it after the call
 pub data Call : Type 0 where
@@ -20,8 +22,9 @@ pub data Call : Type 0 where
   CallArrive : (now link : ℕ) → (datagram : List ℕ) → (waited : ℕ) → (answer : Arrived) → Call
   PullFrame : Call
   PullReport : Call
-  -- the endpoint that was there is gone, and the node opens again
-  OpenAgain : (again : Option ℕ) → Call
+  AddRoute : (route : Route) → (answer : Routed) → Call
+  -- the endpoint that was there is gone, and the node opens again, with these routes: those that it had, or others
+  OpenAgain : (again : Option ℕ) → (routes : List Route) → Call
 
 -- WHAT A CALL DOES to the endpoint of a node: each line is the contract of the call of that name
 abbrev pub Does : Setup → ℕ → Call → EndpointValue → EndpointValue → Type 0
@@ -31,7 +34,8 @@ Does setup n (CallRead now flow room buf answer) e f = IsFlow flow × Reads answ
 Does setup n (CallArrive now link datagram waited answer) e f = Arrives answer now link datagram waited e f
 Does setup n PullFrame e f = f ≡ record e { frames = drop 1 e.frames }
 Does setup n PullReport e f = f ≡ record e { reports = drop 1 e.reports }
-Does setup n (OpenAgain again) e f = f ≡ opened_at setup n again
+Does setup n (AddRoute route answer) e f = AddsRoute answer route e f
+Does setup n (OpenAgain again routes) e f = f ≡ opened_with setup n again routes
 
 -- A STEP: so many milliseconds pass; or a call is made of a node, with the endpoint after it
 pub data Step : Type 0 where

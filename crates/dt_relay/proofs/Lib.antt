@@ -4,3 +4,4 @@ pub mod Lookups
 pub mod Past
 pub mod Queueing
 pub mod Straight
+pub mod Routes

@@ -1,7 +1,8 @@
 -- Where a packet to a node goes, and what a relay answers to it.
-use Rattle.std.specs.Prelude.{◌≡◌, ℕ, ◌==◌, nat_lt, List, [], ◌∷◌, length, Option, Some, None, option_and_then, if◌then◌else◌}
+use Rattle.std.specs.Prelude.{◌≡◌, ℕ, ◌==◌, nat_lt, List, [], ◌∷◌, ◌++◌, length, Option, Some, None, option_and_then, if◌then◌else◌}
 use Rattle.dt_world_model.specs.declared.links.Entered.{Entered}
 use Rattle.dt_world_model.specs.declared.links.Entered.TheVariants.{Queued, NoRoute, Full}
+use Rattle.dt_world_model.specs.declared.links.Route.{Route}
 use Rattle.dt_world_model.specs.Relay.{Out, Relay, most_on_link, route_to}
 
 -- the queue of a link, the first that has its number
@@ -23,3 +24,7 @@ abbrev pub StaysUnlessQueued : {T : Type 0} → Entered → Relay T → Relay T 
 StaysUnlessQueued (Queued link) old new = Unit {0}
 StaysUnlessQueued (NoRoute to) old new = new ≡ old
 StaysUnlessQueued (Full link) old new = new ≡ old
+
+-- one route more, behind the others
+abbrev pub with_route : {T : Type 0} → Route → Relay T → Relay T
+with_route route relay = record relay { routes = relay.routes ++ route ∷ [] }

@@ -1,4 +1,4 @@
-ghost use Rattle.std.specs.Prelude.{ℕ, ◌≡◌, ◌≤◌, ◌<◌, All, IfOk, IfSome, None, Some, false, if◌then◌else◌, is_some, length, map, nat_eq, option_map};
+ghost use Rattle.std.specs.Prelude.{ℕ, ◌≡◌, ◌≢◌, ◌≤◌, ◌<◌, All, IfOk, IfSome, None, OnErr, OnOk, Some, false, if◌then◌else◌, is_some, length, map, nat_eq, option_map};
 ghost use Rattle.std.specs.HashMap.{get};
 ghost use Rattle.dt_layout.specs.Carried.{IsGram, life_of, to_of};
 ghost use Rattle.dt_flow_model.specs.Keeping.{most_moment};
@@ -7,7 +7,7 @@ ghost use Rattle.dt_world_model.specs.Relay.{IsOutUpTo, Parcel, admit, charge_of
 ghost use Rattle.dt_relay.specs.Carrying.{IfOut, left_seen, parcel_seen};
 ghost use Rattle.dt_relay.specs.Passages.{HasLife, Passes, passage_by};
 ghost use Rattle.dt_relay.specs.Places.{link_in, link_of, place_of};
-ghost use Rattle.dt_relay.specs.Ways.{StaysUnlessQueued, entered_by, way_to};
+ghost use Rattle.dt_relay.specs.Ways.{StaysUnlessQueued, entered_by, way_to, with_route};
 
 use crate::carrying::Carry;
 use crate::passages::Passage;
@@ -276,6 +276,33 @@ impl<P: Carry> Relay<P> {
             None => 0,
             Some(place) => self.ins[place].charge,
         }
+    }
+
+    /// Whether a route names the node. Its cost is that of a look-up.
+    pub fn has_route(&self, to: u32) -> bool
+        ensures { result ≡ is_some (route_to to self.now.routes) }
+    {
+        self.route(to).is_some()
+    }
+
+    /// From now on packets to the route's node go by its link. No route may name the node so far:
+    /// [`Relay::has_route`]. Where the link isn't among the out links, the route leads nowhere.
+    ///
+    /// `NoMemory` where there is no room for one more, and then nothing has changed. What waits stays
+    /// on its link after any answer. Its cost is that of a look-up, and now and then of moving the table.
+    pub fn add_route(&mut self, route: Route) -> Result<(), NoMemory>
+        requires fresh { route_to route.to self.old.routes ≡ None }
+        ensures done { OnOk result (self.new ≡ with_route route self.old) }
+        ensures same { OnErr result (self.new ≡ self.old) }
+        ensures leads { OnOk result (route_to route.to self.new.routes ≡ Some route.link) }
+        ensures others { (to : ℕ) → to ≢ route.to → route_to to self.new.routes ≡ route_to to self.old.routes }
+        ensures outs { self.new.outs ≡ self.old.outs }
+    {
+        let place = self.routes.len();
+        self.routes.reserve(1)?;
+        self.route_places.insert(route.to, place)?;
+        self.routes.push(route)?;
+        Ok(())
     }
 
     fn route(&self, to: u32) -> Option<u16>

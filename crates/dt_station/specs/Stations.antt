@@ -8,6 +8,7 @@ use Rattle.dt_world_model.specs.declared.links.Route.{Route}
 use Rattle.dt_world_model.specs.Host.{Host, first_host, restarted_host}
 use Rattle.dt_world_model.specs.Relay.{IsOutUpTo, Relay, new_relay}
 use Rattle.dt_world_model.specs.Station.{Station, station_with}
+use Rattle.dt_relay.specs.Ways as ways
 
 pub record StationValue (T : Type 0) : Type 0 where
   pub rules : Params
@@ -35,3 +36,7 @@ station_started p me again outs ins routes =
 abbrev pub is_spent_by : {A E : Type 0} → Result A E → Bool
 is_spent_by (Ok done) = false
 is_spent_by (Err fault) = true
+
+-- one route more, behind the others
+abbrev pub with_route : {T : Type 0} → Route → StationValue T → StationValue T
+with_route route s = record s { state = station_with s.state.host (ways.with_route route s.state.relay) }

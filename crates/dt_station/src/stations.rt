@@ -1,14 +1,15 @@
-ghost use Rattle.std.specs.Prelude.{◌≡◌, ◌≤◌, IfOk, OnOk, false, length, unwrap_or};
+ghost use Rattle.std.specs.Prelude.{◌≡◌, ◌≤◌, IfOk, None, OnErr, OnOk, false, is_some, length, unwrap_or};
 ghost use Rattle.std.specs.Option.{ForSome};
 ghost use Rattle.dt_flow_model.specs.Keeping.{most_moment};
 ghost use Rattle.dt_layout.specs.Carried.{IsGram};
 ghost use Rattle.dt_relay.specs.Carrying.{parcel_seen};
 ghost use Rattle.dt_world_model.specs.Host.{IsCurrentHost};
 ghost use Rattle.dt_world_model.specs.Script.{Concludes};
-ghost use Rattle.dt_world_model.specs.Relay.{with_outs};
+ghost use Rattle.dt_relay.specs.Places.{link_of, place_of};
+ghost use Rattle.dt_world_model.specs.Relay.{route_to, with_outs};
 ghost use Rattle.dt_world_model.specs.Station.{Arrive, station_event, station_wake};
 ghost use Rattle.dt_station.specs.Events.{LeavesBuffer, LeavesBufferHere, MayHappen, MayHappenHere, ReadsInto, ReadsIntoHere, event_seen, local_seen};
-ghost use Rattle.dt_station.specs.Stations.{host_started, is_spent_by, station_started};
+ghost use Rattle.dt_station.specs.Stations.{host_started, is_spent_by, station_started, with_route};
 
 use crate::events::{LocalEvent, StationEvent};
 use crate::happening::{arrival_on, local_event_on};
@@ -257,6 +258,31 @@ impl<P: Carry> Station<P> {
         ensures state { result.now.state ≡ self.now.state.host }
     {
         &*self.host
+    }
+
+    /// Whether a route names the node. Its cost is that of a look-up.
+    pub fn has_route(&self, to: u32) -> bool
+        ensures { result ≡ is_some (route_to to self.now.state.relay.routes) }
+    {
+        self.relay.has_route(to)
+    }
+
+    /// Whether packets may leave on the link: it is among the out links. Its cost is that of a look-up.
+    pub fn has_out_link(&self, link: u16) -> bool
+        ensures { result ≡ is_some (place_of link_of link self.now.state.relay.outs) }
+    {
+        self.relay.place(link).is_some()
+    }
+
+    /// From now on packets to the route's node go by its link, as [`Relay::add_route`] says. No route
+    /// may name the node so far. `NoMemory` where there is no room for one more, and then nothing has
+    /// changed: the station can go on.
+    pub fn add_route(&mut self, route: Route) -> Result<(), NoMemory>
+        requires fresh { route_to route.to self.old.state.relay.routes ≡ None }
+        ensures done { OnOk result (self.new ≡ with_route route self.old) }
+        ensures same { OnErr result (self.new ≡ self.old) }
+    {
+        self.relay.add_route(route)
     }
 
     /// Whether an event found no memory. Then the station is used no more.
