@@ -82,6 +82,21 @@ pub struct Route {
     pub link: u16,
 }
 
+/// What a node counted since it was opened, without what its guard kept out: datagrams that came and that were refused,
+/// frames that left, and octets of all flows by what was told of them.
+#[repr(C)]
+#[derive(Clone, Copy, Debug, PartialEq, Eq)]
+pub struct Counts {
+    pub came: u64,
+    pub refused: u64,
+    pub left: u64,
+    pub taken: u64,
+    pub settled: u64,
+    pub uncertain: u64,
+    pub accepted: u64,
+    pub read: u64,
+}
+
 /// Why a call did nothing of what it was asked.
 #[derive(Clone, Copy, Debug, PartialEq, Eq)]
 pub enum Error {
@@ -311,6 +326,19 @@ impl Node {
         (it.closed, it.crowded)
     }
 
+    /// What the node counted since it was opened.
+    pub fn counts(&mut self) -> Counts {
+        // SAFETY: as in `tick`.
+        unsafe { sys::dt_counts(self.handle.as_ptr()) }.counts
+    }
+
+    /// From now on packets to the route's node leave on its link. Refused where no packets leave on it, or there is a route
+    /// to the node already; NoMemory: the node isn't spent.
+    pub fn add_route(&mut self, route: Route) -> Result<(), Error> {
+        // SAFETY: as in `tick`; the route is only read.
+        done(unsafe { sys::dt_add_route(self.handle.as_ptr(), &route) })
+    }
+
     /// The moment at which `tick` has something to do, or none.
     pub fn wake(&mut self) -> Option<u64> {
         // SAFETY: as in `tick`.
@@ -364,6 +392,20 @@ mod tests {
         assert_eq!(two.take(6, &mut buf), Ok(Some(Message { flow, len: 2000, gap: true, too_long: 0 })));
         assert_eq!(&buf[..], octets);
         assert_eq!(two.take(6, &mut buf), Ok(None));
+    }
+
+    #[test]
+    fn routes_are_added_and_octets_are_counted() {
+        let mut one = Node::open(&PARAMS, 1, &[LINK], &[], false, 0).unwrap();
+        let flow = Flow { from: 1, to: 2, from_port: 10, to_port: 20 };
+        one.send(1, flow, b"nowhere", true, true).unwrap();
+        assert_eq!(one.next_frame(&mut [0; MOST_FRAME]), Ok(None));
+        assert_eq!(one.add_route(Route { to: 2, link: 9 }), Err(Error::Refused));
+        assert_eq!(one.add_route(Route { to: 2, link: 1 }), Ok(()));
+        assert_eq!(one.add_route(Route { to: 2, link: 1 }), Err(Error::Refused));
+        one.tick(101).unwrap();
+        assert!(matches!(one.next_frame(&mut [0; MOST_FRAME]), Ok(Some(Frame { to: 2, link: 1, .. }))));
+        assert_eq!(one.counts(), Counts { came: 0, refused: 0, left: 1, taken: 7, settled: 0, uncertain: 0, accepted: 0, read: 0 });
     }
 
     #[test]

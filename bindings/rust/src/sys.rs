@@ -83,6 +83,13 @@ pub struct KeptOut {
 
 #[repr(C)]
 #[derive(Clone, Copy)]
+pub struct Counts {
+    pub counts: crate::Counts,
+    pub status: u8,
+}
+
+#[repr(C)]
+#[derive(Clone, Copy)]
 pub struct Report {
     pub flow: crate::Flow,
     pub moment: u64,
@@ -125,4 +132,6 @@ extern "C" {
     pub fn dt_wake(node: *mut Handle) -> Moment;
     pub fn dt_guard(node: *mut Handle, ports: *const u16, port_count: usize, all: bool, flows: u32) -> u8;
     pub fn dt_kept_out(node: *mut Handle) -> KeptOut;
+    pub fn dt_counts(node: *mut Handle) -> Counts;
+    pub fn dt_add_route(node: *mut Handle, route: *const crate::Route) -> u8;
 }
