@@ -1,6 +1,7 @@
 //! The answers of calls that are refused, or that come too late.
-use crate::fixtures::{BACK, FLOW, hands_over, open};
-use dt_endpoint::{Arrived, Endpoint, Piece, Sent, Ticked};
+use crate::fixtures::{BACK, FLOW, STANDARD, hands_over, open};
+use dt_endpoint::{Arrived, Endpoint, Piece, Route, Routed, Sent, Ticked};
+use dt_fingerprint::fingerprint;
 use dt_items::NoMemory;
 use dt_layout::LayoutFault;
 use dt_units::{Flow, NodeId};
@@ -45,6 +46,7 @@ fn refused_datagrams_and_reads_say_why(rt: HostRuntime) -> Result<(), NoMemory> 
     assert!(rt; comes(&mut one, 7, b"abc", short));
     assert!(rt; reads(&mut one, FLOW, 4, Piece::BadFlow));
     assert!(rt; reads(&mut one, BACK, 0, Piece::NoRoom));
+    assert!(rt; one.counts().refused == 2 && one.counts().came == 0);
     Ok(())
 }
 
@@ -90,6 +92,7 @@ fn is_spent(one: &mut Endpoint) -> bool {
         && reads(one, BACK, 4, Piece::Spent)
         && one.tick(9) == Ticked::Spent
         && one.wake().is_none()
+        && one.add_route(Route { to: 9, link: 5 }) == Routed::Spent
 }
 
 /// With memory the send is taken. After want of memory every call says that the endpoint is spent.
@@ -101,4 +104,11 @@ fn want_of_memory_is_told_once(rt: HostRuntime) {
             answer => assert!(rt; answer == Sent::NoMemory && is_spent(&mut one)),
         }
     }
+}
+
+/// The first eight octets of the SHA-256 digest of the eleven numbers, as Python's `hashlib` has it.
+#[test]
+fn fingerprint_is_that_of_other_programs(rt: HostRuntime) {
+    let rules = STANDARD.check().expect(&rt, "the parameters are refused");
+    assert!(rt; fingerprint(&rules) == 0xf185_fd7d_13be_58ba);
 }

@@ -1,8 +1,36 @@
 //! Octets go from one endpoint to another, and come back as settled.
 use crate::fixtures::{FLOW, hands_over, open};
-use dt_endpoint::{Arrived, Endpoint, Piece, Sent, Ticked};
+use dt_endpoint::{Arrived, Counts, Endpoint, Octets, Piece, Sent, Ticked};
 use dt_items::NoMemory;
 use dt_reports::Report;
+
+/// What the node counts that sent five octets, and heard that they came.
+const SENDER: Counts = Counts {
+    came: 1,
+    refused: 0,
+    left: 1,
+    octets: Octets {
+        taken: 5,
+        settled: 5,
+        uncertain: 0,
+        accepted: 0,
+        read: 0,
+    },
+};
+
+/// What the node counts that read them.
+const READER: Counts = Counts {
+    came: 1,
+    refused: 0,
+    left: 1,
+    octets: Octets {
+        taken: 0,
+        settled: 0,
+        uncertain: 0,
+        accepted: 5,
+        read: 5,
+    },
+};
 
 /// Whether five octets are taken.
 fn sends_hello(one: &mut Endpoint) -> bool {
@@ -61,5 +89,6 @@ fn octets_go_from_one_to_the_other(rt: HostRuntime) -> Result<(), NoMemory> {
     assert!(rt; two.wake() == Some(4212) && two.tick(15) == Ticked::Done);
     assert!(rt; answers(&mut one, &mut two) && two.next_frame().is_none());
     assert!(rt; is_settled(&mut one));
+    assert!(rt; one.counts() == SENDER && two.counts() == READER);
     Ok(())
 }

@@ -5,7 +5,7 @@ use dt_units::{Flow, NodeId, Params};
 use std::alloc::Global;
 use std::process::Abort;
 
-const STANDARD: Params = Params {
+pub const STANDARD: Params = Params {
     mpl: 1000,
     r: 3000,
     a: 200,

@@ -7,3 +7,5 @@ mod answers;
 mod exchange;
 #[cfg(test)]
 mod fixtures;
+#[cfg(test)]
+mod routes;

@@ -22,7 +22,8 @@ pub use worked::exchange_keeps_the_duties;
 /// duties, a world of the definitions goes beside the network, from the new world of the same setup.
 /// Before the calls and after each of them every endpoint is its station, every frame that left is a
 /// copy of it, and the world is safe; from call to call it goes on by its steps, and no fate changes
-/// that isn't open.
+/// that isn't open. Routes are no duty: a call may add one, and a node may open again with others than
+/// it had. Then its station of the world has those too, and nothing else of the world is other.
 pub fn network_is_a_world()
     ensures { (setup : Setup) (steps : List Step) → IsWithinLimits setup.params → AreSteps setup steps (new_network setup) → KeepsDuties setup steps (new_network setup) → GoesBeside setup steps (new_network setup) (new_world setup) }
 {}

@@ -9,7 +9,7 @@ use Rattle.dt_network.proofs.worked.exchange_keeps_the_duties.Goals as goal
 pub returns-clause-steps : goal.returns-clause-steps
 unfolding gram_spelling packet_spelling gram_in packet_in packet_fault gram_fault life_of to_of lowered
 returns-clause-steps c =
-    ((record { from = omega arith; from_port = omega arith; to = omega arith; to_port = omega arith }, (refl, refl)), (tt, ((refl, refl), ((record { from = omega arith; from_port = omega arith; to = omega arith; to_port = omega arith }, (refl, refl, refl)), (tt, ((refl, refl), tt))))))
+    ((record { from = omega arith; from_port = omega arith; to = omega arith; to_port = omega arith }, (refl, refl)), (tt, ((refl, refl), ((record { from = omega arith; from_port = omega arith; to = omega arith; to_port = omega arith }, (refl, refl, refl)), (tt, ((refl, refl), ((refl, refl), tt)))))))
 
 -- src/worked.rt
 pub returns-clause-duties : goal.returns-clause-duties
@@ -24,7 +24,7 @@ returns-clause-duties c = (
         record { clock = refl; most = omega arith },
         (
           tt,
-          ((record { clock = refl; most = omega arith }, λ clear. record { flight = record { frame = first_frame reader; put = 40 }; left = (1, omega arith, refl); on_link = refl; octets = refl; in_time = omega arith }), tt),
+          ((record { clock = refl; most = omega arith }, λ clear. record { flight = record { frame = first_frame reader; put = 40 }; left = (1, omega arith, refl); on_link = refl; octets = refl; in_time = omega arith }), (tt, tt)),
         ),
       ),
     ),
@@ -33,7 +33,7 @@ returns-clause-duties c = (
 
 -- src/worked.rt
 pub returns-clause-memory : goal.returns-clause-memory
-returns-clause-memory c = (refl, (tt, (refl, (refl, (tt, (refl, tt))))))
+returns-clause-memory c = (refl, (tt, (refl, (refl, (tt, (refl, (refl, tt)))))))
 
 -- src/worked.rt
 pub returns-clause-read : goal.returns-clause-read
