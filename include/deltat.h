@@ -109,6 +109,7 @@ struct dt_message { struct dt_flow flow; size_t len; uint64_t too_long; uint8_t 
 struct dt_out { size_t len; uint32_t to; uint16_t link; uint8_t status; };
 struct dt_moment { uint64_t at; bool some; };
 struct dt_kept_out { uint64_t closed, crowded; };
+struct dt_fingerprint { uint64_t value; uint8_t status; };
 /* Datagrams that came and that were refused, frames that left; and octets of all flows, by what was told of them: TOOK,
  * SETTLED, UNCERTAIN, ACCEPTED, and those that were read. Each is 2^64 - 1 at most. */
 struct dt_counts { uint64_t came, refused, left, taken, settled, uncertain, accepted, read; uint8_t status; };
@@ -171,6 +172,11 @@ uint8_t dt_add_route(dt_node *n, const struct dt_route *route);
 
 /* How long a node that is opened `again` is silent: 3 mpl + r + a; 0 exactly where a parameter is out of its range. */
 uint64_t dt_quiet(const struct dt_params *p);
+
+/* A number of the parameters: two programs that hand it to each other see where theirs differ, since equal parameters
+ * have equal ones, and it would take a search for two others to. It is the first eight octets of the SHA-256 digest of
+ * the eleven numbers, each as four octets, the greatest first in both. DONE; REFUSED: a parameter is out of its range. */
+struct dt_fingerprint dt_fingerprint(const struct dt_params *p);
 
 /* EVENTS. Each is one event of the node's definition at `now`, and all that is due then is done; its frames wait for
  * dt_next_frame, behind those that wait already. */

@@ -23,6 +23,8 @@ In tests/all: no words, 300 s."""
 from __future__ import annotations
 
 import asyncio
+import dataclasses
+import hashlib
 import heapq
 import itertools
 import os
@@ -93,6 +95,9 @@ def refusals() -> bool:
         guarded.guard(ports, flows)
         right.append(guarded.arrive(1, frame.octets, at=5) is deltat.Status[status])
     right.append(guarded.kept_out() == (2, 1))
+    octets = b"".join(it.to_bytes(4, "big") for it in dataclasses.astuple(PARAMS))
+    right += [PARAMS.fingerprint == int.from_bytes(hashlib.sha256(octets).digest()[:8], "big")]
+    right.append(refused(deltat.BadParameter, lambda: dataclasses.replace(PARAMS, mpl=1).fingerprint))
     lonely = deltat.Node(1, PARAMS, [deltat.Link(1, CHARGE)], {}, False, 0)
     lonely.send(flow, b"nowhere", at=1)
     right += [list(lonely.frames()) == [], refused(deltat.BadParameter, lonely.add_route, 2, 9)]

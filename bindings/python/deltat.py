@@ -207,6 +207,10 @@ class _Counts(ctypes.Structure):
     _fields_ = [(name, ctypes.c_uint64) for name in "came refused left taken settled uncertain accepted read".split()] + [("status", ctypes.c_uint8)]
 
 
+class _Fingerprint(ctypes.Structure):
+    _fields_ = [("value", ctypes.c_uint64), ("status", ctypes.c_uint8)]
+
+
 class _Moment(ctypes.Structure):
     _fields_ = [("at", ctypes.c_uint64), ("some", ctypes.c_bool)]
 
@@ -247,6 +251,7 @@ def _calls() -> dict[str, tuple[object, list[object]]]:
         "dt_kept_out": (_KeptOut, [p]),
         "dt_counts": (_Counts, [p]),
         "dt_add_route": (u8, [p, routes]),
+        "dt_fingerprint": (_Fingerprint, [ctypes.POINTER(_Params)]),
     }
 
 
@@ -296,6 +301,17 @@ class Params:
     def quiet(self) -> int:
         """How long a node that starts again is silent, in ms."""
         return 3 * self.mpl + self.r + self.a
+
+    @property
+    def fingerprint(self) -> int:
+        """A number of 64 bits: programs whose parameters are equal have the same, and others don't. BadParameter where one is
+        out of its range."""
+        for name, value in zip(_Params._fields_, astuple(self)):
+            _in_range(value, 32, name[0])
+        it = _library.dt_fingerprint(_Params(*astuple(self)))
+        if it.status != Status.DONE:
+            raise BadParameter("a parameter is out of its range")
+        return it.value
 
 
 class Flow(NamedTuple):

@@ -182,6 +182,9 @@ int main(void) {
     WANT(dt_quiet(&params) == 3 * 1000 + 8000 + 200);
     bad.mpl = 1;
     WANT(dt_quiet(&bad) == 0);
+    /* as Python's hashlib has it */
+    WANT(dt_fingerprint(&params).status == DT_DONE && dt_fingerprint(&params).value == UINT64_C(0x0277617b6e6fb6f4));
+    WANT(dt_fingerprint(&bad).status == DT_REFUSED && dt_fingerprint(&bad).value == 0);
     a_message_comes_whole();
     refusals_say_why();
     printf("lost %u, repeated %u: the message came whole\n", lost, repeated);

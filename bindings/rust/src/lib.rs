@@ -40,6 +40,13 @@ impl Params {
         // SAFETY: the pointer is that of a struct of the header's form, which is only read.
         Some(unsafe { sys::dt_quiet(self) }).filter(|it| *it > 0)
     }
+
+    /// A number by which two programs see whether their parameters differ; none where a parameter is out of its range.
+    pub fn fingerprint(&self) -> Option<u64> {
+        // SAFETY: as in `quiet`.
+        let it = unsafe { sys::dt_fingerprint(self) };
+        (it.status == 0).then_some(it.value)
+    }
 }
 
 /// Octets that go from a port of a node to a port of another. The way back is another flow.
@@ -437,6 +444,8 @@ mod tests {
         assert_eq!(one.next_frame(&mut [0; 10]), Err(Error::Room { wanted: 37 }));
         assert!(Node::open(&Params { mpl: 1, ..PARAMS }, 1, &[], &[], false, 0).is_err());
         assert_eq!(Params { mpl: 1, ..PARAMS }.quiet(), None);
+        assert_eq!(Params { mpl: 1, ..PARAMS }.fingerprint(), None);
+        assert_ne!(PARAMS.fingerprint(), Params { start: 1, ..PARAMS }.fingerprint());
     }
 
     #[test]

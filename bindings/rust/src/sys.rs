@@ -83,6 +83,13 @@ pub struct KeptOut {
 
 #[repr(C)]
 #[derive(Clone, Copy)]
+pub struct Fingerprint {
+    pub value: u64,
+    pub status: u8,
+}
+
+#[repr(C)]
+#[derive(Clone, Copy)]
 pub struct Counts {
     pub counts: crate::Counts,
     pub status: u8,
@@ -120,6 +127,7 @@ extern "C" {
         route_count: usize,
     ) -> Opened;
     pub fn dt_quiet(params: *const crate::Params) -> u64;
+    pub fn dt_fingerprint(params: *const crate::Params) -> Fingerprint;
     pub fn dt_tick(node: *mut Handle, now: u64) -> u8;
     pub fn dt_arrive(node: *mut Handle, now: u64, link: u16, datagram: *const u8, len: usize, waited: u32) -> Came;
     pub fn dt_send(node: *mut Handle, now: u64, flow: *const crate::Flow, octets: *const u8, len: usize, begin: bool, end: bool) -> Sent;

@@ -14,11 +14,13 @@ use Rattle.dt_endpoint.specs.Endpoints.{EndpointValue, endpoint_wake}
 use Rattle.dt_endpoint.specs.Guards.{GuardValue, admission, guard_after}
 use Rattle.dt_endpoint.specs.declared.guards.Admission.{Admission}
 use Rattle.dt_endpoint.specs.declared.guards.Admission.TheVariants.{Admitted, ClosedPort, TooManyFlows}
+use Rattle.dt_fingerprint.specs.Fingerprints.{fingerprint_of}
 use Rattle.dt_inbox.specs.FlowInboxes.{heard}
 use Rattle.dt_inbox.specs.Mailboxes.{MailboxValue, TakesInto, new_mailbox}
 use Rattle.dt_inbox.specs.declared.mailboxes.Handed.{Handed}
 use Rattle.dt_c.specs.declared.rows.CameRow.{CameRow}
 use Rattle.dt_c.specs.declared.rows.CountsRow.{CountsRow}
+use Rattle.dt_c.specs.declared.rows.FingerprintRow.{FingerprintRow}
 use Rattle.dt_c.specs.declared.rows.FlowRow.{FlowRow}
 use Rattle.dt_c.specs.declared.rows.KeptOutRow.{KeptOutRow}
 use Rattle.dt_c.specs.declared.rows.LinkRow.{LinkRow}
@@ -35,7 +37,7 @@ use Rattle.dt_c.specs.declared.rows.RouteRow.{RouteRow}
 use Rattle.dt_c.specs.declared.rows.SentRow.{SentRow}
 use Rattle.dt_c.specs.declared.rows.StartRow.{StartRow}
 use Rattle.dt_c.specs.declared.slots.Slot.{Slot}
-use Rattle.dt_c.specs.Rows.{came_as, came_row, closed, counts_row, done, flow_of, kept_out, held, kept_out_row, message_row, moment_row, no_counts_row, no_frame, no_memory, no_message, no_piece, no_report, nothing, opened_row, params_of, piece_row, report_row, room, route, routed_status, sent_as, sent_row, started, ticked_status}
+use Rattle.dt_c.specs.Rows.{came_as, came_row, closed, counts_row, done, flow_of, kept_out, held, kept_out_row, message_row, moment_row, no_counts_row, no_frame, no_memory, no_message, no_piece, no_report, nothing, opened_row, params_of, piece_row, refused, report_row, room, route, routed_status, sent_as, sent_row, started, ticked_status}
 
 -- Between two contents of a handle: where a part isn't there it stays so, and one that is there goes on.
 abbrev pub PartGoesOn : {A : Type 0} → Option A → Option A → Type 0 → (A → A → Type 0) → Type 0
@@ -185,3 +187,7 @@ slot_counts (Some e) = counts_row e.counts
 
 abbrev pub Counting : CountsRow → Slot → Slot → Type 0
 Counting row s t = (row ≡ slot_counts s.endpoint) × (t ≡ s)
+
+-- THE FINGERPRINT, of parameters within their limits
+abbrev pub FingerprintIs : FingerprintRow → ParamsRow → Type 0
+FingerprintIs row p = ((row ≡ record { value = fingerprint_of (params_of p); status = done }) × IsWithinLimits (params_of p)) ⊎ ((row ≡ record { value = 0; status = refused }) × IsSome (first_out_of_range (params_of p)))

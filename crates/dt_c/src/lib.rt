@@ -9,19 +9,19 @@ mod slots;
 ghost use Rattle.std.specs.Prelude.{◌≡◌, length};
 ghost use Rattle.std.specs.Borrow.{sem};
 ghost use Rattle.std.specs.Ptr.{points_to, uninit_at};
-ghost use Rattle.dt_c.specs.Calls.{AddingRoute, Arriving, Counting, Guarding, Hearing, KeptOut, MakesInbox, NextFrame, NextReport, Opening, QuietIs, Reading, Sending, Taking, Ticking, Waking};
+ghost use Rattle.dt_c.specs.Calls.{AddingRoute, Arriving, Counting, FingerprintIs, Guarding, Hearing, KeptOut, MakesInbox, NextFrame, NextReport, Opening, QuietIs, Reading, Sending, Taking, Ticking, Waking};
 ghost use Rattle.dt_c.specs.Handle.{empty};
 ghost use Rattle.dt_c.specs.contracts.slots.Slot.{the_row};
 ghost use Rattle.dt_c.specs.declared.slots.Slot.{Slot};
 
 use calls::{
-    add_route_in, arrive_in, close_in, counts_in, empty_slot, guard_in, hear_in, inbox_in,
-    kept_out_in, next_frame_in, next_report_in, open_in, quiet_of, read_in, send_in, take_in,
-    tick_in, wake_in,
+    add_route_in, arrive_in, close_in, counts_in, empty_slot, fingerprint_in, guard_in, hear_in,
+    inbox_in, kept_out_in, next_frame_in, next_report_in, open_in, quiet_of, read_in, send_in,
+    take_in, tick_in, wake_in,
 };
 pub use rows::{
-    CameRow, CountsRow, FlowRow, KeptOutRow, LinkRow, MessageRow, MomentRow, OpenedRow, OutRow,
-    ParamsRow, PieceRow, ReportRow, RouteRow, SentRow, StartRow,
+    CameRow, CountsRow, FingerprintRow, FlowRow, KeptOutRow, LinkRow, MessageRow, MomentRow,
+    OpenedRow, OutRow, ParamsRow, PieceRow, ReportRow, RouteRow, SentRow, StartRow,
 };
 pub use slots::{Handle, Slot};
 use std::alloc::Global;
@@ -283,4 +283,12 @@ pub extern "C" fn dt_quiet(params: &ParamsRow) -> u64
     ensures { QuietIs result params.now }
 {
     quiet_of(params)
+}
+
+/// A number that tells whether two programs have the same parameters.
+#[unsafe(no_mangle)]
+pub extern "C" fn dt_fingerprint(params: &ParamsRow) -> FingerprintRow
+    ensures { FingerprintIs result params.now }
+{
+    fingerprint_in(params)
 }

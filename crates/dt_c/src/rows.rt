@@ -127,6 +127,14 @@ pub struct KeptOutRow {
     pub crowded: u64,
 }
 
+/// The fingerprint of parameters.
+#[repr(C)]
+#[derive(Clone, Copy)]
+pub struct FingerprintRow {
+    pub value: u64,
+    pub status: u8,
+}
+
 /// What a node has counted since it was opened: datagrams that came and that were refused, frames that
 /// left, and octets of all flows by what was told of them.
 #[repr(C)]
@@ -240,6 +248,8 @@ const _: () = prove!(size_of::<OpenedRow>() == 8);
 const _: () = prove!(size_of::<CameRow>() == 8);
 
 const _: () = prove!(size_of::<KeptOutRow>() == 16);
+
+const _: () = prove!(size_of::<FingerprintRow>() == 16);
 
 const _: () = prove!(size_of::<CountsRow>() == 72);
 
