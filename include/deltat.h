@@ -48,11 +48,11 @@ typedef struct dt_node dt_node;
 
 enum dt_status {
     DT_DONE = 0,
-    DT_NO_MEMORY = 1, /* dt_open: nothing changed. Else a first part was done, and the node is spent: what waits can
-                         still be taken, then it is closed and opened `again` */
+    DT_NO_MEMORY = 1, /* of an event, dt_read and dt_take a first part was done, and the node is spent: what waits can
+                         still be taken, then it is closed and opened `again`. Of other calls nothing changed */
     DT_CLOSED = 2,    /* the handle holds no node, or none with an inbox; nothing changed */
     DT_REFUSED = 3,   /* an argument is out of its range; nothing changed */
-    DT_HELD = 4,      /* the handle holds a node already, or the node an inbox; nothing changed */
+    DT_HELD = 4,      /* there is a node, an inbox or a route already; nothing changed */
     DT_NOTHING = 5,   /* there is nothing to hand over */
     DT_ROOM = 6,      /* the buffer is too small, and what was to go into it waits on */
     DT_FULL = 7,      /* the octets don't fit, and weren't taken; what else was due is done */
@@ -109,6 +109,10 @@ struct dt_message { struct dt_flow flow; size_t len; uint64_t too_long; uint8_t 
 struct dt_out { size_t len; uint32_t to; uint16_t link; uint8_t status; };
 struct dt_moment { uint64_t at; bool some; };
 struct dt_kept_out { uint64_t closed, crowded; };
+struct dt_fingerprint { uint64_t value; uint8_t status; };
+/* Datagrams that came and that were refused, frames that left; and octets of all flows, by what was told of them: TOOK,
+ * SETTLED, UNCERTAIN, ACCEPTED, and those that were read. Each is 2^64 - 1 at most. */
+struct dt_counts { uint64_t came, refused, left, taken, settled, uncertain, accepted, read; uint8_t status; };
 
 enum dt_kind { /* what a report tells, and its fields; the others are 0. Those with no flow are told so */
     DT_TOOK = 1,         /* a send was taken: `count` octets */
@@ -162,8 +166,17 @@ void dt_close(dt_node *n); /* frees what the node holds; the handle holds no nod
 struct dt_opened dt_open(dt_node *n, const struct dt_params *p, const struct dt_start *start, const struct dt_link *links,
                          size_t link_count, const struct dt_route *routes, size_t route_count);
 
+/* From now on packets to the route's node leave on its link, as by a route of dt_open. DONE CLOSED SPENT; REFUSED: no
+ * packets leave on this link; HELD: the node has a route; NO_MEMORY: nothing changed, and the node isn't spent. */
+uint8_t dt_add_route(dt_node *n, const struct dt_route *route);
+
 /* How long a node that is opened `again` is silent: 3 mpl + r + a; 0 exactly where a parameter is out of its range. */
 uint64_t dt_quiet(const struct dt_params *p);
+
+/* A number of the parameters: two programs that hand it to each other see where theirs differ, since equal parameters
+ * have equal ones, and it would take a search for two others to. It is the first eight octets of the SHA-256 digest of
+ * the eleven numbers, each as four octets, the greatest first in both. DONE; REFUSED: a parameter is out of its range. */
+struct dt_fingerprint dt_fingerprint(const struct dt_params *p);
 
 /* EVENTS. Each is one event of the node's definition at `now`, and all that is due then is done; its frames wait for
  * dt_next_frame, behind those that wait already. */
@@ -217,6 +230,9 @@ uint8_t dt_guard(dt_node *n, const uint16_t *ports, size_t port_count, bool all,
 /* How many datagrams the guard kept out since dt_open, 2^64 - 1 at most: for ports that aren't open, and of flows too
  * many. Nothing changes. */
 struct dt_kept_out dt_kept_out(dt_node *n);
+
+/* What the node counted since dt_open, without what the guard kept out. Nothing changes. DONE CLOSED */
+struct dt_counts dt_counts(dt_node *n);
 
 /* WHAT IS TO BE TAKEN, AND WHEN TO CALL AGAIN */
 

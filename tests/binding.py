@@ -23,6 +23,8 @@ In tests/all: no words, 300 s."""
 from __future__ import annotations
 
 import asyncio
+import dataclasses
+import hashlib
 import heapq
 import itertools
 import os
@@ -93,9 +95,19 @@ def refusals() -> bool:
         guarded.guard(ports, flows)
         right.append(guarded.arrive(1, frame.octets, at=5) is deltat.Status[status])
     right.append(guarded.kept_out() == (2, 1))
+    octets = b"".join(it.to_bytes(4, "big") for it in dataclasses.astuple(PARAMS))
+    right += [PARAMS.fingerprint == int.from_bytes(hashlib.sha256(octets).digest()[:8], "big")]
+    right.append(refused(deltat.BadParameter, lambda: dataclasses.replace(PARAMS, mpl=1).fingerprint))
+    lonely = deltat.Node(1, PARAMS, [deltat.Link(1, CHARGE)], {}, False, 0)
+    lonely.send(flow, b"nowhere", at=1)
+    right += [list(lonely.frames()) == [], refused(deltat.BadParameter, lonely.add_route, 2, 9)]
+    lonely.add_route(2, 1)
+    lonely.tick(200)
+    right += [[it.to for it in lonely.frames()] == [2], refused(deltat.BadParameter, lonely.add_route, 2, 1)]
+    right.append(lonely.counts() == deltat.Counts(came=0, refused=0, left=1, taken=7, settled=0, uncertain=0, accepted=0, read=0))
     node.close()
     node.close()
-    right.append(refused(deltat.Spent, node.tick, 5))
+    right += [refused(deltat.Spent, node.tick, 5), refused(deltat.Spent, node.counts), refused(deltat.Spent, node.add_route, 3, 1)]
     return all(right)
 
 

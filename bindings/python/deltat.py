@@ -45,7 +45,7 @@ from pathlib import Path
 from typing import NamedTuple
 
 __all__ = [
-    "AsyncUdp", "BadParameter", "DeltatError", "Flow", "Full", "KeptOut", "Kind", "Link", "Message", "NoMemory", "Node", "OutFrame", "Params",
+    "AsyncUdp", "BadParameter", "Counts", "DeltatError", "Flow", "Full", "KeptOut", "Kind", "Link", "Message", "NoMemory", "Node", "OutFrame", "Params",
     "Piece", "Quiet", "Report", "Spent", "Status", "Udp", "now",
 ]
 
@@ -113,7 +113,8 @@ class DeltatError(Exception):
 
 
 class NoMemory(DeltatError):
-    """The library found no memory. A node that raised this is spent: close it, and open it `again`."""
+    """The library found no memory. A node that raised this, but of `guard` and `add_route`, is spent: close it, and open it
+    `again`."""
 
 
 class Spent(DeltatError):
@@ -202,6 +203,14 @@ class _KeptOut(ctypes.Structure):
     _fields_ = [("closed", ctypes.c_uint64), ("crowded", ctypes.c_uint64)]
 
 
+class _Counts(ctypes.Structure):
+    _fields_ = [(name, ctypes.c_uint64) for name in "came refused left taken settled uncertain accepted read".split()] + [("status", ctypes.c_uint8)]
+
+
+class _Fingerprint(ctypes.Structure):
+    _fields_ = [("value", ctypes.c_uint64), ("status", ctypes.c_uint8)]
+
+
 class _Moment(ctypes.Structure):
     _fields_ = [("at", ctypes.c_uint64), ("some", ctypes.c_bool)]
 
@@ -240,6 +249,9 @@ def _calls() -> dict[str, tuple[object, list[object]]]:
         "dt_wake": (_Moment, [p]),
         "dt_guard": (u8, [p, ctypes.POINTER(u16), size, ctypes.c_bool, u32]),
         "dt_kept_out": (_KeptOut, [p]),
+        "dt_counts": (_Counts, [p]),
+        "dt_add_route": (u8, [p, routes]),
+        "dt_fingerprint": (_Fingerprint, [ctypes.POINTER(_Params)]),
     }
 
 
@@ -289,6 +301,17 @@ class Params:
     def quiet(self) -> int:
         """How long a node that starts again is silent, in ms."""
         return 3 * self.mpl + self.r + self.a
+
+    @property
+    def fingerprint(self) -> int:
+        """A number of 64 bits: programs whose parameters are equal have the same, and others don't. BadParameter where one is
+        out of its range."""
+        for name, value in zip(_Params._fields_, astuple(self)):
+            _in_range(value, 32, name[0])
+        it = _library.dt_fingerprint(_Params(*astuple(self)))
+        if it.status != Status.DONE:
+            raise BadParameter("a parameter is out of its range")
+        return it.value
 
 
 class Flow(NamedTuple):
@@ -355,6 +378,21 @@ class KeptOut(NamedTuple):
 
     closed: int
     crowded: int
+
+
+class Counts(NamedTuple):
+    """What a node counted since it was opened, without what its guard kept out: datagrams that came and that were refused,
+    datagrams that left, and octets of all flows: taken from the program, settled and uncertain of these; accepted, and
+    read of these."""
+
+    came: int
+    refused: int
+    left: int
+    taken: int
+    settled: int
+    uncertain: int
+    accepted: int
+    read: int
 
 
 class Report(NamedTuple):
@@ -471,6 +509,20 @@ class Node:
         """How many datagrams the guard kept out since the node was opened."""
         it = _library.dt_kept_out(self._handle)
         return KeptOut(it.closed, it.crowded)
+
+    def counts(self) -> Counts:
+        """What the node counted since it was opened. Spent where it is closed."""
+        it = _library.dt_counts(self._handle)
+        self._raise(it.status)
+        return Counts(*(getattr(it, name) for name in Counts._fields))
+
+    def add_route(self, to: int, link: int) -> None:
+        """From now on packets to the node `to` leave on this link. BadParameter where no packets do or there is a route to it
+        already; NoMemory, and then the node isn't spent; Spent."""
+        status = _library.dt_add_route(self._handle, _Route(_in_range(to, 32, "a node"), _in_range(link, 16, "a link")))
+        if status in (Status.REFUSED, Status.HELD):
+            raise BadParameter(f"there is no link {link}" if status == Status.REFUSED else f"there is a route to node {to} already")
+        self._raise(status)
 
     def send(self, flow: Flow, octets: bytes, begin: bool = True, end: bool = True, at: int | None = None) -> None:
         """Sends a message of 1 to 65,536 octets, or a part of one. Full, Quiet or BadParameter, and then nothing of it

@@ -115,11 +115,13 @@ static bool reported(dt_node *n, uint8_t kind) {
 }
 
 static void a_closed_handle_says_so(dt_node *n) {
+    const struct dt_route closed_route = {3, LINK};
     WANT(dt_next_report(n).status == DT_CLOSED);
     WANT(dt_tick(n, 5) == DT_CLOSED);
     WANT(dt_arrive(n, 5, LINK, frame, 3, 0).status == DT_CLOSED);
     WANT(dt_send(n, 5, &flow, message, 1, true, true).status == DT_CLOSED);
     WANT(dt_read(n, 5, &flow, came, 1).status == DT_CLOSED);
+    WANT(dt_counts(n).status == DT_CLOSED && dt_add_route(n, &closed_route) == DT_CLOSED);
     WANT(dt_inbox(n, 5) == DT_CLOSED && dt_hear(n, &flow) == DT_CLOSED && dt_take(n, 5, came, 1).status == DT_CLOSED);
     WANT(dt_next_frame(n, frame, sizeof frame).status == DT_CLOSED);
     WANT(!dt_wake(n).some);
@@ -149,6 +151,12 @@ static void refusals_say_why(void) {
     WANT(dt_read(n, 0, &back, came, 1).status == DT_NOTHING);
     WANT(dt_next_frame(n, frame, sizeof frame).status == DT_NOTHING);
     WANT(dt_send(n, 0, &flow, (const uint8_t *)"hello", 5, true, true).status == DT_DONE);
+    struct dt_route other = {3, LINK}, known = {2, LINK}, strange = {4, LINK + 1};
+    WANT(dt_add_route(n, &strange) == DT_REFUSED && dt_add_route(n, &known) == DT_HELD);
+    WANT(dt_add_route(n, &other) == DT_DONE && dt_add_route(n, &other) == DT_HELD);
+    struct dt_counts counts = dt_counts(n);
+    WANT(counts.status == DT_DONE && counts.came == 0 && counts.refused == 2 && counts.left == 1 && counts.taken == 5);
+    WANT(counts.settled == 0 && counts.uncertain == 0 && counts.accepted == 0 && counts.read == 0);
     struct dt_out out = dt_next_frame(n, frame, 4);
     WANT(out.status == DT_ROOM && out.len > 5 && out.to == 2 && out.link == LINK);
     size_t wanted = out.len;
@@ -162,6 +170,8 @@ static void refusals_say_why(void) {
     WANT(reported(n, DT_ACCEPTED));
     struct dt_piece piece = dt_read(n, 0, &flow, came, 5);
     WANT(piece.status == DT_DONE && piece.len == 5 && piece.begin && piece.end && memcmp(came, "hello", 5) == 0);
+    counts = dt_counts(n);
+    WANT(counts.came == 1 && counts.refused == 1 && counts.accepted == 5 && counts.read == 5 && counts.taken == 0);
     dt_close(n);
     free(n);
 }
@@ -172,6 +182,9 @@ int main(void) {
     WANT(dt_quiet(&params) == 3 * 1000 + 8000 + 200);
     bad.mpl = 1;
     WANT(dt_quiet(&bad) == 0);
+    /* as Python's hashlib has it */
+    WANT(dt_fingerprint(&params).status == DT_DONE && dt_fingerprint(&params).value == UINT64_C(0x0277617b6e6fb6f4));
+    WANT(dt_fingerprint(&bad).status == DT_REFUSED && dt_fingerprint(&bad).value == 0);
     a_message_comes_whole();
     refusals_say_why();
     printf("lost %u, repeated %u: the message came whole\n", lost, repeated);

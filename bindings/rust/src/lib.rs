@@ -40,6 +40,13 @@ impl Params {
         // SAFETY: the pointer is that of a struct of the header's form, which is only read.
         Some(unsafe { sys::dt_quiet(self) }).filter(|it| *it > 0)
     }
+
+    /// A number by which two programs see whether their parameters differ; none where a parameter is out of its range.
+    pub fn fingerprint(&self) -> Option<u64> {
+        // SAFETY: as in `quiet`.
+        let it = unsafe { sys::dt_fingerprint(self) };
+        (it.status == 0).then_some(it.value)
+    }
 }
 
 /// Octets that go from a port of a node to a port of another. The way back is another flow.
@@ -80,6 +87,21 @@ pub struct Link {
 pub struct Route {
     pub to: u32,
     pub link: u16,
+}
+
+/// What a node counted since it was opened, without what its guard kept out: datagrams that came and that were refused,
+/// frames that left, and octets of all flows by what was told of them.
+#[repr(C)]
+#[derive(Clone, Copy, Debug, PartialEq, Eq)]
+pub struct Counts {
+    pub came: u64,
+    pub refused: u64,
+    pub left: u64,
+    pub taken: u64,
+    pub settled: u64,
+    pub uncertain: u64,
+    pub accepted: u64,
+    pub read: u64,
 }
 
 /// Why a call did nothing of what it was asked.
@@ -311,6 +333,19 @@ impl Node {
         (it.closed, it.crowded)
     }
 
+    /// What the node counted since it was opened.
+    pub fn counts(&mut self) -> Counts {
+        // SAFETY: as in `tick`.
+        unsafe { sys::dt_counts(self.handle.as_ptr()) }.counts
+    }
+
+    /// From now on packets to the route's node leave on its link. Refused where no packets leave on it, or there is a route
+    /// to the node already; NoMemory: the node isn't spent.
+    pub fn add_route(&mut self, route: Route) -> Result<(), Error> {
+        // SAFETY: as in `tick`; the route is only read.
+        done(unsafe { sys::dt_add_route(self.handle.as_ptr(), &route) })
+    }
+
     /// The moment at which `tick` has something to do, or none.
     pub fn wake(&mut self) -> Option<u64> {
         // SAFETY: as in `tick`.
@@ -367,6 +402,20 @@ mod tests {
     }
 
     #[test]
+    fn routes_are_added_and_octets_are_counted() {
+        let mut one = Node::open(&PARAMS, 1, &[LINK], &[], false, 0).unwrap();
+        let flow = Flow { from: 1, to: 2, from_port: 10, to_port: 20 };
+        one.send(1, flow, b"nowhere", true, true).unwrap();
+        assert_eq!(one.next_frame(&mut [0; MOST_FRAME]), Ok(None));
+        assert_eq!(one.add_route(Route { to: 2, link: 9 }), Err(Error::Refused));
+        assert_eq!(one.add_route(Route { to: 2, link: 1 }), Ok(()));
+        assert_eq!(one.add_route(Route { to: 2, link: 1 }), Err(Error::Refused));
+        one.tick(101).unwrap();
+        assert!(matches!(one.next_frame(&mut [0; MOST_FRAME]), Ok(Some(Frame { to: 2, link: 1, .. }))));
+        assert_eq!(one.counts(), Counts { came: 0, refused: 0, left: 1, taken: 7, settled: 0, uncertain: 0, accepted: 0, read: 0 });
+    }
+
+    #[test]
     fn pieces_are_read_as_they_come() {
         let (mut one, mut two) = (node(1, false, 0), node(2, false, 0));
         let flow = Flow { from: 1, to: 2, from_port: 10, to_port: 20 };
@@ -395,6 +444,8 @@ mod tests {
         assert_eq!(one.next_frame(&mut [0; 10]), Err(Error::Room { wanted: 37 }));
         assert!(Node::open(&Params { mpl: 1, ..PARAMS }, 1, &[], &[], false, 0).is_err());
         assert_eq!(Params { mpl: 1, ..PARAMS }.quiet(), None);
+        assert_eq!(Params { mpl: 1, ..PARAMS }.fingerprint(), None);
+        assert_ne!(PARAMS.fingerprint(), Params { start: 1, ..PARAMS }.fingerprint());
     }
 
     #[test]

@@ -83,6 +83,20 @@ pub struct KeptOut {
 
 #[repr(C)]
 #[derive(Clone, Copy)]
+pub struct Fingerprint {
+    pub value: u64,
+    pub status: u8,
+}
+
+#[repr(C)]
+#[derive(Clone, Copy)]
+pub struct Counts {
+    pub counts: crate::Counts,
+    pub status: u8,
+}
+
+#[repr(C)]
+#[derive(Clone, Copy)]
 pub struct Report {
     pub flow: crate::Flow,
     pub moment: u64,
@@ -113,6 +127,7 @@ extern "C" {
         route_count: usize,
     ) -> Opened;
     pub fn dt_quiet(params: *const crate::Params) -> u64;
+    pub fn dt_fingerprint(params: *const crate::Params) -> Fingerprint;
     pub fn dt_tick(node: *mut Handle, now: u64) -> u8;
     pub fn dt_arrive(node: *mut Handle, now: u64, link: u16, datagram: *const u8, len: usize, waited: u32) -> Came;
     pub fn dt_send(node: *mut Handle, now: u64, flow: *const crate::Flow, octets: *const u8, len: usize, begin: bool, end: bool) -> Sent;
@@ -125,4 +140,6 @@ extern "C" {
     pub fn dt_wake(node: *mut Handle) -> Moment;
     pub fn dt_guard(node: *mut Handle, ports: *const u16, port_count: usize, all: bool, flows: u32) -> u8;
     pub fn dt_kept_out(node: *mut Handle) -> KeptOut;
+    pub fn dt_counts(node: *mut Handle) -> Counts;
+    pub fn dt_add_route(node: *mut Handle, route: *const crate::Route) -> u8;
 }

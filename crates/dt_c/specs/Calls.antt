@@ -5,18 +5,22 @@ use Rattle.dt_units.specs.Times.{quiet_time}
 use Rattle.dt_reports.specs.Told.{Told}
 use Rattle.dt_endpoint.specs.declared.answers.Arrived.{Arrived}
 use Rattle.dt_endpoint.specs.declared.answers.Piece.{Piece}
+use Rattle.dt_endpoint.specs.declared.answers.Routed.{Routed}
 use Rattle.dt_endpoint.specs.declared.answers.Sent.{Sent}
 use Rattle.dt_endpoint.specs.declared.answers.Ticked.{Ticked}
 use Rattle.dt_endpoint.specs.Acts.{OutFrameValue}
-use Rattle.dt_endpoint.specs.Calls.{Arrives, Reads, Sends, Ticks}
+use Rattle.dt_endpoint.specs.Calls.{AddsRoute, Arrives, Reads, Sends, Ticks}
 use Rattle.dt_endpoint.specs.Endpoints.{EndpointValue, endpoint_wake}
 use Rattle.dt_endpoint.specs.Guards.{GuardValue, admission, guard_after}
 use Rattle.dt_endpoint.specs.declared.guards.Admission.{Admission}
 use Rattle.dt_endpoint.specs.declared.guards.Admission.TheVariants.{Admitted, ClosedPort, TooManyFlows}
+use Rattle.dt_fingerprint.specs.Fingerprints.{fingerprint_of}
 use Rattle.dt_inbox.specs.FlowInboxes.{heard}
 use Rattle.dt_inbox.specs.Mailboxes.{MailboxValue, TakesInto, new_mailbox}
 use Rattle.dt_inbox.specs.declared.mailboxes.Handed.{Handed}
 use Rattle.dt_c.specs.declared.rows.CameRow.{CameRow}
+use Rattle.dt_c.specs.declared.rows.CountsRow.{CountsRow}
+use Rattle.dt_c.specs.declared.rows.FingerprintRow.{FingerprintRow}
 use Rattle.dt_c.specs.declared.rows.FlowRow.{FlowRow}
 use Rattle.dt_c.specs.declared.rows.KeptOutRow.{KeptOutRow}
 use Rattle.dt_c.specs.declared.rows.LinkRow.{LinkRow}
@@ -33,7 +37,7 @@ use Rattle.dt_c.specs.declared.rows.RouteRow.{RouteRow}
 use Rattle.dt_c.specs.declared.rows.SentRow.{SentRow}
 use Rattle.dt_c.specs.declared.rows.StartRow.{StartRow}
 use Rattle.dt_c.specs.declared.slots.Slot.{Slot}
-use Rattle.dt_c.specs.Rows.{came_as, came_row, closed, done, flow_of, kept_out, held, kept_out_row, message_row, moment_row, no_frame, no_memory, no_message, no_piece, no_report, nothing, opened_row, params_of, piece_row, report_row, room, sent_as, sent_row, started, ticked_status}
+use Rattle.dt_c.specs.Rows.{came_as, came_row, closed, counts_row, done, flow_of, kept_out, held, kept_out_row, message_row, moment_row, no_counts_row, no_frame, no_memory, no_message, no_piece, no_report, nothing, opened_row, params_of, piece_row, refused, report_row, room, route, routed_status, sent_as, sent_row, started, ticked_status}
 
 -- Between two contents of a handle: where a part isn't there it stays so, and one that is there goes on.
 abbrev pub PartGoesOn : {A : Type 0} → Option A → Option A → Type 0 → (A → A → Type 0) → Type 0
@@ -171,3 +175,19 @@ TakesFor row now before after m n e f = (answer : Handed) × (row ≡ message_ro
 abbrev pub Taking : MessageRow → (now : ℕ) → (before after : List ℕ) → Slot → Slot → Type 0
 Taking row now before after s t = let untaken = (row ≡ no_message closed 0) × (after ≡ before) in
     PartGoesOn s.endpoint t.endpoint (untaken × (t.mailbox ≡ s.mailbox)) (λ e f. PartGoesOn s.mailbox t.mailbox (untaken × (f ≡ e)) (λ m n. TakesFor row now before after m n e f)) × (t.guard ≡ s.guard)
+
+-- A ROUTE is added
+abbrev pub AddingRoute : (status : ℕ) → RouteRow → Slot → Slot → Type 0
+AddingRoute status r s t = GoesOn s t (status ≡ closed) (λ e f. (answer : Routed) × (status ≡ routed_status answer) × AddsRoute answer (route r) e f)
+
+-- WHAT IT COUNTED
+abbrev pub slot_counts : Option EndpointValue → CountsRow
+slot_counts None = no_counts_row closed
+slot_counts (Some e) = counts_row e.counts
+
+abbrev pub Counting : CountsRow → Slot → Slot → Type 0
+Counting row s t = (row ≡ slot_counts s.endpoint) × (t ≡ s)
+
+-- THE FINGERPRINT, of parameters within their limits
+abbrev pub FingerprintIs : FingerprintRow → ParamsRow → Type 0
+FingerprintIs row p = ((row ≡ record { value = fingerprint_of (params_of p); status = done }) × IsWithinLimits (params_of p)) ⊎ ((row ≡ record { value = 0; status = refused }) × IsSome (first_out_of_range (params_of p)))

@@ -17,6 +17,9 @@ use Rattle.dt_endpoint.specs.declared.answers.Ticked.{Ticked}
 use Rattle.dt_endpoint.specs.declared.answers.Ticked.TheVariants as ticked
 use Rattle.dt_endpoint.specs.declared.answers.Arrived.{Arrived}
 use Rattle.dt_endpoint.specs.declared.answers.Arrived.TheVariants as arrived
+use Rattle.dt_endpoint.specs.declared.answers.Routed.{Routed}
+use Rattle.dt_endpoint.specs.declared.answers.Routed.TheVariants as routed
+use Rattle.dt_endpoint.specs.declared.counts.Counts.{Counts}
 use Rattle.dt_endpoint.specs.declared.answers.Sent.{Sent}
 use Rattle.dt_endpoint.specs.declared.answers.Sent.TheVariants as sent
 use Rattle.dt_endpoint.specs.declared.answers.Piece.{Piece}
@@ -24,6 +27,7 @@ use Rattle.dt_endpoint.specs.declared.answers.Piece.TheVariants as piece
 use Rattle.dt_endpoint.specs.Endpoints.{EndpointValue, opened}
 use Rattle.dt_endpoint.specs.Guards.{GuardValue}
 use Rattle.dt_c.specs.declared.rows.CameRow.{CameRow}
+use Rattle.dt_c.specs.declared.rows.CountsRow.{CountsRow}
 use Rattle.dt_c.specs.declared.rows.FlowRow.{FlowRow}
 use Rattle.dt_c.specs.declared.rows.KeptOutRow.{KeptOutRow}
 use Rattle.dt_c.specs.declared.rows.LinkRow.{LinkRow}
@@ -118,6 +122,13 @@ abbrev pub ticked_status : Ticked → ℕ
 ticked_status ticked.Done = done
 ticked_status ticked.NoMemory = no_memory
 ticked_status ticked.Spent = spent
+
+abbrev pub routed_status : Routed → ℕ
+routed_status routed.Done = done
+routed_status routed.NoMemory = no_memory
+routed_status routed.Spent = spent
+routed_status routed.NoLink = refused
+routed_status routed.Known = held
 
 -- an answer to a datagram with nothing but a status, and one that tells the first test that failed
 abbrev pub came_as : ℕ → CameRow
@@ -289,3 +300,12 @@ message_row handed.Nothing too_long = no_message nothing too_long
 message_row handed.More too_long = no_message more too_long
 message_row handed.NoMemory too_long = no_message no_memory too_long
 message_row handed.Spent too_long = no_message spent too_long
+
+-- WHAT A NODE COUNTED
+abbrev pub no_counts_row : (status : ℕ) → CountsRow
+no_counts_row status = record { came = 0; refused = 0; left = 0; taken = 0; settled = 0; uncertain = 0; accepted = 0; read = 0; status = status }
+
+abbrev pub counts_row : Counts → CountsRow
+counts_row c =
+    let o = c.octets in
+    record { came = c.came; refused = c.refused; left = c.left; taken = o.taken; settled = o.settled; uncertain = o.uncertain; accepted = o.accepted; read = o.read; status = done }

@@ -1,18 +1,19 @@
 //! The calls, on what a handle holds.
 ghost use Rattle.std.specs.Prelude.{◌≡◌, ◌↔◌, IfOk, IsSome, length, map};
-ghost use Rattle.dt_c.specs.Calls.{Arriving, Guarding, HandsOut, Hearing, KeptOut, MakesInbox, NextFrame, NextReport, Opening, Opens, QuietIs, Reading, Sending, TakesReport, Taking, Ticking, Waking};
+ghost use Rattle.dt_c.specs.Calls.{AddingRoute, Arriving, Counting, FingerprintIs, Guarding, HandsOut, Hearing, KeptOut, MakesInbox, NextFrame, NextReport, Opening, Opens, QuietIs, Reading, Sending, TakesReport, Taking, Ticking, Waking};
 ghost use Rattle.dt_c.specs.Handle.{empty};
 ghost use Rattle.dt_c.specs.Rows.{in_link, out_link, route, started};
 
 use crate::rows::{
-    CLOSED, CameRow, DONE, FlowRow, HELD, KEPT_OUT, KeptOutRow, LinkRow, MessageRow, MomentRow,
-    NO_MEMORY, NOTHING, Opened, OpenedRow, OutRow, ParamsRow, PieceRow, ROOM, ReportRow, RouteRow,
-    SentRow, StartRow, came_as, came_row, kept_out_row, message_row, moment_row, no_frame,
-    no_message, no_piece, no_report, opened_row, piece_row, report_row, sent_as, sent_row,
-    ticked_status,
+    CLOSED, CameRow, CountsRow, DONE, FingerprintRow, FlowRow, HELD, KEPT_OUT, KeptOutRow, LinkRow,
+    MessageRow, MomentRow, NO_MEMORY, NOTHING, Opened, OpenedRow, OutRow, ParamsRow, PieceRow,
+    REFUSED, ROOM, ReportRow, RouteRow, SentRow, StartRow, came_as, came_row, counts_row,
+    kept_out_row, message_row, moment_row, no_counts_row, no_frame, no_message, no_piece,
+    no_report, opened_row, piece_row, report_row, routed_status, sent_as, sent_row, ticked_status,
 };
 use crate::slots::Slot;
 use dt_endpoint::{Admission, Endpoint, Guard, InLink, Links, OutLink, Route};
+use dt_fingerprint::fingerprint;
 use dt_inbox::Mailbox;
 use dt_items::NoMemory;
 use dt_units::{NodeId, Rules};
@@ -72,6 +73,24 @@ pub fn kept_out_in(slot: &mut Slot) -> KeptOutRow
     ensures { KeptOut result slot.old slot.new }
 {
     kept_out_row(&slot.guard)
+}
+
+pub fn counts_in(slot: &mut Slot) -> CountsRow
+    ensures { Counting result slot.old slot.new }
+{
+    match &slot.endpoint {
+        Some(endpoint) => counts_row(endpoint.counts()),
+        None => no_counts_row(CLOSED),
+    }
+}
+
+pub fn add_route_in(slot: &mut Slot, route: &RouteRow) -> u8
+    ensures { AddingRoute result route.now slot.old slot.new }
+{
+    match &mut slot.endpoint {
+        Some(endpoint) => routed_status(endpoint.add_route(route.route())),
+        None => CLOSED,
+    }
 }
 
 pub fn send_in(
@@ -229,15 +248,7 @@ fn ins_of(alloc: Global, links: &[LinkRow]) -> Result<Vec<InLink>, NoMemory>
 fn routes_of(alloc: Global, routes: &[RouteRow]) -> Result<Vec<Route>, NoMemory>
     ensures { IfOk result (λ v. v.items ≡ map route routes.now) }
 {
-    Ok(
-        routes
-            .iter()
-            .map(|row| Route {
-                to: row.to,
-                link: row.link,
-            })
-            .collect(alloc)?,
-    )
+    Ok(routes.iter().map(|row| row.route()).collect(alloc)?)
 }
 
 fn new_endpoint(
@@ -307,5 +318,21 @@ pub fn quiet_of(params: &ParamsRow) -> u64
     match params.params().check() {
         Ok(rules) => rules.times().quiet,
         Err(_) => 0,
+    }
+}
+
+/// The fingerprint of parameters, unless one is out of its range.
+pub fn fingerprint_in(params: &ParamsRow) -> FingerprintRow
+    ensures { FingerprintIs result params.now }
+{
+    match params.params().check() {
+        Ok(rules) => FingerprintRow {
+            value: fingerprint(&rules),
+            status: DONE,
+        },
+        Err(_) => FingerprintRow {
+            value: 0,
+            status: REFUSED,
+        },
     }
 }

@@ -9,18 +9,19 @@ mod slots;
 ghost use Rattle.std.specs.Prelude.{◌≡◌, length};
 ghost use Rattle.std.specs.Borrow.{sem};
 ghost use Rattle.std.specs.Ptr.{points_to, uninit_at};
-ghost use Rattle.dt_c.specs.Calls.{Arriving, Guarding, Hearing, KeptOut, MakesInbox, NextFrame, NextReport, Opening, QuietIs, Reading, Sending, Taking, Ticking, Waking};
+ghost use Rattle.dt_c.specs.Calls.{AddingRoute, Arriving, Counting, FingerprintIs, Guarding, Hearing, KeptOut, MakesInbox, NextFrame, NextReport, Opening, QuietIs, Reading, Sending, Taking, Ticking, Waking};
 ghost use Rattle.dt_c.specs.Handle.{empty};
 ghost use Rattle.dt_c.specs.contracts.slots.Slot.{the_row};
 ghost use Rattle.dt_c.specs.declared.slots.Slot.{Slot};
 
 use calls::{
-    arrive_in, close_in, empty_slot, guard_in, hear_in, inbox_in, kept_out_in, next_frame_in,
-    next_report_in, open_in, quiet_of, read_in, send_in, take_in, tick_in, wake_in,
+    add_route_in, arrive_in, close_in, counts_in, empty_slot, fingerprint_in, guard_in, hear_in,
+    inbox_in, kept_out_in, next_frame_in, next_report_in, open_in, quiet_of, read_in, send_in,
+    take_in, tick_in, wake_in,
 };
 pub use rows::{
-    CameRow, FlowRow, KeptOutRow, LinkRow, MessageRow, MomentRow, OpenedRow, OutRow, ParamsRow,
-    PieceRow, ReportRow, RouteRow, SentRow, StartRow,
+    CameRow, CountsRow, FingerprintRow, FlowRow, KeptOutRow, LinkRow, MessageRow, MomentRow,
+    OpenedRow, OutRow, ParamsRow, PieceRow, ReportRow, RouteRow, SentRow, StartRow,
 };
 pub use slots::{Handle, Slot};
 use std::alloc::Global;
@@ -126,6 +127,26 @@ pub unsafe extern "C" fn dt_kept_out(node: *mut Handle) -> KeptOutRow
     ensures* { ∃ₛ (λ h. sem 𝓛 (points_to the_row node h) ∗ ⌜ KeptOut result g h ⌝) }
 {
     kept_out_in(unsafe { &mut *(node as *mut Slot) })
+}
+
+/// What the node counted since it was opened.
+#[unsafe(no_mangle)]
+pub unsafe extern "C" fn dt_counts(node: *mut Handle) -> CountsRow
+    ghost g: { Slot }
+    requires* { sem 𝓛 (points_to the_row node g) }
+    ensures* { ∃ₛ (λ h. sem 𝓛 (points_to the_row node h) ∗ ⌜ Counting result g h ⌝) }
+{
+    counts_in(unsafe { &mut *(node as *mut Slot) })
+}
+
+/// From now on packets to the route's node leave on its link.
+#[unsafe(no_mangle)]
+pub unsafe extern "C" fn dt_add_route(node: *mut Handle, route: &RouteRow) -> u8
+    ghost g: { Slot }
+    requires* { sem 𝓛 (points_to the_row node g) }
+    ensures* { ∃ₛ (λ h. sem 𝓛 (points_to the_row node h) ∗ ⌜ AddingRoute result route.now g h ⌝) }
+{
+    add_route_in(unsafe { &mut *(node as *mut Slot) }, route)
 }
 
 /// Octets are sent on a flow from this node.
@@ -262,4 +283,12 @@ pub extern "C" fn dt_quiet(params: &ParamsRow) -> u64
     ensures { QuietIs result params.now }
 {
     quiet_of(params)
+}
+
+/// A number that tells whether two programs have the same parameters.
+#[unsafe(no_mangle)]
+pub extern "C" fn dt_fingerprint(params: &ParamsRow) -> FingerprintRow
+    ensures { FingerprintIs result params.now }
+{
+    fingerprint_in(params)
 }

@@ -1,9 +1,9 @@
 //! Arguments and answers as they lie in C.
 ghost use Rattle.std.specs.Prelude.{◌≡◌};
 ghost use Rattle.dt_reports.specs.Told.{told};
-ghost use Rattle.dt_c.specs.Rows.{about, about_none, came_as, came_row, capped, elsewhere, faulty, fault_row, field_number, flow_of, flow_row, kept_out_row, marked, message_row, moment_row, no_flow, no_frame, no_message, no_piece, no_report, numbered, opened_row, params_of, piece_row, released, report_row, sent_as, sent_row, ticked_status, until_moment};
+ghost use Rattle.dt_c.specs.Rows.{about, about_none, came_as, came_row, capped, counts_row, elsewhere, faulty, fault_row, field_number, flow_of, flow_row, kept_out_row, marked, message_row, moment_row, no_counts_row, no_flow, no_frame, no_message, no_piece, no_report, numbered, opened_row, params_of, piece_row, released, report_row, route, routed_status, sent_as, sent_row, ticked_status, until_moment};
 
-use dt_endpoint::{Arrived, Guard, Piece, Sent, Ticked};
+use dt_endpoint::{Arrived, Counts, Guard, Piece, Route, Routed, Sent, Ticked};
 use dt_inbox::Handed;
 use dt_layout::LayoutFault;
 use dt_reports::{Refusal, Report};
@@ -127,6 +127,30 @@ pub struct KeptOutRow {
     pub crowded: u64,
 }
 
+/// The fingerprint of parameters.
+#[repr(C)]
+#[derive(Clone, Copy)]
+pub struct FingerprintRow {
+    pub value: u64,
+    pub status: u8,
+}
+
+/// What a node has counted since it was opened: datagrams that came and that were refused, frames that
+/// left, and octets of all flows by what was told of them.
+#[repr(C)]
+#[derive(Clone, Copy)]
+pub struct CountsRow {
+    pub came: u64,
+    pub refused: u64,
+    pub left: u64,
+    pub taken: u64,
+    pub settled: u64,
+    pub uncertain: u64,
+    pub accepted: u64,
+    pub read: u64,
+    pub status: u8,
+}
+
 /// The answer to a send.
 #[repr(C)]
 #[derive(Clone, Copy)]
@@ -225,6 +249,10 @@ const _: () = prove!(size_of::<CameRow>() == 8);
 
 const _: () = prove!(size_of::<KeptOutRow>() == 16);
 
+const _: () = prove!(size_of::<FingerprintRow>() == 16);
+
+const _: () = prove!(size_of::<CountsRow>() == 72);
+
 const _: () = prove!(size_of::<SentRow>() == 16);
 
 const _: () = prove!(size_of::<PieceRow>() == 16);
@@ -270,6 +298,17 @@ impl FlowRow {
     }
 }
 
+impl RouteRow {
+    pub fn route(&self) -> Route
+        ensures { result ≡ route self.now }
+    {
+        Route {
+            to: self.to,
+            link: self.link,
+        }
+    }
+}
+
 pub fn ticked_status(answer: Ticked) -> u8
     ensures { result ≡ ticked_status answer }
 {
@@ -277,6 +316,18 @@ pub fn ticked_status(answer: Ticked) -> u8
         Ticked::Done => DONE,
         Ticked::NoMemory => NO_MEMORY,
         Ticked::Spent => SPENT,
+    }
+}
+
+pub fn routed_status(answer: Routed) -> u8
+    ensures { result ≡ routed_status answer }
+{
+    match answer {
+        Routed::Done => DONE,
+        Routed::NoMemory => NO_MEMORY,
+        Routed::Spent => SPENT,
+        Routed::NoLink => REFUSED,
+        Routed::Known => HELD,
     }
 }
 
@@ -344,6 +395,40 @@ pub fn kept_out_row(guard: &Guard) -> KeptOutRow
     KeptOutRow {
         closed: guard.closed(),
         crowded: guard.crowded(),
+    }
+}
+
+pub fn counts_row(counts: Counts) -> CountsRow
+    ensures { result ≡ counts_row counts }
+{
+    let octets = counts.octets;
+    CountsRow {
+        came: counts.came,
+        refused: counts.refused,
+        left: counts.left,
+        taken: octets.taken,
+        settled: octets.settled,
+        uncertain: octets.uncertain,
+        accepted: octets.accepted,
+        read: octets.read,
+        status: DONE,
+    }
+}
+
+/// An answer where there is nothing that counts.
+pub fn no_counts_row(status: u8) -> CountsRow
+    ensures { result ≡ no_counts_row status }
+{
+    CountsRow {
+        came: 0,
+        refused: 0,
+        left: 0,
+        taken: 0,
+        settled: 0,
+        uncertain: 0,
+        accepted: 0,
+        read: 0,
+        status,
     }
 }
 

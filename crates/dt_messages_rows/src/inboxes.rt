@@ -1,6 +1,6 @@
 //! Whole messages taken from two endpoints that hand their frames to each other.
 use dt_endpoint::{Arrived, Endpoint, InLink, Links, OutLink, Route, Sent};
-use dt_inbox::{FlowInboxes, Handed, Inbox, Mailbox, Taken};
+use dt_inbox::{FlowInboxes, Inbox, Taken};
 use dt_items::NoMemory;
 use dt_reports::Report;
 use dt_units::{Flow, NodeId, Params, Rules};
@@ -206,120 +206,9 @@ fn messages_of_any_flow_are_taken(rt: HostRuntime) -> Result<(), NoMemory> {
     assert_eq!(rt; one.send(10, OTHER, b"two", true, true), Sent::Done);
     hands_over(&rt, &mut one, &mut two);
     hears(&mut inboxes, &mut two)?;
-    assert_eq!(rt; inboxes.len(), 2);
     let right = takes_of_both(rt.alloc(), &mut inboxes, &mut two);
     assert!(rt; right);
-    assert_eq!(rt; inboxes.len(), 0);
-    inboxes.hear(FLOW)?;
     inboxes.forget(&FLOW);
     assert_eq!(rt; inboxes.len(), 0);
-    Ok(())
-}
-
-// An inbox with half a message stays as long as its flow has a receiver.
-#[test]
-fn inbox_goes_with_the_receiver_of_its_flow(rt: HostRuntime) -> Result<(), NoMemory> {
-    let mut one = open(&rt, rt.alloc(), 1, 2)?;
-    let mut two = open(&rt, rt.alloc(), 2, 1)?;
-    let mut inboxes = FlowInboxes::new(rt.alloc(), None);
-    assert_eq!(rt; one.send(10, FLOW, b"he", true, false), Sent::Done);
-    hands_over(&rt, &mut one, &mut two);
-    hears(&mut inboxes, &mut two)?;
-    let none = inboxes.take_next(rt.alloc(), &mut two, 12).is_none();
-    assert!(rt; none);
-    assert_eq!(rt; inboxes.len(), 1);
-    let _ = two.tick(100_000);
-    inboxes.hear(FLOW)?;
-    let none = inboxes.take_next(rt.alloc(), &mut two, 100_000).is_none();
-    assert!(rt; none);
-    assert_eq!(rt; inboxes.len(), 0);
-    Ok(())
-}
-
-fn done(flow: Flow, len: usize) -> Handed {
-    Handed::Done {
-        flow,
-        len,
-        gap: true,
-    }
-}
-
-fn hears_in(mailbox: &mut Mailbox, two: &mut Endpoint) -> Result<(), NoMemory> {
-    for _ in 0..20 {
-        if let Some(Report::Accepted { flow, .. }) = two.next_report() {
-            mailbox.hear(flow)?;
-        }
-    }
-    Ok(())
-}
-
-// Two flows, of which the first has a message that is too long. The buffer has no room for the other's at
-// first, which waits for one that has.
-#[test]
-fn mailbox_hands_out_one_by_one(rt: HostRuntime) -> Result<(), NoMemory> {
-    let mut one = open(&rt, rt.alloc(), 1, 2)?;
-    let mut two = open(&rt, rt.alloc(), 2, 1)?;
-    let mut mailbox = Mailbox::new(rt.alloc(), Some(5));
-    let mut buf = *b"......";
-    assert_eq!(rt; one.send(10, FLOW, b"longer", true, true), Sent::Done);
-    assert_eq!(rt; one.send(10, FLOW, b"one", true, true), Sent::Done);
-    assert_eq!(rt; one.send(10, OTHER, b"other", true, true), Sent::Done);
-    hands_over(&rt, &mut one, &mut two);
-    assert_eq!(rt;
-        mailbox.take(rt.alloc(), &mut two, 12, &mut buf),
-        Handed::Nothing
-    );
-    hears_in(&mut mailbox, &mut two)?;
-    assert_eq!(rt;
-        mailbox.take(rt.alloc(), &mut two, 12, &mut buf),
-        done(FLOW, 3)
-    );
-    assert_eq!(rt; buf, *b"one...");
-    assert_eq!(rt; mailbox.dropped(), 1);
-    let waits = Handed::NoRoom {
-        flow: OTHER,
-        len: 5,
-        gap: true,
-    };
-    assert_eq!(rt;
-        mailbox.take(rt.alloc(), &mut two, 12, &mut buf[..4]),
-        waits
-    );
-    assert_eq!(rt;
-        mailbox.take(rt.alloc(), &mut two, 12, &mut buf[..0]),
-        waits
-    );
-    assert_eq!(rt; buf, *b"one...");
-    assert_eq!(rt;
-        mailbox.take(rt.alloc(), &mut two, 12, &mut buf[..5]),
-        done(OTHER, 5)
-    );
-    assert_eq!(rt; buf, *b"other.");
-    assert_eq!(rt;
-        mailbox.take(rt.alloc(), &mut two, 12, &mut buf),
-        Handed::Nothing
-    );
-    Ok(())
-}
-
-// Each octet is of a message of its own: as many are taken as were sent.
-#[test]
-fn flow_of_many_messages_is_taken_whole(rt: HostRuntime) -> Result<(), NoMemory> {
-    let mut one = open(&rt, rt.alloc(), 1, 2)?;
-    let mut two = open(&rt, rt.alloc(), 2, 1)?;
-    let mut mailbox = Mailbox::new(rt.alloc(), Some(5));
-    for _ in 0..15 {
-        assert_eq!(rt; one.send(10, FLOW, b"x", true, true), Sent::Done);
-    }
-    hands_over(&rt, &mut one, &mut two);
-    hears_in(&mut mailbox, &mut two)?;
-    let mut buf = [0; 1];
-    let mut count = 0;
-    for _ in 0..20 {
-        if let Handed::Done { .. } = mailbox.take(rt.alloc(), &mut two, 12, &mut buf) {
-            count += 1;
-        }
-    }
-    assert_eq!(rt; count, 15);
     Ok(())
 }
