@@ -55,9 +55,12 @@ new_halves most life = record { most = most; closed = false; ports = []; life = 
 abbrev pub most_octets : ℕ
 most_octets = 65536
 
--- one more, and 2^64 - 1 at most
+-- so many more, or one, and 2^64 - 1 at most
+abbrev pub counted_by : (more : ℕ) → ℕ → ℕ
+counted_by more n = min (n + more) (2 ^ 64 - 1)
+
 abbrev pub counted_up : ℕ → ℕ
-counted_up n = min (n + 1) (2 ^ 64 - 1)
+counted_up n = counted_by 1 n
 
 -- THE KIND OF A PORT
 abbrev pub kind_in : ℕ → List Port → Option Kind

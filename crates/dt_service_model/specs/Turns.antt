@@ -1,5 +1,5 @@
 -- A NODE: an endpoint, and what it has beside it. A turn is an event of the endpoint and then its end: the node hears, reads and judges.
-use Rattle.std.specs.Prelude.{ℕ, zero, suc, ◌==◌, ◌&&◌, ◌||◌, Bool, not, filter, fold, List, [], Option, Some, None, if◌then◌else◌}
+use Rattle.std.specs.Prelude.{ℕ, zero, suc, ◌-◌, length, ◌==◌, ◌&&◌, ◌||◌, Bool, not, filter, fold, List, [], Option, Some, None, if◌then◌else◌}
 use Rattle.dt_items.specs.declared.piece.Piece.{Piece as ItemPiece}
 use Rattle.dt_items.specs.Unread.{octets_of, piece_told}
 use Rattle.dt_units.specs.declared.endpoints.Flow.{Flow}
@@ -11,9 +11,9 @@ use Rattle.dt_calls_model.specs.Messages.{Piece}
 use Rattle.dt_endpoint.specs.Calls.{read_answer}
 use Rattle.dt_endpoint.specs.Endpoints.{EndpointValue, after_event, endpoint_wake, moment_of}
 use Rattle.dt_service_model.specs.declared.calls.Call.{Call}
-use Rattle.dt_service_model.specs.Halves.{Halves, may_read}
+use Rattle.dt_service_model.specs.Halves.{Halves, counted_by, may_read}
 use Rattle.dt_service_model.specs.Hearing.{hear_all}
-use Rattle.dt_service_model.specs.Whole.{cut_counted, take_piece}
+use Rattle.dt_service_model.specs.Whole.{take_piece}
 use Rattle.dt_service_model.specs.Ends.{judge}
 
 pub record Node : Type 0 where
@@ -75,11 +75,10 @@ reads now n = fold (read_flow now) n n.halves.unread
 abbrev pub has_receiver : Host → Flow × List ℕ → Bool
 has_receiver host e = has_key same_flow e.0 host.receivers
 
-abbrev pub cut_begun : Host → Halves → Flow × List ℕ → Halves
-cut_begun host h e = record h { counts = cut_counted (not (has_receiver host e)) h.counts }
-
 abbrev pub sweep : Host → Halves → Halves
-sweep host h = record (fold (cut_begun host) h h.begun) { begun = filter (has_receiver host) h.begun }
+sweep host h =
+    let kept = filter (has_receiver host) h.begun in
+    record h { begun = kept; counts = record (h.counts) { cut = counted_by (length h.begun - length kept) h.counts.cut } }
 
 -- THE END OF A TURN, after an event of which the node has heard: what is unread is read first, and then calls are judged
 abbrev pub turn_end : (now : ℕ) → Node → Node

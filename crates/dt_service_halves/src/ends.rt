@@ -1,0 +1,85 @@
+//! How calls end without an answer.
+ghost use Rattle.std.specs.Prelude.{◌≡◌, ◌+◌, ◌≤◌, ◌++◌, true, false, filter, filter_map, map, length, OnOk, OnErr};
+ghost use Rattle.std.specs.VecDeque.{deque_len, deque_capacity};
+ghost use Rattle.dt_service_model.specs.Ends.{cause_of, is_kept, judged_call, unsure_of};
+
+use dt_items::NoMemory;
+use dt_service_model::{Call, Cause, Happening};
+use std::collections::VecDeque;
+
+/// Why a call is unsure at a moment, if it is.
+fn cause_of(now: u64, call: &Call) -> Option<Cause>
+    ensures { result ≡ cause_of now call.now }
+{
+    if call.waits && call.doubted {
+        Some(Cause::GivenUp)
+    } else if call.waits && call.deadline <= now {
+        Some(Cause::Patience)
+    } else {
+        None
+    }
+}
+
+/// A call is judged.
+fn judge_call(now: u64, call: &mut Call)
+    ensures { call.new ≡ judged_call now call.old }
+{
+    if cause_of(now, call).is_some() {
+        call.waits = false;
+    }
+    call.doubted = false;
+}
+
+fn is_kept(call: &Call) -> bool
+    ensures { result ≡ is_kept call.now }
+{
+    call.waits || call.left > 0
+}
+
+/// Each call is judged, in the order of making.
+fn judge_calls(now: u64, calls: &mut [Call])
+    ensures { calls.new ≡ map (judged_call now) calls.old }
+{
+    for place in 0..calls.len() {
+        judge_call(now, &mut calls[place]);
+    }
+}
+
+/// What has come to its end is kept no more.
+fn drop_ended(calls: &mut Vec<Call>)
+    ensures { calls.new.items ≡ filter is_kept calls.old.items }
+{
+    calls.retain(|call| is_kept(call));
+}
+
+/// The calls that are unsure at a moment are told so. There is room for them.
+fn tell_unsure(now: u64, calls: &[Call], happenings: &mut VecDeque<Happening>)
+    requires { deque_len happenings.old + length calls.now ≤ deque_capacity happenings.old }
+    ensures { happenings.new.items ≡ happenings.old.items ++ filter_map (unsure_of now) calls.now }
+{
+    for call in calls {
+        if let Some(cause) = cause_of(now, call) {
+            let call = call.number;
+            happenings.push_back_reserved(Happening::Unsure { call, cause });
+        }
+    }
+}
+
+/// Each call is judged at a moment: those that are unsure are told, and what has come to its end is kept
+/// no more. `NoMemory` leaves all as it was. The cost is a look at each call.
+pub fn judge(
+    now: u64,
+    calls: &mut Vec<Call>,
+    happenings: &mut VecDeque<Happening>,
+) -> Result<(), NoMemory>
+    ensures calls { OnOk result (calls.new.items ≡ filter is_kept (map (judged_call now) calls.old.items)) }
+    ensures told { OnOk result (happenings.new.items ≡ happenings.old.items ++ filter_map (unsure_of now) calls.old.items) }
+    ensures same_calls { OnErr result (calls.new.items ≡ calls.old.items) }
+    ensures same_told { OnErr result (happenings.new.items ≡ happenings.old.items) }
+{
+    happenings.reserve(calls.len())?;
+    tell_unsure(now, calls, happenings);
+    judge_calls(now, calls);
+    drop_ended(calls);
+    Ok(())
+}

@@ -1,0 +1,132 @@
+//! What a node has beside its endpoint.
+ghost use Rattle.std.specs.Prelude.{◌≡◌, OnErr, OnOk};
+ghost use Rattle.dt_reports.specs.Told.{told};
+ghost use Rattle.dt_service_model.specs.declared.ports.Most.{Most};
+ghost use Rattle.dt_service_model.specs.Ends.{judge};
+ghost use Rattle.dt_service_model.specs.Halves.{has_room, may_read, new_halves};
+ghost use Rattle.dt_service_model.specs.Hearing.{Accepts, hear, hear_as};
+
+use crate::begun::Begun;
+use crate::counting::{has_flow, requests_in, tokens_of};
+use crate::ends;
+use crate::hearing::{kind_in, with_fates};
+use dt_items::NoMemory;
+use dt_reports::Report;
+use dt_service_model::{Call, Counts, Happening, Kind, Most, Port, Token};
+use dt_units::Flow;
+use std::alloc::Global;
+use std::collections::VecDeque;
+use std::marker::Model;
+
+/// A caller's half and a service's half.
+#[derive(Drop)]
+pub struct Halves {
+    pub(crate) most: Most,
+    pub(crate) closed: bool,
+    pub(crate) ports: Vec<Port>,
+    pub(crate) life: u32,
+    /// How many calls were made in this life: 2^32 at most.
+    pub(crate) count: u64,
+    pub(crate) calls: Vec<Call>,
+    pub(crate) tokens: Vec<Token>,
+    pub(crate) begun: Vec<Begun>,
+    pub(crate) unread: Vec<Flow>,
+    pub(crate) counts: Counts,
+    pub(crate) happenings: VecDeque<Happening>,
+}
+
+impl Model for Halves {
+    ghost use Rattle.dt_service_model.specs.Halves as halves;
+
+    ghost Value = { halves.Halves };
+
+    ghost view = { λ h. record { most = h.most; closed = h.closed; ports = h.ports.items; life = h.life; count = h.count; calls = h.calls.items; tokens = h.tokens.items; begun = h.begun.items; unread = h.unread.items; counts = h.counts; happenings = h.happenings.items } };
+}
+
+const NO_COUNTS: Counts = Counts {
+    late: 0,
+    old: 0,
+    strange: 0,
+    reused: 0,
+    cut: 0,
+    long: 0,
+    short: 0,
+};
+
+impl Halves {
+    /// Those of a node that opens with this life.
+    pub fn new(alloc: Global, most: Most, life: u32) -> Halves
+        ensures { result ≡ new_halves most life }
+    {
+        Halves {
+            most,
+            closed: false,
+            ports: Vec::new(alloc),
+            life,
+            count: 0,
+            calls: Vec::new(alloc),
+            tokens: Vec::new(alloc),
+            begun: Vec::new(alloc),
+            unread: Vec::new(alloc),
+            counts: NO_COUNTS,
+            happenings: VecDeque::new(alloc),
+        }
+    }
+
+    /// A report of the endpoint is heard. `NoMemory` leaves all as it was.
+    pub fn hear(&mut self, report: &Report<'_>) -> Result<(), NoMemory>
+        ensures heard { OnOk result (self.new ≡ hear self.old (told report.now)) }
+        ensures same { OnErr result (self.new ≡ self.old) }
+    {
+        match *report {
+            Report::Settled { flow, count, .. } => {
+                with_fates(false, &flow, count, &mut self.calls);
+            }
+            Report::Uncertain { flow, count } => {
+                with_fates(true, &flow, count, &mut self.calls);
+            }
+            Report::Accepted { flow, .. } => self.accept(flow)?,
+            _ => {}
+        }
+        Ok(())
+    }
+
+    /// Octets of a flow came in.
+    fn accept(&mut self, flow: Flow) -> Result<(), NoMemory>
+        ensures heard { OnOk result (self.new ≡ hear_as (Accepts flow) self.old) }
+        ensures same { OnErr result (self.new ≡ self.old) }
+    {
+        if kind_in(flow.to_port, &self.ports).is_some() && !has_flow(&self.unread, &flow) {
+            self.unread.push(flow)?;
+        }
+        Ok(())
+    }
+
+    /// Whether a flow to this node may be read.
+    pub fn may_read(&self, flow: &Flow) -> bool
+        ensures { result ≡ may_read flow.now self.now }
+    {
+        match kind_in(flow.to_port, &self.ports) {
+            Some(Kind::Caller) => true,
+            Some(Kind::Service) => self.has_room(flow),
+            None => false,
+        }
+    }
+
+    /// Whether there is room for a request of a flow.
+    fn has_room(&self, flow: &Flow) -> bool
+        ensures { result ≡ has_room flow.now self.now }
+    {
+        self.tokens.len() < self.most.requests as usize
+            && tokens_of(&self.tokens, flow) < self.most.of_a_flow as usize
+            && requests_in(&self.happenings) < self.most.requests as usize
+    }
+
+    /// Calls are judged at a moment. `NoMemory` leaves all as it was.
+    pub fn judge(&mut self, now: u64) -> Result<(), NoMemory>
+        ensures judged { OnOk result (self.new ≡ judge now self.old) }
+        ensures same { OnErr result (self.new ≡ self.old) }
+    {
+        ends::judge(now, &mut self.calls, &mut self.happenings)
+    }
+}
