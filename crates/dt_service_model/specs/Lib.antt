@@ -3,6 +3,7 @@ pub mod Halves
 pub mod Hearing
 pub mod Whole
 pub mod Ends
+pub mod Accounts
 pub mod Turns
 pub mod Asked
 pub mod Worked

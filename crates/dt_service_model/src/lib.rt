@@ -7,6 +7,7 @@ mod answers;
 mod calls;
 mod counts;
 mod happenings;
+mod laws;
 mod names;
 mod ports;
 mod worked;
@@ -15,6 +16,7 @@ pub use answers::{Declined, Forgot, Made, Replied, Unfit};
 pub use calls::{Call, Cause};
 pub use counts::Counts;
 pub use happenings::{Happening, Payload};
+pub use laws::{call_waits_or_ends_once, no_cause_is_left};
 pub use names::{CallNumber, Token};
 pub use ports::{Kind, Most, Port};
 pub use worked::{

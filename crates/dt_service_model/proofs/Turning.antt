@@ -1,0 +1,121 @@
+-- A turn keeps the account of each number: what is read, too, ends a call only where it tells so.
+use Rattle.std.proofs.Common.{ℕ, zero, suc, ◌+◌, ◌≡◌, ◌<◌, Bool, true, false, List, [], ◌∷◌, ◌++◌, length, get_or, refl, ap, ◌∙◌, arith}
+use Rattle.std.specs.Prelude.{◌&&◌, ◌==◌, cond, fold, Option, Some, None}
+use Rattle.std.specs.List.{position}
+use Rattle.std.proofs.lemmas.Bool.{eqb-true}
+use Rattle.std.proofs.lemmas.List.Quantifiers.{position-Some}
+use Rattle.dt_units.specs.declared.endpoints.Flow.{Flow}
+use Rattle.dt_reports.specs.Told.{Told}
+use Rattle.dt_world_model.specs.Host.{one_if}
+use Rattle.dt_world_model.specs.Station.{Event, Read}
+use Rattle.dt_world_model.specs.Tables.{same_flow}
+use Rattle.dt_calls_model.specs.Messages.{Piece, carried_in, has_number, number_in, reversed}
+use Rattle.dt_messages.specs.Joining.{whole_within}
+use Rattle.dt_endpoint.specs.Endpoints.{after_event, moment_of}
+use Rattle.dt_service_model.specs.declared.calls.Call.{Call}
+use Rattle.dt_service_model.specs.declared.happenings.Happening.TheVariants.{Answered, Request}
+use Rattle.dt_service_model.specs.declared.names.CallNumber.{CallNumber}
+use Rattle.dt_service_model.specs.declared.names.Token.{Token}
+use Rattle.dt_service_model.specs.declared.ports.Kind.{Kind}
+use Rattle.dt_service_model.specs.declared.ports.Kind.TheVariants.{Caller, Service}
+use Rattle.dt_service_model.specs.Names.{call_number, same_number, token_with}
+use Rattle.dt_service_model.specs.Halves.{Halves, counted_up, kind_in, may_read, most_octets}
+use Rattle.dt_service_model.specs.Hearing.{hear, heard}
+use Rattle.dt_service_model.specs.Whole.{answered_at, begun_of, grown, is_open, is_waiting_call, take_as, take_piece, take_reply_at, take_whole, without_token}
+use Rattle.dt_service_model.specs.Accounts.{account, waits_in, waits_with}
+use Rattle.dt_service_model.specs.Turns.{Node, comes_in, happens, most_read, most_reads, piece_at, read_flow, read_times, reads, sweep, take_read, turn, turn_end, with_halves}
+use Rattle.dt_service_model.proofs.Accounts.{ends_append, hear_keeps, judge_keeps}
+
+left_of : (a b : Bool) → (a && b) ≡ true → a ≡ true
+left_of true b h = refl
+left_of false b h = h
+
+right_of : (a b : Bool) → (a && b) ≡ true → b ≡ true
+right_of true b h = h
+right_of false b h = absurd cc
+
+same_as : (a m n : CallNumber) → same_number a m ≡ true → same_number a n ≡ same_number m n
+same_as a m n h =
+    let l = left_of (a.life == m.life) (a.count == m.count) h in
+    let r = right_of (a.life == m.life) (a.count == m.count) h in
+    let life : a.life ≡ m.life = eqb-true _ _ l in
+    let count : a.count ≡ m.count = eqb-true _ _ r in
+    ap (λ (x : ℕ). (x == n.life) && (a.count == n.count)) life ∙ ap (λ (x : ℕ). (m.life == n.life) && (x == n.count)) count
+
+waits_counts : (n m : CallNumber) (f : Flow) (call : Call) → is_waiting_call f m call ≡ true → one_if (waits_with n call) ≡ one_if (same_number m n)
+waits_counts n m f call h =
+    let both = left_of (call.waits && same_number call.number m) (same_flow call.flow f) h in
+    let w = left_of call.waits (same_number call.number m) both in
+    let s = right_of call.waits (same_number call.number m) both in
+    ap (λ (b : Bool). one_if (b && same_number call.number n)) w ∙ ap one_if (same_as call.number m n s)
+
+answered_waits : (n m : CallNumber) (f : Flow) (d : Call) (i : ℕ) (calls : List Call) → i < length calls → is_waiting_call f m (get_or calls i d) ≡ true
+    → waits_in n (answered_at i calls) + one_if (same_number m n) ≡ waits_in n calls
+answered_waits n m f d i [] lt h = absurd (omega arith)
+answered_waits n m f d zero (call ∷ calls) lt h = let e = waits_counts n m f call h in omega (arith, e)
+answered_waits n m f d (suc i) (call ∷ calls) lt h = let e = answered_waits n m f d i calls (omega arith) h in omega (arith, e)
+
+reply_keeps : (n m : CallNumber) (f : Flow) (answer : List ℕ) (h : Halves) (o : Option ℕ) → position (is_waiting_call f m) h.calls ≡ o → account n (take_reply_at o m answer h) ≡ account n h
+reply_keeps n m f answer h None is = refl
+reply_keeps n m f answer h (Some i) is =
+    let d : Call = record { number = m; flow = f; deadline = 0; left = 0; waits = false; doubted = false } in
+    let at = position-Some (is_waiting_call f m) h.calls i d is in
+    let a = answered_waits n m f d i h.calls at.0 at.1 in
+    let b = ends_append n h.happenings (Answered m answer ∷ []) in
+    omega (arith, a, b)
+
+request_if : (n : CallNumber) (b : Bool) (token : Token) (payload : List ℕ) (h : Halves)
+    → account n (cond b (record h { tokens = without_token token h.tokens; counts = record (h.counts) { reused = counted_up h.counts.reused } }) (record h { tokens = h.tokens ++ token ∷ []; happenings = h.happenings ++ Request token payload ∷ [] })) ≡ account n h
+request_if n true token payload h = refl
+request_if n false token payload h = let b = ends_append n h.happenings (Request token payload ∷ []) in omega (arith, b)
+
+as_keeps : (n : CallNumber) (o : Option Kind) (f : Flow) (m : CallNumber) (carried : List ℕ) (h : Halves) → account n (take_as o f m carried h) ≡ account n h
+as_keeps n None f m carried h = refl
+as_keeps n (Some Caller) f m carried h = reply_keeps n m (reversed f) carried h (position (is_waiting_call (reversed f) m) h.calls) refl
+as_keeps n (Some Service) f m carried h = request_if n (is_open (token_with f m) h) (token_with f m) carried h
+
+message_if : (n : CallNumber) (b : Bool) (one : Halves) (h : Halves) → account n one ≡ account n h → account n (cond b one (record h { counts = record (h.counts) { short = counted_up h.counts.short } })) ≡ account n h
+message_if n true one h e = e
+message_if n false one h e = refl
+
+whole_keeps : (n : CallNumber) (f : Flow) (o : Option (List ℕ)) (h : Halves) → account n (take_whole f o h) ≡ account n h
+whole_keeps n f None h = refl
+whole_keeps n f (Some message) h =
+    message_if n (has_number message) (take_as (kind_in f.to_port h.ports) f (call_number (number_in message)) (carried_in message) h) h
+    (as_keeps n (kind_in f.to_port h.ports) f (call_number (number_in message)) (carried_in message) h)
+
+pub piece_keeps : (n : CallNumber) (f : Flow) (p : Piece) (h : Halves) → account n (take_piece f p h) ≡ account n h
+piece_keeps n f p h = whole_keeps n f (whole_within (Some most_octets) (begun_of f h) p) (grown f (begun_of f h) p h)
+
+all_heard : (n : CallNumber) (told : List Told) (h : Halves) → account n (fold hear h told) ≡ account n h
+all_heard n [] h = refl
+all_heard n (t ∷ told) h = all_heard n told (hear h t) ∙ hear_keeps n (heard t) h
+
+pub happens_keeps : (n : CallNumber) (now : ℕ) (event : Event (Unit {0})) (x : Node) → account n (happens now event x).halves ≡ account n x.halves
+happens_keeps n now event x = all_heard n (after_event now event x.endpoint).reports x.halves
+
+read_keeps : (n : CallNumber) (again : Node → Node) (f : Flow) (o : Option Piece) (x : Node) → ((y : Node) → account n (again y).halves ≡ account n y.halves) → account n (take_read again f o x).halves ≡ account n x.halves
+read_keeps n again f None x keeps = refl
+read_keeps n again f (Some p) x keeps = keeps (with_halves (take_piece f p) x) ∙ piece_keeps n f p x.halves
+
+node_if : (n : CallNumber) (b : Bool) (one x : Node) → account n one.halves ≡ account n x.halves → account n (cond b one x).halves ≡ account n x.halves
+node_if n true one x e = e
+node_if n false one x e = refl
+
+times_keep : (n : CallNumber) (most now : ℕ) (f : Flow) (x : Node) → account n (read_times most now f x).halves ≡ account n x.halves
+times_keep n zero now f x = refl
+times_keep n (suc most) now f x =
+    node_if n (comes_in x f && may_read f x.halves) (take_read (read_times most now f) f (piece_at now f x.endpoint) (happens now (Read f most_read) x)) x
+    (read_keeps n (read_times most now f) f (piece_at now f x.endpoint) (happens now (Read f most_read) x) (λ y. times_keep n most now f y) ∙ happens_keeps n now (Read f most_read) x)
+
+flows_keep : (n : CallNumber) (now : ℕ) (flows : List Flow) (x : Node) → account n (fold (read_flow now) x flows).halves ≡ account n x.halves
+flows_keep n now [] x = refl
+flows_keep n now (f ∷ flows) x = flows_keep n now flows (read_flow now x f) ∙ times_keep n most_reads now f x
+
+pub end_keeps : (n : CallNumber) (now : ℕ) (x : Node) → account n (turn_end now x).halves ≡ account n x.halves
+end_keeps n now x =
+    let y = reads now x in
+    judge_keeps n (moment_of now y.endpoint) (sweep y.endpoint.state.host y.halves) ∙ flows_keep n now x.halves.unread x
+
+pub turn_keeps : (n : CallNumber) (now : ℕ) (event : Event (Unit {0})) (x : Node) → account n (turn now event x).halves ≡ account n x.halves
+turn_keeps n now event x = end_keeps n now (happens now event x) ∙ happens_keeps n now event x
