@@ -8,3 +8,4 @@ pub mod Following
 pub mod Waited
 mod Answering
 mod Fronts
+mod Followed
