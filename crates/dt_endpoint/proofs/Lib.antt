@@ -7,3 +7,4 @@ pub mod Following
 pub mod Waited
 mod Answering
 mod Fronts
+mod Followed

@@ -7,8 +7,7 @@ use Rattle.dt_world_model.specs.Script.{Script}
 use Rattle.dt_endpoint.specs.declared.noting.Heard.{Heard}
 use Rattle.dt_endpoint.specs.declared.noting.Heard.TheVariants as heard
 use Rattle.dt_endpoint.specs.Acts.{Hands, OutFrameValue, Tells, acts_of, answer_of, frames_in, out_frame, reports_in}
-use Rattle.dt_endpoint.specs.declared.counts.Counts.{Counts}
-use Rattle.dt_endpoint.specs.Counts.{counts_act, counts_acts}
+use Rattle.dt_endpoint.specs.Counts.{Counted, counts_act, counts_acts}
 use Rattle.dt_endpoint.specs.Hearing.{heard_in, hears, kept, piece_after, piece_in}
 
 pub record Collected : Type 0 where
@@ -17,7 +16,7 @@ pub record Collected : Type 0 where
   -- what was answered to the call that is under way
   pub heard : Heard
   pub piece : List ℕ
-  pub counts : Counts
+  pub counts : Counted
   pub failed : Bool
 
 -- a report is told, and a frame handed out

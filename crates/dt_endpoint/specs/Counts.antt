@@ -1,9 +1,11 @@
 -- What an endpoint counts: datagrams, frames, and octets by what is told of them. No count passes 2^64 - 1.
-use Rattle.std.specs.Prelude.{ℕ, ◌+◌, ◌-◌, ◌^◌, min, List, [], ◌∷◌, length}
+use Rattle.std.specs.Prelude.{ℕ, ◌+◌, ◌-◌, ◌^◌, min, List, [], ◌∷◌, length, Option, Some, None}
+use Rattle.dt_units.specs.declared.endpoints.Flow.{Flow}
 use Rattle.dt_reports.specs.Told.{Told}
 use Rattle.dt_reports.specs.Matters as matter
 use Rattle.dt_reports.specs.Matters.{Matter, matter_of}
 use Rattle.dt_world_model.specs.Station.{Arrive, Event, Read, Send, Tick}
+use Rattle.dt_world_model.specs.Tables.{look, same_flow, write}
 use Rattle.dt_endpoint.specs.declared.counts.Counts.{Counts}
 use Rattle.dt_endpoint.specs.declared.counts.Octets.{Octets}
 use Rattle.dt_endpoint.specs.Acts.{Act, Hands, Tells}
@@ -17,6 +19,14 @@ no_octets = record { taken = 0; settled = 0; uncertain = 0; accepted = 0; read =
 
 abbrev pub no_counts : Counts
 no_counts = record { came = 0; refused = 0; left = 0; octets = no_octets }
+
+-- WHAT IS COUNTED: by the node, and of each flow that is followed
+pub record Counted : Type 0 where
+  pub node : Counts
+  pub flows : List (Flow × Octets)
+
+abbrev pub none_counted : Counted
+none_counted = record { node = no_counts; flows = [] }
 
 -- OCTETS, by a report
 abbrev pub octets_by : Matter → Octets → Octets
@@ -38,22 +48,61 @@ octets_by matter.Neither o = o
 abbrev pub octets_told : Told → Octets → Octets
 octets_told told o = octets_by (matter_of told) o
 
--- WHAT AN ACT ADDS: a report its octets, and what is handed out one frame
-abbrev pub counts_act : Act → Counts → Counts
-counts_act (Tells told) c = record c { octets = octets_told told c.octets }
-counts_act (Hands link octets) c = record c { left = counted 1 c.left }
+-- the flow of whose octets it tells
+abbrev pub flow_by : Matter → Option Flow
+flow_by (matter.Taken f count) = Some f
+flow_by (matter.Acknowledged f count window) = Some f
+flow_by (matter.GivenUp f count) = Some f
+flow_by (matter.Accepted f number count run) = Some f
+flow_by (matter.ReadOut f run begin end octets) = Some f
+flow_by (matter.Refused f fault) = None
+flow_by (matter.Transmitted f number count) = None
+flow_by (matter.Retransmitted f) = None
+flow_by (matter.Replied f number) = None
+flow_by (matter.Dropped f) = None
+flow_by (matter.NothingRead f) = None
+flow_by (matter.Left link life) = None
+flow_by (matter.Begun life) = None
+flow_by matter.Neither = None
 
-abbrev pub counts_acts : List Act → Counts → Counts
+abbrev pub flow_told : Told → Option Flow
+flow_told told = flow_by (matter_of told)
+
+abbrev pub flow_counts : Told → Flow → Option Octets → List (Flow × Octets) → List (Flow × Octets)
+flow_counts told f None flows = flows
+flow_counts told f (Some o) flows = write same_flow f (octets_told told o) flows
+
+abbrev pub flows_told : Told → Option Flow → List (Flow × Octets) → List (Flow × Octets)
+flows_told told None flows = flows
+flows_told told (Some f) flows = flow_counts told f (look same_flow f flows) flows
+
+-- a flow is followed from now on; one that is followed already stays as it is
+abbrev pub flow_begun : Flow → Option Octets → List (Flow × Octets) → List (Flow × Octets)
+flow_begun f None flows = write same_flow f no_octets flows
+flow_begun f (Some o) flows = flows
+
+abbrev pub with_flow : Flow → List (Flow × Octets) → List (Flow × Octets)
+with_flow f flows = flow_begun f (look same_flow f flows) flows
+
+-- WHAT AN ACT ADDS: a report its octets, and what is handed out one frame
+abbrev pub counts_act : Act → Counted → Counted
+counts_act (Tells told) c = record { node = record c.node { octets = octets_told told c.node.octets }; flows = flows_told told (flow_told told) c.flows }
+counts_act (Hands link octets) c = record { node = record c.node { left = counted 1 c.node.left }; flows = c.flows }
+
+abbrev pub counts_acts : List Act → Counted → Counted
 counts_acts [] c = c
 counts_acts (act ∷ acts) c = counts_acts acts (counts_act act c)
 
 -- what an event adds by itself: a datagram that comes
-abbrev pub counts_event : Event (Unit {0}) → Counts → Counts
-counts_event (Arrive link parcel) c = record c { came = counted 1 c.came }
+abbrev pub counts_arrived : Counted → Counted
+counts_arrived c = record { node = record c.node { came = counted 1 c.node.came }; flows = c.flows }
+
+abbrev pub counts_event : Event (Unit {0}) → Counted → Counted
+counts_event (Arrive link parcel) c = counts_arrived c
 counts_event (Send flow octets begin end) c = c
 counts_event (Read flow most) c = c
 counts_event Tick c = c
 
 -- a datagram that is refused
-abbrev pub counts_refused : Counts → Counts
-counts_refused c = record c { refused = counted 1 c.refused }
+abbrev pub counts_refused : Counted → Counted
+counts_refused c = record { node = record c.node { refused = counted 1 c.node.refused }; flows = c.flows }

@@ -13,8 +13,7 @@ use Rattle.dt_world_model.specs.Station.{Event, Station, station_event, station_
 use Rattle.dt_relay.specs.Ways as ways
 use Rattle.dt_station.specs.Stations.{StationValue, station_started}
 use Rattle.dt_endpoint.specs.Acts.{OutFrameValue, acts_of, answer_of, frames_in, reports_in}
-use Rattle.dt_endpoint.specs.declared.counts.Counts.{Counts}
-use Rattle.dt_endpoint.specs.Counts.{counts_acts, counts_event, counts_refused, no_counts}
+use Rattle.dt_endpoint.specs.Counts.{Counted, counts_acts, counts_event, counts_refused, none_counted, with_flow}
 use Rattle.dt_endpoint.specs.Collecting.{Collected}
 use Rattle.dt_world_laws.specs.Counting.{HasTakenAtMost, octets_sent}
 
@@ -31,7 +30,7 @@ pub record EndpointValue : Type 0 where
   pub frames : List OutFrameValue
   pub reports : List Told
   -- what was counted since it opened
-  pub counts : Counts
+  pub counts : Counted
 
 -- a moment that is told: one above 2^62 counts as 2^62, and one before the greatest as that
 abbrev pub capped : ℕ → ℕ
@@ -44,7 +43,7 @@ moment_of now e = max e.latest (capped now)
 abbrev pub opened : Params → ℕ → Option ℕ → List OutLink → List InLink → List Route → EndpointValue
 opened p me again outs ins routes =
     let started = station_started p me (option_map capped again) outs ins routes in
-    record { rules = p; latest = started.latest; spent = false; asked = 0; state = started.state; frames = []; reports = []; counts = no_counts }
+    record { rules = p; latest = started.latest; spent = false; asked = 0; state = started.state; frames = []; reports = []; counts = none_counted }
 
 -- AN EVENT, at a moment that is told
 abbrev pub script_of : ℕ → Event (Unit {0}) → EndpointValue → Script (Unit {0}) (Station (Unit {0}))
@@ -91,6 +90,10 @@ endpoint_wake e = wake_unless e.spent (station_wake e.rules e.state)
 -- one route more, behind the others
 abbrev pub with_route : Route → EndpointValue → EndpointValue
 with_route route e = record e { state = station_with e.state.host (ways.with_route route e.state.relay) }
+
+-- a flow is followed from now on
+abbrev pub with_followed : Flow → EndpointValue → EndpointValue
+with_followed f e = record e { counts = record { node = e.counts.node; flows = with_flow f e.counts.flows } }
 
 -- a datagram that was refused is counted
 abbrev pub with_refused : EndpointValue → EndpointValue

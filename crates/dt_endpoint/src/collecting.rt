@@ -5,17 +5,20 @@ ghost use Rattle.dt_endpoint.specs.declared.noting.Heard.TheVariants.{Nothing};
 ghost use Rattle.dt_layout.specs.Carried.{IsGram};
 ghost use Rattle.dt_endpoint.specs.Acts.{plain};
 ghost use Rattle.dt_endpoint.specs.Collecting.{CollectFails, CollectHands, Same, begun, with_told};
-ghost use Rattle.dt_endpoint.specs.Counts.{counted, counts_refused, no_counts};
+ghost use Rattle.dt_endpoint.specs.Counts.{counts_arrived, counts_refused, none_counted, with_flow};
+ghost use Rattle.dt_world_model.specs.Tables.{look, same_flow};
 ghost use Rattle.dt_endpoint.specs.Hearing.{piece_after};
 
-use crate::counts::{Counts, more};
+use crate::counts::{Counts, Octets, more};
 use crate::frames::OutFrame;
 use crate::noting::{Heard, heard_after, kept_report};
+use crate::totals::Totals;
 use dt_host::Host;
 use dt_items::NoMemory;
 use dt_layout::Frame;
 use dt_reports::Report;
 use dt_station::Visitor;
+use dt_units::Flow;
 use std::alloc::Global;
 use std::collections::VecDeque;
 use std::marker::Model;
@@ -31,6 +34,7 @@ pub struct Collector {
     /// The octets of the piece that was read.
     piece: Vec<u8>,
     counts: Counts,
+    totals: Totals,
     failed: bool,
 }
 
@@ -41,13 +45,13 @@ impl Model for Collector {
 
     ghost Value = { Collected };
 
-    ghost view = { λ c. record { frames = c.frames.items; reports = map told c.reports.items; heard = c.heard; piece = c.piece.items; counts = c.counts; failed = c.failed } };
+    ghost view = { λ c. record { frames = c.frames.items; reports = map told c.reports.items; heard = c.heard; piece = c.piece.items; counts = record { node = c.counts; flows = c.totals }; failed = c.failed } };
 }
 
 impl Collector {
     /// Nothing was collected.
     pub fn new(alloc: Global) -> Collector
-        ensures { result ≡ record { frames = []; reports = []; heard = Nothing; piece = []; counts = no_counts; failed = false } }
+        ensures { result ≡ record { frames = []; reports = []; heard = Nothing; piece = []; counts = none_counted; failed = false } }
     {
         Collector {
             alloc,
@@ -56,6 +60,7 @@ impl Collector {
             heard: Heard::Nothing,
             piece: Vec::new(alloc),
             counts: Counts::none(),
+            totals: Totals::new(alloc),
             failed: false,
         }
     }
@@ -81,14 +86,29 @@ impl Collector {
     }
 
     pub fn counts(&self) -> Counts
-        ensures { result ≡ self.now.counts }
+        ensures { result ≡ self.now.counts.node }
     {
         self.counts
     }
 
+    /// What was told of a flow since it is followed, or none where it isn't.
+    pub fn totals(&self, flow: &Flow) -> Option<Octets>
+        ensures { result ≡ look same_flow flow.now self.now.counts.flows }
+    {
+        self.totals.of(flow)
+    }
+
+    /// A flow is followed from now on. `NoMemory` changes nothing.
+    pub fn follow(&mut self, flow: &Flow) -> Result<(), NoMemory>
+        ensures done { OnOk result (self.new ≡ record self.old { counts = record { node = self.old.counts.node; flows = with_flow flow.now self.old.counts.flows } }) }
+        ensures same { OnErr result (self.new ≡ self.old) }
+    {
+        self.totals.follow(flow)
+    }
+
     /// A datagram comes.
     pub fn count_arrival(&mut self)
-        ensures { self.new ≡ record self.old { counts = record self.old.counts { came = counted 1 self.old.counts.came } } }
+        ensures { self.new ≡ record self.old { counts = counts_arrived self.old.counts } }
     {
         self.counts.came = more(self.counts.came, 1);
     }
@@ -154,6 +174,7 @@ impl Collector {
         self.reports.push_back(kept_report(report))?;
         self.heard = heard_after(report, self.heard);
         self.counts.octets.note(report);
+        self.totals.note(report);
         Ok(())
     }
 }

@@ -2,18 +2,18 @@ ghost use Rattle.std.specs.Prelude.{ℕ, [], ◌≡◌, ◌+◌, ◌<◌, ◌≤
 ghost use Rattle.dt_reports.specs.Told.{told};
 ghost use Rattle.dt_flow_model.specs.Keeping.{octets_below};
 ghost use Rattle.dt_world_model.specs.Relay.{route_to};
-ghost use Rattle.dt_world_model.specs.Tables.{has_key, same_flow};
+ghost use Rattle.dt_world_model.specs.Tables.{has_key, look, same_flow};
 ghost use Rattle.dt_station.specs.Events.{MayHappenHere, local_seen};
 ghost use Rattle.dt_endpoint.specs.declared.noting.Heard.TheVariants.{Nothing};
 ghost use Rattle.dt_layout.specs.Carried.{IsGram, life_of};
 ghost use Rattle.dt_endpoint.specs.Calls.{AddsRoute, ArriveDoes, Arrives, arrive_event, arrive_refusal, Reads, Sends, Ticks, piece_by, sent_by};
-ghost use Rattle.dt_endpoint.specs.Endpoints.{EventEnds, capped, endpoint_wake, moment_of, opened, script_of, waiting_octets};
+ghost use Rattle.dt_endpoint.specs.Endpoints.{EventEnds, capped, endpoint_wake, moment_of, opened, script_of, waiting_octets, with_followed};
 ghost use Rattle.dt_world_laws.specs.Counting.{octets_sent};
 ghost use Rattle.dt_endpoint.specs.Hearing.{heard_in, piece_in};
 
 use crate::answers::{Arrived, Piece, Routed, Sent, Ticked};
 use crate::collecting::Collector;
-use crate::counts::Counts;
+use crate::counts::{Counts, Octets};
 use crate::events::{happen, receive};
 use crate::frames::OutFrame;
 use crate::links::{Links, has_link};
@@ -66,8 +66,11 @@ impl Model for Endpoint {
 
 impl Endpoint {
     /// The endpoint of a node that starts for the first time, or again at the moment `again`: then it
-    /// takes no octets until `3 mpl + r + a` have passed. It takes the room for what may wait on each out
-    /// link; `NoMemory` where there is none, and it is the only error.
+    /// takes no octets until `3 mpl + r + a` have passed. One that is known to have sent and accepted
+    /// nothing for so long may open without `again`: law `node_that_was_away_opens_at_once` of dt_network.
+    ///
+    /// It takes the room for what may wait on each out link; `NoMemory` where there is none, and it is the
+    /// only error.
     pub fn open(
         alloc: Global,
         rules: &Rules,
@@ -361,9 +364,28 @@ impl Endpoint {
 
     /// What was counted since the endpoint opened. Its cost is that of a copy.
     pub fn counts(&self) -> Counts
-        ensures { result ≡ self.now.counts }
+        ensures { result ≡ self.now.counts.node }
     {
         self.collector.counts()
+    }
+
+    /// From now on it is counted what is told of the octets of a flow, from this node or to it:
+    /// [`Endpoint::totals`]. A flow that is followed already stays as it is. What is followed is the
+    /// program's choice, so that strangers don't make the endpoint grow; it is followed until the
+    /// endpoint goes. `NoMemory` changes nothing, and the endpoint isn't spent.
+    pub fn follow(&mut self, flow: &Flow) -> Result<(), NoMemory>
+        ensures done { OnOk result (self.new ≡ with_followed flow.now self.old) }
+        ensures same { OnErr result (self.new ≡ self.old) }
+    {
+        self.collector.follow(flow)
+    }
+
+    /// The octets of a flow, by what was told of them since it is followed, or none where it isn't. Its
+    /// cost is that of a look-up.
+    pub fn totals(&self, flow: &Flow) -> Option<Octets>
+        ensures { result ≡ look same_flow flow.now self.now.counts.flows }
+    {
+        self.collector.totals(flow)
     }
 
     /// Whether an event found no memory.

@@ -12,6 +12,7 @@ mod guards;
 mod laws;
 mod links;
 mod noting;
+mod totals;
 
 pub use answers::{Arrived, Piece, Routed, Sent, Ticked};
 pub use counts::{Counts, Octets};

@@ -83,6 +83,7 @@ fn is_settled(one: &mut Endpoint) -> bool {
 fn octets_go_from_one_to_the_other(rt: HostRuntime) -> Result<(), NoMemory> {
     let mut one = open(&rt, rt.alloc(), 1, 2, None)?;
     let mut two = open(&rt, rt.alloc(), 2, 1, None)?;
+    assert!(rt; one.follow(&FLOW).is_ok() && two.totals(&FLOW).is_none());
     assert!(rt; sends_hello(&mut one) && one.first_frame().is_some());
     assert!(rt; hands_over(&mut one, &mut two, 3, Arrived::Done));
     assert!(rt; reads_hello(&mut two) && reads_nothing(&mut two));
@@ -90,5 +91,6 @@ fn octets_go_from_one_to_the_other(rt: HostRuntime) -> Result<(), NoMemory> {
     assert!(rt; answers(&mut one, &mut two) && two.next_frame().is_none());
     assert!(rt; is_settled(&mut one));
     assert!(rt; one.counts() == SENDER && two.counts() == READER);
+    assert!(rt; one.totals(&FLOW) == Some(SENDER.octets));
     Ok(())
 }

@@ -72,12 +72,12 @@ use Rattle.dt_world_model.specs.declared.links.Route.{Route}
 use Rattle.dt_endpoint.specs.declared.answers.Routed.{Routed}
 use Rattle.dt_network.proofs.Frames.{Ends}
 use Rattle.dt_network.proofs.Openings.{again_beside, network_begins, begun}
-use Rattle.dt_network.proofs.Outcomes.{Admits, IsLost, IsPieceOf, IsStill, ReadIsRefused, ReadsTo, SendIsRefused, SendsFrom, arrival_comes_to, pulled_frame_is_still, pulled_report_is_still, read_comes_to, route_comes_to, same_is_still, send_comes_to, tick_comes_to}
+use Rattle.dt_network.proofs.Outcomes.{Admits, IsLost, IsPieceOf, IsStill, ReadIsRefused, ReadsTo, SendIsRefused, SendsFrom, arrival_comes_to, followed_is_still, pulled_frame_is_still, pulled_report_is_still, read_comes_to, route_comes_to, same_is_still, send_comes_to, tick_comes_to}
 use Rattle.dt_network.proofs.Worlds.{Goes, goes_by_read, goes_by_restart, goes_by_send, goes_by_tick, goes_in_time, goes_late, is_named, late_calm, piece_goes, read_is_calm, life_again, restart_calm, restart_life, restart_loses, send_does, send_is_steady, tick_calm}
 use Rattle.dt_network.specs.Beside.{GoesBeside, GoesOn, GoesOnBy, IsBeside, IsLate, IsStationOf, IsUnderWay, KeepsAllFates, reroute, rerouted, stays}
 use Rattle.dt_network.specs.Duties.{IsInTime, Keeps, KeepsCall, KeepsDuties, KeepsFrom, KeepsTime}
 use Rattle.dt_network.specs.Network.{Flight, Network, flights, new_network, opened_with}
-use Rattle.dt_network.specs.Steps.{AddRoute, AreSteps, Call, CallArrive, CallRead, CallSend, CallTick, Calls, Does, DoesFrom, IsStep, OpenAgain, Pass, PullFrame, PullReport, Step, network_after}
+use Rattle.dt_network.specs.Steps.{AddRoute, AreSteps, Call, CallArrive, CallRead, CallSend, CallTick, Calls, Does, DoesFrom, Follow, IsStep, OpenAgain, Pass, PullFrame, PullReport, Step, network_after}
 
 -- the world after a step of the network, which goes on to it so, with what the step takes and reads of each flow
 pub record NextWorld (setup : Setup) (before after : Network) (w : World) (on : World → Type 0) (takes : Flow → List Item → Type 0) (read : Flow → List Item) (books : Flow → Book → Book) (found : Type 0) : Type 0 where
@@ -350,6 +350,7 @@ module _ (setup : Setup) (net : Network) (w : World) (limits : IsWithinLimits w.
   call_beside (CallArrive now link datagram waited answer) does keeps = by_arrival now link datagram waited answer keeps.0 keeps.1 (arrival_comes_to answer now link datagram waited e f does)
   call_beside PullFrame does keeps = still PullFrame stays (λ g b. refl) (pulled_frame_is_still e f does) (λ g. refl) (λ g. refl)
   call_beside PullReport does keeps = still PullReport stays (λ g b. refl) (pulled_report_is_still e f does) (λ g. refl) (λ g. refl)
+  call_beside (Follow flow done) does keeps = still (Follow flow done) stays (λ g b. refl) (followed_is_still flow done setup n e f does) (λ g. refl) (λ g. refl)
   call_beside (AddRoute route answer) does keeps = by_route route answer (route_comes_to answer route e f does)
   call_beside (OpenAgain again routes) does keeps = by_opening again routes keeps.now keeps.time (does ∙ ap (λ (o : Option ℕ). opened_with setup n o routes) keeps.told)
 

@@ -32,6 +32,8 @@ use Rattle.dt_world_model.specs.declared.links.Route.{Route}
 use Rattle.dt_endpoint.specs.Calls.{AddsRoute, ArriveDoes, Arrives, RouteDoes, route_refusals, ReadDoes, Reads, SendDoes, Sends, TickDoes, Ticks, Unless, arrive_event, arrive_fault, arrive_refusal, has_link, piece_of, read_answer, read_refusals, send_answer, send_refusals, tick_refusals}
 use Rattle.dt_endpoint.specs.Endpoints.{EndpointValue, with_refused, with_route}
 use Rattle.dt_network.proofs.Frames.{Ends}
+use Rattle.dt_network.specs.Steps.{Does, Follow}
+use Rattle.dt_world_model.specs.Setup.{Setup}
 
 -- NOTHING that the network sees: what the endpoint keeps of its node stays, and no frame is appended
 pub record IsStill (e f : EndpointValue) : Type 0 where
@@ -75,6 +77,18 @@ pulled_report_is_still e f same = record {
 -- a refused datagram is counted
 refused_is_still : (e f : EndpointValue) → f ≡ with_refused e → IsStill e f
 refused_is_still e f same = record {
+  rules = ap (λ (x : EndpointValue). x.rules) same;
+  latest = ap (λ (x : EndpointValue). x.latest) same;
+  spent = ap (λ (x : EndpointValue). x.spent) same;
+  state = ap (λ (x : EndpointValue). x.state) same;
+  frames = ap (λ (x : EndpointValue). drop (length e.frames) x.frames) same ∙ drop-length e.frames;
+  reports = ap (λ (x : EndpointValue). drop (length e.reports) x.reports) same ∙ drop-length e.reports;
+}
+
+-- a flow is followed, or there was no memory for it
+pub followed_is_still : (flow : Flow) (done : Bool) (setup : Setup) (n : ℕ) (e f : EndpointValue) → Does setup n (Follow flow done) e f → IsStill e f
+followed_is_still flow false setup n e f same = same_is_still e f same
+followed_is_still flow true setup n e f same = record {
   rules = ap (λ (x : EndpointValue). x.rules) same;
   latest = ap (λ (x : EndpointValue). x.latest) same;
   spent = ap (λ (x : EndpointValue). x.spent) same;

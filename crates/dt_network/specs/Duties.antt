@@ -7,7 +7,7 @@ use Rattle.dt_world_model.specs.Tables.{look}
 use Rattle.dt_endpoint.specs.Calls.{arrive_refusal}
 use Rattle.dt_endpoint.specs.Endpoints.{EndpointValue}
 use Rattle.dt_network.specs.Network.{Flight, Network, clock_of}
-use Rattle.dt_network.specs.Steps.{AddRoute, Call, CallArrive, CallRead, CallSend, CallTick, Calls, OpenAgain, Pass, PullFrame, PullReport, Step, network_after}
+use Rattle.dt_network.specs.Steps.{AddRoute, Call, CallArrive, CallRead, CallSend, CallTick, Calls, Follow, OpenAgain, Pass, PullFrame, PullReport, Step, network_after}
 
 -- CLOCKS ARE ALIKE: each goes as the network's moment does, from a zero of its own, over restarts too
 pub record KeepsTime (setup : Setup) (net : Network) (n now : ℕ) : Type 0 where
@@ -37,6 +37,7 @@ KeepsCall setup net n (CallArrive now link datagram waited answer) e = KeepsTime
 KeepsCall setup net n PullFrame e = Unit {0}
 KeepsCall setup net n PullReport e = Unit {0}
 KeepsCall setup net n (AddRoute route answer) e = Unit {0}
+KeepsCall setup net n (Follow flow done) e = Unit {0}
 KeepsCall setup net n (OpenAgain again routes) e = StartsAgain setup net n again
 
 abbrev pub KeepsFrom : Setup → Network → ℕ → Call → Option EndpointValue → Type 0

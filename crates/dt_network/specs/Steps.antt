@@ -1,5 +1,5 @@
 -- What happens in a network: time passes, or a call is made of a node's endpoint.
-use Rattle.std.specs.Prelude.{◌≡◌, ◌==◌, ℕ, ◌+◌, Bool, List, [], ◌∷◌, ◌++◌, drop, Option, Some, None}
+use Rattle.std.specs.Prelude.{◌≡◌, ◌==◌, ℕ, ◌+◌, Bool, true, false, List, [], ◌∷◌, ◌++◌, drop, Option, Some, None}
 use Rattle.dt_units.specs.declared.endpoints.Flow.{Flow}
 use Rattle.dt_units.specs.Flows.{IsFlow}
 use Rattle.dt_world_model.specs.declared.links.Route.{Route}
@@ -11,7 +11,7 @@ use Rattle.dt_endpoint.specs.declared.answers.Arrived.{Arrived}
 use Rattle.dt_endpoint.specs.declared.answers.Piece.{Piece}
 use Rattle.dt_endpoint.specs.declared.answers.Routed.{Routed}
 use Rattle.dt_endpoint.specs.Calls.{AddsRoute, Arrives, Reads, Sends, Ticks}
-use Rattle.dt_endpoint.specs.Endpoints.{EndpointValue}
+use Rattle.dt_endpoint.specs.Endpoints.{EndpointValue, with_followed}
 use Rattle.dt_network.specs.Network.{Network, flights, opened_with}
 
 -- A CALL with its answer. Of a read it has the room of the buffer, and the octets that stood in it after the call
@@ -23,6 +23,8 @@ pub data Call : Type 0 where
   PullFrame : Call
   PullReport : Call
   AddRoute : (route : Route) → (answer : Routed) → Call
+  -- whether there was memory for it
+  Follow : (flow : Flow) → (done : Bool) → Call
   -- the endpoint that was there is gone, and the node opens again, with these routes: those that it had, or others
   OpenAgain : (again : Option ℕ) → (routes : List Route) → Call
 
@@ -35,6 +37,8 @@ Does setup n (CallArrive now link datagram waited answer) e f = Arrives answer n
 Does setup n PullFrame e f = f ≡ record e { frames = drop 1 e.frames }
 Does setup n PullReport e f = f ≡ record e { reports = drop 1 e.reports }
 Does setup n (AddRoute route answer) e f = AddsRoute answer route e f
+Does setup n (Follow flow true) e f = f ≡ with_followed flow e
+Does setup n (Follow flow false) e f = f ≡ e
 Does setup n (OpenAgain again routes) e f = f ≡ opened_with setup n again routes
 
 -- A STEP: so many milliseconds pass; or a call is made of a node, with the endpoint after it
