@@ -183,7 +183,7 @@ AddingRoute status r s t = GoesOn s t (status ≡ closed) (λ e f. (answer : Rou
 -- WHAT IT COUNTED
 abbrev pub slot_counts : Option EndpointValue → CountsRow
 slot_counts None = no_counts_row closed
-slot_counts (Some e) = counts_row e.counts
+slot_counts (Some e) = counts_row e.counts.node
 
 abbrev pub Counting : CountsRow → Slot → Slot → Type 0
 Counting row s t = (row ≡ slot_counts s.endpoint) × (t ≡ s)
