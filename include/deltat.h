@@ -113,6 +113,8 @@ struct dt_fingerprint { uint64_t value; uint8_t status; };
 /* Datagrams that came and that were refused, frames that left; and octets of all flows, by what was told of them: TOOK,
  * SETTLED, UNCERTAIN, ACCEPTED, and those that were read. Each is 2^64 - 1 at most. */
 struct dt_counts { uint64_t came, refused, left, taken, settled, uncertain, accepted, read; uint8_t status; };
+/* The same octets of one flow, since it is followed. */
+struct dt_totals { uint64_t taken, settled, uncertain, accepted, read; uint8_t status; };
 
 enum dt_kind { /* what a report tells, and its fields; the others are 0. Those with no flow are told so */
     DT_TOOK = 1,         /* a send was taken: `count` octets */
@@ -186,7 +188,8 @@ uint8_t dt_tick(dt_node *n, uint64_t now);
 
 /* A datagram came on a link and waited so many ms here, which are taken off its life. DONE NO_MEMORY CLOSED SPENT;
  * KEPT_OUT: the guard doesn't admit it; REFUSED: no packets come on this link; BAD: its header doesn't read (`fault`,
- * `value`); STALE. A header that reads with a packet that doesn't is DONE, and is dropped. */
+ * `value`); STALE. dt_counts counts each that is refused so; nothing else of the node changes then. A header that reads
+ * with a packet that doesn't is DONE, and is dropped. */
 struct dt_came dt_arrive(dt_node *n, uint64_t now, uint16_t link, const uint8_t *datagram, size_t len, uint32_t waited);
 
 /* Octets are sent, all of them or none; the first begins a message where `begin` says so, and the last ends one where
@@ -233,6 +236,14 @@ struct dt_kept_out dt_kept_out(dt_node *n);
 
 /* What the node counted since dt_open, without what the guard kept out. Nothing changes. DONE CLOSED */
 struct dt_counts dt_counts(dt_node *n);
+
+/* From now on what is told of the octets of this flow is counted, of one from this node or to it; one that is followed
+ * already stays as it is. Flows are followed until dt_close, 64 octets each. DONE CLOSED; NO_MEMORY: nothing changed. */
+uint8_t dt_follow(dt_node *n, const struct dt_flow *flow);
+
+/* The octets of a flow, by what was told of them since it is followed. Nothing changes. DONE CLOSED; NOTHING: it isn't
+ * followed. */
+struct dt_totals dt_totals(dt_node *n, const struct dt_flow *flow);
 
 /* WHAT IS TO BE TAKEN, AND WHEN TO CALL AGAIN */
 

@@ -99,7 +99,10 @@ def refusals() -> bool:
     right += [PARAMS.fingerprint == int.from_bytes(hashlib.sha256(octets).digest()[:8], "big")]
     right.append(refused(deltat.BadParameter, lambda: dataclasses.replace(PARAMS, mpl=1).fingerprint))
     lonely = deltat.Node(1, PARAMS, [deltat.Link(1, CHARGE)], {}, False, 0)
+    right.append(lonely.totals(flow) is None)
+    lonely.follow(flow)
     lonely.send(flow, b"nowhere", at=1)
+    right.append(lonely.totals(flow) == deltat.Totals(taken=7, settled=0, uncertain=0, accepted=0, read=0))
     right += [list(lonely.frames()) == [], refused(deltat.BadParameter, lonely.add_route, 2, 9)]
     lonely.add_route(2, 1)
     lonely.tick(200)
@@ -107,6 +110,7 @@ def refusals() -> bool:
     right.append(lonely.counts() == deltat.Counts(came=0, refused=0, left=1, taken=7, settled=0, uncertain=0, accepted=0, read=0))
     node.close()
     node.close()
+    right += [refused(deltat.Spent, node.follow, flow), refused(deltat.Spent, node.totals, flow)]
     right += [refused(deltat.Spent, node.tick, 5), refused(deltat.Spent, node.counts), refused(deltat.Spent, node.add_route, 3, 1)]
     return all(right)
 

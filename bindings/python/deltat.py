@@ -46,7 +46,7 @@ from typing import NamedTuple
 
 __all__ = [
     "AsyncUdp", "BadParameter", "Counts", "DeltatError", "Flow", "Full", "KeptOut", "Kind", "Link", "Message", "NoMemory", "Node", "OutFrame", "Params",
-    "Piece", "Quiet", "Report", "Spent", "Status", "Udp", "now",
+    "Piece", "Quiet", "Report", "Spent", "Status", "Totals", "Udp", "now",
 ]
 
 ABI = 1
@@ -207,6 +207,10 @@ class _Counts(ctypes.Structure):
     _fields_ = [(name, ctypes.c_uint64) for name in "came refused left taken settled uncertain accepted read".split()] + [("status", ctypes.c_uint8)]
 
 
+class _Totals(ctypes.Structure):
+    _fields_ = [(name, ctypes.c_uint64) for name in "taken settled uncertain accepted read".split()] + [("status", ctypes.c_uint8)]
+
+
 class _Fingerprint(ctypes.Structure):
     _fields_ = [("value", ctypes.c_uint64), ("status", ctypes.c_uint8)]
 
@@ -250,6 +254,8 @@ def _calls() -> dict[str, tuple[object, list[object]]]:
         "dt_guard": (u8, [p, ctypes.POINTER(u16), size, ctypes.c_bool, u32]),
         "dt_kept_out": (_KeptOut, [p]),
         "dt_counts": (_Counts, [p]),
+        "dt_follow": (u8, [p, flow]),
+        "dt_totals": (_Totals, [p, flow]),
         "dt_add_route": (u8, [p, routes]),
         "dt_fingerprint": (_Fingerprint, [ctypes.POINTER(_Params)]),
     }
@@ -395,6 +401,17 @@ class Counts(NamedTuple):
     read: int
 
 
+class Totals(NamedTuple):
+    """The octets of one flow since it is followed: taken from the program, settled and uncertain of these; accepted, and
+    read of these."""
+
+    taken: int
+    settled: int
+    uncertain: int
+    accepted: int
+    read: int
+
+
 class Report(NamedTuple):
     """What a node tells of an act: its kind, and what this kind has, else 0 and False. UNCERTAIN tells that `count`
     octets of the flow were given up, and SETTLED that so many came."""
@@ -515,6 +532,20 @@ class Node:
         it = _library.dt_counts(self._handle)
         self._raise(it.status)
         return Counts(*(getattr(it, name) for name in Counts._fields))
+
+    def follow(self, flow: Flow) -> None:
+        """From now on `totals` counts what is told of the octets of this flow, until the node is closed. One that is
+        followed already stays as it is."""
+        self._raise(_library.dt_follow(self._handle, _flow(flow)))
+
+    def totals(self, flow: Flow) -> Totals | None:
+        """The octets of a flow, by what was told of them since it is followed; None where it isn't. Spent where the node is
+        closed."""
+        it = _library.dt_totals(self._handle, _flow(flow))
+        if it.status == Status.NOTHING:
+            return None
+        self._raise(it.status)
+        return Totals(*(getattr(it, name) for name in Totals._fields))
 
     def add_route(self, to: int, link: int) -> None:
         """From now on packets to the node `to` leave on this link. BadParameter where no packets do or there is a route to it

@@ -122,6 +122,7 @@ static void a_closed_handle_says_so(dt_node *n) {
     WANT(dt_send(n, 5, &flow, message, 1, true, true).status == DT_CLOSED);
     WANT(dt_read(n, 5, &flow, came, 1).status == DT_CLOSED);
     WANT(dt_counts(n).status == DT_CLOSED && dt_add_route(n, &closed_route) == DT_CLOSED);
+    WANT(dt_follow(n, &flow) == DT_CLOSED && dt_totals(n, &flow).status == DT_CLOSED);
     WANT(dt_inbox(n, 5) == DT_CLOSED && dt_hear(n, &flow) == DT_CLOSED && dt_take(n, 5, came, 1).status == DT_CLOSED);
     WANT(dt_next_frame(n, frame, sizeof frame).status == DT_CLOSED);
     WANT(!dt_wake(n).some);
@@ -150,7 +151,10 @@ static void refusals_say_why(void) {
     WANT(dt_read(n, 0, &back, came, 0).status == DT_ROOM);
     WANT(dt_read(n, 0, &back, came, 1).status == DT_NOTHING);
     WANT(dt_next_frame(n, frame, sizeof frame).status == DT_NOTHING);
+    WANT(dt_totals(n, &flow).status == DT_NOTHING);
+    WANT(dt_follow(n, &flow) == DT_DONE && dt_totals(n, &flow).status == DT_DONE && dt_totals(n, &flow).taken == 0);
     WANT(dt_send(n, 0, &flow, (const uint8_t *)"hello", 5, true, true).status == DT_DONE);
+    WANT(dt_follow(n, &flow) == DT_DONE && dt_totals(n, &flow).taken == 5 && dt_totals(n, &back).status == DT_NOTHING);
     struct dt_route other = {3, LINK}, known = {2, LINK}, strange = {4, LINK + 1};
     WANT(dt_add_route(n, &strange) == DT_REFUSED && dt_add_route(n, &known) == DT_HELD);
     WANT(dt_add_route(n, &other) == DT_DONE && dt_add_route(n, &other) == DT_HELD);
@@ -166,11 +170,14 @@ static void refusals_say_why(void) {
     dt_close(n);
     opens(n, 2, 1, false);
     WANT(dt_arrive(n, 0, LINK, frame, wanted, 86400000).status == DT_STALE);
+    WANT(dt_follow(n, &flow) == DT_DONE);
     WANT(dt_arrive(n, 0, LINK, frame, wanted, 0).status == DT_DONE);
     WANT(reported(n, DT_ACCEPTED));
     struct dt_piece piece = dt_read(n, 0, &flow, came, 5);
     WANT(piece.status == DT_DONE && piece.len == 5 && piece.begin && piece.end && memcmp(came, "hello", 5) == 0);
     counts = dt_counts(n);
+    struct dt_totals totals = dt_totals(n, &flow);
+    WANT(totals.status == DT_DONE && totals.accepted == 5 && totals.read == 5 && totals.taken == 0 && totals.settled == 0);
     WANT(counts.came == 1 && counts.refused == 1 && counts.accepted == 5 && counts.read == 5 && counts.taken == 0);
     dt_close(n);
     free(n);

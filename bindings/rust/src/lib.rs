@@ -104,6 +104,17 @@ pub struct Counts {
     pub read: u64,
 }
 
+/// The octets of one flow since it is followed, by what was told of them.
+#[repr(C)]
+#[derive(Clone, Copy, Debug, PartialEq, Eq)]
+pub struct Totals {
+    pub taken: u64,
+    pub settled: u64,
+    pub uncertain: u64,
+    pub accepted: u64,
+    pub read: u64,
+}
+
 /// Why a call did nothing of what it was asked.
 #[derive(Clone, Copy, Debug, PartialEq, Eq)]
 pub enum Error {
@@ -339,6 +350,20 @@ impl Node {
         unsafe { sys::dt_counts(self.handle.as_ptr()) }.counts
     }
 
+    /// From now on `totals` counts what is told of the octets of this flow, until the node is dropped. NoMemory: nothing has
+    /// changed.
+    pub fn follow(&mut self, flow: Flow) -> Result<(), Error> {
+        // SAFETY: as in `tick`; the flow is only read.
+        done(unsafe { sys::dt_follow(self.handle.as_ptr(), &flow) })
+    }
+
+    /// The octets of a flow, by what was told of them since it is followed; none where it isn't.
+    pub fn totals(&mut self, flow: Flow) -> Option<Totals> {
+        // SAFETY: as in `tick`; the flow is only read.
+        let it = unsafe { sys::dt_totals(self.handle.as_ptr(), &flow) };
+        (it.status == 0).then_some(it.totals)
+    }
+
     /// From now on packets to the route's node leave on its link. Refused where no packets leave on it, or there is a route
     /// to the node already; NoMemory: the node isn't spent.
     pub fn add_route(&mut self, route: Route) -> Result<(), Error> {
@@ -405,7 +430,10 @@ mod tests {
     fn routes_are_added_and_octets_are_counted() {
         let mut one = Node::open(&PARAMS, 1, &[LINK], &[], false, 0).unwrap();
         let flow = Flow { from: 1, to: 2, from_port: 10, to_port: 20 };
+        assert_eq!(one.totals(flow), None);
+        one.follow(flow).unwrap();
         one.send(1, flow, b"nowhere", true, true).unwrap();
+        assert_eq!(one.totals(flow), Some(Totals { taken: 7, settled: 0, uncertain: 0, accepted: 0, read: 0 }));
         assert_eq!(one.next_frame(&mut [0; MOST_FRAME]), Ok(None));
         assert_eq!(one.add_route(Route { to: 2, link: 9 }), Err(Error::Refused));
         assert_eq!(one.add_route(Route { to: 2, link: 1 }), Ok(()));

@@ -90,6 +90,13 @@ pub struct Fingerprint {
 
 #[repr(C)]
 #[derive(Clone, Copy)]
+pub struct Totals {
+    pub totals: crate::Totals,
+    pub status: u8,
+}
+
+#[repr(C)]
+#[derive(Clone, Copy)]
 pub struct Counts {
     pub counts: crate::Counts,
     pub status: u8,
@@ -141,5 +148,7 @@ extern "C" {
     pub fn dt_guard(node: *mut Handle, ports: *const u16, port_count: usize, all: bool, flows: u32) -> u8;
     pub fn dt_kept_out(node: *mut Handle) -> KeptOut;
     pub fn dt_counts(node: *mut Handle) -> Counts;
+    pub fn dt_follow(node: *mut Handle, flow: *const crate::Flow) -> u8;
+    pub fn dt_totals(node: *mut Handle, flow: *const crate::Flow) -> Totals;
     pub fn dt_add_route(node: *mut Handle, route: *const crate::Route) -> u8;
 }

@@ -10,7 +10,8 @@ use Rattle.dt_endpoint.specs.declared.answers.Sent.{Sent}
 use Rattle.dt_endpoint.specs.declared.answers.Ticked.{Ticked}
 use Rattle.dt_endpoint.specs.Acts.{OutFrameValue}
 use Rattle.dt_endpoint.specs.Calls.{AddsRoute, Arrives, Reads, Sends, Ticks}
-use Rattle.dt_endpoint.specs.Endpoints.{EndpointValue, endpoint_wake}
+use Rattle.dt_world_model.specs.Tables.{look, same_flow}
+use Rattle.dt_endpoint.specs.Endpoints.{EndpointValue, endpoint_wake, with_followed}
 use Rattle.dt_endpoint.specs.Guards.{GuardValue, admission, guard_after}
 use Rattle.dt_endpoint.specs.declared.guards.Admission.{Admission}
 use Rattle.dt_endpoint.specs.declared.guards.Admission.TheVariants.{Admitted, ClosedPort, TooManyFlows}
@@ -35,9 +36,10 @@ use Rattle.dt_c.specs.declared.rows.PieceRow.{PieceRow}
 use Rattle.dt_c.specs.declared.rows.ReportRow.{ReportRow}
 use Rattle.dt_c.specs.declared.rows.RouteRow.{RouteRow}
 use Rattle.dt_c.specs.declared.rows.SentRow.{SentRow}
+use Rattle.dt_c.specs.declared.rows.TotalsRow.{TotalsRow}
 use Rattle.dt_c.specs.declared.rows.StartRow.{StartRow}
 use Rattle.dt_c.specs.declared.slots.Slot.{Slot}
-use Rattle.dt_c.specs.Rows.{came_as, came_row, closed, counts_row, done, flow_of, kept_out, held, kept_out_row, message_row, moment_row, no_counts_row, no_frame, no_memory, no_message, no_piece, no_report, nothing, opened_row, params_of, piece_row, refused, report_row, room, route, routed_status, sent_as, sent_row, started, ticked_status}
+use Rattle.dt_c.specs.Rows.{came_as, came_row, closed, counts_row, done, flow_of, kept_out, held, kept_out_row, message_row, moment_row, no_counts_row, no_frame, no_memory, no_message, no_piece, no_report, no_totals_row, nothing, opened_row, params_of, piece_row, refused, report_row, room, route, routed_status, sent_as, sent_row, started, ticked_status, totals_row}
 
 -- Between two contents of a handle: where a part isn't there it stays so, and one that is there goes on.
 abbrev pub PartGoesOn : {A : Type 0} → Option A → Option A → Type 0 → (A → A → Type 0) → Type 0
@@ -187,6 +189,20 @@ slot_counts (Some e) = counts_row e.counts.node
 
 abbrev pub Counting : CountsRow → Slot → Slot → Type 0
 Counting row s t = (row ≡ slot_counts s.endpoint) × (t ≡ s)
+
+-- A FLOW IS FOLLOWED from now on, and what was told of it since
+abbrev pub FollowsIn : (status : ℕ) → FlowRow → (e f : EndpointValue) → Type 0
+FollowsIn status flow e f = ((status ≡ done) × (f ≡ with_followed (flow_of flow) e)) ⊎ ((status ≡ no_memory) × (f ≡ e))
+
+abbrev pub Following : (status : ℕ) → FlowRow → Slot → Slot → Type 0
+Following status flow s t = GoesOn s t (status ≡ closed) (FollowsIn status flow)
+
+abbrev pub slot_totals : FlowRow → Option EndpointValue → TotalsRow
+slot_totals flow None = no_totals_row closed
+slot_totals flow (Some e) = totals_row (look same_flow (flow_of flow) e.counts.flows)
+
+abbrev pub Totalling : TotalsRow → FlowRow → Slot → Slot → Type 0
+Totalling row flow s t = (row ≡ slot_totals flow s.endpoint) × (t ≡ s)
 
 -- THE FINGERPRINT, of parameters within their limits
 abbrev pub FingerprintIs : FingerprintRow → ParamsRow → Type 0

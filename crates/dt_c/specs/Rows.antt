@@ -20,6 +20,7 @@ use Rattle.dt_endpoint.specs.declared.answers.Arrived.TheVariants as arrived
 use Rattle.dt_endpoint.specs.declared.answers.Routed.{Routed}
 use Rattle.dt_endpoint.specs.declared.answers.Routed.TheVariants as routed
 use Rattle.dt_endpoint.specs.declared.counts.Counts.{Counts}
+use Rattle.dt_endpoint.specs.declared.counts.Octets.{Octets}
 use Rattle.dt_endpoint.specs.declared.answers.Sent.{Sent}
 use Rattle.dt_endpoint.specs.declared.answers.Sent.TheVariants as sent
 use Rattle.dt_endpoint.specs.declared.answers.Piece.{Piece}
@@ -44,6 +45,7 @@ use Rattle.dt_c.specs.declared.rows.PieceRow.{PieceRow}
 use Rattle.dt_c.specs.declared.rows.ReportRow.{ReportRow}
 use Rattle.dt_c.specs.declared.rows.RouteRow.{RouteRow}
 use Rattle.dt_c.specs.declared.rows.SentRow.{SentRow}
+use Rattle.dt_c.specs.declared.rows.TotalsRow.{TotalsRow}
 use Rattle.dt_c.specs.declared.rows.StartRow.{StartRow}
 
 -- THE STATUSES
@@ -309,3 +311,11 @@ abbrev pub counts_row : Counts → CountsRow
 counts_row c =
     let o = c.octets in
     record { came = c.came; refused = c.refused; left = c.left; taken = o.taken; settled = o.settled; uncertain = o.uncertain; accepted = o.accepted; read = o.read; status = done }
+
+-- WHAT WAS TOLD OF A FLOW: nothing of one that isn't followed
+abbrev pub no_totals_row : (status : ℕ) → TotalsRow
+no_totals_row status = record { taken = 0; settled = 0; uncertain = 0; accepted = 0; read = 0; status = status }
+
+abbrev pub totals_row : Option Octets → TotalsRow
+totals_row None = no_totals_row nothing
+totals_row (Some o) = record { taken = o.taken; settled = o.settled; uncertain = o.uncertain; accepted = o.accepted; read = o.read; status = done }

@@ -1,15 +1,16 @@
 //! The calls, on what a handle holds.
 ghost use Rattle.std.specs.Prelude.{◌≡◌, ◌↔◌, IfOk, IsSome, length, map};
-ghost use Rattle.dt_c.specs.Calls.{AddingRoute, Arriving, Counting, FingerprintIs, Guarding, HandsOut, Hearing, KeptOut, MakesInbox, NextFrame, NextReport, Opening, Opens, QuietIs, Reading, Sending, TakesReport, Taking, Ticking, Waking};
+ghost use Rattle.dt_c.specs.Calls.{AddingRoute, Arriving, Counting, FingerprintIs, Following, Guarding, HandsOut, Hearing, KeptOut, MakesInbox, NextFrame, NextReport, Opening, Opens, QuietIs, Reading, Sending, TakesReport, Taking, Ticking, Totalling, Waking};
 ghost use Rattle.dt_c.specs.Handle.{empty};
 ghost use Rattle.dt_c.specs.Rows.{in_link, out_link, route, started};
 
 use crate::rows::{
     CLOSED, CameRow, CountsRow, DONE, FingerprintRow, FlowRow, HELD, KEPT_OUT, KeptOutRow, LinkRow,
     MessageRow, MomentRow, NO_MEMORY, NOTHING, Opened, OpenedRow, OutRow, ParamsRow, PieceRow,
-    REFUSED, ROOM, ReportRow, RouteRow, SentRow, StartRow, came_as, came_row, counts_row,
-    kept_out_row, message_row, moment_row, no_counts_row, no_frame, no_message, no_piece,
-    no_report, opened_row, piece_row, report_row, routed_status, sent_as, sent_row, ticked_status,
+    REFUSED, ROOM, ReportRow, RouteRow, SentRow, StartRow, TotalsRow, came_as, came_row,
+    counts_row, kept_out_row, message_row, moment_row, no_counts_row, no_frame, no_message,
+    no_piece, no_report, no_totals_row, opened_row, piece_row, report_row, routed_status, sent_as,
+    sent_row, ticked_status, totals_row,
 };
 use crate::slots::Slot;
 use dt_endpoint::{Admission, Endpoint, Guard, InLink, Links, OutLink, Route};
@@ -81,6 +82,27 @@ pub fn counts_in(slot: &mut Slot) -> CountsRow
     match &slot.endpoint {
         Some(endpoint) => counts_row(endpoint.counts()),
         None => no_counts_row(CLOSED),
+    }
+}
+
+pub fn follow_in(slot: &mut Slot, flow: &FlowRow) -> u8
+    ensures { Following result flow.now slot.old slot.new }
+{
+    let Some(endpoint) = &mut slot.endpoint else {
+        return CLOSED;
+    };
+    match endpoint.follow(&flow.flow()) {
+        Ok(()) => DONE,
+        Err(NoMemory) => NO_MEMORY,
+    }
+}
+
+pub fn totals_in(slot: &mut Slot, flow: &FlowRow) -> TotalsRow
+    ensures { Totalling result flow.now slot.old slot.new }
+{
+    match &slot.endpoint {
+        Some(endpoint) => totals_row(endpoint.totals(&flow.flow())),
+        None => no_totals_row(CLOSED),
     }
 }
 

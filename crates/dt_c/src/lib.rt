@@ -9,19 +9,19 @@ mod slots;
 ghost use Rattle.std.specs.Prelude.{◌≡◌, length};
 ghost use Rattle.std.specs.Borrow.{sem};
 ghost use Rattle.std.specs.Ptr.{points_to, uninit_at};
-ghost use Rattle.dt_c.specs.Calls.{AddingRoute, Arriving, Counting, FingerprintIs, Guarding, Hearing, KeptOut, MakesInbox, NextFrame, NextReport, Opening, QuietIs, Reading, Sending, Taking, Ticking, Waking};
+ghost use Rattle.dt_c.specs.Calls.{AddingRoute, Arriving, Counting, FingerprintIs, Following, Guarding, Hearing, KeptOut, MakesInbox, NextFrame, NextReport, Opening, QuietIs, Reading, Sending, Taking, Ticking, Totalling, Waking};
 ghost use Rattle.dt_c.specs.Handle.{empty};
 ghost use Rattle.dt_c.specs.contracts.slots.Slot.{the_row};
 ghost use Rattle.dt_c.specs.declared.slots.Slot.{Slot};
 
 use calls::{
-    add_route_in, arrive_in, close_in, counts_in, empty_slot, fingerprint_in, guard_in, hear_in,
-    inbox_in, kept_out_in, next_frame_in, next_report_in, open_in, quiet_of, read_in, send_in,
-    take_in, tick_in, wake_in,
+    add_route_in, arrive_in, close_in, counts_in, empty_slot, fingerprint_in, follow_in, guard_in,
+    hear_in, inbox_in, kept_out_in, next_frame_in, next_report_in, open_in, quiet_of, read_in,
+    send_in, take_in, tick_in, totals_in, wake_in,
 };
 pub use rows::{
     CameRow, CountsRow, FingerprintRow, FlowRow, KeptOutRow, LinkRow, MessageRow, MomentRow,
-    OpenedRow, OutRow, ParamsRow, PieceRow, ReportRow, RouteRow, SentRow, StartRow,
+    OpenedRow, OutRow, ParamsRow, PieceRow, ReportRow, RouteRow, SentRow, StartRow, TotalsRow,
 };
 pub use slots::{Handle, Slot};
 use std::alloc::Global;
@@ -137,6 +137,26 @@ pub unsafe extern "C" fn dt_counts(node: *mut Handle) -> CountsRow
     ensures* { ∃ₛ (λ h. sem 𝓛 (points_to the_row node h) ∗ ⌜ Counting result g h ⌝) }
 {
     counts_in(unsafe { &mut *(node as *mut Slot) })
+}
+
+/// From now on it is counted what is told of the octets of a flow.
+#[unsafe(no_mangle)]
+pub unsafe extern "C" fn dt_follow(node: *mut Handle, flow: &FlowRow) -> u8
+    ghost g: { Slot }
+    requires* { sem 𝓛 (points_to the_row node g) }
+    ensures* { ∃ₛ (λ h. sem 𝓛 (points_to the_row node h) ∗ ⌜ Following result flow.now g h ⌝) }
+{
+    follow_in(unsafe { &mut *(node as *mut Slot) }, flow)
+}
+
+/// What was told of the octets of a flow since it is followed.
+#[unsafe(no_mangle)]
+pub unsafe extern "C" fn dt_totals(node: *mut Handle, flow: &FlowRow) -> TotalsRow
+    ghost g: { Slot }
+    requires* { sem 𝓛 (points_to the_row node g) }
+    ensures* { ∃ₛ (λ h. sem 𝓛 (points_to the_row node h) ∗ ⌜ Totalling result flow.now g h ⌝) }
+{
+    totals_in(unsafe { &mut *(node as *mut Slot) }, flow)
 }
 
 /// From now on packets to the route's node leave on its link.

@@ -1,9 +1,9 @@
 //! Arguments and answers as they lie in C.
 ghost use Rattle.std.specs.Prelude.{◌≡◌};
 ghost use Rattle.dt_reports.specs.Told.{told};
-ghost use Rattle.dt_c.specs.Rows.{about, about_none, came_as, came_row, capped, counts_row, elsewhere, faulty, fault_row, field_number, flow_of, flow_row, kept_out_row, marked, message_row, moment_row, no_counts_row, no_flow, no_frame, no_message, no_piece, no_report, numbered, opened_row, params_of, piece_row, released, report_row, route, routed_status, sent_as, sent_row, ticked_status, until_moment};
+ghost use Rattle.dt_c.specs.Rows.{about, about_none, came_as, came_row, capped, counts_row, elsewhere, faulty, fault_row, field_number, flow_of, flow_row, kept_out_row, marked, message_row, moment_row, no_counts_row, no_flow, no_frame, no_message, no_piece, no_report, no_totals_row, numbered, opened_row, params_of, piece_row, released, report_row, route, routed_status, sent_as, sent_row, ticked_status, totals_row, until_moment};
 
-use dt_endpoint::{Arrived, Counts, Guard, Piece, Route, Routed, Sent, Ticked};
+use dt_endpoint::{Arrived, Counts, Guard, Octets, Piece, Route, Routed, Sent, Ticked};
 use dt_inbox::Handed;
 use dt_layout::LayoutFault;
 use dt_reports::{Refusal, Report};
@@ -151,6 +151,18 @@ pub struct CountsRow {
     pub status: u8,
 }
 
+/// What was told of the octets of a flow since it is followed.
+#[repr(C)]
+#[derive(Clone, Copy)]
+pub struct TotalsRow {
+    pub taken: u64,
+    pub settled: u64,
+    pub uncertain: u64,
+    pub accepted: u64,
+    pub read: u64,
+    pub status: u8,
+}
+
 /// The answer to a send.
 #[repr(C)]
 #[derive(Clone, Copy)]
@@ -252,6 +264,8 @@ const _: () = prove!(size_of::<KeptOutRow>() == 16);
 const _: () = prove!(size_of::<FingerprintRow>() == 16);
 
 const _: () = prove!(size_of::<CountsRow>() == 72);
+
+const _: () = prove!(size_of::<TotalsRow>() == 48);
 
 const _: () = prove!(size_of::<SentRow>() == 16);
 
@@ -423,6 +437,37 @@ pub fn no_counts_row(status: u8) -> CountsRow
         came: 0,
         refused: 0,
         left: 0,
+        taken: 0,
+        settled: 0,
+        uncertain: 0,
+        accepted: 0,
+        read: 0,
+        status,
+    }
+}
+
+/// Of a flow that isn't followed nothing is told.
+pub fn totals_row(totals: Option<Octets>) -> TotalsRow
+    ensures { result ≡ totals_row totals }
+{
+    let Some(octets) = totals else {
+        return no_totals_row(NOTHING);
+    };
+    TotalsRow {
+        taken: octets.taken,
+        settled: octets.settled,
+        uncertain: octets.uncertain,
+        accepted: octets.accepted,
+        read: octets.read,
+        status: DONE,
+    }
+}
+
+/// An answer where there is nothing that was told.
+pub fn no_totals_row(status: u8) -> TotalsRow
+    ensures { result ≡ no_totals_row status }
+{
+    TotalsRow {
         taken: 0,
         settled: 0,
         uncertain: 0,
