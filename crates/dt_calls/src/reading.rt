@@ -1,5 +1,5 @@
 //! Messages are handed in, and read out of the world.
-ghost use Rattle.std.specs.Prelude.{◌≡◌, ◌<◌, ◌≤◌, ◌^◌, true, false, fold, length, IfOk, IsSome, MatchOption, MatchResult, OnErr, OnOk, Some, option_map, vec_len};
+ghost use Rattle.std.specs.Prelude.{◌≡◌, ◌≢◌, ◌<◌, ◌≤◌, ◌^◌, true, false, fold, length, IfOk, IsSome, MatchOption, MatchResult, OnErr, OnOk, Some, option_map, vec_len};
 ghost use Rattle.dt_units.specs.Flows.{IsFlow};
 ghost use Rattle.dt_world.specs.Worlds.{MayStep, event_of};
 ghost use Rattle.dt_world_model.specs.Tables.{has_key, same_flow};
@@ -16,6 +16,7 @@ ghost use Rattle.dt_calls.specs.Happening.{Happens, ended};
 ghost use Rattle.dt_calls.specs.Parts.{HasJoined, IsWhole, Posts, calls_seen, keys_in};
 ghost use Rattle.dt_calls.specs.Sides.{side_seen};
 ghost use Rattle.dt_calls.specs.declared.dues.Due.TheVariants as due;
+ghost use Rattle.dt_calls.specs.declared.dues.Due.TheVariants.{Nothing};
 
 use crate::call_lines::{CallLine, CallLines};
 use crate::dues::Due;
@@ -96,6 +97,7 @@ pub fn read_due<H: Handler, L: CallLines>(
     ensures goes { GoesOn L.tells (read_all (H.answer parts.old.handler)) (calls_seen parts.old) lines.old lines.new result (calls_seen parts.new) }
     ensures once { OnErr result (AreServedOnce (calls_seen parts.new)) }
     ensures whole { OnOk result (IsWhole parts.new) }
+    ensures memory { OnErr result (due ≢ Nothing) }
     ensures handler { parts.new.handler ≡ parts.old.handler }
 {
     match due {
@@ -215,6 +217,7 @@ fn take_message<H: Handler, L: CallLines>(
     ensures heard { OnOk result (parts.new.heard.failed ≡ false) }
     ensures waiting { parts.new.waiting ≡ parts.old.waiting }
     ensures flows { parts.new.flows ≡ parts.old.flows }
+    ensures memory { OnErr result (side_seen side ≡ Server) }
     ensures handler { parts.new.handler ≡ parts.old.handler }
 {
     let Some((number, carried)) = read_message(message) else {
