@@ -1,17 +1,18 @@
 //! What a node has beside its endpoint.
 ghost use Rattle.std.specs.Prelude.{◌≡◌, OnErr, OnOk};
+ghost use Rattle.dt_reports.specs.Matters.{matter_seen};
 ghost use Rattle.dt_reports.specs.Told.{told};
 ghost use Rattle.dt_service_model.specs.declared.ports.Most.{Most};
 ghost use Rattle.dt_service_model.specs.Ends.{judge};
 ghost use Rattle.dt_service_model.specs.Halves.{has_room, may_read, new_halves};
-ghost use Rattle.dt_service_model.specs.Hearing.{Accepts, hear, hear_as};
+ghost use Rattle.dt_service_model.specs.Hearing.{Accepts, hear, hear_as, heard_by};
 
 use crate::begun::Begun;
 use crate::counting::{has_flow, requests_in, tokens_of};
 use crate::ends;
 use crate::hearing::{kind_in, with_fates};
 use dt_items::NoMemory;
-use dt_reports::Report;
+use dt_reports::{Matter, Report};
 use dt_service_model::{Call, Counts, Happening, Kind, Most, Port, Token};
 use dt_units::Flow;
 use std::alloc::Global;
@@ -78,15 +79,33 @@ impl Halves {
         ensures heard { OnOk result (self.new ≡ hear self.old (told report.now)) }
         ensures same { OnErr result (self.new ≡ self.old) }
     {
-        match *report {
-            Report::Settled { flow, count, .. } => {
+        self.hear_of(report.matter())
+    }
+
+    /// What is said of octets is heard. `NoMemory` leaves all as it was.
+    fn hear_of(&mut self, matter: Matter<'_>) -> Result<(), NoMemory>
+        ensures heard { OnOk result (self.new ≡ hear_as (heard_by (matter_seen matter.entry)) self.old) }
+        ensures same { OnErr result (self.new ≡ self.old) }
+    {
+        match matter {
+            Matter::Acknowledged { flow, count, .. } => {
                 with_fates(false, &flow, count, &mut self.calls);
             }
-            Report::Uncertain { flow, count } => {
+            Matter::GivenUp { flow, count } => {
                 with_fates(true, &flow, count, &mut self.calls);
             }
-            Report::Accepted { flow, .. } => self.accept(flow)?,
-            _ => {}
+            Matter::Accepted { flow, .. } => self.accept(flow)?,
+            Matter::Taken { .. }
+            | Matter::Refused { .. }
+            | Matter::Transmitted { .. }
+            | Matter::Retransmitted { .. }
+            | Matter::Replied { .. }
+            | Matter::Dropped { .. }
+            | Matter::ReadOut { .. }
+            | Matter::NothingRead { .. }
+            | Matter::Left { .. }
+            | Matter::Begun { .. }
+            | Matter::Neither => {}
         }
         Ok(())
     }

@@ -1,8 +1,9 @@
--- What a node hears of its endpoint's reports: the fates of the octets of its calls, and at which flows something may be unread. One row a report.
+-- What a node hears of its endpoint's reports: the fates of the octets of its calls, and at which flows something may be unread.
 use Rattle.std.specs.Prelude.{ℕ, ◌-◌, ◌&&◌, ◌||◌, Bool, true, false, nat_lt, is_some, List, [], ◌∷◌, ◌++◌, fold, if◌then◌else◌}
 use Rattle.std.specs.List.{list_any}
 use Rattle.dt_units.specs.declared.endpoints.Flow.{Flow}
-use Rattle.dt_reports.specs.declared.reports.Report.TheVariants as report
+use Rattle.dt_reports.specs.Matters as matter
+use Rattle.dt_reports.specs.Matters.{Matter, matter_of}
 use Rattle.dt_reports.specs.Told.{Told}
 use Rattle.dt_world_model.specs.Tables.{same_flow}
 use Rattle.dt_service_model.specs.declared.calls.Call.{Call}
@@ -14,42 +15,24 @@ pub data Heard : Type 0 where
   Accepts : (flow : Flow) → Heard
   NoMatter : Heard
 
+abbrev pub heard_by : Matter → Heard
+heard_by (matter.Taken f count) = NoMatter
+heard_by (matter.Refused f fault) = NoMatter
+heard_by (matter.Transmitted f number count) = NoMatter
+heard_by (matter.Retransmitted f) = NoMatter
+heard_by (matter.GivenUp f count) = GivesUp f count
+heard_by (matter.Acknowledged f count window) = Settles f count
+heard_by (matter.Accepted f number count run) = Accepts f
+heard_by (matter.Replied f number) = NoMatter
+heard_by (matter.Dropped f) = NoMatter
+heard_by (matter.ReadOut f run begin end octets) = NoMatter
+heard_by (matter.NothingRead f) = NoMatter
+heard_by (matter.Left link life) = NoMatter
+heard_by (matter.Begun life) = NoMatter
+heard_by matter.Neither = NoMatter
+
 abbrev pub heard : Told → Heard
-heard (report.Took f count) = NoMatter
-heard (report.Refused f fault) = NoMatter
-heard (report.Sent f number count drf begin end) = NoMatter
-heard (report.Resent f number count drf begin end) = NoMatter
-heard (report.Met f number) = NoMatter
-heard (report.Uncertain f count) = GivesUp f count
-heard (report.Released f sending) = NoMatter
-heard (report.Renewed f) = NoMatter
-heard (report.Acked f number window) = NoMatter
-heard (report.Replied f number window) = NoMatter
-heard (report.Accepted f number count run) = Accepts f
-heard (report.Dropped f number) = NoMatter
-heard (report.Closing f number) = NoMatter
-heard (report.Settled f count window) = Settles f count
-heard (report.Ignored f number window) = NoMatter
-heard (report.Quiet until) = NoMatter
-heard (report.Read f run begin end octets) = NoMatter
-heard (report.Nothing f) = NoMatter
-heard (report.Put link life) = NoMatter
-heard (report.PutAs link life copy) = NoMatter
-heard (report.ExpiredIn link) = NoMatter
-heard (report.ExpiredOut link) = NoMatter
-heard (report.NoRoute to) = NoMatter
-heard (report.Full link) = NoMatter
-heard (report.Bad fault) = NoMatter
-heard (report.Unsent link) = NoMatter
-heard (report.Shelved f number) = NoMatter
-heard (report.NoShelf f number) = NoMatter
-heard (report.Again f number) = NoMatter
-heard (report.Stale f number) = NoMatter
-heard (report.Restarted life) = NoMatter
-heard (report.Lost copy) = NoMatter
-heard (report.FlowTotals f taken acked uncertain unsettled given read) = NoMatter
-heard report.End = NoMatter
-heard (report.Fault line fault) = NoMatter
+heard told = heard_by (matter_of told)
 
 -- SO MANY OCTETS OF A FLOW HAVE THEIR FATE, the leftmost first: those of its calls, in the order of making. A call of which one was given up is doubted.
 abbrev pub with_fate : (given_up : Bool) → (count : ℕ) → Call → Call
