@@ -13,6 +13,7 @@ hasn't made the library, and with 1 where one of these fails:
 In tests/all: no words, 120 s."""
 import os
 import re
+import signal
 import subprocess
 import sys
 import tempfile
@@ -32,7 +33,9 @@ def ends() -> tuple[str, str]:
 
 
 def start(*words: str, given: bytes | None = None) -> "subprocess.Popen[bytes]":
-    it = subprocess.Popen([sys.executable, *words], stdin=subprocess.PIPE, stdout=subprocess.PIPE, stderr=subprocess.PIPE)
+    # a listener is stopped by an interrupt, which a shell in the background has its children ignore
+    it = subprocess.Popen([sys.executable, *words], stdin=subprocess.PIPE, stdout=subprocess.PIPE, stderr=subprocess.PIPE,
+                          preexec_fn=lambda: signal.signal(signal.SIGINT, signal.SIG_DFL))
     if given is not None:
         it.stdin.write(given)
         it.stdin.close()
