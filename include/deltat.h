@@ -58,8 +58,8 @@ enum dt_status {
     DT_FULL = 7,      /* the octets don't fit, and weren't taken; what else was due is done */
     DT_QUIET = 8,     /* the node is silent, and took none; what else was due is done */
     DT_SPENT = 9,     /* an earlier call found no memory; nothing changed */
-    DT_BAD = 11,      /* the datagram doesn't read; nothing changed */
-    DT_STALE = 12,    /* the datagram waited for all of its life, or longer; nothing changed */
+    DT_BAD = 11,      /* the datagram doesn't read; nothing changed but a count */
+    DT_STALE = 12,    /* the datagram waited for all of its life, or longer; nothing changed but a count */
     DT_KEPT_OUT = 13, /* the guard doesn't admit the datagram, which is lost and counted; nothing else changed */
     DT_MORE = 14,     /* many flows were looked at, and none had a message; others may have one */
     DT_LOST = 15      /* there was no memory for octets of the flow that were read: they are lost, the node goes on */

@@ -6,8 +6,8 @@ where a run says nothing else.
 
 A row has the moment, the event, what it tells, the calls that wait behind it, and the requests that are open. What it
 tells is the status of what was asked, then what the station of the node tells of octets (sent, resent, settled,
-uncertain, accepted: flow, number and octets, marks), the requests and ends, and what was counted. `comes` hands over the
-last frame that left with what is told, and lets the node tick before where that was due earlier.
+uncertain, accepted: flow, number and octets, marks), the requests that are handed out and the ends, and what was counted.
+`comes` hands over the last frame that left with what is told, and lets the node tick before where that was due earlier.
 
 In tests/all: not a test."""
 from collections import Counter, defaultdict
@@ -36,8 +36,8 @@ TEXT = """
 # answered, in any order
 0 | call "a" 8000 | made 5.0; sent F 0 9 dbe | 5.0 | -
 0 | call "b" 8000 | made 5.1; sent F 9 9 be | 5.0, 5.1 | -
-40 | comes | accepted F 0 9 run; request 5.0 "a" | 5.0, 5.1 | 5.0
-40 | comes | accepted F 9 9 on; request 5.1 "b" | 5.0, 5.1 | 5.0, 5.1
+40 | comes | accepted F 0 9 run; handed 5.0 "a" | 5.0, 5.1 | 5.0
+40 | comes | accepted F 9 9 on; handed 5.1 "b" | 5.0, 5.1 | 5.0, 5.1
 70 | reply 5.1 "B" | done; sent R 0 9 dbe | 5.0, 5.1 | 5.0
 70 | reply 5.0 "A" | done; sent R 9 9 be | 5.0, 5.1 | -
 70 | reply 5.0 "A2" | gone | 5.0, 5.1 | -
@@ -51,18 +51,18 @@ TEXT = """
 
 # the reply is late
 0 | call "a" 3000 | made 5.0; sent F 0 9 dbe | 5.0 | -
-40 | comes | accepted F 0 9 run; request 5.0 "a" | 5.0 | 5.0
+40 | comes | accepted F 0 9 run; handed 5.0 "a" | 5.0 | 5.0
 40 | reply 5.0 "A" | done; sent R 0 9 dbe | 5.0 | -
 3000 | tick | unsure 5.0 patience | - | -
 3010 | comes | accepted R 0 9 run; counted late 1 | - | -
 
 # a slow service, and its client restarts
 0 | call "pay A" 8000 | made 5.0; sent F 0 13 dbe | 5.0 | -
-40 | comes | accepted F 0 13 run; request 5.0 "pay A" | 5.0 | 5.0
+40 | comes | accepted F 0 13 run; handed 5.0 "pay A" | 5.0 | 5.0
 100 | client restarts, life 6 | | - | 5.0
 6299 | call "pay B" 8000 | declined quiet 6300 | - | 5.0
 6300 | call "pay B" 8000 | made 6.0; sent F 0 13 dbe | 6.0 | 5.0
-6320 | comes | accepted F 0 13 run; request 6.0 "pay B" | 6.0 | 5.0, 6.0
+6320 | comes | accepted F 0 13 run; handed 6.0 "pay B" | 6.0 | 5.0, 6.0
 6320 | reply 5.0 "paid A" | done; sent R 0 14 dbe | 6.0 | 6.0
 6340 | comes | accepted R 0 14 run; counted old 1 | 6.0 | 6.0
 6340 | reply 6.0 "paid B" | done; sent R 14 14 be | 6.0 | -
@@ -70,13 +70,13 @@ TEXT = """
 
 # the server restarts between request and reply
 0 | call "a" 8000 | made 5.0; sent F 0 9 dbe | 5.0 | -
-40 | comes | accepted F 0 9 run; request 5.0 "a" | 5.0 | 5.0
+40 | comes | accepted F 0 9 run; handed 5.0 "a" | 5.0 | 5.0
 40 | comes | settled F 9 4087 | 5.0 | 5.0
 100 | server restarts, life 2 | | 5.0 | -
 100 | reply 5.0 "A" | gone | 5.0 | -
 6400 | reply 5.0 "A" | gone | 5.0 | -
 6400 | call "b" 1000 | made 5.1; sent F 0 9 dbe | 5.0, 5.1 | -
-6410 | comes | accepted F 0 9 run; request 5.1 "b" | 5.0, 5.1 | 5.1
+6410 | comes | accepted F 0 9 run; handed 5.1 "b" | 5.0, 5.1 | 5.1
 6410 | reply 5.1 "B" | done; sent R 0 9 dbe | 5.0, 5.1 | -
 6420 | comes | accepted R 0 9 run; answered 5.1 "B" | 5.0 | -
 8000 | tick | unsure 5.0 patience | - | -
@@ -84,8 +84,8 @@ TEXT = """
 # given up and yet served: the reply comes in that very turn, or in a later one
 0 | call "a" 8000 | made 5.0; sent F 0 9 dbe | 5.0 | -
 1 | call "b" 8000 | made 5.1; sent F 9 9 be | 5.0, 5.1 | -
-40 | comes | accepted F 0 9 run; request 5.0 "a" | 5.0, 5.1 | 5.0
-40 | comes | accepted F 9 9 on; request 5.1 "b" | 5.0, 5.1 | 5.0, 5.1
+40 | comes | accepted F 0 9 run; handed 5.0 "a" | 5.0, 5.1 | 5.0
+40 | comes | accepted F 9 9 on; handed 5.1 "b" | 5.0, 5.1 | 5.0, 5.1
 5151 | reply 5.0 "A" | done; sent R 0 9 dbe | 5.0, 5.1 | 5.1
 5151 | reply 5.1 "B" | done; sent R 9 9 be | 5.0, 5.1 | -
 5200 | comes | uncertain F 9; accepted R 0 9 run; answered 5.0 "A" | 5.1 | -
@@ -101,14 +101,14 @@ TEXT = """
 5250 | tick | resent F 25 5 de | - | -
 5260 | comes | accepted F 25 5 run; counted cut 1 | - | -
 5260 | call "CC" 8000 | made 5.2; sent F 30 10 be | 5.2 | -
-5270 | comes | accepted F 30 10 on; request 5.2 "CC" | 5.2 | 5.2
+5270 | comes | accepted F 30 10 on; handed 5.2 "CC" | 5.2 | 5.2
 
 # declined, and a reply for which there is no room / cap 40
 0 | call "01234567890123456789" 8000 | made 5.0; sent F 0 28 dbe | 5.0 | -
 0 | call "another of 20 octets" 8000 | declined full 12 | 5.0 | -
 0 | call "b" 8000 | made 5.1; sent F 28 9 be | 5.0, 5.1 | -
-40 | comes | accepted F 0 28 run; request 5.0 "01234567890123456789" | 5.0, 5.1 | 5.0
-40 | comes | accepted F 28 9 on; request 5.1 "b" | 5.0, 5.1 | 5.0, 5.1
+40 | comes | accepted F 0 28 run; handed 5.0 "01234567890123456789" | 5.0, 5.1 | 5.0
+40 | comes | accepted F 28 9 on; handed 5.1 "b" | 5.0, 5.1 | 5.0, 5.1
 40 | reply 5.0 "01234567890123456789" | done; sent R 0 28 dbe | 5.0, 5.1 | 5.1
 40 | reply 5.1 "a reply of 22 octets.." | full 12 | 5.0, 5.1 | 5.1
 80 | comes | accepted R 0 28 run; answered 5.0 "01234567890123456789" | 5.1 | 5.1
@@ -120,25 +120,25 @@ TEXT = """
 0 | call "order 17" 300 | made 5.0; sent F 0 16 dbe | 5.0 | -
 300 | tick | unsure 5.0 patience | - | -
 300 | call "was 17 booked?" 8000 | made 5.1; sent F 16 22 be | 5.1 | -
-510 | comes | accepted F 0 16 run; request 5.0 "order 17" | 5.1 | 5.0
+510 | comes | accepted F 0 16 run; handed 5.0 "order 17" | 5.1 | 5.0
 510 | reply 5.0 "booked" | done; sent R 0 14 dbe | 5.1 | -
 550 | comes | accepted R 0 14 run; counted late 1 | 5.1 | -
-1110 | comes | accepted F 16 22 on; request 5.1 "was 17 booked?" | 5.1 | 5.1
+1110 | comes | accepted F 16 22 on; handed 5.1 "was 17 booked?" | 5.1 | 5.1
 1110 | reply 5.1 "yes" | done; sent R 14 11 be | 5.1 | -
 1120 | comes | accepted R 14 11 on; answered 5.1 "yes" | - | -
 
 # a life that was not raised: the answer of another call
 0 | call "pay A" 8000 | made 5.0; sent F 0 13 dbe | 5.0 | -
 0 | call "pay C" 8000 | made 5.1; sent F 13 13 be | 5.0, 5.1 | -
-40 | comes | accepted F 0 13 run; request 5.0 "pay A" | 5.0, 5.1 | 5.0
-40 | comes | accepted F 13 13 on; request 5.1 "pay C" | 5.0, 5.1 | 5.0, 5.1
+40 | comes | accepted F 0 13 run; handed 5.0 "pay A" | 5.0, 5.1 | 5.0
+40 | comes | accepted F 13 13 on; handed 5.1 "pay C" | 5.0, 5.1 | 5.0, 5.1
 100 | client restarts, life 5 | | - | 5.0, 5.1
 6300 | call "pay B" 8000 | made 5.0; sent F 0 13 dbe | 5.0 | 5.0, 5.1
 6300 | reply 5.0 "paid A" | done; sent R 0 14 dbe | 5.0 | 5.1
 6300 | reply 5.1 "paid C" | done; sent R 14 14 be | 5.0 | -
 6310 | comes | accepted R 0 14 run; answered 5.0 "paid A" | - | -
 6310 | comes | accepted R 14 14 on; counted strange 1 | - | -
-6310 | comes | accepted F 0 13 run; request 5.0 "pay B" | - | 5.0
+6310 | comes | accepted F 0 13 run; handed 5.0 "pay B" | - | 5.0
 """
 
 
@@ -260,7 +260,7 @@ def told_line(it: tuple[object, ...]) -> str:
     """A status, a request or an end, as a row has it."""
     word, *rest = it
     if word == "request":
-        return f'request {call_name(rest[0].number)} "{rest[1].decode()}"'
+        return f'handed {call_name(rest[0].number)} "{rest[1].decode()}"'
     if word == "answered":
         return f'answered {call_name(rest[0])} "{rest[1].decode()}"'
     if word in ("unsure", "made"):

@@ -1,14 +1,14 @@
 #!/usr/bin/env python3
 """A bank whose servers and clients are killed, over a link that drops, repeats and reorders: by calls, and over TCP.
 
-    examples/bank/demo.py [--seconds 60] [--seed 1] [--loss 0.05] [--repeat 0.05] [--late 0.05] [--keep FOLDER] [--relay]
+    examples/bank/demo.py [--seconds S] [--seed N] [--loss P] [--repeat P] [--late P] [--keep FOLDER] [--relay]
 
 20 clients give orders to a bank of 100 accounts, each written down, each given once by a call, or again and again over
 TCP until it is answered. The link is that of tests/wan.py, two network namespaces with 20 ms between them each way,
 which wants root and /dev/net/tun. Where there are none, or with --relay, both ends are on this machine, and a relay
-between them does the same to the datagrams of calls; TCP has no losses and no delay then. A client is killed every 0.7 s, the bank every 10 s,
-each at a random moment, and started again. Behind the time that was asked for nobody is killed any more, and each
-client finds out what became of its last orders.
+between them does the same to the datagrams of calls; TCP has no losses and no delay then. A client is killed every
+0.7 s, the bank every 10 s, each at a random moment, and started again. Behind the time that was asked for nobody is
+killed any more, and each client finds out what became of its last orders.
 
 Then the journal of the bank is compared with the notes of all clients. It ends with 0 where by calls the sum of the
 accounts is what it was, no order was booked twice, and each order of which its client was told is as it was told; else
