@@ -1,6 +1,6 @@
 //! Whole messages taken from two endpoints that hand their frames to each other.
 use dt_endpoint::{Arrived, Endpoint, InLink, Links, OutLink, Route, Sent};
-use dt_inbox::{FlowInboxes, Inbox, Taken};
+use dt_inbox::{FlowInboxes, Handed, Inbox, Mailbox, Taken};
 use dt_items::NoMemory;
 use dt_reports::Report;
 use dt_units::{Flow, NodeId, Params, Rules};
@@ -210,5 +210,31 @@ fn messages_of_any_flow_are_taken(rt: HostRuntime) -> Result<(), NoMemory> {
     assert!(rt; right);
     inboxes.forget(&FLOW);
     assert_eq!(rt; inboxes.len(), 0);
+    Ok(())
+}
+
+// A buffer that is too small is told so, and the message waits for one that isn't.
+fn hands_out(alloc: Global, mailbox: &mut Mailbox, two: &mut Endpoint) -> bool {
+    let (flow, len, gap) = (FLOW, 5, true);
+    let mut buf = *b"......";
+    let small = mailbox.take(alloc, two, 12, &mut buf[..4]);
+    let whole = mailbox.take(alloc, two, 12, &mut buf);
+    let last = mailbox.take(alloc, two, 12, &mut buf);
+    small == Handed::NoRoom { flow, len, gap }
+        && whole == Handed::Done { flow, len, gap }
+        && last == Handed::Nothing
+        && buf == *b"hello."
+}
+
+#[test]
+fn mailbox_hands_a_message_out_once(rt: HostRuntime) -> Result<(), NoMemory> {
+    let mut one = open(&rt, rt.alloc(), 1, 2)?;
+    let mut two = open(&rt, rt.alloc(), 2, 1)?;
+    let mut mailbox = Mailbox::new(rt.alloc(), Some(5));
+    assert_eq!(rt; one.send(10, FLOW, b"hello", true, true), Sent::Done);
+    hands_over(&rt, &mut one, &mut two);
+    mailbox.hear(FLOW)?;
+    let right = hands_out(rt.alloc(), &mut mailbox, &mut two);
+    assert!(rt; right);
     Ok(())
 }
