@@ -1,6 +1,6 @@
 -- How many items stand before the first that has a mark.
 use Rattle.std.proofs.Common.{◌≡◌, ℕ, suc, ◌+◌, ◌-◌, ◌<◌, ◌≤◌, min, true, false, cond, List, [], ◌∷◌, ◌++◌, length, get_or, take, drop, refl, ap, ◌∙◌, sym, arith}
-use Rattle.std.proofs.lemmas.List.{drop_more, take_min, length-take}
+use Rattle.std.proofs.lemmas.List.{drop_more, drop-drop, length-drop, length-take, length-take-le, take_min, take_more, take-append-drop}
 use Rattle.dt_items.specs.declared.item.Item.{Item}
 use Rattle.dt_items.specs.Unmarked.{is_unmarked, unmarked_count}
 use Rattle.dt_items.proofs.Copies.{take_both}
@@ -65,3 +65,18 @@ count_in_both front back most there left e h f =
     ∙ ap (λ items. unmarked_count (take most front) + unmarked_count items) behind
     ∙ sym (goes_past (take most front) (take (most - length front) back) all)
     ∙ ap unmarked_count (sym (take_both front back most))
+
+-- where all of the first so many count, one more does that has no mark
+pub all_count_on : (items : List Item) (i : ℕ) (d : Item) → i < length items → unmarked_count (take i items) ≡ i → is_unmarked (get_or items i d) ≡ true → unmarked_count (take (i + 1) items) ≡ i + 1
+all_count_on items i d lt h e =
+    let long : length (take i items) ≡ i = length-take-le i items (omega arith) in
+    let one : unmarked_count (get_or items i d ∷ []) ≡ 1 = at_unmarked (get_or items i d) [] e in
+    omega (arith, ap unmarked_count (take_more items i d lt), goes_past (take i items) (get_or items i d ∷ []) (omega arith), one, h)
+
+-- where all of a block count, so do they in the whole
+pub counts_block : (items : List Item) (i n : ℕ) → i + n ≤ length items → unmarked_count (take n (drop i items)) ≡ length (take n (drop i items)) → unmarked_count items ≡ i + unmarked_count (drop i items) → unmarked_count items ≡ i + n + unmarked_count (drop (i + n) items)
+counts_block items i n lt h e =
+    let long : length (take n (drop i items)) ≡ n = length-take-le n (drop i items) (omega (arith, length-drop i items)) in
+    let split : unmarked_count (drop i items) ≡ n + unmarked_count (drop n (drop i items)) =
+    ap unmarked_count (sym (take-append-drop n (drop i items))) ∙ goes_past (take n (drop i items)) (drop n (drop i items)) (omega arith) ∙ ap (λ k. k + unmarked_count (drop n (drop i items))) (h ∙ long) in
+    omega (arith, e, split, ap unmarked_count (drop-drop n i items))

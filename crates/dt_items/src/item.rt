@@ -1,4 +1,4 @@
-ghost use Rattle.std.specs.Prelude.{◌≡◌};
+ghost use Rattle.std.specs.Prelude.{◌≡◌, ◌%◌, nat_lt};
 ghost use Rattle.dt_items.specs.Unmarked.{is_unmarked};
 
 /// An octet of a flow with its marks. A message begins at a begin mark and ends with the next end
@@ -15,14 +15,20 @@ pub struct Item {
 }
 
 impl Item {
+    /// Its octet and its marks as one number, which is below 256 exactly where it has no mark. A machine
+    /// reads it by one load, and many of them together, where the four fields would take four.
+    pub(crate) fn whole(&self) -> u32
+        ensures unmarked { nat_lt result 256 ≡ is_unmarked self.now }
+        ensures octet { result % 256 ≡ self.now.octet }
+    {
+        let low = u32::from(self.octet) + 256 * u32::from(self.begin);
+        low + 65536 * u32::from(self.end) + 16_777_216 * u32::from(self.run)
+    }
+
     /// Whether it has none of the marks.
     pub fn is_unmarked(&self) -> bool
         ensures { result ≡ is_unmarked self.now }
     {
-        // All four fields as one number: a machine reads it by one load and tests it by one branch,
-        // where the three marks would take three of each.
-        let low = u32::from(self.octet) + 256 * u32::from(self.begin);
-        let whole = low + 65536 * u32::from(self.end) + 16_777_216 * u32::from(self.run);
-        whole < 256
+        self.whole() < 256
     }
 }

@@ -1,5 +1,5 @@
 //! Items of a ring: those without marks, and the octets of all.
-ghost use Rattle.std.specs.Prelude.{◌≡◌, ◌+◌, ◌^◌, ◌<◌, ◌≤◌, ◌++◌, length, take, drop, slice_get, Some};
+ghost use Rattle.std.specs.Prelude.{◌≡◌, ◌+◌, ◌^◌, ◌<◌, ◌≤◌, ◌++◌, max, true, length, take, drop, slice_get, Some};
 ghost use Rattle.dt_items.specs.Unread.{octets_of};
 ghost use Rattle.dt_items.specs.Unmarked.{unmarked_count};
 
@@ -30,12 +30,37 @@ fn items_from(items: &HeapCircularBuffer<Item>, from: usize) -> (&[Item], &[Item
     }
 }
 
+/// How many items are looked at together.
+const BLOCK: usize = 64;
+
+/// The greater of two numbers.
+fn greater(one: u32, other: u32) -> u32
+    ensures { result ≡ max one other }
+{
+    if one < other { other } else { one }
+}
+
+/// Whether no item has a mark. The greatest of their numbers is found with no branch for each.
+fn are_unmarked(items: &[Item]) -> bool
+    ensures { result ≡ true → unmarked_count items.now ≡ length items.now }
+{
+    let mut greatest = 0;
+    for i in 0..items.len() {
+        greatest = greater(greatest, items[i].whole());
+    }
+    greatest < 256
+}
+
 /// How many of the items stand before the first that has a mark.
 fn unmarked_in(items: &[Item]) -> usize
     ensures value { result ≡ unmarked_count items.now }
     ensures within { result ≤ length items.now }
 {
-    for i in 0..items.len() {
+    let mut done = 0;
+    while BLOCK <= items.len() - done && are_unmarked(&items[done..done + BLOCK]) {
+        done += BLOCK;
+    }
+    for i in done..items.len() {
         if !items[i].is_unmarked() {
             return i;
         }
@@ -67,7 +92,7 @@ fn copy_run(items: &[Item], room: &mut [u8])
     ensures { room.new ≡ octets_of items.now ++ drop (length items.now) room.old }
 {
     for i in 0..items.len() {
-        room[i] = items[i].octet;
+        room[i] = (items[i].whole() % 256) as u8;
     }
 }
 

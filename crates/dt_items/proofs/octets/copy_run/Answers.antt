@@ -1,11 +1,13 @@
-use Rattle.std.proofs.Common.{◌≡◌, ◌++◌, length, drop, ap, ◌∙◌, arith}
+use Rattle.std.proofs.Common.{◌≡◌, ◌++◌, length, set, drop, ap, ◌∙◌, arith}
 use Rattle.std.proofs.lemmas.List.{take_all}
 use Rattle.dt_items.specs.Unread.{octets_of}
 use Rattle.dt_items.proofs.Copies.{written_more}
 use Rattle.dt_items.proofs.octets.copy_run.Goals as goal
 
 pub loop-i-preserved : goal.loop-i-preserved
-loop-i-preserved c = written_more c.args.items.now c.args.room.now c.loop-i.room c.loop-i.i c.loop-i-test.true c.requires c.loop-i.invariant
+loop-i-preserved c =
+    ap (set c.loop-i.room c.loop-i.i) c.whole.ensures.octet
+    ∙ written_more c.args.items.now c.args.room.now c.loop-i.room c.loop-i.i c.loop-i-test.true c.requires c.loop-i.invariant
 
 pub returns : goal.returns
 returns c =
