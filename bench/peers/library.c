@@ -17,7 +17,7 @@
 #include <sys/time.h>
 
 /* a client has a number of its own each time: one that is used again would have to be silent first */
-enum { SERVER = 1, FIRST_CLIENT = 1000, CLIENTS = 64, LINK = 1, PORT = 20, LATE = 20, MOST = 65536, BATCH = 64, SEGMENT = 1400, PIECE = 8 * SEGMENT };
+enum { SERVER = 1, FIRST_CLIENT = 1000, CLIENTS = 64, LINK = 1, PORT = 20, LATE = 20, MOST = 65536, BATCH = 64 };
 
 struct end {
     dt_node *node;
@@ -50,7 +50,7 @@ static void must(uint8_t status, const char *what) {
 static dt_node *opened(uint32_t me) {
     uint32_t charge = setting("DELAY_MS", 1) + 2 * LATE, rto = setting("RTO_MS", 40), mpl = 2 * charge, a = 5;
     uint32_t room = getenv("MANY_FLOWS") == NULL ? MOST : 4096;
-    struct dt_params params = {mpl, 12 * rto, a, rto, 2 * rto, SEGMENT, room, room, room, 2147483648u, 0};
+    struct dt_params params = {mpl, 12 * rto, a, rto, 2 * rto, 1400, room, room, room, 2147483648u, 0};
     struct dt_start start = {clock_ms(CLOCK_BOOTTIME), me, me == SERVER && getenv("AGAIN") != NULL};
     struct dt_link link = {charge, 0, LINK};
     struct dt_route routes[CLIENTS + 1] = {{SERVER, LINK}};
@@ -196,16 +196,11 @@ static size_t message_of(dt_node *node, const struct dt_flow *flow, uint64_t at,
     return octets;
 }
 
-/* Hands a message in, some segments at a time, so that the first are under way while the next are cut. */
 static void give(struct end *it, uint64_t at, struct dt_flow flow, const unsigned char *octets, size_t len) {
-    for (size_t done = 0; done < len;) {
-        size_t some = len - done < PIECE ? len - done : PIECE;
-        struct dt_sent sent = dt_send(it->node, at, &flow, octets + done, some, done == 0, done + some == len);
-        must(sent.status, "a message");
-        if (sent.status != DT_DONE) fail("a message isn't taken");
-        flush(it, at);
-        done += some;
-    }
+    struct dt_sent sent = dt_send(it->node, at, &flow, octets, len, true, true);
+    must(sent.status, "a message");
+    if (sent.status != DT_DONE) fail("a message isn't taken");
+    flush(it, at);
 }
 
 /* takes what the node told, answers each message with ANSWER octets where it serves, and tells how many came */
