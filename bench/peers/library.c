@@ -24,6 +24,7 @@ struct end {
     int door;
     struct sockaddr_in peers[CLIENTS]; /* of the server, where its clients are; of a client, where the server is */
     uint64_t empty_at, now, ticked, events;
+    uint64_t left_at; /* the moment of the first event since frames were put on the wire, or 0 */
 };
 
 /* a message that is read */
@@ -102,12 +103,18 @@ static int goes_on(const struct msghdr *head, const struct sockaddr_in *peer, si
     return in_segments && head->msg_name == peer && head->msg_iovlen < most && octets[head->msg_iovlen - 1].iov_len == octets[0].iov_len && len <= octets[0].iov_len;
 }
 
-/* puts on the wire what left at that moment */
-static void flush(struct end *it, uint64_t at) {
+/* An event at that moment: frames may leave. */
+static void happens(struct end *it, uint64_t at) {
+    if (it->left_at == 0) it->left_at = at;
+}
+
+/* puts on the wire what left since it was done last */
+static void flush(struct end *it) {
     static struct batch out;
     static unsigned char rooms[BATCH][DT_MOST_FRAME];
     struct dt_out left;
     unsigned frames, count;
+    if (it->left_at == 0) return;
     do {
         for (frames = count = 0; frames < BATCH && (left = dt_next_frame(it->node, rooms[frames], DT_MOST_FRAME)).status == DT_DONE; frames++) {
             struct sockaddr_in *peer = &it->peers[place_of(left.to)];
@@ -117,13 +124,14 @@ static void flush(struct end *it, uint64_t at) {
                 if (head->msg_iovlen++ == 1) cut(head, out.controls[count - 1], head->msg_iov[0].iov_len);
             } else out.heads[count++].msg_hdr = (struct msghdr){.msg_name = peer, .msg_namelen = sizeof *peer, .msg_iov = &out.octets[frames], .msg_iovlen = 1};
         }
-        if (count == 0 || clock_ms(CLOCK_BOOTTIME) - at > LATE) continue;
+        if (count == 0 || clock_ms(CLOCK_BOOTTIME) - it->left_at > LATE) continue;
         /* one that the system doesn't take is lost, as on the wire */
         for (unsigned gone = 0; gone < count;) {
             int more = sendmmsg(it->door, out.heads + gone, count - gone, 0);
             gone += more > 0 ? (unsigned)more : 1;
         }
     } while (frames == BATCH);
+    it->left_at = 0;
 }
 
 /* how long a datagram waited, rounded up: by the kernel's stamp, and no longer than since the socket was empty; and how
@@ -170,6 +178,7 @@ static int receive(struct end *it) {
         it->empty_at = it->now;
         return 0;
     }
+    happens(it, it->now);
     for (int i = 0; i < count; i++) {
         size_t len = in.heads[i].msg_len, size, done = 0;
         uint32_t wait = waited(&in.heads[i], it->now, it->empty_at, &size);
@@ -197,10 +206,10 @@ static size_t message_of(dt_node *node, const struct dt_flow *flow, uint64_t at,
 }
 
 static void give(struct end *it, uint64_t at, struct dt_flow flow, const unsigned char *octets, size_t len) {
+    happens(it, at);
     struct dt_sent sent = dt_send(it->node, at, &flow, octets, len, true, true);
     must(sent.status, "a message");
     if (sent.status != DT_DONE) fail("a message isn't taken");
-    flush(it, at);
 }
 
 /* takes what the node told, answers each message with ANSWER octets where it serves, and tells how many came */
@@ -224,16 +233,18 @@ static int messages(struct end *it, uint64_t at, int serves) {
     return count;
 }
 
-/* Waits for a datagram, and does what came and, once a millisecond, what is due. How many messages came. */
+/* Puts on the wire what left, waits for a datagram, and does what came and, once a millisecond, what is due. How many
+   messages came. */
 static int turn(struct end *it, int serves) {
     int count = 0;
+    flush(it);
     if (receive(it)) count = messages(it, it->now, serves);
     if (it->now > it->ticked) {
+        happens(it, it->now);
         must(dt_tick(it->node, it->now), "a tick");
         count += messages(it, it->now, serves);
         it->ticked = it->now;
     }
-    flush(it, it->now);
     return count;
 }
 
@@ -258,7 +269,10 @@ static void ask_flows(struct end *it, uint32_t me, const struct question *asked,
     unsigned char *sent = request(asked->octets);
     double begun = now(), last = begun;
     int answered = 0;
-    for (int i = 0; i < asked->count; i++) give(it, clock_ms(CLOCK_BOOTTIME), (struct dt_flow){me, SERVER, (uint16_t)(100 + i), PORT}, sent, HEAD + (size_t)asked->octets);
+    for (int i = 0; i < asked->count; i++) {
+        give(it, clock_ms(CLOCK_BOOTTIME), (struct dt_flow){me, SERVER, (uint16_t)(100 + i), PORT}, sent, HEAD + (size_t)asked->octets);
+        flush(it);
+    }
     while (answered < asked->count && now() < until) {
         int came = turn(it, 0);
         answered += came;
@@ -325,6 +339,20 @@ static void in_memory(uint32_t count, uint32_t octets) {
     free(sent);
 }
 
+static void ask_flow(struct end *it, uint32_t me, const struct question *asked, uint32_t octets, double until) {
+    if (!exchange(it, me, 10, NUMBER, until)) return;
+    uint32_t count = 0;
+    double begun = now();
+    if (strcmp(asked->what, "answers") == 0) {
+        while (now() < until && exchange(it, me, 10, octets, until)) count++;
+        done(count, now() - begun);
+    }
+    for (int i = 0; strcmp(asked->what, "message") == 0 && i < asked->count; i++, begun = now()) {
+        if (!exchange(it, me, 10, octets, until)) return;
+        done(octets, now() - begun);
+    }
+}
+
 static void ask(const char *address, int port, const struct question *asked) {
     uint32_t me = FIRST_CLIENT + (uint32_t)getpid() % CLIENTS, octets = asked->octets > MOST - HEAD ? MOST - HEAD : asked->octets;
     if (strcmp(asked->what, "memory") == 0) {
@@ -334,24 +362,10 @@ static void ask(const char *address, int port, const struct question *asked) {
     struct end it = {.node = opened(me), .door = opened_door(NULL), .empty_at = clock_ms(CLOCK_BOOTTIME)};
     double until = now() + asked->seconds, begun = now();
     it.peers[0] = place(address, port);
-    if (strcmp(asked->what, "flows") == 0) {
-        ask_flows(&it, me, asked, until);
-        return;
-    }
-    if (strcmp(asked->what, "first") == 0) {
+    if (strcmp(asked->what, "flows") == 0) ask_flows(&it, me, asked, until);
+    else if (strcmp(asked->what, "first") == 0) {
         for (int i = 0; i < asked->count && now() < until; i++, begun = now())
             if (exchange(&it, me, (uint16_t)(100 + i), octets, until)) done(1, now() - begun);
-        return;
-    }
-    if (!exchange(&it, me, 10, NUMBER, until)) return;
-    uint32_t count = 0;
-    begun = now();
-    if (strcmp(asked->what, "answers") == 0) {
-        while (now() < until && exchange(&it, me, 10, octets, until)) count++;
-        done(count, now() - begun);
-    }
-    for (int i = 0; strcmp(asked->what, "message") == 0 && i < asked->count; i++, begun = now()) {
-        if (!exchange(&it, me, 10, octets, until)) return;
-        done(octets, now() - begun);
-    }
+    } else ask_flow(&it, me, asked, octets, until);
+    flush(&it);
 }
