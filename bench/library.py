@@ -142,9 +142,9 @@ def main() -> int:
     for name, (rate, used) in small.items():
         if name != "libdeltat" and own and used:
             print(f"answers: {name} gives {rate / own:.2f} times as many, for {used / cost:.2f} of the processor")
-    for name, it in large.items():
-        if name != "libdeltat" and it:
-            print(f"64 KiB: {name} takes {it / large['libdeltat']:.2f} of the time")
+    for ours, words in (("libdeltat", ""), ("segments", " in segments")):
+        if large.get("ENet") and large.get(ours):
+            print(f"64 KiB{words}: ENet takes {large['ENet'] / large[ours]:.2f} of the time")
     return 0
 
 
