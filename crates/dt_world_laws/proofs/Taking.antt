@@ -15,6 +15,7 @@ use Rattle.dt_layout.specs.declared.faults.LayoutFault.{LayoutFault}
 use Rattle.dt_layout.specs.Spelling.{PacketValue, Data, Ack, Meet, Close}
 use Rattle.dt_layout.specs.Reading.{gram_in, packet_read}
 use Rattle.dt_layout.specs.Carried.{to_of}
+use Rattle.dt_reports.specs.Told.{Told}
 use Rattle.dt_flow_model.specs.declared.acts.RecvAct.{RecvAct}
 use Rattle.dt_flow_model.specs.declared.acts.RecvAct.TheVariants as recv
 use Rattle.dt_flow_model.specs.declared.acts.SendAct.{SendAct}
@@ -27,16 +28,17 @@ use Rattle.dt_flow_model.specs.Ledger.{first_unsent, open_row}
 use Rattle.dt_flow_laws.proofs.Ledger.{note_length, settle_length}
 use Rattle.dt_world_model.specs.Host.{Host, HostAct, Offer, Turn, arrive, least, next_turn, offers, recv_act, send_act, send_octets, told_arrival, told_dropped, told_recv, told_send, turn_of, work}
 use Rattle.dt_world_model.specs.Ledgers.{Accepts, Change, Changes, Effect, FlowLedger, GivesUp, Leaves, Ledgers, Neither, Occasion, ReadsOut, Settles, Takes, Transmits, TransmitsAgain, effect_of, ledger_after, ledger_of, ledgers_by, mark_of}
-use Rattle.dt_world_model.specs.Relay.{Parcel, admit, enter, with_outs}
+use Rattle.dt_world_model.specs.Relay.{Parcel, admit, with_outs}
 use Rattle.dt_world_model.specs.Script.{Script, Done, Tell, Ask, Hand, ◌>>=◌, play}
 use Rattle.dt_world_model.specs.Setup.{Setup, new_world}
-use Rattle.dt_world_model.specs.Station.{Station, Event, Send, Read, Tick, Arrive, come, come_in, deliver, do_turns, flush_links, go_on, happen, pass_on, send_off, settle_station, station_event, station_with, told_piece, told_sent}
+use Rattle.dt_world_model.specs.Station.{Station, Event, Send, Read, Tick, Arrive, come, come_in, deliver, do_turns, flush_links, go_on, happen, settle_station, station_event, station_with, told_piece, told_sent}
 use Rattle.dt_world_model.specs.Tables.{look, same_flow, write}
 use Rattle.dt_world_model.specs.World.{Noted, Placed, World, note_copy, note_told, world_handler}
 use Rattle.dt_world_model.specs.WorldStep.{Arrives, Loses, Passes, Reads, Restarts, Sends, Ticks, WorldEvent, after_event, copy_at, event_at, first_refusal, link_for, noted_at, occasion, refusals, restart_at, run_from, step_unless, then_step, world_after, world_step}
 use Rattle.dt_world_model.proofs.Tables.{flow_is, flow_self, look_write, look_write_other}
 use Rattle.dt_world_laws.specs.Handed.{handed_in, handed_in_all}
-use Rattle.dt_world_laws.proofs.Alongside.{IsQuiet, Silent, entered_silent, links_silent, off_silent}
+use Rattle.dt_world_laws.specs.Tellings.{AllTold}
+use Rattle.dt_world_laws.proofs.Tellings.{OfRelays, links_told, off_told, passed_with_told, told_then}
 use Rattle.dt_world_laws.proofs.Plays.{do_turn, link_of, play_bind}
 
 -- what is told without octets being taken
@@ -105,28 +107,15 @@ takes_once o g f all =
     ]
 
 -- SCRIPTS that take none
+abbrev TakesNoneTold : Told → Type 0
+TakesNoneTold r = TakesNone (effect_of r)
+
 abbrev Takeless : {A : Type 0} → Script Mark A → Type 0
-Takeless (Done a) = Unit {0}
-Takeless (Tell r s) = TakesNone (effect_of r) × Takeless s
-Takeless (Ask h o k) = (t : Mark) → Takeless (k t)
-Takeless (Hand l p s) = Takeless s
+Takeless s = AllTold TakesNoneTold s
 
-bind_takeless : {A B : Type 0} (s : Script Mark A) (k : A → Script Mark B) → Takeless s → ((a : A) → Takeless (k a)) → Takeless (s >>= k)
-bind_takeless (Done a) k h g = g a
-bind_takeless (Tell r s) k h g = (h.0, bind_takeless s k h.1 g)
-bind_takeless (Ask x o c) k h g = λ t. bind_takeless (c t) k (h t) g
-bind_takeless (Hand l p s) k h g = bind_takeless s k h g
-
-quiet_takes_none : (e : Effect) → IsQuiet e → TakesNone e
-quiet_takes_none (Changes f change) h = absurd h
-quiet_takes_none (Leaves link life) h = tt
-quiet_takes_none Neither h = tt
-
-silent_takeless : {A : Type 0} (s : Script Mark A) → Silent s → Takeless s
-silent_takeless (Done a) h = tt
-silent_takeless (Tell r s) h = (quiet_takes_none (effect_of r) h.0, silent_takeless s h.1)
-silent_takeless (Ask x o c) h = λ t. silent_takeless (c t) (h t)
-silent_takeless (Hand l p s) h = silent_takeless s h
+-- a relay takes none
+takeless_relays : OfRelays TakesNoneTold
+takeless_relays = record { put = λ link life. tt; expired = λ link. tt; no_route = λ to. tt; full = λ link. tt }
 
 -- an act of a host
 told_send_none : (f : Flow) (a : SendAct) → TakesNone (effect_of (told_send f a))
@@ -154,8 +143,8 @@ module _ (p : Params) (now : ℕ) where
   turn_takeless : (most : ℕ) (st : Station Mark) (turn : Option Turn) → next_turn p now st.host ≡ turn → ((after : Station Mark) → Takeless (do_turns most p now after)) → Takeless (go_on (do_turns most p now) now turn st)
   turn_takeless most st None e again = tt
   turn_takeless most st (Some turn) e again =
-      bind_takeless (do_turn now turn st.relay) (do_turns most p now)
-      (least_none p now st.host (least (offers p now st.host)) turn e, silent_takeless (send_off now turn.host turn.frame st.relay) (off_silent now turn.host turn.frame st.relay)) again
+      told_then TakesNoneTold (do_turn now turn st.relay) (do_turns most p now)
+      (least_none p now st.host (least (offers p now st.host)) turn e, off_told TakesNoneTold takeless_relays now turn.host turn.frame st.relay) again
 
   turns_takeless : (most : ℕ) (st : Station Mark) → Takeless (do_turns most p now st)
   turns_takeless zero st = tt
@@ -164,8 +153,8 @@ module _ (p : Params) (now : ℕ) where
   settle_takeless : (st : Station Mark) → Takeless (settle_station p now st)
   settle_takeless st =
       let links = map link_of st.relay.outs in
-      bind_takeless (flush_links now links st.relay.outs) (λ outs. do_turns (work p now st.host) p now (station_with st.host (with_outs st.relay outs)))
-      (silent_takeless (flush_links now links st.relay.outs) (links_silent now links st.relay.outs)) (λ outs. turns_takeless (work p now st.host) (station_with st.host (with_outs st.relay outs)))
+      told_then TakesNoneTold (flush_links now links st.relay.outs) (λ outs. do_turns (work p now st.host) p now (station_with st.host (with_outs st.relay outs)))
+      (links_told TakesNoneTold takeless_relays now links st.relay.outs) (λ outs. turns_takeless (work p now st.host) (station_with st.host (with_outs st.relay outs)))
 
   -- A PACKET COMES
   dropped_none : (f : Flow) (v : PacketValue) → TakesNone (effect_of (told_dropped f v))
@@ -187,12 +176,11 @@ module _ (p : Params) (now : ℕ) where
   deliver_takeless from (Ok v) st =
       let f = flow_of from st.host.me v in
       let r = arrive p now from v st.host in
-      (arrival_none f v r.0, silent_takeless (send_off now r.1 (reply_frame p f r.0) st.relay) (off_silent now r.1 (reply_frame p f r.0) st.relay))
+      (arrival_none f v r.0, off_told TakesNoneTold takeless_relays now r.1 (reply_frame p f r.0) st.relay)
 
   come_takeless : (b : Bool) (parcel : Parcel Mark) (st : Station Mark) → Takeless (come p now b parcel st)
   come_takeless true parcel st = deliver_takeless (gram_in parcel.octets).from (packet_read (gram_in parcel.octets)) st
-  come_takeless false parcel st =
-      bind_takeless (pass_on parcel now st.relay) (λ relay. Done (station_with st.host relay)) (silent_takeless (pass_on parcel now st.relay) (entered_silent now (enter parcel now st.relay))) (λ relay. tt)
+  come_takeless false parcel st = passed_with_told TakesNoneTold takeless_relays now parcel st.host st.relay
 
   in_takeless : (link : ℕ) (o : Option (Parcel Mark)) (st : Station Mark) → Takeless (come_in p now link o st)
   in_takeless link None st = (tt, tt)
