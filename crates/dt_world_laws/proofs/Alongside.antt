@@ -32,7 +32,7 @@ use Rattle.dt_world_laws.proofs.Flushing.{flush_links_keeps}
 use Rattle.dt_world_laws.proofs.Turns.{settle_leads, turn_leads}
 use Rattle.dt_world_laws.proofs.Settles.{no_offer}
 use Rattle.dt_world_laws.proofs.Settled.{settle_done}
-use Rattle.dt_world_laws.proofs.Events.{Possible, event_done, happens, possible_then}
+use Rattle.dt_world_laws.proofs.Events.{Possible, event_done, happens_then}
 use Rattle.dt_world_laws.proofs.Worlds.{possible_here, starts}
 
 -- what changes no ledger: a packet that leaves, or what is no flow's
@@ -165,13 +165,11 @@ module _ (w : World) (n : ℕ) (limits : IsWithinLimits w.params) where
       let m = world_handler (stage w n c) in
       let now = reading w n c in
       let r1 = play m (settle_station w.params now st) d in
-      let one = settle_leads w n c limits st d good in
-      let idle = settle_done w n c limits st d good in
       let r2 = play m (happen w.params now e r1.1) r1.0 in
-      let two = happens w n limits e r1.1 r1.0 one.good idle (possible_then w n limits e st d r1 one can) in
+      let two = happens_then w n limits e st d good can in
       along_bind (stage w n c) (SafeLedgers w) (settle_station w.params now st) (λ before. happen w.params now e before >>= λ after. settle_station w.params now after) d (settle_along w n c limits st d good)
       (along_bind (stage w n c) (SafeLedgers w) (happen w.params now e r1.1) (settle_station w.params now) r1.0
-      (single_along (stage w n c) (SafeLedgers w) (happen w.params now e r1.1) r1.0 (happen_single w.params now e r1.1) (good_safe w n c limits r1.1 r1.0 one.good) (good_safe w n c limits r2.1 r2.0 two.good))
+      (single_along (stage w n c) (SafeLedgers w) (happen w.params now e r1.1) r1.0 (happen_single w.params now e r1.1) (good_safe w n c limits r1.1 r1.0 (settle_leads w n c limits st d good).good) (good_safe w n c limits r2.1 r2.0 two.good))
       (settle_along w n c limits r2.1 r2.0 two.good))
 
 -- AT EVERY POINT OF AN EVENT THE LEDGER IS SAFE
