@@ -11,11 +11,9 @@ use Rattle.dt_units.specs.Limits.{IsWithinLimits}
 use Rattle.dt_reports.specs.Told.{Told}
 use Rattle.dt_reports.specs.declared.reports.Report.TheVariants as report
 use Rattle.dt_layout.specs.declared.faults.LayoutFault.{LayoutFault}
-use Rattle.dt_layout.specs.Spelling.{Carries, DeltagramValue, HasPorts, KeepsRules, PacketValue, Data, Ack, Meet, Close}
-use Rattle.dt_layout.specs.Reading.{gram_in, packet_in, packet_read}
-use Rattle.dt_layout.specs.Carried.{life_of, to_of, with_less_life}
-use Rattle.dt_layout.proofs.CarriedLemmas.{gram_in_is, lowered_in, to_of-gram_in}
-use Rattle.dt_layout.proofs.PackLemmas.{packet_is_read}
+use Rattle.dt_layout.specs.Spelling.{HasPorts, KeepsRules, PacketValue, Data, Ack, Meet, Close}
+use Rattle.dt_layout.specs.Reading.{gram_in, packet_read}
+use Rattle.dt_layout.specs.Carried.{life_of, to_of}
 use Rattle.dt_flow_model.specs.declared.arrivals.Action.{Action}
 use Rattle.dt_flow_model.specs.declared.arrivals.Action.TheVariants as X
 use Rattle.dt_flow_model.specs.declared.arrivals.Arrived.{Arrived}
@@ -30,7 +28,6 @@ use Rattle.dt_flow_model.specs.ReceiveRecord.{ReceiveRecord, action_on, after_da
 use Rattle.dt_flow_model.specs.SendRecord.{Segment, SendRecord, acknowledged, after_split, items_in, on_ack, record_acked}
 use Rattle.dt_flow_model.specs.Steps.{IsAlive}
 use Rattle.dt_flow_model.proofs.Chains.{items_append}
-use Rattle.dt_flow_laws.proofs.Ages.{arrives_alive}
 use Rattle.dt_flow_laws.proofs.Laws.{split_where}
 use Rattle.dt_world_model.specs.Host.{Host, ack_answer, arrive, comes, host_with_receiver, host_with_sender, next_turn, receiver_at, sender_at, told_arrival}
 use Rattle.dt_world_model.specs.Ledgers.{Ledgers}
@@ -43,7 +40,6 @@ use Rattle.dt_world_model.proofs.Tables.{nat_is, nat_self}
 use Rattle.dt_world_laws.proofs.Arrivals.{data_leads}
 use Rattle.dt_world_laws.proofs.Books.{Brings, Brought, Cause}
 use Rattle.dt_world_laws.proofs.Delivery.{ack_leads, comes_here}
-use Rattle.dt_world_laws.proofs.Flushing.{lowered_packet}
 use Rattle.dt_world_laws.proofs.Good.{Good, Leads, reading, stage}
 use Rattle.dt_world_laws.proofs.Received.{follows_data}
 use Rattle.dt_world_laws.proofs.Settled.{receivers_current}

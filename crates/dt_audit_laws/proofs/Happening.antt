@@ -1,5 +1,5 @@
 -- What is told of octets that are sent and read at a station passes.
-use Rattle.std.proofs.Common.{ℕ, suc, ◌≡◌, ◌==◌, Bool, true, false, List, [], ◌∷◌, length, Option, Some, refl, sym, ap, subst, inl, inr, ◌∙◌, ◌<◌, ◌^◌, arith}
+use Rattle.std.proofs.Common.{ℕ, suc, ◌≡◌, ◌==◌, Bool, true, false, List, [], ◌∷◌, length, Some, refl, sym, ap, subst, inl, inr, ◌∙◌, ◌<◌, ◌^◌, arith}
 use Rattle.std.specs.Prelude.{nat_lt}
 use Rattle.std.proofs.lemmas.Bool.{cases_Bool}
 use Rattle.dt_items.specs.declared.item.Item.{Item}
@@ -10,22 +10,22 @@ use Rattle.dt_units.specs.Limits.{IsWithinLimits}
 use Rattle.dt_flow_model.proofs.Chosen.{le_true}
 use Rattle.dt_reports.specs.declared.reports.Report.TheVariants as report
 use Rattle.dt_reports.specs.declared.faults.Refusal.TheVariants as refusal
-use Rattle.dt_flow_model.specs.Acting.{after_reading, after_taking, record_for}
+use Rattle.dt_flow_model.specs.Acting.{after_reading, after_taking}
 use Rattle.dt_flow_model.specs.Flow.{FlowState}
 use Rattle.dt_flow_model.specs.Frames.{Mark}
 use Rattle.dt_flow_model.specs.ReceiveRecord.{after_read}
 use Rattle.dt_flow_model.specs.SendRecord.{SendRecord, fits, put, room_of}
-use Rattle.dt_world_model.specs.Host.{host_with_receiver, host_with_sender, read_piece, receiver_at, send_octets, sender_at}
+use Rattle.dt_world_model.specs.Host.{host_with_receiver, host_with_sender, read_piece, receiver_at, send_octets}
 use Rattle.dt_world_model.specs.Script.{play}
 use Rattle.dt_world_model.specs.Station.{Station, Read, Send, happen, told_piece, told_sent}
 use Rattle.dt_world_model.specs.World.{Noted, World, note_told, placed, world_handler}
 use Rattle.dt_world_model.proofs.Tables.{nat_self}
-use Rattle.dt_world_laws.proofs.Books.{Book, Cause, Octets, book_of, books_after, flow_state}
+use Rattle.dt_world_laws.proofs.Books.{Cause, Octets, books_after}
 use Rattle.dt_world_laws.proofs.Good.{Good, reading, stage}
 use Rattle.dt_world_laws.proofs.Happens.{taking_after, taking_before, taking_others, taking_record, taking_state}
-use Rattle.dt_world_laws.proofs.Received.{follows_reading, follows_taking}
+use Rattle.dt_world_laws.proofs.Received.{follows_reading}
 use Rattle.dt_world_laws.proofs.Turns.{given_is, given_state, receiver_apart, receiver_moved}
-use Rattle.dt_world_laws.proofs.Views.{begins_here, book_told, book_told_other, flow_by, near_or_receiver, near_sender, sender_set, sender_set_other, views}
+use Rattle.dt_world_laws.proofs.Views.{views}
 use Rattle.dt_audit.specs.Books as books
 use Rattle.dt_audit.specs.LogRows.{FlowLog}
 use Rattle.dt_audit_laws.specs.Following.{Followed, FollowsFlow}

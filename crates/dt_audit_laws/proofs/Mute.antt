@@ -1,20 +1,15 @@
 -- What a relay tells says nothing of octets and lives, and changes no ledger.
-use Rattle.std.proofs.Common.{ℕ, zero, suc, ◌≡◌, ◌==◌, List, [], ◌∷◌, length, Option, Some, None, refl, inl, inr, ◌∙◌}
-use Rattle.std.specs.Prelude.{nat_le, nat_lt}
-use Rattle.std.proofs.lemmas.Bool.{cases_Bool}
+use Rattle.std.proofs.Common.{ℕ, ◌≡◌, List, length, Option, refl, ◌∙◌}
 use Rattle.dt_units.specs.declared.parameters.Params.{Params}
 use Rattle.dt_units.specs.declared.endpoints.Flow.{Flow}
 use Rattle.dt_reports.specs.Told.{Told}
-use Rattle.dt_layout.specs.Carried.{life_of}
 use Rattle.dt_flow_model.specs.Flow.{FlowState}
 use Rattle.dt_flow_model.specs.Frames.{Mark}
-use Rattle.dt_world_model.specs.declared.links.Entered.{Entered}
-use Rattle.dt_world_model.specs.declared.links.Entered.TheVariants.{Queued, NoRoute, Full}
 use Rattle.dt_world_model.specs.Host.{Host}
-use Rattle.dt_world_model.specs.Relay.{Parcel, Waiting, Out, Relay, enter, leave_first, may_leave_from, time_charge, with_outs}
+use Rattle.dt_world_model.specs.Relay.{Parcel, Out, Relay}
 use Rattle.dt_world_model.specs.Script.{Script, Done, Tell, Ask, Hand, ◌>>=◌, play}
-use Rattle.dt_world_model.specs.Station.{flush, flush_at, flush_entered, flush_links, flush_on, flush_turns, pass_on, send_off, station_with}
-use Rattle.dt_world_model.specs.Ledgers.{Changes, Effect, Leaves, Ledgers, Neither, Occasion, effect_of, ledgers_by, mark_of}
+use Rattle.dt_world_model.specs.Station.{flush_links, pass_on, send_off, station_with}
+use Rattle.dt_world_model.specs.Ledgers.{Occasion, effect_of, mark_of}
 use Rattle.dt_world_model.specs.World.{Noted, note_copy, note_told, world_handler}
 use Rattle.dt_world_laws.specs.Tellings.{AllTold}
 use Rattle.dt_world_laws.proofs.Alongside.{IsQuiet, quiet_by}
