@@ -1,5 +1,5 @@
 -- The runs of all flows: a map by flow is the definition's table. And what both lists become when one flow changes.
-use Rattle.std.proofs.Common.{◌≡◌, true, false, List, [], Option, Some, None, is_some, Result, Ok, Err, OnErr, OnOk, IsOk, refl, sym, ap, ◌∙◌}
+use Rattle.std.proofs.Common.{◌≡◌, true, List, [], Option, Some, is_some, Result, Ok, Err, OnErr, OnOk, IsOk, refl, sym, ap, ◌∙◌}
 use Rattle.std.specs.Prelude.{OnSome, unwrap_or}
 use Rattle.std.specs.Map.{lookup, set_value}
 use Rattle.indexmap.specs.IndexMap.{insert_entry}

@@ -1,12 +1,11 @@
 use Rattle.std.proofs.Common.{ℕ, ◌+◌, ◌^◌, ◌≡◌, ◌==◌, List, Some, ap, nat_eq, refl, sym, subst, ◌∙◌, arith}
 use Rattle.std.specs.Map.{set_value}
-use Rattle.std.specs.Prelude.{option_map}
 use Rattle.dt_reports.specs.declared.reports.Report.TheVariants as report
 use Rattle.dt_flow_model.specs.Frames.{Mark}
 use Rattle.dt_world_model.specs.Relay.{Relay, emptied, new_relay}
 use Rattle.dt_world_model.specs.Station.{Station}
 use Rattle.dt_world_model.specs.Tables.{AllEntries, write}
-use Rattle.dt_world_model.specs.World.{Placed, World}
+use Rattle.dt_world_model.specs.World.{Placed}
 use Rattle.dt_world_model.specs.WorldStep.{Restarts, after_event}
 use Rattle.dt_world.specs.declared.placed.Plan.{Plan}
 use Rattle.dt_world.specs.declared.placed.PlacedStation.{PlacedStation}
