@@ -18,11 +18,12 @@ use Rattle.dt_text.specs.InputLines.{lines_of}
 use Rattle.dt_text.specs.Hexadecimal.{octets_of_hex}
 use Rattle.dt_text.specs.Lines.{line_of}
 use Rattle.dt_text.specs.Said as said
-use Rattle.dt_text.specs.Said.{Said}
+use Rattle.dt_text.specs.Said.{RunSaid, Said}
+use Rattle.dt_text.specs.Spelling.{IsLine}
 use Rattle.dt_text.specs.Stages.{stage_after}
 use Rattle.dt_fold.specs.Folds.{Folded, Turned, closed, fold_from, fold_on, refused}
 use Rattle.dt_world_model.specs.Setup.{AddLink, AddRoute, AddStation, Setup, SetupCall, added, new_world, setup_refusals, setup_unless}
-use Rattle.dt_world_model.specs.WorldStep.{Arrives, Loses, Passes, Restarts, Ticks, first_refusal}
+use Rattle.dt_world_model.specs.WorldStep.{first_refusal}
 use Rattle.dt_calls_model.specs.CallFacts.{CallFacts}
 use Rattle.dt_calls_model.specs.Calls.{Calls, new_calls}
 use Rattle.dt_calls_model.specs.CallStep.{CallEvent, Faulty, Happens, Makes, Outcome, Stepped, call_step}
@@ -33,12 +34,13 @@ use Rattle.dt_calls_laws.specs.MayCome.{MayCome}
 use Rattle.dt_calls_laws.proofs.Starting.{new_calls_facts}
 use Rattle.dt_calls_laws.proofs.Stepping.{Comes, all_answers, step_answers, step_comes}
 use Rattle.dt_scenario.specs.Parts.{IsLineOf}
-use Rattle.dt_scenario.specs.Scenes.{Empty, Prepares, Runs, Scene, adds, by_params, by_run, by_setup, close, done_by, done_if, goes, happens, scenario_turns, simulated, stage_of, turn, turn_read}
+use Rattle.dt_scenario.specs.Scenes.{Empty, Prepares, Runs, Scene, adds, call_of, event_by, by_params, by_run, by_setup, close, done_by, done_if, goes, happens, scenario_turns, simulated, stage_of, turn, turn_read}
 use Rattle.dt_scenario.proofs.Keeping.{read_line}
 use Rattle.dt_scenario.proofs.LineCounts.{lines_count}
-use Rattle.dt_calls_input.specs.CallAnswers.{AreCallsOf, Closed, Faulted, Last, TellsOwnAnswers, called_by, called_in, calls_of, first_called, octets_called, text_of_last}
+use Rattle.dt_calls_input.specs.CallAnswers.{AreCallsOf, Closed, Faulted, Last, TellsOwnAnswers, called_behind, called_by, called_in, calls_of, first_called, octets_called, text_of_last}
 use Rattle.dt_calls_input.specs.CallInputs.{by_calls, calls_after_lines, calls_read, does, simulates_calls}
 use Rattle.dt_calls_input.specs.CallTexts.{call_text, entries_text}
+use Rattle.dt_calls_input.proofs.CallTurns.{is_quiet}
 
 abbrev Payloads : Type 0
 Payloads = List (List ℕ)
@@ -110,30 +112,12 @@ outcome_turn payloads c e (Stepped entries after) own h =
 event_turn : (payloads : Payloads) (c : Calls) (e : CallEvent) → length payloads < 2 ^ 64 → MayCome e → IsOfLines payloads c → Turns (payloads ++ payloads_in e) (by_run (by_calls (call_step reverse c e)))
 event_turn payloads c e few may h = let many = h.own.count in outcome_turn payloads c e (call_step reverse c e) h.own (step_comes reverse c e h.facts (omega (arith, few, many)) may)
 
-line_turn : (payloads : Payloads) (c : Calls) (line : Said) → length payloads < 2 ^ 64 → IsLineOf simulates_calls line → IsOfLines payloads c → Turns (payloads ++ called_by line) (by_run (does c line))
+line_turn : (payloads : Payloads) (c : Calls) (line : RunSaid) → length payloads < 2 ^ 64 → IsLineOf simulates_calls line → IsOfLines payloads c → Turns (payloads ++ called_behind line) (by_run (does c line))
+line_turn payloads c (said.World line) few is h = event_turn payloads c (Happens (event_by line)) few (is_quiet line) h
+line_turn payloads c (said.User line) few is h = tt
 line_turn payloads c (said.Call f hex) few is h = event_turn payloads c (Makes f (octets_of_hex hex)) few is.1.0 h
-line_turn payloads c (said.Pass by) few is h = event_turn payloads c (Happens (Passes by)) few tt h
-line_turn payloads c (said.Tick n) few is h = event_turn payloads c (Happens (Ticks n)) few tt h
-line_turn payloads c (said.Arrive copy) few is h = event_turn payloads c (Happens (Arrives copy)) few tt h
-line_turn payloads c (said.Lose copy) few is h = event_turn payloads c (Happens (Loses copy)) few tt h
-line_turn payloads c (said.Restart n) few is h = event_turn payloads c (Happens (Restarts n)) few tt h
-line_turn payloads c said.Blank few is h = tt
-line_turn payloads c (said.Params p) few is h = tt
-line_turn payloads c (said.Station n ahead) few is h = tt
-line_turn payloads c (said.Link link from to charge pace) few is h = tt
-line_turn payloads c (said.Route at to link) few is h = tt
-line_turn payloads c said.Go few is h = tt
-line_turn payloads c (said.Send f begin end hex) few is h = tt
-line_turn payloads c (said.Read f max) few is h = tt
-line_turn payloads c (said.Me n again) few is h = tt
-line_turn payloads c (said.Local address) few is h = tt
-line_turn payloads c (said.Peer link address charge pace) few is h = tt
-line_turn payloads c (said.AtSend at f begin end hex) few is h = tt
-line_turn payloads c (said.AtRead at f max) few is h = tt
-line_turn payloads c (said.AtStop at) few is h = tt
-line_turn payloads c (said.Shelf room) few is h = tt
 
-happens_turn : (payloads : Payloads) (scene : Scene Calls) (line : Said) → length payloads < 2 ^ 64 → IsLineOf simulates_calls line → IsScene payloads scene → Turns (payloads ++ called_by line) (happens simulates_calls scene line)
+happens_turn : (payloads : Payloads) (scene : Scene Calls) (line : RunSaid) → length payloads < 2 ^ 64 → IsLineOf simulates_calls line → IsScene payloads scene → Turns (payloads ++ called_behind line) (happens simulates_calls scene line)
 happens_turn payloads Empty line few is h = tt
 happens_turn payloads (Prepares setup) line few is h = tt
 happens_turn payloads (Runs c) line few is h = line_turn payloads c line few is h
@@ -144,31 +128,15 @@ none_more payloads r h = subst (λ (ps : Payloads). Turns ps r) (sym (append-nil
 
 -- WHAT A LINE DOES where its place allows it
 module _ (payloads : Payloads) (scene : Scene Calls) (few : length payloads < 2 ^ 64) (h : IsScene payloads scene) where
-  done_turn : (line : Said) (stage : Stage) → stage_after forms.Calls (stage_of scene) line ≡ Some stage → IsLineOf simulates_calls line → Turns (payloads ++ called_by line) (done_by simulates_calls scene line)
+  done_turn : (line : Said) (stage : Stage) → stage_after forms.Calls (stage_of scene) line ≡ Some stage → IsLine forms.Calls line → Turns (payloads ++ called_by line) (done_by simulates_calls scene line)
   done_turn said.Blank stage at is = none_more payloads (Ok (record { text = []; state = scene })) (tells_nothing payloads scene h)
   done_turn (said.Params p) stage at is = none_more payloads (by_params p (first_out_of_range p)) (params_at payloads scene p stage at h)
-  done_turn (said.Station n ahead) stage at is = none_more payloads (adds scene (AddStation n ahead)) (adds_turn payloads scene (AddStation n ahead) h)
-  done_turn (said.Link link from to charge pace) stage at is =
-      let call = AddLink (record { link = link; from = from; to = to; charge = charge; pace = pace }) in none_more payloads (adds scene call) (adds_turn payloads scene call h)
-  done_turn (said.Route at_node to link) stage at is = let call = AddRoute at_node (record { to = to; link = link }) in none_more payloads (adds scene call) (adds_turn payloads scene call h)
   done_turn said.Go stage at is = none_more payloads (goes simulates_calls scene) (go_turn payloads scene h)
-  done_turn (said.Pass by) stage at is = happens_turn payloads scene (said.Pass by) few is h
-  done_turn (said.Send f begin end hex) stage at is = happens_turn payloads scene (said.Send f begin end hex) few is h
-  done_turn (said.Read f max) stage at is = happens_turn payloads scene (said.Read f max) few is h
-  done_turn (said.Tick n) stage at is = happens_turn payloads scene (said.Tick n) few is h
-  done_turn (said.Arrive copy) stage at is = happens_turn payloads scene (said.Arrive copy) few is h
-  done_turn (said.Lose copy) stage at is = happens_turn payloads scene (said.Lose copy) few is h
-  done_turn (said.Restart n) stage at is = happens_turn payloads scene (said.Restart n) few is h
-  done_turn (said.Me n again) stage at is = happens_turn payloads scene (said.Me n again) few is h
-  done_turn (said.Local address) stage at is = happens_turn payloads scene (said.Local address) few is h
-  done_turn (said.Peer link address charge pace) stage at is = happens_turn payloads scene (said.Peer link address charge pace) few is h
-  done_turn (said.AtSend moment f begin end hex) stage at is = happens_turn payloads scene (said.AtSend moment f begin end hex) few is h
-  done_turn (said.AtRead moment f max) stage at is = happens_turn payloads scene (said.AtRead moment f max) few is h
-  done_turn (said.AtStop moment) stage at is = happens_turn payloads scene (said.AtStop moment) few is h
-  done_turn (said.Shelf room) stage at is = happens_turn payloads scene (said.Shelf room) few is h
-  done_turn (said.Call flow hex) stage at is = happens_turn payloads scene (said.Call flow hex) few is h
+  done_turn (said.Setup line) stage at is = none_more payloads (adds scene (call_of line)) (adds_turn payloads scene (call_of line) h)
+  done_turn (said.Run line) stage at is = happens_turn payloads scene line few is h
+  done_turn (said.Script line) stage at is = tt
 
-  allowed_turn : (line : Said) (stage : Option Stage) → stage_after forms.Calls (stage_of scene) line ≡ stage → IsLineOf simulates_calls line → Turns (payloads ++ called_by line) (done_if simulates_calls stage scene line)
+  allowed_turn : (line : Said) (stage : Option Stage) → stage_after forms.Calls (stage_of scene) line ≡ stage → IsLine forms.Calls line → Turns (payloads ++ called_by line) (done_if simulates_calls stage scene line)
   allowed_turn line None at is = tt
   allowed_turn line (Some stage) at is = done_turn line stage at is
 
@@ -228,8 +196,12 @@ read_on payloads called more number scene rest (Ok turned) h t on =
 read_on payloads called more number scene rest (Err fault) h t on = breaks_off payloads (called ++ more) number scene fault h
 
 -- a line makes one call at most
+one_behind : (line : RunSaid) → length (called_behind line) ≤ 1
+one_behind (said.Call f hex) = omega arith
+one_behind _ = omega arith
+
 one_called : (line : Said) → length (called_by line) ≤ 1
-one_called (said.Call f hex) = omega arith
+one_called (said.Run line) = one_behind line
 one_called _ = omega arith
 
 one_call : (r : Result Said LineFault) → length (called_in r) ≤ 1

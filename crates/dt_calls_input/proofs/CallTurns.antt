@@ -1,5 +1,5 @@
 -- What a step of calls says of its line.
-use Rattle.std.proofs.Common.{◌≡◌, false, List, [], ◌∷◌, reverse, Option, Some, Result, Ok, Err, refl, ap}
+use Rattle.std.proofs.Common.{◌≡◌, false, List, [], ◌∷◌, reverse, Option, Some, Result, Ok, Err, refl, ap, subst, sym}
 use Rattle.dt_edges.specs.Sinks.{SinkSight}
 use Rattle.dt_reports.specs.declared.faults.Fault.{Fault}
 use Rattle.dt_reports.specs.declared.faults.Fault.TheVariants as faults
@@ -7,11 +7,16 @@ use Rattle.dt_reports.specs.declared.faults.StepFault.{StepFault}
 use Rattle.dt_reports.specs.declared.faults.StepFault.TheVariants as fault
 use Rattle.dt_fold.specs.declared.stops.Stop.{Stop}
 use Rattle.dt_fold.specs.Logging.{TurnsTo}
+use Rattle.dt_text.specs.declared.lines.WorldLine.{WorldLine}
+use Rattle.dt_text.specs.declared.lines.WorldLine.TheVariants as worlds
+use Rattle.dt_world_model.specs.WorldStep.{WorldEvent}
+use Rattle.dt_calls_laws.specs.Grown.{IsNoSendOrRead}
 use Rattle.dt_calls_model.specs.Calls.{Calls}
 use Rattle.dt_calls_model.specs.CallStep.{CallEvent, call_step}
 use Rattle.dt_calls_model.specs.CallTold.{CallEntry}
 use Rattle.dt_scenario.specs.declared.logs.Log.{Log}
 use Rattle.dt_scenario.specs.Parts.{stepped}
+use Rattle.dt_scenario.specs.Scenes.{event_by}
 use Rattle.dt_scenario.specs.Writing.{Writes}
 use Rattle.dt_scenario.proofs.Steps.{done_says, refused_says, stopped_says}
 use Rattle.dt_scenario.proofs.Writing.{same_name}
@@ -20,6 +25,14 @@ use Rattle.dt_calls_input.specs.CallInputs.{by_calls}
 use Rattle.dt_calls.specs.CallOutcomes.{IsRefused, StepsTo}
 use Rattle.dt_calls_input.specs.CallTexts.{call_text}
 use Rattle.dt_calls.specs.Telling.{TellsCalls}
+
+-- what the lines of a world make happen is no send and no read
+pub is_quiet : (line : WorldLine) → IsNoSendOrRead (event_by line)
+is_quiet (worlds.Pass by) = tt
+is_quiet line = search refl
+
+pub comes_quietly : (line : WorldLine) (e : WorldEvent) → e ≡ event_by line → IsNoSendOrRead e
+comes_quietly line e is = subst IsNoSendOrRead (sym is) (is_quiet line)
 
 module _ {K : Type 0} (sight : K → SinkSight) where
   abbrev writes : CallLog K → CallEntry → CallLog K → Type 0

@@ -7,7 +7,7 @@ use Rattle.dt_text.specs.Hexadecimal.{octets_of_hex}
 use Rattle.dt_text.specs.InputLines.{lines_of}
 use Rattle.dt_text.specs.Lines.{line_of}
 use Rattle.dt_text.specs.Said as said
-use Rattle.dt_text.specs.Said.{Said}
+use Rattle.dt_text.specs.Said.{RunSaid, Said}
 use Rattle.dt_fold.specs.Folds.{refusal}
 use Rattle.dt_calls_model.specs.Calls.{Calls}
 use Rattle.dt_calls_model.specs.CallStep.{CallEvent, Stepped, call_step}
@@ -18,28 +18,18 @@ use Rattle.dt_calls_input.specs.CallInputs.{calls_text, last_text}
 use Rattle.dt_calls_input.specs.CallTexts.{entries_text}
 
 -- the octets of a `call` line; other lines have none
+abbrev pub called_behind : RunSaid → List (List ℕ)
+called_behind (said.World line) = []
+called_behind (said.User line) = []
+called_behind (said.Call flow hex) = octets_of_hex hex ∷ []
+
 abbrev pub called_by : Said → List (List ℕ)
-called_by (said.Call flow hex) = octets_of_hex hex ∷ []
-called_by (said.Pass by) = []
-called_by (said.Tick n) = []
-called_by (said.Arrive copy) = []
-called_by (said.Lose copy) = []
-called_by (said.Restart n) = []
 called_by said.Blank = []
 called_by (said.Params p) = []
-called_by (said.Station n ahead) = []
-called_by (said.Link link from to charge pace) = []
-called_by (said.Route at to link) = []
 called_by said.Go = []
-called_by (said.Send flow begin end hex) = []
-called_by (said.Read flow max) = []
-called_by (said.Me n again) = []
-called_by (said.Local address) = []
-called_by (said.Peer link address charge pace) = []
-called_by (said.AtSend at flow begin end hex) = []
-called_by (said.AtRead at flow max) = []
-called_by (said.AtStop at) = []
-called_by (said.Shelf room) = []
+called_by (said.Setup line) = []
+called_by (said.Run line) = called_behind line
+called_by (said.Script line) = []
 
 abbrev pub called_in : Result Said LineFault → List (List ℕ)
 called_in (Ok line) = called_by line

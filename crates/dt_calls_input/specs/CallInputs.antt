@@ -7,15 +7,14 @@ use Rattle.dt_reports.specs.Entries.{Entry}
 use Rattle.dt_log.specs.Logs.{entry_text}
 use Rattle.dt_text.specs.declared.lines.Form.TheVariants as forms
 use Rattle.dt_text.specs.Said as said
-use Rattle.dt_text.specs.Said.{Said}
+use Rattle.dt_text.specs.Said.{RunSaid}
 use Rattle.dt_text.specs.Hexadecimal.{octets_of_hex}
 use Rattle.dt_text.specs.InputLines.{lines_of}
 use Rattle.dt_fold.specs.Folds.{Folded, Turned, fold_from, fold_input}
-use Rattle.dt_world_model.specs.WorldStep.{Arrives, Loses, Passes, Restarts, Ticks}
 use Rattle.dt_calls_model.specs.Calls.{Calls, new_calls}
 use Rattle.dt_calls_model.specs.CallStep.{Faulty, Happens, Makes, Outcome, Stepped, call_step}
 use Rattle.dt_calls_model.specs.CallRuns.{totals_of}
-use Rattle.dt_scenario.specs.Scenes.{Empty, Scene, Simulates, misplaced, scenario_turns, simulated}
+use Rattle.dt_scenario.specs.Scenes.{Empty, Scene, Simulates, event_by, misplaced, scenario_turns, simulated}
 use Rattle.dt_calls_input.specs.CallTexts.{entries_text, totals_text}
 
 -- a step of the calls: its lines are written, or its line is refused
@@ -23,29 +22,11 @@ abbrev pub by_calls : Outcome → Result (Turned Calls) Fault
 by_calls (Stepped told after) = Ok (record { text = entries_text told; state = after })
 by_calls (Faulty fault) = Err (faults.Step fault)
 
--- WHAT A LINE DOES behind `go`, one row a line. A call is answered with its payload in reversed order. What the lines of the setup do is in `Scenes` of dt_scenario
-abbrev pub does : Calls → Said → Result (Turned Calls) Fault
+-- WHAT A LINE DOES behind `go`. A call is answered with its payload in reversed order. What the lines of the setup do is in `Scenes` of dt_scenario
+abbrev pub does : Calls → RunSaid → Result (Turned Calls) Fault
+does c (said.World line) = by_calls (call_step reverse c (Happens (event_by line)))
+does c (said.User line) = misplaced
 does c (said.Call flow hex) = by_calls (call_step reverse c (Makes flow (octets_of_hex hex)))
-does c (said.Pass by) = by_calls (call_step reverse c (Happens (Passes by)))
-does c (said.Tick n) = by_calls (call_step reverse c (Happens (Ticks n)))
-does c (said.Arrive copy) = by_calls (call_step reverse c (Happens (Arrives copy)))
-does c (said.Lose copy) = by_calls (call_step reverse c (Happens (Loses copy)))
-does c (said.Restart n) = by_calls (call_step reverse c (Happens (Restarts n)))
-does c said.Blank = misplaced
-does c (said.Params p) = misplaced
-does c (said.Station n ahead) = misplaced
-does c (said.Link link from to charge pace) = misplaced
-does c (said.Route at to link) = misplaced
-does c said.Go = misplaced
-does c (said.Send flow begin end hex) = misplaced
-does c (said.Read flow max) = misplaced
-does c (said.Me n again) = misplaced
-does c (said.Local address) = misplaced
-does c (said.Peer link address charge pace) = misplaced
-does c (said.AtSend at flow begin end hex) = misplaced
-does c (said.AtRead at flow max) = misplaced
-does c (said.AtStop at) = misplaced
-does c (said.Shelf room) = misplaced
 
 -- behind the last line: the totals of the calls and the end
 abbrev pub end_entry : Calls → Entry

@@ -2,30 +2,28 @@
 ghost use Rattle.std.specs.Prelude.{◌≡◌, false, reverse};
 ghost use Rattle.dt_fold.specs.Logging.{TurnsTo};
 ghost use Rattle.dt_calls_model.specs.CallStep.{Happens, call_step};
-ghost use Rattle.dt_calls_laws.specs.Grown.{IsNoSendOrRead};
-ghost use Rattle.dt_world.specs.Worlds.{event_of};
+ghost use Rattle.dt_scenario.specs.Scenes.{event_by};
 ghost use Rattle.dt_calls_input.specs.CallInputs.{by_calls};
 ghost use Rattle.dt_calls.specs.CallOutcomes.{MayCome, call_event};
 
-use dt_calls::CallEvent;
-use dt_calls::Reversing;
-use dt_calls::Calls;
 use crate::writing::CallLog;
+use dt_calls::{CallEvent, Calls, Reversing};
 use dt_edges::Sink;
 use dt_fold::Stop;
 use dt_reports::Fault;
-use dt_scenario::{Log, stepped};
-use dt_world::Event;
+use dt_scenario::{Log, stepped, world_event};
+use dt_text::WorldLine;
 
-/// An event of the world comes that is no send and no read.
+/// What a line of a world says happens: that is no send and no read.
+#[tactic(auto, using(crate::proofs::CallTurns::comes_quietly))]
 pub fn come<K: Sink>(
     calls: &mut Calls<Reversing>,
-    event: Event<'_>,
+    line: WorldLine,
     out: &mut K,
 ) -> Result<Option<Fault>, Stop>
-    requires { IsNoSendOrRead (event_of event) }
-    ensures { TurnsTo K.sight (by_calls (call_step reverse calls.old.calls (Happens (event_of event.entry)))) result calls.old.calls calls.new.calls out.old out.new }
+    ensures { TurnsTo K.sight (by_calls (call_step reverse calls.old.calls (Happens (event_by line)))) result calls.old.calls calls.new.calls out.old out.new }
 {
+    let event = world_event(line);
     step(calls, &CallEvent::World(event), out)
 }
 

@@ -5,20 +5,17 @@ ghost use Rattle.dt_world_model.specs.Setup.{new_world};
 ghost use Rattle.dt_calls_model.specs.Calls.{new_calls};
 ghost use Rattle.dt_calls_input.specs.CallInputs.{last_text};
 
-use dt_calls::CallEvent;
 use crate::calling::{come, step};
-use dt_calls::Reversing;
-use dt_calls::Calls;
 use crate::writing::put_totals;
+use dt_calls::{CallEvent, Calls, Reversing};
 use dt_edges::{Failed, Sink};
 use dt_fold::Stop;
 use dt_items::NoMemory;
 use dt_log::write_line;
 use dt_reports::{Fault, LogLine, Report};
 use dt_scenario::{MISPLACED, Simulation};
-use dt_text::{Form, Line, decode_hex};
-use dt_units::NodeId;
-use dt_world::{Event, Setup, World};
+use dt_text::{Form, RunLine, decode_hex};
+use dt_world::{Setup, World};
 use std::alloc::Global;
 
 /// The calls of an input, which its lines make.
@@ -51,34 +48,16 @@ impl Simulation for InputCalls {
         })
     }
 
-    fn happen<K: Sink>(&mut self, line: &Line<'_>, out: &mut K) -> Result<Option<Fault>, Stop> {
+    fn happen<K: Sink>(&mut self, line: &RunLine<'_>, out: &mut K) -> Result<Option<Fault>, Stop> {
         let calls = &mut self.calls;
         match *line {
-            Line::Call { flow, hex } => {
+            RunLine::World(line) => come(calls, line, out),
+            RunLine::Call { flow, hex } => {
                 decode_hex(hex, &mut self.payload)?;
                 let payload = &self.payload;
                 step(calls, &CallEvent::Call { flow, payload }, out)
             }
-            Line::Pass { by } => come(calls, Event::Pass { by }, out),
-            Line::Tick { n } => come(calls, Event::Tick { station: NodeId(n) }, out),
-            Line::Arrive { copy } => come(calls, Event::Arrive { copy }, out),
-            Line::Lose { copy } => come(calls, Event::Lose { copy }, out),
-            Line::Restart { n } => come(calls, Event::Restart { station: NodeId(n) }, out),
-            Line::Blank
-            | Line::Params(_)
-            | Line::Station { .. }
-            | Line::Link { .. }
-            | Line::Route { .. }
-            | Line::Go
-            | Line::Send { .. }
-            | Line::Read { .. }
-            | Line::Me { .. }
-            | Line::Local(_)
-            | Line::Peer { .. }
-            | Line::AtSend { .. }
-            | Line::AtRead { .. }
-            | Line::AtStop { .. }
-            | Line::Shelf { .. } => Ok(Some(MISPLACED)),
+            RunLine::User(_) => Ok(Some(MISPLACED)),
         }
     }
 

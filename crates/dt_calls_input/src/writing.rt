@@ -5,8 +5,7 @@ ghost use Rattle.dt_calls_input.specs.CallTexts.{call_text, totals_text};
 ghost use Rattle.dt_calls.specs.Telling.{call_entry};
 ghost use Rattle.dt_calls.specs.Totals.{totals_seen};
 
-use dt_calls::{CallLine, CallLines};
-use dt_calls::CallTotals;
+use dt_calls::{CallLine, CallLines, CallTotals};
 use dt_edges::{Failed, Sink};
 use dt_log::Word::{Flow, Hex, Long, Number, Text};
 use dt_log::put_row;

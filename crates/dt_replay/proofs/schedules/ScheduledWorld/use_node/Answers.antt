@@ -1,6 +1,6 @@
 use Rattle.std.proofs.lemmas.Result.{err_from_is_err_and}
 use Rattle.dt_edges.proofs.Puts.{takes_nothing}
-use Rattle.dt_replay.proofs.schedules.ScheduledWorldSimulation.happen.Goals as goal
+use Rattle.dt_replay.proofs.schedules.ScheduledWorld.use_node.Goals as goal
 
 -- no line was told yet
 pub returns-in_err-decode_hex-in-Send : goal.returns-in_err-decode_hex-in-Send
