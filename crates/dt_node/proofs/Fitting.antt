@@ -19,7 +19,9 @@ use Rattle.dt_text.specs.Hexadecimal.{octets_of_hex, are_pairs}
 use Rattle.dt_text.specs.InputLines.{in_front, lines_of}
 use Rattle.dt_text.specs.Lines.{line_of}
 use Rattle.dt_text.specs.Said as said
-use Rattle.dt_text.specs.Said.{Said}
+use Rattle.dt_text.specs.Said.{Said, ScriptSaid, UserSaid}
+use Rattle.dt_text.specs.declared.lines.NodeLine.{NodeLine}
+use Rattle.dt_text.specs.declared.lines.NodeLine.TheVariants as nodes
 use Rattle.dt_text.specs.Spelling.{IsLine, IsSpelling}
 use Rattle.dt_text.specs.Stages.{stage_after}
 use Rattle.dt_text.specs.WordKinds.{IsHex}
@@ -27,7 +29,7 @@ use Rattle.dt_text.proofs.LineLaws.{line-only}
 use Rattle.dt_fold.specs.Folds.{Folded, Turned, closed, fold_from, fold_on}
 use Rattle.dt_world_model.specs.declared.links.InLink.{InLink}
 use Rattle.dt_node.specs.Codes.{IsCommandOf, IsGood, IsGoodSetup, IsTaskOf, SameLinks, most_commands}
-use Rattle.dt_node.specs.Drafts.{Collects, Complete, Draft, Empty, Named, Prepares, Ruled, by_command, by_local, by_me, by_params, by_peer, by_route, by_shelf, closed_with, done_by, done_if, has_link, in_commands, in_setup, orders_in, read_script, route_fault, route_unless, shelf_unless, script_turns, stage_of, to_draft, turn_line, turn_read}
+use Rattle.dt_node.specs.Drafts.{Collects, Complete, Draft, Empty, Named, Prepares, Ruled, by_command, by_local, by_me, by_node, by_params, by_peer, by_route, by_script, by_shelf, by_user, closed_with, done_by, done_if, has_link, in_commands, in_setup, orders_in, read_script, route_fault, route_unless, shelf_unless, script_turns, stage_of, to_draft, turn_line, turn_read}
 use Rattle.dt_node.specs.Orders.{Command, Orders, Reads, Sends, Setup, Task}
 
 -- PEERS
@@ -175,67 +177,70 @@ command_kept lines at here there task s cs h is =
     ]
 
 -- what is known of a command's words
+abbrev HasUse : UserSaid → Type 0
+HasUse (said.Send flow begin end hex) = IsHex 65536 hex
+HasUse (said.Read flow max) = (1 ≤ max) × (max ≤ 65536)
+
+abbrev HasWordsAlone : ScriptSaid → Type 0
+HasWordsAlone (said.Node line) = Unit {0}
+HasWordsAlone (said.At at does) = HasUse does
+HasWordsAlone (said.Stop at) = at < 2 ^ 32
+
 abbrev HasWords : Said → Type 0
-HasWords (said.AtSend at flow begin end hex) = IsHex 65536 hex
-HasWords (said.AtRead at flow max) = (1 ≤ max) × (max ≤ 65536)
-HasWords (said.AtStop at) = at < 2 ^ 32
-HasWords line = Unit {0}
+HasWords said.Blank = Unit {0}
+HasWords (said.Params p) = Unit {0}
+HasWords said.Go = Unit {0}
+HasWords (said.Setup line) = Unit {0}
+HasWords (said.Run line) = Unit {0}
+HasWords (said.Script line) = HasWordsAlone line
+
+words_alone : (line : ScriptSaid) → IsLine Script (said.Script line) → HasWordsAlone line
+words_alone (said.Node line) h = tt
+words_alone (said.At at (said.Send flow begin end hex)) h = h.1.1.1.1.0
+words_alone (said.At at (said.Read flow max)) h = h.1.1.1.0
+words_alone (said.Stop at) h = omega (arith, h.1.0.1)
 
 line_words : (line : Said) → IsLine Script line → HasWords line
-line_words (said.AtSend at flow begin end hex) h = h.1.1.1.1.0
-line_words (said.AtRead at flow max) h = h.1.1.1.0
-line_words (said.AtStop at) h = omega (arith, h.1.0.1)
 line_words said.Blank h = tt
 line_words (said.Params p) h = tt
-line_words (said.Station n ahead) h = tt
-line_words (said.Link link from to charge pace) h = tt
-line_words (said.Route at to link) h = tt
 line_words said.Go h = tt
-line_words (said.Pass by) h = tt
-line_words (said.Send flow begin end hex) h = tt
-line_words (said.Read flow max) h = tt
-line_words (said.Tick n) h = tt
-line_words (said.Arrive copy) h = tt
-line_words (said.Lose copy) h = tt
-line_words (said.Restart n) h = tt
-line_words (said.Shelf room) h = tt
-line_words (said.Call flow hex) h = tt
-line_words (said.Me n again) h = tt
-line_words (said.Local address) h = tt
-line_words (said.Peer link address charge pace) h = tt
+line_words (said.Setup line) h = tt
+line_words (said.Run line) h = tt
+line_words (said.Script line) h = words_alone line h
 
 read_words : (line : Said) (octets : List ℕ) → (line ≡ said.Blank) ⊎ (IsLine Script line × IsSpelling Script line octets) → HasWords line
 read_words line octets (inl blank) = subst HasWords (sym blank) tt
 read_words line octets (inr read) = line_words line read.0
 
-done_kept : (lines : ℕ) (draft : Draft) (line : Said) → IsFit lines draft → HasWords line → IsKept (lines + 1) (done_by draft line)
-done_kept lines draft said.Blank h words = (fit_in lines 1 draft h, refl)
-done_kept lines draft (said.Params p) h words = params_kept (lines + 1) p (first_out_of_range p) refl
-done_kept lines draft (said.Me n again) h words = me_kept (lines + 1) draft n again (fit_in lines 1 draft h)
-done_kept lines draft (said.Local address) h words = local_kept (lines + 1) draft address (fit_in lines 1 draft h)
-done_kept lines draft (said.Peer link address charge pace) h words = in_setup_kept lines draft (by_peer link address charge pace) h (λ s k. peer_kept (lines + 1) link address charge pace s k)
-done_kept lines draft (said.Route at to link) h words = in_setup_kept lines draft (by_route to link) h (λ s k. route_kept (lines + 1) to link s (route_fault to link s) k)
-done_kept lines draft said.Go h words = in_setup_kept lines draft (λ s. to_draft (Collects s [] 0)) h (λ s k. ((k, All-nil (IsCommandOf s.me), omega arith), refl))
-done_kept lines draft (said.AtSend at f begin end hex) h words =
+node_kept : (lines : ℕ) (draft : Draft) (line : NodeLine) → IsFit lines draft → IsKept (lines + 1) (by_node draft line)
+node_kept lines draft (nodes.Me n again) h = me_kept (lines + 1) draft n again (fit_in lines 1 draft h)
+node_kept lines draft (nodes.Local address) h = local_kept (lines + 1) draft address (fit_in lines 1 draft h)
+node_kept lines draft (nodes.Peer link address charge pace) h = in_setup_kept lines draft (by_peer link address charge pace) h (λ s k. peer_kept (lines + 1) link address charge pace s k)
+node_kept lines draft (nodes.Route to link) h = in_setup_kept lines draft (by_route to link) h (λ s k. route_kept (lines + 1) to link s (route_fault to link s) k)
+node_kept lines draft (nodes.Shelf room) h = in_setup_kept lines draft (by_shelf room) h (λ s k. shelf_kept (lines + 1) room s s.shelf k)
+
+user_kept : (lines : ℕ) (draft : Draft) (at : ℕ) (does : UserSaid) → IsFit lines draft → HasUse does → IsKept (lines + 1) (by_user draft at does)
+user_kept lines draft at (said.Send f begin end hex) h words =
     let task = Sends f begin end (octets_of_hex hex) in
     in_commands_kept lines draft (by_command at f.from.0 f.to.0 task) h
     (λ s cs k. command_kept lines at f.from.0 f.to.0 task s cs k (λ here there. (here, there, octets_some hex words.some words.pairs, omega (arith, octets_few hex, words.within))))
-done_kept lines draft (said.AtRead at f max) h words =
+user_kept lines draft at (said.Read f max) h words =
     in_commands_kept lines draft (by_command at f.to.0 f.from.0 (Reads f max)) h
     (λ s cs k. command_kept lines at f.to.0 f.from.0 (Reads f max) s cs k (λ here there. (here, there, words.0, words.1)))
-done_kept lines draft (said.AtStop at) h words =
+
+script_kept : (lines : ℕ) (draft : Draft) (line : ScriptSaid) → IsFit lines draft → HasWordsAlone line → IsKept (lines + 1) (by_script draft line)
+script_kept lines draft (said.Node line) h words = node_kept lines draft line h
+script_kept lines draft (said.At at does) h words = user_kept lines draft at does h words
+script_kept lines draft (said.Stop at) h words =
     in_commands_kept lines draft (λ s cs. to_draft (Complete (record { setup = s; commands = cs; stop = at }))) h (λ s cs k. (((k.0, k.1, omega (arith, k.2)), words), refl))
-done_kept lines draft (said.Station n ahead) h words = tt
-done_kept lines draft (said.Link link from to charge pace) h words = tt
-done_kept lines draft (said.Pass by) h words = tt
-done_kept lines draft (said.Send flow begin end hex) h words = tt
-done_kept lines draft (said.Read flow max) h words = tt
-done_kept lines draft (said.Tick n) h words = tt
-done_kept lines draft (said.Arrive copy) h words = tt
-done_kept lines draft (said.Lose copy) h words = tt
-done_kept lines draft (said.Restart n) h words = tt
-done_kept lines draft (said.Shelf room) h words = in_setup_kept lines draft (by_shelf room) h (λ s k. shelf_kept (lines + 1) room s s.shelf k)
-done_kept lines draft (said.Call flow hex) h words = tt
+
+done_kept : (lines : ℕ) (draft : Draft) (line : Said) → IsFit lines draft → HasWords line → IsKept (lines + 1) (done_by draft line)
+done_kept lines draft said.Blank h words = (fit_in lines 1 draft h, refl)
+done_kept lines draft (said.Params p) h words = params_kept (lines + 1) p (first_out_of_range p) refl
+done_kept lines draft said.Go h words = in_setup_kept lines draft (λ s. to_draft (Collects s [] 0)) h (λ s k. ((k, All-nil (IsCommandOf s.me), omega arith), refl))
+done_kept lines draft (said.Setup line) h words = tt
+done_kept lines draft (said.Run line) h words = tt
+done_kept lines draft (said.Script line) h words = script_kept lines draft line h words
 
 if_kept : (lines : ℕ) (draft : Draft) (line : Said) (stage : Option Stage) → IsFit lines draft → HasWords line → IsKept (lines + 1) (done_if stage draft line)
 if_kept lines draft line None h words = tt

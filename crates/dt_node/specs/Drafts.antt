@@ -18,7 +18,9 @@ use Rattle.dt_text.specs.declared.stages.Stage.TheVariants as stages
 use Rattle.dt_text.specs.Hexadecimal.{octets_of_hex}
 use Rattle.dt_text.specs.Lines.{line_of}
 use Rattle.dt_text.specs.Said as said
-use Rattle.dt_text.specs.Said.{Said}
+use Rattle.dt_text.specs.Said.{Said, ScriptSaid, UserSaid}
+use Rattle.dt_text.specs.declared.lines.NodeLine.{NodeLine}
+use Rattle.dt_text.specs.declared.lines.NodeLine.TheVariants as nodes
 use Rattle.dt_text.specs.Stages.{stage_after}
 use Rattle.dt_fold.specs.Folds.{Folded, Turned, Turns, fold_input}
 use Rattle.dt_world_model.specs.declared.links.InLink.{InLink}
@@ -142,28 +144,32 @@ by_command at here there task s cs =
     to_draft (Collects s (cs ++ (record { at = at; task = task }) ∷ []) at)
 
 -- WHAT A LINE DOES where it is allowed, one row a line
+
+-- before `go`: the node is set up
+abbrev pub by_node : Draft → NodeLine → Result (Turned Draft) Fault
+by_node draft (nodes.Me n again) = by_me draft n again
+by_node draft (nodes.Local address) = by_local draft address
+by_node draft (nodes.Peer link address charge pace) = in_setup draft (by_peer link address charge pace)
+by_node draft (nodes.Route to link) = in_setup draft (by_route to link)
+by_node draft (nodes.Shelf room) = in_setup draft (by_shelf room)
+
+-- behind it: what the node's user does at a moment, and the stop
+abbrev pub by_user : Draft → ℕ → UserSaid → Result (Turned Draft) Fault
+by_user draft at (said.Send f begin end hex) = in_commands draft (by_command at f.from.0 f.to.0 (Sends f begin end (octets_of_hex hex)))
+by_user draft at (said.Read f max) = in_commands draft (by_command at f.to.0 f.from.0 (Reads f max))
+
+abbrev pub by_script : Draft → ScriptSaid → Result (Turned Draft) Fault
+by_script draft (said.Node line) = by_node draft line
+by_script draft (said.At at does) = by_user draft at does
+by_script draft (said.Stop at) = in_commands draft (λ s cs. to_draft (Complete (record { setup = s; commands = cs; stop = at })))
+
 abbrev pub done_by : Draft → Said → Result (Turned Draft) Fault
 done_by draft said.Blank = to_draft draft
 done_by draft (said.Params p) = by_params p (first_out_of_range p)
-done_by draft (said.Me n again) = by_me draft n again
-done_by draft (said.Local address) = by_local draft address
-done_by draft (said.Peer link address charge pace) = in_setup draft (by_peer link address charge pace)
-done_by draft (said.Route at to link) = in_setup draft (by_route to link)
 done_by draft said.Go = in_setup draft (λ s. to_draft (Collects s [] 0))
-done_by draft (said.AtSend at f begin end hex) = in_commands draft (by_command at f.from.0 f.to.0 (Sends f begin end (octets_of_hex hex)))
-done_by draft (said.AtRead at f max) = in_commands draft (by_command at f.to.0 f.from.0 (Reads f max))
-done_by draft (said.AtStop at) = in_commands draft (λ s cs. to_draft (Complete (record { setup = s; commands = cs; stop = at })))
-done_by draft (said.Station n ahead) = misplaced
-done_by draft (said.Link link from to charge pace) = misplaced
-done_by draft (said.Pass by) = misplaced
-done_by draft (said.Send flow begin end hex) = misplaced
-done_by draft (said.Read flow max) = misplaced
-done_by draft (said.Tick n) = misplaced
-done_by draft (said.Arrive copy) = misplaced
-done_by draft (said.Lose copy) = misplaced
-done_by draft (said.Restart n) = misplaced
-done_by draft (said.Shelf room) = in_setup draft (by_shelf room)
-done_by draft (said.Call flow hex) = misplaced
+done_by draft (said.Setup line) = misplaced
+done_by draft (said.Run line) = misplaced
+done_by draft (said.Script line) = by_script draft line
 
 -- A LINE IS TURNED: it is read, then its place is tested, and then it is done. The first of the three that refuses it tells the fault.
 abbrev pub done_if : Option Stage → Draft → Said → Result (Turned Draft) Fault

@@ -2,12 +2,12 @@
 ghost use Rattle.std.specs.Prelude.{◌≡◌, ◌++◌, ◌∷◌, [], Ok, IfOk, IsTrue, option_map};
 ghost use Rattle.dt_units.specs.Limits.{first_out_of_range};
 ghost use Rattle.dt_text.specs.Hexadecimal.{are_pairs, octets_of_hex};
-ghost use Rattle.dt_text.specs.Said.{said};
+ghost use Rattle.dt_text.specs.Said.{At, Script, said, user_said};
 ghost use Rattle.dt_text.specs.Spelling.{IsLine};
 ghost use Rattle.dt_text.specs.declared.lines.Form.TheVariants.{Script as OfScript};
 ghost use Rattle.dt_node.specs.Codes.{LeadsTo, draft_seen, orders_seen, setup_seen, task_seen};
 ghost use Rattle.dt_node.specs.Orders.{Sends};
-ghost use Rattle.dt_node.specs.Drafts.{Collects, Complete, Empty, by_command, by_local, by_me, by_params, by_peer, by_route, by_shelf, done_by, has_link, has_route, in_commands, in_setup, orders_in, route_fault, stage_of, to_draft};
+ghost use Rattle.dt_node.specs.Drafts.{Collects, Complete, Empty, by_command, by_local, by_me, by_node, by_params, by_peer, by_route, by_shelf, by_user, done_by, has_link, has_route, in_commands, in_setup, orders_in, route_fault, stage_of, to_draft};
 
 use crate::orders::{Command, NodeSetup, Orders, Task};
 use dt_edges::{Address, Peer, Sink};
@@ -15,7 +15,7 @@ use dt_fold::{LineTurns, Stop};
 use dt_items::NoMemory;
 use dt_reports::{Fault, LineFault, SetupFault, StepFault};
 use dt_station::{InLink, OutLink, Route};
-use dt_text::{Form, Line, Stage, decode_hex, follows, read_line};
+use dt_text::{Form, Line, NodeLine, ScriptLine, Stage, UserLine, decode_hex, follows, read_line};
 use dt_units::{Flow, NodeId, Params, Rules};
 use std::alloc::Global;
 use std::marker::Model;
@@ -92,44 +92,14 @@ impl Draft {
         ensures { LeadsTo (done_by self.old (said line.now)) result self.old self.new }
     {
         let part = &mut self.part;
-        match *line {
+        match line {
             Line::Blank => Ok(None),
-            Line::Params(params) => Ok(add_params(part, &params)),
-            Line::Me { n, again } => Ok(add_me(part, NodeId(n), again)),
-            Line::Local(address) => Ok(add_local(part, address, self.alloc)),
-            Line::Peer {
-                link,
-                address,
-                charge,
-                pace,
-            } => add_peer(part, Peer { link, address }, charge, pace),
-            Line::Route { to, link, .. } => add_route(part, Route { to, link }),
-            Line::Shelf { room } => Ok(add_shelf(part, room)),
+            Line::Params(params) => Ok(add_params(part, params)),
             Line::Go => Ok(begin(part, self.alloc)),
-            Line::AtSend {
-                at,
-                flow,
-                begin,
-                end,
-                hex,
-            } => {
-                let task = send_task(self.alloc, flow, begin, end, hex)?;
-                add_command(part, at, flow.from, flow.to, task)
-            }
-            Line::AtRead { at, flow, max } => {
-                add_command(part, at, flow.to, flow.from, Task::Read { flow, max })
-            }
-            Line::AtStop { at } => Ok(stop(part, at)),
-            Line::Station { .. }
-            | Line::Link { .. }
-            | Line::Pass { .. }
-            | Line::Send { .. }
-            | Line::Read { .. }
-            | Line::Tick { .. }
-            | Line::Arrive { .. }
-            | Line::Lose { .. }
-            | Line::Restart { .. }
-            | Line::Call { .. } => Ok(Some(MISPLACED)),
+            Line::Script(ScriptLine::Node(line)) => add_node(part, *line, self.alloc),
+            Line::Script(ScriptLine::At { at, does }) => add_use(part, *at, does, self.alloc),
+            Line::Script(ScriptLine::Stop { at }) => Ok(stop(part, *at)),
+            Line::Setup(_) | Line::Run(_) => Ok(Some(MISPLACED)),
         }
     }
 }
@@ -173,6 +143,50 @@ impl Part {
             Part::Preparing(_) => Stage::Setup,
             Part::Collecting { last, .. } => Stage::Run { last: *last },
             Part::Complete(_) => Stage::Ended,
+        }
+    }
+}
+
+/// The node is set up by a line.
+fn add_node(part: &mut Part, line: NodeLine, alloc: Global) -> Result<Option<Fault>, NoMemory>
+    ensures { LeadsTo (by_node (draft_seen part.old) line) result (draft_seen part.old) (draft_seen part.new) }
+{
+    match line {
+        NodeLine::Me { n, again } => Ok(add_me(part, NodeId(n), again)),
+        NodeLine::Local(address) => Ok(add_local(part, address, alloc)),
+        NodeLine::Peer {
+            link,
+            address,
+            charge,
+            pace,
+        } => add_peer(part, Peer { link, address }, charge, pace),
+        NodeLine::Route { to, link } => add_route(part, Route { to, link }),
+        NodeLine::Shelf { room } => Ok(add_shelf(part, room)),
+    }
+}
+
+/// What the user of the node does at a moment, in ms.
+fn add_use(
+    part: &mut Part,
+    at: u32,
+    does: &UserLine<'_>,
+    alloc: Global,
+) -> Result<Option<Fault>, NoMemory>
+    requires { IsLine OfScript (Script (At at (user_said does.now))) }
+    ensures { LeadsTo (by_user (draft_seen part.old) at (user_said does.now)) result (draft_seen part.old) (draft_seen part.new) }
+{
+    match *does {
+        UserLine::Send {
+            flow,
+            begin,
+            end,
+            hex,
+        } => {
+            let task = send_task(alloc, flow, begin, end, hex)?;
+            add_command(part, at, flow.from, flow.to, task)
+        }
+        UserLine::Read { flow, max } => {
+            add_command(part, at, flow.to, flow.from, Task::Read { flow, max })
         }
     }
 }
