@@ -25,7 +25,7 @@ use Rattle.dt_host.specs.declared.dues.DueKind.TheVariants as due
 use Rattle.dt_host.specs.Dues.{class_of, goes_first, or_recv, or_send, sooner_of, soonest_recv, soonest_send}
 use Rattle.dt_host.specs.Hosts.{AreReceiveEntries, AreSendEntries}
 use Rattle.dt_host.specs.Soonest.{IsQuiet, IsSoonest, receiver_moment, sender_moment}
-use Rattle.dt_host.proofs.Noting.{none_some, same_some}
+use Rattle.dt_host.proofs.Somes.{none_some, same_some}
 
 -- ONE ACT against another
 abbrev pub Beaten : DueAct → Option DueAct → Type 0

@@ -13,7 +13,7 @@ use Rattle.dt_world_model.specs.Host.{one_if}
 use Rattle.dt_host.specs.Agendas.{SendNote, no_send_note, note_at, with_resend}
 use Rattle.dt_host.specs.Notes.{AreNoted, IsSendNoted}
 use Rattle.dt_host.specs.Soonest.{has_missed, missed_senders}
-use Rattle.dt_host.proofs.Noting.{none_some, same_some}
+use Rattle.dt_host.proofs.Somes.{none_some, same_some}
 use Rattle.dt_host.proofs.Resends.{none_missed}
 
 abbrev differs : Option ℕ → Option ℕ → ℕ
