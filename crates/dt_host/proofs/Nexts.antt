@@ -1,12 +1,10 @@
 -- The act of a host that comes next, by its two sides.
-use Rattle.std.proofs.Common.{ℕ, ◌≡◌, ◌<◌, List, Option, Some, None, refl, sym, ap, subst, ◌∙◌}
+use Rattle.std.proofs.Common.{ℕ, ◌≡◌, ◌<◌, Option, Some, None, refl, sym, subst, ◌∙◌}
 use Rattle.std.specs.Prelude.{IfSome}
-use Rattle.dt_units.specs.declared.endpoints.Flow.{Flow}
 use Rattle.dt_units.specs.declared.parameters.Params.{Params}
 use Rattle.dt_flow_model.specs.declared.acts.SendKind.{SendKind}
 use Rattle.dt_flow_model.specs.declared.acts.SendKind.TheVariants as S
 use Rattle.dt_flow_model.specs.declared.acts.RecvKind.{RecvKind}
-use Rattle.dt_recv.specs.Receivers.{ReceiverValue}
 use Rattle.dt_world_model.specs.Host.{Host, recv_class, send_class}
 use Rattle.dt_world_model.specs.Tables.{Distinct, same_flow}
 use Rattle.dt_host.specs.declared.dues.DueAct.{DueAct}
@@ -16,7 +14,7 @@ use Rattle.dt_host.specs.Hosts.{AreReceiveEntries, AreSendEntries, receivers_of,
 use Rattle.dt_host.specs.Sides.{RecvSideValue, SendSideValue}
 use Rattle.dt_host.specs.Soonest.{IsQuiet, IsSoonest, receiver_moment, sender_moment}
 use Rattle.dt_host.proofs.HostParts.{host_in}
-use Rattle.dt_host.proofs.Offered.{either_way, lower_recv, lower_send, receiver_first, sender_first}
+use Rattle.dt_host.proofs.Offered.{either_way, receiver_first, sender_first}
 use Rattle.dt_host.proofs.Turns.{next_is}
 use Rattle.dt_host.proofs.Walks.{walk_is}
 

@@ -1,6 +1,6 @@
 -- What each record offers, by the moments of its kinds; and the offer that comes first.
-use Rattle.std.proofs.Common.{ℕ, ◌≡◌, ◌+◌, ◌<◌, ◌≤◌, ◌⊎◌, Bool, true, false, List, [], ◌∷◌, Option, Some, None, refl, sym, ap, subst, ◌∙◌, inl, inr, arith}
-use Rattle.std.specs.Prelude.{IfSome, ◌==◌, ◌&&◌, ◌||◌, if◌then◌else◌, nat_le, nat_lt, slice_get}
+use Rattle.std.proofs.Common.{ℕ, ◌≡◌, ◌+◌, ◌<◌, ◌≤◌, ◌⊎◌, Bool, true, false, List, Option, Some, None, refl, sym, ap, subst, ◌∙◌, inl, inr, arith}
+use Rattle.std.specs.Prelude.{IfSome, ◌==◌, if◌then◌else◌, nat_le, slice_get}
 use Rattle.std.specs.Option.{option_or}
 use Rattle.std.proofs.lemmas.Bool.{cases_Bool, cases_eq, cases_lt}
 use Rattle.std.proofs.lemmas.Bool.Decides.{nat_tests}
@@ -12,7 +12,6 @@ use Rattle.dt_flow_model.specs.declared.acts.SendKind.TheVariants as S
 use Rattle.dt_flow_model.specs.declared.acts.RecvKind.{RecvKind}
 use Rattle.dt_flow_model.specs.declared.acts.RecvKind.TheVariants as R
 use Rattle.dt_flow_model.specs.declared.moments.SendMoments.{SendMoments}
-use Rattle.dt_flow_model.specs.SendRecord.{SendRecord}
 use Rattle.dt_flow_model.specs.SendActs.{due_of, send_moment, send_moments}
 use Rattle.dt_flow_model.specs.ReceiveRecord.{ReceiveRecord, owing, recv_due_of, recv_moment, recv_moment_if, recv_moments}
 use Rattle.dt_send.specs.Senders.{SenderValue, due_if, first_due}

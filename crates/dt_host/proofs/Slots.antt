@@ -1,6 +1,6 @@
 -- Records in places, and their notes: what the calls of a map do to a table's entries is done to the places, and notes by places are notes in the order of making.
-use Rattle.std.proofs.Common.{ℕ, zero, suc, ◌≡◌, ◌≢◌, ◌+◌, ◌<◌, ◌≤◌, ◌⊎◌, Bool, true, false, List, [], ◌∷◌, length, set, Option, Some, None, refl, sym, ap, subst, ◌∙◌, inl, inr, arith, cond}
-use Rattle.std.specs.Prelude.{if◌then◌else◌, is_some, option_map, slice_get, slice_index_or}
+use Rattle.std.proofs.Common.{ℕ, zero, suc, ◌≡◌, ◌≢◌, ◌<◌, ◌≤◌, ◌⊎◌, Bool, true, false, List, [], ◌∷◌, length, set, Option, Some, None, refl, sym, ap, subst, ◌∙◌, inl, inr, arith, cond}
+use Rattle.std.specs.Prelude.{if◌then◌else◌, option_map, slice_get, slice_index_or}
 use Rattle.std.specs.Option.{option_and_then}
 use Rattle.std.specs.Map.{lookup, remove_entry, set_value}
 use Rattle.std.proofs.lemmas.Bool.{cases_Bool, cases_eq, cases_lt}
@@ -17,7 +17,7 @@ use Rattle.dt_host.specs.Places.{AreKept, IsNotedAt, StandOnce, equal_flows, is_
 use Rattle.dt_host.proofs.Entries.{removed_written}
 use Rattle.dt_host.proofs.Flows.{flows_agree}
 use Rattle.dt_host.proofs.Somes.{none_some, same_some, some_none}
-use Rattle.dt_host.proofs.Standing.{later_some, moved_to, one_empty, place_at, place_same, present_same, slot_here, slot_there, slot_within}
+use Rattle.dt_host.proofs.Standing.{later_some, place_same, present_same, slot_here, slot_there, slot_within}
 
 later : (f : Flow) (o : Option Flow) (os : List (Option Flow)) (i : ℕ) → is_of f o ≡ false → place_in f (o ∷ os) ≡ Some i → (j : ℕ) × (place_in f os ≡ Some j) × (i ≡ suc j)
 later f o os i n h = later_some (place_in f os) i (sym (ap (λ (b : Bool). if b then Some 0 else option_map suc (place_in f os)) n) ∙ h)
@@ -90,9 +90,11 @@ module _ {A : Type 0} where
         (r.0, subst (λ (n : ℕ). slot (None ∷ os) n ≡ Some (f, r.0)) (sym j.2) r.1, r.2)
     found_at (Some e ∷ os) i h =
         elim (cases_Bool (same_flow e.0 f)) [
-          | inl y ↦
-              (e.1, subst (λ (n : ℕ). slot (Some e ∷ os) n ≡ Some (f, e.1)) (first_place f (Some e.0) (owners os) i y h) (ap (λ (g : Flow). Some (g, e.1)) (flow_is e.0 f y)),
-              ap (λ (b : Bool). cond b (Some e.1) (lookup (equal_flows f) (present os))) (hit f e y))
+          | inl y ↦ (
+            e.1,
+            subst (λ (n : ℕ). slot (Some e ∷ os) n ≡ Some (f, e.1)) (first_place f (Some e.0) (owners os) i y h) (ap (λ (g : Flow). Some (g, e.1)) (flow_is e.0 f y)),
+            ap (λ (b : Bool). cond b (Some e.1) (lookup (equal_flows f) (present os))) (hit f e y),
+          )
           | inr n ↦
               let j = later f (Some e.0) (owners os) i n h in
               let r = found_at os j.0 j.1 in

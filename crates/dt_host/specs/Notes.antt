@@ -1,12 +1,11 @@
 -- What is noted of a host's records, and how the notes follow a change of one flow's record.
-use Rattle.std.specs.Prelude.{ℕ, suc, ◌≡◌, ◌≤◌, if◌then◌else◌, List, [], ◌∷◌, option_map, Option, Some, None}
+use Rattle.std.specs.Prelude.{ℕ, ◌≡◌, ◌≤◌, List, [], ◌∷◌}
 use Rattle.dt_units.specs.declared.parameters.Params.{Params}
 use Rattle.dt_units.specs.declared.endpoints.Flow.{Flow}
 use Rattle.dt_flow_model.specs.SendRecord.{SendRecord}
 use Rattle.dt_flow_model.specs.SendActs.{send_moments, wake_of}
 use Rattle.dt_flow_model.specs.declared.moments.RecvMoments.{RecvMoments}
 use Rattle.dt_flow_model.specs.ReceiveRecord.{Receiver, recv_moments}
-use Rattle.dt_world_model.specs.Tables.{Distinct, same_flow, write_or_erase}
 use Rattle.dt_host.specs.Agendas.{SendNote}
 
 -- A sender's moments are noted as they stood at some moment of the past. All but that of a resend stand as long as the record does.

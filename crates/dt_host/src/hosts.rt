@@ -341,6 +341,8 @@ impl Host {
         ensures falls { work self.old.rules self.old.latest self.new.state < work self.old.rules self.old.latest self.old.state }
         ensures looks { steps.new ≤ steps.old + 3 }
     {
+        // With their parameters the rules tell that these are in their limits.
+        let _params = self.senders.rules().params();
         let DueAct { kind, flow, .. } = due;
         let act = match kind {
             DueKind::Send(_) => Act::Send(self.senders.act(&flow, frame, steps)),

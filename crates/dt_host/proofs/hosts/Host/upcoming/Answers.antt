@@ -1,8 +1,7 @@
-use Rattle.std.proofs.Common.{ℕ, ◌≡◌, Option, Some, None, refl, subst, arith}
+use Rattle.std.proofs.Common.{◌≡◌, Some, None, refl, subst, arith}
 use Rattle.std.specs.Prelude.{IfSome}
 use Rattle.dt_flow_model.specs.declared.acts.SendKind.TheVariants as S
 use Rattle.dt_flow_model.specs.declared.acts.RecvKind.TheVariants as R
-use Rattle.dt_host.specs.declared.dues.DueAct.{DueAct}
 use Rattle.dt_host.specs.Dues.{IsNext}
 use Rattle.dt_host.specs.Hosts.{HostValue}
 use Rattle.dt_host.specs.Sides.{SendSideValue}

@@ -1,4 +1,4 @@
-use Rattle.std.proofs.Common.{ℕ, ◌≡◌, List, Option, ap, subst, ◌∙◌}
+use Rattle.std.proofs.Common.{ℕ, ◌≡◌, Option, ap, subst, ◌∙◌}
 use Rattle.dt_units.specs.declared.endpoints.Flow.{Flow}
 use Rattle.dt_units.specs.declared.parameters.Params.{Params}
 use Rattle.dt_flow_model.specs.SendActs.{earlier}

@@ -1,4 +1,4 @@
-use Rattle.std.proofs.Common.{ℕ, ◌≡◌, ◌∷◌, ◌++◌, [], List, Option, None, subst, sym}
+use Rattle.std.proofs.Common.{◌∷◌, ◌++◌, [], List, Option, None, subst, sym}
 use Rattle.dt_units.specs.declared.endpoints.Flow.{Flow}
 use Rattle.dt_host.specs.Places.{AreIndexed}
 use Rattle.dt_host.proofs.Standing.{one_empty, same_indexed}

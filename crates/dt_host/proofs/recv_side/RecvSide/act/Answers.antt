@@ -1,26 +1,17 @@
-use Rattle.std.proofs.Common.{ℕ, ◌≡◌, ◌<◌, ◌++◌, List, Option, Some, None, drop, false, length, set, refl, sym, ap, subst, ◌∙◌, arith}
+use Rattle.std.proofs.Common.{ℕ, ◌≡◌, ◌<◌, Option, Some, None, set, refl, sym, ap, subst, ◌∙◌, arith}
 use Rattle.std.proofs.lemmas.Bool.{false≢true}
 use Rattle.std.proofs.lemmas.List.{length-set}
-use Rattle.std.specs.Prelude.{IfErr, IfOk, IfSome, IsSome, Result, Ok, Err, unwrap_or}
-use Rattle.std.specs.Map.{lookup, remove_entry, set_value}
-use Rattle.dt_items.specs.declared.item.Item.{Item}
-use Rattle.dt_items.specs.declared.memory.NoMemory.{NoMemory}
-use Rattle.dt_items.specs.Unread.{marked, octets_of, piece_told}
-use Rattle.dt_units.specs.declared.endpoints.Flow.{Flow}
-use Rattle.dt_units.specs.declared.parameters.Params.{Params}
+use Rattle.std.specs.Prelude.{IfSome, IsSome, unwrap_or}
 use Rattle.dt_layout.specs.Carried.{IsGram}
 use Rattle.dt_flow_model.specs.declared.acts.RecvKind.{RecvKind}
-use Rattle.dt_flow_model.specs.declared.arrivals.Arrived.{Arrived}
-use Rattle.dt_flow_model.specs.declared.arrivals.Action.TheVariants.{Make}
-use Rattle.dt_flow_model.specs.Frames.{recv_frame, reply_frame}
-use Rattle.dt_flow_model.specs.ReceiveRecord.{ReceiveRecord, Receiver, action_on, after_data, after_meet, after_recv_act, answer_to_close, answer_to_data, answer_to_meet, recv_told_of}
+use Rattle.dt_flow_model.specs.Frames.{recv_frame}
+use Rattle.dt_flow_model.specs.ReceiveRecord.{ReceiveRecord, Receiver, after_recv_act, recv_told_of}
 use Rattle.dt_recv.specs.Receivers.{ReceiverValue}
-use Rattle.dt_world_model.specs.Host.{Host, host_with_receiver, read_octets, receiver_at}
+use Rattle.dt_world_model.specs.Host.{Host, host_with_receiver}
 use Rattle.dt_world_model.specs.Tables.{look, same_flow}
-use Rattle.dt_host.specs.Answers.{IsDataAnswer, IsDataTaken, replied}
 use Rattle.dt_host.specs.Dues.{HasRecvDue}
-use Rattle.dt_host.specs.Hosts.{AreReceiveEntries, receivers_of}
-use Rattle.dt_host.specs.Places.{equal_flows, present}
+use Rattle.dt_host.specs.Hosts.{receivers_of}
+use Rattle.dt_host.specs.Places.{present}
 use Rattle.dt_host.specs.Sides.{RecvSideValue}
 use Rattle.dt_host.proofs.RecvTurns.{acted, due_is, gone, look_none, recv_told, stands_is, stayed, value_is}
 use Rattle.dt_host.proofs.RecvSides.{HasDueIn, all_recv, busy_entry, found_there, gone as left, never_empty, none_there, place_room, place_within, side_left, side_set, written}
@@ -158,8 +149,8 @@ returns-then-idle-clause-after g c =
     let found = found_there h.rules h.latest h.places h.slots.items h.agenda c.self.invariant c.find.ensures.once c.args.flow.now c.in-Some.place c.in-Some.ensures.place c.index_mut.result.now c.index_mut.ensures.value c.in-Some-index_mut.field-0-0 c.in-Some-index_mut.receiver c.in-Some-index_mut.is in
     subst (λ (v : RecvSideValue). (r : Receiver) (y : ReceiveRecord) (kind : RecvKind) (moment : ℕ) → HasRecvDue v.rules v.latest (look same_flow f (receivers_of v.entries)) r y kind moment → (host : Host) → record host { receivers = receivers_of (present (set (set h.slots.items c.in-Some.place (Some (c.in-Some-index_mut.field-0-0, u))) c.in-Some.place None)) } ≡ host_with_receiver (record host { receivers = receivers_of v.entries }) f (after_recv_act v.rules r kind)) c.self.view_is
     (λ r y kind moment due host.
-        let e = acted f es s found p all h.latest r y kind moment due u (c.act-act.ensures.after kind moment (due_is f es s found p all h.latest r y kind moment due)) in
-        gone f es s found p all u (after_recv_act p r kind) e (present (set (set h.slots.items c.in-Some.place (Some (c.in-Some-index_mut.field-0-0, u))) c.in-Some.place None)) (c.is_idle-idle.ensures.0 c.if-idle.true) (left h.rules h.latest h.places h.slots.items h.agenda c.self.invariant c.find.ensures.once c.args.flow.now c.in-Some.place c.in-Some.ensures.place c.index_mut.result.now c.index_mut.ensures.value c.in-Some-index_mut.field-0-0 c.in-Some-index_mut.receiver c.in-Some-index_mut.is u) host)
+    let e = acted f es s found p all h.latest r y kind moment due u (c.act-act.ensures.after kind moment (due_is f es s found p all h.latest r y kind moment due)) in
+    gone f es s found p all u (after_recv_act p r kind) e (present (set (set h.slots.items c.in-Some.place (Some (c.in-Some-index_mut.field-0-0, u))) c.in-Some.place None)) (c.is_idle-idle.ensures.0 c.if-idle.true) (left h.rules h.latest h.places h.slots.items h.agenda c.self.invariant c.find.ensures.once c.args.flow.now c.in-Some.place c.in-Some.ensures.place c.index_mut.result.now c.index_mut.ensures.value c.in-Some-index_mut.field-0-0 c.in-Some-index_mut.receiver c.in-Some-index_mut.is u) host)
 
 pub returns-else-idle-clause-told : goal.returns-else-idle-clause-told
 returns-else-idle-clause-told g c =
@@ -218,5 +209,5 @@ returns-else-idle-clause-after g c =
     let found = found_there h.rules h.latest h.places h.slots.items h.agenda c.self.invariant c.find.ensures.once c.args.flow.now c.in-Some.place c.in-Some.ensures.place c.index_mut.result.now c.index_mut.ensures.value c.in-Some-index_mut.field-0-0 c.in-Some-index_mut.receiver c.in-Some-index_mut.is in
     subst (λ (v : RecvSideValue). (r : Receiver) (y : ReceiveRecord) (kind : RecvKind) (moment : ℕ) → HasRecvDue v.rules v.latest (look same_flow f (receivers_of v.entries)) r y kind moment → (host : Host) → record host { receivers = receivers_of (present (set h.slots.items c.in-Some.place (Some (c.in-Some-index_mut.field-0-0, u)))) } ≡ host_with_receiver (record host { receivers = receivers_of v.entries }) f (after_recv_act v.rules r kind)) c.self.view_is
     (λ r y kind moment due host.
-        let e = acted f es s found p all h.latest r y kind moment due u (c.act-act.ensures.after kind moment (due_is f es s found p all h.latest r y kind moment due)) in
-        stayed f es s found p all u (after_recv_act p r kind) e (present (set h.slots.items c.in-Some.place (Some (c.in-Some-index_mut.field-0-0, u)))) (λ idle. false≢true (sym c.if-idle.false ∙ c.is_idle-idle.ensures.1 idle)) (written h.rules h.latest h.places h.slots.items h.agenda c.self.invariant c.find.ensures.once c.args.flow.now c.in-Some.place c.in-Some.ensures.place c.index_mut.result.now c.index_mut.ensures.value c.in-Some-index_mut.field-0-0 c.in-Some-index_mut.receiver c.in-Some-index_mut.is u) host)
+    let e = acted f es s found p all h.latest r y kind moment due u (c.act-act.ensures.after kind moment (due_is f es s found p all h.latest r y kind moment due)) in
+    stayed f es s found p all u (after_recv_act p r kind) e (present (set h.slots.items c.in-Some.place (Some (c.in-Some-index_mut.field-0-0, u)))) (λ idle. false≢true (sym c.if-idle.false ∙ c.is_idle-idle.ensures.1 idle)) (written h.rules h.latest h.places h.slots.items h.agenda c.self.invariant c.find.ensures.once c.args.flow.now c.in-Some.place c.in-Some.ensures.place c.index_mut.result.now c.index_mut.ensures.value c.in-Some-index_mut.field-0-0 c.in-Some-index_mut.receiver c.in-Some-index_mut.is u) host)

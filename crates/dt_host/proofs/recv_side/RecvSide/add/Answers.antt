@@ -1,4 +1,4 @@
-use Rattle.std.proofs.Common.{ℕ, ◌≡◌, List, length, Option, sym, ap, subst, ◌∙◌, arith}
+use Rattle.std.proofs.Common.{◌≡◌, List, length, Option, sym, ap, subst, ◌∙◌, arith}
 use Rattle.std.specs.Prelude.{OnErr, Result, Ok, Err}
 use Rattle.std.specs.Map.{lookup}
 use Rattle.indexmap.specs.IndexMap.{insert_entry}
@@ -7,7 +7,7 @@ use Rattle.dt_units.specs.declared.endpoints.Flow.{Flow}
 use Rattle.dt_units.specs.declared.parameters.Params.{Params}
 use Rattle.dt_recv.specs.Receivers.{ReceiverValue}
 use Rattle.dt_host.specs.Hosts.{IsReceiveEntry}
-use Rattle.dt_host.specs.Places.{equal_flows, present}
+use Rattle.dt_host.specs.Places.{equal_flows}
 use Rattle.dt_host.specs.Sides.{IsRecvSide, RecvSideValue}
 use Rattle.dt_host.proofs.RecvSides.{added_present, added_side, pushed_present, pushed_side, still_none}
 use Rattle.dt_host.proofs.recv_side.RecvSide.add.Goals as goal

@@ -1,4 +1,4 @@
-use Rattle.std.proofs.Common.{◌≡◌, length, ap, subst, ◌∙◌}
+use Rattle.std.proofs.Common.{◌≡◌, length, subst, ◌∙◌}
 use Rattle.dt_world_model.specs.Tables.{Distinct, same_flow}
 use Rattle.dt_host.specs.Hosts.{AreReceiveEntries, receivers_of}
 use Rattle.dt_host.specs.Sides.{RecvSideValue}

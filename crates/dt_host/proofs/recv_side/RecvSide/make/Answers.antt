@@ -1,25 +1,11 @@
-use Rattle.std.proofs.Common.{ℕ, ◌≡◌, ◌<◌, ◌++◌, [], List, Option, Some, None, drop, false, length, set, refl, sym, ap, subst, ◌∙◌, arith}
-use Rattle.std.proofs.lemmas.Bool.{false≢true}
-use Rattle.std.proofs.lemmas.List.{length-set}
-use Rattle.std.specs.Prelude.{IfErr, IfOk, IfSome, IsSome, Result, Ok, Err, unwrap_or}
-use Rattle.std.specs.Map.{lookup, remove_entry, set_value}
-use Rattle.dt_items.specs.declared.item.Item.{Item}
-use Rattle.dt_items.specs.declared.memory.NoMemory.{NoMemory}
-use Rattle.dt_items.specs.Unread.{marked, octets_of, piece_told}
-use Rattle.dt_units.specs.declared.endpoints.Flow.{Flow}
-use Rattle.dt_units.specs.declared.parameters.Params.{Params}
-use Rattle.dt_layout.specs.Carried.{IsGram}
-use Rattle.dt_flow_model.specs.declared.acts.RecvKind.{RecvKind}
-use Rattle.dt_flow_model.specs.declared.arrivals.Arrived.{Arrived}
+use Rattle.std.proofs.Common.{◌≡◌, [], None, false, sym, ap, subst, ◌∙◌}
+use Rattle.std.specs.Prelude.{Ok}
+use Rattle.std.specs.Map.{lookup}
+use Rattle.dt_items.specs.Unread.{marked}
 use Rattle.dt_flow_model.specs.declared.arrivals.Action.TheVariants.{Make}
-use Rattle.dt_flow_model.specs.Frames.{recv_frame, reply_frame}
-use Rattle.dt_flow_model.specs.ReceiveRecord.{ReceiveRecord, Receiver, action_on, after_data, after_meet, after_recv_act, answer_to_close, answer_to_data, answer_to_meet, recv_told_of}
+use Rattle.dt_flow_model.specs.ReceiveRecord.{Receiver, action_on, after_data, answer_to_data}
 use Rattle.dt_recv.specs.Receivers.{ReceiverValue}
-use Rattle.dt_world_model.specs.Host.{Host, host_with_receiver, read_octets, receiver_at}
-use Rattle.dt_world_model.specs.Tables.{look, same_flow}
-use Rattle.dt_host.specs.Answers.{IsDataAnswer, IsDataTaken, replied}
-use Rattle.dt_host.specs.Dues.{HasRecvDue}
-use Rattle.dt_host.specs.Hosts.{AreReceiveEntries, receivers_of}
+use Rattle.dt_host.specs.Answers.{IsDataAnswer, IsDataTaken}
 use Rattle.dt_host.specs.Places.{equal_flows, present}
 use Rattle.dt_host.specs.Sides.{RecvSideValue}
 use Rattle.indexmap.specs.IndexMap.{insert_entry}
@@ -43,9 +29,9 @@ returns-clause-answer g c =
     let makes = subst (λ (v : RecvSideValue). action_on v.rules (record { unread = []; standing = None }) k.drf k.number items ≡ Make) (sym c.self.view_is) c.requires.makes in
     subst (λ (v : RecvSideValue). IsDataAnswer v.rules f k.drf k.number items v.entries (Ok c.hand_over-arrived.result)) c.self.view_is
     (λ host.
-        c.hand_over-arrived.ensures.answer
-        ∙ ap (λ (w : ReceiverValue). answer_to_data w.rules w.state k.drf k.number items) c.in_ok-receiver.ensures
-        ∙ ap (λ (r : Receiver). answer_to_data p r k.drf k.number items) (sym (nothing f es none)))
+    c.hand_over-arrived.ensures.answer
+    ∙ ap (λ (w : ReceiverValue). answer_to_data w.rules w.state k.drf k.number items) c.in_ok-receiver.ensures
+    ∙ ap (λ (r : Receiver). answer_to_data p r k.drf k.number items) (sym (nothing f es none)))
 
 pub returns-clause-after : goal.returns-clause-after
 returns-clause-after g c =

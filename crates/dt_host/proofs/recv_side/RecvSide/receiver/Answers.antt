@@ -1,8 +1,6 @@
-use Rattle.std.proofs.Common.{ℕ, ◌≡◌, ◌<◌, Option, List, Some, sym, ap, subst, ◌∙◌}
+use Rattle.std.proofs.Common.{ℕ, ◌≡◌, ◌<◌, Some, sym, ap, subst, ◌∙◌}
 use Rattle.std.specs.Option.{option_copied}
 use Rattle.std.specs.Map.{lookup}
-use Rattle.dt_recv.specs.Receivers.{ReceiverValue}
-use Rattle.dt_units.specs.declared.endpoints.Flow.{Flow}
 use Rattle.dt_host.specs.Places.{equal_flows}
 use Rattle.dt_host.specs.Sides.{RecvSideValue}
 use Rattle.dt_host.proofs.RecvSides.{found_there, never_empty, none_there, place_within}

@@ -1,26 +1,20 @@
-use Rattle.std.proofs.Common.{ℕ, ◌≡◌, ◌<◌, ◌++◌, [], List, Option, Some, None, drop, false, length, set, refl, sym, ap, subst, ◌∙◌, arith}
-use Rattle.std.proofs.lemmas.Bool.{false≢true}
-use Rattle.std.proofs.lemmas.List.{length-set}
-use Rattle.std.specs.Prelude.{nat_le, IfErr, IfOk, IfSome, IsSome, Result, Ok, Err, unwrap_or}
-use Rattle.std.specs.Map.{lookup, remove_entry, set_value}
-use Rattle.dt_items.specs.declared.item.Item.{Item}
+use Rattle.std.proofs.Common.{ℕ, ◌≡◌, ◌<◌, [], Some, None, false, length, set, refl, sym, ap, subst, ◌∙◌, arith}
+use Rattle.std.specs.Prelude.{nat_le, IfErr, IfSome, Result, Ok, Err, unwrap_or}
+use Rattle.std.specs.Map.{lookup}
 use Rattle.dt_items.specs.declared.memory.NoMemory.{NoMemory}
-use Rattle.dt_items.specs.Unread.{marked, octets_of, piece_told}
-use Rattle.dt_units.specs.declared.endpoints.Flow.{Flow}
+use Rattle.dt_items.specs.Unread.{marked}
 use Rattle.dt_units.specs.declared.parameters.Params.{Params}
 use Rattle.dt_layout.specs.Carried.{IsGram}
-use Rattle.dt_flow_model.specs.declared.acts.RecvKind.{RecvKind}
 use Rattle.dt_flow_model.specs.declared.arrivals.Arrived.{Arrived}
 use Rattle.dt_flow_model.specs.declared.arrivals.Arrived.TheVariants.{Dropped}
 use Rattle.dt_flow_model.specs.declared.arrivals.Action.TheVariants.{Make}
-use Rattle.dt_flow_model.specs.Frames.{recv_frame, reply_frame}
-use Rattle.dt_flow_model.specs.ReceiveRecord.{ReceiveRecord, Receiver, action_on, after_data, after_meet, after_recv_act, answer_to_close, answer_to_data, answer_to_meet, recv_told_of}
+use Rattle.dt_flow_model.specs.Frames.{reply_frame}
+use Rattle.dt_flow_model.specs.ReceiveRecord.{Receiver, action_on, after_data, answer_to_data}
 use Rattle.dt_recv.specs.Receivers.{ReceiverValue}
-use Rattle.dt_world_model.specs.Host.{Host, host_with_receiver, read_octets, receiver_at}
+use Rattle.dt_world_model.specs.Host.{Host, receiver_at}
 use Rattle.dt_world_model.specs.Tables.{look, same_flow}
-use Rattle.dt_host.specs.Answers.{IsDataAnswer, IsDataTaken, replied}
-use Rattle.dt_host.specs.Dues.{HasRecvDue}
-use Rattle.dt_host.specs.Hosts.{AreReceiveEntries, receivers_of}
+use Rattle.dt_host.specs.Answers.{IsDataAnswer, IsDataTaken}
+use Rattle.dt_host.specs.Hosts.{receivers_of}
 use Rattle.dt_host.specs.Places.{equal_flows, present}
 use Rattle.dt_host.specs.Sides.{RecvSideValue}
 use Rattle.dt_host.proofs.RecvTurns.{answered, dropped_without, drops, entry_is, ignores_without, kept_data, look_none, looked_up, nothing, stays_without, stepped, told_without, unchanged, value_is}

@@ -1,10 +1,10 @@
-use Rattle.std.proofs.Common.{ℕ, ◌≡◌, ◌<◌, Option, Some, set, refl, sym, ap, subst, ◌∙◌}
+use Rattle.std.proofs.Common.{ℕ, ◌≡◌, ◌<◌, Some, set, refl, sym, ap, subst, ◌∙◌}
 use Rattle.std.specs.Map.{set_value}
 use Rattle.std.specs.Option.{option_and_then}
 use Rattle.dt_flow_model.specs.declared.arrivals.Arrived.TheVariants.{Acked, Dropped}
 use Rattle.dt_flow_model.specs.SendRecord.{on_ack}
 use Rattle.dt_send.specs.Senders.{SenderValue}
-use Rattle.dt_world_model.specs.Host.{Host, ack_answer, sender_at}
+use Rattle.dt_world_model.specs.Host.{ack_answer, sender_at}
 use Rattle.dt_host.specs.Hosts.{send_records}
 use Rattle.dt_host.specs.Places.{equal_flows, present}
 use Rattle.dt_host.specs.Sides.{SendSideValue}

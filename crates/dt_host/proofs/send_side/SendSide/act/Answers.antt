@@ -1,12 +1,10 @@
-use Rattle.std.proofs.Common.{ℕ, ◌≡◌, ◌<◌, List, Option, Some, None, length, set, refl, sym, ap, subst, ◌∙◌, arith}
+use Rattle.std.proofs.Common.{ℕ, ◌≡◌, ◌<◌, Option, Some, None, set, refl, sym, ap, subst, ◌∙◌, arith}
 use Rattle.std.proofs.lemmas.List.{length-set}
 use Rattle.std.specs.Prelude.{IfSome, IsSome, unwrap_or}
-use Rattle.dt_units.specs.declared.endpoints.Flow.{Flow}
 use Rattle.dt_layout.specs.Carried.{IsGram}
 use Rattle.dt_flow_model.specs.Frames.{frame_of_act}
 use Rattle.dt_flow_model.specs.SendRecord.{SendRecord}
 use Rattle.dt_flow_model.specs.SendActs.{Act, kind_and_moment, record_after, told_of}
-use Rattle.dt_send.specs.Senders.{SenderValue}
 use Rattle.dt_world_model.specs.Tables.{look, same_flow, write_or_erase}
 use Rattle.dt_host.specs.Dues.{HasDue}
 use Rattle.dt_host.specs.Hosts.{send_records}
@@ -81,7 +79,7 @@ invariant_of-self-in_default-act g c =
     side_set h.rules h.latest h.places h.slots.items h.agenda c.self.invariant c.find.ensures.once c.args.flow.now c.in-Some.place c.in-Some.ensures.place c.index_mut.result.now c.index_mut.ensures.value c.in-Some-index_mut.field-0-0 c.in-Some-index_mut.sender c.in-Some-index_mut.is u entry c.note.new.agenda c.note.ensures.here c.note.ensures.others c.note.ensures.room
 
 pub returns-in-Released-clause-told : goal.returns-in-Released-clause-told
-returns-in-Released-clause-told g c = 
+returns-in-Released-clause-told g c =
     let h = c.self.inside in
     let a = c.args in
     let f = a.flow.now in
@@ -95,7 +93,7 @@ returns-in-Released-clause-told g c =
     (λ x act due. told_is p h.latest f es all s found x act due c.act-act.result c.act-act.ensures.told)
 
 pub returns-in-Released-clause-frame : goal.returns-in-Released-clause-frame
-returns-in-Released-clause-frame g c = 
+returns-in-Released-clause-frame g c =
     let h = c.self.inside in
     let a = c.args in
     let f = a.flow.now in
@@ -109,7 +107,7 @@ returns-in-Released-clause-frame g c =
     (λ x act due. frame_is p h.latest f es all s found x act due a.frame.now c.act-act.new.frame c.act-act.ensures.frame)
 
 pub returns-in-Released-clause-gram : goal.returns-in-Released-clause-gram
-returns-in-Released-clause-gram g c = 
+returns-in-Released-clause-gram g c =
     let h = c.self.inside in
     let a = c.args in
     let f = a.flow.now in
@@ -123,7 +121,7 @@ returns-in-Released-clause-gram g c =
     (λ x act due. gram_is p h.latest f es all s found x act due c.act-act.ensures.gram)
 
 pub returns-in-Released-clause-after : goal.returns-in-Released-clause-after
-returns-in-Released-clause-after g c = 
+returns-in-Released-clause-after g c =
     let h = c.self.inside in
     let a = c.args in
     let f = a.flow.now in
@@ -136,11 +134,11 @@ returns-in-Released-clause-after g c =
     let after = set (set h.slots.items c.in-Some.place (Some (c.in-Some-index_mut.field-0-0, u))) c.in-Some.place None in
     subst (λ (v : SendSideValue). (x : SendRecord) (act : Act) → HasDue v.rules v.latest (look same_flow f (send_records v.entries)) x act → send_records (present after) ≡ write_or_erase same_flow f (record_after v.rules v.latest x act) (send_records v.entries)) c.self.view_is
     (λ x act due.
-        let told = told_is p h.latest f es all s found x act due c.act-act.result c.act-act.ensures.told in
-        ap send_records (gone h.rules h.latest h.places h.slots.items h.agenda c.self.invariant c.find.ensures.once c.args.flow.now c.in-Some.place c.in-Some.ensures.place c.index_mut.result.now c.index_mut.ensures.value c.in-Some-index_mut.field-0-0 c.in-Some-index_mut.sender c.in-Some-index_mut.is u) ∙ goes p h.latest f es all s found x act due u (sym told ∙ c.in-Released.is))
+    let told = told_is p h.latest f es all s found x act due c.act-act.result c.act-act.ensures.told in
+    ap send_records (gone h.rules h.latest h.places h.slots.items h.agenda c.self.invariant c.find.ensures.once c.args.flow.now c.in-Some.place c.in-Some.ensures.place c.index_mut.result.now c.index_mut.ensures.value c.in-Some-index_mut.field-0-0 c.in-Some-index_mut.sender c.in-Some-index_mut.is u) ∙ goes p h.latest f es all s found x act due u (sym told ∙ c.in-Released.is))
 
 pub returns-in_default-act : goal.returns-in_default-act
-returns-in_default-act g c = 
+returns-in_default-act g c =
     let h = c.self.inside in
     let a = c.args in
     let f = a.flow.now in
@@ -164,9 +162,9 @@ returns-in_default-act g c =
       after =
           subst (λ (v : SendSideValue). (x : SendRecord) (act : Act) → HasDue v.rules v.latest (look same_flow f (send_records v.entries)) x act → send_records (present after) ≡ write_or_erase same_flow f (record_after v.rules v.latest x act) (send_records v.entries)) c.self.view_is
           (λ x act due.
-              let told = told_is p h.latest f es all s found x act due c.act-act.result c.act-act.ensures.told in
-              let is = after_is p h.latest f es all s found x act due u c.act-act.ensures.after in
-              ap send_records (written h.rules h.latest h.places h.slots.items h.agenda c.self.invariant c.find.ensures.once c.args.flow.now c.in-Some.place c.in-Some.ensures.place c.index_mut.result.now c.index_mut.ensures.value c.in-Some-index_mut.field-0-0 c.in-Some-index_mut.sender c.in-Some-index_mut.is u) ∙ stays p h.latest f es all s found x act due u is (λ released. c.in_default-act.not-Released (told ∙ released)));
+          let told = told_is p h.latest f es all s found x act due c.act-act.result c.act-act.ensures.told in
+          let is = after_is p h.latest f es all s found x act due u c.act-act.ensures.after in
+          ap send_records (written h.rules h.latest h.places h.slots.items h.agenda c.self.invariant c.find.ensures.once c.args.flow.now c.in-Some.place c.in-Some.ensures.place c.index_mut.result.now c.index_mut.ensures.value c.in-Some-index_mut.field-0-0 c.in-Some-index_mut.sender c.in-Some-index_mut.is u) ∙ stays p h.latest f es all s found x act due u is (λ released. c.in_default-act.not-Released (told ∙ released)));
       same = ap (λ (v : SendSideValue). let w : SendSideValue = record v { entries = present after } in w) c.self.view_is;
       looks = (let one = c.act-act.ensures.looks in let two = c.note.ensures.looks in omega arith);
     }

@@ -1,4 +1,4 @@
-use Rattle.std.proofs.Common.{ℕ, ◌≡◌, ◌<◌, List, Option, Some, None, sym, subst, arith}
+use Rattle.std.proofs.Common.{ℕ, ◌<◌, sym, subst}
 use Rattle.dt_host.specs.declared.dues.DueKind.TheVariants as due
 use Rattle.dt_host.specs.Sides.{SendSideValue}
 use Rattle.dt_host.specs.Soonest.{IsQuiet, IsSoonest, sender_moment}

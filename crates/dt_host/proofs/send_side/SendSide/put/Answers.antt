@@ -1,4 +1,4 @@
-use Rattle.std.proofs.Common.{ℕ, ◌≡◌, ◌+◌, ◌<◌, length, set, None, Some, false, refl, sym, ap, subst, ◌∙◌}
+use Rattle.std.proofs.Common.{ℕ, ◌≡◌, ◌+◌, ◌<◌, length, set, None, Some, false, sym, ap, subst, ◌∙◌}
 use Rattle.std.proofs.lemmas.Result.{err_from_is_err_and}
 use Rattle.std.specs.Prelude.{IfErr, Result, Ok, Err}
 use Rattle.std.specs.Map.{lookup}
@@ -11,7 +11,6 @@ use Rattle.dt_world_model.specs.Tables.{look, same_flow}
 use Rattle.dt_host.specs.Answers.{IsSent}
 use Rattle.dt_host.specs.Hosts.{send_records}
 use Rattle.dt_host.specs.declared.faults.SendFault.{SendFault}
-use Rattle.dt_host.specs.declared.faults.SendFault.TheVariants as fault
 use Rattle.dt_host.specs.Places.{equal_flows, present}
 use Rattle.dt_host.specs.Sides.{SendSideValue}
 use Rattle.dt_host.proofs.SenderTables.{entry_is, fault_is, here_is, none_is, put_here, record_here, refused, refused_here, taken}

@@ -1,20 +1,17 @@
-use Rattle.std.proofs.Common.{ℕ, suc, ◌≡◌, ◌≢◌, ◌+◌, ◌≤◌, ◌<◌, List, Option, Some, None, length, set, sym, ap, subst, ◌∙◌, arith}
-use Rattle.std.specs.Prelude.{option_map, slice_get}
-use Rattle.dt_units.specs.declared.endpoints.Flow.{Flow}
+use Rattle.std.proofs.Common.{ℕ, ◌≡◌, ◌<◌, Some, sym, ap, subst, ◌∙◌, arith}
 use Rattle.dt_units.specs.declared.parameters.Params.{Params}
 use Rattle.dt_flow_model.specs.declared.acts.SendKind.TheVariants.{Resend}
 use Rattle.dt_flow_model.specs.declared.moments.SendMoments.{SendMoments}
-use Rattle.dt_flow_model.specs.SendRecord.{SendRecord}
 use Rattle.dt_flow_model.specs.SendActs.{resends_from}
 use Rattle.dt_host.specs.declared.dues.DueKind.TheVariants as due
-use Rattle.dt_host.specs.Agendas.{SendNote, send_note, with_resend}
-use Rattle.dt_host.specs.Hosts.{send_record, send_records}
+use Rattle.dt_host.specs.Agendas.{send_note}
+use Rattle.dt_host.specs.Hosts.{send_records}
 use Rattle.dt_host.specs.Places.{present}
 use Rattle.dt_host.specs.Sides.{SendSideValue}
 use Rattle.dt_host.specs.Soonest.{IsQuiet, IsSoonest, missed_senders, sender_moment}
 use Rattle.dt_host.proofs.Slots.{notes_in}
 use Rattle.dt_host.proofs.SendSides.{are_send_noted, first_kept, first_stands, first_within, less_stale, quiet_all, quiet_yet, righted_side, room_first, soonest_here}
-use Rattle.dt_host.proofs.Stale.{compared_apart, compared_same, stale, stale_most}
+use Rattle.dt_host.proofs.Stale.{compared_apart, compared_same, stale_most}
 use Rattle.dt_host.proofs.send_side.SendSide.resend_due.Goals as goal
 
 pub loop-moment-init : goal.loop-moment-init

@@ -1,8 +1,6 @@
-use Rattle.std.proofs.Common.{ℕ, ◌≡◌, ◌<◌, Option, List, Some, sym, ap, subst, ◌∙◌}
+use Rattle.std.proofs.Common.{ℕ, ◌≡◌, ◌<◌, Some, sym, ap, subst, ◌∙◌}
 use Rattle.std.specs.Option.{option_copied}
 use Rattle.std.specs.Map.{lookup}
-use Rattle.dt_send.specs.Senders.{SenderValue}
-use Rattle.dt_units.specs.declared.endpoints.Flow.{Flow}
 use Rattle.dt_host.specs.Hosts.{AreSendEntries}
 use Rattle.dt_host.specs.Places.{equal_flows}
 use Rattle.dt_host.specs.Sides.{SendSideValue}
