@@ -9,8 +9,8 @@ use Rattle.dt_edges.specs.Sinks.{SinkSight, Takes}
 use Rattle.dt_fold.specs.Logging.{HasAll, HasPart}
 use Rattle.dt_make.specs.Schedules.{make_text}
 use Rattle.dt_node.specs.Answering.{Answers as NodeLeaves, AnswersBy}
-use Rattle.dt_node.specs.Drafts.{refusal_text, script_of}
-use Rattle.dt_node.specs.Orders.{Orders}
+use Rattle.dt_script.specs.Drafts.{refusal_text, script_of}
+use Rattle.dt_script.specs.Orders.{Orders}
 use Rattle.dt_node.specs.Serving.{Edges, edges}
 use Rattle.dt_node.specs.declared.forms.Form.{Form}
 use Rattle.dt_node.specs.declared.forms.Form.TheVariants as forms

@@ -9,8 +9,8 @@ use Rattle.dt_log.specs.Logs.{log_text}
 use Rattle.dt_make.specs.Schedules.{make_text}
 use Rattle.dt_node.specs.Acts.{fates, log_lines}
 use Rattle.dt_node.specs.Completing.{ReachesStop}
-use Rattle.dt_node.specs.Drafts.{script_of}
-use Rattle.dt_node.specs.Orders.{Orders}
+use Rattle.dt_script.specs.Drafts.{script_of}
+use Rattle.dt_script.specs.Orders.{Orders}
 use Rattle.dt_node.specs.Serving.{Edges, IsWhole}
 use Rattle.dt_node.specs.Serving as nodes
 use Rattle.dt_node.specs.declared.forms.Form.TheVariants as forms
