@@ -4,6 +4,7 @@ use Rattle.std.specs.Prelude.{cond, is_some, take, Result, Ok, Err, OnOk, OnErr}
 use Rattle.dt_items.specs.declared.memory.NoMemory.{NoMemory}
 use Rattle.std.specs.List.{filter_map, position}
 use Rattle.dt_units.specs.declared.endpoints.Flow.{Flow}
+use Rattle.dt_reports.specs.declared.faults.Refusal.{Refusal}
 use Rattle.dt_reports.specs.Told.{Told}
 use Rattle.dt_world_model.specs.Host.{Host}
 use Rattle.dt_world_model.specs.Station.{Event}
@@ -23,9 +24,11 @@ use Rattle.dt_service_model.specs.Ends.{judge, unsure_of}
 use Rattle.dt_service_model.specs.Halves.{Halves, counted_up, kind_in, most_octets}
 use Rattle.dt_service_model.specs.Hearing.{Accepts, GivesUp, Heard, NoMatter, Settles, hear, hear_as, heard, with_flow}
 use Rattle.dt_service_model.specs.Names.{call_number, token_with}
-use Rattle.dt_service_model.specs.Turns.{Node, done_with, sweep}
+use Rattle.dt_service_model.specs.Asked.{forgotten, forgotten_unless, next_number, with_call, with_call_unless}
+use Rattle.dt_service_model.specs.Turns.{Node, done_with, sweep, with_halves}
 use Rattle.dt_service_model.specs.Whole.{begun_of, grown, is_open, is_waiting_call, take_as, take_piece, take_reply_at, take_whole, without_token}
 use Rattle.dt_service_model.proofs.Accounts.{hear_keeps, judge_keeps}
+use Rattle.dt_service_model.proofs.Making.{added}
 use Rattle.dt_service_model.proofs.Turning.{piece_keeps}
 use Rattle.dt_service.specs.Nodes.{EndpointGoesOn, GoesOn, HalvesGoOn, node_of}
 
@@ -144,3 +147,28 @@ halves_go made n e h k part more = goes_then made n (node_of e h) (node_of e k) 
 
 pub endpoint_goes : (e f : EndpointValue) (h : Halves) → EndpointGoesOn e f → GoesOn false (node_of e h) (node_of f h)
 endpoint_goes e f h more = record { endpoint = more; halves = halves_same h }
+
+-- A CALL is made, unless its request wasn't taken
+pub call_goes : (o : Option Refusal) (f : Flow) (count deadline : ℕ) (n m k : Node) → GoesOn false n m → next_number m.halves ≡ next_number n.halves → k ≡ with_halves (with_call_unless o f count deadline) m → (made : Bool) × GoesOn made n k
+call_goes None f count deadline n m k part number is =
+    let a = part.halves in
+    let kept : GoesOn true n (with_halves (with_call f count deadline) m) = record {
+      endpoint = part.endpoint;
+      halves = record {
+        more = a.more;
+        told = a.told;
+        accounts = λ x. let one = a.accounts x in let more = added x None f count deadline m.halves n.halves number in omega (arith, one, more);
+      };
+    } in
+    (true, subst (λ (y : Node). GoesOn true n y) (sym is) kept)
+call_goes (Some refusal) f count deadline n m k part number is = (false, subst (λ (y : Node). GoesOn false n y) (sym is) part)
+
+-- a token is open no more, unless its reply wasn't taken
+pub drop_goes : (o : Option Refusal) (t : Token) (n m k : Node) → GoesOn false n m → k ≡ with_halves (forgotten_unless o t) m → GoesOn false n k
+drop_goes None t n m k part is =
+    subst (λ (y : Node). GoesOn false n y) (sym is) (halves_go false n m.endpoint m.halves (forgotten t m.halves) part (quiet m.halves (forgotten t m.halves) refl (λ x. refl)))
+drop_goes (Some refusal) t n m k part is = subst (λ (y : Node). GoesOn false n y) (sym is) part
+
+pub on_err : {A E : Type 0} (r : Result A E) (P : Type 0) → P → OnErr r P
+on_err (Ok a) P p = tt
+on_err (Err e) P p = p

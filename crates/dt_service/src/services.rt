@@ -10,8 +10,7 @@ ghost use Rattle.dt_service.specs.Calls.{Arrives, Calls, Forgets, Replies, Ticks
 
 use crate::parts::Parts;
 use crate::reading::ROOM;
-use dt_endpoint::{Arrived, Endpoint, Links, OutFrame, Routed, Ticked};
-use dt_endpoint::Route;
+use dt_endpoint::{Arrived, Endpoint, Links, OutFrame, Route, Routed, Ticked};
 use dt_items::NoMemory;
 use dt_service_halves::{Halves, earlier};
 use dt_service_model::{Counts, Forgot, Happening, Kind, Made, Most, Replied, Token};
@@ -64,8 +63,8 @@ impl Service {
         links: &Links<'_>,
     ) -> Result<Service, NoMemory>
         ensures { IfOk result (λ s. s ≡ record {
-            endpoint = opened rules.now start.now.me.0 start.now.again links.now.outs.now links.now.ins.now links.now.routes.now;
-            halves = new_halves start.now.most start.now.life;
+          endpoint = opened rules.now start.now.me.0 start.now.again links.now.outs.now links.now.ins.now links.now.routes.now;
+          halves = new_halves start.now.most start.now.life;
         }) }
     {
         let endpoint = Endpoint::open(alloc, rules, start.me, start.again, links)?;
