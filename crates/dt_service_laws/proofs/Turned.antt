@@ -1,0 +1,224 @@
+-- Turns of services are steps of the network of their endpoints.
+use Rattle.std.proofs.Common.{ℕ, ◌≡◌, ◌≤◌, ◌==◌, Bool, true, false, List, [], ◌∷◌, ◌++◌, drop, length, map, Option, Some, None, refl, ap, sym, subst, ◌∙◌, inl, inr, append-nil, append_assoc, drop_of_length-le, arith}
+use Rattle.std.specs.Prelude.{cond, option_map}
+use Rattle.std.proofs.Math.Seq.{drop-length, drop-nil}
+use Rattle.std.proofs.lemmas.Bool.{cases_Bool}
+use Rattle.std.proofs.lemmas.List.{map-append}
+use Rattle.dt_items.specs.declared.item.Item.{Item}
+use Rattle.dt_items.specs.Unread.{marked}
+use Rattle.dt_units.specs.declared.endpoints.Flow.{Flow}
+use Rattle.dt_world_model.proofs.Tables.{look_write_other, nat_is, nat_self}
+use Rattle.dt_world_model.specs.Setup.{Setup}
+use Rattle.dt_world_model.specs.Tables.{look, same_flow, write}
+use Rattle.dt_calls_laws.specs.Wholes.{items_of_all}
+use Rattle.dt_calls_model.specs.Messages.{reversed}
+use Rattle.dt_endpoint.specs.Endpoints.{EndpointValue}
+use Rattle.dt_network.specs.Duties.{KeepsDuties}
+use Rattle.dt_network.specs.Network.{Network}
+use Rattle.dt_network.specs.Octets.{all_read}
+use Rattle.dt_network.specs.Steps.{AreSteps, Calls, DoesFrom, OpenAgain, Pass, PullFrame, Step, network_after, network_by}
+use Rattle.dt_network.specs.Duties.{KeepsFrom as CallKeeps}
+use Rattle.dt_service_model.specs.declared.happenings.Happening.{Happening}
+use Rattle.dt_service_model.specs.declared.ports.Kind.{Kind}
+use Rattle.dt_service_model.specs.declared.calls.Call.{Call}
+use Rattle.dt_service_model.specs.Asked.{is_life_in_use, raised, reply, with_kind, with_port}
+use Rattle.dt_service_model.specs.Ends.{close, next, next_call, next_in}
+use Rattle.dt_service_model.specs.Halves.{Halves, kind_in}
+use Rattle.dt_service_model.specs.Turns.{Node}
+use Rattle.dt_service_laws.specs.Histories.{Message, at_node, call_by, each_of, in_turn, in_turns, replied_as, request_in, requests_on, told_by}
+use Rattle.dt_service_laws.specs.Orders.{AreSomeOf, none}
+use Rattle.dt_service_laws.specs.Premises.{KeepsDeed, KeepsFrom, KeepsTurn, KeepsTurns}
+use Rattle.dt_service_laws.specs.Services.{Arrives, Closes, Deed, Does, Forgets, GivesKind, GivesReply, MakesCall, OpensAgain, Passes, PullsFrame, Raises, Services, TakesHappening, Ticks, Turn, node_after, node_does, node_with, services_after, told_between, with_node}
+use Rattle.dt_service_laws.specs.Wholes.{begun_after, messages_from}
+use Rattle.dt_service_laws.proofs.Asked.{alike, arrive_comes, call_comes, forget_comes, reply_comes, spelled, tick_comes}
+use Rattle.dt_service_laws.proofs.Deeds.{Comes, comes_quietly}
+use Rattle.dt_service_laws.proofs.Elsewhere.{IsLawful}
+use Rattle.dt_service_laws.proofs.Moves.{Tracks}
+use Rattle.dt_service_laws.proofs.Orders.{both}
+use Rattle.dt_service_laws.proofs.Pieces.{messages_append}
+use Rattle.dt_service_laws.proofs.Quiet.{close_quiet}
+use Rattle.dt_service_laws.proofs.Runs.{IsAt, duties_append, steps_append, written_there}
+use Rattle.dt_service_laws.proofs.Sending.{Takings, takes_append, takes_more, takes_nothing}
+use Rattle.dt_service_laws.proofs.Telling.{read_append, said}
+
+-- ALL THAT IS SENT on a flow: calls of it, and replies to the requests of its reverse
+abbrev pub back_by : Flow → Deed → Node → List Message
+back_by f (GivesReply now token payload) x = cond (same_flow (reversed token.flow) f) (replied_as (reply now token payload x).0 token payload) []
+back_by f (GivesKind port kind) x = []
+back_by f (MakesCall now g payload patience) x = []
+back_by f (Forgets now token) x = []
+back_by f (Ticks now) x = []
+back_by f (Arrives now link datagram waited) x = []
+back_by f (Raises life) x = []
+back_by f TakesHappening x = []
+back_by f PullsFrame x = []
+back_by f Closes x = []
+back_by f (OpensAgain again routes most life) x = []
+
+abbrev pub sent_on : Flow → Deed → Node → List Message
+sent_on f deed x = call_by f deed x ++ back_by f deed x
+
+-- what is beside an endpoint
+kind_between : (port : ℕ) (o : Option Kind) (kind : Kind) (h : Halves) → ((with_port port o kind h).begun ≡ h.begun) × ((with_port port o kind h).happenings ≡ h.happenings)
+kind_between port None kind h = (refl, refl)
+kind_between port (Some k) kind h = (refl, refl)
+
+life_between : (b : Bool) (life : ℕ) (h : Halves) → ((cond b h (record h { life = life; count = 0 })).begun ≡ h.begun) × ((cond b h (record h { life = life; count = 0 })).happenings ≡ h.happenings)
+life_between true life h = (refl, refl)
+life_between false life h = (refl, refl)
+
+record Takes1 (h k : Halves) : Type 0 where
+  begun : k.begun ≡ h.begun
+  none : drop (length h.happenings) k.happenings ≡ []
+
+taken_call : (calls : List Call) (h : Halves) → h.happenings ≡ [] → Takes1 h (next_call calls h).1
+taken_call [] h is = record { begun = refl; none = drop-length h.happenings }
+taken_call (call ∷ calls) h is = record { begun = refl; none = drop-length h.happenings }
+
+taken_closed : (b : Bool) (h : Halves) → h.happenings ≡ [] → Takes1 h (cond {A = Option Happening × Halves} b (next_call h.calls h) (None, h)).1
+taken_closed true h is = taken_call h.calls h is
+taken_closed false h is = record { begun = refl; none = drop-length h.happenings }
+
+rest_dropped : (x : Happening) (xs : List Happening) → drop (length (x ∷ xs)) xs ≡ []
+rest_dropped x xs = let le : length xs ≤ length (x ∷ xs) = omega arith in drop_of_length-le xs le
+
+taken_first : (told : List Happening) (h : Halves) → h.happenings ≡ told → Takes1 h (next_in told h).1
+taken_first [] h is = taken_closed h.closed h is
+taken_first (x ∷ xs) h is = record { begun = refl; none = ap (λ (ts : List Happening). drop (length ts) xs) is ∙ rest_dropped x xs }
+
+module _ (setup : Setup) (Good : Network → Type 0) (law : IsLawful setup Good) where
+  module _ (n : ℕ) (m : Network) (x : Node) (there : IsAt n m x.endpoint) (unspent : x.endpoint.spent ≡ false) (good : Good m) where
+    one_step : (y : Node) (s : Step) → AreSteps setup (s ∷ []) m → KeepsDuties setup (s ∷ []) m → network_after s m ≡ network_after (Calls n PullFrame y.endpoint) m → y.endpoint.spent ≡ false → ((g : Flow) → all_read g (s ∷ []) ≡ []) → ((g : Flow) → Takings g (s ∷ []) [])
+        → ((g : Flow) (b : Option (List ℕ)) → Tracks g b x.halves.begun → Tracks g b y.halves.begun) → told_between x y ≡ [] → Comes setup n x y m (λ g. [])
+    one_step y s are keep ends on read takes begun told = record {
+      steps = s ∷ [];
+      are = are;
+      keep = keep;
+      ends = ends;
+      unspent = on;
+      takes = takes;
+      begun = λ g b tracks. subst (λ (is : List Item). Tracks g (begun_after b is) y.halves.begun) (sym (read g)) (begun g b tracks);
+      requests = λ g b tracks. subst (λ (ts : List Happening). AreSomeOf (each_of (request_in g) ts) (map said (messages_from b (all_read g (s ∷ []))))) (sym told) none;
+      elsewhere = λ g other. (read g, ap (each_of (request_in g)) told);
+    }
+
+    pub deed_comes : (deed : Deed) → KeepsDeed setup m n deed x → Comes setup n x (node_after setup n deed x) m (λ g. items_of_all (map spelled (sent_on g deed x)))
+    deed_comes (GivesKind port kind) keeps =
+        let k = kind_between port (kind_in port x.halves.ports) kind x.halves in
+        comes_quietly setup n x (with_kind port kind x.halves) m there unspent (λ g b tracks. subst (λ (es : List (Flow × List ℕ)). Tracks g b es) (sym k.0) tracks) (ap (drop (length x.halves.happenings)) k.1 ∙ drop-length x.halves.happenings)
+    deed_comes (MakesCall now f payload patience) keeps =
+        alike setup n m x there unspent Good law good _ _ _ (λ g. ap (λ (ms : List Message). items_of_all (map spelled ms)) (sym (append-nil _))) (call_comes setup n m x there unspent Good law good now keeps.0 f keeps.1 payload patience keeps.2)
+    deed_comes (GivesReply now token payload) keeps = reply_comes setup n m x there unspent Good law good now keeps.0 token keeps.1 payload keeps.2
+    deed_comes (Forgets now token) keeps = forget_comes setup n m x there unspent Good law good now keeps.0 token keeps.1
+    deed_comes (Ticks now) keeps = tick_comes setup n m x there unspent Good law good now keeps.0 keeps.1
+    deed_comes (Arrives now link datagram waited) keeps = arrive_comes setup n m x there unspent Good law good now link datagram waited keeps.0 keeps.1
+    deed_comes (Raises life) keeps =
+        let k = life_between (is_life_in_use life x.halves) life x.halves in
+        comes_quietly setup n x (raised life x.halves) m there unspent (λ g b tracks. subst (λ (es : List (Flow × List ℕ)). Tracks g b es) (sym k.0) tracks) (ap (drop (length x.halves.happenings)) k.1 ∙ drop-length x.halves.happenings)
+    deed_comes TakesHappening keeps =
+        let k = taken_first x.halves.happenings x.halves refl in
+        comes_quietly setup n x (next x.halves).1 m there unspent (λ g b tracks. subst (λ (es : List (Flow × List ℕ)). Tracks g b es) (sym k.begun) tracks) k.none
+    deed_comes PullsFrame keeps =
+        let y = node_after setup n PullsFrame x in
+        one_step y (Calls n PullFrame y.endpoint) (subst (DoesFrom setup n PullFrame y.endpoint) (sym there) refl, tt) (subst (CallKeeps setup m n PullFrame) (sym there) tt, tt) refl unspent (λ g. refl) (λ g. takes_more g (Calls n PullFrame y.endpoint) [] [] [] (λ first t. t) (takes_nothing g)) (λ g b tracks. tracks) (drop-length x.halves.happenings)
+    deed_comes Closes keeps = comes_quietly setup n x (close x.halves) m there unspent (λ g b tracks. (close_quiet x.halves).begun g b tracks) (drop-length x.halves.happenings)
+    deed_comes (OpensAgain again routes most life) keeps =
+        let y = node_after setup n (OpensAgain again routes most life) x in
+        one_step y (Calls n (OpenAgain again routes) y.endpoint) (subst (DoesFrom setup n (OpenAgain again routes) y.endpoint) (sym there) refl, tt) (subst (CallKeeps setup m n (OpenAgain again routes)) (sym there) keeps.0, tt) refl refl (λ g. refl)
+        (λ g. takes_more g (Calls n (OpenAgain again routes) y.endpoint) [] [] [] (λ first t. t) (takes_nothing g)) (λ g b tracks. inl refl) (drop-nil (length x.halves.happenings))
+
+  -- ONE TURN, for a flow
+  abbrev pub AreUnspent : Services → Type 0
+  AreUnspent s = (k : ℕ) (e : EndpointValue) → IsAt k s.network e → e.spent ≡ false
+
+  pub record Turned (f : Flow) (b : Option (List ℕ)) (s v : Services) (sent requests : List Message) : Type 0 where
+    pub steps : List Step
+    pub are : AreSteps setup steps s.network
+    pub keep : KeepsDuties setup steps s.network
+    pub ends : network_by steps s.network ≡ v.network
+    pub takes : Takings f steps (items_of_all (map spelled sent))
+    pub some : AreSomeOf requests (map said (messages_from b (all_read f steps)))
+    pub begun : Tracks f (begun_after b (all_read f steps)) (v.halves f.to.0).begun
+    pub unspent : AreUnspent v
+
+  written_unspent : (n : ℕ) (s : Services) (y : Node) → AreUnspent s → y.endpoint.spent ≡ false → AreUnspent (with_node n s y)
+  written_unspent n s y all one k e there =
+      elim (cases_Bool (n == k)) [
+        | inl is ↦
+            let first : look ◌==◌ k (write ◌==◌ n y.endpoint s.network.endpoints) ≡ Some y.endpoint = subst (λ (j : ℕ). look ◌==◌ j (write ◌==◌ n y.endpoint s.network.endpoints) ≡ Some y.endpoint) (nat_is n k is) (written_there n y.endpoint s.network.endpoints) in
+            let two : Some y.endpoint ≡ Some e = sym first ∙ there in
+            let same : y.endpoint ≡ e = cc in
+            subst (λ (z : EndpointValue). z.spent ≡ false) same one
+        | inr other ↦ all k e (sym (look_write_other ℕ EndpointValue ◌==◌ nat_self nat_is k n y.endpoint s.network.endpoints other) ∙ there)
+      ]
+
+  turned_at : (f : Flow) (b : Option (List ℕ)) (s : Services) → Good s.network → AreUnspent s → Tracks f b (s.halves f.to.0).begun → (n : ℕ) (deed : Deed) (o : Option EndpointValue) → look ◌==◌ n s.network.endpoints ≡ o → KeepsFrom setup s.network n deed (option_map (node_with n s) o)
+      → Turned f b s (node_does setup n deed s (option_map (node_with n s) o)) (at_node (sent_on f deed) (option_map (node_with n s) o)) (at_node (told_by (request_in f) setup n deed) (option_map (node_with n s) o))
+  turned_at f b s good unspent tracks n deed None found keeps = record { steps = []; are = tt; keep = tt; ends = refl; takes = takes_nothing f; some = none; begun = tracks; unspent = unspent }
+  turned_at f b s good unspent tracks n deed (Some e) found keeps =
+      let x = node_with n s e in
+      let y = node_after setup n deed x in
+      let c = deed_comes n s.network x found (unspent n e found) good deed keeps in
+      elim (cases_Bool (n == f.to.0)) [
+        | inl is ↦
+            let here : Tracks f b x.halves.begun = subst (λ (k : ℕ). Tracks f b (s.halves k).begun) (sym (nat_is n f.to.0 is)) tracks in
+            record {
+              steps = c.steps;
+              are = c.are;
+              keep = c.keep;
+              ends = c.ends;
+              takes = c.takes f;
+              some = c.requests f b here;
+              begun = subst (λ (t : Bool). Tracks f (begun_after b (all_read f c.steps)) (cond t y.halves (s.halves f.to.0)).begun) (sym is) (c.begun f b here);
+              unspent = written_unspent n s y unspent c.unspent;
+            }
+        | inr other ↦
+            let no = c.elsewhere f other in
+            record {
+              steps = c.steps;
+              are = c.are;
+              keep = c.keep;
+              ends = c.ends;
+              takes = c.takes f;
+              some = subst (λ (ms : List Message). AreSomeOf ms (map said (messages_from b (all_read f c.steps)))) (sym no.1) none;
+              begun = subst (λ (t : Bool). Tracks f (begun_after b (all_read f c.steps)) (cond t y.halves (s.halves f.to.0)).begun) (sym other) (subst (λ (is : List Item). Tracks f (begun_after b is) (s.halves f.to.0).begun) (sym no.0) tracks);
+              unspent = written_unspent n s y unspent c.unspent;
+            }
+      ]
+
+  pub turned : (f : Flow) (b : Option (List ℕ)) (s : Services) → Good s.network → AreUnspent s → Tracks f b (s.halves f.to.0).begun → (t : Turn) → KeepsTurn setup t s
+      → Turned f b s (services_after setup t s) (in_turn (λ n. sent_on f) t s) (in_turn (told_by (request_in f) setup) t s)
+  turned f b s good unspent tracks (Passes by) keeps = record { steps = Pass by ∷ []; are = (tt, tt); keep = (tt, tt); ends = refl; takes = takes_more f (Pass by) [] [] [] (λ first t. t) (takes_nothing f); some = none; begun = tracks; unspent = unspent }
+  turned f b s good unspent tracks (Does n deed) keeps = turned_at f b s good unspent tracks n deed (look ◌==◌ n s.network.endpoints) refl keeps
+
+  -- ALL TURNS
+  pub record Ran (f : Flow) (b : Option (List ℕ)) (turns : List Turn) (s : Services) : Type 0 where
+    pub steps : List Step
+    pub are : AreSteps setup steps s.network
+    pub keep : KeepsDuties setup steps s.network
+    pub takes : Takings f steps (items_of_all (map spelled (in_turns (λ n. sent_on f) setup turns s)))
+    pub some : AreSomeOf (requests_on f setup turns s) (map said (messages_from b (all_read f steps)))
+
+  items_both : (xs ys : List (List ℕ)) → items_of_all (xs ++ ys) ≡ items_of_all xs ++ items_of_all ys
+  items_both [] ys = refl
+  items_both (x ∷ xs) ys = ap (λ (is : List Item). marked x true true false ++ is) (items_both xs ys) ∙ sym (append_assoc (marked x true true false) (items_of_all xs) (items_of_all ys))
+
+  pub ran : (f : Flow) (turns : List Turn) (b : Option (List ℕ)) (s : Services) → Good s.network → AreUnspent s → Tracks f b (s.halves f.to.0).begun → KeepsTurns setup turns s → Ran f b turns s
+  ran f [] b s good unspent tracks keeps = record { steps = []; are = tt; keep = tt; takes = takes_nothing f; some = none }
+  ran f (t ∷ turns) b s good unspent tracks keeps =
+      let v = services_after setup t s in
+      let first = turned f b s good unspent tracks t keeps.0 in
+      let next_good : Good v.network = subst Good first.ends (law.on s.network first.steps good first.are first.keep) in
+      let rest = ran f turns (begun_after b (all_read f first.steps)) v next_good first.unspent first.begun keeps.1 in
+      let one = in_turn (λ n. sent_on f) t s in
+      let more = in_turns (λ n. sent_on f) setup turns v in
+      record {
+        steps = first.steps ++ rest.steps;
+        are = steps_append setup first.steps rest.steps s.network first.are (subst (AreSteps setup rest.steps) (sym first.ends) rest.are);
+        keep = duties_append setup first.steps rest.steps s.network first.keep (subst (KeepsDuties setup rest.steps) (sym first.ends) rest.keep);
+        takes = λ taken h. takes_append f first.steps rest.steps _ _ first.takes rest.takes taken h ∙ sym (ap items_of_all (map-append spelled one more) ∙ items_both (map spelled one) (map spelled more));
+        some =
+            subst (λ (ms : List Message). AreSomeOf (requests_on f setup (t ∷ turns) s) ms)
+            (sym (map-append said (messages_from b (all_read f first.steps)) (messages_from (begun_after b (all_read f first.steps)) (all_read f rest.steps))) ∙ ap (map said) (sym (messages_append b (all_read f first.steps) (all_read f rest.steps))) ∙ ap (λ (is : List Item). map said (messages_from b is)) (sym (read_append f first.steps rest.steps)))
+            (both first.some rest.some);
+      }
