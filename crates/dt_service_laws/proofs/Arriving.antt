@@ -25,14 +25,14 @@ use Rattle.dt_service_laws.proofs.Elsewhere.{IsLawful}
 use Rattle.dt_service_laws.proofs.Moves.{Tracks}
 use Rattle.dt_service_laws.proofs.Orders.{mapped, some_through}
 use Rattle.dt_service_laws.proofs.Pieces.{read_back}
-use Rattle.dt_service_laws.proofs.Sound.{AreSaid, IsSound, back_none, calls_said, new_sound, sound_deed}
+use Rattle.dt_service_laws.proofs.Sound.{AreFit, IsSound, back_none, calls_fit, fit_said, new_sound, sound_deed}
 use Rattle.dt_service_laws.proofs.Telling.{said}
 use Rattle.dt_service_laws.proofs.Turned.{AreUnspent, ran, sent_on, turned}
 use Rattle.dt_service_laws.proofs.Wholes.{in_order}
 
-said_both : (xs ys : List Message) → AreSaid xs → AreSaid ys → AreSaid (xs ++ ys)
-said_both xs ys h k =
-    ap (map said) (map-append spelled xs ys) ∙ map-append said (map spelled xs) (map spelled ys) ∙ ap (λ (ms : List Message). ms ++ map said (map spelled ys)) h ∙ ap (λ (ms : List Message). xs ++ ms) k
+pub fit_both : (xs ys : List Message) → AreFit xs → AreFit ys → AreFit (xs ++ ys)
+fit_both [] ys h k = k
+fit_both (x ∷ xs) ys h k = (h.0, h.1, fit_both xs ys h.2 k)
 
 pub spelled_some : (ms : List Message) → AreSome (map spelled ms)
 spelled_some [] = tt
@@ -46,11 +46,11 @@ module _ (setup : Setup) (Good : Network → Type 0) (law : IsLawful setup Good)
   pub record Alone (f : Flow) (v : Services) (sent calls : List Message) : Type 0 where
     pub sound : AreSound v
     pub alone : sent ≡ calls
-    pub said : AreSaid calls
+    pub fit : AreFit calls
 
   alone_at : (f : Flow) → IsServed kinds f → (s : Services) → Good s.network → AreUnspent setup Good law s → AreSound s → (n : ℕ) (deed : Deed) → KeepsKind kinds n deed → (o : Option EndpointValue) → look ◌==◌ n s.network.endpoints ≡ o → KeepsFrom setup s.network n deed (option_map (node_with n s) o)
       → Alone f (node_does setup n deed s (option_map (node_with n s) o)) (at_node (sent_on f deed) (option_map (node_with n s) o)) (at_node (call_by f deed) (option_map (node_with n s) o))
-  alone_at f served s good unspent sound n deed agrees None found keeps = record { sound = sound; alone = refl; said = refl }
+  alone_at f served s good unspent sound n deed agrees None found keeps = record { sound = sound; alone = refl; fit = tt }
   alone_at f served s good unspent sound n deed agrees (Some e) found keeps =
       let x = node_with n s e in
       let y = node_after setup n deed x in
@@ -59,7 +59,7 @@ module _ (setup : Setup) (Good : Network → Type 0) (law : IsLawful setup Good)
       record {
         sound = λ k. by_test k (n == k) refl here;
         alone = ap (λ (ms : List Message). call_by f deed x ++ ms) (back_none kinds n f served x (sound n) me deed) ∙ append-nil (call_by f deed x);
-        said = calls_said f deed x (sound n).life;
+        fit = calls_fit f deed x (sound n).life;
       }
     where
       by_test : (k : ℕ) (b : Bool) → (n == k) ≡ b → IsSound kinds n (node_after setup n deed (node_with n s e)).halves → IsSound kinds k (cond b (node_after setup n deed (node_with n s e)).halves (s.halves k))
@@ -71,7 +71,7 @@ module _ (setup : Setup) (Good : Network → Type 0) (law : IsLawful setup Good)
   KeepsKindIn (Does n deed) = KeepsKind kinds n deed
 
   pub alone_in : (f : Flow) → IsServed kinds f → (s : Services) → Good s.network → AreUnspent setup Good law s → AreSound s → (t : Turn) → KeepsKindIn t → KeepsTurn setup t s → Alone f (services_after setup t s) (in_turn (λ n. sent_on f) t s) (in_turn (λ n. call_by f) t s)
-  alone_in f served s good unspent sound (Passes by) agrees keeps = record { sound = sound; alone = refl; said = refl }
+  alone_in f served s good unspent sound (Passes by) agrees keeps = record { sound = sound; alone = refl; fit = tt }
   alone_in f served s good unspent sound (Does n deed) agrees keeps = alone_at f served s good unspent sound n deed agrees (look ◌==◌ n s.network.endpoints) refl keeps
 
   pub kinds_parts : (t : Turn) (turns : List Turn) → KeepsKinds kinds (t ∷ turns) → KeepsKindIn t × KeepsKinds kinds turns
@@ -80,8 +80,8 @@ module _ (setup : Setup) (Good : Network → Type 0) (law : IsLawful setup Good)
 
   -- all turns
   pub calls_alone : (f : Flow) → IsServed kinds f → (turns : List Turn) (b : Option (List ℕ)) (s : Services) → Good s.network → AreUnspent setup Good law s → AreSound s → Tracks f b (s.halves f.to.0).begun → KeepsKinds kinds turns → KeepsTurns setup turns s
-      → (in_turns (λ n. sent_on f) setup turns s ≡ calls_on f setup turns s) × AreSaid (calls_on f setup turns s)
-  calls_alone f served [] b s good unspent sound tracks agree keeps = (refl, refl)
+      → (in_turns (λ n. sent_on f) setup turns s ≡ calls_on f setup turns s) × AreFit (calls_on f setup turns s)
+  calls_alone f served [] b s good unspent sound tracks agree keeps = (refl, tt)
   calls_alone f served (t ∷ turns) b s good unspent sound tracks agree keeps =
       let parts = kinds_parts t turns agree in
       let first = turned setup Good law f b s good unspent tracks t keeps.0 in
@@ -89,7 +89,7 @@ module _ (setup : Setup) (Good : Network → Type 0) (law : IsLawful setup Good)
       let good_next : Good (services_after setup t s).network = subst Good first.ends (law.on s.network first.steps good first.are first.keep) in
       let rest = calls_alone f served turns _ (services_after setup t s) good_next first.unspent one.sound first.begun parts.1 keeps.1 in (
         ap (λ (ms : List Message). ms ++ in_turns (λ n. sent_on f) setup turns (services_after setup t s)) one.alone ∙ ap (λ (ms : List Message). in_turn (λ n. call_by f) t s ++ ms) rest.0,
-        said_both (in_turn (λ n. call_by f) t s) (calls_on f setup turns (services_after setup t s)) one.said rest.1,
+        fit_both (in_turn (λ n. call_by f) t s) (calls_on f setup turns (services_after setup t s)) one.fit rest.1,
       )
 
   -- REQUESTS ARE CALLS, where what is read is what was sent
@@ -110,4 +110,4 @@ module _ (setup : Setup) (Good : Network → Type 0) (law : IsLawful setup Good)
     pub requests_come : (f : Flow) → IsServed kinds f → (turns : List Turn) → KeepsKinds kinds turns → KeepsTurns setup turns start → AreSomeOf (requests_on f setup turns start) (calls_on f setup turns start)
     requests_come f served turns agree keeps =
         let c = calls_alone f served turns None start new unspent (λ k. new_sound kinds k (most k) (life k) (lives k)) (inl refl) agree keeps in
-        subst (λ (ms : List Message). AreSomeOf (requests_on f setup turns start) ms) (ap (λ (ms : List Message). map said (map spelled ms)) c.0 ∙ c.1) (sent_come f turns keeps)
+        subst (λ (ms : List Message). AreSomeOf (requests_on f setup turns start) ms) (ap (λ (ms : List Message). map said (map spelled ms)) c.0 ∙ fit_said (calls_on f setup turns start) c.1) (sent_come f turns keeps)

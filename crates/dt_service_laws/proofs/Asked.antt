@@ -33,7 +33,7 @@ use Rattle.dt_service_model.specs.declared.answers.Forgot.TheVariants as forgot
 use Rattle.dt_service_model.specs.declared.answers.Made.{Made}
 use Rattle.dt_service_model.specs.declared.answers.Replied.{Replied}
 use Rattle.dt_service_model.specs.declared.names.Token.{Token}
-use Rattle.dt_service_model.specs.Asked.{arrive, call, call_refusals, forget, forget_refusals, forgotten, forgotten_unless, goes_out, is_closed, is_one_too_many, made_by, made_of, message_event, next_number, replied_by, replied_of, reply, reply_refusals, tick, unless, with_call_unless}
+use Rattle.dt_service_model.specs.Asked.{arrive, arrive_refused, call, call_refusals, forget, forget_refusals, forgotten, forgotten_unless, goes_out, is_closed, is_one_too_many, made_by, made_of, message_event, next_number, replied_by, replied_of, reply, reply_refusals, tick, unless, with_call_unless}
 use Rattle.dt_service_model.specs.Halves.{Halves}
 use Rattle.dt_service_model.specs.Names.{number_of}
 use Rattle.dt_service_model.specs.Turns.{Node, happens, turn, turn_end, with_halves}
@@ -110,6 +110,17 @@ none_refused false false false false p q r s = refl
 pub length_message : (n : ℕ) (carried : List ℕ) → length (message_of n carried) ≡ 8 + length carried
 length_message n carried = omega arith
 
+-- the halves between an event and the end of its turn: those of before where nothing is done
+abbrev pub mid_of : {A : Type 0} → Option A → Halves → Halves → Halves
+mid_of (Some refusal) before between = before
+mid_of None before between = between
+
+abbrev pub called : (now : ℕ) → Flow → List ℕ → (patience : ℕ) → Node → Halves
+called now f message patience x = with_call_unless (send_answer now f message true true x.endpoint) f (length message) (moment_of now x.endpoint + patience) (happens now (message_event f message) x).halves
+
+abbrev pub replied_mid : (now : ℕ) → Token → List ℕ → Node → Halves
+replied_mid now token message x = forgotten_unless (send_answer now (reversed token.flow) message true true x.endpoint) token (happens now (message_event (reversed token.flow) message) x).halves
+
 nothing_if : (b : Bool) (ms : List Message) → ms ≡ [] → [] ≡ items_of_all (map spelled (cond b ms []))
 nothing_if true ms h = ap (λ (l : List Message). items_of_all (map spelled l)) (sym h)
 nothing_if false ms h = refl
@@ -161,7 +172,7 @@ module _ (setup : Setup) (n : ℕ) (m : Network) (x : Node) (there : IsAt n m x.
   -- a send, and the end of its turn
   pub comes_by_send : (now : ℕ) → KeepsTime setup m n now → (f : Flow) → IsFlow f → (number : ℕ) (carried : List ℕ) → goes_out x f ≡ true → is_one_too_many x carried ≡ false
       → let message = message_of number carried in (h : Halves) → IsBetween setup n (happens now (message_event f message) x).halves h → All IsFlow h.unread
-      → Comes setup n x (turn_end now (record { endpoint = (happens now (message_event f message) x).endpoint; halves = h })) m (λ g. cond (same_flow f g) (posted (send_answer now f message true true x.endpoint) message) [] ++ [])
+      → Comes setup n x h (turn_end now (record { endpoint = (happens now (message_event f message) x).endpoint; halves = h })) m (λ g. cond (same_flow f g) (posted (send_answer now f message true true x.endpoint) message) [] ++ [])
   comes_by_send now time f flow number carried out few h between flows =
       let message = message_of number carried in
       let o = send_answer now f message true true x.endpoint in
@@ -175,8 +186,8 @@ module _ (setup : Setup) (n : ℕ) (m : Network) (x : Node) (there : IsAt n m x.
   call_posts true (Some (refusal.Full free)) payload = refl
   call_posts false o payload = refl
 
-  pub alike : (y : Node) (us vs : Flow → List Item) → ((g : Flow) → us g ≡ vs g) → Comes setup n x y m us → Comes setup n x y m vs
-  alike y us vs same c = record {
+  pub alike : (h : Halves) (y : Node) (us vs : Flow → List Item) → ((g : Flow) → us g ≡ vs g) → Comes setup n x h y m us → Comes setup n x h y m vs
+  alike h y us vs same c = record {
     steps = c.steps;
     are = c.are;
     keep = c.keep;
@@ -185,15 +196,18 @@ module _ (setup : Setup) (n : ℕ) (m : Network) (x : Node) (there : IsAt n m x.
     takes = λ g taken t. c.takes g taken t ∙ same g;
     begun = c.begun;
     requests = c.requests;
+    waits = c.waits;
+    opens = c.opens;
+    answers = c.answers;
     elsewhere = c.elsewhere;
   }
 
   call_goes : (now : ℕ) → KeepsTime setup m n now → (f : Flow) → IsFlow f → (payload : List ℕ) (patience : ℕ) → ReadsFlows (happens now (message_event f (message_of (number_of (next_number x.halves)) payload)) x)
       → (o : Option Made) → first_refusal (call_refusals x f payload patience) ≡ o
-      → let r = unless o x (made_by now f (message_of (number_of (next_number x.halves)) payload) patience x) in Comes setup n x r.1 m (λ g. items_of_all (map spelled (cond (same_flow f g) (made_as r.0 payload) [])))
+      → let r = unless o x (made_by now f (message_of (number_of (next_number x.halves)) payload) patience x) in Comes setup n x (mid_of o x.halves (called now f (message_of (number_of (next_number x.halves)) payload) patience x)) r.1 m (λ g. items_of_all (map spelled (cond (same_flow f g) (made_as r.0 payload) [])))
   call_goes now time f flow payload patience flows (Some a) refused =
       let nothing : made_as a payload ≡ [] = first_none (λ (r : Made). made_as r payload) (call_refusals x f payload patience) a (refl, (refl, (refl, (refl, (refl, (refl, (refl, (refl, tt)))))))) refused in
-      alike x (λ g. []) _ (λ g. nothing_if (same_flow f g) (made_as a payload) nothing) (comes_nowhere setup n x m there unspent)
+      alike x.halves x (λ g. []) _ (λ g. nothing_if (same_flow f g) (made_as a payload) nothing) (comes_nowhere setup n x m there unspent)
   call_goes now time f flow payload patience flows None clear =
       let h = x.halves in
       let message = message_of (number_of (next_number h)) payload in
@@ -201,11 +215,11 @@ module _ (setup : Setup) (n : ℕ) (m : Network) (x : Node) (there : IsAt n m x.
       let deadline = moment_of now x.endpoint + patience in
       let c = all_clear (call_refusals x f payload patience) clear in
       let heard = (happens now (message_event f message) x).halves in
-      alike _ _ _ (λ k. call_posts (same_flow f k) refused payload)
+      alike _ _ _ _ (λ k. call_posts (same_flow f k) refused payload)
       (comes_by_send now time f flow (number_of (next_number h)) payload (not_false _ c.1.0) c.1.1.1.1.1.0 (with_call_unless refused f (length message) deadline heard) (kept_between setup n refused f (length message) deadline heard) (flows_kept refused f (length message) deadline heard flows))
 
   pub call_comes : (now : ℕ) → KeepsTime setup m n now → (f : Flow) → IsFlow f → (payload : List ℕ) (patience : ℕ) → ReadsFlows (happens now (message_event f (message_of (number_of (next_number x.halves)) payload)) x)
-      → Comes setup n x (call now f payload patience x).1 m (λ g. items_of_all (map spelled (cond (same_flow f g) (made_as (call now f payload patience x).0 payload) [])))
+      → Comes setup n x (mid_of (first_refusal (call_refusals x f payload patience)) x.halves (called now f (message_of (number_of (next_number x.halves)) payload) patience x)) (call now f payload patience x).1 m (λ g. items_of_all (map spelled (cond (same_flow f g) (made_as (call now f payload patience x).0 payload) [])))
   call_comes now time f flow payload patience flows = call_goes now time f flow payload patience flows (first_refusal (call_refusals x f payload patience)) refl
 
   -- A REPLY
@@ -217,28 +231,28 @@ module _ (setup : Setup) (n : ℕ) (m : Network) (x : Node) (there : IsAt n m x.
 
   reply_goes : (now : ℕ) → KeepsTime setup m n now → (token : Token) → IsFlow token.flow → (payload : List ℕ) → ReadsFlows (happens now (message_event (reversed token.flow) (message_of (number_of token.number) payload)) x)
       → (o : Option Replied) → first_refusal (reply_refusals x token payload) ≡ o
-      → let r = unless o x (replied_by now token (message_of (number_of token.number) payload) x) in Comes setup n x r.1 m (λ g. items_of_all (map spelled (cond (same_flow (reversed token.flow) g) (replied_as r.0 token payload) [])))
+      → let r = unless o x (replied_by now token (message_of (number_of token.number) payload) x) in Comes setup n x (mid_of o x.halves (replied_mid now token (message_of (number_of token.number) payload) x)) r.1 m (λ g. items_of_all (map spelled (cond (same_flow (reversed token.flow) g) (replied_as r.0 token payload) [])))
   reply_goes now time token flow payload flows (Some a) refused =
       let nothing : replied_as a token payload ≡ [] = first_none (λ (r : Replied). replied_as r token payload) (reply_refusals x token payload) a (refl, (refl, (refl, (refl, (refl, tt))))) refused in
-      alike x (λ g. []) _ (λ g. nothing_if (same_flow (reversed token.flow) g) (replied_as a token payload) nothing) (comes_nowhere setup n x m there unspent)
+      alike x.halves x (λ g. []) _ (λ g. nothing_if (same_flow (reversed token.flow) g) (replied_as a token payload) nothing) (comes_nowhere setup n x m there unspent)
   reply_goes now time token flow payload flows None clear =
       let message = message_of (number_of token.number) payload in
       let refused = send_answer now (reversed token.flow) message true true x.endpoint in
       let c = all_clear (reply_refusals x token payload) clear in
       let heard = (happens now (message_event (reversed token.flow) message) x).halves in
-      alike _ _ _ (λ k. reply_posts (same_flow (reversed token.flow) k) refused token payload)
+      alike _ _ _ _ (λ k. reply_posts (same_flow (reversed token.flow) k) refused token payload)
       (comes_by_send now time (reversed token.flow) (record { from = flow.to; from_port = flow.to_port; to = flow.from; to_port = flow.from_port }) (number_of token.number) payload (not_false _ c.1.1.1.0) c.1.1.1.1.0 (forgotten_unless refused token heard) (forgot_between setup n refused token heard) (forgot_flows refused token heard flows))
 
   pub reply_comes : (now : ℕ) → KeepsTime setup m n now → (token : Token) → IsFlow token.flow → (payload : List ℕ) → ReadsFlows (happens now (message_event (reversed token.flow) (message_of (number_of token.number) payload)) x)
-      → Comes setup n x (reply now token payload x).1 m (λ g. items_of_all (map spelled (cond (same_flow (reversed token.flow) g) (replied_as (reply now token payload x).0 token payload) [])))
+      → Comes setup n x (mid_of (first_refusal (reply_refusals x token payload)) x.halves (replied_mid now token (message_of (number_of token.number) payload) x)) (reply now token payload x).1 m (λ g. items_of_all (map spelled (cond (same_flow (reversed token.flow) g) (replied_as (reply now token payload x).0 token payload) [])))
   reply_comes now time token flow payload flows = reply_goes now time token flow payload flows (first_refusal (reply_refusals x token payload)) refl
 
   -- A TOKEN IS FORGOTTEN
-  forget_goes : (now : ℕ) → KeepsTime setup m n now → (token : Token) → ReadsFlows x → (o : Option Forgot) → Comes setup n x (unless o x (forgot.Done, turn_end now (with_halves (forgotten token) x))).1 m (λ g. [])
+  forget_goes : (now : ℕ) → KeepsTime setup m n now → (token : Token) → ReadsFlows x → (o : Option Forgot) → Comes setup n x (mid_of o x.halves (forgotten token x.halves)) (unless o x (forgot.Done, turn_end now (with_halves (forgotten token) x))).1 m (λ g. [])
   forget_goes now time token flows (Some a) = comes_nowhere setup n x m there unspent
   forget_goes now time token flows None = comes_by_end setup n x m there now time Good law good unspent (forgotten token x.halves) (forgotten_quiet token x.halves) flows
 
-  pub forget_comes : (now : ℕ) → KeepsTime setup m n now → (token : Token) → ReadsFlows x → Comes setup n x (forget now token x).1 m (λ g. [])
+  pub forget_comes : (now : ℕ) → KeepsTime setup m n now → (token : Token) → ReadsFlows x → Comes setup n x (mid_of (first_refusal (forget_refusals x token)) x.halves (forgotten token x.halves)) (forget now token x).1 m (λ g. [])
   forget_comes now time token flows = forget_goes now time token flows (first_refusal (forget_refusals x token))
 
   -- A TICK
@@ -246,14 +260,14 @@ module _ (setup : Setup) (n : ℕ) (m : Network) (x : Node) (there : IsAt n m x.
   tick_does now true h = absurd cc
   tick_does now false h = (refl, refl)
 
-  tick_goes : (now : ℕ) → KeepsTime setup m n now → ReadsFlows (happens now Tick x) → (b : Bool) → Comes setup n x (cond {A = Ticked × Node} b (ticked.Spent, x) (ticked.Done, turn now Tick x)).1 m (λ g. [])
+  tick_goes : (now : ℕ) → KeepsTime setup m n now → ReadsFlows (happens now Tick x) → (b : Bool) → Comes setup n x (cond b x.halves (happens now Tick x).halves) (cond {A = Ticked × Node} b (ticked.Spent, x) (ticked.Done, turn now Tick x)).1 m (λ g. [])
   tick_goes now time flows true = comes_nowhere setup n x m there unspent
   tick_goes now time flows false =
       comes_by_event setup n x m there now time Good law good unspent (CallTick now ticked.Done) (after_event now Tick x.endpoint) (happens now Tick x).halves (λ g. [])
       (record { does = tick_does now x.endpoint.spent unspent; keeps = time_later setup n m now time; frames = frames_in (acts_of (script_of now Tick x.endpoint)); appended = refl; unspent = refl })
       (λ g. refl) (λ g taken t. t) (nothing_between setup n (happens now Tick x).halves) flows
 
-  pub tick_comes : (now : ℕ) → KeepsTime setup m n now → ReadsFlows (happens now Tick x) → Comes setup n x (tick now x).1 m (λ g. [])
+  pub tick_comes : (now : ℕ) → KeepsTime setup m n now → ReadsFlows (happens now Tick x) → Comes setup n x (cond (is_closed x) x.halves (happens now Tick x).halves) (tick now x).1 m (λ g. [])
   tick_comes now time flows = tick_goes now time flows (is_closed x)
 
   -- A DATAGRAM COMES
@@ -267,7 +281,7 @@ module _ (setup : Setup) (n : ℕ) (m : Network) (x : Node) (there : IsAt n m x.
   }
 
   arrive_goes : (now link : ℕ) (datagram : List ℕ) (waited : ℕ) → KeepsCall setup m n (CallArrive now link datagram waited arrived.Done) x.endpoint → ReadsFlows (happens now (arrive_event link datagram waited) x) → (c : Bool) → (o : Option Arrived) → arrive_refusal link datagram waited x.endpoint ≡ o
-      → Comes setup n x (unless (cond c (Some arrived.Spent) o) x (arrived.Done, turn now (arrive_event link datagram waited) x)).1 m (λ g. [])
+      → Comes setup n x (mid_of (cond c (Some arrived.Spent) o) x.halves (happens now (arrive_event link datagram waited) x).halves) (unless (cond c (Some arrived.Spent) o) x (arrived.Done, turn now (arrive_event link datagram waited) x)).1 m (λ g. [])
   arrive_goes now link datagram waited keeps flows true o is = comes_nowhere setup n x m there unspent
   arrive_goes now link datagram waited keeps flows false (Some a) is = comes_nowhere setup n x m there unspent
   arrive_goes now link datagram waited keeps flows false None is =
@@ -283,5 +297,5 @@ module _ (setup : Setup) (n : ℕ) (m : Network) (x : Node) (there : IsAt n m x.
       })
       (λ g. refl) (λ g taken t. t) (nothing_between setup n (happens now event x).halves) flows
 
-  pub arrive_comes : (now link : ℕ) (datagram : List ℕ) (waited : ℕ) → KeepsCall setup m n (CallArrive now link datagram waited arrived.Done) x.endpoint → ReadsFlows (happens now (arrive_event link datagram waited) x) → Comes setup n x (arrive now link datagram waited x).1 m (λ g. [])
+  pub arrive_comes : (now link : ℕ) (datagram : List ℕ) (waited : ℕ) → KeepsCall setup m n (CallArrive now link datagram waited arrived.Done) x.endpoint → ReadsFlows (happens now (arrive_event link datagram waited) x) → Comes setup n x (mid_of (arrive_refused link datagram waited x) x.halves (happens now (arrive_event link datagram waited) x).halves) (arrive now link datagram waited x).1 m (λ g. [])
   arrive_comes now link datagram waited keeps flows = arrive_goes now link datagram waited keeps flows (is_closed x) (arrive_refusal link datagram waited x.endpoint) refl

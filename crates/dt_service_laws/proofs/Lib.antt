@@ -18,3 +18,5 @@ mod Keeping
 mod Sound
 mod Arriving
 mod Lawful
+mod Answering
+mod Middle

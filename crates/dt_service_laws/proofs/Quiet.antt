@@ -49,6 +49,9 @@ quiet_same h k ports life count tokens begun calls happenings = record {
   unsure = All-nil IsUnsure;
 }
 
+pub quiet_itself : (h : Halves) → IsQuiet h h
+quiet_itself h = quiet_same h h refl refl refl refl refl refl refl
+
 pub quiet_then : (h k l : Halves) → IsQuiet h k → IsQuiet k l → IsQuiet h l
 quiet_then h k l p q = record {
   ports = q.ports ∙ p.ports;

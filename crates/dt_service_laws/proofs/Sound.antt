@@ -36,17 +36,25 @@ use Rattle.dt_service_model.specs.declared.ports.Most.{Most}
 use Rattle.dt_service_model.specs.declared.ports.Port.{Port}
 use Rattle.dt_service_model.specs.Asked.{arrive_refused, call, call_refusals, forget_refusals, forgotten, forgotten_unless, is_closed, is_life_in_use, made_by, made_of, message_event, next_number, replied_by, reply, reply_refusals, unless, with_call_unless, with_port}
 use Rattle.dt_service_model.specs.Ends.{next_call, next_in}
-use Rattle.dt_service_model.specs.Halves.{Halves, kind_in, new_halves}
+use Rattle.dt_service_model.specs.Halves.{Halves, is_caller, kind_in, new_halves}
 use Rattle.dt_service_model.specs.Names.{call_number, number_of, same_number, same_token}
 use Rattle.dt_service_model.specs.Turns.{Node, happens, turn, turn_end, with_halves}
-use Rattle.dt_service_laws.specs.Histories.{Message, call_by, made_as, replied_as}
+use Rattle.dt_service_laws.specs.Histories.{Message, call_by, made_as, replied_as, reply_by}
 use Rattle.dt_service_laws.specs.Premises.{IsLife, IsServed, KeepsDeed, KeepsKind}
 use Rattle.dt_service_laws.specs.Services.{Arrives, Closes, Deed, Forgets, GivesKind, GivesReply, MakesCall, OpensAgain, PullsFrame, Raises, TakesHappening, Ticks, node_after}
 use Rattle.dt_service_laws.proofs.Asked.{all_clear, first_none, not_false, spelled}
+use Rattle.dt_service_laws.proofs.Answering.{same_reversed}
 use Rattle.dt_service_laws.proofs.Keeping.{IsOfService, Keeps, end_keeps, happens_keeps, keeps_quietly, turn_keeps}
 use Rattle.dt_service_laws.proofs.Quiet.{close_quiet, forgotten_quiet}
 use Rattle.dt_service_laws.proofs.Telling.{said}
 use Rattle.dt_service_laws.proofs.Turned.{back_by}
+
+-- a token that is open is there
+pub token_there : (token : Token) (tokens : List Token) → list_any (same_token token) tokens ≡ true → (t : Token) × Contains tokens t × (token.flow ≡ t.flow) × (same_number token.number t.number ≡ true)
+token_there token tokens h =
+    let a = Any-from_list_any (same_token token) tokens h in
+    let b = and_parts (same_flow token.flow a.1.flow) (same_number token.number a.1.number) a.4 in
+    (a.1, (a.0, a.2, a.3), flow_is token.flow a.1.flow b.0, b.1)
 
 module _ (kinds : (node port : ℕ) → Kind) (n : ℕ) where
   -- kinds, tokens and the life of a node
@@ -164,12 +172,6 @@ module _ (kinds : (node port : ℕ) → Kind) (n : ℕ) where
   sound_deed setup m x (OpensAgain again routes most life) agrees keeps s = new_sound most life keeps.1
 
   -- A REPLY goes back to a caller, and never on a caller's flow
-  pub token_there : (token : Token) (tokens : List Token) → list_any (same_token token) tokens ≡ true → (t : Token) × Contains tokens t × (token.flow ≡ t.flow) × (same_number token.number t.number ≡ true)
-  token_there token tokens h =
-      let a = Any-from_list_any (same_token token) tokens h in
-      let b = and_parts (same_flow token.flow a.1.flow) (same_number token.number a.1.number) a.4 in
-      (a.1, (a.0, a.2, a.3), flow_is token.flow a.1.flow b.0, b.1)
-
   both_not : (a b : Bool) → not (not a || b) ≡ true → a ≡ true
   both_not true b h = refl
   both_not false b h = absurd cc
@@ -204,6 +206,96 @@ module _ (kinds : (node port : ℕ) → Kind) (n : ℕ) where
   back_none f served x s me Closes = refl
   back_none f served x s me (OpensAgain again routes most life) = refl
 
+-- A CALL goes from its node, and its port is a caller's
+is_a_caller : (o : Option Kind) → is_caller o ≡ true → o ≡ Some Caller
+is_a_caller None h = absurd cc
+is_a_caller (Some Caller) h = refl
+is_a_caller (Some Service) h = absurd cc
+
+first_of_both : (a b : Bool) → not (not a || b) ≡ true → a ≡ true
+first_of_both true b h = refl
+first_of_both false b h = absurd cc
+
+pub record IsCall (x : Node) (f : Flow) : Type 0 where
+  pub from : f.from.0 ≡ x.endpoint.state.host.me
+  pub caller : kind_in f.from_port x.halves.ports ≡ Some Caller
+
+made_if : (o : Option Made) (now : ℕ) (f : Flow) (payload : List ℕ) (patience : ℕ) (x : Node) → first_refusal (call_refusals x f payload patience) ≡ o
+    → (made_as (unless o x (made_by now f (message_of (number_of (next_number x.halves)) payload) patience x)).0 payload ≡ []) ⊎ IsCall x f
+made_if (Some a) now f payload patience x refused = inl (first_none (λ (r : Made). made_as r payload) (call_refusals x f payload patience) a (refl, (refl, (refl, (refl, (refl, (refl, (refl, (refl, tt)))))))) refused)
+made_if None now f payload patience x clear =
+    let c = all_clear (call_refusals x f payload patience) clear in
+    inr (record {
+      from = nat_is f.from.0 x.endpoint.state.host.me (first_of_both (f.from.0 == x.endpoint.state.host.me) (f.to.0 == x.endpoint.state.host.me) (not_false _ c.1.0));
+      caller = is_a_caller (kind_in f.from_port x.halves.ports) (not_false _ c.1.1.0);
+    })
+
+call_if : (f g : Flow) (ms : List Message) (x : Node) → (ms ≡ []) ⊎ IsCall x g → (b : Bool) → same_flow g f ≡ b → (cond b ms [] ≡ []) ⊎ IsCall x f
+call_if f g ms x h false is = inl refl
+call_if f g ms x (inl none) true is = inl none
+call_if f g ms x (inr call) true is = inr (subst (IsCall x) (flow_is g f is) call)
+
+pub call_is : (f : Flow) (deed : Deed) (x : Node) → (call_by f deed x ≡ []) ⊎ IsCall x f
+call_is f (MakesCall now g payload patience) x = call_if f g _ x (made_if (first_refusal (call_refusals x g payload patience)) now g payload patience x refl) (same_flow g f) refl
+call_is f (GivesKind port kind) x = inl refl
+call_is f (GivesReply now token payload) x = inl refl
+call_is f (Forgets now token) x = inl refl
+call_is f (Ticks now) x = inl refl
+call_is f (Arrives now link datagram waited) x = inl refl
+call_is f (Raises life) x = inl refl
+call_is f TakesHappening x = inl refl
+call_is f PullsFrame x = inl refl
+call_is f Closes x = inl refl
+call_is f (OpensAgain again routes most life) x = inl refl
+
+-- on the way back to a caller no call is made, and what goes there are the replies
+pub no_call_back : (kinds : (node port : ℕ) → Kind) (n : ℕ) (f : Flow) → IsServed kinds f → (x : Node) → IsSound kinds n x.halves → x.endpoint.state.host.me ≡ n → (deed : Deed) → call_by (reversed f) deed x ≡ []
+no_call_back kinds n f served x s me deed =
+    elim (call_is (reversed f) deed x) [
+      | inl none ↦ none
+      | inr call ↦
+          let here : f.to.0 ≡ n = call.from ∙ me in
+          let caller : Caller ≡ kinds n f.to_port = s.ports f.to_port Caller call.caller in
+          let service : kinds n f.to_port ≡ Service = subst (λ (k : ℕ). kinds k f.to_port ≡ Service) here served.service in
+          let wrong : Caller ≡ Service = caller ∙ service in
+          absurd cc
+    ]
+
+pub back_is : (f : Flow) (deed : Deed) (x : Node) → back_by (reversed f) deed x ≡ reply_by f deed x
+back_is f (GivesReply now token payload) x = ap (λ (b : Bool). cond b (replied_as (reply now token payload x).0 token payload) []) (same_reversed token.flow f)
+back_is f (GivesKind port kind) x = refl
+back_is f (MakesCall now g payload patience) x = refl
+back_is f (Forgets now token) x = refl
+back_is f (Ticks now) x = refl
+back_is f (Arrives now link datagram waited) x = refl
+back_is f (Raises life) x = refl
+back_is f TakesHappening x = refl
+back_is f PullsFrame x = refl
+back_is f Closes x = refl
+back_is f (OpensAgain again routes most life) x = refl
+
+-- A REPLY goes from its node
+pub reply_is : (f : Flow) (deed : Deed) (x : Node) → (reply_by f deed x ≡ []) ⊎ (f.to.0 ≡ x.endpoint.state.host.me)
+reply_is f (GivesReply now token payload) x = by_flow (same_flow token.flow f) refl (first_refusal (reply_refusals x token payload)) refl
+  where
+    by_flow : (b : Bool) → same_flow token.flow f ≡ b → (o : Option Replied) → first_refusal (reply_refusals x token payload) ≡ o
+        → (cond b (replied_as (unless o x (replied_by now token (message_of (number_of token.number) payload) x)).0 token payload) [] ≡ []) ⊎ (f.to.0 ≡ x.endpoint.state.host.me)
+    by_flow false is o h = inl refl
+    by_flow true is (Some a) h = inl (first_none (λ (r : Replied). replied_as r token payload) (reply_refusals x token payload) a (refl, (refl, (refl, (refl, (refl, tt))))) h)
+    by_flow true is None h =
+        let c = all_clear (reply_refusals x token payload) h in
+        inr (ap (λ (g : Flow). g.to.0) (sym (flow_is token.flow f is)) ∙ nat_is token.flow.to.0 x.endpoint.state.host.me (first_of_both (token.flow.to.0 == x.endpoint.state.host.me) (token.flow.from.0 == x.endpoint.state.host.me) (not_false _ c.1.1.1.0)))
+reply_is f (GivesKind port kind) x = inl refl
+reply_is f (MakesCall now g payload patience) x = inl refl
+reply_is f (Forgets now token) x = inl refl
+reply_is f (Ticks now) x = inl refl
+reply_is f (Arrives now link datagram waited) x = inl refl
+reply_is f (Raises life) x = inl refl
+reply_is f TakesHappening x = inl refl
+reply_is f PullsFrame x = inl refl
+reply_is f Closes x = inl refl
+reply_is f (OpensAgain again routes most life) x = inl refl
+
 -- WHAT IS SPELLED is said
 pub number_again : (number : CallNumber) → number.life < 2 ^ 32 → number.count < 2 ^ 32 → call_number (number_of number) ≡ number
 number_again number life count =
@@ -218,40 +310,46 @@ said_again m life count =
     ap (λ (k : ℕ). let r : Message = record { number = call_number k; carried = m.carried } in r) (number_back (number_of m.number) m.carried fits)
     ∙ ap (λ (k : CallNumber). let r : Message = record { number = k; carried = m.carried } in r) (number_again m.number life count)
 
+-- messages whose numbers fit into their octets
+abbrev pub AreFit : List Message → Type 0
+AreFit [] = Unit {0}
+AreFit (m ∷ ms) = (m.number.life < 2 ^ 32) × (m.number.count < 2 ^ 32) × AreFit ms
+
 abbrev pub AreSaid : List Message → Type 0
 AreSaid ms = map said (map spelled ms) ≡ ms
 
-said_made : (o : Option Refusal) (h : Halves) (payload : List ℕ) → IsLife h.life → h.count < 2 ^ 32 → AreSaid (made_as (made_of o h) payload)
-said_made None h payload life count = ap (λ (m : Message). m ∷ []) (said_again (record { number = next_number h; carried = payload }) life count)
-said_made (Some r) h payload life count = said_refused r
-  where
-    said_refused : (r : Refusal) → AreSaid (made_as (made_of (Some r) h) payload)
-    said_refused (refusal.Quiet until) = refl
-    said_refused (refusal.Full free) = refl
+pub fit_said : (ms : List Message) → AreFit ms → AreSaid ms
+fit_said [] fit = refl
+fit_said (m ∷ ms) fit = ap (λ (x : Message). x ∷ map said (map spelled ms)) (said_again m fit.0 fit.1) ∙ ap (λ (xs : List Message). m ∷ xs) (fit_said ms fit.2)
 
-call_said : (o : Option Made) (now : ℕ) (f : Flow) (payload : List ℕ) (patience : ℕ) (x : Node) → IsLife x.halves.life → first_refusal (call_refusals x f payload patience) ≡ o
-    → AreSaid (made_as (unless o x (made_by now f (message_of (number_of (next_number x.halves)) payload) patience x)).0 payload)
-call_said (Some a) now f payload patience x life refused =
-    subst AreSaid (sym (first_none (λ (r : Made). made_as r payload) (call_refusals x f payload patience) a (refl, (refl, (refl, (refl, (refl, (refl, (refl, (refl, tt)))))))) refused)) refl
-call_said None now f payload patience x life clear =
+fit_made : (o : Option Refusal) (h : Halves) (payload : List ℕ) → IsLife h.life → h.count < 2 ^ 32 → AreFit (made_as (made_of o h) payload)
+fit_made None h payload life count = (life, count, tt)
+fit_made (Some (refusal.Quiet until)) h payload life count = tt
+fit_made (Some (refusal.Full free)) h payload life count = tt
+
+call_fits : (o : Option Made) (now : ℕ) (f : Flow) (payload : List ℕ) (patience : ℕ) (x : Node) → IsLife x.halves.life → first_refusal (call_refusals x f payload patience) ≡ o
+    → AreFit (made_as (unless o x (made_by now f (message_of (number_of (next_number x.halves)) payload) patience x)).0 payload)
+call_fits (Some a) now f payload patience x life refused =
+    subst AreFit (sym (first_none (λ (r : Made). made_as r payload) (call_refusals x f payload patience) a (refl, (refl, (refl, (refl, (refl, (refl, (refl, (refl, tt)))))))) refused)) tt
+call_fits None now f payload patience x life clear =
     let c = all_clear (call_refusals x f payload patience) clear in
     let many : nat_le (2 ^ 32) x.halves.count ≡ false = c.1.1.1.1.1.1.0 in
     let count : x.halves.count < 2 ^ 32 = grind (arith, nat_tests, many) in
-    said_made (send_answer now f (message_of (number_of (next_number x.halves)) payload) true true x.endpoint) x.halves payload life count
+    fit_made (send_answer now f (message_of (number_of (next_number x.halves)) payload) true true x.endpoint) x.halves payload life count
 
-said_if : (b : Bool) (ms : List Message) → AreSaid ms → AreSaid (cond b ms [])
-said_if true ms h = h
-said_if false ms h = refl
+fit_if : (b : Bool) (ms : List Message) → AreFit ms → AreFit (cond b ms [])
+fit_if true ms h = h
+fit_if false ms h = tt
 
-pub calls_said : (f : Flow) (deed : Deed) (x : Node) → IsLife x.halves.life → AreSaid (call_by f deed x)
-calls_said f (MakesCall now g payload patience) x life = said_if (same_flow g f) _ (call_said (first_refusal (call_refusals x g payload patience)) now g payload patience x life refl)
-calls_said f (GivesKind port kind) x life = refl
-calls_said f (GivesReply now token payload) x life = refl
-calls_said f (Forgets now token) x life = refl
-calls_said f (Ticks now) x life = refl
-calls_said f (Arrives now link datagram waited) x life = refl
-calls_said f (Raises l) x life = refl
-calls_said f TakesHappening x life = refl
-calls_said f PullsFrame x life = refl
-calls_said f Closes x life = refl
-calls_said f (OpensAgain again routes most l) x life = refl
+pub calls_fit : (f : Flow) (deed : Deed) (x : Node) → IsLife x.halves.life → AreFit (call_by f deed x)
+calls_fit f (MakesCall now g payload patience) x life = fit_if (same_flow g f) _ (call_fits (first_refusal (call_refusals x g payload patience)) now g payload patience x life refl)
+calls_fit f (GivesKind port kind) x life = tt
+calls_fit f (GivesReply now token payload) x life = tt
+calls_fit f (Forgets now token) x life = tt
+calls_fit f (Ticks now) x life = tt
+calls_fit f (Arrives now link datagram waited) x life = tt
+calls_fit f (Raises l) x life = tt
+calls_fit f TakesHappening x life = tt
+calls_fit f PullsFrame x life = tt
+calls_fit f Closes x life = tt
+calls_fit f (OpensAgain again routes most l) x life = tt

@@ -143,7 +143,7 @@ piece_tells f g b begin end run o os h tracks false is =
     }
 
 -- by the read that answered it
-read_tells : (f g : Flow) (b : Option (List ℕ)) (p : Piece) (o : ℕ) (os : List ℕ) (h : Halves) → p.octets ≡ o ∷ os → Tracks g b h.begun
+pub read_tells : (f g : Flow) (b : Option (List ℕ)) (p : Piece) (o : ℕ) (os : List ℕ) (h : Halves) → p.octets ≡ o ∷ os → Tracks g b h.begun
     → Tells g b (read_if (same_flow f g) (items_read (answer.Read (length p.octets) p.run p.begin p.end) p.octets)) h (take_piece f p h)
 read_tells f g b p o os h is tracks =
     let all : take (length p.octets) p.octets ≡ o ∷ os = take-length p.octets ∙ is in

@@ -11,7 +11,11 @@ use Rattle.dt_world_model.proofs.Tables.{look_write_other, nat_is, nat_self}
 use Rattle.dt_world_model.specs.Setup.{Setup}
 use Rattle.dt_world_model.specs.Tables.{look, same_flow, write}
 use Rattle.dt_calls_laws.specs.Wholes.{items_of_all}
-use Rattle.dt_calls_model.specs.Messages.{reversed}
+use Rattle.dt_calls_model.specs.Messages.{message_of, reversed}
+use Rattle.dt_endpoint.specs.Calls.{arrive_event}
+use Rattle.dt_world_model.specs.Station.{Tick}
+use Rattle.dt_world_model.specs.WorldStep.{first_refusal}
+use Rattle.dt_service_model.specs.Names.{number_of}
 use Rattle.dt_endpoint.specs.Endpoints.{EndpointValue}
 use Rattle.dt_network.specs.Duties.{KeepsDuties}
 use Rattle.dt_network.specs.Network.{Network}
@@ -21,22 +25,23 @@ use Rattle.dt_network.specs.Duties.{KeepsFrom as CallKeeps}
 use Rattle.dt_service_model.specs.declared.happenings.Happening.{Happening}
 use Rattle.dt_service_model.specs.declared.ports.Kind.{Kind}
 use Rattle.dt_service_model.specs.declared.calls.Call.{Call}
-use Rattle.dt_service_model.specs.Asked.{is_life_in_use, raised, reply, with_kind, with_port}
+use Rattle.dt_service_model.specs.Asked.{arrive_refused, call_refusals, forget_refusals, forgotten, is_closed, is_life_in_use, next_number, raised, reply, reply_refusals, with_kind, with_port}
 use Rattle.dt_service_model.specs.Ends.{close, next, next_call, next_in}
 use Rattle.dt_service_model.specs.Halves.{Halves, kind_in}
-use Rattle.dt_service_model.specs.Turns.{Node}
-use Rattle.dt_service_laws.specs.Histories.{Message, at_node, call_by, each_of, in_turn, in_turns, replied_as, request_in, requests_on, told_by}
+use Rattle.dt_service_model.specs.Turns.{Node, happens}
+use Rattle.dt_service_laws.specs.Histories.{Message, answer_in, at_node, call_by, each_of, in_turn, in_turns, replied_as, request_in, requests_on, told_by}
 use Rattle.dt_service_laws.specs.Orders.{AreSomeOf, none}
 use Rattle.dt_service_laws.specs.Premises.{KeepsDeed, KeepsFrom, KeepsTurn, KeepsTurns}
 use Rattle.dt_service_laws.specs.Services.{Arrives, Closes, Deed, Does, Forgets, GivesKind, GivesReply, MakesCall, OpensAgain, Passes, PullsFrame, Raises, Services, TakesHappening, Ticks, Turn, node_after, node_does, node_with, services_after, told_between, with_node}
 use Rattle.dt_service_laws.specs.Wholes.{begun_after, messages_from}
-use Rattle.dt_service_laws.proofs.Asked.{alike, arrive_comes, call_comes, forget_comes, reply_comes, spelled, tick_comes}
+use Rattle.dt_service_laws.proofs.Answering.{not_in_none}
+use Rattle.dt_service_laws.proofs.Asked.{alike, arrive_comes, call_comes, called, forget_comes, mid_of, replied_mid, reply_comes, spelled, tick_comes}
 use Rattle.dt_service_laws.proofs.Deeds.{Comes, comes_quietly}
 use Rattle.dt_service_laws.proofs.Elsewhere.{IsLawful}
 use Rattle.dt_service_laws.proofs.Moves.{Tracks}
 use Rattle.dt_service_laws.proofs.Orders.{both}
 use Rattle.dt_service_laws.proofs.Pieces.{messages_append}
-use Rattle.dt_service_laws.proofs.Quiet.{close_quiet}
+use Rattle.dt_service_laws.proofs.Quiet.{close_quiet, kept_itself}
 use Rattle.dt_service_laws.proofs.Runs.{IsAt, duties_append, steps_append, written_there}
 use Rattle.dt_service_laws.proofs.Sending.{Takings, takes_append, takes_more, takes_nothing}
 use Rattle.dt_service_laws.proofs.Telling.{read_append, said}
@@ -57,6 +62,21 @@ back_by f (OpensAgain again routes most life) x = []
 
 abbrev pub sent_on : Flow → Deed → Node → List Message
 sent_on f deed x = call_by f deed x ++ back_by f deed x
+
+-- the halves between what is done and the end of its turn
+module _ (setup : Setup) where
+  abbrev pub mid_by : (node : ℕ) → Deed → Node → Halves
+  mid_by n (MakesCall now f payload patience) x = mid_of (first_refusal (call_refusals x f payload patience)) x.halves (called now f (message_of (number_of (next_number x.halves)) payload) patience x)
+  mid_by n (GivesReply now token payload) x = mid_of (first_refusal (reply_refusals x token payload)) x.halves (replied_mid now token (message_of (number_of token.number) payload) x)
+  mid_by n (Forgets now token) x = mid_of (first_refusal (forget_refusals x token)) x.halves (forgotten token x.halves)
+  mid_by n (Ticks now) x = cond (is_closed x) x.halves (happens now Tick x).halves
+  mid_by n (Arrives now link datagram waited) x = mid_of (arrive_refused link datagram waited x) x.halves (happens now (arrive_event link datagram waited) x).halves
+  mid_by n (GivesKind port kind) x = (node_after setup n (GivesKind port kind) x).halves
+  mid_by n (Raises life) x = (node_after setup n (Raises life) x).halves
+  mid_by n TakesHappening x = (node_after setup n TakesHappening x).halves
+  mid_by n PullsFrame x = (node_after setup n PullsFrame x).halves
+  mid_by n Closes x = (node_after setup n Closes x).halves
+  mid_by n (OpensAgain again routes most life) x = (node_after setup n (OpensAgain again routes most life) x).halves
 
 -- what is beside an endpoint
 kind_between : (port : ℕ) (o : Option Kind) (kind : Kind) (h : Halves) → ((with_port port o kind h).begun ≡ h.begun) × ((with_port port o kind h).happenings ≡ h.happenings)
@@ -89,7 +109,7 @@ taken_first (x ∷ xs) h is = record { begun = refl; none = ap (λ (ts : List Ha
 module _ (setup : Setup) (Good : Network → Type 0) (law : IsLawful setup Good) where
   module _ (n : ℕ) (m : Network) (x : Node) (there : IsAt n m x.endpoint) (unspent : x.endpoint.spent ≡ false) (good : Good m) where
     one_step : (y : Node) (s : Step) → AreSteps setup (s ∷ []) m → KeepsDuties setup (s ∷ []) m → network_after s m ≡ network_after (Calls n PullFrame y.endpoint) m → y.endpoint.spent ≡ false → ((g : Flow) → all_read g (s ∷ []) ≡ []) → ((g : Flow) → Takings g (s ∷ []) [])
-        → ((g : Flow) (b : Option (List ℕ)) → Tracks g b x.halves.begun → Tracks g b y.halves.begun) → told_between x y ≡ [] → Comes setup n x y m (λ g. [])
+        → ((g : Flow) (b : Option (List ℕ)) → Tracks g b x.halves.begun → Tracks g b y.halves.begun) → told_between x y ≡ [] → Comes setup n x y.halves y m (λ g. [])
     one_step y s are keep ends on read takes begun told = record {
       steps = s ∷ [];
       are = are;
@@ -99,15 +119,18 @@ module _ (setup : Setup) (Good : Network → Type 0) (law : IsLawful setup Good)
       takes = takes;
       begun = λ g b tracks. subst (λ (is : List Item). Tracks g (begun_after b is) y.halves.begun) (sym (read g)) (begun g b tracks);
       requests = λ g b tracks. subst (λ (ts : List Happening). AreSomeOf (each_of (request_in g) ts) (map said (messages_from b (all_read g (s ∷ []))))) (sym told) none;
+      waits = kept_itself y.halves.calls;
+      opens = λ g b tracks t. omega arith;
+      answers = λ g b tracks a there. absurd (not_in_none (each_of answer_in (told_between x y)) a (ap (each_of answer_in) told) there);
       elsewhere = λ g other. (read g, ap (each_of (request_in g)) told);
     }
 
-    pub deed_comes : (deed : Deed) → KeepsDeed setup m n deed x → Comes setup n x (node_after setup n deed x) m (λ g. items_of_all (map spelled (sent_on g deed x)))
+    pub deed_comes : (deed : Deed) → KeepsDeed setup m n deed x → Comes setup n x (mid_by setup n deed x) (node_after setup n deed x) m (λ g. items_of_all (map spelled (sent_on g deed x)))
     deed_comes (GivesKind port kind) keeps =
         let k = kind_between port (kind_in port x.halves.ports) kind x.halves in
         comes_quietly setup n x (with_kind port kind x.halves) m there unspent (λ g b tracks. subst (λ (es : List (Flow × List ℕ)). Tracks g b es) (sym k.0) tracks) (ap (drop (length x.halves.happenings)) k.1 ∙ drop-length x.halves.happenings)
     deed_comes (MakesCall now f payload patience) keeps =
-        alike setup n m x there unspent Good law good _ _ _ (λ g. ap (λ (ms : List Message). items_of_all (map spelled ms)) (sym (append-nil _))) (call_comes setup n m x there unspent Good law good now keeps.0 f keeps.1 payload patience keeps.2)
+        alike setup n m x there unspent Good law good _ _ _ _ (λ g. ap (λ (ms : List Message). items_of_all (map spelled ms)) (sym (append-nil _))) (call_comes setup n m x there unspent Good law good now keeps.0 f keeps.1 payload patience keeps.2)
     deed_comes (GivesReply now token payload) keeps = reply_comes setup n m x there unspent Good law good now keeps.0 token keeps.1 payload keeps.2
     deed_comes (Forgets now token) keeps = forget_comes setup n m x there unspent Good law good now keeps.0 token keeps.1
     deed_comes (Ticks now) keeps = tick_comes setup n m x there unspent Good law good now keeps.0 keeps.1

@@ -1,8 +1,9 @@
 -- What is called, handed out, replied and answered over a list of turns, in the order of the turns.
 use Rattle.std.specs.Prelude.{ℕ, ◌==◌, List, [], ◌∷◌, ◌++◌, Option, Some, None, if◌then◌else◌}
 use Rattle.dt_units.specs.declared.endpoints.Flow.{Flow}
+use Rattle.dt_world_model.specs.Host.{one_if}
 use Rattle.dt_world_model.specs.Setup.{Setup}
-use Rattle.dt_world_model.specs.Tables.{same_flow}
+use Rattle.dt_world_model.specs.Tables.{same_flow, total}
 use Rattle.dt_service_model.specs.declared.answers.Made.{Made}
 use Rattle.dt_service_model.specs.declared.answers.Made.TheVariants as made
 use Rattle.dt_service_model.specs.declared.answers.Replied.{Replied}
@@ -11,7 +12,8 @@ use Rattle.dt_service_model.specs.declared.happenings.Happening.{Happening}
 use Rattle.dt_service_model.specs.declared.happenings.Happening.TheVariants.{Answered, Request, Unsure}
 use Rattle.dt_service_model.specs.declared.names.CallNumber.{CallNumber}
 use Rattle.dt_service_model.specs.declared.names.Token.{Token}
-use Rattle.dt_service_model.specs.Asked.{call, reply}
+use Rattle.dt_service_model.specs.Asked.{call, is_life_in_use, reply}
+use Rattle.dt_service_model.specs.Names.{same_number}
 use Rattle.dt_service_model.specs.Turns.{Node}
 use Rattle.dt_service_laws.specs.Services.{Arrives, Closes, Deed, Does, Forgets, GivesKind, GivesReply, MakesCall, OpensAgain, Passes, PullsFrame, Raises, Services, TakesHappening, Ticks, Turn, node_after, node_at, services_after, told_between}
 
@@ -80,15 +82,15 @@ abbrev pub told_by : (Happening → List Message) → Setup → (node : ℕ) →
 told_by pick setup n deed x = each_of pick (told_between x (node_after setup n deed x))
 
 -- OVER ALL TURNS
-abbrev pub at_node : (Node → List Message) → Option Node → List Message
+abbrev pub at_node : {A : Type 0} → (Node → List A) → Option Node → List A
 at_node some None = []
 at_node some (Some x) = some x
 
-abbrev pub in_turn : (ℕ → Deed → Node → List Message) → Turn → Services → List Message
+abbrev pub in_turn : {A : Type 0} → (ℕ → Deed → Node → List A) → Turn → Services → List A
 in_turn some (Passes by) s = []
 in_turn some (Does n deed) s = at_node (some n deed) (node_at n s)
 
-abbrev pub in_turns : (ℕ → Deed → Node → List Message) → Setup → List Turn → Services → List Message
+abbrev pub in_turns : {A : Type 0} → (ℕ → Deed → Node → List A) → Setup → List Turn → Services → List A
 in_turns some setup [] s = []
 in_turns some setup (t ∷ turns) s = in_turn some t s ++ in_turns some setup turns (services_after setup t s)
 
@@ -102,8 +104,29 @@ abbrev pub replies_on : Flow → Setup → List Turn → Services → List Messa
 replies_on f setup turns s = in_turns (λ n. reply_by f) setup turns s
 
 -- those at a node
-abbrev pub at_the : ℕ → (ℕ → Deed → Node → List Message) → ℕ → Deed → Node → List Message
+abbrev pub at_the : {A : Type 0} → ℕ → (ℕ → Deed → Node → List A) → ℕ → Deed → Node → List A
 at_the client some n deed x = if n == client then some n deed x else []
 
 abbrev pub answers_at : ℕ → Setup → List Turn → Services → List Message
 answers_at client setup turns s = in_turns (at_the client (told_by answer_in setup)) setup turns s
+
+-- THE LIVES of a node behind its first one, each as it begins
+abbrev pub life_by : Deed → Node → List ℕ
+life_by (Raises life) x = if is_life_in_use life x.halves then [] else life ∷ []
+life_by (OpensAgain again routes most life) x = life ∷ []
+life_by (GivesKind port kind) x = []
+life_by (MakesCall now g payload patience) x = []
+life_by (GivesReply now token payload) x = []
+life_by (Forgets now token) x = []
+life_by (Ticks now) x = []
+life_by (Arrives now link datagram waited) x = []
+life_by TakesHappening x = []
+life_by PullsFrame x = []
+life_by Closes x = []
+
+abbrev pub lives_at : (node : ℕ) → Setup → List Turn → Services → List ℕ
+lives_at n setup turns s = in_turns (at_the n (λ m. life_by)) setup turns s
+
+-- HOW OFTEN a number stands in a history
+abbrev pub count_of : CallNumber → List Message → ℕ
+count_of n messages = total (λ (m : Message). one_if (same_number m.number n)) messages
