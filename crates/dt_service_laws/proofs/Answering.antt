@@ -210,7 +210,7 @@ quiet_answers g b h k quiet = record {
   from = λ a there. absurd (not_in_none (each_of answer_in quiet.told) a (unsure_answers quiet.told quiet.unsure) there);
 }
 
-count_append : (n : CallNumber) (xs ys : List Message) → count_of n (xs ++ ys) ≡ count_of n xs + count_of n ys
+pub count_append : (n : CallNumber) (xs ys : List Message) → count_of n (xs ++ ys) ≡ count_of n xs + count_of n ys
 count_append n [] ys = omega arith
 count_append n (x ∷ xs) ys = let e = count_append n xs ys in omega (arith, e)
 

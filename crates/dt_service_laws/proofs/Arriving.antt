@@ -1,7 +1,8 @@
 -- The requests of a flow that are handed out are calls of it, in their order.
-use Rattle.std.proofs.Common.{ℕ, ◌≡◌, ◌==◌, Bool, true, false, List, [], ◌∷◌, ◌++◌, map, Option, Some, None, refl, ap, subst, ◌∙◌, inl, append-nil, arith}
+use Rattle.std.proofs.Common.{ℕ, ◌<◌, ◌≡◌, ◌==◌, Bool, true, false, List, [], ◌∷◌, ◌++◌, map, Option, Some, None, refl, ap, subst, ◌∙◌, inl, append-nil, arith}
 use Rattle.std.specs.Prelude.{cond, option_map}
 use Rattle.std.proofs.lemmas.List.{map-append}
+use Rattle.std.proofs.lemmas.List.Elements.{All-nil}
 use Rattle.dt_items.specs.declared.item.Item.{Item}
 use Rattle.dt_units.specs.declared.endpoints.Flow.{Flow}
 use Rattle.dt_world_model.proofs.Tables.{nat_is}
@@ -13,6 +14,8 @@ use Rattle.dt_network.specs.Duties.{KeepsDuties}
 use Rattle.dt_network.specs.Network.{Network, new_network}
 use Rattle.dt_network.specs.Octets.{AreTaken, IsReadOf, all_read}
 use Rattle.dt_network.specs.Steps.{AreSteps, Step}
+use Rattle.dt_service_model.specs.declared.calls.Call.{Call}
+use Rattle.dt_service_model.specs.declared.names.CallNumber.{CallNumber}
 use Rattle.dt_service_model.specs.declared.ports.Kind.{Kind}
 use Rattle.dt_service_model.specs.declared.ports.Most.{Most}
 use Rattle.dt_service_laws.specs.Histories.{Message, at_node, call_by, calls_on, in_turn, in_turns, requests_on}
@@ -27,7 +30,8 @@ use Rattle.dt_service_laws.proofs.Orders.{mapped, some_through}
 use Rattle.dt_service_laws.proofs.Pieces.{read_back}
 use Rattle.dt_service_laws.proofs.Sound.{AreFit, IsSound, back_none, calls_fit, fit_said, new_sound, sound_deed}
 use Rattle.dt_service_laws.proofs.Telling.{said}
-use Rattle.dt_service_laws.proofs.Turned.{AreUnspent, ran, sent_on, turned}
+use Rattle.dt_service_laws.proofs.Sent.{sent_on}
+use Rattle.dt_service_laws.proofs.Turned.{AreUnspent, Waits, and_then, made_in, ran, turned}
 use Rattle.dt_service_laws.proofs.Wholes.{in_order}
 
 pub fit_both : (xs ys : List Message) → AreFit xs → AreFit ys → AreFit (xs ++ ys)
@@ -79,15 +83,15 @@ module _ (setup : Setup) (Good : Network → Type 0) (law : IsLawful setup Good)
   kinds_parts (Does n deed) turns h = h
 
   -- all turns
-  pub calls_alone : (f : Flow) → IsServed kinds f → (turns : List Turn) (b : Option (List ℕ)) (s : Services) → Good s.network → AreUnspent setup Good law s → AreSound s → Tracks f b (s.halves f.to.0).begun → KeepsKinds kinds turns → KeepsTurns setup turns s
+  pub calls_alone : (f : Flow) → IsServed kinds f → (turns : List Turn) (b : Option (List ℕ)) (past : Flow → CallNumber → ℕ) (s : Services) → Good s.network → AreUnspent setup Good law s → AreSound s → Tracks f b (s.halves f.to.0).begun → Waits setup Good law past (s.halves f.to.0).calls → KeepsKinds kinds turns → KeepsTurns setup turns s
       → (in_turns (λ n. sent_on f) setup turns s ≡ calls_on f setup turns s) × AreFit (calls_on f setup turns s)
-  calls_alone f served [] b s good unspent sound tracks agree keeps = (refl, tt)
-  calls_alone f served (t ∷ turns) b s good unspent sound tracks agree keeps =
+  calls_alone f served [] b past s good unspent sound tracks waits agree keeps = (refl, tt)
+  calls_alone f served (t ∷ turns) b past s good unspent sound tracks waits agree keeps =
       let parts = kinds_parts t turns agree in
-      let first = turned setup Good law f b s good unspent tracks t keeps.0 in
+      let first = turned setup Good law f b past s good unspent tracks waits t keeps.0 in
       let one = alone_in f served s good unspent sound t parts.0 keeps.0 in
       let good_next : Good (services_after setup t s).network = subst Good first.ends (law.on s.network first.steps good first.are first.keep) in
-      let rest = calls_alone f served turns _ (services_after setup t s) good_next first.unspent one.sound first.begun parts.1 keeps.1 in (
+      let rest = calls_alone f served turns _ (and_then setup Good law past (made_in setup Good law f t s)) (services_after setup t s) good_next first.unspent one.sound first.begun first.waits parts.1 keeps.1 in (
         ap (λ (ms : List Message). ms ++ in_turns (λ n. sent_on f) setup turns (services_after setup t s)) one.alone ∙ ap (λ (ms : List Message). in_turn (λ n. call_by f) t s ++ ms) rest.0,
         fit_both (in_turn (λ n. call_by f) t s) (calls_on f setup turns (services_after setup t s)) one.fit rest.1,
       )
@@ -98,10 +102,13 @@ module _ (setup : Setup) (Good : Network → Type 0) (law : IsLawful setup Good)
     abbrev start : Services
     start = new_services setup most life
 
+    no_waits : Waits setup Good law (λ g m. 0) []
+    no_waits = All-nil (λ (c : Call). c.waits ≡ true → 0 < 0)
+
     -- what is sent on a flow, and what comes of it
     pub sent_come : (f : Flow) (turns : List Turn) → KeepsTurns setup turns start → AreSomeOf (requests_on f setup turns start) (map said (map spelled (in_turns (λ n. sent_on f) setup turns start)))
     sent_come f turns keeps =
-        let r = ran setup Good law f turns None start new unspent (inl refl) keeps in
+        let r = ran setup Good law f turns None (λ g m. 0) start new unspent (inl refl) no_waits keeps in
         let t = network f r.steps r.are r.keep in
         let sent = in_turns (λ n. sent_on f) setup turns start in
         let taken : messages_in t.0 ≡ map spelled sent = ap messages_in (r.takes t.0 t.1) ∙ read_back (map spelled sent) (spelled_some sent) in
@@ -109,5 +116,5 @@ module _ (setup : Setup) (Good : Network → Type 0) (law : IsLawful setup Good)
 
     pub requests_come : (f : Flow) → IsServed kinds f → (turns : List Turn) → KeepsKinds kinds turns → KeepsTurns setup turns start → AreSomeOf (requests_on f setup turns start) (calls_on f setup turns start)
     requests_come f served turns agree keeps =
-        let c = calls_alone f served turns None start new unspent (λ k. new_sound kinds k (most k) (life k) (lives k)) (inl refl) agree keeps in
+        let c = calls_alone f served turns None (λ g m. 0) start new unspent (λ k. new_sound kinds k (most k) (life k) (lives k)) (inl refl) no_waits agree keeps in
         subst (λ (ms : List Message). AreSomeOf (requests_on f setup turns start) ms) (ap (λ (ms : List Message). map said (map spelled ms)) c.0 ∙ fit_said (calls_on f setup turns start) c.1) (sent_come f turns keeps)

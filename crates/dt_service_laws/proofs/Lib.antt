@@ -20,3 +20,4 @@ mod Arriving
 mod Lawful
 mod Answering
 mod Middle
+mod Sent

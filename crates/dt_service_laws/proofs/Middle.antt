@@ -37,7 +37,7 @@ use Rattle.dt_service_laws.proofs.Keeping.{Keeps, happens_keeps}
 use Rattle.dt_service_laws.proofs.Moves.{AreKeptFrom, IsKeptFrom, IsQuiet, open_count}
 use Rattle.dt_service_laws.proofs.Quiet.{all_filtered, all_heard_quiet, close_quiet, fewer_open, forgotten_quiet, kept_itself}
 use Rattle.dt_service_laws.proofs.Sound.{token_there}
-use Rattle.dt_service_laws.proofs.Turned.{mid_by}
+use Rattle.dt_service_laws.proofs.Sent.{mid_by}
 
 -- CALLS THAT WAIT did before, or are of these
 abbrev pub AreOf : (new : Flow → List Message) → List Call → List Call → Type 0

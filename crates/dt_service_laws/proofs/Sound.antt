@@ -47,7 +47,7 @@ use Rattle.dt_service_laws.proofs.Answering.{same_reversed}
 use Rattle.dt_service_laws.proofs.Keeping.{IsOfService, Keeps, end_keeps, happens_keeps, keeps_quietly, turn_keeps}
 use Rattle.dt_service_laws.proofs.Quiet.{close_quiet, forgotten_quiet}
 use Rattle.dt_service_laws.proofs.Telling.{said}
-use Rattle.dt_service_laws.proofs.Turned.{back_by}
+use Rattle.dt_service_laws.proofs.Sent.{back_by}
 
 -- a token that is open is there
 pub token_there : (token : Token) (tokens : List Token) → list_any (same_token token) tokens ≡ true → (t : Token) × Contains tokens t × (token.flow ≡ t.flow) × (same_number token.number t.number ≡ true)
