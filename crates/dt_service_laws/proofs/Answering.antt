@@ -5,20 +5,18 @@ use Rattle.std.specs.List.{position}
 use Rattle.std.proofs.Math.Seq.{take-length}
 use Rattle.std.proofs.lemmas.Bool.{and_parts, cases_Bool}
 use Rattle.std.proofs.lemmas.List.{map-append}
-use Rattle.std.proofs.lemmas.List.Elements.{All-contains, All-head, All-tail, Contains-append_cases, Contains-append_left, Contains-append_right, Contains-get_or, Contains-push_cases}
+use Rattle.std.proofs.lemmas.List.Elements.{All-contains, All-head, All-tail, Contains-append_cases, Contains-append_left, Contains-append_right, Contains-get_or}
 use Rattle.std.proofs.lemmas.List.Quantifiers.{position-Some}
 use Rattle.dt_items.specs.declared.item.Item.{Item}
 use Rattle.dt_items.specs.Unread.{marked}
-use Rattle.dt_reports.specs.Told.{Told}
 use Rattle.dt_units.specs.declared.endpoints.Flow.{Flow}
 use Rattle.dt_world_model.proofs.Tables.{flow_is, flow_self, nat_is, nat_self}
 use Rattle.dt_world_model.specs.Host.{one_if}
 use Rattle.dt_world_model.specs.Setup.{Setup}
-use Rattle.dt_world_model.specs.Tables.{same_flow, total}
-use Rattle.dt_calls_model.specs.Messages.{Piece, begun_with, carried_in, has_number, number_in, reversed, whole_with}
+use Rattle.dt_world_model.specs.Tables.{same_flow}
+use Rattle.dt_calls_model.specs.Messages.{Piece, carried_in, has_number, number_in, reversed, whole_with}
 use Rattle.dt_messages.specs.Joining.{whole_within}
 use Rattle.dt_endpoint.specs.declared.answers.Piece.TheVariants as answer
-use Rattle.dt_endpoint.specs.Endpoints.{EndpointValue}
 use Rattle.dt_network.specs.Network.{Network}
 use Rattle.dt_network.specs.Octets.{all_read, items_read, read_if}
 use Rattle.dt_network.specs.Steps.{Step}
@@ -37,12 +35,12 @@ use Rattle.dt_service_model.specs.Whole.{begun_of, grown, is_open, is_waiting_ca
 use Rattle.dt_service_laws.specs.Histories.{Message, answer_in, count_of, each_of, request_in}
 use Rattle.dt_service_laws.specs.Orders.{AreSomeOf, none, skips, takes}
 use Rattle.dt_service_laws.specs.Wholes.{begun_after, listed, messages_from}
-use Rattle.dt_service_laws.proofs.Begun.{begun_same, other_tracks, piece_tracks}
+use Rattle.dt_service_laws.proofs.Begun.{begun_same}
 use Rattle.dt_service_laws.proofs.Keeping.{piece_keeps}
 use Rattle.dt_service_laws.proofs.Moves.{AreKeptFrom, IsKeptFrom, IsQuiet, IsUnsure, Moves, Tracks, calls, changes, open_count, pulls, reads, rests}
-use Rattle.dt_service_laws.proofs.Pieces.{begun_append, messages_append, piece_begun, piece_messages, piece_with, whole_stays}
-use Rattle.dt_service_laws.proofs.Quiet.{all_heard_quiet, fewer_open, quiet_itself, kept_itself, kept_through}
-use Rattle.dt_service_laws.proofs.Telling.{behind_read, each_append, read_tells, said, unsure_requests, whole_tells}
+use Rattle.dt_service_laws.proofs.Pieces.{messages_append, piece_messages, piece_with, whole_stays}
+use Rattle.dt_service_laws.proofs.Quiet.{all_heard_quiet, fewer_open, quiet_itself, kept_through}
+use Rattle.dt_service_laws.proofs.Telling.{behind_read, each_append, read_tells, said, unsure_requests}
 
 pub unsure_answers : (told : List Happening) → All IsUnsure told → each_of answer_in told ≡ []
 unsure_answers [] all = refl
@@ -162,8 +160,8 @@ request_opens t token payload [] =
           let flow : token.flow ≡ t.flow = sym (flow_is t.flow token.flow p.0) in
           let number : token.number ≡ t.number = sym (number_is t.number token.number p.1) in
           let one : count_of t.number (each_of (request_in t.flow) (Request token payload ∷ [])) ≡ 1 =
-              ap (λ (b : Bool). count_of t.number (cond b ((record { number = token.number; carried = payload }) ∷ []) [] ++ [])) (ap (λ (f : Flow). same_flow f t.flow) flow ∙ flow_self t.flow)
-              ∙ ap (λ (b : Bool). one_if b + 0) (ap (λ (n : CallNumber). same_number n t.number) number ∙ number_self t.number) in
+          ap (λ (b : Bool). count_of t.number (cond b ((record { number = token.number; carried = payload }) ∷ []) [] ++ [])) (ap (λ (f : Flow). same_flow f t.flow) flow ∙ flow_self t.flow)
+          ∙ ap (λ (b : Bool). one_if b + 0) (ap (λ (n : CallNumber). same_number n t.number) number ∙ number_self t.number) in
           let here : one_if (same_token t token) ≡ 1 = ap one_if y in
           omega (arith, one, here)
       | inr o ↦ (let here : one_if (same_token t token) ≡ 0 = ap one_if o in omega (arith, here))
@@ -227,11 +225,11 @@ answers_then g b xs ys h k l p q =
       happenings = q.happenings ∙ ap (λ (ms : List Happening). ms ++ q.told) p.happenings ∙ append_assoc h.happenings p.told q.told;
       waits = kept_through h.calls k.calls l.calls p.waits q.waits;
       opens = λ t. (
-        let a = p.opens t in
-        let c = q.opens t in
-        let e = ap (count_of t.number) (each_append (request_in t.flow) p.told q.told) ∙ count_append t.number (each_of (request_in t.flow) p.told) (each_of (request_in t.flow) q.told) in
-        omega (arith, a, c, e)
-      );
+          let a = p.opens t in
+          let c = q.opens t in
+          let e = ap (count_of t.number) (each_append (request_in t.flow) p.told q.told) ∙ count_append t.number (each_of (request_in t.flow) p.told) (each_of (request_in t.flow) q.told) in
+          omega (arith, a, c, e)
+          );
       from = λ a there.
           elim (Contains-append_cases (each_of answer_in p.told) (each_of answer_in q.told) a (subst (λ (ms : List Message). Contains ms a) (each_append answer_in p.told q.told) there)) [
             | inl first ↦ elim (p.from a first) [ inl m ↦ inl (subst (λ (ms : List Message). Contains ms a) (sym all) (Contains-append_left (map said (messages_from b xs)) (map said (messages_from (begun_after b xs) ys)) a m)) | inr o ↦ inr o ]

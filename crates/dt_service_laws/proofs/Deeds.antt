@@ -121,7 +121,7 @@ module _ (setup : Setup) (n : ℕ) where
         let heard_told = quiet.told in
         let mid_tracks : (g : Flow) (b : Option (List ℕ)) → Tracks g b x.halves.begun → Tracks g b h.begun = λ (g : Flow) (b : Option (List ℕ)) (tracks : Tracks g b x.halves.begun). subst (λ (es : List (Flow × List ℕ)). Tracks g b es) (sym between.begun) (quiet.begun g b tracks) in
         let told_in : (more : List Happening) → y.halves.happenings ≡ h.happenings ++ more → y.halves.happenings ≡ x.halves.happenings ++ (quiet.told ++ more) =
-            λ (more : List Happening) (is : y.halves.happenings ≡ h.happenings ++ more). is ∙ ap (λ (hs : List Happening). hs ++ more) (between.happenings ∙ quiet.happenings) ∙ append_assoc x.halves.happenings quiet.told more in
+        λ (more : List Happening) (is : y.halves.happenings ≡ h.happenings ++ more). is ∙ ap (λ (hs : List Happening). hs ++ more) (between.happenings ∙ quiet.happenings) ∙ append_assoc x.halves.happenings quiet.told more in
         let rest = pulls setup n f f.reports ++ r.steps in
         let run = heard_calls setup n m x call f y.endpoint r.steps m may itself there (λ k on at. runs setup n m z1 y r.steps r.moves k on at) in
         let read_is : (g : Flow) → all_read g (Calls n call f ∷ rest) ≡ all_read g r.steps = λ (g : Flow). ap (λ (is : List Item). is ++ all_read g rest) (reads_none g) ∙ behind_read setup n g f f.reports r.steps in
@@ -161,7 +161,7 @@ module _ (setup : Setup) (n : ℕ) where
         let r = end_goes setup n m now time z1 flows unspent in
         let run = runs setup n m z1 y r.steps r.moves m itself there in
         let told_in : (more : List Happening) → y.halves.happenings ≡ h.happenings ++ more → y.halves.happenings ≡ x.halves.happenings ++ (quiet.told ++ more) =
-            λ (more : List Happening) (is : y.halves.happenings ≡ h.happenings ++ more). is ∙ ap (λ (hs : List Happening). hs ++ more) quiet.happenings ∙ append_assoc x.halves.happenings quiet.told more in
+        λ (more : List Happening) (is : y.halves.happenings ≡ h.happenings ++ more). is ∙ ap (λ (hs : List Happening). hs ++ more) quiet.happenings ∙ append_assoc x.halves.happenings quiet.told more in
         let tells : (g : Flow) (b : Option (List ℕ)) → Tracks g b x.halves.begun → Tells g b (all_read g r.steps) x.halves y.halves =
         λ (g : Flow) (b : Option (List ℕ)) (tracks : Tracks g b x.halves.begun).
         let first = quiet_tells g b x.halves h quiet tracks in

@@ -21,3 +21,4 @@ mod Lawful
 mod Answering
 mod Middle
 mod Sent
+mod Numbering

@@ -1,6 +1,6 @@
 -- Between what is done and the end of its turn: each call that waits did before, or is made now, and a token that is replied to is open no more.
-use Rattle.std.proofs.Common.{ℕ, ◌+◌, ◌<◌, ◌≤◌, ◌≡◌, ◌⊎◌, Bool, true, false, List, [], ◌∷◌, ◌++◌, length, Option, Some, None, refl, ap, sym, subst, ◌∙◌, inl, inr, arith}
-use Rattle.std.specs.Prelude.{All, Contains, cond, filter, not, ◌&&◌}
+use Rattle.std.proofs.Common.{ℕ, ◌+◌, ◌<◌, ◌≤◌, ◌≡◌, ◌⊎◌, Bool, true, false, List, [], ◌∷◌, length, Option, Some, None, refl, ap, sym, subst, ◌∙◌, inl, inr, arith}
+use Rattle.std.specs.Prelude.{All, Contains, cond, not, ◌&&◌}
 use Rattle.std.proofs.lemmas.Bool.{and_parts, cases_Bool}
 use Rattle.std.proofs.lemmas.List.Elements.{All-append, All-cons, All-nil, All-tail, All-weaker}
 use Rattle.dt_reports.specs.declared.faults.Refusal.{Refusal}
@@ -23,19 +23,19 @@ use Rattle.dt_service_model.specs.declared.happenings.Happening.{Happening}
 use Rattle.dt_service_model.specs.declared.names.CallNumber.{CallNumber}
 use Rattle.dt_service_model.specs.declared.names.Token.{Token}
 use Rattle.dt_service_model.specs.declared.ports.Kind.{Kind}
-use Rattle.dt_service_model.specs.Asked.{arrive_refused, call, call_refusals, forget_refusals, forgotten, forgotten_unless, is_closed, is_life_in_use, made_by, made_of, message_event, new_call, next_number, replied_by, replied_of, reply, reply_refusals, unless, with_call_unless, with_port}
+use Rattle.dt_service_model.specs.Asked.{arrive_refused, call, call_refusals, forget_refusals, forgotten, forgotten_unless, is_closed, is_life_in_use, made_by, made_of, message_event, new_call, next_number, replied_by, replied_of, reply_refusals, unless, with_call_unless, with_port}
 use Rattle.dt_service_model.specs.Ends.{next_call, next_in}
 use Rattle.dt_service_model.specs.Halves.{Halves, kind_in, new_halves}
 use Rattle.dt_service_model.specs.Names.{number_of, same_number, same_token}
 use Rattle.dt_service_model.specs.Turns.{Node, happens}
 use Rattle.dt_service_model.specs.Whole.{is_open, without_token}
 use Rattle.dt_service_laws.specs.Histories.{Message, call_by, count_of, made_as, replied_as, reply_by}
-use Rattle.dt_service_laws.specs.Services.{Arrives, Closes, Deed, Forgets, GivesKind, GivesReply, MakesCall, OpensAgain, PullsFrame, Raises, TakesHappening, Ticks, node_after}
+use Rattle.dt_service_laws.specs.Services.{Arrives, Closes, Deed, Forgets, GivesKind, GivesReply, MakesCall, OpensAgain, PullsFrame, Raises, TakesHappening, Ticks}
 use Rattle.dt_service_laws.proofs.Answering.{contains_parts, number_is, number_self}
 use Rattle.dt_service_laws.proofs.Asked.{all_clear, called, first_none, mid_of, not_false, replied_mid}
-use Rattle.dt_service_laws.proofs.Keeping.{Keeps, happens_keeps}
-use Rattle.dt_service_laws.proofs.Moves.{AreKeptFrom, IsKeptFrom, IsQuiet, open_count}
-use Rattle.dt_service_laws.proofs.Quiet.{all_filtered, all_heard_quiet, close_quiet, fewer_open, forgotten_quiet, kept_itself}
+use Rattle.dt_service_laws.proofs.Keeping.{happens_keeps}
+use Rattle.dt_service_laws.proofs.Moves.{AreKeptFrom, IsKeptFrom, open_count}
+use Rattle.dt_service_laws.proofs.Quiet.{all_heard_quiet, close_quiet, fewer_open, forgotten_quiet, kept_itself}
 use Rattle.dt_service_laws.proofs.Sound.{token_there}
 use Rattle.dt_service_laws.proofs.Sent.{mid_by}
 
@@ -52,7 +52,7 @@ heard_kept now x event = (happens_keeps now event x).waits
 made_once : (f : Flow) (number : CallNumber) (payload : List ℕ) → 0 < count_of number (cond (same_flow f f) (made_as (made.Call number) payload) [])
 made_once f number payload =
     let e : count_of number (cond (same_flow f f) (made_as (made.Call number) payload) []) ≡ 1 =
-        ap (λ (b : Bool). count_of number (cond b (made_as (made.Call number) payload) [])) (flow_self f) ∙ ap (λ (b : Bool). one_if b + 0) (number_self number) in
+    ap (λ (b : Bool). count_of number (cond b (made_as (made.Call number) payload) [])) (flow_self f) ∙ ap (λ (b : Bool). one_if b + 0) (number_self number) in
     omega (arith, e)
 
 sent_of_call : (r : Option Refusal) (f : Flow) (count deadline : ℕ) (payload : List ℕ) (x h : Halves) → next_number h ≡ next_number x → AreKeptFrom x.calls h.calls → (new : Flow → List Message) → ((g : Flow) → new g ≡ cond (same_flow f g) (made_as (made_of r x) payload) [])
@@ -66,13 +66,13 @@ sent_of_call (Some r) f count deadline payload x h same kept new is = kept_of ne
 
 call_of : (now : ℕ) (f : Flow) (payload : List ℕ) (patience : ℕ) (x : Node) (o : Option Made) → first_refusal (call_refusals x f payload patience) ≡ o
     → let message = message_of (number_of (next_number x.halves)) payload in
-      AreOf (λ g. cond (same_flow f g) (made_as (unless o x (made_by now f message patience x)).0 payload) []) x.halves.calls (mid_of o x.halves (called now f message patience x)).calls
+    AreOf (λ g. cond (same_flow f g) (made_as (unless o x (made_by now f message patience x)).0 payload) []) x.halves.calls (mid_of o x.halves (called now f message patience x)).calls
 call_of now f payload patience x (Some a) is = kept_of (λ g. cond (same_flow f g) (made_as a payload) []) x.halves.calls x.halves.calls (kept_itself x.halves.calls)
 call_of now f payload patience x None is =
     let message = message_of (number_of (next_number x.halves)) payload in
     let keeps = happens_keeps now (message_event f message) x in
     let same : next_number (happens now (message_event f message) x).halves ≡ next_number x.halves =
-        ap (λ (k : ℕ). let r : CallNumber = record { life = k; count = (happens now (message_event f message) x).halves.count } in r) keeps.life ∙ ap (λ (k : ℕ). let r : CallNumber = record { life = x.halves.life; count = k } in r) keeps.count in
+    ap (λ (k : ℕ). let r : CallNumber = record { life = k; count = (happens now (message_event f message) x).halves.count } in r) keeps.life ∙ ap (λ (k : ℕ). let r : CallNumber = record { life = x.halves.life; count = k } in r) keeps.count in
     sent_of_call (send_answer now f message true true x.endpoint) f (length message) (moment_of now x.endpoint + patience) payload x.halves (happens now (message_event f message) x).halves same keeps.waits _ (λ g. refl)
 
 forgot_kept : (r : Option Refusal) (token : Token) (before : List Call) (h : Halves) → AreKeptFrom before h.calls → AreKeptFrom before (forgotten_unless r token h).calls
@@ -206,7 +206,7 @@ no_gone false n ms h = refl
 
 reply_gone : (now : ℕ) (token : Token) (payload : List ℕ) (x : Node) (o : Option Replied) → first_refusal (reply_refusals x token payload) ≡ o
     → let message = message_of (number_of token.number) payload in
-      GoneBy (λ t. cond (same_flow token.flow t.flow) (replied_as (unless o x (replied_by now token message x)).0 token payload) []) x.halves (mid_of o x.halves (replied_mid now token message x))
+    GoneBy (λ t. cond (same_flow token.flow t.flow) (replied_as (unless o x (replied_by now token message x)).0 token payload) []) x.halves (mid_of o x.halves (replied_mid now token message x))
 reply_gone now token payload x (Some a) is = λ t.
     let none = no_gone (same_flow token.flow t.flow) t.number (replied_as a token payload) (first_none (λ (r : Replied). replied_as r token payload) (reply_refusals x token payload) a (refl, (refl, (refl, (refl, (refl, tt))))) is) in
     omega (arith, none)

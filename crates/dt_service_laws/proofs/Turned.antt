@@ -12,10 +12,7 @@ use Rattle.dt_world_model.proofs.Tables.{look_write_other, nat_is, nat_self}
 use Rattle.dt_world_model.specs.Setup.{Setup}
 use Rattle.dt_world_model.specs.Tables.{look, same_flow, write}
 use Rattle.dt_calls_laws.specs.Wholes.{items_of_all}
-use Rattle.dt_calls_model.specs.Messages.{message_of, reversed}
-use Rattle.dt_endpoint.specs.Calls.{arrive_event}
-use Rattle.dt_world_model.specs.Station.{Tick}
-use Rattle.dt_world_model.specs.WorldStep.{first_refusal}
+use Rattle.dt_calls_model.specs.Messages.{reversed}
 use Rattle.dt_service_model.specs.Names.{token_with}
 use Rattle.dt_endpoint.specs.Endpoints.{EndpointValue}
 use Rattle.dt_network.specs.Duties.{KeepsDuties}
@@ -27,17 +24,17 @@ use Rattle.dt_service_model.specs.declared.happenings.Happening.{Happening}
 use Rattle.dt_service_model.specs.declared.names.CallNumber.{CallNumber}
 use Rattle.dt_service_model.specs.declared.ports.Kind.{Kind}
 use Rattle.dt_service_model.specs.declared.calls.Call.{Call}
-use Rattle.dt_service_model.specs.Asked.{arrive_refused, call_refusals, forget_refusals, forgotten, is_closed, is_life_in_use, next_number, raised, reply, reply_refusals, with_kind, with_port}
+use Rattle.dt_service_model.specs.Asked.{is_life_in_use, raised, with_kind, with_port}
 use Rattle.dt_service_model.specs.Ends.{close, next, next_call, next_in}
 use Rattle.dt_service_model.specs.Halves.{Halves, kind_in}
-use Rattle.dt_service_model.specs.Turns.{Node, happens}
-use Rattle.dt_service_laws.specs.Histories.{Message, answer_in, answers_at, at_node, at_the, call_by, count_of, each_of, in_turn, in_turns, replies_on, reply_by, request_in, requests_on, told_by}
+use Rattle.dt_service_model.specs.Turns.{Node}
+use Rattle.dt_service_laws.specs.Histories.{Message, answer_in, answers_at, at_node, at_the, call_by, calls_on, count_of, each_of, in_turn, in_turns, replies_on, reply_by, request_in, requests_on, told_by}
 use Rattle.dt_service_laws.specs.Orders.{AreSomeOf, none}
 use Rattle.dt_service_laws.specs.Premises.{KeepsDeed, KeepsFrom, KeepsTurn, KeepsTurns}
 use Rattle.dt_service_laws.specs.Services.{Arrives, Closes, Deed, Does, Forgets, GivesKind, GivesReply, MakesCall, OpensAgain, Passes, PullsFrame, Raises, Services, TakesHappening, Ticks, Turn, node_after, node_does, node_with, services_after, told_between, with_node}
 use Rattle.dt_service_laws.specs.Wholes.{begun_after, messages_from}
 use Rattle.dt_service_laws.proofs.Answering.{IsOther, count_append, not_in_none}
-use Rattle.dt_service_laws.proofs.Asked.{alike, arrive_comes, call_comes, called, forget_comes, mid_of, replied_mid, reply_comes, spelled, tick_comes}
+use Rattle.dt_service_laws.proofs.Asked.{alike, arrive_comes, call_comes, forget_comes, reply_comes, spelled, tick_comes}
 use Rattle.dt_service_laws.proofs.Deeds.{Comes, comes_quietly}
 use Rattle.dt_service_laws.proofs.Elsewhere.{IsLawful}
 use Rattle.dt_service_laws.proofs.Moves.{AreKeptFrom, IsKeptFrom, Tracks, open_count}
@@ -46,7 +43,7 @@ use Rattle.dt_service_laws.proofs.Pieces.{messages_append}
 use Rattle.dt_service_laws.proofs.Quiet.{close_quiet, kept_itself}
 use Rattle.dt_service_laws.proofs.Middle.{AreOf, mid_opens, mid_waits}
 use Rattle.dt_service_laws.proofs.Sent.{mid_by, sent_on}
-use Rattle.dt_service_laws.proofs.Sound.{reply_is}
+use Rattle.dt_service_laws.proofs.Sound.{call_is, reply_is}
 use Rattle.dt_service_laws.proofs.Runs.{IsAt, duties_append, steps_append, written_there}
 use Rattle.dt_service_laws.proofs.Sending.{Takings, takes_append, takes_more, takes_nothing}
 use Rattle.dt_service_laws.proofs.Telling.{read_append, said}
@@ -140,7 +137,7 @@ module _ (setup : Setup) (Good : Network → Type 0) (law : IsLawful setup Good)
   abbrev pub and_then : (past : Flow → CallNumber → ℕ) → (Flow → List Message) → Flow → CallNumber → ℕ
   and_then past calls g m = past g m + count_of m (calls g)
 
-  pub record Turned (f : Flow) (b : Option (List ℕ)) (past : Flow → CallNumber → ℕ) (s v : Services) (sent requests replies answers : List Message) (made : Flow → List Message) : Type 0 where
+  pub record Turned (f : Flow) (b : Option (List ℕ)) (past : Flow → CallNumber → ℕ) (s v : Services) (sent requests replies answers : List Message) (all_calls made : Flow → List Message) : Type 0 where
     pub steps : List Step
     pub are : AreSteps setup steps s.network
     pub keep : KeepsDuties setup steps s.network
@@ -152,6 +149,7 @@ module _ (setup : Setup) (Good : Network → Type 0) (law : IsLawful setup Good)
     pub waits : Waits (and_then past made) (v.halves f.to.0).calls
     pub opens : (m : CallNumber) → count_of m replies + open_count (token_with f m) (v.halves f.to.0).tokens ≤ open_count (token_with f m) (s.halves f.to.0).tokens + count_of m requests
     pub answered : (a : Message) → Contains answers a → Contains (map said (messages_from b (all_read f steps))) a ⊎ OtherCall f (and_then past made) a
+    pub here : (k : Flow) → k.from.0 ≡ f.to.0 → all_calls k ≡ made k
 
   written_unspent : (n : ℕ) (s : Services) (y : Node) → AreUnspent s → y.endpoint.spent ≡ false → AreUnspent (with_node n s y)
   written_unspent n s y all one k e there =
@@ -172,22 +170,22 @@ module _ (setup : Setup) (Good : Network → Type 0) (law : IsLawful setup Good)
   mid_past past made before calls waits of =
       All-weaker (λ (c : Call). c.waits ≡ true → IsKeptFrom before c ⊎ (0 < count_of c.number (made c.flow))) (λ (c : Call). c.waits ≡ true → 0 < and_then past made c.flow c.number)
       (λ c h w.
-          elim (h w) [
-            | inl k ↦
-                let l = All-contains (λ (c : Call). c.waits ≡ true → 0 < past c.flow c.number) before k.was waits k.there k.waits in
-                let here : 0 < past c.flow c.number = subst (λ (m : CallNumber). 0 < past c.flow m) k.number (subst (λ (g : Flow). 0 < past g k.was.number) k.flow l) in
-                omega (arith, here)
-            | inr new ↦ omega (arith, new)
-          ])
+      elim (h w) [
+        | inl k ↦
+            let l = All-contains (λ (c : Call). c.waits ≡ true → 0 < past c.flow c.number) before k.was waits k.there k.waits in
+            let here : 0 < past c.flow c.number = subst (λ (m : CallNumber). 0 < past c.flow m) k.number (subst (λ (g : Flow). 0 < past g k.was.number) k.flow l) in
+            omega (arith, here)
+        | inr new ↦ omega (arith, new)
+      ])
       calls of
 
   kept_past : (past : Flow → CallNumber → ℕ) (before calls : List Call) → Waits past before → AreKeptFrom before calls → Waits past calls
   kept_past past before calls waits kept =
       All-weaker (λ (c : Call). c.waits ≡ true → IsKeptFrom before c) (λ (c : Call). c.waits ≡ true → 0 < past c.flow c.number)
       (λ c h w.
-          let k = h w in
-          let l = All-contains (λ (c : Call). c.waits ≡ true → 0 < past c.flow c.number) before k.was waits k.there k.waits in
-          subst (λ (m : CallNumber). 0 < past c.flow m) k.number (subst (λ (g : Flow). 0 < past g k.was.number) k.flow l))
+      let k = h w in
+      let l = All-contains (λ (c : Call). c.waits ≡ true → 0 < past c.flow c.number) before k.was waits k.there k.waits in
+      subst (λ (m : CallNumber). 0 < past c.flow m) k.number (subst (λ (g : Flow). 0 < past g k.was.number) k.flow l))
       calls kept
 
   other_past : (f : Flow) (past : Flow → CallNumber → ℕ) (calls : List Call) (a : Message) → Waits past calls → IsOther f calls a → OtherCall f past a
@@ -200,9 +198,9 @@ module _ (setup : Setup) (Good : Network → Type 0) (law : IsLawful setup Good)
 
   turned_at : (f : Flow) (b : Option (List ℕ)) (past : Flow → CallNumber → ℕ) (s : Services) → Good s.network → AreUnspent s → Tracks f b (s.halves f.to.0).begun → Waits past (s.halves f.to.0).calls → (n : ℕ) (deed : Deed) (o : Option EndpointValue) → look ◌==◌ n s.network.endpoints ≡ o → KeepsFrom setup s.network n deed (option_map (node_with n s) o)
       → Turned f b past s (node_does setup n deed s (option_map (node_with n s) o)) (at_node (sent_on f deed) (option_map (node_with n s) o)) (at_node (told_by (request_in f) setup n deed) (option_map (node_with n s) o)) (at_node (reply_by f deed) (option_map (node_with n s) o))
-          (at_node (at_the f.to.0 (told_by answer_in setup) n deed) (option_map (node_with n s) o)) (λ g. at_node (at_the f.to.0 (λ k. call_by g) n deed) (option_map (node_with n s) o))
+      (at_node (at_the f.to.0 (told_by answer_in setup) n deed) (option_map (node_with n s) o)) (λ k. at_node (call_by k deed) (option_map (node_with n s) o)) (λ g. at_node (at_the f.to.0 (λ k. call_by g) n deed) (option_map (node_with n s) o))
   turned_at f b past s good unspent tracks waits n deed None found keeps =
-      record { steps = []; are = tt; keep = tt; ends = refl; takes = takes_nothing f; some = none; begun = tracks; unspent = unspent; waits = past_more past (λ g. []) _ waits; opens = λ m. omega arith; answered = λ a there. absurd (let lt = there.1 in omega (arith, lt)) }
+      record { steps = []; are = tt; keep = tt; ends = refl; takes = takes_nothing f; some = none; begun = tracks; unspent = unspent; waits = past_more past (λ g. []) _ waits; opens = λ m. omega arith; answered = λ a there. absurd (let lt = there.1 in omega (arith, lt)); here = λ k from. refl }
   turned_at f b past s good unspent tracks waits n deed (Some e) found keeps =
       let x = node_with n s e in
       let y = node_after setup n deed x in
@@ -211,8 +209,8 @@ module _ (setup : Setup) (Good : Network → Type 0) (law : IsLawful setup Good)
     where
       by_test : (t : Bool) → (n == f.to.0) ≡ t → Comes setup n (node_with n s e) (mid_by setup n deed (node_with n s e)) (node_after setup n deed (node_with n s e)) s.network (λ g. items_of_all (map spelled (sent_on g deed (node_with n s e))))
           → let x = node_with n s e in
-            let y = node_after setup n deed x in
-            Turned f b past s (with_node n s y) (sent_on f deed x) (told_by (request_in f) setup n deed x) (reply_by f deed x) (cond (n == f.to.0) (told_by answer_in setup n deed x) []) (λ g. cond (n == f.to.0) (call_by g deed x) [])
+          let y = node_after setup n deed x in
+          Turned f b past s (with_node n s y) (sent_on f deed x) (told_by (request_in f) setup n deed x) (reply_by f deed x) (cond (n == f.to.0) (told_by answer_in setup n deed x) []) (λ k. call_by k deed x) (λ g. cond (n == f.to.0) (call_by g deed x) [])
       by_test true is c =
           let x = node_with n s e in
           let y = node_after setup n deed x in
@@ -222,11 +220,11 @@ module _ (setup : Setup) (Good : Network → Type 0) (law : IsLawful setup Good)
           let mid = mid_past past (λ g. call_by g deed x) x.halves.calls (mid_by setup n deed x).calls wait (mid_waits setup n deed x) in
           let left : Waits (and_then past (λ g. call_by g deed x)) y.halves.calls = kept_past (and_then past (λ g. call_by g deed x)) (mid_by setup n deed x).calls y.halves.calls mid c.waits in
           let opens : (m : CallNumber) → count_of m (reply_by f deed x) + open_count (token_with f m) y.halves.tokens ≤ open_count (token_with f m) (s.halves f.to.0).tokens + count_of m (told_by (request_in f) setup n deed x) =
-              λ (m : CallNumber).
-                  let p = mid_opens setup n deed x (token_with f m) in
-                  let q = c.opens f b here (token_with f m) in
-                  let r : open_count (token_with f m) x.halves.tokens ≡ open_count (token_with f m) (s.halves f.to.0).tokens = ap (λ (k : ℕ). open_count (token_with f m) (s.halves k).tokens) same in
-                  omega (arith, p, q, r) in
+          λ (m : CallNumber).
+          let p = mid_opens setup n deed x (token_with f m) in
+          let q = c.opens f b here (token_with f m) in
+          let r : open_count (token_with f m) x.halves.tokens ≡ open_count (token_with f m) (s.halves f.to.0).tokens = ap (λ (k : ℕ). open_count (token_with f m) (s.halves k).tokens) same in
+          omega (arith, p, q, r) in
           record {
             steps = c.steps;
             are = c.are;
@@ -240,6 +238,7 @@ module _ (setup : Setup) (Good : Network → Type 0) (law : IsLawful setup Good)
             opens = subst (λ (t : Bool). (m : CallNumber) → count_of m (reply_by f deed x) + open_count (token_with f m) (cond t y.halves (s.halves f.to.0)).tokens ≤ open_count (token_with f m) (s.halves f.to.0).tokens + count_of m (told_by (request_in f) setup n deed x)) (sym is) opens;
             answered = subst (λ (t : Bool). (a : Message) → Contains (cond t (told_by answer_in setup n deed x) []) a → Contains (map said (messages_from b (all_read f c.steps))) a ⊎ OtherCall f (and_then past (λ g. cond t (call_by g deed x) [])) a) (sym is)
                 (λ a there. elim (c.answers f b here a there) [ inl m ↦ inl m | inr o ↦ inr (other_past f (and_then past (λ g. call_by g deed x)) (mid_by setup n deed x).calls a mid o) ]);
+            here = λ k from. ap (λ (t : Bool). cond t (call_by k deed x) []) (sym is);
           }
       by_test false is c =
           let x = node_with n s e in
@@ -264,12 +263,17 @@ module _ (setup : Setup) (Good : Network → Type 0) (law : IsLawful setup Good)
                 (λ m. (let z = ap (count_of m) no_reply in omega (arith, z)));
             answered = subst (λ (t : Bool). (a : Message) → Contains (cond t (told_by answer_in setup n deed x) []) a → Contains (map said (messages_from b (all_read f c.steps))) a ⊎ OtherCall f (and_then past (λ g. cond t (call_by g deed x) [])) a) (sym is)
                 (λ a there. absurd (let lt = there.1 in omega (arith, lt)));
+            here = λ k from.
+                elim (call_is k deed x) [
+                  | inl nothing ↦ nothing ∙ ap (λ (t : Bool). cond t (call_by k deed x) []) (sym is)
+                  | inr call ↦ (let yes : (n == f.to.0) ≡ true = subst (λ (j : ℕ). (n == j) ≡ true) (sym me ∙ sym call.from ∙ from) (nat_self n) in absurd cc)
+                ];
           }
 
   pub turned : (f : Flow) (b : Option (List ℕ)) (past : Flow → CallNumber → ℕ) (s : Services) → Good s.network → AreUnspent s → Tracks f b (s.halves f.to.0).begun → Waits past (s.halves f.to.0).calls → (t : Turn) → KeepsTurn setup t s
-      → Turned f b past s (services_after setup t s) (in_turn (λ n. sent_on f) t s) (in_turn (told_by (request_in f) setup) t s) (in_turn (λ n. reply_by f) t s) (in_turn (at_the f.to.0 (told_by answer_in setup)) t s) (made_in f t s)
+      → Turned f b past s (services_after setup t s) (in_turn (λ n. sent_on f) t s) (in_turn (told_by (request_in f) setup) t s) (in_turn (λ n. reply_by f) t s) (in_turn (at_the f.to.0 (told_by answer_in setup)) t s) (λ k. in_turn (λ n. call_by k) t s) (made_in f t s)
   turned f b past s good unspent tracks waits (Passes by) keeps =
-      record { steps = Pass by ∷ []; are = (tt, tt); keep = (tt, tt); ends = refl; takes = takes_more f (Pass by) [] [] [] (λ first t. t) (takes_nothing f); some = none; begun = tracks; unspent = unspent; waits = past_more past (λ g. []) _ waits; opens = λ m. omega arith; answered = λ a there. absurd (let lt = there.1 in omega (arith, lt)) }
+      record { steps = Pass by ∷ []; are = (tt, tt); keep = (tt, tt); ends = refl; takes = takes_more f (Pass by) [] [] [] (λ first t. t) (takes_nothing f); some = none; begun = tracks; unspent = unspent; waits = past_more past (λ g. []) _ waits; opens = λ m. omega arith; answered = λ a there. absurd (let lt = there.1 in omega (arith, lt)); here = λ k from. refl }
   turned f b past s good unspent tracks waits (Does n deed) keeps = turned_at f b past s good unspent tracks waits n deed (look ◌==◌ n s.network.endpoints) refl keeps
 
   -- ALL TURNS
@@ -285,13 +289,14 @@ module _ (setup : Setup) (Good : Network → Type 0) (law : IsLawful setup Good)
     pub some : AreSomeOf (requests_on f setup turns s) (map said (messages_from b (all_read f steps)))
     pub opens : (m : CallNumber) → count_of m (replies_on f setup turns s) ≤ open_count (token_with f m) (s.halves f.to.0).tokens + count_of m (requests_on f setup turns s)
     pub answered : (a : Message) → Contains (answers_at f.to.0 setup turns s) a → Contains (map said (messages_from b (all_read f steps))) a ⊎ OtherCall f (and_then past (calls_made f turns s)) a
+    pub here : (k : Flow) → k.from.0 ≡ f.to.0 → calls_on k setup turns s ≡ calls_made f turns s k
 
   items_both : (xs ys : List (List ℕ)) → items_of_all (xs ++ ys) ≡ items_of_all xs ++ items_of_all ys
   items_both [] ys = refl
   items_both (x ∷ xs) ys = ap (λ (is : List Item). marked x true true false ++ is) (items_both xs ys) ∙ sym (append_assoc (marked x true true false) (items_of_all xs) (items_of_all ys))
 
   pub ran : (f : Flow) (turns : List Turn) (b : Option (List ℕ)) (past : Flow → CallNumber → ℕ) (s : Services) → Good s.network → AreUnspent s → Tracks f b (s.halves f.to.0).begun → Waits past (s.halves f.to.0).calls → KeepsTurns setup turns s → Ran f b past turns s
-  ran f [] b past s good unspent tracks waits keeps = record { steps = []; are = tt; keep = tt; takes = takes_nothing f; some = none; opens = λ m. omega arith; answered = λ a there. absurd (let lt = there.1 in omega (arith, lt)) }
+  ran f [] b past s good unspent tracks waits keeps = record { steps = []; are = tt; keep = tt; takes = takes_nothing f; some = none; opens = λ m. omega arith; answered = λ a there. absurd (let lt = there.1 in omega (arith, lt)); here = λ k from. refl }
   ran f (t ∷ turns) b past s good unspent tracks waits keeps =
       let v = services_after setup t s in
       let first = turned f b past s good unspent tracks waits t keeps.0 in
@@ -300,7 +305,7 @@ module _ (setup : Setup) (Good : Network → Type 0) (law : IsLawful setup Good)
       let one = in_turn (λ n. sent_on f) t s in
       let more = in_turns (λ n. sent_on f) setup turns v in
       let all : map said (messages_from b (all_read f (first.steps ++ rest.steps))) ≡ map said (messages_from b (all_read f first.steps)) ++ map said (messages_from (begun_after b (all_read f first.steps)) (all_read f rest.steps)) =
-          ap (λ (is : List Item). map said (messages_from b is)) (read_append f first.steps rest.steps) ∙ ap (map said) (messages_append b (all_read f first.steps) (all_read f rest.steps)) ∙ map-append said (messages_from b (all_read f first.steps)) (messages_from (begun_after b (all_read f first.steps)) (all_read f rest.steps)) in
+      ap (λ (is : List Item). map said (messages_from b is)) (read_append f first.steps rest.steps) ∙ ap (map said) (messages_append b (all_read f first.steps) (all_read f rest.steps)) ∙ map-append said (messages_from b (all_read f first.steps)) (messages_from (begun_after b (all_read f first.steps)) (all_read f rest.steps)) in
       record {
         steps = first.steps ++ rest.steps;
         are = steps_append setup first.steps rest.steps s.network first.are (subst (AreSteps setup rest.steps) (sym first.ends) rest.are);
@@ -308,12 +313,12 @@ module _ (setup : Setup) (Good : Network → Type 0) (law : IsLawful setup Good)
         takes = λ taken h. takes_append f first.steps rest.steps _ _ first.takes rest.takes taken h ∙ sym (ap items_of_all (map-append spelled one more) ∙ items_both (map spelled one) (map spelled more));
         some = subst (λ (ms : List Message). AreSomeOf (requests_on f setup (t ∷ turns) s) ms) (sym all) (both first.some rest.some);
         opens = λ m. (
-          let p = first.opens m in
-          let q = rest.opens m in
-          let r = count_append m (in_turn (λ n. reply_by f) t s) (replies_on f setup turns v) in
-          let u = count_append m (in_turn (told_by (request_in f) setup) t s) (requests_on f setup turns v) in
-          omega (arith, p, q, r, u)
-        );
+            let p = first.opens m in
+            let q = rest.opens m in
+            let r = count_append m (in_turn (λ n. reply_by f) t s) (replies_on f setup turns v) in
+            let u = count_append m (in_turn (told_by (request_in f) setup) t s) (requests_on f setup turns v) in
+            omega (arith, p, q, r, u)
+            );
         answered = λ a there.
             elim (Contains-append_cases (in_turn (at_the f.to.0 (told_by answer_in setup)) t s) (answers_at f.to.0 setup turns v) a there) [
               | inl now ↦ elim (first.answered a now) [
@@ -325,4 +330,5 @@ module _ (setup : Setup) (Good : Network → Type 0) (law : IsLawful setup Good)
                 | inr o ↦ inr (record { flow = o.flow; other = o.other; made = (let l = o.made in let e = count_append a.number (made_in f t s o.flow) (calls_made f turns v o.flow) in omega (arith, l, e)) })
               ]
             ];
+        here = λ k from. ap (λ (ms : List Message). ms ++ calls_on k setup turns v) (first.here k from) ∙ ap (λ (ms : List Message). made_in f t s k ++ ms) (rest.here k from);
       }

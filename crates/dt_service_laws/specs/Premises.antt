@@ -1,5 +1,5 @@
 -- What the programs of a network of services owe.
-use Rattle.std.specs.Prelude.{ℕ, ◌^◌, ◌<◌, ◌≡◌, All, List, [], ◌∷◌, Option, Some, None}
+use Rattle.std.specs.Prelude.{ℕ, ◌^◌, ◌<◌, ◌≡◌, ◌≢◌, All, List, [], ◌∷◌, Option, Some, None}
 use Rattle.dt_units.specs.declared.endpoints.Flow.{Flow}
 use Rattle.dt_units.specs.Flows.{IsFlow}
 use Rattle.dt_world_model.specs.Setup.{Setup}
@@ -73,3 +73,12 @@ KeepsKinds kinds (Does n deed ∷ turns) = KeepsKind kinds n deed × KeepsKinds 
 pub record IsServed (kinds : (node port : ℕ) → Kind) (f : Flow) : Type 0 where
   pub caller : kinds f.from.0 f.from_port ≡ Caller
   pub service : kinds f.to.0 f.to_port ≡ Service
+
+-- LIVES DIFFER: no number stands twice
+abbrev pub IsNotIn : ℕ → List ℕ → Type 0
+IsNotIn x [] = Unit {0}
+IsNotIn x (y ∷ ys) = (x ≢ y) × IsNotIn x ys
+
+abbrev pub Differ : List ℕ → Type 0
+Differ [] = Unit {0}
+Differ (x ∷ xs) = IsNotIn x xs × Differ xs
