@@ -1,6 +1,7 @@
 -- Each thing that a program asks of its node, as steps of the network.
 use Rattle.std.proofs.Common.{ℕ, ◌+◌, ◌≡◌, ◌==◌, Bool, true, false, List, [], ◌∷◌, ◌++◌, length, map, Option, Some, None, refl, ap, sym, subst, ◌∙◌, arith}
 use Rattle.std.specs.Prelude.{All, cond, nat_le, not, ◌||◌}
+use Rattle.std.proofs.Math.Seq.{drop-length}
 use Rattle.std.proofs.lemmas.Bool.Decides.{nat_tests}
 use Rattle.dt_items.specs.declared.item.Item.{Item}
 use Rattle.dt_items.specs.Unread.{marked}
@@ -25,26 +26,29 @@ use Rattle.dt_endpoint.specs.Acts.{acts_of, frames_in}
 use Rattle.dt_endpoint.specs.Calls.{ArriveDoes, SendDoes, TickDoes, Unless, arrive_event, arrive_refusal, send_answer, sent_of}
 use Rattle.dt_endpoint.specs.Endpoints.{EndpointValue, after_event, moment_of, script_of, with_refused}
 use Rattle.dt_network.specs.Duties.{IsInTime, KeepsCall, KeepsTime}
+use Rattle.dt_network.specs.Duties.{KeepsFrom as CallKeeps}
 use Rattle.dt_network.specs.Network.{Network}
 use Rattle.dt_network.specs.Octets.{TakesIf}
-use Rattle.dt_network.specs.Steps.{CallArrive, CallSend, CallTick}
+use Rattle.dt_network.specs.Steps.{CallArrive, CallSend, CallTick, Calls, DoesFrom}
 use Rattle.dt_service_model.specs.declared.answers.Forgot.{Forgot}
 use Rattle.dt_service_model.specs.declared.answers.Forgot.TheVariants as forgot
 use Rattle.dt_service_model.specs.declared.answers.Made.{Made}
 use Rattle.dt_service_model.specs.declared.answers.Replied.{Replied}
 use Rattle.dt_service_model.specs.declared.names.Token.{Token}
-use Rattle.dt_service_model.specs.Asked.{arrive, arrive_refused, call, call_refusals, forget, forget_refusals, forgotten, forgotten_unless, goes_out, is_closed, is_one_too_many, made_by, made_of, message_event, next_number, replied_by, replied_of, reply, reply_refusals, tick, unless, with_call_unless}
+use Rattle.dt_service_model.specs.Asked.{call, call_refusals, forget, forget_refusals, forgotten, forgotten_unless, goes_out, is_closed, is_one_too_many, made_by, made_of, message_event, next_number, replied_by, replied_of, reply, reply_refusals, tick, unless, with_call_unless}
 use Rattle.dt_service_model.specs.Halves.{Halves}
 use Rattle.dt_service_model.specs.Names.{number_of}
 use Rattle.dt_service_model.specs.Turns.{Node, happens, turn, turn_end, with_halves}
 use Rattle.dt_service_laws.specs.Histories.{Message, made_as, replied_as}
 use Rattle.dt_service_laws.specs.Premises.{ReadsFlows}
-use Rattle.dt_service_laws.proofs.Deeds.{Comes, IsBetween, comes_by_end, comes_by_event, comes_nowhere, nothing_between}
+use Rattle.dt_service_laws.specs.Services.{after_datagram, comes_to}
+use Rattle.dt_service_laws.proofs.Deeds.{Comes, IsBetween, comes_by_end, comes_by_event, comes_by_step, comes_nowhere, nothing_between}
 use Rattle.dt_service_laws.proofs.Elsewhere.{IsLawful}
 use Rattle.dt_service_laws.proofs.Ending.{time_later}
 use Rattle.dt_service_laws.proofs.Moves.{IsLater, MayCall}
 use Rattle.dt_service_laws.proofs.Quiet.{forgotten_quiet}
 use Rattle.dt_service_laws.proofs.Runs.{IsAt}
+use Rattle.dt_service_laws.proofs.Sending.{takes_more, takes_nothing}
 
 -- REFUSALS
 abbrev pub AllClear : {F : Type 0} → List (Bool × F) → Type 0
@@ -281,9 +285,14 @@ module _ (setup : Setup) (n : ℕ) (m : Network) (x : Node) (there : IsAt n m x.
   }
 
   arrive_goes : (now link : ℕ) (datagram : List ℕ) (waited : ℕ) → KeepsCall setup m n (CallArrive now link datagram waited arrived.Done) x.endpoint → ReadsFlows (happens now (arrive_event link datagram waited) x) → (c : Bool) → (o : Option Arrived) → arrive_refusal link datagram waited x.endpoint ≡ o
-      → Comes setup n x (mid_of (cond c (Some arrived.Spent) o) x.halves (happens now (arrive_event link datagram waited) x).halves) (unless (cond c (Some arrived.Spent) o) x (arrived.Done, turn now (arrive_event link datagram waited) x)).1 m (λ g. [])
+      → Comes setup n x (cond c x.halves (mid_of o x.halves (happens now (arrive_event link datagram waited) x).halves)) (cond c x (comes_to o now link datagram waited x)) m (λ g. [])
   arrive_goes now link datagram waited keeps flows true o is = comes_nowhere setup n x m there unspent
-  arrive_goes now link datagram waited keeps flows false (Some a) is = comes_nowhere setup n x m there unspent
+  arrive_goes now link datagram waited keeps flows false (Some a) is =
+      let y : Node = record x { endpoint = with_refused x.endpoint } in
+      let call = CallArrive now link datagram waited a in
+      comes_by_step setup n x m y (Calls n call y.endpoint)
+      (subst (DoesFrom setup n call y.endpoint) (sym there) (subst (λ (o : Option Arrived). Unless o a (with_refused x.endpoint) y.endpoint (ArriveDoes a now (arrive_event link datagram waited) x.endpoint y.endpoint)) (sym is) (refl, refl)), tt)
+      (subst (CallKeeps setup m n call) (sym there) keeps, tt) refl unspent (λ g. refl) (λ g. takes_more g (Calls n call y.endpoint) [] [] [] (λ first t. t) (takes_nothing g)) (λ g b tracks. tracks) (drop-length x.halves.happenings)
   arrive_goes now link datagram waited keeps flows false None is =
       let event = arrive_event link datagram waited in
       let after = after_event now event x.endpoint in
@@ -297,5 +306,6 @@ module _ (setup : Setup) (n : ℕ) (m : Network) (x : Node) (there : IsAt n m x.
       })
       (λ g. refl) (λ g taken t. t) (nothing_between setup n (happens now event x).halves) flows
 
-  pub arrive_comes : (now link : ℕ) (datagram : List ℕ) (waited : ℕ) → KeepsCall setup m n (CallArrive now link datagram waited arrived.Done) x.endpoint → ReadsFlows (happens now (arrive_event link datagram waited) x) → Comes setup n x (mid_of (arrive_refused link datagram waited x) x.halves (happens now (arrive_event link datagram waited) x).halves) (arrive now link datagram waited x).1 m (λ g. [])
+  pub arrive_comes : (now link : ℕ) (datagram : List ℕ) (waited : ℕ) → KeepsCall setup m n (CallArrive now link datagram waited arrived.Done) x.endpoint → ReadsFlows (happens now (arrive_event link datagram waited) x)
+      → Comes setup n x (cond (is_closed x) x.halves (mid_of (arrive_refusal link datagram waited x.endpoint) x.halves (happens now (arrive_event link datagram waited) x).halves)) (after_datagram now link datagram waited x) m (λ g. [])
   arrive_comes now link datagram waited keeps flows = arrive_goes now link datagram waited keeps flows (is_closed x) (arrive_refusal link datagram waited x.endpoint) refl

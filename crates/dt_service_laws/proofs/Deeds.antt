@@ -75,6 +75,24 @@ module _ (setup : Setup) (n : ℕ) where
   pub comes_nowhere : (x : Node) (m : Network) → IsAt n m x.endpoint → x.endpoint.spent ≡ false → Comes x x.halves x m (λ g. [])
   comes_nowhere x m there unspent = comes_quietly x x.halves m there unspent (λ g b tracks. tracks) (drop-length x.halves.happenings)
 
+  -- BY ONE STEP that is no turn
+  pub comes_by_step : (x : Node) (m : Network) (y : Node) (s : Step) → AreSteps setup (s ∷ []) m → KeepsDuties setup (s ∷ []) m → network_after s m ≡ network_after (Calls n PullFrame y.endpoint) m → y.endpoint.spent ≡ false → ((g : Flow) → all_read g (s ∷ []) ≡ []) → ((g : Flow) → Takings g (s ∷ []) [])
+      → ((g : Flow) (b : Option (List ℕ)) → Tracks g b x.halves.begun → Tracks g b y.halves.begun) → told_between x y ≡ [] → Comes x y.halves y m (λ g. [])
+  comes_by_step x m y s are keep ends on read takes begun told = record {
+    steps = s ∷ [];
+    are = are;
+    keep = keep;
+    ends = ends;
+    unspent = on;
+    takes = takes;
+    begun = λ g b tracks. subst (λ (is : List Item). Tracks g (begun_after b is) y.halves.begun) (sym (read g)) (begun g b tracks);
+    requests = λ g b tracks. subst (λ (ts : List Happening). AreSomeOf (each_of (request_in g) ts) (map said (messages_from b (all_read g (s ∷ []))))) (sym told) none;
+    waits = kept_itself y.halves.calls;
+    opens = λ g b tracks t. omega arith;
+    answers = λ g b tracks a there. absurd (not_in_none (each_of answer_in (told_between x y)) a (ap (each_of answer_in) told) there);
+    elsewhere = λ g other. (read g, ap (each_of (request_in g)) told);
+  }
+
   -- what stays where an event's turn is under way and its end is still to come
   pub record IsBetween (h k : Halves) : Type 0 where
     pub begun : k.begun ≡ h.begun

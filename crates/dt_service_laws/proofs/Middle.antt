@@ -13,7 +13,7 @@ use Rattle.dt_world_model.specs.Station.{Tick}
 use Rattle.dt_world_model.specs.Tables.{same_flow}
 use Rattle.dt_world_model.specs.WorldStep.{first_refusal}
 use Rattle.dt_calls_model.specs.Messages.{message_of, reversed}
-use Rattle.dt_endpoint.specs.Calls.{arrive_event, send_answer}
+use Rattle.dt_endpoint.specs.Calls.{arrive_event, arrive_refusal, send_answer}
 use Rattle.dt_endpoint.specs.Endpoints.{after_event, moment_of}
 use Rattle.dt_service_model.specs.declared.answers.Made.{Made}
 use Rattle.dt_service_model.specs.declared.answers.Made.TheVariants as made
@@ -23,7 +23,7 @@ use Rattle.dt_service_model.specs.declared.happenings.Happening.{Happening}
 use Rattle.dt_service_model.specs.declared.names.CallNumber.{CallNumber}
 use Rattle.dt_service_model.specs.declared.names.Token.{Token}
 use Rattle.dt_service_model.specs.declared.ports.Kind.{Kind}
-use Rattle.dt_service_model.specs.Asked.{arrive_refused, call, call_refusals, forget_refusals, forgotten, forgotten_unless, is_closed, is_life_in_use, made_by, made_of, message_event, new_call, next_number, replied_by, replied_of, reply_refusals, unless, with_call_unless, with_port}
+use Rattle.dt_service_model.specs.Asked.{call, call_refusals, forget_refusals, forgotten, forgotten_unless, is_closed, is_life_in_use, made_by, made_of, message_event, new_call, next_number, replied_by, replied_of, reply_refusals, unless, with_call_unless, with_port}
 use Rattle.dt_service_model.specs.Ends.{next_call, next_in}
 use Rattle.dt_service_model.specs.Halves.{Halves, kind_in, new_halves}
 use Rattle.dt_service_model.specs.Names.{number_of, same_number, same_token}
@@ -121,7 +121,7 @@ module _ (setup : Setup) (n : ℕ) where
   mid_waits (GivesReply now token payload) x = kept_of (λ g. []) x.halves.calls _ (reply_of now token (message_of (number_of token.number) payload) x (first_refusal (reply_refusals x token payload)))
   mid_waits (Forgets now token) x = kept_of (λ g. []) x.halves.calls _ (mid_kept (first_refusal (forget_refusals x token)) x.halves (forgotten token x.halves) (kept_itself x.halves.calls))
   mid_waits (Ticks now) x = kept_of (λ g. []) x.halves.calls _ (cond_kept (is_closed x) x.halves (happens now Tick x).halves (heard_kept now x Tick))
-  mid_waits (Arrives now link datagram waited) x = kept_of (λ g. []) x.halves.calls _ (mid_kept (arrive_refused link datagram waited x) x.halves (happens now (arrive_event link datagram waited) x).halves (heard_kept now x (arrive_event link datagram waited)))
+  mid_waits (Arrives now link datagram waited) x = kept_of (λ g. []) x.halves.calls _ (cond_kept (is_closed x) x.halves (mid_of (arrive_refusal link datagram waited x.endpoint) x.halves (happens now (arrive_event link datagram waited) x).halves) (mid_kept (arrive_refusal link datagram waited x.endpoint) x.halves (happens now (arrive_event link datagram waited) x).halves (heard_kept now x (arrive_event link datagram waited))))
   mid_waits (GivesKind port kind) x = kept_of (λ g. []) x.halves.calls _ (kind_kept port (kind_in port x.halves.ports) kind x.halves)
   mid_waits (Raises life) x = kept_of (λ g. []) x.halves.calls _ (raise_kept (is_life_in_use life x.halves) life x.halves)
   mid_waits TakesHappening x = kept_of (λ g. []) x.halves.calls _ (taken_kept x.halves.happenings x.halves)
@@ -262,7 +262,7 @@ module _ (setup : Setup) (n : ℕ) where
       (call_fewer (send_answer now f message true true x.endpoint) f (length message) (moment_of now x.endpoint + patience) x.halves (happens now (message_event f message) x).halves (heard_fewer now x (message_event f message))))
   mid_opens (Forgets now token) x = none_gone x.halves (mid_by setup n (Forgets now token) x) (mid_fewer (first_refusal (forget_refusals x token)) x.halves (forgotten token x.halves) (forgotten_quiet token x.halves).opens)
   mid_opens (Ticks now) x = none_gone x.halves (mid_by setup n (Ticks now) x) (cond_fewer (is_closed x) x.halves (happens now Tick x).halves (heard_fewer now x Tick))
-  mid_opens (Arrives now link datagram waited) x = none_gone x.halves (mid_by setup n (Arrives now link datagram waited) x) (mid_fewer (arrive_refused link datagram waited x) x.halves (happens now (arrive_event link datagram waited) x).halves (heard_fewer now x (arrive_event link datagram waited)))
+  mid_opens (Arrives now link datagram waited) x = none_gone x.halves (mid_by setup n (Arrives now link datagram waited) x) (cond_fewer (is_closed x) x.halves (mid_of (arrive_refusal link datagram waited x.endpoint) x.halves (happens now (arrive_event link datagram waited) x).halves) (mid_fewer (arrive_refusal link datagram waited x.endpoint) x.halves (happens now (arrive_event link datagram waited) x).halves (heard_fewer now x (arrive_event link datagram waited))))
   mid_opens (GivesKind port kind) x = none_gone x.halves (mid_by setup n (GivesKind port kind) x) (kind_fewer port (kind_in port x.halves.ports) kind x.halves)
   mid_opens (Raises life) x = none_gone x.halves (mid_by setup n (Raises life) x) (raise_fewer (is_life_in_use life x.halves) life x.halves)
   mid_opens TakesHappening x = none_gone x.halves (mid_by setup n TakesHappening x) (taken_fewer x.halves.happenings x.halves)

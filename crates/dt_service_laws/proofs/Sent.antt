@@ -7,8 +7,8 @@ use Rattle.dt_world_model.specs.Station.{Tick}
 use Rattle.dt_world_model.specs.Tables.{same_flow}
 use Rattle.dt_world_model.specs.WorldStep.{first_refusal}
 use Rattle.dt_calls_model.specs.Messages.{message_of, reversed}
-use Rattle.dt_endpoint.specs.Calls.{arrive_event}
-use Rattle.dt_service_model.specs.Asked.{arrive_refused, call_refusals, forget_refusals, forgotten, is_closed, next_number, reply, reply_refusals}
+use Rattle.dt_endpoint.specs.Calls.{arrive_event, arrive_refusal}
+use Rattle.dt_service_model.specs.Asked.{call_refusals, forget_refusals, forgotten, is_closed, next_number, reply, reply_refusals}
 use Rattle.dt_service_model.specs.Halves.{Halves}
 use Rattle.dt_service_model.specs.Names.{number_of}
 use Rattle.dt_service_model.specs.Turns.{Node, happens}
@@ -40,7 +40,7 @@ module _ (setup : Setup) where
   mid_by n (GivesReply now token payload) x = mid_of (first_refusal (reply_refusals x token payload)) x.halves (replied_mid now token (message_of (number_of token.number) payload) x)
   mid_by n (Forgets now token) x = mid_of (first_refusal (forget_refusals x token)) x.halves (forgotten token x.halves)
   mid_by n (Ticks now) x = cond (is_closed x) x.halves (happens now Tick x).halves
-  mid_by n (Arrives now link datagram waited) x = mid_of (arrive_refused link datagram waited x) x.halves (happens now (arrive_event link datagram waited) x).halves
+  mid_by n (Arrives now link datagram waited) x = cond (is_closed x) x.halves (mid_of (arrive_refusal link datagram waited x.endpoint) x.halves (happens now (arrive_event link datagram waited) x).halves)
   mid_by n (GivesKind port kind) x = (node_after setup n (GivesKind port kind) x).halves
   mid_by n (Raises life) x = (node_after setup n (Raises life) x).halves
   mid_by n TakesHappening x = (node_after setup n TakesHappening x).halves

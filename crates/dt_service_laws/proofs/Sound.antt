@@ -19,7 +19,7 @@ use Rattle.dt_endpoint.specs.declared.answers.Arrived.{Arrived}
 use Rattle.dt_endpoint.specs.declared.answers.Arrived.TheVariants as arrived
 use Rattle.dt_endpoint.specs.declared.answers.Ticked.{Ticked}
 use Rattle.dt_endpoint.specs.declared.answers.Ticked.TheVariants as ticked
-use Rattle.dt_endpoint.specs.Calls.{arrive_event, send_answer}
+use Rattle.dt_endpoint.specs.Calls.{arrive_event, arrive_refusal, send_answer}
 use Rattle.dt_endpoint.specs.Endpoints.{moment_of}
 use Rattle.dt_network.specs.Network.{Network}
 use Rattle.dt_service_model.specs.declared.answers.Forgot.{Forgot}
@@ -34,14 +34,14 @@ use Rattle.dt_service_model.specs.declared.ports.Kind.{Kind}
 use Rattle.dt_service_model.specs.declared.ports.Kind.TheVariants.{Caller, Service}
 use Rattle.dt_service_model.specs.declared.ports.Most.{Most}
 use Rattle.dt_service_model.specs.declared.ports.Port.{Port}
-use Rattle.dt_service_model.specs.Asked.{arrive_refused, call, call_refusals, forget_refusals, forgotten, forgotten_unless, is_closed, is_life_in_use, made_by, made_of, message_event, next_number, replied_by, reply, reply_refusals, unless, with_call_unless, with_port}
+use Rattle.dt_service_model.specs.Asked.{call, call_refusals, forget_refusals, forgotten, forgotten_unless, is_closed, is_life_in_use, made_by, made_of, message_event, next_number, replied_by, reply, reply_refusals, unless, with_call_unless, with_port}
 use Rattle.dt_service_model.specs.Ends.{next_call, next_in}
 use Rattle.dt_service_model.specs.Halves.{Halves, is_caller, kind_in, new_halves}
 use Rattle.dt_service_model.specs.Names.{call_number, number_of, same_number, same_token}
 use Rattle.dt_service_model.specs.Turns.{Node, happens, turn, turn_end, with_halves}
 use Rattle.dt_service_laws.specs.Histories.{Message, call_by, made_as, replied_as, reply_by}
 use Rattle.dt_service_laws.specs.Premises.{IsLife, IsServed, KeepsDeed, KeepsKind}
-use Rattle.dt_service_laws.specs.Services.{Arrives, Closes, Deed, Forgets, GivesKind, GivesReply, MakesCall, OpensAgain, PullsFrame, Raises, TakesHappening, Ticks, node_after}
+use Rattle.dt_service_laws.specs.Services.{Arrives, Closes, Deed, Forgets, GivesKind, GivesReply, MakesCall, OpensAgain, PullsFrame, Raises, TakesHappening, Ticks, node_after, comes_to}
 use Rattle.dt_service_laws.proofs.Asked.{all_clear, first_none, not_false, spelled}
 use Rattle.dt_service_laws.proofs.Answering.{same_reversed}
 use Rattle.dt_service_laws.proofs.Keeping.{IsOfService, Keeps, end_keeps, happens_keeps, keeps_quietly, turn_keeps}
@@ -102,9 +102,10 @@ module _ (kinds : (node port : ℕ) → Kind) (n : ℕ) where
   tick_sound true now x s = s
   tick_sound false now x s = sound_keeps x.halves (turn now Tick x).halves (turn_keeps now Tick x) s
 
-  arrive_sound : (o : Option Arrived) (now link : ℕ) (datagram : List ℕ) (waited : ℕ) (x : Node) → IsSound x.halves → IsSound (unless o x (arrived.Done, turn now (arrive_event link datagram waited) x)).1.halves
-  arrive_sound (Some a) now link datagram waited x s = s
-  arrive_sound None now link datagram waited x s = sound_keeps x.halves (turn now (arrive_event link datagram waited) x).halves (turn_keeps now (arrive_event link datagram waited) x) s
+  arrive_sound : (c : Bool) (o : Option Arrived) (now link : ℕ) (datagram : List ℕ) (waited : ℕ) (x : Node) → IsSound x.halves → IsSound (cond c x (comes_to o now link datagram waited x)).halves
+  arrive_sound true o now link datagram waited x s = s
+  arrive_sound false (Some a) now link datagram waited x s = s
+  arrive_sound false None now link datagram waited x s = sound_keeps x.halves (turn now (arrive_event link datagram waited) x).halves (turn_keeps now (arrive_event link datagram waited) x) s
 
   raise_sound : (b : Bool) (life : ℕ) (h : Halves) → IsLife life → IsSound h → IsSound (cond b h (record h { life = life; count = 0 }))
   raise_sound true life h fits s = s
@@ -164,7 +165,7 @@ module _ (kinds : (node port : ℕ) → Kind) (n : ℕ) where
   sound_deed setup m x (GivesReply now token payload) agrees keeps s = reply_sound (first_refusal (reply_refusals x token payload)) now token (message_of (number_of token.number) payload) x s
   sound_deed setup m x (Forgets now token) agrees keeps s = forget_sound (first_refusal (forget_refusals x token)) now token x s
   sound_deed setup m x (Ticks now) agrees keeps s = tick_sound (is_closed x) now x s
-  sound_deed setup m x (Arrives now link datagram waited) agrees keeps s = arrive_sound (arrive_refused link datagram waited x) now link datagram waited x s
+  sound_deed setup m x (Arrives now link datagram waited) agrees keeps s = arrive_sound (is_closed x) (arrive_refusal link datagram waited x.endpoint) now link datagram waited x s
   sound_deed setup m x (Raises life) agrees keeps s = raise_sound (is_life_in_use life x.halves) life x.halves keeps s
   sound_deed setup m x TakesHappening agrees keeps s = taken_sound x.halves.happenings x.halves s
   sound_deed setup m x PullsFrame agrees keeps s = s

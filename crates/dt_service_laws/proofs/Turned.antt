@@ -35,7 +35,7 @@ use Rattle.dt_service_laws.specs.Services.{Arrives, Closes, Deed, Does, Forgets,
 use Rattle.dt_service_laws.specs.Wholes.{begun_after, messages_from}
 use Rattle.dt_service_laws.proofs.Answering.{IsOther, count_append, not_in_none}
 use Rattle.dt_service_laws.proofs.Asked.{alike, arrive_comes, call_comes, forget_comes, reply_comes, spelled, tick_comes}
-use Rattle.dt_service_laws.proofs.Deeds.{Comes, comes_quietly}
+use Rattle.dt_service_laws.proofs.Deeds.{Comes, comes_by_step, comes_quietly}
 use Rattle.dt_service_laws.proofs.Elsewhere.{IsLawful}
 use Rattle.dt_service_laws.proofs.Moves.{AreKeptFrom, IsKeptFrom, Tracks, open_count}
 use Rattle.dt_service_laws.proofs.Orders.{both}
@@ -78,23 +78,6 @@ taken_first (x ∷ xs) h is = record { begun = refl; none = ap (λ (ts : List Ha
 
 module _ (setup : Setup) (Good : Network → Type 0) (law : IsLawful setup Good) where
   module _ (n : ℕ) (m : Network) (x : Node) (there : IsAt n m x.endpoint) (unspent : x.endpoint.spent ≡ false) (good : Good m) where
-    one_step : (y : Node) (s : Step) → AreSteps setup (s ∷ []) m → KeepsDuties setup (s ∷ []) m → network_after s m ≡ network_after (Calls n PullFrame y.endpoint) m → y.endpoint.spent ≡ false → ((g : Flow) → all_read g (s ∷ []) ≡ []) → ((g : Flow) → Takings g (s ∷ []) [])
-        → ((g : Flow) (b : Option (List ℕ)) → Tracks g b x.halves.begun → Tracks g b y.halves.begun) → told_between x y ≡ [] → Comes setup n x y.halves y m (λ g. [])
-    one_step y s are keep ends on read takes begun told = record {
-      steps = s ∷ [];
-      are = are;
-      keep = keep;
-      ends = ends;
-      unspent = on;
-      takes = takes;
-      begun = λ g b tracks. subst (λ (is : List Item). Tracks g (begun_after b is) y.halves.begun) (sym (read g)) (begun g b tracks);
-      requests = λ g b tracks. subst (λ (ts : List Happening). AreSomeOf (each_of (request_in g) ts) (map said (messages_from b (all_read g (s ∷ []))))) (sym told) none;
-      waits = kept_itself y.halves.calls;
-      opens = λ g b tracks t. omega arith;
-      answers = λ g b tracks a there. absurd (not_in_none (each_of answer_in (told_between x y)) a (ap (each_of answer_in) told) there);
-      elsewhere = λ g other. (read g, ap (each_of (request_in g)) told);
-    }
-
     pub deed_comes : (deed : Deed) → KeepsDeed setup m n deed x → Comes setup n x (mid_by setup n deed x) (node_after setup n deed x) m (λ g. items_of_all (map spelled (sent_on g deed x)))
     deed_comes (GivesKind port kind) keeps =
         let k = kind_between port (kind_in port x.halves.ports) kind x.halves in
@@ -113,11 +96,11 @@ module _ (setup : Setup) (Good : Network → Type 0) (law : IsLawful setup Good)
         comes_quietly setup n x (next x.halves).1 m there unspent (λ g b tracks. subst (λ (es : List (Flow × List ℕ)). Tracks g b es) (sym k.begun) tracks) k.none
     deed_comes PullsFrame keeps =
         let y = node_after setup n PullsFrame x in
-        one_step y (Calls n PullFrame y.endpoint) (subst (DoesFrom setup n PullFrame y.endpoint) (sym there) refl, tt) (subst (CallKeeps setup m n PullFrame) (sym there) tt, tt) refl unspent (λ g. refl) (λ g. takes_more g (Calls n PullFrame y.endpoint) [] [] [] (λ first t. t) (takes_nothing g)) (λ g b tracks. tracks) (drop-length x.halves.happenings)
+        comes_by_step setup n x m y (Calls n PullFrame y.endpoint) (subst (DoesFrom setup n PullFrame y.endpoint) (sym there) refl, tt) (subst (CallKeeps setup m n PullFrame) (sym there) tt, tt) refl unspent (λ g. refl) (λ g. takes_more g (Calls n PullFrame y.endpoint) [] [] [] (λ first t. t) (takes_nothing g)) (λ g b tracks. tracks) (drop-length x.halves.happenings)
     deed_comes Closes keeps = comes_quietly setup n x (close x.halves) m there unspent (λ g b tracks. (close_quiet x.halves).begun g b tracks) (drop-length x.halves.happenings)
     deed_comes (OpensAgain again routes most life) keeps =
         let y = node_after setup n (OpensAgain again routes most life) x in
-        one_step y (Calls n (OpenAgain again routes) y.endpoint) (subst (DoesFrom setup n (OpenAgain again routes) y.endpoint) (sym there) refl, tt) (subst (CallKeeps setup m n (OpenAgain again routes)) (sym there) keeps.0, tt) refl refl (λ g. refl)
+        comes_by_step setup n x m y (Calls n (OpenAgain again routes) y.endpoint) (subst (DoesFrom setup n (OpenAgain again routes) y.endpoint) (sym there) refl, tt) (subst (CallKeeps setup m n (OpenAgain again routes)) (sym there) keeps.0, tt) refl refl (λ g. refl)
         (λ g. takes_more g (Calls n (OpenAgain again routes) y.endpoint) [] [] [] (λ first t. t) (takes_nothing g)) (λ g b tracks. inl refl) (drop-nil (length x.halves.happenings))
 
   -- ONE TURN, for a flow
