@@ -1,0 +1,6 @@
+pub mod Orders
+pub mod Wholes
+pub mod Reading
+pub mod Services
+pub mod Histories
+pub mod Premises
