@@ -243,7 +243,8 @@ static void look_at_report(const struct node *n, const struct dt_report *it) {
     if (it->kind == DT_SETTLED || it->kind == DT_IGNORED) WANT(it->window <= 65536);
     if (it->kind == DT_ACKED || it->kind == DT_REPLIED) WANT(it->window <= n->params.rcap);
     if (it->kind == DT_UNREADABLE) WANT(it->number >= DT_SHORT && it->number <= DT_SIZE);
-    if (it->kind == DT_TOOK || it->kind == DT_SETTLED || it->kind == DT_UNCERTAIN) WANT(it->count >= 1 && it->count <= n->params.cap);
+    if (it->kind == DT_TOOK || it->kind == DT_UNCERTAIN) WANT(it->count >= 1);
+    if (it->kind == DT_TOOK || it->kind == DT_SETTLED || it->kind == DT_UNCERTAIN) WANT(it->count <= n->params.cap);
 }
 
 static void add(struct sums *it, const struct dt_report *told) {
@@ -646,9 +647,10 @@ static bool takes(struct node *n, size_t room) {
     /* a spent node gives what waits, and then says so */
     happens(100u + status);
     if (status == DT_NO_MEMORY) n->is_spent = any_failed = true;
-    if (!n->is_spent) n->greatest = counted(n, moment);
     any_failed = any_failed || status == DT_LOST;
-    takes_all(n);
+    struct told told = takes_all(n);
+    /* where no flow was read nothing was done */
+    if (!n->is_spent && told.read + told.not_read > 0) n->greatest = counted(n, moment);
     n->counts.read = dt_counts(n->handle[0]).read;
     looks_on(n);
     return status == DT_DONE;
