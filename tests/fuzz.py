@@ -37,7 +37,7 @@ from typing import Callable, NamedTuple, Sequence, TypeVar
 
 import audit
 from grammar import Wrong, log_of_node, log_of_world, told_of_calls, verdict_of
-from lib import HOST, PROGRAM, TOP, bound, own_port, script, start
+from lib import HOST, PROGRAM, TOP, bound, is_up, own_port, script, start
 
 sys.path[:0] = [str(TOP / "conformance")]
 import asking  # noqa: E402
@@ -125,11 +125,6 @@ def processor() -> float:
     """The seconds of a processor that this process and all runs took."""
     both = [resource.getrusage(it) for it in (resource.RUSAGE_SELF, resource.RUSAGE_CHILDREN)]
     return sum(it.ru_utime + it.ru_stime for it in both)
-
-
-def is_up(port: int) -> bool:
-    """Whether a socket for datagrams is bound to that port."""
-    return any(it.split()[1].endswith(f":{port:04X}") for it in pathlib.Path("/proc/net/udp").read_text().splitlines()[1:])
 
 
 # The checks of an input. Each tells whether it was accepted, and raises `Wrong` where something isn't as it should be.
