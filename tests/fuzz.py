@@ -85,7 +85,9 @@ class Program:
     def run(self, word: str, text: bytes) -> Ran:
         """A run. Raises `Wrong` where it takes too long."""
         with subprocess.Popen([self.path, word], stdin=subprocess.PIPE, stdout=subprocess.PIPE, stderr=subprocess.PIPE) as child:
-            out, err = in_time(child, word, lambda: child.communicate(text, timeout=LOOK))
+            # its input is told to the first wait alone
+            once = [text]
+            out, err = in_time(child, word, lambda: child.communicate(once.pop() if once else None, timeout=LOOK))
         return Ran(child.returncode, out, err)
 
     def ask(self, word: str, text: bytes) -> Ran:
@@ -439,7 +441,7 @@ def finds(program: Program, kind: Kind, text: bytes) -> bool:
 
 
 def blind(path: str, all_kinds: dict[str, Kind]) -> list[str]:
-    """The checks that find no fault with what is spoilt."""
+    """The checks that find no fault with what is spoilt, or one with what isn't."""
     names = ("/01-short-exchange", "/17-node", "/calls-answered", "/audit-breaks-skip")
     texts = {it.kind: it.given() for it in run.cases() if it.name.endswith(names)}
     texts["log"] = texts.pop("audit")
@@ -460,6 +462,11 @@ def blind(path: str, all_kinds: dict[str, Kind]) -> list[str]:
     ]
     found += [f"{name}: change {at} of {word}" for at, (name, word, text, spoil) in enumerate(others)
               if not finds(Spoilt(path, word, spoil), all_kinds[name], text)]
+    with tempfile.TemporaryDirectory() as folder:
+        slow = pathlib.Path(folder) / "slow"
+        slow.write_text(f'#!/bin/sh\nsleep {1.5 * LOOK}\nexec "{path}" "$@"\n')
+        slow.chmod(0o755)
+        found += ["schedule: what waits for the clock alone is blamed"] if finds(Program(str(slow)), all_kinds["schedule"], texts["schedule"]) else []
     read = frames.read
     frames.read = lambda frame: read(frame).replace("dbe", "db")
     found += [] if finds(Program(path), all_kinds["frames"], hello) else ["frames: a reader that is spoilt"]
@@ -586,7 +593,7 @@ def main() -> int:
         return 0
     unseen = blind(path, all_kinds)
     if unseen:
-        print("\n".join(f"no fault found with what is spoilt: {it}" for it in unseen))
+        print("\n".join(f"no fault found with what is spoilt, or one with what isn't: {it}" for it in unseen))
         return 1
     kept = Kept(given.keep)
     if given.minutes:

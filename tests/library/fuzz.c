@@ -30,7 +30,7 @@
         if (!(truth)) fault(__LINE__, #truth); \
     } while (0)
 
-enum { NODES = 3, PORTS = 2, FLOWS = NODES * NODES * PORTS, MOST_SENT = 1 << 15, MOST_FLIGHT = 200, MOST_OPS = 400, RECORD = 4, HEAD = 24, MOST_STEPS = 1500 };
+enum { NODES = 3, PORTS = 2, FLOWS = NODES * NODES * PORTS, MOST_SENT = 1 << 15, MOST_FLIGHT = 200, MOST_OPS = 400, RECORD = 4, HEAD = 24, MOST_STEPS = 1500, BEHIND = 40 };
 static const uint64_t LAST = (uint64_t)1 << 62;
 
 static size_t at_record;
@@ -295,20 +295,23 @@ static void goes_off(size_t from, uint16_t link, const uint8_t *octets, size_t l
 
 static void take_frame(struct node *n, const struct dt_report *put) {
     size_t from = (size_t)(n - nodes);
-    uint8_t *room = block(DT_MOST_FRAME), *other = block(DT_MOST_FRAME);
-    struct dt_out none = dt_next_frame(n->handle[0], room, 0);
+    uint8_t *small = block(0);
+    struct dt_out none = dt_next_frame(n->handle[0], small, 0);
     WANT(none.status == DT_ROOM && none.len >= 16 && none.len <= DT_MOST_FRAME);
-    uint8_t *small = block(none.len - 1);
+    free(small);
+    size_t len = none.len + BEHIND;
+    uint8_t *room = block(len), *other = block(none.len);
+    small = block(none.len - 1);
     memset(small, 0xEE, none.len - 1);
     struct dt_out less = dt_next_frame(n->handle[0], small, none.len - 1);
     WANT(less.status == DT_ROOM && less.len == none.len);
     for (size_t i = 0; i < none.len - 1; i++) WANT(small[i] == 0xEE);
     free(small);
-    memset(room, 0xEE, DT_MOST_FRAME);
-    struct dt_out out = dt_next_frame(n->handle[0], room, DT_MOST_FRAME), twin = dt_next_frame(n->handle[1], other, DT_MOST_FRAME);
+    memset(room, 0xEE, len);
+    struct dt_out out = dt_next_frame(n->handle[0], room, len), twin = dt_next_frame(n->handle[1], other, none.len);
     WANT(out.status == DT_DONE && twin.status == DT_DONE && out.len == none.len && twin.len == out.len);
     WANT(out.to == twin.to && out.link == twin.link && is_same(room, other, out.len));
-    for (size_t i = out.len; i < DT_MOST_FRAME; i++) WANT(room[i] == 0xEE);
+    for (size_t i = out.len; i < len; i++) WANT(room[i] == 0xEE);
     uint32_t value;
     WANT(header_fault(room, out.len, &value) == 0 && number_at(room + 12) == out.to);
     WANT(number_at(room + 8) != from + 1 || has_packet(room, out.len));
@@ -761,7 +764,7 @@ static void params_are_judged(const struct dt_params *p) {
 static void is_refused(struct node *n, uint8_t kind, uint8_t how) {
     size_t me = (size_t)(n - nodes);
     static const uint8_t octets[40] = {1, 1, 0, 24, 0, 0, 0, 9};
-    struct dt_flow wrong = flow_at(me, how, (kind & 1) != 0), self = {(uint32_t)me + 1, (uint32_t)me + 1, 1, 2};
+    struct dt_flow wrong = flow_at(me, how, (kind & 16) != 0), self = {(uint32_t)me + 1, (uint32_t)me + 1, 1, 2};
     bool leapt = leaps;
     /* a moment that a refused call was told doesn't count */
     leaps = true;
