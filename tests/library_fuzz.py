@@ -15,7 +15,7 @@ With --seconds the archive is linked as it is by gcc or clang, and inputs are dr
 fails, which is kept, cut down to the records that it takes, in a folder that is named; with 77 where there is no compiler
 or no archive. Before all that, the checks of fuzz.c have to find fault with a library whose answers are spoilt.
 
-In tests/all: --seconds 20, 300 s."""
+In tests/all: --seconds 20, 900 s."""
 import argparse
 import os
 import pathlib
@@ -41,7 +41,7 @@ TARGET = "x86_64-unknown-linux-gnu"
 # octets of the head of an input, and of a record, as fuzz.c has them, and of the longest input
 HEAD, RECORD, MOST = 24, 4, 24 + 4 * 300
 # how a library is spoilt (spoil.c), and the inputs that are tried until one is a fault
-SPOILS, ENOUGH = 11, 20_000
+SPOILS, ENOUGH = 11, 1_500
 
 
 def run(words: Sequence[str | pathlib.Path], **more: object) -> "subprocess.CompletedProcess[str]":
@@ -71,6 +71,11 @@ def instrumented(folder: pathlib.Path) -> pathlib.Path:
     (tools / "bin" / "clang").write_text(f'#!/bin/sh\ncp module.bc "{code}"\nexec "{kit}/toolchain/bin/clang" "$@"\n')
     (tools / "bin" / "clang").chmod(0o755)
     words = aarch64.words(kit, libraries, folder / "unused.a", TARGET, tools)
+    kept = aarch64.CRATES / aarch64.CRATE / "out" / "incremental"
+    if kept.exists():
+        # what was proved there isn't proved once more; it stays as it is
+        shutil.copytree(kept, folder / "incremental")
+        words += ["--incremental", str(folder / "incremental")]
     ran = run(words, cwd=aarch64.CRATES / aarch64.CRATE)
     if ran.returncode or not code.exists():
         sys.exit(f"the library isn't proved, or wasn't compiled:\n{ran.stdout[-2000:]}{ran.stderr[-2000:]}")

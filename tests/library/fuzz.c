@@ -14,7 +14,7 @@
    - a frame doesn't read, isn't the one that its report tells, or the octets behind it or behind a message changed;
    - a report has a field that its kind hasn't, or isn't of this node;
    - counts and totals aren't the sums of the reports;
-   - something is due at a moment that was already told to the node;
+   - something is due at a moment that was already told to a node whose calls all came in time;
    - what is read isn't the next of what was sent, or with a run mark some of what comes later; a message isn't one that
      was sent, whole, once and in order; more is settled than was accepted;
    - at the end, when no more is lost, octets are neither settled nor uncertain, or a last message doesn't come;
@@ -30,7 +30,7 @@
         if (!(truth)) fault(__LINE__, #truth); \
     } while (0)
 
-enum { NODES = 3, PORTS = 2, FLOWS = NODES * NODES * PORTS, MOST_SENT = 1 << 15, MOST_FLIGHT = 200, MOST_OPS = 400, RECORD = 4, HEAD = 24, MOST_STEPS = 1500, BEHIND = 40 };
+enum { NODES = 3, PORTS = 2, FLOWS = NODES * NODES * PORTS, MOST_SENT = 1 << 15, MOST_FLIGHT = 200, MOST_OPS = 400, RECORD = 4, HEAD = 24, MOST_STEPS = 300, MOST_SEGMENTS = 100, BEHIND = 40 };
 static const uint64_t LAST = (uint64_t)1 << 62;
 
 static size_t at_record;
@@ -105,7 +105,7 @@ static uint8_t octet(struct input *in) { return in->left > 0 ? in->left--, *in->
 static const uint32_t LIVES[] = {1000, 500, 40, 5, 2, 3000, 86400000};
 static const uint32_t RESENDS[] = {3000, 450, 300, 20, 1, 8000, 86400000};
 static const uint32_t DELAYS[] = {200, 5, 1, 50, 2000};
-static const uint32_t TIMEOUTS[] = {100, 500, 20, 90, 1};
+static const uint32_t TIMEOUTS[] = {100, 500, 20, 90, 7};
 static const uint32_t PROBES[] = {800, 180, 20, 1};
 static const uint32_t SEGMENTS[] = {1000, 100, 7, 1, 1024, 1025, 1442, 8192, 2};
 static const uint32_t ROOMS[] = {4096, 100, 1, 5, 1000, 65536, 300};
@@ -161,9 +161,9 @@ enum { MOST_FOLLOWED = 8 };
 struct node {
     dt_node *handle[2];
     struct dt_params params;
-    bool is_open, is_again, is_spent, uses_inbox, has_inbox, is_guarded, has_one_port;
+    bool is_open, is_again, is_spent, was_late, uses_inbox, has_inbox, is_guarded, has_one_port;
     uint16_t open_port;
-    uint64_t greatest, until, too_long, kept_out;
+    uint64_t greatest, until, too_long, kept_out, wake;
     struct dt_counts counts;
     struct { struct dt_flow flow; struct sums sums; } followed[MOST_FOLLOWED];
     size_t followed_count;
@@ -297,6 +297,12 @@ static void take_frame(struct node *n, const struct dt_report *put) {
     size_t from = (size_t)(n - nodes);
     uint8_t *small = block(0);
     struct dt_out none = dt_next_frame(n->handle[0], small, 0);
+    if (n->is_spent && none.status == DT_NOTHING) {
+        /* there was memory for the report, and none for the frame */
+        WANT(dt_next_frame(n->handle[1], small, 0).status == DT_NOTHING);
+        free(small);
+        return;
+    }
     WANT(none.status == DT_ROOM && none.len >= 16 && none.len <= DT_MOST_FRAME);
     free(small);
     size_t len = none.len + BEHIND;
@@ -363,7 +369,9 @@ static bool is_same_counts(const struct dt_counts *one, const struct dt_counts *
 static void looks_on(struct node *n) {
     struct dt_moment one = dt_wake(n->handle[0]), other = dt_wake(n->handle[1]);
     WANT(one.some == other.some && one.at == other.at);
-    WANT(!one.some || (n->is_open && !n->is_spent && one.at > n->greatest));
+    /* where a call came so late that a segment isn't sent again any more, the node still tells when it was to be */
+    WANT(!one.some || (n->is_open && !n->is_spent && (n->was_late || one.at > n->greatest)));
+    n->wake = one.some ? one.at : UINT64_MAX;
     WANT(one.some || one.at == 0);
     struct dt_counts mine = dt_counts(n->handle[0]), twin = dt_counts(n->handle[1]);
     WANT(mine.status == (n->is_open ? DT_DONE : DT_CLOSED) && is_same_counts(&mine, &twin));
@@ -388,6 +396,12 @@ static uint64_t moment_of(const struct node *n) { return leaps ? leap : now + n-
 static uint64_t counted(const struct node *n, uint64_t moment) {
     moment = moment < LAST ? moment : LAST;
     return moment > n->greatest ? moment : n->greatest;
+}
+
+/* an event counts at a moment */
+static void hears_moment(struct node *n, uint64_t moment) {
+    n->greatest = counted(n, moment);
+    n->was_late = n->was_late || n->greatest > n->wake;
 }
 
 static void may_fail(unsigned *wanted) {
@@ -416,7 +430,7 @@ static struct told event(struct node *n, uint8_t status, uint64_t moment, bool f
     if (n->is_spent) WANT(status == DT_SPENT || status == DT_KEPT_OUT);
     else WANT(status != DT_SPENT);
     if (!n->is_open) WANT(status == DT_CLOSED);
-    if (!has_changed_nothing(status)) n->greatest = counted(n, moment);
+    if (!has_changed_nothing(status)) hears_moment(n, moment);
     if (status == DT_NO_MEMORY) n->is_spent = any_failed = true;
     struct told told = takes_all(n);
     looks_on(n);
@@ -477,8 +491,8 @@ static uint8_t arrives(struct node *n, uint16_t link, const uint8_t *octets, siz
     } else if (n->is_open && !n->is_spent) {
         uint8_t right = !has_link(n, link) ? DT_REFUSED : wrong ? DT_BAD : number_at(octets + 4) <= waited ? DT_STALE : DT_DONE;
         WANT(status == right || (right == DT_DONE && status == DT_NO_MEMORY));
-        n->counts.came++;
-        n->counts.refused += status == DT_REFUSED || status == DT_BAD || status == DT_STALE;
+        n->counts.came += right == DT_DONE;
+        n->counts.refused += right != DT_DONE;
     }
     WANT(status == DT_BAD ? one.fault == wrong && one.value == value : one.fault == 0 && one.value == 0);
     struct told told = event(n, status, moment, found);
@@ -511,6 +525,7 @@ static void sends(struct node *n, const struct dt_flow *flow, size_t len, bool b
     uint32_t me = (uint32_t)(n - nodes) + 1;
     size_t place = place_of(flow);
     struct known *f = place < FLOWS && flow->from == me ? &flows[place] : NULL;
+    if (len > (size_t)MOST_SEGMENTS * n->params.seg) len = (size_t)MOST_SEGMENTS * n->params.seg;
     if (f != NULL && f->sent_len + len > MOST_SENT) return;
     uint64_t moment = moment_of(n);
     uint8_t *octets = block(len);
@@ -653,7 +668,7 @@ static bool takes(struct node *n, size_t room) {
     any_failed = any_failed || status == DT_LOST;
     struct told told = takes_all(n);
     /* where no flow was read nothing was done */
-    if (!n->is_spent && told.read + told.not_read > 0) n->greatest = counted(n, moment);
+    if (!n->is_spent && told.read + told.not_read > 0) hears_moment(n, moment);
     n->counts.read = dt_counts(n->handle[0]).read;
     looks_on(n);
     return status == DT_DONE;
@@ -681,7 +696,8 @@ static void opens(struct node *n, bool again) {
     WANT(dt_open(n->handle[0], &n->params, &start, links[me], link_count[me], ROUTES[me], 2).status == DT_HELD);
     n->is_open = true;
     n->is_again = again;
-    n->is_spent = n->has_inbox = n->is_guarded = n->has_one_port = false;
+    n->is_spent = n->was_late = n->has_inbox = n->is_guarded = n->has_one_port = false;
+    n->wake = UINT64_MAX;
     n->kept_out = 0;
     n->greatest = again ? counted(n, start.now) : 0;
     n->until = again ? (start.now < LAST ? start.now : LAST) + dt_quiet(&n->params) : 0;
