@@ -147,9 +147,8 @@ impl Host {
     /// only on the first. They are written to the buffer's front, and its rest stays. None comes exactly
     /// where the flow has nothing unread, and then nothing changes.
     ///
-    /// A host that is silent lets read. A receiver without a record from which all is read goes, and the
-    /// receivers made after it move up by one place: that is the cost beside that of the octets. It
-    /// takes no memory.
+    /// A host that is silent lets read. A receiver without a record from which all is read goes. The
+    /// cost is that of the octets. It takes no memory.
     pub fn read<L: Ledger>(
         &mut self,
         flow: &Flow,
@@ -268,8 +267,7 @@ impl Host {
     /// It takes no memory. Of the records it looks at the senders that hold a segment whose resend was
     /// missed: it was to go out again before now, and may do so no more. Beside these it looks at the
     /// record that acts, 4 times at most. Its further cost grows with the number of records as its
-    /// logarithm does, but where a sender that is released or a receiver that is idle goes: the records
-    /// made after it move up by one place in their table.
+    /// logarithm does, also where a sender that is released or a receiver that is idle goes.
     pub fn next<L: Ledger>(
         &mut self,
         now: u64,
