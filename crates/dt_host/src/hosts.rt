@@ -61,9 +61,8 @@ impl Model for Host {
 }
 
 impl Host {
-    /// The host of a node that starts for the first time: no records, and it isn't silent. It takes the
-    /// room of its agendas, and what later calls take is taken of `alloc` too. `NoMemory` where there is
-    /// none.
+    /// The host of a node that starts for the first time: no records, and it isn't silent. It takes no
+    /// memory, and what later calls take is taken of `alloc`.
     pub fn first(alloc: Global, rules: &Rules, me: NodeId) -> Result<Host, NoMemory>
         ensures { IfOk result (λ host. host ≡ record { rules = rules.now; latest = 0; state = first_host me.0 }) }
     {
@@ -76,8 +75,8 @@ impl Host {
     }
 
     /// The host of a node that starts again at `now`: no records, and it is silent until `quiet` after
-    /// now, by when the packets and records of its former lives are gone. It takes the room of its
-    /// agendas; `NoMemory` where there is none.
+    /// now, by when the packets and records of its former lives are gone. It takes no memory, as that of
+    /// a first start.
     pub fn restarted(alloc: Global, rules: &Rules, me: NodeId, now: u64) -> Result<Host, NoMemory>
         requires moment { now ≤ most_moment }
         ensures { IfOk result (λ host. host ≡ record { rules = rules.now; latest = now; state = restarted_host rules.now me.0 now }) }
