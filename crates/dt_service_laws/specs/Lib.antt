@@ -4,3 +4,4 @@ pub mod Reading
 pub mod Services
 pub mod Histories
 pub mod Premises
+pub mod Worked
