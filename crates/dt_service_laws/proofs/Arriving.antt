@@ -84,6 +84,21 @@ map_twice : (ms : List Message) → map said (map spelled ms) ≡ map (λ (x : M
 map_twice [] = refl
 map_twice (m ∷ ms) = ap (λ (xs : List Message). said (spelled m) ∷ xs) (map_twice ms)
 
+-- what is read of messages that were sent is what they say, and what is said of replies is a reply
+read_said : (read taken : List (List ℕ)) (ms : List Message) → AreSomeOf read taken → taken ≡ map spelled ms → AreSomeOf (map said read) (map said (map spelled ms))
+read_said read taken ms some is = subst (λ (l : List (List ℕ)). AreSomeOf (map said read) (map said l)) is (mapped said some)
+
+given_back : (replies requests calls : List Message) (a : Message) → Contains (map said (map spelled replies)) a → AreFit calls → ((m : CallNumber) → count_of m replies ≤ count_of m requests) → ((m : CallNumber) → count_of m requests ≤ count_of m calls) → Contains replies a
+given_back replies requests calls a given fit few fewer =
+    let from = from_mapped (λ (x : Message). said (spelled x)) replies a (subst (λ (ms : List Message). Contains ms a) (map_twice replies) given) in
+    let once = counts_some replies from.0 from.1 in
+    let l = few from.0.number in
+    let m = fewer from.0.number in
+    let call = counted_some from.0.number calls (omega (arith, once, l, m)) in
+    let fits = fit_at calls call.0 fit call.1 in
+    let same : from.0 ≡ a = sym (said_again from.0 (subst (λ (k : CallNumber). k.life < 2 ^ 32) call.2 fits.0) (subst (λ (k : CallNumber). k.count < 2 ^ 32) call.2 fits.1)) ∙ from.2 in
+    subst (λ (x : Message). Contains replies x) same from.1
+
 pub spelled_some : (ms : List Message) → AreSome (map spelled ms)
 spelled_some [] = tt
 spelled_some (m ∷ ms) = (omega arith, spelled_some ms)
@@ -211,17 +226,8 @@ module _ (setup : Setup) (Good : Network → Type 0) (law : IsLawful setup Good)
               let sent = in_turns (λ n. sent_on (reversed f)) setup turns start in
               let replies = replies_on f setup turns start in
               let taken : messages_in t.0 ≡ map spelled replies = ap messages_in (r.takes t.0 t.1) ∙ read_back (map spelled sent) (spelled_some sent) ∙ ap (map spelled) c.2 in
-              let some : AreSomeOf (map said (messages_in (all_read (reversed f) r.steps))) (map said (map spelled replies)) = subst (λ (ms : List (List ℕ)). AreSomeOf (map said (messages_in (all_read (reversed f) r.steps))) (map said ms)) taken (mapped said (in_order (all_read (reversed f) r.steps) t.0 t.2)) in
-              let given = some_contains a some read in
-              let from = from_mapped (λ (x : Message). said (spelled x)) replies a (subst (λ (ms : List Message). Contains ms a) (map_twice replies) given) in
-              let once : 0 < count_of from.0.number replies = counts_some replies from.0 from.1 in
-              let few = replies_few f turns keeps from.0.number in
-              let fewer = requests_few f served turns agree keeps from.0.number in
-              let call = counted_some from.0.number (calls_on f setup turns start) (omega (arith, once, few, fewer)) in
-              let fits = fit_at (calls_on f setup turns start) call.0 c.1 call.1 in
-              let number : call.0.number ≡ from.0.number = call.2 in
-              let same : from.0 ≡ a = sym (said_again from.0 (subst (λ (k : CallNumber). k.life < 2 ^ 32) number fits.0) (subst (λ (k : CallNumber). k.count < 2 ^ 32) number fits.1)) ∙ from.2 in
-              subst (λ (x : Message). Contains replies x) same from.1
+              let some = read_said (messages_in (all_read (reversed f) r.steps)) (messages_in t.0) replies (in_order (all_read (reversed f) r.steps) t.0 t.2) taken in
+              given_back replies (requests_on f setup turns start) (calls_on f setup turns start) a (some_contains a some read) c.1 (replies_few f turns keeps) (requests_few f served turns agree keeps)
           | inr o ↦
               let e = ap (count_of a.number) (calls_few_at f turns keeps) in
               let two = two_flows setup f.from.0 a.number f o.flow o.other turns start in
