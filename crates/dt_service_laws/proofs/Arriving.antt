@@ -9,7 +9,7 @@ use Rattle.dt_world_model.proofs.Tables.{flow_is, nat_is}
 use Rattle.dt_world_model.specs.Host.{one_if}
 use Rattle.dt_world_model.specs.Setup.{Setup}
 use Rattle.dt_world_model.specs.Tables.{look, same_flow}
-use Rattle.dt_calls_laws.specs.Wholes.{AreSome}
+use Rattle.dt_calls_laws.specs.Wholes.{AreSome, items_of_all}
 use Rattle.dt_calls_model.specs.Messages.{reversed}
 use Rattle.dt_endpoint.specs.Endpoints.{EndpointValue}
 use Rattle.dt_network.specs.Duties.{KeepsDuties}
@@ -21,13 +21,13 @@ use Rattle.dt_service_model.specs.declared.names.CallNumber.{CallNumber}
 use Rattle.dt_service_model.specs.declared.ports.Kind.{Kind}
 use Rattle.dt_service_model.specs.declared.ports.Most.{Most}
 use Rattle.dt_service_model.specs.Names.{same_number}
-use Rattle.dt_service_laws.specs.Histories.{Message, answers_at, at_node, call_by, calls_on, count_of, in_turn, in_turns, lives_at, replies_on, reply_by, requests_on}
+use Rattle.dt_service_laws.specs.Histories.{Message, answers_at, at_node, call_by, calls_on, count_of, in_turn, in_turns, lives_at, replies_on, reply_by, requests_on, spelled}
 use Rattle.dt_service_laws.specs.Orders.{AreSomeOf, none, skips, takes}
 use Rattle.dt_service_laws.specs.Premises.{Differ, IsLife, IsServed, KeepsFrom, KeepsKind, KeepsKinds, KeepsTurn, KeepsTurns}
 use Rattle.dt_service_laws.specs.Services.{Deed, Does, Passes, Services, Turn, new_services, node_after, node_does, node_with, services_after}
+use Rattle.dt_service_laws.specs.Tie.{TakesCallsAlone}
 use Rattle.dt_service_laws.specs.Wholes.{messages_in}
 use Rattle.dt_service_laws.proofs.Answering.{contains_first, contains_more, contains_parts, number_is, number_self, some_contains}
-use Rattle.dt_service_laws.proofs.Asked.{spelled}
 use Rattle.dt_service_laws.proofs.Numbering.{all_made, numbers_once, two_flows}
 use Rattle.dt_service_laws.proofs.Elsewhere.{IsLawful}
 use Rattle.dt_service_laws.proofs.Moves.{Tracks}
@@ -182,6 +182,13 @@ module _ (setup : Setup) (Good : Network → Type 0) (law : IsLawful setup Good)
     requests_come f served turns agree keeps =
         let c = calls_alone f served turns None (λ g m. 0) start new unspent (λ k. new_sound kinds k (most k) (life k) (lives k)) (inl refl) no_waits agree keeps in
         subst (λ (ms : List Message). AreSomeOf (requests_on f setup turns start) ms) (ap (λ (ms : List Message). map said (map spelled ms)) c.0 ∙ fit_said (calls_on f setup turns start) c.1) (sent_come f turns keeps)
+
+    -- a caller's flow takes its calls alone
+    pub calls_taken : (f : Flow) → IsServed kinds f → (turns : List Turn) → KeepsKinds kinds turns → KeepsTurns setup turns start → TakesCallsAlone setup f turns start
+    calls_taken f served turns agree keeps =
+        let r = ran setup Good law f turns None (λ g m. 0) start new unspent (inl refl) no_waits keeps in
+        let c = calls_alone f served turns None (λ g m. 0) start new unspent (λ k. new_sound kinds k (most k) (life k) (lives k)) (inl refl) no_waits agree keeps in
+        record { steps = r.steps; are = r.are; keep = r.keep; taken = λ taken t. r.takes taken t ∙ ap (λ (ms : List Message). items_of_all (map spelled ms)) c.0 }
 
     -- how often a name stands among calls, requests and replies
     pub requests_few : (f : Flow) → IsServed kinds f → (turns : List Turn) → KeepsKinds kinds turns → KeepsTurns setup turns start → (m : CallNumber) → count_of m (requests_on f setup turns start) ≤ count_of m (calls_on f setup turns start)
