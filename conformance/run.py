@@ -18,6 +18,9 @@ from typing import Iterator
 
 HERE = pathlib.Path(__file__).resolve().parent
 KINDS = ("frames", "schedule", "rounds", "trace", "calls", "audit")
+# what a device may leave out: packets of other nodes, packets that are kept since they came too early, and lines that
+# are refused
+NEEDS = ("relay", "shelf", "refusals")
 SETUP = """params 1000 3000 200 500 800 100 4096 4096 512 2147483648
 station 1 0
 station 2 0
@@ -88,10 +91,35 @@ class Case:
             return rounds(int(self.name)) if self.word == "make" else None
         return (HERE / f"{self.name}.out").read_bytes()
 
+    def room(self) -> int:
+        """The octets that the greater of both records of a flow may hold; 0 where no parameters say so."""
+        found = re.search(rb"(?m)^params(?: [0-9]+){6} ([0-9]{1,10}) ([0-9]{1,10}) ", self.given() + b" ")
+        return max(int(found[1]), int(found[2])) if found and self.kind != "audit" else 0
+
+    def needs(self) -> set[str]:
+        """What it asks of an implementation beside the two ends of a flow: of NEEDS those that hold."""
+        found = {"refusals"} if self.kind in ("schedule", "trace", "calls") and self.status == 3 else set()
+        if self.kind in ("schedule", "trace", "calls"):
+            lines = (self.right() or b"").splitlines()
+            found |= {"shelf"} if re.search(rb"(?m)^shelf ", self.given()) else set()
+            found |= {"relay"} if relays([it.decode("latin-1").split(" ") for it in lines]) else set()
+        return found
+
     def sum(self) -> str:
         """The sum of a log of rounds."""
         sums = (line.split() for line in (HERE / "rounds.sha256").read_text().splitlines())
         return next(it[0] for it in sums if it[1] == f"{self.name}.out")
+
+
+def relays(lines: list[list[str]]) -> bool:
+    """Whether a node passes on what others made: it sends off more packets than it makes itself."""
+    left: dict[str, int] = {}
+    for words in lines:
+        if len(words) > 2 and words[0].isdigit() and words[1].isdigit():
+            made = words[2] in ("sent", "resent", "met", "acked", "replied")
+            gone = words[2] in ("put", "noroute", "full") or words[2:4] == ["expired", "out"]
+            left[words[1]] = left.get(words[1], 0) + made - gone
+    return any(it < 0 for it in left.values())
 
 
 def cases() -> list[Case]:
@@ -156,7 +184,8 @@ def copy(chosen: list[Case], folder: pathlib.Path) -> None:
         index.append(f"{case.kind} {name} {case.word} {case.status}\n")
     (folder / "INDEX").write_text("".join(index))
     (folder / "rounds.sha256").write_text((HERE / "rounds.sha256").read_text().replace("  ", "  rounds/"))
-    shutil.copy(HERE / "README.md", folder)
+    for it in ("README.md", "frames.c", "frames.py"):
+        shutil.copy(HERE / it, folder)
 
 
 def asked(command: list[str], chosen: list[Case], seconds: float) -> Iterator[tuple[Case, str]]:
@@ -173,12 +202,15 @@ def main() -> int:
         "For this project's program it is conformance/deltat PATH."))
     reads.add_argument("--kind", action="append", choices=KINDS, help="ask the cases of this kind alone; may be given again")
     reads.add_argument("--name", default="*", metavar="PATTERN", help="ask the cases with such a name alone, as 18-*")
+    reads.add_argument("--without", action="append", choices=NEEDS, default=[], help="leave out the cases that need this; may be given again")
+    reads.add_argument("--room", type=int, default=1 << 32, metavar="N", help="leave out the cases whose records hold more than N octets")
     reads.add_argument("--seconds", type=float, default=60, metavar="S", help="stop a run after so long (%(default)s)")
     reads.add_argument("--list", action="store_true", help="print the cases and ask none")
     reads.add_argument("--copy", type=pathlib.Path, metavar="FOLDER", help="write the cases into a folder as plain files and ask none")
     reads.add_argument("command", nargs=argparse.REMAINDER, metavar="COMMAND", help="the implementation, and its words")
     given = reads.parse_args()
     chosen = [it for it in cases() if it.kind in (given.kind or KINDS) and fnmatch.fnmatch(it.name.rsplit("/", 1)[-1], given.name)]
+    chosen = [it for it in chosen if it.room() <= given.room and not it.needs() & set(given.without)]
     if given.list:
         print("".join(f"{it.kind} {it.name} {it.word} {it.status}\n" for it in chosen), end="")
         return 0

@@ -35,8 +35,8 @@ def order(libraries: dict[str, list[str]], name: str, found: list[str]) -> list[
     return found
 
 
-def words(kit: pathlib.Path, libraries: dict[str, list[str]], out: pathlib.Path) -> list[str]:
-    """What rattle is called with, as `rt lib` calls it, but for the target."""
+def words(kit: pathlib.Path, libraries: dict[str, list[str]], out: pathlib.Path, target: str, toolchain: pathlib.Path) -> list[str]:
+    """What rattle is called with, as `rt lib` calls it, but for the target and the tools that compile what is proved."""
     said = [str(kit / "bin" / "rattle"), "build", "--crate-name", CRATE, "src/lib.rt", "--extern", f"std={kit}/rlibs/std.rlib", "-L", f"dependency={kit}/rlibs"]
     rlib = {it: CRATES / it / "out" / "rlib" for it in order(libraries, CRATE, [])}
     for it in libraries[CRATE]:
@@ -44,7 +44,7 @@ def words(kit: pathlib.Path, libraries: dict[str, list[str]], out: pathlib.Path)
     for it in rlib.values():
         said += ["-L", f"dependency={it}"]
     said += ["--antt-project", f"{kit}/rattle/logic/antt-project.json", "--logic-built", f"{kit}/logic_built", "--links", f"{CRATE}=", "--jobs", "1"]
-    return [*said, "--toolchain", f"{kit}/toolchain", "--crate-type", "staticlib", "--target", TARGET, "-o", str(out)]
+    return [*said, "--toolchain", str(toolchain), "--crate-type", "staticlib", "--target", target, "-o", str(out)]
 
 
 def main() -> int:
@@ -59,7 +59,7 @@ def main() -> int:
         subprocess.run([rt, "lib"], cwd=CRATES / CRATE, check=True)
     with tempfile.TemporaryDirectory() as folder:
         archive, heap = pathlib.Path(folder, "libdt_c.a"), pathlib.Path(folder, "heap.o")
-        done = subprocess.run(words(kit, libraries, archive), cwd=CRATES / CRATE, capture_output=True, text=True)
+        done = subprocess.run(words(kit, libraries, archive, TARGET, kit / "toolchain"), cwd=CRATES / CRATE, capture_output=True, text=True)
         told = done.stdout + done.stderr
         if done.returncode:
             print(told)

@@ -31,6 +31,7 @@ TOOL = ROOT / "tools" / "capture.py"
 LUA = ROOT / "tools" / "wireshark" / "deltat.lua"
 sys.path.insert(0, str(ROOT / "tools"))
 import capture  # noqa: E402
+from lib import is_up  # noqa: E402
 import wire  # noqa: E402
 
 HOST = "127.0.0.1"
@@ -133,12 +134,8 @@ class Node:
 
 def wait_for(port: int) -> None:
     """Waits until a port is bound, ten seconds at most."""
-    for _ in range(500):
-        with socket.socket(socket.AF_INET, socket.SOCK_DGRAM) as it:
-            try:
-                it.bind((HOST, port))
-            except OSError:
-                return
+    until = time.monotonic() + 10
+    while not is_up(port) and time.monotonic() < until:
         time.sleep(0.02)
 
 
@@ -239,9 +236,11 @@ def two(program: str, folder: str) -> bool:
     nodes = []
     for i in (0, 1):
         way = f"{i + 1}:10>{2 - i}:20"
-        sends = [f"at {500 + 150 * j} send {way} be {random.Random(j + 9 * i).randbytes(2000).hex()}" for j in range(5)]
-        lines = [f"route {2 - i} 1", "go", *sends, f"at 1400 read {2 - i}:10>{i + 1}:20 65536", "at 2500 stop"]
+        # the first sends when the second is up too, and stops when nothing of the second is left, on a busy machine too
+        sends = [f"at {2000 + 150 * j} send {way} be {random.Random(j + 9 * i).randbytes(2000).hex()}" for j in range(5)]
+        lines = [f"route {2 - i} 1", "go", *sends, f"at 2900 read {2 - i}:10>{i + 1}:20 65536", "at 7000 stop"]
         nodes.append(Node(program, folder, f"two-{i + 1}", script(PARAMS, i + 1, ports[i], {1: (ports[1 - i], 0)}, lines)))
+        wait_for(ports[i])
     told = [node.captured() for node in nodes]
     theirs = seen.packets()
     good = agree("two, node 1", told[0], theirs, False)

@@ -6,7 +6,9 @@
 - spoilt: a program that changes one octet of each answer, and one whose statuses are others, differ in each
   case, and the runner ends with 1.
 - differences: what the runner says of an answer that differs.
-- reader: a reader of frames that isn't the program's holds, and reads some 12,900 frames as the program does.
+- reader: a reader of frames that isn't the program's holds, and reads some 12,900 frames as the program does; so does
+  the one in C, with the sanitizers, where there is a compiler, and its parser compiles alone.
+- chosen: what a device may leave out is left out, and nothing else.
 - index: each file of the folders is in the index once, and so is each worked row.
 - lines: each report, fault and flaw of docs/formats.md stands in an answer.
 - copied: the folder that the runner writes has the same inputs and answers.
@@ -16,6 +18,7 @@ import collections
 import os
 import pathlib
 import re
+import shutil
 import subprocess
 import sys
 import tempfile
@@ -83,19 +86,59 @@ def differences(path: str) -> bool:
     return not wrong
 
 
+def in_c(folder: str) -> str | None:
+    """The reader in C, compiled with the sanitizers; none where there is no compiler. Raises where it doesn't compile."""
+    compiler = next((it for it in ("gcc", "clang") if shutil.which(it)), None)
+    if compiler is None:
+        return None
+    words = [compiler, "-std=c99", "-Wall", "-Wextra", "-Werror", str(FOLDER / "frames.c")]
+    subprocess.run([*words, "-DDEVICE", "-ffreestanding", "-c", "-o", f"{folder}/device.o"], check=True)
+    subprocess.run([*words, "-fsanitize=address,undefined", "-fno-sanitize-recover=all", "-o", f"{folder}/frames"], check=True)
+    return f"{folder}/frames"
+
+
 def reader(path: str) -> bool:
-    status, _ = runner("--kind", "frames", str(FOLDER / "frames.py"))
-    good, count = status == 0, 0
+    with tempfile.TemporaryDirectory() as folder:
+        other = in_c(folder)
+        return reads_alike(path, other)
+
+
+def reads_alike(path: str, other: str | None) -> bool:
+    """Whether the readers of frames, of which the other may be missing, read them as the program does."""
+    readers = [str(FOLDER / "frames.py"), *([other] if other else [])]
+    good, count = all(runner("--kind", "frames", it)[0] == 0 for it in readers), 0
     for name in ("changes", "kinds", "lengths", "parts"):
         # no script may read what a node hears from itself
         asked = [it for it in getattr(dissector, name)() if it[8:12] != it[12:16] or len(it) < 16]
-        for frame, line in zip(asked, asking.lines_of(path, asked)):
+        right = asking.lines_of(path, asked)
+        if other:
+            ran = subprocess.run([other, "frames"], input="".join(f"{it.hex()}\n" for it in asked), capture_output=True, text=True, check=False)
+            differ = [it for it, *lines in zip(asked, right, ran.stdout.splitlines()) if lines[0] != lines[1]]
+            if ran.returncode or len(ran.stdout.splitlines()) != len(right) or differ:
+                print(f"the reader in C ends with {ran.returncode}, and reads {len(differ)} frames otherwise: {ran.stderr[:300]}")
+                good = False
+        for frame, line in zip(asked, right):
             count += 1
             if line != frames.read(frame):
                 print(f"{frame.hex()[:60]}: the program says {line[:60]}, the reader {frames.read(frame)[:60]}")
                 good = False
     print(f"{count} frames read twice")
     return good and count > 10_000
+
+
+def chosen(path: str) -> bool:
+    """What is left out: by name where the name says it, and each of them where all three are."""
+    del path
+    by_need = {need: {it.name.rsplit("/", 1)[-1] for it in run.cases() if need in it.needs()} for need in run.NEEDS}
+    relays = {"10-relay-expired", "10-relay-last-millisecond", "through-a-relay", "relay-expires-and-restarts", "mixed-2", "relayed", "relay-is-full"}
+    named = {it.name.rsplit("/", 1)[-1] for it in run.cases() if "refused-" in it.name and it.kind in ("schedule", "trace", "calls")}
+    status, lines = runner("--list", "--without", "relay", "--without", "shelf", "--without", "refusals")
+    left = {line.split()[1].rsplit("/", 1)[-1] for line in lines}
+    small = [line.split()[1] for line in runner("--list", "--kind", "schedule", "--room", "512")[1]]
+    sizes = {it.name: it.room() for it in run.cases()}
+    print(", ".join(f"{need}: {len(names)}" for need, names in by_need.items()))
+    return (status == 0 and by_need["relay"] == relays and all("shelf" in it for it in by_need["shelf"]) and named <= by_need["refusals"]
+            and not left & set().union(*by_need.values()) and bool(small) and all(sizes[it] <= 512 for it in small) and max(sizes.values()) > 512)
 
 
 def index(path: str) -> bool:
@@ -159,7 +202,7 @@ def copied(path: str) -> bool:
 
 def main() -> int:
     path = program()
-    tests = [vectors, spoilt, differences, reader, index, lines, copied]
+    tests = [vectors, spoilt, differences, reader, chosen, index, lines, copied]
     failed = [it.__name__ for it in tests if not it(path)]
     for name in failed:
         print(f"{name} failed")

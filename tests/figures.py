@@ -1,7 +1,7 @@
 #!/usr/bin/env python3
 """bench/all writes its page section by section: what isn't measured stays octet for octet, a section of the gate
-comes from a log, and a command that fails leaves the old figure. `tests/figures.py`. Ends with 1 where one of this
-isn't so.
+comes from a log, and so does one that took hours; a command that fails leaves the old figure. `tests/figures.py`.
+Ends with 1 where one of this isn't so.
 
 In tests/all: no words, 60 s."""
 import pathlib
@@ -52,12 +52,17 @@ def main() -> int:
         after = sections(page)
         second = bench(page, "--gate-two-log", str(log))
         last = sections(page)
-        strange = bench(page, "--only", "nothing")
+        soak = pathlib.Path(folder, "soak")
+        soak.write_text("12 rounds, 0 faults; seed 1\n")
+        third = bench(page, "--log", f"soak={soak}")
+        logged = sections(page)
+        strange = [bench(page, "--only", "nothing"), bench(page, "--log", f"nothing={soak}")]
     cases = {
         "the gate's log": first == 0 and f"```\n{TOLD}```" in told["gate"] and "Not measured yet." in told["nodes"],
         "a command that fails": failed == 1 and "1 call" in after["calls"] and "Not measured yet." in after["large"] and after["gate"] == told["gate"],
         "another log": second == 0 and TOLD in last["gate_two"] and {**last, "gate_two": ""} == {**after, "gate_two": ""},
-        "a section that isn't there": strange == 2,
+        "the log of another section": third == 0 and "```\n12 rounds, 0 faults; seed 1\n```" in logged["soak"] and {**logged, "soak": ""} == {**last, "soak": ""},
+        "a section that isn't there": strange == [2, 2],
     }
     for name in (it for it, holds in cases.items() if not holds):
         print(f"{name}: otherwise")

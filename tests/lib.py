@@ -59,6 +59,11 @@ def free_port() -> int:
         return it.getsockname()[1]
 
 
+def is_up(port: int) -> bool:
+    """Whether some process has bound a socket for datagrams to that port. Nothing is bound to find out."""
+    return any(it.split()[1].endswith(f":{port:04X}") for it in pathlib.Path("/proc/net/udp").read_text().splitlines()[1:])
+
+
 def node_script(setup: Sequence[str], ends: tuple[int, int], ports: tuple[int, int], commands: Sequence[str]) -> str:
     """The script of a node with one peer: parameters and further lines of the setup, this node's number and the
     other's, this node's port and the other's, and what it does."""

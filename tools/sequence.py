@@ -4,8 +4,8 @@
 A schedule goes with the log of its replay; where the log is left out, the program writes it. Without a
 schedule the logs are those of one node or more, each a file. The page is HTML and SVG, and fetches
 nothing. Stations are lines, and time runs down them; stretches in which nothing happens are folded. An
-arrow is a copy of a packet, a cross a loss, a dashed arrow a copy that came once more, a red bar a
-restart, a ring a record that was released. Hovering tells the line.
+arrow is a copy of a packet, a cross a loss, a dashed arrow a copy that came once more, two dots a copy of
+which nothing more is told, a red bar a restart, a ring a record that was released. Hovering tells the line.
 
 tools/sequence.html is the same page without a run: files are dropped into it. Both draw by its script.
 With --svg the picture alone is written; a Chromium draws it then."""

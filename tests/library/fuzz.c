@@ -1,0 +1,1291 @@
+/* Any octets, as a list of calls of libdeltat: three nodes in a row, 1 - 2 - 3, of which the middle one relays, and a
+   network that holds what they hand out. `LLVMFuzzerTestOneInput` is what libFuzzer and others look for; tests/library_fuzz.py
+   builds and runs it. With -DALONE it has a main of its own: `fuzz FILE..` tries files, `fuzz --count N --seed N` N inputs
+   by chance, and each that is about to be tried is written to the file that --keep names.
+
+   The first octet of an input says whether its network keeps the duties of deltat.h: no octet is changed, nothing is
+   under way for longer than a link's charge, clocks go alike, a node starts `again`. Then what is read must be what was
+   sent. In the other inputs datagrams are made up and changed, clocks leap, and nodes begin as if for the first time.
+   Of both kinds an input is a fault where
+
+   - a call answers with a status that deltat.h doesn't give it, or with another one than its arguments ask for;
+   - a call that changed nothing by its status changed something: each node is there twice, the second one isn't asked
+     what the first refused, and both have to go on alike;
+   - a frame doesn't read, isn't the one that its report tells, or the octets behind it or behind a message changed;
+   - a report has a field that its kind hasn't, or isn't of this node;
+   - counts and totals aren't the sums of the reports;
+   - something is due at a moment that was already told to a node whose calls all came in time;
+   - what is read isn't the next of what was sent, or with a run mark some of what comes later; a message isn't one that
+     was sent, whole, once and in order; more is settled than was accepted;
+   - at the end, when no more is lost, octets are neither settled nor uncertain, or a last message doesn't come;
+   - memory isn't given back. */
+#include "deltat.h"
+#include <inttypes.h>
+#include <stdio.h>
+#include <stdlib.h>
+#include <string.h>
+
+#define WANT(truth) \
+    do { \
+        if (!(truth)) fault(__LINE__, #truth); \
+    } while (0)
+
+enum { NODES = 3, PORTS = 2, FLOWS = NODES * NODES * PORTS, MOST_SENT = 1 << 15, MOST_FLIGHT = 200, MOST_OPS = 400, RECORD = 4, HEAD = 24, MOST_STEPS = 300, MOST_SEGMENTS = 100, BEHIND = 40 };
+static const uint64_t LAST = (uint64_t)1 << 62;
+
+static size_t at_record;
+
+static void fault(int line, const char *what) {
+    fprintf(stderr, "fuzz.c:%d: at record %zu: %s\n", line, at_record, what);
+    abort();
+}
+
+/* --- what the fuzzer is told of an input, beside the code that it reached: pairs of what happened one after another */
+
+#ifndef ALONE
+__attribute__((section("__libfuzzer_extra_counters")))
+#endif
+static uint8_t happened[1 << 13];
+static uint32_t last_happened;
+
+static void happens(uint32_t what) {
+    uint32_t it = (last_happened * 31 + what) * 2654435761u >> 19;
+    if (happened[it] < 255) happened[it]++;
+    last_happened = what;
+}
+
+/* --- memory, which one call of two may lack */
+
+struct tried { bool ok; uint8_t *p; };
+struct tried rattle_alloc(size_t size, size_t align);
+struct tried rattle_realloc(uint8_t *p, size_t kept, size_t size, size_t align);
+void rattle_dealloc(uint8_t *p);
+
+static long held;
+static unsigned requests, fail_at;
+
+static struct tried tried(void *p) {
+    struct tried t = {p != NULL, (uint8_t *)p};
+    return t;
+}
+
+struct tried rattle_alloc(size_t size, size_t align) {
+    WANT(align <= 16);
+    if (++requests == fail_at) return tried(NULL);
+    held++;
+    return tried(malloc(size > 0 ? size : 1));
+}
+
+struct tried rattle_realloc(uint8_t *p, size_t kept, size_t size, size_t align) {
+    WANT(align <= 16 && kept <= size);
+    if (++requests == fail_at) return tried(NULL);
+    return tried(realloc(p, size > 0 ? size : 1));
+}
+
+void rattle_dealloc(uint8_t *p) {
+    held--;
+    free(p);
+}
+
+/* memory of exactly this size: whoever reads or writes beyond is seen */
+static uint8_t *block(size_t size) {
+    uint8_t *it = (uint8_t *)malloc(size > 0 ? size : 1);
+    if (it == NULL) abort();
+    return it;
+}
+
+/* --- what the input decides */
+
+struct input { const uint8_t *at; size_t left; };
+
+static uint8_t octet(struct input *in) { return in->left > 0 ? in->left--, *in->at++ : 0; }
+
+#define CHOICE(table, octet) ((table)[(octet) % (sizeof(table) / sizeof *(table))])
+
+static const uint32_t LIVES[] = {1000, 500, 40, 5, 2, 3000, 86400000};
+static const uint32_t RESENDS[] = {3000, 450, 300, 20, 1, 8000, 86400000};
+static const uint32_t DELAYS[] = {200, 5, 1, 50, 2000};
+static const uint32_t TIMEOUTS[] = {100, 500, 20, 90, 7};
+static const uint32_t PROBES[] = {800, 180, 20, 1};
+static const uint32_t SEGMENTS[] = {1000, 100, 7, 1, 1024, 1025, 1442, 8192, 2};
+static const uint32_t ROOMS[] = {4096, 100, 1, 5, 1000, 65536, 300};
+static const uint32_t RUNS[] = {2147483648u, 1, 5, 8, 100, 1000};
+static const uint32_t STARTS[] = {0, 1, 4294967293u, 2147483646u, 12345};
+static const uint32_t CHARGES[] = {50, 0, 1, 5, 90, 300};
+static const uint32_t PACES[] = {0, 0, 0, 1, 5, 100};
+static const uint64_t CLOCKS[] = {0, 7, 86400000, (uint64_t)1 << 40};
+static const size_t LENGTHS[] = {1, 2, 3, 5, 7, 8, 50, 99, 100, 101, 300, 1000, 1024, 1025, 1442, 2500, 4096, 8192, 8193, 20000};
+
+/* --- the flows, and what is known of each */
+
+struct mark { uint8_t octet; bool begin, end; unsigned life; };
+struct span { size_t begin, end; };
+struct sums { uint64_t taken, settled, uncertain, accepted, read; };
+
+struct known {
+    struct dt_flow flow;
+    struct mark *sent;
+    size_t sent_len;
+    /* the places at which the next piece may stand, and those of whole messages that may have been the last */
+    uint8_t *next, *next_span;
+    struct span *spans;
+    size_t span_count, floor, floor_span;
+    unsigned sender_life;
+    struct sums all, of_sender, of_receiver;
+};
+
+static struct known flows[FLOWS];
+static uint8_t places[MOST_SENT + 1];
+
+static size_t place_of(const struct dt_flow *f) {
+    if (f->from < 1 || f->from > NODES || f->to < 1 || f->to > NODES || f->from_port >= PORTS || f->to_port != f->from_port + 20) return FLOWS;
+    return ((f->from - 1) * NODES + f->to - 1) * PORTS + f->from_port;
+}
+
+static bool is_flow(const struct dt_flow *one, const struct dt_flow *other) {
+    return one->from == other->from && one->to == other->to && one->from_port == other->from_port && one->to_port == other->to_port;
+}
+
+static bool is_no_flow(const struct dt_flow *f) { return (f->from | f->to | f->from_port | f->to_port) == 0; }
+
+static uint8_t octet_of(size_t flow, size_t place) {
+    uint64_t it = (flow * 1000003 + place + 1) * 0x9E3779B97F4A7C15u;
+    it ^= it >> 29;
+    return (uint8_t)(it * 0xBF58476D1CE4E5B9u >> 40);
+}
+
+/* --- the nodes */
+
+enum { MOST_FOLLOWED = 8 };
+
+struct node {
+    dt_node *handle[2];
+    struct dt_params params;
+    bool is_open, is_again, is_spent, was_late, uses_inbox, has_inbox, is_guarded, has_one_port;
+    uint16_t open_port;
+    uint64_t greatest, until, too_long, kept_out, wake;
+    struct dt_counts counts;
+    struct { struct dt_flow flow; struct sums sums; } followed[MOST_FOLLOWED];
+    size_t followed_count;
+    uint64_t offset;
+};
+
+static struct node nodes[NODES];
+static struct dt_link links[NODES][2];
+static size_t link_count[NODES];
+static uint64_t now, leap;
+static bool keeps_duties, leaps, any_failed;
+
+/* what the last call told */
+struct told { unsigned took, full, quiet, read, not_read, puts; uint64_t count, moment; bool begin, end, run; };
+
+struct flight { size_t to; uint16_t link; uint64_t since; size_t len; uint8_t *octets; };
+static struct flight flight[MOST_FLIGHT];
+static size_t flight_len;
+
+static void lose(size_t at) {
+    free(flight[at].octets);
+    memmove(flight + at, flight + at + 1, (--flight_len - at) * sizeof *flight);
+}
+
+static uint32_t number_at(const uint8_t *at) { return (uint32_t)at[0] << 24 | (uint32_t)at[1] << 16 | (uint32_t)at[2] << 8 | at[3]; }
+
+/* the first test of a header that fails, or 0 */
+static uint8_t header_fault(const uint8_t *frame, size_t len, uint32_t *value) {
+    if (len < 16) return *value = (uint32_t)len, DT_SHORT;
+    if (frame[0] != 1 && frame[0] != 2) return *value = frame[0], DT_VERSION;
+    size_t tells = (size_t)(frame[2] << 8 | frame[3]);
+    if (tells != len - 16 || len - 16 > (frame[0] == 1 ? 1038u : 8206u)) return *value = (uint32_t)tells, DT_LENGTH;
+    *value = 0;
+    return number_at(frame + 4) == 0 ? DT_DEAD : 0;
+}
+
+static bool has_packet(const uint8_t *frame, size_t len) {
+    if (len < 30 || frame[1] != 1) return false;
+    uint8_t version = frame[0], kind = frame[16], flags = frame[17];
+    uint32_t window = number_at(frame + 26);
+    size_t size = len - 30;
+    if (kind == 1) return flags <= 7 && window == 0 && (version == 1 ? size >= 1 && size <= 1024 : size >= 1025 && size <= 8192);
+    if (kind == 2) return version == 1 && flags == 0 && window <= 65536 && size == 0;
+    return flags == 0 && window == 0 && size == 0 && ((kind == 3 && version == 1) || (kind == 4 && version == 2));
+}
+
+static bool is_same(const void *one, const void *other, size_t len) { return len == 0 || memcmp(one, other, len) == 0; }
+
+/* --- reports */
+
+enum { F = 1, M = 2, N = 4, C = 8, W = 16, MARKS = 32, RUN = 64, SIDE = 128, MINE = 256, TO_ME = 512 };
+static const unsigned FIELDS[] = {
+    [DT_TOOK] = F | C | MINE, [DT_TOLD_QUIET] = F | M | MINE, [DT_TOLD_FULL] = F | C | MINE, [DT_SENT] = F | N | C | MARKS | RUN | MINE,
+    [DT_RESENT] = F | N | C | MARKS | RUN | MINE, [DT_MET] = F | N | MINE, [DT_UNCERTAIN] = F | C | MINE, [DT_RELEASED] = F | SIDE, [DT_RENEWED] = F | MINE,
+    [DT_ACKED] = F | N | W | TO_ME, [DT_REPLIED] = F | N | W | TO_ME, [DT_ACCEPTED] = F | N | C | RUN | TO_ME, [DT_DROPPED] = F | N, [DT_CLOSING] = F | N | TO_ME,
+    [DT_SETTLED] = F | C | W | MINE, [DT_IGNORED] = F | N | W | MINE, [DT_MET_QUIET] = M, [DT_WAS_READ] = F | MARKS | RUN | TO_ME, [DT_NOT_READ] = F | TO_ME,
+    [DT_PUT] = N | C, [DT_EXPIRED_IN] = N, [DT_EXPIRED_OUT] = N, [DT_NO_ROUTE] = N, [DT_LINK_FULL] = N, [DT_UNREADABLE] = N | C,
+};
+
+static void look_at_report(const struct node *n, const struct dt_report *it) {
+    uint32_t me = (uint32_t)(n - nodes) + 1;
+    WANT(it->kind >= DT_TOOK && it->kind <= DT_UNREADABLE);
+    unsigned has = FIELDS[it->kind];
+    WANT((has & F) ? !is_no_flow(&it->flow) && it->flow.from != it->flow.to : is_no_flow(&it->flow));
+    WANT((has & M) || it->moment == 0);
+    WANT((has & N) || it->number == 0);
+    WANT((has & C) || it->count == 0);
+    WANT((has & W) || it->window == 0);
+    WANT((has & MARKS) || (!it->begin && !it->end));
+    WANT((has & RUN) || !it->run);
+    WANT((has & SIDE) || !it->sending);
+    WANT(!(has & MINE) || it->flow.from == me);
+    WANT(!(has & TO_ME) || it->flow.to == me);
+    if (it->kind == DT_SENT || it->kind == DT_RESENT) WANT(it->count >= 1 && it->count <= n->params.seg);
+    if (it->kind == DT_RELEASED) WANT((it->sending ? it->flow.from : it->flow.to) == me);
+    if (it->kind == DT_ACCEPTED) WANT(it->count >= 1 && it->count <= n->params.rcap && (!n->has_one_port || it->flow.to_port == n->open_port));
+    if (it->kind == DT_SETTLED || it->kind == DT_IGNORED) WANT(it->window <= 65536);
+    if (it->kind == DT_ACKED || it->kind == DT_REPLIED) WANT(it->window <= n->params.rcap);
+    if (it->kind == DT_UNREADABLE) WANT(it->number >= DT_SHORT && it->number <= DT_SIZE);
+    if (it->kind == DT_TOOK || it->kind == DT_UNCERTAIN) WANT(it->count >= 1);
+    if (it->kind == DT_TOOK || it->kind == DT_SETTLED || it->kind == DT_UNCERTAIN) WANT(it->count <= n->params.cap);
+}
+
+static void add(struct sums *it, const struct dt_report *told) {
+    it->taken += told->kind == DT_TOOK ? told->count : 0;
+    it->settled += told->kind == DT_SETTLED ? told->count : 0;
+    it->uncertain += told->kind == DT_UNCERTAIN ? told->count : 0;
+    it->accepted += told->kind == DT_ACCEPTED ? told->count : 0;
+}
+
+static void count(struct node *n, const struct dt_report *it) {
+    struct sums sums = {0, 0, 0, 0, 0};
+    add(&sums, it);
+    n->counts.taken += sums.taken;
+    n->counts.settled += sums.settled;
+    n->counts.uncertain += sums.uncertain;
+    n->counts.accepted += sums.accepted;
+    n->counts.left += it->kind == DT_PUT;
+    for (size_t i = 0; i < n->followed_count; i++)
+        if ((FIELDS[it->kind] & F) && is_flow(&n->followed[i].flow, &it->flow)) add(&n->followed[i].sums, it);
+    size_t place = (FIELDS[it->kind] & F) ? place_of(&it->flow) : FLOWS;
+    if (place == FLOWS) return;
+    add(&flows[place].all, it);
+    add(it->kind == DT_ACCEPTED ? &flows[place].of_receiver : &flows[place].of_sender, it);
+}
+
+/* --- what waits at a node after a call */
+
+static void note(struct told *told, const struct dt_report *it) {
+    told->took += it->kind == DT_TOOK;
+    told->full += it->kind == DT_TOLD_FULL;
+    told->quiet += it->kind == DT_TOLD_QUIET;
+    told->read += it->kind == DT_WAS_READ;
+    told->not_read += it->kind == DT_NOT_READ;
+    told->puts += it->kind == DT_PUT;
+    if (it->kind == DT_TOOK || it->kind == DT_TOLD_FULL) told->count = it->count;
+    if (it->kind == DT_TOLD_QUIET) told->moment = it->moment;
+    if (it->kind == DT_WAS_READ) told->begin = it->begin, told->end = it->end, told->run = it->run;
+}
+
+/* where a frame that leaves a node on a link comes in */
+static void goes_off(size_t from, uint16_t link, const uint8_t *octets, size_t len) {
+    size_t to = from == 1 ? (link == 1 ? 0 : 2) : 1;
+    if (flight_len == MOST_FLIGHT) lose(0);
+    struct flight it = {to, from == 2 ? 2 : 1, now, len, block(len)};
+    memcpy(it.octets, octets, len);
+    flight[flight_len++] = it;
+}
+
+static void take_frame(struct node *n, const struct dt_report *put) {
+    size_t from = (size_t)(n - nodes);
+    uint8_t *small = block(0);
+    struct dt_out none = dt_next_frame(n->handle[0], small, 0);
+    if (n->is_spent && none.status == DT_NOTHING) {
+        /* there was memory for the report, and none for the frame */
+        WANT(dt_next_frame(n->handle[1], small, 0).status == DT_NOTHING);
+        free(small);
+        return;
+    }
+    WANT(none.status == DT_ROOM && none.len >= 16 && none.len <= DT_MOST_FRAME);
+    free(small);
+    size_t len = none.len + BEHIND;
+    uint8_t *room = block(len), *other = block(none.len);
+    small = block(none.len - 1);
+    memset(small, 0xEE, none.len - 1);
+    struct dt_out less = dt_next_frame(n->handle[0], small, none.len - 1);
+    WANT(less.status == DT_ROOM && less.len == none.len);
+    for (size_t i = 0; i < none.len - 1; i++) WANT(small[i] == 0xEE);
+    free(small);
+    memset(room, 0xEE, len);
+    struct dt_out out = dt_next_frame(n->handle[0], room, len), twin = dt_next_frame(n->handle[1], other, none.len);
+    WANT(out.status == DT_DONE && twin.status == DT_DONE && out.len == none.len && twin.len == out.len);
+    WANT(out.to == twin.to && out.link == twin.link && is_same(room, other, out.len));
+    for (size_t i = out.len; i < len; i++) WANT(room[i] == 0xEE);
+    uint32_t value;
+    WANT(header_fault(room, out.len, &value) == 0 && number_at(room + 12) == out.to);
+    WANT(number_at(room + 8) != from + 1 || has_packet(room, out.len));
+    WANT(put->number == out.link && put->count == number_at(room + 4));
+    bool has_link = false;
+    for (size_t i = 0; i < link_count[from]; i++) has_link = has_link || links[from][i].link == out.link;
+    WANT(has_link);
+    goes_off(from, out.link, room, out.len);
+    free(room);
+    free(other);
+}
+
+static void hears(struct node *n, const struct dt_flow *flow) {
+    uint8_t status = dt_hear(n->handle[0], flow);
+    WANT(status == DT_DONE && dt_hear(n->handle[1], flow) == DT_DONE);
+}
+
+static bool is_same_report(const struct dt_report *one, const struct dt_report *other) {
+    return one->status == other->status && one->kind == other->kind && is_flow(&one->flow, &other->flow) && one->moment == other->moment && one->number == other->number &&
+           one->count == other->count && one->window == other->window && one->begin == other->begin && one->end == other->end && one->run == other->run && one->sending == other->sending;
+}
+
+/* Takes all reports and frames of both, which have to be the same. */
+static struct told takes_all(struct node *n) {
+    struct told told = {0, 0, 0, 0, 0, 0, 0, 0, false, false, false};
+    for (;;) {
+        struct dt_report one = dt_next_report(n->handle[0]), other = dt_next_report(n->handle[1]);
+        WANT(is_same_report(&one, &other));
+        WANT(one.status == (n->is_open ? DT_DONE : DT_CLOSED) || (n->is_open && one.status == DT_NOTHING));
+        if (one.status != DT_DONE) break;
+        look_at_report(n, &one);
+        count(n, &one);
+        note(&told, &one);
+        happens(one.kind);
+        if (one.kind == DT_PUT) take_frame(n, &one);
+        if (n->has_inbox && (one.kind == DT_ACCEPTED || one.kind == DT_RELEASED)) hears(n, &one.flow);
+    }
+    uint8_t room[1];
+    WANT(dt_next_frame(n->handle[0], room, 1).status == (n->is_open ? DT_NOTHING : DT_CLOSED));
+    WANT(dt_next_frame(n->handle[1], room, 1).status == (n->is_open ? DT_NOTHING : DT_CLOSED));
+    return told;
+}
+
+static bool is_same_counts(const struct dt_counts *one, const struct dt_counts *other) {
+    return one->status == other->status && one->left == other->left && one->taken == other->taken && one->settled == other->settled && one->uncertain == other->uncertain &&
+           one->accepted == other->accepted && one->read == other->read;
+}
+
+static void looks_on(struct node *n) {
+    struct dt_moment one = dt_wake(n->handle[0]), other = dt_wake(n->handle[1]);
+    WANT(one.some == other.some && one.at == other.at);
+    /* where a call came so late that a segment isn't sent again any more, the node still tells when it was to be */
+    WANT(!one.some || (n->is_open && !n->is_spent && (n->was_late || one.at > n->greatest)));
+    n->wake = one.some ? one.at : UINT64_MAX;
+    WANT(one.some || one.at == 0);
+    struct dt_counts mine = dt_counts(n->handle[0]), twin = dt_counts(n->handle[1]);
+    WANT(mine.status == (n->is_open ? DT_DONE : DT_CLOSED) && is_same_counts(&mine, &twin));
+    struct dt_kept_out kept = dt_kept_out(n->handle[0]);
+    WANT(kept.closed + kept.crowded == n->kept_out && mine.read <= mine.accepted);
+    if (!n->is_open || n->is_spent) return;
+    WANT(mine.came == n->counts.came && mine.refused == n->counts.refused && is_same_counts(&mine, &n->counts));
+    for (size_t i = 0; i < n->followed_count; i++) {
+        struct dt_totals all = dt_totals(n->handle[0], &n->followed[i].flow);
+        const struct sums *sums = &n->followed[i].sums;
+        WANT(all.status == DT_DONE && all.taken == sums->taken && all.settled == sums->settled && all.uncertain == sums->uncertain);
+        WANT(all.accepted == sums->accepted && (n->has_inbox || all.read == sums->read));
+    }
+}
+
+/* --- calls */
+
+/* the moment of the next call of a node */
+static uint64_t moment_of(const struct node *n) { return leaps ? leap : now + n->offset; }
+
+/* what a moment counts as */
+static uint64_t counted(const struct node *n, uint64_t moment) {
+    moment = moment < LAST ? moment : LAST;
+    return moment > n->greatest ? moment : n->greatest;
+}
+
+/* an event counts at a moment */
+static void hears_moment(struct node *n, uint64_t moment) {
+    n->greatest = counted(n, moment);
+    n->was_late = n->was_late || n->greatest > n->wake;
+}
+
+static void may_fail(unsigned *wanted) {
+    requests = 0;
+    fail_at = *wanted;
+}
+
+static bool found_memory(unsigned *wanted) {
+    bool it = fail_at == 0 || requests < fail_at;
+    fail_at = 0;
+    *wanted = 0;
+    return it;
+}
+
+static unsigned wanted;
+
+static bool has_changed_nothing(uint8_t status) {
+    return status == DT_CLOSED || status == DT_REFUSED || status == DT_HELD || status == DT_SPENT || status == DT_BAD || status == DT_STALE || status == DT_KEPT_OUT;
+}
+
+/* Behind an event: its status, and whether memory was refused. */
+static struct told event(struct node *n, uint8_t status, uint64_t moment, bool found) {
+    happens(100u + status);
+    WANT(found || n->is_open);
+    WANT(status != DT_NO_MEMORY || !found);
+    if (n->is_spent) WANT(status == DT_SPENT || status == DT_KEPT_OUT);
+    else WANT(status != DT_SPENT);
+    if (!n->is_open) WANT(status == DT_CLOSED);
+    if (!has_changed_nothing(status)) hears_moment(n, moment);
+    if (status == DT_NO_MEMORY) n->is_spent = any_failed = true;
+    struct told told = takes_all(n);
+    looks_on(n);
+    return told;
+}
+
+/* Each call below is made of both handles, of the second one where it changed something. `twin` is that call. */
+#define BOTH(call, first, second, status_of, moment) \
+    unsigned asked = wanted; \
+    may_fail(&wanted); \
+    first = call(n->handle[0]); \
+    bool found = found_memory(&wanted); \
+    if (!has_changed_nothing(status_of(first))) { \
+        wanted = asked; \
+        may_fail(&wanted); \
+        second = call(n->handle[1]); \
+        found_memory(&wanted); \
+        WANT(status_of(first) == status_of(second)); \
+    }
+
+#define PLAIN(it) (it)
+#define FIELD(it) ((it).status)
+
+static uint8_t ticks(struct node *n) {
+    uint64_t moment = moment_of(n);
+#define CALL(side) dt_tick(side, moment)
+    uint8_t one, other;
+    BOTH(CALL, one, other, PLAIN, moment)
+#undef CALL
+    WANT(one == DT_DONE || one == DT_NO_MEMORY || one == DT_CLOSED || one == DT_SPENT);
+    struct told told = event(n, one, moment, found);
+    WANT(told.took + told.full + told.quiet + told.read + told.not_read == 0);
+    return one;
+}
+
+static bool has_link(const struct node *n, uint16_t link) {
+    size_t me = (size_t)(n - nodes);
+    for (size_t i = 0; i < link_count[me]; i++)
+        if (links[me][i].link == link) return true;
+    return false;
+}
+
+static uint8_t arrives(struct node *n, uint16_t link, const uint8_t *octets, size_t len, uint32_t waited) {
+    uint64_t moment = moment_of(n);
+    uint8_t *datagram = block(len);
+    memcpy(datagram, octets, len);
+#define CALL(side) dt_arrive(side, moment, link, datagram, len, waited)
+    struct dt_came one, other;
+    BOTH(CALL, one, other, FIELD, moment)
+#undef CALL
+    uint32_t value = 0;
+    uint8_t status = one.status, wrong = header_fault(octets, len, &value);
+    WANT(is_same(datagram, octets, len));
+    free(datagram);
+    if (status == DT_KEPT_OUT) {
+        WANT(n->is_guarded && n->is_open);
+        n->kept_out++;
+    } else if (n->is_open && !n->is_spent) {
+        uint8_t right = !has_link(n, link) ? DT_REFUSED : wrong ? DT_BAD : number_at(octets + 4) <= waited ? DT_STALE : DT_DONE;
+        WANT(status == right || (right == DT_DONE && status == DT_NO_MEMORY));
+        n->counts.came += right == DT_DONE;
+        n->counts.refused += right != DT_DONE;
+    }
+    WANT(status == DT_BAD ? one.fault == wrong && one.value == value : one.fault == 0 && one.value == 0);
+    struct told told = event(n, status, moment, found);
+    WANT(told.took + told.full + told.quiet + told.read + told.not_read == 0);
+    return status;
+}
+
+/* the longest message of a node's inbox */
+static size_t longest_of(size_t node) { return node == 1 ? 300 : 20000; }
+
+/* what was taken of a flow, with its marks; a message that is longer than the longest is none */
+static void took(struct known *f, size_t len, bool begin, bool end) {
+    for (size_t i = 0; i < len; i++) {
+        struct mark it = {octet_of((size_t)(f - flows), f->sent_len), begin && i == 0, end && i == len - 1, f->sender_life};
+        f->sent[f->sent_len++] = it;
+    }
+    if (!end) return;
+    size_t last = f->sent_len, first = last;
+    while (first > 0 && f->sent[first - 1].life == f->sender_life && (first == last || !f->sent[first - 1].end)) {
+        first--;
+        if (f->sent[first].begin) {
+            struct span it = {first, last};
+            if (last - first <= longest_of(f->flow.to - 1)) f->spans[f->span_count++] = it;
+            return;
+        }
+    }
+}
+
+static void sends(struct node *n, const struct dt_flow *flow, size_t len, bool begin, bool end) {
+    uint32_t me = (uint32_t)(n - nodes) + 1;
+    size_t place = place_of(flow);
+    struct known *f = place < FLOWS && flow->from == me ? &flows[place] : NULL;
+    if (len > (size_t)MOST_SEGMENTS * n->params.seg) len = (size_t)MOST_SEGMENTS * n->params.seg;
+    if (f != NULL && f->sent_len + len > MOST_SENT) return;
+    uint64_t moment = moment_of(n);
+    uint8_t *octets = block(len);
+    for (size_t i = 0; i < len; i++) octets[i] = f != NULL ? octet_of(place, f->sent_len + i) : (uint8_t)i;
+#define CALL(side) dt_send(side, moment, flow, octets, len, begin, end)
+    struct dt_sent one, other;
+    BOTH(CALL, one, other, FIELD, moment)
+#undef CALL
+    free(octets);
+    uint8_t status = one.status;
+    bool is_wrong = flow->from != me || flow->to == me || len == 0, is_quiet = n->is_again && counted(n, moment) < n->until;
+    if (n->is_open && !n->is_spent) {
+        if (is_wrong) WANT(status == DT_REFUSED);
+        else if (status == DT_QUIET) WANT(is_quiet && one.until == n->until);
+        else if (status == DT_FULL) WANT(!is_quiet && one.free < len && one.free <= n->params.cap);
+        else WANT(status == DT_NO_MEMORY || (status == DT_DONE && !is_quiet && len <= n->params.cap));
+    }
+    WANT(status == DT_QUIET || one.until == 0);
+    WANT(status == DT_FULL || one.free == 0);
+    if (f != NULL && (status == DT_DONE || status == DT_NO_MEMORY)) took(f, len, begin, end);
+    struct told told = event(n, status, moment, found);
+    if (status == DT_NO_MEMORY) return;
+    WANT(told.took == (status == DT_DONE) && told.full == (status == DT_FULL) && told.quiet == (status == DT_QUIET) && told.read + told.not_read == 0);
+    if (status == DT_DONE) WANT(told.count == len);
+    if (status == DT_FULL) WANT(told.count == one.free);
+    if (status == DT_QUIET) WANT(told.moment == one.until);
+}
+
+/* Whether a piece stands at a place of what was sent. */
+static bool stands(const struct known *f, size_t at, const uint8_t *octets, size_t len, bool begin, bool end) {
+    if (at + len > f->sent_len || f->sent[at].begin != begin || f->sent[at + len - 1].end != end) return false;
+    for (size_t i = 0; i < len; i++)
+        if (f->sent[at + i].octet != octets[i] || (i > 0 && (f->sent[at + i].begin || f->sent[at + i - 1].end || f->sent[at + i].life != f->sent[at].life))) return false;
+    return true;
+}
+
+static void was_read(struct known *f, const uint8_t *octets, size_t len, const struct dt_piece *piece) {
+    size_t least = 0;
+    bool any = false;
+    memset(places, 0, f->sent_len + 1);
+    for (size_t at = f->floor; at < f->sent_len; at++) {
+        if ((piece->run || f->next[at]) && stands(f, at, octets, len, piece->begin, piece->end)) {
+            places[at + len] = 1;
+            if (!any) least = at + len;
+            any = true;
+        }
+    }
+    WANT(any);
+    memcpy(f->next, places, f->sent_len + 1);
+    f->floor = least;
+}
+
+/* Octets of a flow to this node are read. Whether there were any. */
+static bool reads(struct node *n, const struct dt_flow *flow, size_t room) {
+    uint32_t me = (uint32_t)(n - nodes) + 1;
+    size_t place = place_of(flow);
+    uint64_t moment = moment_of(n);
+    uint8_t *buf = block(room), *twin = block(room);
+
+#define CALL(side) dt_read(side, moment, flow, side == n->handle[0] ? buf : twin, room)
+    struct dt_piece one, other = {0, 0, false, false, false};
+    BOTH(CALL, one, other, FIELD, moment)
+#undef CALL
+    uint8_t status = one.status;
+    bool is_wrong = flow->to != me || flow->from == me;
+    if (n->is_open && !n->is_spent) WANT(status == (is_wrong ? DT_REFUSED : room == 0 ? DT_ROOM : status == DT_DONE || status == DT_NO_MEMORY ? status : DT_NOTHING));
+    if (status == DT_DONE) {
+        WANT(one.len >= 1 && one.len <= room && other.len == one.len && is_same(buf, twin, one.len));
+        WANT(one.begin == other.begin && one.end == other.end && one.run == other.run);
+        n->counts.read += one.len;
+        for (size_t i = 0; i < n->followed_count; i++)
+            if (is_flow(&n->followed[i].flow, flow)) n->followed[i].sums.read += one.len;
+        if (keeps_duties && place < FLOWS && !n->has_inbox) was_read(&flows[place], buf, one.len, &one);
+    } else WANT(one.len == 0 && !one.begin && !one.end && !one.run);
+    free(buf);
+    free(twin);
+    struct told told = event(n, status == DT_ROOM ? DT_REFUSED : status, moment, found);
+    if (status == DT_NO_MEMORY) return false;
+    WANT(told.took + told.full + told.quiet == 0 && told.read == (status == DT_DONE) && told.not_read == (status == DT_NOTHING));
+    if (status == DT_DONE) WANT(told.begin == one.begin && told.end == one.end && told.run == one.run);
+    return status == DT_DONE;
+}
+
+/* A message is one of those that were sent, behind the last one; the next one, where there is no gap. */
+static void was_taken(struct known *f, const uint8_t *octets, size_t len, bool gap) {
+    size_t least = 0;
+    bool any = false;
+    memset(places, 0, f->span_count + 1);
+    for (size_t at = f->floor_span; at < f->span_count; at++) {
+        struct span it = f->spans[at];
+        if (it.end - it.begin != len || !(gap || f->next_span[at])) continue;
+        bool is_it = true;
+        for (size_t i = 0; i < len && is_it; i++) is_it = f->sent[it.begin + i].octet == octets[i];
+        if (!is_it) continue;
+        places[at + 1] = 1;
+        if (!any) least = at + 1;
+        any = true;
+    }
+    WANT(any);
+    memcpy(f->next_span, places, f->span_count + 1);
+    f->floor_span = least;
+}
+
+/* A message is taken. Whether there was one. */
+static bool takes(struct node *n, size_t room) {
+    uint32_t me = (uint32_t)(n - nodes) + 1;
+    uint64_t moment = moment_of(n);
+    uint8_t *buf = block(room), *twin = block(room);
+    memset(buf, 0xEE, room);
+#define CALL(side) dt_take(side, moment, side == n->handle[0] ? buf : twin, room)
+    struct dt_message one, other;
+    memset(&other, 0, sizeof other);
+    BOTH(CALL, one, other, FIELD, moment)
+#undef CALL
+    uint8_t status = one.status;
+    WANT(status == DT_DONE || status == DT_NOTHING || status == DT_CLOSED || status == DT_SPENT || status == DT_NO_MEMORY || status == DT_ROOM || status == DT_LOST || status == DT_MORE);
+    WANT(n->has_inbox || status == DT_CLOSED);
+    WANT(status != DT_LOST || !found);
+    for (size_t i = status == DT_DONE ? one.len : 0; i < room; i++) WANT(buf[i] == 0xEE);
+    if (status != DT_CLOSED) WANT(one.too_long >= n->too_long);
+    if (status != DT_CLOSED) n->too_long = one.too_long;
+    if (status == DT_DONE || status == DT_ROOM) {
+        size_t place = place_of(&one.flow);
+        WANT(one.len >= 1 && one.len <= longest_of((size_t)(n - nodes)) && other.len == one.len && is_flow(&one.flow, &other.flow) && one.gap == other.gap && one.flow.to == me);
+        WANT(status == DT_DONE ? one.len <= room && is_same(buf, twin, one.len) : one.len > room);
+        if (status == DT_DONE && keeps_duties) {
+            WANT(place < FLOWS);
+            was_taken(&flows[place], buf, one.len, one.gap);
+        }
+    }
+    free(buf);
+    free(twin);
+    if (!n->has_inbox) {
+        WANT(found);
+        return false;
+    }
+    /* a spent node gives what waits, and then says so */
+    happens(100u + status);
+    if (status == DT_NO_MEMORY) n->is_spent = any_failed = true;
+    any_failed = any_failed || status == DT_LOST;
+    struct told told = takes_all(n);
+    /* where no flow was read nothing was done */
+    if (!n->is_spent && told.read + told.not_read > 0) hears_moment(n, moment);
+    n->counts.read = dt_counts(n->handle[0]).read;
+    looks_on(n);
+    return status == DT_DONE;
+}
+
+/* --- openings */
+
+static void makes_inbox(struct node *n) {
+    uint8_t right = !n->is_open ? DT_CLOSED : n->has_inbox ? DT_HELD : DT_DONE;
+    WANT(dt_inbox(n->handle[0], longest_of((size_t)(n - nodes))) == right);
+    if (right != DT_DONE) return;
+    WANT(dt_inbox(n->handle[1], longest_of((size_t)(n - nodes))) == DT_DONE);
+    n->has_inbox = true;
+}
+
+static const struct dt_route ROUTES[NODES][2] = {{{2, 1}, {3, 1}}, {{1, 1}, {3, 2}}, {{2, 1}, {1, 1}}};
+
+static void opens(struct node *n, bool again) {
+    size_t me = (size_t)(n - nodes);
+    struct dt_start start = {now + n->offset, (uint32_t)me + 1, again};
+    for (size_t i = 0; i < 2; i++) {
+        struct dt_opened it = dt_open(n->handle[i], &n->params, &start, links[me], link_count[me], ROUTES[me], 2);
+        WANT(it.status == DT_DONE && it.field == 0 && it.value == 0);
+    }
+    WANT(dt_open(n->handle[0], &n->params, &start, links[me], link_count[me], ROUTES[me], 2).status == DT_HELD);
+    n->is_open = true;
+    n->is_again = again;
+    n->is_spent = n->was_late = n->has_inbox = n->is_guarded = n->has_one_port = false;
+    n->wake = UINT64_MAX;
+    n->kept_out = 0;
+    n->greatest = again ? counted(n, start.now) : 0;
+    n->until = again ? (start.now < LAST ? start.now : LAST) + dt_quiet(&n->params) : 0;
+    n->too_long = 0;
+    n->followed_count = 0;
+    memset(&n->counts, 0, sizeof n->counts);
+    if (n->uses_inbox) makes_inbox(n);
+}
+
+static void closes(struct node *n) {
+    size_t me = (size_t)(n - nodes);
+    dt_close(n->handle[0]);
+    dt_close(n->handle[1]);
+    n->is_open = n->is_spent = n->has_inbox = n->is_guarded = n->has_one_port = false;
+    n->greatest = n->kept_out = 0;
+    n->followed_count = 0;
+    for (size_t i = 0; i < FLOWS; i++) {
+        struct known *f = &flows[i];
+        if (f->flow.from == me + 1) {
+            f->sender_life++;
+            memset(&f->of_sender, 0, sizeof f->of_sender);
+        }
+        if (f->flow.to == me + 1) {
+            memset(&f->of_receiver, 0, sizeof f->of_receiver);
+            /* what comes next has a run mark, so no place is the next one */
+            memset(f->next, 0, f->sent_len + 1);
+            memset(f->next_span, 0, f->span_count + 1);
+        }
+    }
+    takes_all(n);
+    looks_on(n);
+    WANT(dt_tick(n->handle[0], now) == DT_CLOSED);
+}
+
+/* --- what calls refuse */
+
+static struct dt_flow flow_of(uint8_t it) { return flows[it % FLOWS].flow; }
+
+/* a flow from or to a node */
+static struct dt_flow flow_at(size_t node, uint8_t it, bool is_from) {
+    uint32_t me = (uint32_t)node + 1, other = (uint32_t)(node + 1 + it % 2) % NODES + 1;
+    uint16_t port = (uint16_t)(it >> 1 & 1);
+    struct dt_flow flow = {is_from ? me : other, is_from ? other : me, port, (uint16_t)(port + 20)};
+    return flow;
+}
+
+/* the first parameter that is out of its range, or 11 */
+static unsigned out_of_range(const struct dt_params *p, uint32_t *value) {
+    const uint32_t day = 86400000, all[] = {p->mpl, p->r, p->a, p->rto, p->probe, p->seg, p->cap, p->rcap, p->window, p->run_limit};
+    const uint32_t least[] = {2, 1, 1, 1, 1, 1, 1, 1, 1, 1}, most[] = {day, day, day, day, day, 8192, 65536, 65536, 65536, 2147483648u};
+    for (unsigned i = 0; i < 10; i++) {
+        *value = all[i];
+        if (all[i] < least[i] || all[i] > most[i]) return i;
+        if (i == 4 && all[i] >= 3 * (uint64_t)p->mpl + p->r + p->a) return i;
+    }
+    return 11;
+}
+
+static void params_are_judged(const struct dt_params *p) {
+    uint32_t value = 0;
+    unsigned wrong = out_of_range(p, &value);
+    struct dt_fingerprint one = dt_fingerprint(p), other = dt_fingerprint(p);
+    WANT(one.status == (wrong < 11 ? DT_REFUSED : DT_DONE) && one.status == other.status && one.value == other.value && (wrong == 11 || one.value == 0));
+    WANT(dt_quiet(p) == (wrong < 11 ? 0 : 3 * (uint64_t)p->mpl + p->r + p->a));
+    dt_node *n = (dt_node *)block(dt_size());
+    struct dt_start start = {0, 1, false};
+    dt_init(n);
+    may_fail(&wanted);
+    struct dt_opened it = dt_open(n, p, &start, links[0], 1, ROUTES[0], 1);
+    bool found = found_memory(&wanted);
+    if (wrong < 11) WANT(it.status == DT_REFUSED && it.field == wrong && it.value == value);
+    else WANT((it.status == DT_DONE || (it.status == DT_NO_MEMORY && !found)) && it.field == 0 && it.value == 0);
+    WANT(dt_tick(n, 0) == (it.status == DT_DONE ? DT_DONE : DT_CLOSED));
+    dt_close(n);
+    dt_close(n);
+    free(n);
+}
+
+/* What is refused whatever the node holds, and changes nothing. */
+static void is_refused(struct node *n, uint8_t kind, uint8_t how) {
+    size_t me = (size_t)(n - nodes);
+    static const uint8_t octets[40] = {1, 1, 0, 24, 0, 0, 0, 9};
+    struct dt_flow wrong = flow_at(me, how, (kind & 16) != 0), self = {(uint32_t)me + 1, (uint32_t)me + 1, 1, 2};
+    bool leapt = leaps;
+    /* a moment that a refused call was told doesn't count */
+    leaps = true;
+    leap = (uint64_t)how << (how % 64);
+    switch (kind % 6) {
+    case 0: sends(n, &self, 1, true, true); break;
+    case 1: {
+        struct dt_flow other = flow_at(me, how, false);
+        sends(n, &other, 1 + how, true, true);
+        break;
+    }
+    case 2: {
+        struct dt_flow mine = flow_at(me, how, true);
+        sends(n, &mine, 0, true, true);
+        reads(n, &mine, how);
+        break;
+    }
+    case 3: arrives(n, (uint16_t)(3 + how), octets, how % 41, how); break;
+    case 4: arrives(n, 1, octets, how % 16, 0); break;
+    default: reads(n, kind & 8 ? &self : &wrong, kind & 8 ? how : 0); break;
+    }
+    leaps = leapt;
+}
+
+/* --- calls that are no events */
+
+static void adds_route(struct node *n, uint8_t to, uint8_t link) {
+    struct dt_route it = {(uint32_t)to % 8 + 1, (uint16_t)(link % 4)};
+    may_fail(&wanted);
+    uint8_t one = dt_add_route(n->handle[0], &it);
+    bool found = found_memory(&wanted);
+    WANT(one == DT_DONE || one == DT_CLOSED || one == DT_SPENT || one == DT_REFUSED || one == DT_HELD || one == DT_NO_MEMORY);
+    WANT(one != DT_NO_MEMORY || !found);
+    if (n->is_open && !n->is_spent) WANT(one == DT_REFUSED ? !has_link(n, it.link) : one == DT_HELD || has_link(n, it.link));
+    if (one == DT_DONE) {
+        WANT(dt_add_route(n->handle[1], &it) == DT_DONE);
+        WANT(dt_add_route(n->handle[0], &it) == DT_HELD);
+    }
+    takes_all(n);
+    looks_on(n);
+}
+
+static void guards(struct node *n, uint8_t how, uint8_t most) {
+    uint16_t ports[2] = {(uint16_t)(20 + (how & 1)), (uint16_t)(20 + (how & 1))};
+    size_t count = how & 2 ? 1 + (how >> 2 & 1) : 0;
+    bool all = (how & 2) == 0;
+    uint32_t flow_count = how & 8 ? UINT32_MAX : most;
+    may_fail(&wanted);
+    uint8_t one = dt_guard(n->handle[0], ports, count, all, flow_count);
+    bool found = found_memory(&wanted);
+    WANT(one == (n->is_open ? one == DT_NO_MEMORY && !found ? DT_NO_MEMORY : DT_DONE : DT_CLOSED));
+    if (one == DT_DONE) {
+        WANT(dt_guard(n->handle[1], ports, count, all, flow_count) == DT_DONE);
+        n->is_guarded = !all || flow_count != UINT32_MAX;
+        n->has_one_port = !all;
+        n->open_port = ports[0];
+    }
+    takes_all(n);
+    looks_on(n);
+}
+
+static void follows(struct node *n, uint8_t which) {
+    struct dt_flow flow = flow_of(which);
+    uint32_t me = (uint32_t)(n - nodes) + 1;
+    size_t at = 0;
+    while (at < n->followed_count && !is_flow(&n->followed[at].flow, &flow)) at++;
+    if (at == MOST_FOLLOWED || (flow.from != me && flow.to != me)) return;
+    if (n->is_open && at == n->followed_count) WANT(dt_totals(n->handle[0], &flow).status == DT_NOTHING);
+    may_fail(&wanted);
+    uint8_t one = dt_follow(n->handle[0], &flow);
+    bool found = found_memory(&wanted);
+    WANT(one == (n->is_open ? one == DT_NO_MEMORY && !found ? DT_NO_MEMORY : DT_DONE : DT_CLOSED));
+    if (one == DT_DONE) WANT(dt_follow(n->handle[1], &flow) == DT_DONE);
+    if (one == DT_DONE && at == n->followed_count) {
+        n->followed[at].flow = flow;
+        memset(&n->followed[at].sums, 0, sizeof n->followed[at].sums);
+        n->followed_count++;
+    }
+    takes_all(n);
+    looks_on(n);
+}
+
+/* --- the network */
+
+static uint32_t charge_of(const struct flight *it) { return links[it->to][it->link - 1].charge; }
+
+/* What is under way at a place comes, and stays under way where it is to come again. */
+static void comes(size_t at, bool again) {
+    struct flight it = flight[at];
+    uint64_t age = now - it.since, charge = charge_of(&it), waited = age > charge ? age - charge : 0;
+    uint8_t *octets = block(it.len);
+    memcpy(octets, it.octets, it.len);
+    if (!again) lose(at);
+    if (nodes[it.to].is_open || !keeps_duties) arrives(&nodes[it.to], it.link, octets, it.len, waited < UINT32_MAX ? (uint32_t)waited : UINT32_MAX);
+    free(octets);
+}
+
+/* All that is under way now comes, but what is lost. */
+static void all_come(uint8_t lost) {
+    for (size_t count = flight_len, i = 0; i < count && flight_len > 0; i++) {
+        if (lost >> i % 8 & 1) lose(0);
+        else comes(0, false);
+    }
+}
+
+static void reads_all(struct node *n, size_t room) {
+    size_t me = (size_t)(n - nodes);
+    if (n->has_inbox)
+        while (takes(n, room)) {}
+    else
+        for (uint8_t i = 0; i < 4; i++) {
+            struct dt_flow flow = flow_at(me, i, false);
+            while (reads(n, &flow, room)) {}
+        }
+}
+
+/* The least moment at which a node is to be called, as the network counts. */
+static bool least_wake(uint64_t *at) {
+    bool any = false;
+    for (size_t i = 0; i < NODES; i++) {
+        struct dt_moment it = dt_wake(nodes[i].handle[0]);
+        if (!it.some) continue;
+        uint64_t mine = it.at > nodes[i].offset ? it.at - nodes[i].offset : 0;
+        if (!any || mine < *at) *at = mine;
+        any = true;
+    }
+    return any;
+}
+
+static void goes_on(bool all) {
+    uint64_t at = now;
+    if (!least_wake(&at) || at >= LAST) return;
+    if (at > now) now = at;
+    for (size_t i = 0; i < NODES; i++) {
+        struct dt_moment it = dt_wake(nodes[i].handle[0]);
+        if (all || (it.some && it.at <= now + nodes[i].offset)) ticks(&nodes[i]);
+    }
+}
+
+/* --- inputs that keep no duty */
+
+static void put(uint8_t *at, uint32_t value, unsigned octets) {
+    while (octets-- > 0) *at++ = (uint8_t)(value >> 8 * octets);
+}
+
+static void any_octets(struct node *n, uint8_t link, uint8_t length, uint8_t seed) {
+    size_t len = length < 200 ? length : (size_t)(length - 199) * 160;
+    uint8_t *octets = block(len);
+    for (size_t i = 0; i < len; i++) octets[i] = octet_of(seed, i);
+    if (len >= 16 && seed & 1) octets[0] = (uint8_t)(1 + (seed >> 1 & 1)), octets[1] = 1, put(octets + 2, (uint32_t)len - 16, 2), put(octets + 12, (uint32_t)(n - nodes) + 1, 4);
+    arrives(n, (uint16_t)(link % 3), octets, len, seed % 5 == 0 ? seed : 0);
+    free(octets);
+}
+
+/* a packet of a known flow to a node */
+static void made_up(struct node *n, uint8_t which, uint8_t number, uint8_t how) {
+    size_t me = (size_t)(n - nodes), size = how % 4 == 0 ? CHOICE(LENGTHS, how) % 8193 : how % 16;
+    uint8_t kind = (uint8_t)(1 + (which >> 4) % 4), version = (uint8_t)(size > 1024 || kind == 4 ? 2 : 1);
+    if (kind != 1) size = 0;
+    else if (size == 0) size = 1;
+    size_t len = 30 + size;
+    uint8_t *octets = block(len);
+    memset(octets, how, len);
+    struct dt_flow flow = flow_at(me, which, kind == 2);
+    bool back = kind == 2;
+    put(octets, version, 1);
+    put(octets + 1, 1, 1);
+    put(octets + 2, (uint32_t)len - 16, 2);
+    put(octets + 4, 1000, 4);
+    put(octets + 8, back ? flow.to : flow.from, 4);
+    put(octets + 12, (uint32_t)me + 1, 4);
+    put(octets + 16, kind, 1);
+    put(octets + 17, kind == 1 ? which & 7 : 0, 1);
+    put(octets + 18, back ? flow.to_port : flow.from_port, 2);
+    put(octets + 20, back ? flow.from_port : flow.to_port, 2);
+    put(octets + 22, number < 128 ? number : nodes[me].params.start + (number - 192u) * (how & 8 ? 1 : 100), 4);
+    put(octets + 26, kind == 2 ? how * 257u : 0, 4);
+    arrives(n, 1, octets, len, 0);
+    free(octets);
+}
+
+/* something under way comes with other octets */
+static void comes_changed(uint8_t which, uint8_t where, uint8_t how) {
+    if (flight_len == 0) return;
+    struct flight *it = &flight[which % flight_len];
+    size_t to = it->to, len = it->len + (where == 255 ? 1 + how : 0);
+    uint16_t link = it->link;
+    uint8_t *octets = block(len);
+    memset(octets, how, len);
+    memcpy(octets, it->octets, it->len);
+    if (where == 254) len = how % (it->len + 1);
+    else if (where == 253 && it->len >= 30) put(octets + 22, number_at(octets + 22) + (how - 128u) * 3, 4);
+    else if (where == 252 && it->len >= 30) put(octets + 22, number_at(octets + 22) ^ 1u << how % 32, 4);
+    else if (where == 251 && it->len >= 16) put(octets + 2, (uint32_t)len - 16, 2), octets[0] ^= 3;
+    else if (where < 251) octets[(where % 64u + (where >= 64 ? how : 0u)) % it->len] = how;
+    if (where == 255 && how & 1) put(octets + 2, (uint32_t)len - 16, 2);
+    arrives(&nodes[to], link, octets, len, 0);
+    free(octets);
+}
+
+/* --- an input */
+
+static void params_of(struct input *in, struct dt_params *p) {
+    p->mpl = CHOICE(LIVES, octet(in));
+    p->r = CHOICE(RESENDS, octet(in));
+    p->a = CHOICE(DELAYS, octet(in));
+    p->rto = CHOICE(TIMEOUTS, octet(in));
+    p->probe = CHOICE(PROBES, octet(in));
+    uint64_t most = 3 * (uint64_t)p->mpl + p->r + p->a - 1;
+    if (p->probe > most) p->probe = (uint32_t)most;
+    p->seg = CHOICE(SEGMENTS, octet(in));
+    p->cap = CHOICE(ROOMS, octet(in));
+    p->rcap = CHOICE(ROOMS, octet(in));
+    p->window = CHOICE(ROOMS, octet(in));
+    p->run_limit = CHOICE(RUNS, octet(in));
+    p->start = CHOICE(STARTS, octet(in));
+}
+
+static void begins(struct input *in) {
+    uint8_t mode = octet(in), inboxes = octet(in);
+    keeps_duties = mode % 4 != 3;
+    now = mode >> 4;
+    leaps = any_failed = false;
+    wanted = 0;
+    last_happened = 0;
+    struct dt_params params;
+    params_of(in, &params);
+    for (size_t i = 0; i < NODES; i++) {
+        struct node *n = &nodes[i];
+        memset(n, 0, sizeof *n);
+        n->params = params;
+        n->params.start += CHOICE(STARTS, octet(in));
+        n->offset = CHOICE(CLOCKS, octet(in));
+        n->uses_inbox = inboxes >> i & 1;
+        for (size_t j = 0; j < 2; j++) {
+            n->handle[j] = (dt_node *)block(dt_size());
+            dt_init(n->handle[j]);
+        }
+    }
+    uint8_t charges = octet(in), paces = octet(in);
+    for (size_t i = 0; i < NODES; i++) {
+        link_count[i] = i == 1 ? 2 : 1;
+        for (size_t j = 0; j < link_count[i]; j++) {
+            struct dt_link it = {CHOICE(CHARGES, charges + i), CHOICE(PACES, paces + i + j), (uint16_t)(j + 1)};
+            links[i][j] = it;
+        }
+    }
+    for (size_t i = 0; i < NODES; i++) opens(&nodes[i], inboxes >> (3 + i) & 1);
+}
+
+static void does(const uint8_t *record) {
+    uint8_t a = record[1], b = record[2], c = record[3];
+    struct node *n = &nodes[a % NODES];
+    size_t me = (size_t)(n - nodes);
+    happens(200u + record[0] % 26);
+    switch (record[0] % 26) {
+    case 0: now += a; break;
+    case 1: {
+        const struct dt_params *p = &n->params;
+        const uint64_t spans[] = {p->mpl, p->r, p->a, p->rto, p->probe, dt_quiet(p), dt_quiet(p) - p->mpl, dt_quiet(p) + p->r};
+        now += spans[b % 8] + (c < 3 ? c - (uint64_t)1 : 0);
+        break;
+    }
+    case 2: goes_on(b & 1); break;
+    case 3: ticks(n); break;
+    case 4: case 5: case 6: {
+        struct dt_flow flow = flow_at(me, a / NODES, true);
+        sends(n, &flow, b < 128 ? b : CHOICE(LENGTHS, b), c & 1, c & 2);
+        break;
+    }
+    case 7: {
+        struct dt_flow flow = flow_at(me, a / NODES, false);
+        if (!n->has_inbox || !keeps_duties) reads(n, &flow, b < 128 ? b : CHOICE(LENGTHS, b));
+        break;
+    }
+    case 8: reads_all(n, 1 + CHOICE(LENGTHS, b)); break;
+    case 9: if (flight_len > 0) comes(a % flight_len, b & 1); break;
+    case 10: if (flight_len > 0) lose(a % flight_len); break;
+    case 11: all_come(b & c); break;
+    case 12: if (n->has_inbox) takes(n, b < 128 ? b : CHOICE(LENGTHS, b)); break;
+    case 13:
+        closes(n);
+        if (b & 1) opens(n, keeps_duties || c & 1);
+        break;
+    case 14: if (!n->is_open) opens(n, keeps_duties || c & 1); break;
+    case 15: guards(n, b, c % 4); break;
+    case 16: adds_route(n, b, c); break;
+    case 17: follows(n, b); break;
+    case 18: is_refused(n, b, c); break;
+    case 19: wanted = 1 + b % 24; break;
+    case 20:
+        for (unsigned i = 0; i < b % 16u; i++) {
+            all_come(c & (c << i));
+            goes_on(false);
+            if (c & 1) reads_all(&nodes[i % NODES], 20001);
+        }
+        break;
+    case 21: {
+        struct dt_params it = n->params;
+        uint32_t *const fields[] = {&it.mpl, &it.r, &it.a, &it.rto, &it.probe, &it.seg, &it.cap, &it.rcap, &it.window, &it.run_limit, &it.start};
+        const uint32_t values[] = {0, 1, 2, UINT32_MAX, 86400000, 86400001, 8192, 8193, 65536, 65537, 2147483648u, 2147483649u};
+        *fields[b % 11] = CHOICE(values, c);
+        *fields[(b >> 4) % 11] = CHOICE(values, c >> 4);
+        params_are_judged(&it);
+        break;
+    }
+    case 22: if (!keeps_duties) any_octets(n, (uint8_t)(1 + a / 64), b, c); break;
+    case 23: if (!keeps_duties) made_up(n, a / NODES, b, c); break;
+    case 24: if (!keeps_duties) comes_changed(a, b, c); break;
+    default:
+        if (!keeps_duties) {
+            const uint64_t moments[] = {0, LAST, LAST - 1, UINT64_MAX, now, now + n->offset, now + 100000000, now / 2, LAST - 10000};
+            leap = CHOICE(moments, b);
+            leaps = c & 1;
+            if (c & 2) makes_inbox(n);
+        }
+    }
+}
+
+/* Nothing is lost any more: all octets get their fate, and a last message comes. */
+static void ends_well(void) {
+    uint64_t at;
+    for (size_t i = 0; i < NODES; i++) {
+        struct node *n = &nodes[i];
+        if (n->is_spent) closes(n);
+        if (!n->is_open) opens(n, true);
+        guards(n, 8, 0);
+    }
+    bool is_still = false;
+    for (unsigned step = 0; step < MOST_STEPS && !is_still; step++) {
+        all_come(0);
+        for (size_t i = 0; i < NODES; i++) reads_all(&nodes[i], 20001);
+        is_still = flight_len == 0 && !least_wake(&at);
+        if (!is_still && flight_len == 0) goes_on(true);
+    }
+    if (!is_still) return;
+    happens(300);
+    for (size_t i = 0; i < FLOWS; i++) {
+        const struct known *f = &flows[i];
+        WANT(any_failed || f->of_sender.taken == f->of_sender.settled + f->of_sender.uncertain);
+        WANT(any_failed || f->all.settled <= f->all.accepted);
+    }
+    uint64_t longest = dt_quiet(&nodes[0].params);
+    now += longest;
+    struct dt_flow last = flow_at(0, 0, true);
+    struct known *f = &flows[place_of(&last)];
+    if (f->sent_len == MOST_SENT || links[1][0].charge + 2 > nodes[0].params.mpl || links[0][0].pace > 0) return;
+    size_t before = f->floor + f->floor_span;
+    sends(&nodes[0], &last, 1, true, true);
+    all_come(0);
+    reads_all(&nodes[1], 300);
+    WANT(f->floor + f->floor_span > before);
+    happens(301);
+}
+
+static void ends(void) {
+    while (flight_len > 0) lose(0);
+    for (size_t i = 0; i < NODES; i++) {
+        closes(&nodes[i]);
+        free(nodes[i].handle[0]);
+        free(nodes[i].handle[1]);
+    }
+    WANT(held == 0);
+    for (size_t i = 0; i < FLOWS; i++) {
+        struct known *f = &flows[i];
+        memset(f->next, 0, f->sent_len + 1);
+        memset(f->next_span, 0, f->span_count + 1);
+        f->sent_len = f->span_count = f->floor = f->floor_span = 0;
+        f->sender_life = 0;
+        memset(&f->all, 0, sizeof f->all);
+        memset(&f->of_sender, 0, sizeof f->of_sender);
+        memset(&f->of_receiver, 0, sizeof f->of_receiver);
+    }
+}
+
+static void knows_flows(void) {
+    for (size_t i = 0; i < FLOWS; i++) {
+        struct known *f = &flows[i];
+        uint16_t port = (uint16_t)(i % PORTS);
+        struct dt_flow flow = {(uint32_t)(i / PORTS / NODES) + 1, (uint32_t)(i / PORTS % NODES) + 1, port, (uint16_t)(port + 20)};
+        f->flow = flow;
+        f->sent = (struct mark *)calloc(MOST_SENT, sizeof *f->sent);
+        f->next = (uint8_t *)calloc(MOST_SENT + 1, 1);
+        f->next_span = (uint8_t *)calloc(MOST_SENT + 1, 1);
+        f->spans = (struct span *)calloc(MOST_SENT, sizeof *f->spans);
+        if (f->sent == NULL || f->next == NULL || f->next_span == NULL || f->spans == NULL) abort();
+    }
+}
+
+int LLVMFuzzerTestOneInput(const uint8_t *data, size_t size);
+
+int LLVMFuzzerTestOneInput(const uint8_t *data, size_t size) {
+    if (flows[0].sent == NULL) knows_flows();
+    struct input in = {data, size};
+    WANT(dt_abi() == DT_ABI && dt_align() <= 16);
+    begins(&in);
+    for (at_record = 0; in.left > 0 && at_record < MOST_OPS; at_record++) {
+        uint8_t record[RECORD];
+        for (size_t i = 0; i < RECORD; i++) record[i] = octet(&in);
+        does(record);
+    }
+    leaps = false;
+    wanted = 0;
+    if (keeps_duties) ends_well();
+    ends();
+    return 0;
+}
+
+/* --- other inputs: records are changed, left out, doubled, moved, or come from another input */
+
+static uint32_t drawn(uint32_t *state, uint32_t below) {
+    *state ^= *state << 13;
+    *state ^= *state >> 17;
+    *state ^= *state << 5;
+    return *state % below;
+}
+
+static size_t other_input(uint8_t *data, size_t size, size_t most, uint32_t state) {
+    while (size < HEAD && size < most) data[size++] = (uint8_t)drawn(&state, 256);
+    for (uint32_t changes = 1 + drawn(&state, 4); changes > 0; changes--) {
+        size_t records = size > HEAD ? (size - HEAD) / RECORD : 0;
+        uint8_t *body = data + HEAD;
+        uint32_t kind = drawn(&state, 10);
+        if (records == 0 || (kind < 3 && size + 5 * RECORD <= most)) {
+            /* some records more */
+            for (uint32_t more = 1 + drawn(&state, 4); more > 0 && size + RECORD <= most; more--) {
+                size_t at = RECORD * drawn(&state, (uint32_t)records + 1);
+                memmove(body + at + RECORD, body + at, size - HEAD - at);
+                for (size_t i = 0; i < RECORD; i++) body[at + i] = (uint8_t)drawn(&state, 256);
+                size += RECORD;
+                records++;
+            }
+            continue;
+        }
+        uint8_t *one = body + RECORD * drawn(&state, (uint32_t)records), *other = body + RECORD * drawn(&state, (uint32_t)records), kept[RECORD];
+        if (kind < 6) one[drawn(&state, RECORD)] = (uint8_t)drawn(&state, 256);
+        else if (kind == 6) memmove(one, one + RECORD, (size_t)(data + size - one) - RECORD), size -= RECORD;
+        else if (kind == 7) memcpy(kept, one, RECORD), memcpy(one, other, RECORD), memcpy(other, kept, RECORD);
+        else if (kind == 8) memcpy(one, other, RECORD);
+        else data[drawn(&state, HEAD)] = (uint8_t)drawn(&state, 256);
+    }
+    return size;
+}
+
+size_t LLVMFuzzerCustomMutator(uint8_t *data, size_t size, size_t most, unsigned int seed);
+
+size_t LLVMFuzzerCustomMutator(uint8_t *data, size_t size, size_t most, unsigned int seed) { return other_input(data, size, most, seed * 2654435761u | 1); }
+
+size_t LLVMFuzzerCustomCrossOver(const uint8_t *one, size_t one_size, const uint8_t *other, size_t other_size, uint8_t *out, size_t most, unsigned int seed);
+
+/* the head and the first records of one, the last ones of the other */
+size_t LLVMFuzzerCustomCrossOver(const uint8_t *one, size_t one_size, const uint8_t *other, size_t other_size, uint8_t *out, size_t most, unsigned int seed) {
+    uint32_t state = seed * 2654435761u | 1;
+    if (one_size < HEAD || other_size < HEAD) return 0;
+    size_t first = HEAD + RECORD * drawn(&state, (uint32_t)((one_size - HEAD) / RECORD) + 1), from = HEAD + RECORD * drawn(&state, (uint32_t)((other_size - HEAD) / RECORD) + 1);
+    if (first > most) first = most;
+    size_t rest = other_size - from;
+    if (rest > most - first) rest = most - first;
+    memcpy(out, one, first);
+    memcpy(out + first, other + from, rest);
+    return first + rest;
+}
+
+#ifdef ALONE
+static void write_to(const char *path, const uint8_t *octets, size_t len) {
+    FILE *file = fopen(path, "wb");
+    if (file == NULL || fwrite(octets, 1, len, file) != len || fclose(file) != 0) exit(2);
+}
+
+/* inputs by chance, drawn from those before */
+static void many(uint64_t count, uint32_t seed, const char *kept) {
+    static uint8_t inputs[64][HEAD + RECORD * MOST_OPS], octets[HEAD + RECORD * MOST_OPS];
+    static size_t sizes[64];
+    uint32_t state = seed * 2654435761u | 1;
+    for (uint64_t i = 0; i < count; i++) {
+        uint32_t from = drawn(&state, 64), to = drawn(&state, 64);
+        size_t size = drawn(&state, 8) == 0 ? 0 : sizes[from];
+        memcpy(octets, inputs[from], size);
+        for (uint32_t rounds = size == 0 ? 1 + drawn(&state, 30) : 1; rounds > 0; rounds--) size = other_input(octets, size, sizeof octets, (state + rounds * 97) | 1);
+        if (kept != NULL) write_to(kept, octets, size);
+        LLVMFuzzerTestOneInput(octets, size);
+        memcpy(inputs[to], octets, sizes[to] = size);
+    }
+    printf("%" PRIu64 " inputs hold; seed %" PRIu32 "\n", count, seed);
+}
+
+int main(int argc, char **words) {
+    uint64_t count = 0;
+    uint32_t seed = 1;
+    const char *kept = NULL;
+    for (int i = 1; i < argc; i++) {
+        if (!strcmp(words[i], "--count") && i + 1 < argc) count = strtoull(words[++i], NULL, 10);
+        else if (!strcmp(words[i], "--seed") && i + 1 < argc) seed = (uint32_t)strtoul(words[++i], NULL, 10);
+        else if (!strcmp(words[i], "--keep") && i + 1 < argc) kept = words[++i];
+        else {
+            static uint8_t octets[1 << 16];
+            FILE *file = fopen(words[i], "rb");
+            if (file == NULL) return 2;
+            size_t size = fread(octets, 1, sizeof octets, file);
+            fclose(file);
+            LLVMFuzzerTestOneInput(octets, size);
+            printf("%s holds\n", words[i]);
+        }
+    }
+    if (count > 0) many(count, seed, kept);
+    return 0;
+}
+#endif
