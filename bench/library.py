@@ -12,7 +12,8 @@ taking turns, N runs (3) each:
   the machine sends meanwhile is counted.
 
 UDP asks again after 100 ms where nothing comes, and has no messages above a datagram; `same` is UDP with the very
-datagrams that two nodes exchange, acknowledgements too, and without what makes them reliable. Then, in one thread with no
+datagrams that two nodes exchange, acknowledgements too, and without what makes them reliable. `segments` is libdeltat
+where the system cuts and joins datagrams of one length, each such run of which counts as one. Then, in one thread with no
 socket: events of two nodes a second, where each call that sends, takes in a datagram, reads or ticks is an event. The
 last lines say how the library stands to the others, by the medians. A peer that can't be built here is left out; ends
 with 2 where the library isn't there."""
@@ -33,12 +34,15 @@ from lib import HOST, free_port  # noqa: E402
 
 C = ["cc", "-O2", "-Wall", "-Wextra", "-Werror"]
 SMALL, LARGE, MESSAGES, EVENTS = 100, 65_536 - 4, 50, 4_000
-FILES = {"UDP": "udp.c", "same": "same.c", "ENet": "enet.c", "libdeltat": "library.c"}
+FILES = {"UDP": "udp.c", "same": "same.c", "ENet": "enet.c", "libdeltat": "library.c", "segments": "library.c"}
+# what has no messages of 64 KiB, and what is asked for these alone
+SHORT, LONG = ("UDP", "same"), ("segments",)
 
 
 def built(folder: pathlib.Path, library: pathlib.Path) -> dict[str, str]:
     """The programs that can be built here."""
-    more = {"ENet": ["-lenet"], "libdeltat": [f"-I{TOP / 'include'}", str(library)]}
+    ours = [f"-I{TOP / 'include'}", str(library)]
+    more = {"ENet": ["-lenet"], "libdeltat": ours, "segments": ours}
     found = {}
     for name, file in FILES.items():
         ran = subprocess.run([*C, str(HERE / "peers" / file), "-o", str(folder / name), *more.get(name, [])], capture_output=True, text=True)
@@ -52,9 +56,10 @@ def built(folder: pathlib.Path, library: pathlib.Path) -> dict[str, str]:
 def asked(program: str, what: str, count: int, octets: int, seconds: float) -> tuple[list[tuple[int, float]], float]:
     """What a client got of a fresh server, and the seconds of processor that both took."""
     port = str(free_port())
-    server = subprocess.Popen([program, "serve", HOST, port, "-"], stderr=subprocess.DEVNULL)
+    room = {**os.environ, "SEGMENTS": "1"} if pathlib.Path(program).name in LONG else None
+    server = subprocess.Popen([program, "serve", HOST, port, "-"], stderr=subprocess.DEVNULL, env=room)
     time.sleep(0.3)
-    client = subprocess.Popen([program, "ask", HOST, port, what, str(count), str(octets), str(seconds)], stdout=subprocess.PIPE, text=True)
+    client = subprocess.Popen([program, "ask", HOST, port, what, str(count), str(octets), str(seconds)], stdout=subprocess.PIPE, text=True, env=room)
     lines = client.stdout.read().splitlines()
     client.stdout.close()
     _, _, used = os.wait4(client.pid, 0)
@@ -77,22 +82,22 @@ def numbers(found: list[float]) -> str:
 
 def answers(programs: dict[str, str], runs: int, seconds: float) -> dict[str, tuple[float, float]]:
     """The median answers a second of each, and the microseconds of processor of one."""
-    rates: dict[str, list[float]] = {name: [] for name in programs}
-    costs: dict[str, list[float]] = {name: [] for name in programs}
+    rates: dict[str, list[float]] = {name: [] for name in programs if name not in LONG}
+    costs: dict[str, list[float]] = {name: [] for name in rates}
     for _ in range(runs):
-        for name, program in programs.items():
-            done, used = asked(program, "answers", 1, SMALL, seconds)
+        for name in rates:
+            done, used = asked(programs[name], "answers", 1, SMALL, seconds)
             if done and done[0][0]:
                 rates[name].append(done[0][0] / done[0][1])
                 costs[name].append(1e6 * used / done[0][0])
-    for name in programs:
+    for name in rates:
         print(f"answers {name}: {numbers(rates[name])} a second; {numbers(costs[name])} us of processor each", flush=True)
-    return {name: (statistics.median(rates[name] or [0]), statistics.median(costs[name] or [0])) for name in programs}
+    return {name: (statistics.median(rates[name] or [0]), statistics.median(costs[name] or [0])) for name in rates}
 
 
 def messages(programs: dict[str, str], runs: int) -> dict[str, float]:
     """The median seconds of a message of each."""
-    times: dict[str, list[float]] = {name: [] for name in programs if name not in ("UDP", "same")}
+    times: dict[str, list[float]] = {name: [] for name in programs if name not in SHORT}
     sent: dict[str, list[float]] = {name: [] for name in times}
     for _ in range(runs):
         for name in times:
@@ -137,9 +142,9 @@ def main() -> int:
     for name, (rate, used) in small.items():
         if name != "libdeltat" and own and used:
             print(f"answers: {name} gives {rate / own:.2f} times as many, for {used / cost:.2f} of the processor")
-    for name, it in large.items():
-        if name != "libdeltat" and it:
-            print(f"64 KiB: {name} takes {it / large['libdeltat']:.2f} of the time")
+    for ours, words in (("libdeltat", ""), ("segments", " in segments")):
+        if large.get("ENet") and large.get(ours):
+            print(f"64 KiB{words}: ENet takes {large['ENet'] / large[ours]:.2f} of the time")
     return 0
 
 

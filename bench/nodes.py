@@ -7,8 +7,9 @@ same sizes (`bench/plain.rs`, which `rustc` builds where no PLAIN is given). `be
   machine lets the two processes run: `taskset -c 0` for both has them share a processor.
 - rest: what a node uses of a processor while nothing comes, and while a datagram comes each millisecond.
 - octets: one node sends another messages of 65,536 octets, one after another, each from its taking to
-  its last acknowledgement; the plain client sends as many datagrams of the same size and waits for an
-  answer to every 64."""
+  its last acknowledgement; the plain client sends as many datagrams of the same size and waits for an answer
+  to each, 64 at a time; the median of either. Where a packet is lost its message stands until a timer sends it
+  again: how many did is told apart, with where packets were lost, so that a stall is seen as one."""
 import os
 import pathlib
 import resource
@@ -109,42 +110,76 @@ def rest(path, pause):
     return (used() - before) / (time.monotonic() - begun) * 100
 
 
-def spans(node):
-    """For each message the seconds from its `took` line to its last `settled` line, and how many packets
-    went out."""
-    first, last, sent = {}, {}, 0
-    for line in node.stdout:
-        now, words = time.monotonic(), line.split()
-        if len(words) < 4:
-            continue
-        if words[2] == b"took":
-            first[words[3]] = now
-        if words[2] == b"settled":
-            last[words[3]] = now
-        sent += words[2] in (b"sent", b"resent")
-    return [last[flow] - first[flow] for flow in first], sent
+def drops(port):
+    """How many datagrams the kernel has dropped at the socket of this port for want of room."""
+    with open("/proc/net/udp") as table:
+        rows = [line.split() for line in table]
+    return next((int(it[-1]) for it in rows[1:] if int(it[1].split(":")[1], 16) == port), 0)
 
 
-def octets(path, plain):
-    ports = free_port(), free_port()
+class Told:
+    """What the sender's lines tell while they come: for each message when it was taken and when it was last
+    acknowledged, and how many packets went out, went out again and were never sent. At each packet that goes
+    out again the kernel is asked what it dropped."""
+
+    def __init__(self, node, ports):
+        self.first, self.last, self.counts, self.dropped = {}, {}, dict.fromkeys(("sent", "resent", "unsent"), 0), [0, 0]
+        for line in node.stdout:
+            now, words = time.monotonic(), line.decode().split()
+            word = words[2] if len(words) > 2 else ""
+            if word == "took":
+                self.first[words[3]] = now
+            if word == "settled":
+                self.last[words[3]] = now
+            if word in self.counts:
+                self.counts[word] += 1
+            if word == "resent":
+                self.dropped = [drops(it) for it in ports]
+
+    def spans(self):
+        """The seconds of each message, from its taking to its last acknowledgement."""
+        return [self.last[flow] - self.first[flow] for flow in self.first]
+
+
+def arrived(log):
+    """How many data packets a receiver's log tells of: each is accepted, replied to or dropped."""
+    return sum(line.split()[2] in ("accepted", "replied", "dropped") for line in log.read_text().splitlines()[:-1])
+
+
+def tell_losses(told, ports, log):
+    """Where packets were lost, and how many messages stood until a timer sent them again: a stall is no speed."""
+    out, gone = sum(told.counts[it] for it in ("sent", "resent")), told.counts["unsent"]
+    late = out - gone - told.dropped[1] - arrived(log)
+    stood = sum(it > 0.1 for it in told.spans())
+    print(f"  (the sender sent {out} packets of {MESSAGES * 65536 // SEG}, {gone} of which didn't leave in time; the kernel dropped "
+          f"{told.dropped[1]} and {told.dropped[0]} answers; the receiver dropped {late} as late; {stood} messages of {MESSAGES} stood)")
+
+
+def octets(path, plain, folder):
+    ports, log = (free_port(), free_port()), pathlib.Path(folder, "receiver")
     nodes = []
-    for me, other, mine, theirs in ((2, 1, ports[1], ports[0]), (1, 2, ports[0], ports[1])):
-        sends = [f"at {500 + 100 * i} send 1:{i}>2:20 be {'61' * 65536}" for i in range(MESSAGES)] if me == 1 else []
-        text = node_script(SETUP, (me, other), (mine, theirs), [*sends, "at 8000 stop"])
-        nodes.append(start(path, text, out=subprocess.PIPE if me == 1 else subprocess.DEVNULL))
-    seconds, sent = spans(nodes[1])
-    by_nodes = MESSAGES * 65536 / sum(seconds)
-    print(f"  (the sender sent {sent} packets of {MESSAGES * 65536 // SEG})")
+    with log.open("wb") as lines:
+        for me, other, mine, theirs, stop in ((2, 1, ports[1], ports[0], 9000), (1, 2, ports[0], ports[1], 8000)):
+            sends = [f"at {500 + 100 * i} send 1:{i}>2:20 be {'61' * 65536}" for i in range(MESSAGES)] if me == 1 else []
+            text = node_script(SETUP, (me, other), (mine, theirs), [*sends, f"at {stop} stop"])
+            nodes.append(start(path, text, out=subprocess.PIPE if me == 1 else lines))
+        told = Told(nodes[1], ports)
+        for node in nodes:
+            node.wait()
+    tell_losses(told, ports, log)
+    by_nodes = 65536 / statistics.median(told.spans())
     client, port, count = client_socket(), free_port(), MESSAGES * 65536 // SEG
     loop = subprocess.Popen([plain, str(port), str(count)])
     time.sleep(0.3)
-    begun = time.monotonic()
-    for i in range(count):
-        client.sendto(b"a" * (SEG + 30), (HOST, port))
-        if i % 64 == 63:
-            for _ in range(64):
-                client.recv(65536)
-    by_loop = MESSAGES * 65536 / (time.monotonic() - begun)
+    seconds = []
+    for _ in range(MESSAGES):
+        begun = time.monotonic()
+        for _ in range(65536 // SEG):
+            client.sendto(b"a" * (SEG + 30), (HOST, port))
+        for _ in range(65536 // SEG):
+            client.recv(65536)
+        seconds.append(time.monotonic() - begun)
+    by_loop = 65536 / statistics.median(seconds)
     loop.wait()
     return by_nodes, by_loop
 
@@ -156,7 +191,7 @@ def main() -> None:
             subprocess.run(["rustc", "-O", "-o", plain, pathlib.Path(__file__).with_name("plain.rs")], check=True)
         print("requests of 100 octets a second: node %.0f (%.1f us of processor each), plain loop %.0f (%.1f us)" % tuple(requests(program(), plain)))
         print("processor of a node: at rest %.1f %%, with a datagram each millisecond %.1f %%" % (rest(program(), None), rest(program(), 0.001)))
-        print("octets a second of messages of 65,536: two nodes %.0f, plain loop %.0f" % octets(program(), plain))
+        print("octets a second of messages of 65,536: two nodes %.0f, plain loop %.0f" % octets(program(), plain, folder))
 
 
 if __name__ == "__main__":

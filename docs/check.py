@@ -396,7 +396,7 @@ def written_words() -> set[str]:
 
 def read_words() -> set[str]:
     """The first words of the lines that are read."""
-    return set(re.findall(r'is\(name, "(\w+)"\)', text_of(TOP / "crates/dt_text/src/reading.rt")))
+    return set(re.findall(r'"(\w+)" => \w+_line,', text_of(TOP / "crates/dt_text/src/reading.rt")))
 
 
 def check_formats() -> Iterator[Complaint]:
@@ -448,32 +448,48 @@ def check_page_of_clauses() -> Iterator[Complaint]:
 
 # --- what a new variant costs
 
-# sums of which a new variant wants a row in many files: what a variant is, the type, and the file that declares it
+class Sum(NamedTuple):
+    """A sum of which a new variant wants a row in many files."""
+
+    variant: str
+    type: str
+    path: str
+    # the definition that says its values without loans, where it has another name
+    seen: str = ""
+
+
 SUMS = (
-    ("a line that is written", "Report", "dt_reports/src/reports.rt"),
-    ("a line that is read", "Line", "dt_text/src/lines.rt"),
+    Sum("a line that is written", "Report", "dt_reports/src/reports.rt", "Told"),
+    Sum("a line of the setup of a world", "SetupLine", "dt_text/src/lines.rt"),
+    Sum("a line of a world behind `go`", "WorldLine", "dt_text/src/lines.rt"),
+    Sum("a line of a user of a node", "UserLine", "dt_text/src/lines.rt", "UserSaid"),
+    Sum("a line that sets up a script's node", "NodeLine", "dt_text/src/lines.rt"),
+    Sum("a kind of lines behind `go`", "RunLine", "dt_text/src/lines.rt", "RunSaid"),
+    Sum("a kind of lines of a script alone", "ScriptLine", "dt_text/src/lines.rt", "ScriptSaid"),
+    Sum("a kind of lines", "Line", "dt_text/src/lines.rt", "Said"),
 )
 
 
-def files_with_all_of(name: str, path: str) -> list[str]:
-    """The files outside the crates of tests that name every variant of a type, lowest crate first."""
-    body = re.search(rf"pub enum {name}(?:<[^>]*>)? \{{(.*?)\n\}}", text_of(TOP / "crates" / path), re.S)
-    assert body, f"{path} declares no {name}"
+def files_with_all_of(it: Sum) -> list[str]:
+    """The files outside the crates of tests that name a type and every variant of it, lowest crate first."""
+    body = re.search(rf"pub enum {it.type}(?:<[^>]*>)? \{{(.*?)\n\}}", text_of(TOP / "crates" / it.path), re.S)
+    assert body, f"{it.path} declares no {it.type}"
     variants = set(re.findall(r"(?m)^    ([A-Z]\w*)", body[1]))
     order = list(crates())
     found = []
-    for it in sources("src", "specs", "proofs"):
-        crate = it.relative_to(TOP / "crates").parts[0]
-        if not crate.endswith("_rows") and variants <= set(re.findall(r"\w+", text_of(it))):
-            found.append((order.index(crate), it.relative_to(TOP / "crates").as_posix()))
-    return [name for _, name in sorted(found)]
+    for path in sources("src", "specs", "proofs"):
+        crate = path.relative_to(TOP / "crates").parts[0]
+        words = set(re.findall(r"\w+", text_of(path)))
+        if not crate.endswith("_rows") and variants <= words and words & {it.type, it.seen}:
+            found.append((order.index(crate), path.relative_to(TOP / "crates").as_posix()))
+    return [path for _, path in sorted(found)]
 
 
 def lines_of_costs() -> list[str]:
     lines = []
-    for what, name, path in SUMS:
-        found = files_with_all_of(name, path)
-        lines.append(f"| {what} | `{name}` | {len(found)} | {', '.join(f'`{it}`' for it in found)} |")
+    for it in SUMS:
+        found = files_with_all_of(it)
+        lines.append(f"| {it.variant} | `{it.type}` | {len(found)} | {', '.join(f'`{path}`' for path in found)} |")
     return lines
 
 

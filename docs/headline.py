@@ -17,7 +17,7 @@ COMMANDS = {
     "`replay`: the headline": ["dt_replay/Schedules", "dt_world_model/WorldFacts", "dt_fold/Logging"],
     "`node` and `trace`, beside those": ["dt_node/Serving", "dt_node/Completing"],
     "`retrace`, beside those": ["dt_retrace/Retracing", "dt_retrace/Repeating", "dt_retrace/Completing"],
-    "`calls`, beside those": ["dt_calls/CallAnswers"],
+    "`calls`, beside those": ["dt_calls_input/CallAnswers"],
     "`audit`, beside those": ["dt_audit/Audits"],
     "`make`, beside those": ["dt_make/Schedules"],
     "networks of endpoints, beside those": ["dt_network/Octets", "dt_network/Beside", "dt_network/Duties"],

@@ -62,7 +62,10 @@ enum dt_status {
     DT_STALE = 12,    /* the datagram waited for all of its life, or longer; nothing changed but a count */
     DT_KEPT_OUT = 13, /* the guard doesn't admit the datagram, which is lost and counted; nothing else changed */
     DT_MORE = 14,     /* many flows were looked at, and none had a message; others may have one */
-    DT_LOST = 15      /* there was no memory for octets of the flow that were read: they are lost, the node goes on */
+    DT_LOST = 15,     /* there was no memory for octets of the flow that were read: they are lost, the node goes on */
+    DT_MANY = 16,     /* as many calls as may be wait or have ends that weren't taken; nothing changed */
+    DT_NUMBERS = 17,  /* each number of this life was used: dt_raise; nothing changed */
+    DT_GONE = 18      /* the token isn't open: it had its reply, was forgotten or is of a former life; nothing changed */
 };
 
 enum dt_fault { /* the first test of a datagram that fails, and what `value` tells */
@@ -259,6 +262,114 @@ struct dt_report dt_next_report(dt_node *n);
 /* The least moment at which something is due: dt_tick then. None (`some` is false) where there is no such moment, the
  * node is spent or the handle holds none. Nothing changes. */
 struct dt_moment dt_wake(dt_node *n);
+
+/* SERVICES: request and reply between nodes. A service is a node of its own kind, in a handle of its own kind, with the
+ * duties above; dt_node calls aren't for it, and it has no plain ports. Each call below that has a `now` is one turn of the
+ * definition: an event, or none where a token is forgotten, and then its end. What came for ports with a kind is read then,
+ * in whole messages; requests are handed out and calls are answered; and each call whose octets were given up or whose
+ * patience is over ends. What is refused isn't a turn, and changes nothing (a datagram: a count).
+ *
+ *   for (;;) {
+ *       struct dt_moment wake = dt_service_wake(s);       wait for the socket, at most until `wake`
+ *       a datagram came: dt_service_arrive(s, now(), link, buf, len, waited);   none did: dt_service_tick(s, now());
+ *       while ((e = dt_next_event(s, buf, sizeof buf)).status == DT_DONE)
+ *           if (e.kind == DT_REQUEST) dt_reply(s, now(), &token, answer, len);        at once or later, in any order
+ *       while ((f = dt_service_next_frame(s, buf, sizeof buf)).status == DT_DONE)    send it on f.link, or to f.to
+ *   }
+ *
+ * What you owe beside the duties above
+ *   life     No two openings of a node number, and no dt_raise, have the same life: counted in a file that is written
+ *            before the first call, or drawn. Else a late answer may be taken for the answer to another call.
+ *   kinds    A port is a caller's or a service's in each life of its node, and callers call services alone. */
+
+typedef struct dt_service dt_service;
+
+/* How a service starts: as dt_start, with a life; `calls`, how many calls may wait or have an end that wasn't taken;
+ * `requests`, how many requests may have no reply, and how many weren't taken; `of_a_flow`, how many of one flow may have
+ * no reply. Where there is no room for a request its flow isn't read, and nothing is dropped. */
+struct dt_service_start { uint64_t now; uint32_t me, life, calls, requests, of_a_flow; bool again; };
+/* The name of a request: the flow on which it came and the number of its call, which is its life in the upper 32 bits and
+ * a count in the lower. It may be stored, compared and logged. */
+struct dt_token { uint64_t number; struct dt_flow flow; };
+
+struct dt_made { uint64_t number, until; uint32_t free; uint8_t status, unfit; };
+struct dt_replied { uint32_t free; uint8_t status, unfit; };
+struct dt_event { uint64_t number; size_t len; struct dt_flow flow; uint8_t status, kind, cause; };
+/* How many messages were dropped: replies to calls of this life that have ended, and of other lives; at a caller with a
+ * number that no call of this life has had yet or that waits on another flow, and at a service with a name that is open
+ * (both are alarms: a life was used before); cut by a gap, a new beginning or the end of a receive record; above 65,536
+ * octets; and below eight. Each is 2^64 - 1 at most. */
+struct dt_call_counts { uint64_t late, old, strange, reused, cut, too_long, too_short; uint8_t status; };
+
+enum dt_port_kind { DT_CALLER = 1, DT_SERVICE = 2 };
+enum dt_event_kind {
+    DT_REQUEST = 1,  /* a request was handed out, once: its token is `number` and `flow`, and `len` octets are its payload */
+    DT_ANSWERED = 2, /* the call `number` ended with its answer, `len` octets: its request was handed out once */
+    DT_UNSURE = 3    /* the call `number` ended without: it was served once or not at all, and may still be; `cause` */
+};
+enum dt_cause { DT_GIVEN_UP = 1, DT_PATIENCE = 2, DT_WAS_CLOSED = 3 };
+enum dt_unfit { /* why a call or a reply is REFUSED */
+    DT_BAD_FLOW = 1,     /* its flow doesn't go from this node to another */
+    DT_NOT_A_CALLER = 2, /* its flow doesn't go from a caller's port */
+    DT_TOO_LONG = 3,     /* its message, eight octets more, has more than `cap` octets or 65,536 */
+    DT_NO_PATIENCE = 4,  /* patience is 0 */
+    DT_TOO_MANY = 5      /* with it 2^62 octets would have been handed in */
+};
+
+size_t dt_service_size(void);          /* how many octets a handle of a service takes */
+size_t dt_service_align(void);         /* to how many it is aligned */
+void dt_service_init(dt_service *s);   /* on fresh memory: the handle holds no service */
+void dt_service_close(dt_service *s);  /* frees what the service holds, untold ends too; the handle may be opened again */
+
+/* Makes the service of these parameters, start, links and routes, all of which are copied; no port has a kind. As dt_open:
+ * DONE NO_MEMORY HELD REFUSED. */
+struct dt_opened dt_service_open(dt_service *s, const struct dt_params *p, const struct dt_service_start *start,
+                                 const struct dt_link *links, size_t link_count, const struct dt_route *routes, size_t route_count);
+
+/* A port gets its kind, for good. What comes to a port without one isn't read. DONE CLOSED; HELD: it has one; REFUSED: there
+ * is no such kind; NO_MEMORY: nothing changed. */
+uint8_t dt_port(dt_service *s, uint16_t port, uint8_t kind);
+
+/* A call: a request with this payload goes on a flow from a caller's port, and its end comes by dt_next_event, at the latest
+ * in the first turn `patience` ms or more after `now`. DONE: it has `number`. QUIET: silent until `until`, and FULL: `free`
+ * octets fit; then nothing of it was taken, and what else was due is done. CLOSED MANY NUMBERS SPENT; REFUSED: `unfit`.
+ * NO_MEMORY: the service is closed, as by dt_service_stop; its request may have been taken, and then its end is told too. */
+struct dt_made dt_call(dt_service *s, uint64_t now, const struct dt_flow *f, const uint8_t *payload, size_t len, uint32_t patience);
+
+/* The reply to a request, once. DONE: the node has it, and the token is open no more; FULL: `free` octets fit, what else was
+ * due is done, and the reply may be tried again. CLOSED GONE SPENT; REFUSED: `unfit`. NO_MEMORY: as dt_call. */
+struct dt_replied dt_reply(dt_service *s, uint64_t now, const struct dt_token *t, const uint8_t *payload, size_t len);
+
+/* A request has no reply: its token is open no more, and there is room for another. DONE CLOSED GONE NO_MEMORY */
+uint8_t dt_forget(dt_service *s, uint64_t now, const struct dt_token *t);
+
+/* What happened, in its order and each once: `len` octets at the head of the buffer, the rest of which is as it was. It is no
+ * turn. Behind NO_MEMORY and dt_service_stop it hands out what was told, and then that each call that waited is UNSURE,
+ * WAS_CLOSED. DONE CLOSED; NOTHING: nothing was told; ROOM: `len` octets are wanted, and it goes on waiting. */
+struct dt_event dt_next_event(dt_service *s, uint8_t *buf, size_t room);
+
+/* From now on calls have numbers of this life, from 0 on; what waits goes on waiting by its own number. DONE CLOSED; HELD: it
+ * is the life of the service, or of a call that waits. */
+uint8_t dt_raise(dt_service *s, uint32_t life);
+
+/* What was dropped. Nothing changes. DONE CLOSED */
+struct dt_call_counts dt_call_counts(dt_service *s);
+
+/* Each call that waits is unsure, all else but what wasn't taken is forgotten, and no turn is done any more. It takes no
+ * memory. DONE CLOSED */
+uint8_t dt_service_stop(dt_service *s);
+
+/* As dt_tick, dt_arrive, dt_next_frame, dt_wake, dt_add_route, dt_guard, dt_kept_out and dt_counts, of a service. SPENT: an
+ * earlier call found no memory, or the service was stopped. The wake has the least end of a patience too, and a service
+ * that was stopped has none. */
+uint8_t dt_service_tick(dt_service *s, uint64_t now);
+struct dt_came dt_service_arrive(dt_service *s, uint64_t now, uint16_t link, const uint8_t *datagram, size_t len, uint32_t waited);
+struct dt_out dt_service_next_frame(dt_service *s, uint8_t *buf, size_t room);
+struct dt_moment dt_service_wake(dt_service *s);
+uint8_t dt_service_add_route(dt_service *s, const struct dt_route *route);
+uint8_t dt_service_guard(dt_service *s, const uint16_t *ports, size_t port_count, bool all, uint32_t flows);
+struct dt_kept_out dt_service_kept_out(dt_service *s);
+struct dt_counts dt_service_counts(dt_service *s);
 
 #ifdef __cplusplus
 }

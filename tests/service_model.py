@@ -84,8 +84,8 @@ class Station(Protocol):
 
 @dataclass(frozen=True)
 class Limits:
-    """How many calls may wait or have ends that nobody took, and how many requests may be open or untaken, in all and
-    of one flow."""
+    """How many calls may wait or have ends that nobody took; how many requests may be open, and how many untaken; and how
+    many of one flow may be open."""
 
     most_waiting: int = 1_000
     most_open: int = 1_000
@@ -298,8 +298,9 @@ class Node:
         """Whether a flow may be read: a caller's always, and a service's while there is room for one request more."""
         if self.kinds[flow.target_port] == CALLER:
             return True
-        kept = self.open.keys() | {it[1] for it in self.queue if it[0] == "request"}
-        return len(kept) < self.limits.most_open and sum(it.flow == flow for it in kept) < self.limits.most_each
+        kept, untaken = self.open.keys(), sum(it[0] == "request" for it in self.queue)
+        has_place = len(kept) < self.limits.most_open and untaken < self.limits.most_open
+        return has_place and sum(it.flow == flow for it in kept) < self.limits.most_each
 
     # --- messages
 

@@ -271,12 +271,12 @@ class Referee:
         holds(node.open.keys() == host.open.keys(), "one reply a token: what is open")
         limits = node.limits
         holds(len(node.waiting) <= limits.most_waiting and len(node.open) <= limits.most_open, "bounded")
-        kept = node.open.keys() | {it[1] for it in node.queue if it[0] == "request"}
-        each = Counter(it.flow for it in kept)
-        holds(len(kept) <= limits.most_open and all(it <= limits.most_each for it in each.values()), "bounded: requests")
+        each = Counter(it.flow for it in node.open)
+        untaken = sum(it[0] == "request" for it in node.queue)
+        holds(untaken <= limits.most_open and all(it <= limits.most_each for it in each.values()), "bounded: requests")
         for flow in station.rows:
             if station.is_unread(flow):
-                has_room = len(kept) < limits.most_open and each[flow] < limits.most_each
+                has_room = max(len(node.open), untaken) < limits.most_open and each[flow] < limits.most_each
                 holds(node.kinds[flow.target_port] == SERVICE and not has_room, "at rest")
         for flow, posted in node.posted.items():
             track = self.wire.tracks[flow]

@@ -30,7 +30,6 @@ def library(path: str | None) -> types.ModuleType | None:
         return None
     os.environ["DELTAT_LIBRARY"] = str(found.resolve())
     sys.path.insert(0, str(TOP / "bindings" / "python"))
-    sys.path.insert(0, str(TOP / "examples" / "bank"))
     return importlib.import_module("deltat")
 
 
@@ -150,7 +149,7 @@ class Simulated:
 
 
 class Half:
-    """The node of examples/bank/service.py, asked as the model is. What is judged otherwise is asked the same way."""
+    """The service of the library, asked as the model is. What is judged otherwise is asked the same way."""
 
     def __init__(self, service: types.ModuleType, node: object) -> None:
         self.service, self.node = service, node
@@ -194,7 +193,12 @@ class Half:
         self.node.tick(at)
 
     def close(self, at: int) -> None:
-        self.node.close()
+        self.node.stop()
+
+    @property
+    def counts(self) -> dict[str, int]:
+        """Those that aren't 0."""
+        return {name: it for name, it in self.node.call_counts()._asdict().items() if it}
 
     def taken(self) -> list[tuple[object, ...]]:
         told = []
@@ -250,9 +254,9 @@ class Pair(Alone):
         params = deltat.Params(**dataclasses.asdict(run.params))
         plain = deltat.Node(me, params, links, routes, is_again, run.at)
         self.model = service_model.Node(me, self.life, LibraryStation(deltat, plain), run.limits, run.at)
-        service = importlib.import_module("service")
+        service = importlib.import_module("deltat_service")
         limits = service.Limits(run.limits.most_waiting, run.limits.most_open, run.limits.most_each)
-        self.other = Half(service, service.Node(me, self.life, params, links, routes, is_again, run.at, limits))
+        self.other = Half(service, service.Service(me, self.life, params, links, routes, is_again, run.at, limits))
         for port, kind in PORTS:
             self.model.port(port, kind)
             self.other.port(port, kind)
@@ -264,7 +268,7 @@ class Pair(Alone):
         if what != "close":
             wakes = self.model.wake, self.other.node.wake
             holds(wakes[0] == wakes[1], f"{what} {words}: the wake is {wakes[1]}, and the definitions say {wakes[0]}")
-            counts = +self.model.counts, +self.other.node.counts
+            counts = dict(+self.model.counts), self.other.counts
             holds(counts[0] == counts[1], f"{what} {words}: counted {counts[1]}, and the definitions say {counts[0]}")
         return statuses[0] or ()
 
@@ -429,7 +433,7 @@ def world(count: int, first: int, deltat: types.ModuleType | None) -> bool:
             print(f"run {seed} over {over} fails: {why}")
             return False
         totals += run.totals
-    agrees = ", and examples/bank/service.py tells the same" if deltat else ""
+    agrees = ", and its services tell the same" if deltat else ""
     print(f"{count} runs over {over} hold{agrees}: " + ", ".join(f"{name} {it}" for name, it in sorted(totals.items())), flush=True)
     wanted = ("answered", "given up", "patience", "closed", "reply gone", "reply full", "old", "late", "cut")
     return totals["strange"] + totals["reused"] == 0 and all(totals[it] for it in wanted)

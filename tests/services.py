@@ -11,8 +11,8 @@
   over plain stations (`tests/station_model.py`) in simulated time, whose reports are compared too; and, where
   `make -C lib` has made the library, over its nodes.
 - world: random runs of three nodes over links that drop, repeat and reorder, with restarts: the theorems hold, by the
-  names of the calls, over plain stations, and over nodes of the library. There examples/bank/service.py is asked beside
-  the definitions, and tells just what they say.
+  names of the calls, over plain stations, and over nodes of the library. There the library's services are asked beside
+  the definitions, and tell just what they say.
 
 In tests/all: --runs 3000, 300 s."""
 import argparse
@@ -219,7 +219,7 @@ def limited() -> list[tuple[str, bool]]:
     """What waits for room, and what takes a place until it is taken."""
     # of two requests and one place the second is handed out with the turn of the first one's reply, once that was taken
     events = [came(INTO, message(9), message(10)), ("reply", 6, Token(INTO, 9), b""), ("take",), ("tick", 7)]
-    each = judged(node_of(Limits(9, 9, 1)), events, keeps=True)
+    each = judged(node_of(Limits(9, 1, 9)), events, keeps=True)
     taken = judged(node_of(Limits(9, 9, 1)), events)
     call = "call", 1, OUT, b"", 9
     many = judged(node_of(Limits(1, 9, 9)), [call, call, ("tick", 20), call, ("take",), call], keeps=True)

@@ -1,4 +1,7 @@
-/* Nodes of libdeltat over UDP sockets, each request one message. peer.h says how it is run. DELAY_MS and RTO_MS are what
+/* Nodes of libdeltat over UDP sockets, each request one message. All frames that a turn leaves go by one system call, and
+ * all datagrams that wait are taken in by one. With SEGMENTS frames of one length for one node go as one buffer, which
+ * the system cuts into datagrams (UDP_SEGMENT) and joins again where they come (UDP_GRO). peer.h says how it is run.
+ * DELAY_MS and RTO_MS are what
  * the nodes' parameters allow for; AGAIN lets the server be opened again, and MANY_FLOWS gives each flow of either end a
  * room of 4,096 octets. And what the library takes by itself:
  *
@@ -9,21 +12,26 @@
 #define _GNU_SOURCE
 #include "peer.h"
 #include "deltat.h"
+#include <netinet/udp.h>
 #include <sys/socket.h>
 #include <sys/time.h>
 
 /* a client has a number of its own each time: one that is used again would have to be silent first */
-enum { SERVER = 1, FIRST_CLIENT = 1000, CLIENTS = 64, LINK = 1, PORT = 20, LATE = 20, MOST = 65536 };
+enum { SERVER = 1, FIRST_CLIENT = 1000, CLIENTS = 64, LINK = 1, PORT = 20, LATE = 20, MOST = 65536, BATCH = 64 };
 
 struct end {
     dt_node *node;
     int door;
     struct sockaddr_in peers[CLIENTS]; /* of the server, where its clients are; of a client, where the server is */
     uint64_t empty_at, now, ticked, events;
+    uint64_t left_at; /* the moment of the first event since frames were put on the wire, or 0 */
 };
 
 /* a message that is read */
 static unsigned char octets_read[MOST];
+
+/* whether the system cuts and joins datagrams */
+static int in_segments;
 
 static uint64_t clock_ms(clockid_t clock) {
     struct timespec it;
@@ -60,72 +68,148 @@ static int opened_door(const struct sockaddr_in *here) {
     struct timeval longest = {0, 1000};
     setsockopt(it, SOL_SOCKET, SO_RCVBUF, &size, sizeof size);
     if (setsockopt(it, SOL_SOCKET, SO_TIMESTAMPNS, &yes, sizeof yes) || setsockopt(it, SOL_SOCKET, SO_RCVTIMEO, &longest, sizeof longest)) fail("no stamps");
+    in_segments = getenv("SEGMENTS") != NULL;
+    if (in_segments && setsockopt(it, IPPROTO_UDP, UDP_GRO, &yes, sizeof yes)) fail("no segments");
     if (here != NULL && bind(it, (const struct sockaddr *)here, sizeof *here) != 0) fail("the address can't be bound");
     return it;
 }
 
 static size_t place_of(uint32_t node) { return node == SERVER ? 0 : (node - FIRST_CLIENT) % CLIENTS; }
 
-/* puts on the wire what left at that moment */
-static void flush(struct end *it, uint64_t at) {
-    unsigned char frame[DT_MOST_FRAME];
-    struct dt_out out;
-    while ((out = dt_next_frame(it->node, frame, sizeof frame)).status == DT_DONE)
-        if (clock_ms(CLOCK_BOOTTIME) - at <= LATE)
-            sendto(it->door, frame, out.len, 0, (struct sockaddr *)&it->peers[place_of(out.to)], sizeof it->peers[0]);
+/* datagrams that are handed to the system together, or that it hands over together */
+struct batch {
+    struct mmsghdr heads[BATCH];
+    struct iovec octets[BATCH];
+    struct sockaddr_in peers[BATCH];
+    _Alignas(struct cmsghdr) char controls[BATCH][128];
+};
+
+/* Has the system cut what a head holds into datagrams of so many octets, the last of which may be shorter. */
+static void cut(struct msghdr *head, void *room, size_t octets) {
+    uint16_t size = (uint16_t)octets;
+    head->msg_control = room;
+    head->msg_controllen = CMSG_SPACE(sizeof size);
+    struct cmsghdr *it = CMSG_FIRSTHDR(head);
+    it->cmsg_level = IPPROTO_UDP;
+    it->cmsg_type = UDP_SEGMENT;
+    it->cmsg_len = CMSG_LEN(sizeof size);
+    memcpy(CMSG_DATA(it), &size, sizeof size);
 }
 
-/* how long a datagram waited, rounded up: by the kernel's stamp, and no longer than since the socket was empty */
-static uint32_t waited(struct msghdr *head, uint64_t at, uint64_t empty_at) {
+/* Whether a frame goes behind the last one of a head: that one is as long as the head's first, and it isn't longer. */
+static int goes_on(const struct msghdr *head, const struct sockaddr_in *peer, size_t len) {
+    const struct iovec *octets = head->msg_iov;
+    size_t most = (MOST - 64) / octets[0].iov_len;
+    return in_segments && head->msg_name == peer && head->msg_iovlen < most && octets[head->msg_iovlen - 1].iov_len == octets[0].iov_len && len <= octets[0].iov_len;
+}
+
+/* An event at that moment: frames may leave. */
+static void happens(struct end *it, uint64_t at) {
+    if (it->left_at == 0) it->left_at = at;
+}
+
+/* puts on the wire what left since it was done last */
+static void flush(struct end *it) {
+    static struct batch out;
+    static unsigned char rooms[BATCH][DT_MOST_FRAME];
+    struct dt_out left;
+    unsigned frames, count;
+    if (it->left_at == 0) return;
+    do {
+        for (frames = count = 0; frames < BATCH && (left = dt_next_frame(it->node, rooms[frames], DT_MOST_FRAME)).status == DT_DONE; frames++) {
+            struct sockaddr_in *peer = &it->peers[place_of(left.to)];
+            out.octets[frames] = (struct iovec){rooms[frames], left.len};
+            if (count > 0 && goes_on(&out.heads[count - 1].msg_hdr, peer, left.len)) {
+                struct msghdr *head = &out.heads[count - 1].msg_hdr;
+                if (head->msg_iovlen++ == 1) cut(head, out.controls[count - 1], head->msg_iov[0].iov_len);
+            } else out.heads[count++].msg_hdr = (struct msghdr){.msg_name = peer, .msg_namelen = sizeof *peer, .msg_iov = &out.octets[frames], .msg_iovlen = 1};
+        }
+        if (count == 0 || clock_ms(CLOCK_BOOTTIME) - it->left_at > LATE) continue;
+        /* one that the system doesn't take is lost, as on the wire */
+        for (unsigned gone = 0; gone < count;) {
+            int more = sendmmsg(it->door, out.heads + gone, count - gone, 0);
+            gone += more > 0 ? (unsigned)more : 1;
+        }
+    } while (frames == BATCH);
+    it->left_at = 0;
+}
+
+/* how long a datagram waited, rounded up: by the kernel's stamp, and no longer than since the socket was empty; and how
+   long the datagrams of a head are that were joined, else as they are */
+static uint32_t waited(struct mmsghdr *head, uint64_t at, uint64_t empty_at, size_t *size) {
     uint64_t most = at - empty_at;
-    for (struct cmsghdr *it = CMSG_FIRSTHDR(head); it; it = CMSG_NXTHDR(head, it))
+    *size = head->msg_len;
+    for (struct cmsghdr *it = CMSG_FIRSTHDR(&head->msg_hdr); it; it = CMSG_NXTHDR(&head->msg_hdr, it))
         if (it->cmsg_level == SOL_SOCKET && it->cmsg_type == SCM_TIMESTAMPNS) {
             struct timespec stamp;
             memcpy(&stamp, CMSG_DATA(it), sizeof stamp);
             uint64_t came = (uint64_t)stamp.tv_sec * 1000 + (uint64_t)stamp.tv_nsec / 1000000, wall = clock_ms(CLOCK_REALTIME) + 1;
             if (came <= wall && wall - came < most) most = wall - came;
+        } else if (it->cmsg_level == IPPROTO_UDP && it->cmsg_type == UDP_GRO) {
+            int octets;
+            memcpy(&octets, CMSG_DATA(it), sizeof octets);
+            *size = (size_t)octets;
         }
     return most > UINT32_MAX ? UINT32_MAX : (uint32_t)most;
 }
 
-/* Waits for a datagram, as long as the socket does, and takes it in. Whether one came. */
+/* takes in a datagram, and where its maker's answers go */
+static void arrive(struct end *it, const unsigned char *datagram, size_t len, const struct sockaddr_in *from, uint32_t wait) {
+    if (len >= 16) {
+        uint32_t maker = (uint32_t)datagram[8] << 24 | (uint32_t)datagram[9] << 16 | (uint32_t)datagram[10] << 8 | datagram[11];
+        if (maker != SERVER) it->peers[place_of(maker)] = *from;
+    }
+    must(dt_arrive(it->node, it->now, LINK, datagram, len, wait).status, "a datagram");
+}
+
+/* Waits for a datagram, as long as the socket does, and takes in all that wait. Whether one came. */
 static int receive(struct end *it) {
-    static unsigned char datagram[MOST];
-    struct sockaddr_in from;
-    char room[128];
-    struct iovec octets = {datagram, sizeof datagram};
-    struct msghdr head = {.msg_name = &from, .msg_namelen = sizeof from, .msg_iov = &octets, .msg_iovlen = 1, .msg_control = room, .msg_controllen = sizeof room};
-    ssize_t len = recvmsg(it->door, &head, 0);
+    static struct batch in;
+    static unsigned char rooms[BATCH][MOST];
+    static int used = BATCH;
+    for (int i = 0; i < used; i++) {
+        in.octets[i] = (struct iovec){rooms[i], sizeof rooms[i]};
+        in.heads[i].msg_hdr = (struct msghdr){.msg_name = &in.peers[i], .msg_namelen = sizeof in.peers[i], .msg_iov = &in.octets[i], .msg_iovlen = 1, .msg_control = in.controls[i], .msg_controllen = sizeof in.controls[i]};
+    }
+    int count = recvmmsg(it->door, in.heads, BATCH, MSG_WAITFORONE, NULL);
     it->now = clock_ms(CLOCK_BOOTTIME);
-    if (len < 0) {
+    used = count < 0 ? 0 : count;
+    if (count < 0) {
         it->empty_at = it->now;
         return 0;
     }
-    if (len >= 16) {
-        uint32_t maker = (uint32_t)datagram[8] << 24 | (uint32_t)datagram[9] << 16 | (uint32_t)datagram[10] << 8 | datagram[11];
-        if (maker != SERVER) it->peers[place_of(maker)] = from;
+    happens(it, it->now);
+    for (int i = 0; i < count; i++) {
+        size_t len = in.heads[i].msg_len, size, done = 0;
+        uint32_t wait = waited(&in.heads[i], it->now, it->empty_at, &size);
+        do {
+            size_t some = len - done < size ? len - done : size;
+            arrive(it, rooms[i] + done, some, &in.peers[i], wait);
+            done += some;
+        } while (done < len);
     }
-    must(dt_arrive(it->node, it->now, LINK, datagram, (size_t)len, waited(&head, it->now, it->empty_at)).status, "a datagram");
     return 1;
 }
 
-/* Reads what is unread of a flow. Whether a message ended; they are as long as they are sent, so no part of one waits
-   for another flow's. */
-static int message_of(dt_node *node, const struct dt_flow *flow, uint64_t at) {
+/* Reads what is unread of a flow, to the end of a message at most. How many octets, and whether one ended; they are as
+   long as they are sent, so no part of one waits for another flow's. */
+static size_t message_of(dt_node *node, const struct dt_flow *flow, uint64_t at, int *ended) {
     struct dt_piece piece;
-    int ended = 0;
-    while (!ended && (piece = dt_read(node, at, flow, octets_read, sizeof octets_read)).status == DT_DONE) {
+    size_t octets = 0;
+    *ended = 0;
+    while (!*ended && (piece = dt_read(node, at, flow, octets_read, sizeof octets_read)).status == DT_DONE) {
         if (piece.begin && piece.len >= HEAD + NUMBER) served(octets_read + HEAD);
-        ended = piece.end;
+        octets += piece.len;
+        *ended = piece.end;
     }
-    return ended;
+    return octets;
 }
 
 /* Hands a message in. Whether there was room for it: what was sent before may not be acknowledged yet. */
 static int takes(struct end *it, uint64_t at, struct dt_flow flow, const unsigned char *octets, size_t len) {
+    happens(it, at);
     struct dt_sent sent = dt_send(it->node, at, &flow, octets, len, true, true);
     must(sent.status, "a message");
-    flush(it, at);
     return sent.status == DT_DONE;
 }
 
@@ -137,9 +221,16 @@ static void give(struct end *it, uint64_t at, struct dt_flow flow, const unsigne
 static int messages(struct end *it, uint64_t at, int serves) {
     static const unsigned char answer[ANSWER];
     struct dt_report report;
-    int count = 0;
+    struct dt_flow last = {0, 0, 0, 0};
+    size_t ahead = 0; /* octets of the last flow that were read before it was told that they came */
+    int count = 0, ended;
     while ((report = dt_next_report(it->node)).status == DT_DONE) {
-        if (report.kind != DT_ACCEPTED || !message_of(it->node, &report.flow, at)) continue;
+        if (report.kind != DT_ACCEPTED) continue;
+        if (memcmp(&last, &report.flow, sizeof last) != 0) last = report.flow, ahead = 0;
+        if (ahead < report.count) ahead += message_of(it->node, &report.flow, at, &ended);
+        else ended = 0;
+        ahead -= ahead < report.count ? ahead : report.count;
+        if (!ended) continue;
         count++;
         struct dt_flow back = {report.flow.to, report.flow.from, report.flow.to_port, report.flow.from_port};
         if (serves) give(it, at, back, answer, ANSWER);
@@ -147,16 +238,18 @@ static int messages(struct end *it, uint64_t at, int serves) {
     return count;
 }
 
-/* Waits for a datagram, and does what came and, once a millisecond, what is due. How many messages came. */
+/* Puts on the wire what left, waits for a datagram, and does what came and, once a millisecond, what is due. How many
+   messages came. */
 static int turn(struct end *it, int serves) {
     int count = 0;
+    flush(it);
     if (receive(it)) count = messages(it, it->now, serves);
     if (it->now > it->ticked) {
+        happens(it, it->now);
         must(dt_tick(it->node, it->now), "a tick");
         count += messages(it, it->now, serves);
         it->ticked = it->now;
     }
-    flush(it, it->now);
     return count;
 }
 
@@ -181,7 +274,10 @@ static void ask_flows(struct end *it, uint32_t me, const struct question *asked,
     unsigned char *sent = request(asked->octets);
     double begun = now(), last = begun;
     int answered = 0;
-    for (int i = 0; i < asked->count; i++) give(it, clock_ms(CLOCK_BOOTTIME), (struct dt_flow){me, SERVER, (uint16_t)(100 + i), PORT}, sent, HEAD + (size_t)asked->octets);
+    for (int i = 0; i < asked->count; i++) {
+        give(it, clock_ms(CLOCK_BOOTTIME), (struct dt_flow){me, SERVER, (uint16_t)(100 + i), PORT}, sent, HEAD + (size_t)asked->octets);
+        flush(it);
+    }
     while (answered < asked->count && now() < until) {
         int came = turn(it, 0);
         answered += came;
@@ -207,11 +303,12 @@ static int carry(struct end *from, struct end *to, uint64_t at) {
 static int serve_memory(struct end *it, uint64_t at, int serves) {
     static const unsigned char answer[ANSWER];
     struct dt_report report;
-    int count = 0;
+    int count = 0, ended;
     while ((report = dt_next_report(it->node)).status == DT_DONE) {
         if (report.kind != DT_ACCEPTED) continue;
         it->events++;
-        if (!message_of(it->node, &report.flow, at)) continue;
+        message_of(it->node, &report.flow, at, &ended);
+        if (!ended) continue;
         count++;
         struct dt_flow back = {report.flow.to, report.flow.from, report.flow.to_port, report.flow.from_port};
         if (serves) must(dt_send(it->node, at, &back, answer, ANSWER, true, true).status, "an answer"), it->events++;
@@ -247,6 +344,20 @@ static void in_memory(uint32_t count, uint32_t octets) {
     free(sent);
 }
 
+static void ask_flow(struct end *it, uint32_t me, const struct question *asked, uint32_t octets, double until) {
+    if (!exchange(it, me, 10, NUMBER, until)) return;
+    uint32_t count = 0;
+    double begun = now();
+    if (strcmp(asked->what, "answers") == 0) {
+        while (now() < until && exchange(it, me, 10, octets, until)) count++;
+        done(count, now() - begun);
+    }
+    for (int i = 0; strcmp(asked->what, "message") == 0 && i < asked->count; i++, begun = now()) {
+        if (!exchange(it, me, 10, octets, until)) return;
+        done(octets, now() - begun);
+    }
+}
+
 static void ask(const char *address, int port, const struct question *asked) {
     uint32_t me = FIRST_CLIENT + (uint32_t)getpid() % CLIENTS, octets = asked->octets > MOST - HEAD ? MOST - HEAD : asked->octets;
     if (strcmp(asked->what, "memory") == 0) {
@@ -256,24 +367,10 @@ static void ask(const char *address, int port, const struct question *asked) {
     struct end it = {.node = opened(me), .door = opened_door(NULL), .empty_at = clock_ms(CLOCK_BOOTTIME)};
     double until = now() + asked->seconds, begun = now();
     it.peers[0] = place(address, port);
-    if (strcmp(asked->what, "flows") == 0) {
-        ask_flows(&it, me, asked, until);
-        return;
-    }
-    if (strcmp(asked->what, "first") == 0) {
+    if (strcmp(asked->what, "flows") == 0) ask_flows(&it, me, asked, until);
+    else if (strcmp(asked->what, "first") == 0) {
         for (int i = 0; i < asked->count && now() < until; i++, begun = now())
             if (exchange(&it, me, (uint16_t)(100 + i), octets, until)) done(1, now() - begun);
-        return;
-    }
-    if (!exchange(&it, me, 10, NUMBER, until)) return;
-    uint32_t count = 0;
-    begun = now();
-    if (strcmp(asked->what, "answers") == 0) {
-        while (now() < until && exchange(&it, me, 10, octets, until)) count++;
-        done(count, now() - begun);
-    }
-    for (int i = 0; strcmp(asked->what, "message") == 0 && i < asked->count; i++, begun = now()) {
-        if (!exchange(&it, me, 10, octets, until)) return;
-        done(octets, now() - begun);
-    }
+    } else ask_flow(&it, me, asked, octets, until);
+    flush(&it);
 }

@@ -16,9 +16,9 @@ import time
 
 from accounts import ACCOUNTS, Bank, Notes
 
-# the calls of this module are to come from the library
-import service
-from service import deltat
+sys.path.insert(0, str(pathlib.Path(__file__).resolve().parents[2] / "bindings" / "python"))
+import deltat  # noqa: E402
+import deltat_service as service  # noqa: E402
 
 PORT = 4_700
 # whether the ends are on this machine, with a relay between them (demo.py), or in two namespaces (tests/wan.py)
@@ -42,13 +42,13 @@ def bank_udp(folder: pathlib.Path) -> deltat.Udp:
     life = notes.new_life()
     links = [deltat.Link(it, CHARGE) for it in range(1, CLIENTS + 1)]
     routes = {it: it for it in range(1, CLIENTS + 1)}
-    node = service.Node(BANK, life, PARAMS, links, routes, again=life > 1)
+    node = service.Service(BANK, life, PARAMS, links, routes, again=life > 1)
     node.port(20, service.Kind.SERVICE)
     peers = {it: (CLIENT_HOST, PORT + it + (TO_CLIENT if IS_RELAYED else 0)) for it in routes}
     return deltat.Udp(node, (BANK_HOST, PORT), peers, routes)
 
 
-def client_udp(node: service.Node) -> deltat.Udp:
+def client_udp(node: service.Service) -> deltat.Udp:
     """A client's socket, whose only peer is the bank."""
     return deltat.Udp(node, (CLIENT_HOST, PORT + node.number), {BANK: (BANK_HOST, PORT + (TO_BANK + node.number if IS_RELAYED else 0))})
 
@@ -90,7 +90,7 @@ class CallingClient(Client):
     order was handed out before the question, or never will be."""
 
     def run(self) -> None:
-        node = service.Node(self.number, self.life, PARAMS, [deltat.Link(1, CHARGE)], {BANK: 1}, again=self.life > 1)
+        node = service.Service(self.number, self.life, PARAMS, [deltat.Link(1, CHARGE)], {BANK: 1}, again=self.life > 1)
         node.port(10, service.Kind.CALLER)
         with client_udp(node) as self.udp:
             self.calls = service.Calls(self.udp)

@@ -36,9 +36,8 @@ HERE = pathlib.Path(__file__).resolve().parent
 sys.path[:0] = [str(HERE), str(HERE.parents[1] / "tests")]
 
 import bank  # noqa: E402
-import service  # noqa: E402
 from accounts import ACCOUNTS, START, Bank, Notes  # noqa: E402
-from service import deltat  # noqa: E402
+from bank import deltat, service  # noqa: E402
 from wan import Bound, Carrier, Link, Outcome, impaired_link, stop  # noqa: E402
 
 DELAY = 20
@@ -214,7 +213,7 @@ def first_ask(folder: pathlib.Path) -> None:
     """How long a first answer takes, in ms: on a flow, or a connection, that was never used."""
     time.sleep(1)
     took: dict[str, list[float]] = {"calls": [], "TCP": []}
-    node = service.Node(1, 1, bank.PARAMS, [deltat.Link(1, bank.CHARGE)], {bank.BANK: 1})
+    node = service.Service(1, 1, bank.PARAMS, [deltat.Link(1, bank.CHARGE)], {bank.BANK: 1})
     with bank.client_udp(node) as udp:
         calls = service.Calls(udp)
         for at in range(FIRSTS):

@@ -1,4 +1,4 @@
-/* The structs of deltat.h lie as those of the library do: each size that crates/dt_c/src/rows.rt proves, and where each
+/* The structs of deltat.h lie as those of the library do: each size that crates/dt_c/src/rows.rt and service_rows.rt prove, and where each
  * field begins, which both sides lay out by the rules of C. It has nothing to run. */
 #include "deltat.h"
 
@@ -22,6 +22,12 @@ SIZE(dt_message, 40);
 SIZE(dt_out, 16);
 SIZE(dt_moment, 16);
 SIZE(dt_report, 48);
+SIZE(dt_service_start, 32);
+SIZE(dt_token, 24);
+SIZE(dt_made, 24);
+SIZE(dt_replied, 8);
+SIZE(dt_event, 32);
+SIZE(dt_call_counts, 64);
 
 AT(dt_params, mpl, 0); AT(dt_params, r, 4); AT(dt_params, a, 8); AT(dt_params, rto, 12); AT(dt_params, probe, 16);
 AT(dt_params, seg, 20); AT(dt_params, cap, 24); AT(dt_params, rcap, 28); AT(dt_params, window, 32);
@@ -48,5 +54,16 @@ AT(dt_moment, at, 0); AT(dt_moment, some, 8);
 AT(dt_report, flow, 0); AT(dt_report, moment, 16); AT(dt_report, number, 24); AT(dt_report, count, 28);
 AT(dt_report, window, 32); AT(dt_report, status, 36); AT(dt_report, kind, 37); AT(dt_report, begin, 38);
 AT(dt_report, end, 39); AT(dt_report, run, 40); AT(dt_report, sending, 41);
+AT(dt_service_start, now, 0); AT(dt_service_start, me, 8); AT(dt_service_start, life, 12);
+AT(dt_service_start, calls, 16); AT(dt_service_start, requests, 20); AT(dt_service_start, of_a_flow, 24);
+AT(dt_service_start, again, 28);
+AT(dt_token, number, 0); AT(dt_token, flow, 8);
+AT(dt_made, number, 0); AT(dt_made, until, 8); AT(dt_made, free, 16); AT(dt_made, status, 20); AT(dt_made, unfit, 21);
+AT(dt_replied, free, 0); AT(dt_replied, status, 4); AT(dt_replied, unfit, 5);
+AT(dt_event, number, 0); AT(dt_event, len, 8); AT(dt_event, flow, 16); AT(dt_event, status, 28); AT(dt_event, kind, 29);
+AT(dt_event, cause, 30);
+AT(dt_call_counts, late, 0); AT(dt_call_counts, old, 8); AT(dt_call_counts, strange, 16); AT(dt_call_counts, reused, 24);
+AT(dt_call_counts, cut, 32); AT(dt_call_counts, too_long, 40); AT(dt_call_counts, too_short, 48);
+AT(dt_call_counts, status, 56);
 
 int main(void) { return 0; }

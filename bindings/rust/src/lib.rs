@@ -10,6 +10,7 @@ use std::alloc::{alloc, dealloc, handle_alloc_error, Layout};
 use std::fmt;
 use std::ptr::NonNull;
 
+pub mod service;
 pub mod sys;
 
 const ABI: u32 = 1;

@@ -1,13 +1,13 @@
--- The entries of the maps under their calls are the definition's tables. A map tests the key that is asked for against an entry's, a table an entry's against the one that is asked for.
-use Rattle.std.proofs.Common.{ℕ, ◌≡◌, ◌+◌, ◌≤◌, ◌==◌, nat_eq, Bool, true, false, ◌&&◌, List, [], ◌∷◌, Option, Some, None, Result, Ok, Err, OnOk, refl, sym, ap, subst, ◌∙◌, inl, inr, arith}
+-- The entries of the maps under their calls are the definition's tables.
+use Rattle.std.proofs.Common.{ℕ, ◌≡◌, ◌+◌, ◌≤◌, ◌==◌, nat_eq, true, List, [], ◌∷◌, Option, Some, None, Result, Ok, Err, OnOk, refl, sym, ap, subst, ◌∙◌, arith}
 use Rattle.std.specs.Prelude.{unwrap_or}
-use Rattle.std.proofs.lemmas.Bool.{cases_Bool}
 use Rattle.std.proofs.lemmas.Bool.Decides.{nat_tests}
 use Rattle.std.specs.Map.{lookup, set_value}
 use Rattle.indexmap.specs.IndexMap.{insert_entry}
 use Rattle.dt_items.specs.declared.memory.NoMemory.{NoMemory}
 use Rattle.dt_units.specs.declared.endpoints.Flow.{Flow}
-use Rattle.dt_world_model.specs.Tables.{look, same_flow, write}
+use Rattle.dt_world_model.specs.Tables.{same_flow, write}
+use Rattle.dt_world_model.proofs.Maps.{equal_flows, flow_inserted as inserted_so, flow_looked, flow_written, inserted, looked}
 use Rattle.dt_world_model.proofs.Tables.{all_look, all_write, flow_is, flow_self, nat_is}
 use Rattle.dt_audit.specs.declared.changes.Change.{Change}
 use Rattle.dt_audit.specs.declared.changes.Lives.{Lives}
@@ -15,35 +15,6 @@ use Rattle.dt_audit.specs.declared.flaws.Flaw.{Flaw}
 use Rattle.dt_audit.specs.Books.{Book, begin_again, change_flow, kept, life_in, lives_of, wrote}
 use Rattle.dt_audit.specs.FlowNotes.{Notes, TakenWithin, by_notes, no_notes, notes_after}
 use Rattle.dt_audit.specs.Noting.{NotesTo}
-
--- a table by a test is a map by another that says the same the other way round
-module _ {K A : Type 0} (equal same : K → K → Bool) (agree : (j k : K) → equal j k ≡ same k j) (is : (j k : K) → same j k ≡ true → j ≡ k) (k : K) where
-  pub looked : (es : List (K × A)) → lookup (equal k) es ≡ look same k es
-  looked [] = refl
-  looked (e ∷ es) =
-      elim (cases_Bool (same e.0 k)) [
-        | inl y ↦ let t : equal k e.0 ≡ true = agree k e.0 ∙ y in rw (y, t) refl
-        | inr n ↦ let t : equal k e.0 ≡ false = agree k e.0 ∙ n in rw (n, t) (looked es)
-      ]
-
-  pub written : (a b : A) (es : List (K × A)) → lookup (equal k) es ≡ Some b → set_value (equal k) es a ≡ write same k a es
-  written a b [] h = absurd cc
-  written a b (e ∷ es) h =
-      elim (cases_Bool (same e.0 k)) [
-        | inl y ↦ let t : equal k e.0 ≡ true = agree k e.0 ∙ y in rw (y, t) (ap (λ (j : K). (j, a) ∷ es) (is e.0 k y))
-        | inr n ↦
-            let t : equal k e.0 ≡ false = agree k e.0 ∙ n in
-            let rest : lookup (equal k) es ≡ Some b = rw t at h in
-            rw (n, t) (ap (λ (r : List (K × A)). e ∷ r) (written a b es rest))
-      ]
-
-  pub inserted : (a : A) (es : List (K × A)) → insert_entry equal es k a ≡ write same k a es
-  inserted a [] = refl
-  inserted a (e ∷ es) =
-      elim (cases_Bool (same e.0 k)) [
-        | inl y ↦ let t : equal k e.0 ≡ true = agree k e.0 ∙ y in rw (y, t) (ap (λ (j : K). (j, a) ∷ es) (is e.0 k y))
-        | inr n ↦ let t : equal k e.0 ≡ false = agree k e.0 ∙ n in rw (n, t) (ap (λ (r : List (K × A)). e ∷ r) (inserted a es))
-      ]
 
 -- NODES
 nat_agree : (m n : ℕ) → nat_eq m n ≡ (n == m)
@@ -53,31 +24,11 @@ pub life_looked : (node : ℕ) (lives : List (ℕ × ℕ)) → unwrap_or (lookup
 life_looked node lives = ap (λ (o : Option ℕ). unwrap_or o 0) (looked nat_eq ◌==◌ nat_agree nat_is node lives)
 
 pub life_inserted : (node life : ℕ) (lives : List (ℕ × ℕ)) → insert_entry nat_eq lives node life ≡ write ◌==◌ node life lives
-life_inserted node life lives = inserted nat_eq ◌==◌ nat_agree nat_is node life lives
+life_inserted node life lives = inserted nat_eq ◌==◌ nat_agree nat_is node (insert_entry nat_eq) (λ b. refl) (λ b e rest. refl) life lives
 
--- FLOWS: their equality as it is derived
-abbrev pub equal_flows : Flow → Flow → Bool
-equal_flows f g = (f.from.0 == g.from.0) && ((f.from_port == g.from_port) && ((f.to.0 == g.to.0) && (f.to_port == g.to_port)))
-
-either_way : (m n : ℕ) → (m == n) ≡ (n == m)
-either_way m n = grind (arith, nat_tests)
-
-regrouped : (a b c d : Bool) → (a && (b && (c && d))) ≡ (((a && b) && c) && d)
-regrouped true true c d = refl
-regrouped true false c d = refl
-regrouped false b c d = refl
-
-flows_agree : (f g : Flow) → equal_flows f g ≡ same_flow g f
-flows_agree f g = rw (either_way f.from.0 g.from.0, either_way f.from_port g.from_port, either_way f.to.0 g.to.0, either_way f.to_port g.to_port) (regrouped (g.from.0 == f.from.0) (g.from_port == f.from_port) (g.to.0 == f.to.0) (g.to_port == f.to_port))
-
-pub flow_looked : (f : Flow) (es : List (Flow × Notes)) → lookup (equal_flows f) es ≡ look same_flow f es
-flow_looked f es = looked equal_flows same_flow flows_agree flow_is f es
-
-pub flow_written : (f : Flow) (a b : Notes) (es : List (Flow × Notes)) → lookup (equal_flows f) es ≡ Some b → set_value (equal_flows f) es a ≡ write same_flow f a es
-flow_written f a b es h = written equal_flows same_flow flows_agree flow_is f a b es h
-
-pub flow_inserted : (f : Flow) (a : Notes) (es : List (Flow × Notes)) → insert_entry equal_flows es f a ≡ write same_flow f a es
-flow_inserted f a es = inserted equal_flows same_flow flows_agree flow_is f a es
+-- FLOWS
+flow_inserted : (f : Flow) (a : Notes) (es : List (Flow × Notes)) → insert_entry equal_flows es f a ≡ write same_flow f a es
+flow_inserted f a es = inserted_so f (insert_entry equal_flows) (λ b. refl) (λ b e rest. refl) a es
 
 -- HOW MANY OCTETS A FLOW TOOK
 pub taken_more : (most more : ℕ) (es : List (Flow × Notes)) → most ≤ more → TakenWithin most es → TakenWithin more es

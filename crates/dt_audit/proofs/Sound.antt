@@ -13,6 +13,7 @@ use Rattle.dt_flow_model.specs.Ledger.{given_at, given_rows, is_given, is_open_i
 use Rattle.dt_flow_model.specs.Safe.{Follows, SafeLedger}
 use Rattle.dt_flow_laws.proofs.Ledger.{over_at, over_settle, row_left, settle_acked, settle_length, took_acked}
 use Rattle.dt_flow_laws.proofs.Frame.{rising_append, rising_rows, top_append, top_rows}
+use Rattle.dt_flow_laws.proofs.SafeOf.{rising_at}
 use Rattle.dt_audit.specs.LogRows.{FlowLog, all_passed, blank, follows, give, is_passed, is_uncertain, is_unsent_in, open_places, places_where, send_rows, with_fate}
 
 -- each given row is of a place below
@@ -39,17 +40,6 @@ pub record Sound (life : ℕ) (l : FlowLog) : Type 0 where
   pub acked : (place : ℕ) → (row_at l.taken place).fate ≡ Acked → is_given l.given place ≡ true
 
 -- SOUND ROWS ARE SAFE
-rising_above : (n : ℕ) (given : List Given) (k : ℕ) → Rising n given → k < length given → n ≤ (given_at given k).place
-rising_above n [] k h lt = absurd (omega arith)
-rising_above n (g ∷ gs) zero h lt = h.0
-rising_above n (g ∷ gs) (suc k) h lt = omega (arith, h.0, rising_above (suc g.place) gs k h.1 (omega arith))
-
-rising_at : (n : ℕ) (given : List Given) (j k : ℕ) → Rising n given → j < k → k < length given → (given_at given j).place < (given_at given k).place
-rising_at n [] j k h lt lt' = absurd (omega arith)
-rising_at n (g ∷ gs) j zero h lt lt' = absurd (omega arith)
-rising_at n (g ∷ gs) zero (suc k) h lt lt' = omega (arith, rising_above (suc g.place) gs k h.1 (omega arith))
-rising_at n (g ∷ gs) (suc j) (suc k) h lt lt' = rising_at (suc g.place) gs j k h.1 (omega arith) (omega arith)
-
 below_at : (most : ℕ) (given : List Given) (k : ℕ) → PlacesBelow most given → k < length given → (given_at given k).place < most
 below_at most [] k h lt = absurd (omega arith)
 below_at most (g ∷ gs) zero h lt = h.0

@@ -1,6 +1,7 @@
 -- Which fact a line of a log tells.
 use Rattle.std.specs.Prelude.{ℕ, Bool, true, false, ◌&&◌, ◌||◌, ◌==◌, if◌then◌else◌, nat_lt, codes, is_some, List, length, Result, Ok, Err}
 use Rattle.std.specs.Str.{bytes_eq}
+use Rattle.dt_units.specs.declared.endpoints.Flow.{Flow}
 use Rattle.dt_reports.specs.declared.faults.LineFault.{LineFault}
 use Rattle.dt_reports.specs.declared.faults.LineFault.TheVariants as faults
 use Rattle.dt_text.specs.Lines.{◌>>=◌}
@@ -36,14 +37,20 @@ took_said line = do
   count ← value_read any_number (word 4 line)
   Ok (Took flow count)
 
-abbrev pub sent_said : List (List ℕ) → Result Fact LineFault
-sent_said line = do
+-- octets of a flow, by the number of the first and how many they are, in a line of seven words
+abbrev pub stretch_said : List (List ℕ) → Result (Flow × ℕ × ℕ) LineFault
+stretch_said line = do
   _ ← counted 7 line
   flow ← value_read FlowWord (word 3 line)
   number ← value_read any_number (word 4 line)
   count ← value_read any_number (word 5 line)
+  Ok (flow, number, count)
+
+abbrev pub sent_said : List (List ℕ) → Result Fact LineFault
+sent_said line = do
+  octets ← stretch_said line
   _ ← letters_read (word 6 line)
-  Ok (Sent flow number count)
+  Ok (Sent octets.0 octets.1 octets.2)
 
 abbrev pub settled_said : List (List ℕ) → Result Fact LineFault
 settled_said line = do
@@ -62,12 +69,9 @@ uncertain_said line = do
 
 abbrev pub accepted_said : List (List ℕ) → Result Fact LineFault
 accepted_said line = do
-  _ ← counted 7 line
-  flow ← value_read FlowWord (word 3 line)
-  number ← value_read any_number (word 4 line)
-  count ← value_read any_number (word 5 line)
+  octets ← stretch_said line
   run ← run_read (word 6 line)
-  Ok (Accepted flow number count run)
+  Ok (Accepted octets.0 octets.1 octets.2 run)
 
 abbrev pub restarted_said : List (List ℕ) → Result Fact LineFault
 restarted_said line = do

@@ -1,6 +1,6 @@
 //! Which fact a line of a log tells.
 ghost use Rattle.std.specs.Prelude.{◌≡◌, ◌≤◌, length};
-ghost use Rattle.dt_audit.specs.Facts.{accepted_said, fact_of, is_told, named_fact, restarted_said, sent_said, settled_said, took_said, uncertain_said};
+ghost use Rattle.dt_audit.specs.Facts.{accepted_said, fact_of, is_told, named_fact, restarted_said, sent_said, settled_said, stretch_said, took_said, uncertain_said};
 
 use crate::facts::Fact;
 use crate::words::{letters, run};
@@ -8,6 +8,7 @@ use dt_reports::LineFault;
 use dt_text::fields::{flow, has, number};
 use dt_text::read_number;
 use dt_text::splitting::{Words, is};
+use dt_units::Flow;
 
 /// `MOMENT NODE took FLOW COUNT`
 fn took(words: &Words<'_>) -> Result<Fact, LineFault>
@@ -19,18 +20,26 @@ fn took(words: &Words<'_>) -> Result<Fact, LineFault>
     Ok(Fact::Took { flow, count })
 }
 
-/// `MOMENT NODE sent FLOW NUMBER LENGTH LETTERS`
-fn sent(words: &Words<'_>) -> Result<Fact, LineFault>
-    ensures { result ≡ sent_said words.now }
+/// `FLOW NUMBER LENGTH` behind the name, in a line of seven words.
+fn stretch(words: &Words<'_>) -> Result<(Flow, u32, u32), LineFault>
+    ensures { result ≡ stretch_said words.now }
 {
     has(7, words)?;
     let flow = flow(words.word(3))?;
     let number_of_first = number(words.word(4))?;
     let length = number(words.word(5))?;
+    Ok((flow, number_of_first, length))
+}
+
+/// `MOMENT NODE sent FLOW NUMBER LENGTH LETTERS`
+fn sent(words: &Words<'_>) -> Result<Fact, LineFault>
+    ensures { result ≡ sent_said words.now }
+{
+    let (flow, number, length) = stretch(words)?;
     letters(words.word(6))?;
     Ok(Fact::Sent {
         flow,
-        number: number_of_first,
+        number,
         length,
     })
 }
@@ -60,14 +69,11 @@ fn uncertain(words: &Words<'_>) -> Result<Fact, LineFault>
 fn accepted(words: &Words<'_>) -> Result<Fact, LineFault>
     ensures { result ≡ accepted_said words.now }
 {
-    has(7, words)?;
-    let flow = flow(words.word(3))?;
-    let number_of_first = number(words.word(4))?;
-    let length = number(words.word(5))?;
+    let (flow, number, length) = stretch(words)?;
     let run = run(words.word(6))?;
     Ok(Fact::Accepted {
         flow,
-        number: number_of_first,
+        number,
         length,
         run,
     })

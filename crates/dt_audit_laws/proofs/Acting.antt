@@ -47,7 +47,8 @@ use Rattle.dt_audit_laws.specs.Logs.{LogOf, ShowsAlike}
 use Rattle.dt_audit_laws.specs.Telling.{changes_told}
 use Rattle.dt_audit_laws.proofs.Booking.{report_goes_on}
 use Rattle.dt_audit_laws.proofs.Lines.{alike_log, line_goes, nothing_in_range, other_goes, world_fact, world_range}
-use Rattle.dt_audit_laws.proofs.Mute.{IsMute, links_mute, mute_by, mute_ledgers, mute_log, off_mute}
+use Rattle.dt_world_laws.proofs.Alongside.{quiet_by}
+use Rattle.dt_audit_laws.proofs.Mute.{IsMute, links_mute, mute_ledgers, mute_log, off_mute}
 use Rattle.dt_audit_laws.proofs.Reports.{act_passes}
 
 module _ (w : World) (n : ℕ) where
@@ -85,7 +86,7 @@ module _ (w : World) (n : ℕ) (cause : Cause) (start : Book FlowLog) where
   pub mute_told : (st : Station Mark) (d : Noted) (host : Host) (told : Told) → IsMute told → Logs st d → LogOf w.params (views w n host (note_told (stage w n cause) told d).ledgers) start (note_told (stage w n cause) told d).lines
   mute_told st d host told mute log =
       let d' = note_told (stage w n cause) told d in
-      books_logs host d.ledgers d'.ledgers d' (mute_by (stage w n cause) _ d.ledgers mute.0)
+      books_logs host d.ledgers d'.ledgers d' (quiet_by (stage w n cause) _ d.ledgers mute.0)
       (other_goes w.params (views w n st.host d.ledgers) (views w n host d.ledgers) start d.lines _ (world_fact n _ told ∙ mute.1 n) (world_range _ told (nothing_in_range told mute.1)) (host_alike w n st.host host d.ledgers) log)
 
   -- what is told is about one flow, and passes there

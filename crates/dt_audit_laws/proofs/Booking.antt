@@ -30,6 +30,21 @@ module _ (p : Params) (views after : Flow → FlowState) (book : Book FlowLog) (
   abbrev book_with : FlowLog → Book FlowLog
   book_with next = record { lives = book.lives; flows = write same_flow f next book.flows }
 
+  -- the lives stay
+  senders_stay : (g : Flow) → life_in book.lives g.from.0 ≡ (after g).sender_life
+  senders_stay g =
+      elim (cases_Bool (same_flow f g)) [
+        | inl y ↦ subst (λ (k : Flow). life_in book.lives k.from.0 ≡ (after k).sender_life) (flow_is f g y) (all.senders f ∙ sym sender)
+        | inr apart ↦ all.senders g ∙ ap (λ (s : FlowState). s.sender_life) (sym (others g apart))
+      ]
+
+  receivers_stay : (g : Flow) → life_in book.lives g.to.0 ≡ (after g).receiver_life
+  receivers_stay g =
+      elim (cases_Bool (same_flow f g)) [
+        | inl y ↦ subst (λ (k : Flow). life_in book.lives k.to.0 ≡ (after k).receiver_life) (flow_is f g y) (all.receivers f ∙ sym receiver)
+        | inr apart ↦ all.receivers g ∙ ap (λ (s : FlowState). s.receiver_life) (sym (others g apart))
+      ]
+
   -- the flow is followed by what is written, and the others as before
   written : (next : FlowLog) → FollowsFlow p (after f) next → FollowsAll p after (book_with next)
   written next h = record {
@@ -42,16 +57,8 @@ module _ (p : Params) (views after : Flow → FlowState) (book : Book FlowLog) (
               subst (λ (s : FlowState). FollowsFlow p s (kept by_rows (write same_flow f next book.flows) g)) (sym (others g apart))
               (subst (λ (l : FlowLog). FollowsFlow p (views g) l) (sym (kept_other FlowLog no_rows next f g book.flows apart)) (all.flows g))
         ];
-    senders = λ g.
-        elim (cases_Bool (same_flow f g)) [
-          | inl y ↦ subst (λ (k : Flow). life_in book.lives k.from.0 ≡ (after k).sender_life) (flow_is f g y) (all.senders f ∙ sym sender)
-          | inr apart ↦ all.senders g ∙ ap (λ (s : FlowState). s.sender_life) (sym (others g apart))
-        ];
-    receivers = λ g.
-        elim (cases_Bool (same_flow f g)) [
-          | inl y ↦ subst (λ (k : Flow). life_in book.lives k.to.0 ≡ (after k).receiver_life) (flow_is f g y) (all.receivers f ∙ sym receiver)
-          | inr apart ↦ all.receivers g ∙ ap (λ (s : FlowState). s.receiver_life) (sym (others g apart))
-        ];
+    senders = senders_stay;
+    receivers = receivers_stay;
   }
 
   -- what is kept of the flow stays
@@ -62,16 +69,8 @@ module _ (p : Params) (views after : Flow → FlowState) (book : Book FlowLog) (
           | inl y ↦ subst (λ (k : Flow). FollowsFlow p (after k) (kept by_rows book.flows k)) (flow_is f g y) h
           | inr apart ↦ subst (λ (s : FlowState). FollowsFlow p s (kept by_rows book.flows g)) (sym (others g apart)) (all.flows g)
         ];
-    senders = λ g.
-        elim (cases_Bool (same_flow f g)) [
-          | inl y ↦ subst (λ (k : Flow). life_in book.lives k.from.0 ≡ (after k).sender_life) (flow_is f g y) (all.senders f ∙ sym sender)
-          | inr apart ↦ all.senders g ∙ ap (λ (s : FlowState). s.sender_life) (sym (others g apart))
-        ];
-    receivers = λ g.
-        elim (cases_Bool (same_flow f g)) [
-          | inl y ↦ subst (λ (k : Flow). life_in book.lives k.to.0 ≡ (after k).receiver_life) (flow_is f g y) (all.receivers f ∙ sym receiver)
-          | inr apart ↦ all.receivers g ∙ ap (λ (s : FlowState). s.receiver_life) (sym (others g apart))
-        ];
+    senders = senders_stay;
+    receivers = receivers_stay;
   }
 
   one : (change : Change) → Followed p (views f) (after f) (change ∷ []) (kept by_rows book.flows f) → (next : Book FlowLog) × (change_flow by_rows f change book ≡ Ok next) × FollowsAll p after next

@@ -11,11 +11,9 @@ use Rattle.dt_units.specs.Limits.{IsWithinLimits}
 use Rattle.dt_reports.specs.Told.{Told}
 use Rattle.dt_reports.specs.declared.reports.Report.TheVariants as report
 use Rattle.dt_layout.specs.declared.faults.LayoutFault.{LayoutFault}
-use Rattle.dt_layout.specs.Spelling.{Carries, DeltagramValue, HasPorts, KeepsRules, PacketValue, Data, Ack, Meet, Close}
-use Rattle.dt_layout.specs.Reading.{gram_in, packet_in, packet_read}
-use Rattle.dt_layout.specs.Carried.{life_of, to_of, with_less_life}
-use Rattle.dt_layout.proofs.CarriedLemmas.{gram_in_is, lowered_in, to_of-gram_in}
-use Rattle.dt_layout.proofs.PackLemmas.{packet_is_read}
+use Rattle.dt_layout.specs.Spelling.{HasPorts, KeepsRules, PacketValue, Data, Ack, Meet, Close}
+use Rattle.dt_layout.specs.Reading.{gram_in, packet_read}
+use Rattle.dt_layout.specs.Carried.{life_of, to_of}
 use Rattle.dt_flow_model.specs.declared.arrivals.Action.{Action}
 use Rattle.dt_flow_model.specs.declared.arrivals.Action.TheVariants as X
 use Rattle.dt_flow_model.specs.declared.arrivals.Arrived.{Arrived}
@@ -30,7 +28,6 @@ use Rattle.dt_flow_model.specs.ReceiveRecord.{ReceiveRecord, action_on, after_da
 use Rattle.dt_flow_model.specs.SendRecord.{Segment, SendRecord, acknowledged, after_split, items_in, on_ack, record_acked}
 use Rattle.dt_flow_model.specs.Steps.{IsAlive}
 use Rattle.dt_flow_model.proofs.Chains.{items_append}
-use Rattle.dt_flow_laws.proofs.Ages.{arrives_alive}
 use Rattle.dt_flow_laws.proofs.Laws.{split_where}
 use Rattle.dt_world_model.specs.Host.{Host, ack_answer, arrive, comes, host_with_receiver, host_with_sender, next_turn, receiver_at, sender_at, told_arrival}
 use Rattle.dt_world_model.specs.Ledgers.{Ledgers}
@@ -42,8 +39,7 @@ use Rattle.dt_world_model.specs.WorldFacts.{IsPacket, carried_of}
 use Rattle.dt_world_model.proofs.Tables.{nat_is, nat_self}
 use Rattle.dt_world_laws.proofs.Arrivals.{data_leads}
 use Rattle.dt_world_laws.proofs.Books.{Brings, Brought, Cause}
-use Rattle.dt_world_laws.proofs.Delivery.{ack_leads}
-use Rattle.dt_world_laws.proofs.Flushing.{lowered_packet}
+use Rattle.dt_world_laws.proofs.Delivery.{ack_leads, comes_here}
 use Rattle.dt_world_laws.proofs.Good.{Good, Leads, reading, stage}
 use Rattle.dt_world_laws.proofs.Received.{follows_data}
 use Rattle.dt_world_laws.proofs.Settled.{receivers_current}
@@ -230,20 +226,11 @@ module _ (w : World) (n : ℕ) (start : Book FlowLog) (limits : IsWithinLimits w
   abbrev c : Cause
   c = Brings parcel.tag (value_in parcel.octets)
 
-  abbrev charge : ℕ
-  charge = charge_of link st.relay.ins
-
   abbrev low : Parcel Mark
-  low = lower_parcel charge parcel
+  low = lower_parcel (charge_of link st.relay.ins) parcel
 
   abbrev Ended : Noted × Station Mark → Type 0
   Ended r = Logs w n c start r.1 r.0
-
-  low_gram : charge < life_of parcel.octets → gram_in low.octets ≡ with_less_life charge (gram_in parcel.octets)
-  low_gram below = gram_in_is _ _ (lowered_in charge parcel.octets packet.gram below)
-
-  low_value : charge < life_of parcel.octets → value_in low.octets ≡ value_in parcel.octets
-  low_value below = ap (λ (e : DeltagramValue). packet_in e.body) (low_gram below)
 
   passes : Ended (play (world_handler (stage w n c)) (come w.params (reading w n c) false low st) d)
   passes =
@@ -253,29 +240,19 @@ module _ (w : World) (n : ℕ) (start : Book FlowLog) (limits : IsWithinLimits w
       let after = mute_log (stage w n c) w.params (views w n st.host d.ledgers) start script d mute log in
       host_logs w n c start st.host r.1.host r.0.ledgers r.0 (books_logs w n c start st.host d.ledgers r.0.ledgers r.0 (mute_ledgers (stage w n c) script d mute) after)
 
-  delivered : charge < life_of parcel.octets → to_of low.octets ≡ st.host.me → Ended (play (world_handler (stage w n c)) (come w.params (reading w n c) true low st) d)
+  delivered : charge_of link st.relay.ins < life_of parcel.octets → to_of low.octets ≡ st.host.me → Ended (play (world_handler (stage w n c)) (come w.params (reading w n c) true low st) d)
   delivered below mine =
-      let k = lowered_packet w.params (views w n st.host d.ledgers) parcel charge below packet in
+      let h = comes_here w n limits st d parcel put link age packet good idle held below mine in
       let e = gram_in low.octets in
-      let to : e.to ≡ st.host.me = sym (to_of-gram_in low.octets) ∙ mine in
-      let alive = arrives_alive w.params.mpl w.now (carried_of parcel put) age (omega (arith, held, below)) in
-      let value = low_value below in
-      let carries : Carries e (value_in parcel.octets) = subst (λ (v : PacketValue). Carries e v) value k.carries in
-      let fits0 : FitsSome w.params (views w n st.host d.ledgers (flow_of e.from e.to (value_in low.octets))) (marked_packet parcel.tag (value_in low.octets)) = k.fits in
-      let fits1 : FitsSome w.params (views w n st.host d.ledgers (flow_of e.from e.to (value_in parcel.octets))) (marked_packet parcel.tag (value_in parcel.octets)) =
-      subst (λ (v : PacketValue). FitsSome w.params (views w n st.host d.ledgers (flow_of e.from e.to v)) (marked_packet parcel.tag v)) value fits0 in
-      let fits2 : FitsSome w.params (views w n st.host d.ledgers (flow_of e.from st.host.me (value_in parcel.octets))) (marked_packet parcel.tag (value_in parcel.octets)) =
-      subst (λ (m : ℕ). FitsSome w.params (views w n st.host d.ledgers (flow_of e.from m (value_in parcel.octets))) (marked_packet parcel.tag (value_in parcel.octets))) to fits1 in
-      deliver_logs w n parcel.tag start limits st d e.from k.gram.fits.from (subst (λ (m : ℕ). m < 2 ^ 32) to k.gram.fits.to) alive idle (value_in parcel.octets) (packet_read e) (packet_is_read e (value_in parcel.octets) carries)
-      carries.pack.ports carries.pack.rules good fits2 log
+      deliver_logs w n parcel.tag start limits st d e.from h.from_node h.my_node h.alive idle (value_in parcel.octets) (packet_read e) h.reads h.ports h.rules good h.fits log
 
-  comes_in : (b : Bool) → (to_of low.octets == st.host.me) ≡ b → charge < life_of parcel.octets → Ended (play (world_handler (stage w n c)) (come w.params (reading w n c) b low st) d)
+  comes_in : (b : Bool) → (to_of low.octets == st.host.me) ≡ b → charge_of link st.relay.ins < life_of parcel.octets → Ended (play (world_handler (stage w n c)) (come w.params (reading w n c) b low st) d)
   comes_in true e below = delivered below (nat_is _ _ e)
   comes_in false e below = passes
 
   pub arrival_logs : Ended (play (world_handler (stage w n c)) (happen w.params (reading w n c) (Arrive link parcel) st) d)
   arrival_logs =
-      elim (cases_Bool (nat_le (life_of parcel.octets) charge)) [
+      elim (cases_Bool (nat_le (life_of parcel.octets) (charge_of link st.relay.ins))) [
         | inl y ↦ rw y (mute_told w n c start st d st.host (report.ExpiredIn link) (tt, λ node. refl) log)
         | inr o ↦ rw o (comes_in (to_of low.octets == st.host.me) refl (lt_by _ _ o))
       ]

@@ -1,5 +1,5 @@
 -- What is told of octets that are sent and read at a station passes.
-use Rattle.std.proofs.Common.{ℕ, suc, ◌≡◌, ◌==◌, Bool, true, false, List, [], ◌∷◌, length, Option, Some, refl, sym, ap, subst, inl, inr, ◌∙◌, ◌<◌, ◌^◌, arith}
+use Rattle.std.proofs.Common.{ℕ, suc, ◌≡◌, ◌==◌, Bool, true, false, List, [], ◌∷◌, length, Some, refl, sym, ap, subst, inl, inr, ◌∙◌, ◌<◌, ◌^◌, arith}
 use Rattle.std.specs.Prelude.{nat_lt}
 use Rattle.std.proofs.lemmas.Bool.{cases_Bool}
 use Rattle.dt_items.specs.declared.item.Item.{Item}
@@ -10,21 +10,22 @@ use Rattle.dt_units.specs.Limits.{IsWithinLimits}
 use Rattle.dt_flow_model.proofs.Chosen.{le_true}
 use Rattle.dt_reports.specs.declared.reports.Report.TheVariants as report
 use Rattle.dt_reports.specs.declared.faults.Refusal.TheVariants as refusal
-use Rattle.dt_flow_model.specs.Acting.{after_reading, after_taking, record_for}
+use Rattle.dt_flow_model.specs.Acting.{after_reading, after_taking}
 use Rattle.dt_flow_model.specs.Flow.{FlowState}
 use Rattle.dt_flow_model.specs.Frames.{Mark}
 use Rattle.dt_flow_model.specs.ReceiveRecord.{after_read}
 use Rattle.dt_flow_model.specs.SendRecord.{SendRecord, fits, put, room_of}
-use Rattle.dt_world_model.specs.Host.{host_with_receiver, host_with_sender, read_piece, receiver_at, send_octets, sender_at}
+use Rattle.dt_world_model.specs.Host.{host_with_receiver, host_with_sender, read_piece, receiver_at, send_octets}
 use Rattle.dt_world_model.specs.Script.{play}
 use Rattle.dt_world_model.specs.Station.{Station, Read, Send, happen, told_piece, told_sent}
 use Rattle.dt_world_model.specs.World.{Noted, World, note_told, placed, world_handler}
 use Rattle.dt_world_model.proofs.Tables.{nat_self}
-use Rattle.dt_world_laws.proofs.Books.{Book, Cause, Octets, book_of, books_after, flow_state}
+use Rattle.dt_world_laws.proofs.Books.{Cause, Octets, books_after}
 use Rattle.dt_world_laws.proofs.Good.{Good, reading, stage}
-use Rattle.dt_world_laws.proofs.Received.{follows_reading, follows_taking}
+use Rattle.dt_world_laws.proofs.Happens.{taking_after, taking_before, taking_others, taking_record, taking_state}
+use Rattle.dt_world_laws.proofs.Received.{follows_reading}
 use Rattle.dt_world_laws.proofs.Turns.{given_is, given_state, receiver_apart, receiver_moved}
-use Rattle.dt_world_laws.proofs.Views.{begins_here, book_told, book_told_other, flow_by, near_or_receiver, near_sender, sender_set, sender_set_other, views}
+use Rattle.dt_world_laws.proofs.Views.{views}
 use Rattle.dt_audit.specs.Books as books
 use Rattle.dt_audit.specs.LogRows.{FlowLog}
 use Rattle.dt_audit_laws.specs.Following.{Followed, FollowsFlow}
@@ -42,14 +43,11 @@ marked_length (o ∷ o' ∷ os) begin end run = ap (λ (k : ℕ). suc k) (marked
 
 -- OCTETS ARE SENT
 module _ (w : World) (n : ℕ) (items : List Item) (start : books.Book FlowLog) (limits : IsWithinLimits w.params) (st : Station Mark) (d : Noted) (good : Good w n (Octets items) st d) (f : Flow) (flow : IsFlow f) (from : f.from.0 ≡ n) (log : Logs w n (Octets items) start st d) where
-  here : (n == f.from.0) ≡ true
-  here = rw from (nat_self n)
-
   abbrev s : FlowState
-  s = flow_state w.now (near_sender w n st.host.until (sender_at st.host f)) (near_or_receiver w n st.host.until (receiver_at st.host f) f) (book_of d.ledgers f)
+  s = taking_state w n st d f
 
   abbrev x : SendRecord
-  x = record_for w.params (reading w n (Octets items)) (sender_at st.host f)
+  x = taking_record w n items st f
 
   taken_logs : (count : ℕ) → count ≡ length items → count < 2 ^ 32 → LogOf w.params (views w n (host_with_sender st.host f (Some (put items x))) (note_told (stage w n (Octets items)) (report.Took f count) d).ledgers) start (note_told (stage w n (Octets items)) (report.Took f count) d).lines
   taken_logs count same room =
@@ -57,16 +55,10 @@ module _ (w : World) (n : ℕ) (items : List Item) (start : books.Book FlowLog) 
       let told = report.Took f count in
       let host = host_with_sender st.host f (Some (put items x)) in
       let books = books_after w.params w.now (placed w n).life (Octets items) told d.ledgers in
-      let before : views w n st.host d.ledgers f ≡ s = begins_here w n st.host.until (sender_at st.host f) (receiver_at st.host f) (book_of d.ledgers f) f here in
-      let after : views w n host books f ≡ after_taking p s items =
-      begins_here w n host.until (sender_at host f) (receiver_at host f) (book_of books f) f here
-      ∙ ap (λ (o : Option SendRecord). flow_state w.now (near_sender w n st.host.until o) (near_or_receiver w n st.host.until (receiver_at st.host f) f) (book_of books f)) (sender_set st.host f (Some (put items x)) good.host.one_sender)
-      ∙ ap (λ (b : Book). flow_state w.now (near_sender w n st.host.until (Some (put items x))) (near_or_receiver w n st.host.until (receiver_at st.host f) f) b) (book_told w.params w.now (placed w n).life (Octets items) told d.ledgers f (inl (_, refl)))
-      ∙ follows_taking p s f items count in
+      let before : views w n st.host d.ledgers f ≡ s = taking_before w n items st d good f from in
+      let after : views w n host books f ≡ after_taking p s items = taking_after w n items st d good f from count in
       report_logs w n (Octets items) start st d host f told log (flow, room) refl
-      (λ g apart.
-      ap (λ (o : Option SendRecord). flow_by w n st.host.until o (receiver_at st.host g) (book_of books g) g) (sender_set_other st.host f (Some (put items x)) g apart)
-      ∙ ap (λ (b : Book). flow_by w n st.host.until (sender_at st.host g) (receiver_at st.host g) b g) (book_told_other w.params w.now (placed w n).life (Octets items) told d.ledgers f g (inl (_, refl)) apart))
+      (taking_others w n items st d good f from count)
       (λ flow_log follows.
       subst (λ (t : FlowState). Followed p t (views w n host books f) (changes_told n told) flow_log) (sym before)
       (subst (λ (t : FlowState). Followed p s t (changes_told n told) flow_log) (sym after)

@@ -238,7 +238,7 @@ pub fn wake_in(slot: &mut Slot) -> MomentRow
 }
 
 /// The links on which packets leave.
-fn outs_of(alloc: Global, links: &[LinkRow]) -> Result<Vec<OutLink>, NoMemory>
+pub fn outs_of(alloc: Global, links: &[LinkRow]) -> Result<Vec<OutLink>, NoMemory>
     ensures { IfOk result (λ v. v.items ≡ map out_link links.now) }
 {
     Ok(
@@ -253,7 +253,7 @@ fn outs_of(alloc: Global, links: &[LinkRow]) -> Result<Vec<OutLink>, NoMemory>
 }
 
 /// The links on which packets come.
-fn ins_of(alloc: Global, links: &[LinkRow]) -> Result<Vec<InLink>, NoMemory>
+pub fn ins_of(alloc: Global, links: &[LinkRow]) -> Result<Vec<InLink>, NoMemory>
     ensures { IfOk result (λ v. v.items ≡ map in_link links.now) }
 {
     Ok(
@@ -267,7 +267,7 @@ fn ins_of(alloc: Global, links: &[LinkRow]) -> Result<Vec<InLink>, NoMemory>
     )
 }
 
-fn routes_of(alloc: Global, routes: &[RouteRow]) -> Result<Vec<Route>, NoMemory>
+pub fn routes_of(alloc: Global, routes: &[RouteRow]) -> Result<Vec<Route>, NoMemory>
     ensures { IfOk result (λ v. v.items ≡ map route routes.now) }
 {
     Ok(routes.iter().map(|row| row.route()).collect(alloc)?)

@@ -4,6 +4,9 @@
 
 mod calls;
 mod rows;
+mod service_calls;
+mod service_rows;
+mod service_slots;
 mod slots;
 
 ghost use Rattle.std.specs.Prelude.{◌≡◌, length};
@@ -13,6 +16,9 @@ ghost use Rattle.dt_c.specs.Calls.{AddingRoute, Arriving, Counting, FingerprintI
 ghost use Rattle.dt_c.specs.Handle.{empty};
 ghost use Rattle.dt_c.specs.contracts.slots.Slot.{the_row};
 ghost use Rattle.dt_c.specs.declared.slots.Slot.{Slot};
+ghost use Rattle.dt_c.specs.contracts.service_slots.ServiceSlot.{the_row as service_row};
+ghost use Rattle.dt_c.specs.declared.service_slots.ServiceSlot.{ServiceSlot};
+ghost use Rattle.dt_c.specs.Serving.{CallCounting, Calling, Forgetting, NextEvent, Porting, Raising, Replying, ServiceAddingRoute, ServiceArriving, ServiceCounting, ServiceGuarding, ServiceKeptOut, ServiceNextFrame, ServiceOpening, ServiceTicking, ServiceWaking, Stopping, empty_service};
 
 use calls::{
     add_route_in, arrive_in, close_in, counts_in, empty_slot, fingerprint_in, follow_in, guard_in,
@@ -23,6 +29,14 @@ pub use rows::{
     CameRow, CountsRow, FingerprintRow, FlowRow, KeptOutRow, LinkRow, MessageRow, MomentRow,
     OpenedRow, OutRow, ParamsRow, PieceRow, ReportRow, RouteRow, SentRow, StartRow, TotalsRow,
 };
+use service_calls::{
+    add_service_route_in, arrive_service_in, call_counts_in, call_in, close_service_in,
+    empty_service_slot, forget_in, guard_service_in, next_event_in, next_service_frame_in,
+    open_service_in, port_in, raise_in, reply_in, service_counts_in, service_kept_out_in, stop_in,
+    tick_service_in, wake_service_in,
+};
+pub use service_rows::{CallCountsRow, EventRow, MadeRow, RepliedRow, ServiceStartRow, TokenRow};
+pub use service_slots::{ServiceHandle, ServiceSlot};
 pub use slots::{Handle, Slot};
 use std::alloc::Global;
 
@@ -311,4 +325,268 @@ pub extern "C" fn dt_fingerprint(params: &ParamsRow) -> FingerprintRow
     ensures { FingerprintIs result params.now }
 {
     fingerprint_in(params)
+}
+
+/// How many octets a handle of a service takes.
+#[unsafe(no_mangle)]
+pub extern "C" fn dt_service_size() -> usize {
+    std::mem::size_of::<ServiceSlot>()
+}
+
+/// To how many octets it is aligned.
+#[unsafe(no_mangle)]
+pub extern "C" fn dt_service_align() -> usize {
+    std::mem::align_of::<ServiceSlot>()
+}
+
+/// Makes a handle with no service of fresh memory.
+#[unsafe(no_mangle)]
+pub unsafe extern "C" fn dt_service_init(service: *mut ServiceHandle)
+    requires* { sem 𝓛 (uninit_at service_row service) }
+    ensures* { sem 𝓛 (points_to service_row service empty_service) }
+{
+    unsafe { (service as *mut ServiceSlot).write(empty_service_slot()) }
+}
+
+/// Frees what the service holds. The handle holds no service.
+#[unsafe(no_mangle)]
+pub unsafe extern "C" fn dt_service_close(service: *mut ServiceHandle)
+    ghost g: { ServiceSlot }
+    requires* { sem 𝓛 (points_to service_row service g) }
+    ensures* { sem 𝓛 (points_to service_row service empty_service) }
+{
+    close_service_in(unsafe { &mut *(service as *mut ServiceSlot) })
+}
+
+/// A service starts, in a handle that holds none.
+#[unsafe(no_mangle)]
+pub unsafe extern "C" fn dt_service_open(
+    service: *mut ServiceHandle,
+    alloc: Global,
+    params: &ParamsRow,
+    start: &ServiceStartRow,
+    links: &[LinkRow],
+    routes: &[RouteRow],
+) -> OpenedRow
+    ghost g: { ServiceSlot }
+    requires* { sem 𝓛 (points_to service_row service g) }
+    ensures* { ∃ₛ (λ h. sem 𝓛 (points_to service_row service h) ∗ ⌜ ServiceOpening result params.now start.now links.now routes.now g h ⌝) }
+{
+    open_service_in(
+        unsafe { &mut *(service as *mut ServiceSlot) },
+        alloc,
+        params,
+        start,
+        links,
+        routes,
+    )
+}
+
+/// A port gets its kind.
+#[unsafe(no_mangle)]
+pub unsafe extern "C" fn dt_port(service: *mut ServiceHandle, port: u16, kind: u8) -> u8
+    ghost g: { ServiceSlot }
+    requires* { sem 𝓛 (points_to service_row service g) }
+    ensures* { ∃ₛ (λ h. sem 𝓛 (points_to service_row service h) ∗ ⌜ Porting result port kind g h ⌝) }
+{
+    port_in(unsafe { &mut *(service as *mut ServiceSlot) }, port, kind)
+}
+
+/// A call to a service of another node.
+#[unsafe(no_mangle)]
+pub unsafe extern "C" fn dt_call(
+    service: *mut ServiceHandle,
+    now: u64,
+    flow: &FlowRow,
+    payload: &[u8],
+    patience: u32,
+) -> MadeRow
+    ghost g: { ServiceSlot }
+    requires* { sem 𝓛 (points_to service_row service g) }
+    ensures* { ∃ₛ (λ h. sem 𝓛 (points_to service_row service h) ∗ ⌜ Calling result now flow.now payload.now patience g h ⌝) }
+{
+    call_in(
+        unsafe { &mut *(service as *mut ServiceSlot) },
+        now,
+        flow,
+        payload,
+        patience,
+    )
+}
+
+/// The reply to a request that was handed out.
+#[unsafe(no_mangle)]
+pub unsafe extern "C" fn dt_reply(
+    service: *mut ServiceHandle,
+    now: u64,
+    token: &TokenRow,
+    payload: &[u8],
+) -> RepliedRow
+    ghost g: { ServiceSlot }
+    requires* { sem 𝓛 (points_to service_row service g) }
+    ensures* { ∃ₛ (λ h. sem 𝓛 (points_to service_row service h) ∗ ⌜ Replying result now token.now payload.now g h ⌝) }
+{
+    reply_in(
+        unsafe { &mut *(service as *mut ServiceSlot) },
+        now,
+        token,
+        payload,
+    )
+}
+
+/// A request won't be replied to.
+#[unsafe(no_mangle)]
+pub unsafe extern "C" fn dt_forget(service: *mut ServiceHandle, now: u64, token: &TokenRow) -> u8
+    ghost g: { ServiceSlot }
+    requires* { sem 𝓛 (points_to service_row service g) }
+    ensures* { ∃ₛ (λ h. sem 𝓛 (points_to service_row service h) ∗ ⌜ Forgetting result now token.now g h ⌝) }
+{
+    forget_in(unsafe { &mut *(service as *mut ServiceSlot) }, now, token)
+}
+
+/// What happened next, where the buffer has room for what it carries.
+#[unsafe(no_mangle)]
+pub unsafe extern "C" fn dt_next_event(service: *mut ServiceHandle, buf: &mut [u8]) -> EventRow
+    ghost g: { ServiceSlot }
+    requires* { sem 𝓛 (points_to service_row service g) }
+    ensures* { ∃ₛ (λ h. sem 𝓛 (points_to service_row service h) ∗ ⌜ NextEvent result buf.old buf.new g h ⌝) }
+{
+    next_event_in(unsafe { &mut *(service as *mut ServiceSlot) }, buf)
+}
+
+/// From now on calls have numbers of this life.
+#[unsafe(no_mangle)]
+pub unsafe extern "C" fn dt_raise(service: *mut ServiceHandle, life: u32) -> u8
+    ghost g: { ServiceSlot }
+    requires* { sem 𝓛 (points_to service_row service g) }
+    ensures* { ∃ₛ (λ h. sem 𝓛 (points_to service_row service h) ∗ ⌜ Raising result life g h ⌝) }
+{
+    raise_in(unsafe { &mut *(service as *mut ServiceSlot) }, life)
+}
+
+/// How many messages were dropped, by cause.
+#[unsafe(no_mangle)]
+pub unsafe extern "C" fn dt_call_counts(service: *mut ServiceHandle) -> CallCountsRow
+    ghost g: { ServiceSlot }
+    requires* { sem 𝓛 (points_to service_row service g) }
+    ensures* { ∃ₛ (λ h. sem 𝓛 (points_to service_row service h) ∗ ⌜ CallCounting result g h ⌝) }
+{
+    call_counts_in(unsafe { &mut *(service as *mut ServiceSlot) })
+}
+
+/// Each call that waits is unsure, and no turn is done any more.
+#[unsafe(no_mangle)]
+pub unsafe extern "C" fn dt_service_stop(service: *mut ServiceHandle) -> u8
+    ghost g: { ServiceSlot }
+    requires* { sem 𝓛 (points_to service_row service g) }
+    ensures* { ∃ₛ (λ h. sem 𝓛 (points_to service_row service h) ∗ ⌜ Stopping result g h ⌝) }
+{
+    stop_in(unsafe { &mut *(service as *mut ServiceSlot) })
+}
+
+/// What is due at `now` is done, and calls whose patience is over end.
+#[unsafe(no_mangle)]
+pub unsafe extern "C" fn dt_service_tick(service: *mut ServiceHandle, now: u64) -> u8
+    ghost g: { ServiceSlot }
+    requires* { sem 𝓛 (points_to service_row service g) }
+    ensures* { ∃ₛ (λ h. sem 𝓛 (points_to service_row service h) ∗ ⌜ ServiceTicking result now g h ⌝) }
+{
+    tick_service_in(unsafe { &mut *(service as *mut ServiceSlot) }, now)
+}
+
+/// A datagram came on a link, and waited so many milliseconds until this call.
+#[unsafe(no_mangle)]
+pub unsafe extern "C" fn dt_service_arrive(
+    service: *mut ServiceHandle,
+    now: u64,
+    link: u16,
+    datagram: &[u8],
+    waited: u32,
+) -> CameRow
+    ghost g: { ServiceSlot }
+    requires* { sem 𝓛 (points_to service_row service g) }
+    ensures* { ∃ₛ (λ h. sem 𝓛 (points_to service_row service h) ∗ ⌜ ServiceArriving result now link datagram.now waited g h ⌝) }
+{
+    arrive_service_in(
+        unsafe { &mut *(service as *mut ServiceSlot) },
+        now,
+        link,
+        datagram,
+        waited,
+    )
+}
+
+/// The first frame that waits, where the buffer has room for it.
+#[unsafe(no_mangle)]
+pub unsafe extern "C" fn dt_service_next_frame(
+    service: *mut ServiceHandle,
+    buf: &mut [u8],
+) -> OutRow
+    ghost g: { ServiceSlot }
+    requires* { sem 𝓛 (points_to service_row service g) }
+    ensures* { ∃ₛ (λ h. sem 𝓛 (points_to service_row service h) ∗ ⌜ ServiceNextFrame result buf.old buf.new g h ⌝) }
+{
+    next_service_frame_in(unsafe { &mut *(service as *mut ServiceSlot) }, buf)
+}
+
+/// The moment of the next tick that does something, or none.
+#[unsafe(no_mangle)]
+pub unsafe extern "C" fn dt_service_wake(service: *mut ServiceHandle) -> MomentRow
+    ghost g: { ServiceSlot }
+    requires* { sem 𝓛 (points_to service_row service g) }
+    ensures* { ∃ₛ (λ h. sem 𝓛 (points_to service_row service h) ∗ ⌜ ServiceWaking result g h ⌝) }
+{
+    wake_service_in(unsafe { &mut *(service as *mut ServiceSlot) })
+}
+
+/// From now on packets to the route's node leave on its link.
+#[unsafe(no_mangle)]
+pub unsafe extern "C" fn dt_service_add_route(service: *mut ServiceHandle, route: &RouteRow) -> u8
+    ghost g: { ServiceSlot }
+    requires* { sem 𝓛 (points_to service_row service g) }
+    ensures* { ∃ₛ (λ h. sem 𝓛 (points_to service_row service h) ∗ ⌜ ServiceAddingRoute result route.now g h ⌝) }
+{
+    add_service_route_in(unsafe { &mut *(service as *mut ServiceSlot) }, route)
+}
+
+/// From now on the service receives at these ports, or at all, and of so many flows at most.
+#[unsafe(no_mangle)]
+pub unsafe extern "C" fn dt_service_guard(
+    service: *mut ServiceHandle,
+    alloc: Global,
+    ports: &[u16],
+    all: bool,
+    flows: u32,
+) -> u8
+    ghost g: { ServiceSlot }
+    requires* { sem 𝓛 (points_to service_row service g) }
+    ensures* { ∃ₛ (λ h. sem 𝓛 (points_to service_row service h) ∗ ⌜ ServiceGuarding result ports.now all flows g h ⌝) }
+{
+    guard_service_in(
+        unsafe { &mut *(service as *mut ServiceSlot) },
+        alloc,
+        ports,
+        all,
+        flows,
+    )
+}
+
+/// How many datagrams the guard kept out.
+#[unsafe(no_mangle)]
+pub unsafe extern "C" fn dt_service_kept_out(service: *mut ServiceHandle) -> KeptOutRow
+    ghost g: { ServiceSlot }
+    requires* { sem 𝓛 (points_to service_row service g) }
+    ensures* { ∃ₛ (λ h. sem 𝓛 (points_to service_row service h) ∗ ⌜ ServiceKeptOut result g h ⌝) }
+{
+    service_kept_out_in(unsafe { &mut *(service as *mut ServiceSlot) })
+}
+
+/// What the endpoint counted since it was opened.
+#[unsafe(no_mangle)]
+pub unsafe extern "C" fn dt_service_counts(service: *mut ServiceHandle) -> CountsRow
+    ghost g: { ServiceSlot }
+    requires* { sem 𝓛 (points_to service_row service g) }
+    ensures* { ∃ₛ (λ h. sem 𝓛 (points_to service_row service h) ∗ ⌜ ServiceCounting result g h ⌝) }
+{
+    service_counts_in(unsafe { &mut *(service as *mut ServiceSlot) })
 }

@@ -16,10 +16,6 @@ pub mod DuesLeft
 pub mod Kept
 pub mod ReadSides
 pub mod DoubtParts
-pub mod CallTurns
-pub mod CallFolds
-pub mod CallEnds
-pub mod CallClosing
 pub mod Makings
 pub mod Goings
 pub mod Beginnings

@@ -1,7 +1,6 @@
 pub mod Telling
 pub mod Hearing
 pub mod Sides
-pub mod CallTexts
 pub mod Totals
 pub mod Courses
 pub mod CallOutcomes
@@ -11,7 +10,4 @@ pub mod Parts
 pub mod Going
 pub mod Resting
 pub mod Dues
-pub mod CallInputs
-pub mod CallAnswers
-pub mod CallEnds
 pub mod Waiting

@@ -1,33 +1,26 @@
 -- An event of the world that is no send and no read gives octets at the end of a flow, and does nothing else to it.
-use Rattle.std.proofs.Common.{ℕ, ◌+◌, ◌≡◌, ◌==◌, Bool, true, false, [], ◌++◌, Option, Some, None, Result, Ok, Err, refl, ap, sym, subst, ◌∙◌, append_assoc, append-nil}
+use Rattle.std.proofs.Common.{ℕ, ◌+◌, ◌==◌, [], ◌++◌, Option, Some, None, refl, ap, sym, ◌∙◌, append_assoc, append-nil}
 use Rattle.dt_units.specs.declared.parameters.Params.{Params}
 use Rattle.dt_units.specs.declared.endpoints.Flow.{Flow}
-use Rattle.dt_layout.specs.declared.faults.LayoutFault.{LayoutFault}
-use Rattle.dt_layout.specs.Spelling.{PacketValue, Data, Ack, Meet, Close}
-use Rattle.dt_layout.specs.Reading.{gram_in, packet_read}
-use Rattle.dt_layout.specs.Carried.{to_of}
 use Rattle.dt_reports.specs.Told.{Told}
 use Rattle.dt_reports.specs.Matters as matter
 use Rattle.dt_reports.specs.Matters.{Matter, matter_of}
-use Rattle.dt_flow_model.specs.declared.arrivals.Arrived.{Arrived}
-use Rattle.dt_flow_model.specs.declared.arrivals.Arrived.TheVariants as arrived
-use Rattle.dt_flow_model.specs.Frames.{Mark, flow_of, reply_frame}
+use Rattle.dt_flow_model.specs.Frames.{Mark}
 use Rattle.dt_flow_model.specs.Ledger.{given_rows}
-use Rattle.dt_world_model.specs.Host.{arrive, told_arrival, told_dropped}
-use Rattle.dt_world_model.specs.Ledgers.{Accepts, Change, Changes, Effect, FlowLedger, GivesUp, Leaves, Ledgers, Neither, Occasion, ReadsOut, Settles, Takes, Transmits, TransmitsAgain, effect_by, effect_of, ledger_after, ledger_of, ledgers_after, ledgers_by}
+use Rattle.dt_world_model.specs.Ledgers.{Accepts, Change, FlowLedger, GivesUp, Occasion, ReadsOut, Settles, Takes, Transmits, TransmitsAgain, effect_by, effect_of, ledger_after, ledger_of}
 use Rattle.dt_world_model.specs.Relay.{Parcel, admit}
-use Rattle.dt_world_model.specs.Script.{Script, Done, Tell, Ask, Hand, ◌>>=◌, play}
-use Rattle.dt_world_model.specs.Station.{Arrive, Event, Station, Tick, come, come_in, deliver, happen, pass_on, send_off, settle_station, station_event, station_with}
-use Rattle.dt_world_model.specs.Tables.{look, same_flow}
+use Rattle.dt_world_model.specs.Script.{Script, Done, Tell, Ask, Hand, play}
+use Rattle.dt_world_model.specs.Station.{Arrive, Event, Station, Tick, come_in, happen, settle_station, station_event}
+use Rattle.dt_world_model.specs.Tables.{look}
 use Rattle.dt_world_model.specs.World.{Noted, Placed, World, note_copy, note_told, world_handler}
 use Rattle.dt_world_model.specs.WorldStep.{Arrives, Loses, Passes, Reads, Restarts, Sends, Ticks, WorldEvent, after_event, copy_at, event_at, link_for, noted_at, occasion, restart_at}
-use Rattle.dt_world_model.proofs.Tables.{flow_is}
-use Rattle.dt_world_laws.proofs.Reported.{entry_changes, entry_stays}
 use Rattle.dt_calls_model.specs.Heard.{ALoss, APiece, ARefusal, ATaking, AnAcceptance, Heard, NoMessage, heard, heard_by}
 use Rattle.dt_calls_laws.specs.Grown.{GrowsAtEnd, IsNoSendOrRead}
-use Rattle.dt_calls_laws.specs.Silence.{IsSilent, SameOctets, TellsNoMessage}
-use Rattle.dt_calls_laws.proofs.Octets.{changed_same}
-use Rattle.dt_calls_laws.proofs.Silence.{passed_silent, sent_off_silent, settle_silent}
+use Rattle.dt_world_laws.specs.Tellings.{AllTold}
+use Rattle.dt_world_laws.proofs.Tellings.{OfArrivals, comes_in_told, event_told, told_weaker}
+use Rattle.dt_calls_laws.specs.Silence.{IsSilent, IsSilentTold, SameOctets, TellsNoMessage}
+use Rattle.dt_calls_laws.proofs.Octets.{OfChange, changed_same, told_leaves}
+use Rattle.dt_calls_laws.proofs.Silence.{settle_silent}
 
 pub grows_nothing : (l : FlowLedger) → GrowsAtEnd l l
 grows_nothing l = record { taken = refl; more = []; given = sym (append-nil l.given); reads = refl }
@@ -69,12 +62,7 @@ IsGrowing (Settles count) = Unit {0}
 IsGrowing (Accepts run) = Unit {0}
 IsGrowing (ReadsOut count) = ⊥
 
-abbrev IsGrowingEffect : Effect → Type 0
-IsGrowingEffect (Changes f change) = IsGrowing change
-IsGrowingEffect (Leaves link life) = Unit {0}
-IsGrowingEffect Neither = Unit {0}
-
-growing_matter : (m : Matter) → IsGrowth (heard_by m) → IsGrowingEffect (effect_by m)
+growing_matter : (m : Matter) → IsGrowth (heard_by m) → OfChange IsGrowing (effect_by m)
 growing_matter (matter.Taken f count) h = absurd h
 growing_matter (matter.Refused f fault) h = tt
 growing_matter (matter.Transmitted f number count) h = tt
@@ -99,80 +87,33 @@ changed_grows o (Settles count) l h = grows_same l _ (changed_same o (Settles co
 changed_grows o (Accepts run) l h = record { taken = refl; more = given_rows o.life o.now run o.place o.items; given = refl; reads = refl }
 changed_grows o (ReadsOut count) l h = absurd h
 
-flow_grows : (b : Bool) (o : Occasion) (told : Told) (all : Ledgers) (f g : Flow) (change : Change) → same_flow f g ≡ b → effect_of told ≡ Changes f change → IsGrowing change → GrowsAtEnd (ledger_of all g) (ledger_of (ledgers_after o told all) g)
-flow_grows true o told all f g change e is h =
-    let here : f ≡ g = flow_is f g e in
-    subst (λ (k : Flow). GrowsAtEnd (ledger_of all k) (ledger_of (ledgers_after o told all) k)) here
-    (subst (λ (l : FlowLedger). GrowsAtEnd (ledger_of all f) l) (sym (entry_changes o told all f change is).0) (changed_grows o change (ledger_of all f) h))
-flow_grows false o told all f g change e is h =
-    subst (λ (l : FlowLedger). GrowsAtEnd (ledger_of all g) l) (sym (entry_stays o told all f change g is e).0) (grows_nothing (ledger_of all g))
-
-told_grows : (o : Occasion) (told : Told) (all : Ledgers) (g : Flow) (effect : Effect) → effect_of told ≡ effect → IsGrowingEffect effect → GrowsAtEnd (ledger_of all g) (ledger_of (ledgers_after o told all) g)
-told_grows o told all g (Changes f change) e h = flow_grows (same_flow f g) o told all f g change refl e h
-told_grows o told all g (Leaves link life) e h = subst (λ (x : Effect). GrowsAtEnd (ledger_of all g) (ledger_of (ledgers_by o x all) g)) (sym e) (grows_nothing (ledger_of all g))
-told_grows o told all g Neither e h = subst (λ (x : Effect). GrowsAtEnd (ledger_of all g) (ledger_of (ledgers_by o x all) g)) (sym e) (grows_nothing (ledger_of all g))
-
 -- SCRIPTS that tell of no send that is taken and of no piece
-abbrev TellsGrowth : {A : Type 0} → Script Mark A → Type 0
-TellsGrowth (Done a) = Unit {0}
-TellsGrowth (Tell r s) = IsGrowth (heard r) × TellsGrowth s
-TellsGrowth (Ask host octets s) = (t : Mark) → TellsGrowth (s t)
-TellsGrowth (Hand link parcel s) = TellsGrowth s
+abbrev pub IsGrowthTold : Told → Type 0
+IsGrowthTold r = IsGrowth (heard r)
 
-growth_then : {A B : Type 0} (s : Script Mark A) (k : A → Script Mark B) → TellsGrowth s → ((a : A) → TellsGrowth (k a)) → TellsGrowth (s >>= k)
-growth_then (Done a) k h on = on a
-growth_then (Tell r s) k h on = (h.0, growth_then s k h.1 on)
-growth_then (Ask host octets s) k h on = λ t. growth_then (s t) k (h t) on
-growth_then (Hand link parcel s) k h on = growth_then s k h on
+abbrev pub TellsGrowth : {A : Type 0} → Script Mark A → Type 0
+TellsGrowth s = AllTold IsGrowthTold s
 
 growth_of_silence : {A : Type 0} (s : Script Mark A) → TellsNoMessage s → TellsGrowth s
-growth_of_silence (Done a) h = tt
-growth_of_silence (Tell r s) h = (silent_grows (heard r) h.0, growth_of_silence s h.1)
-growth_of_silence (Ask host octets s) h = λ t. growth_of_silence (s t) (h t)
-growth_of_silence (Hand link parcel s) h = growth_of_silence s h
+growth_of_silence s h = told_weaker IsSilentTold IsGrowthTold s (λ r h. silent_grows (heard r) h) h
 
-play_grows : {A : Type 0} (o : Occasion) (s : Script Mark A) (d : Noted) (g : Flow) → TellsGrowth s → GrowsAtEnd (ledger_of d.ledgers g) (ledger_of (play (world_handler o) s d).0.ledgers g)
+pub play_grows : {A : Type 0} (o : Occasion) (s : Script Mark A) (d : Noted) (g : Flow) → TellsGrowth s → GrowsAtEnd (ledger_of d.ledgers g) (ledger_of (play (world_handler o) s d).0.ledgers g)
 play_grows o (Done a) d g h = grows_nothing (ledger_of d.ledgers g)
 play_grows o (Tell r s) d g h =
     let mid = note_told o r d in
-    grows_then (ledger_of d.ledgers g) (ledger_of mid.ledgers g) (ledger_of (play (world_handler o) s mid).0.ledgers g) (told_grows o r d.ledgers g (effect_of r) refl (growing_matter (matter_of r) h.0)) (play_grows o s mid g h.1)
+    grows_then (ledger_of d.ledgers g) (ledger_of mid.ledgers g) (ledger_of (play (world_handler o) s mid).0.ledgers g) (told_leaves GrowsAtEnd IsGrowing grows_nothing changed_grows o r d.ledgers g (effect_of r) refl (growing_matter (matter_of r) h.0)) (play_grows o s mid g h.1)
 play_grows o (Ask host octets s) d g h = let t = (world_handler o).tag host octets d in play_grows o (s t) d g (h t)
 play_grows o (Hand link parcel s) d g h = play_grows o s (note_copy o link parcel d) g h
 
 -- AN ARRIVAL
-dropped_grows : (f : Flow) (v : PacketValue) → IsGrowth (heard (told_dropped f v))
-dropped_grows f (Data from_port to_port number drf begin end octets) = tt
-dropped_grows f (Ack from_port to_port number window) = tt
-dropped_grows f (Meet from_port to_port number) = tt
-dropped_grows f (Close from_port to_port number) = tt
+growing_arrivals : OfArrivals IsGrowthTold
+growing_arrivals = record { relays = record { put = λ link life. tt; expired = λ link. tt; no_route = λ to. tt; full = λ link. tt }; expired = λ link. tt; bad = λ fault. tt; quiet = λ until. tt; accepted = λ f number count run. tt; replied = λ f number window. tt; dropped = λ f number. tt; ignored = λ f number window. tt; settled = λ f count window. tt; closing = λ f number. tt }
 
-arrival_grows : (f : Flow) (v : PacketValue) (a : Arrived) → IsGrowth (heard (told_arrival f v a))
-arrival_grows f v (arrived.Quiet until) = tt
-arrival_grows f v (arrived.Accepted run count) = tt
-arrival_grows f v (arrived.Replied number window) = tt
-arrival_grows f v arrived.Dropped = dropped_grows f v
-arrival_grows f v (arrived.Acked count) = tt
-arrival_grows f v (arrived.Closing number) = tt
+pub admitted_grows : (p : Params) (now link : ℕ) (parcel : Option (Parcel Mark)) (st : Station Mark) → TellsGrowth (come_in p now link parcel st)
+admitted_grows p now link parcel st = comes_in_told IsGrowthTold growing_arrivals p now link parcel st
 
-delivery_grows : (p : Params) (now from : ℕ) (packet : Result PacketValue LayoutFault) (st : Station Mark) → TellsGrowth (deliver p now from packet st)
-delivery_grows p now from (Err fault) st = (tt, tt)
-delivery_grows p now from (Ok v) st =
-    let f = flow_of from st.host.me v in
-    let r = arrive p now from v st.host in
-    (arrival_grows f v r.0, growth_of_silence (send_off now r.1 (reply_frame p f r.0) st.relay) (sent_off_silent now r.1 (reply_frame p f r.0) st.relay))
-
-coming_grows : (mine : Bool) (p : Params) (now : ℕ) (parcel : Parcel Mark) (st : Station Mark) → TellsGrowth (come p now mine parcel st)
-coming_grows true p now parcel st = let d = gram_in parcel.octets in delivery_grows p now d.from (packet_read d) st
-coming_grows false p now parcel st = growth_then (pass_on parcel now st.relay) (λ relay. Done (station_with st.host relay)) (growth_of_silence (pass_on parcel now st.relay) (passed_silent now parcel st.relay)) (λ relay. tt)
-
-admitted_grows : (p : Params) (now link : ℕ) (parcel : Option (Parcel Mark)) (st : Station Mark) → TellsGrowth (come_in p now link parcel st)
-admitted_grows p now link None st = (tt, tt)
-admitted_grows p now link (Some parcel) st = coming_grows (to_of parcel.octets == st.host.me) p now parcel st
-
-event_grows : (p : Params) (now : ℕ) (e : Event Mark) (st : Station Mark) → ((before : Station Mark) → TellsGrowth (happen p now e before)) → TellsGrowth (station_event p now e st)
-event_grows p now e st h =
-    growth_then (settle_station p now st) (λ before. happen p now e before >>= λ after. settle_station p now after) (growth_of_silence (settle_station p now st) (settle_silent p now st)) (λ before.
-    growth_then (happen p now e before) (λ after. settle_station p now after) (h before) (λ after. growth_of_silence (settle_station p now after) (settle_silent p now after)))
+pub event_grows : (p : Params) (now : ℕ) (e : Event Mark) (st : Station Mark) → ((before : Station Mark) → TellsGrowth (happen p now e before)) → TellsGrowth (station_event p now e st)
+event_grows p now e st h = event_told IsGrowthTold p now e st (λ other. growth_of_silence (settle_station p now other) (settle_silent p now other)) h
 
 -- IN THE WORLD
 at_grows : (w : World) (n : ℕ) (e : Event Mark) (place : Option Placed) (g : Flow) → ((before : Station Mark) (now : ℕ) → TellsGrowth (happen w.params now e before)) → GrowsAtEnd (ledger_of w.ledgers g) (ledger_of (event_at w n e place).1.ledgers g)

@@ -18,7 +18,7 @@ use Rattle.dt_calls_model.specs.declared.calls.Call.{Call}
 use Rattle.dt_calls_model.specs.declared.calls.CallState.TheVariants as state
 use Rattle.dt_calls_model.specs.declared.calls.Posted.{Posted}
 use Rattle.dt_calls_model.specs.declared.calls.Posted.TheVariants.{Refused, Taken}
-use Rattle.dt_calls_model.specs.CallFacts.{CallIsKept, CourseFacts, FlowIsKept, LieSideBySide, Span, requests_on, span_of, taken_rows}
+use Rattle.dt_calls_model.specs.CallFacts.{AreBegun, AreReplies, CallIsKept, CourseFacts, FlowIsKept, LieSideBySide, Span, requests_on, span_of, taken_rows}
 use Rattle.dt_calls_model.specs.Calls.{Begun, Calls, Server, call_at, call_in, is_call, none_begun, with_flow}
 use Rattle.dt_calls_model.specs.CallStep.{call_refusals, is_way_of_replies, state_of}
 use Rattle.dt_calls_model.specs.Messages.{message_of, reversed}
@@ -263,26 +263,34 @@ module _ (answer : List ℕ → List ℕ) (c : Calls) (f : Flow) (payload : List
   keys : (m : ℕ) → has_key ◌==◌ m c.world.stations ≡ true → has_key ◌==◌ m request.1.stations ≡ true
   keys = post_keys c.world facts.limits facts.world f flow two_ends from_there octets
 
+  -- what is kept of the flow, by its spans
+  flow_kept : (b : Begun) (replies : List Span) → Lie (items_taken c.world f) new_carried 0 (requests_on c f) → AreReplies answer made f replies → AreBegun made.world f (requests_on made f) b.request → AreBegun made.world (reversed f) replies b.reply → FlowIsKept answer made f b
+  flow_kept b replies lie are requests_begun replies_begun = record {
+    ranges = flow;
+    called = n;
+    is_called = is_new;
+    from_there = keys f.from.0 from_there;
+    to_there = keys f.to.0 to_there;
+    two_ends = two_ends;
+    one_way = key_other (reversed f) back_other ∙ no_way;
+    requests = requests_made lie;
+    replies = replies;
+    are_replies = are;
+    requests_begun = requests_begun;
+    replies_begun = replies_begun;
+  }
+
   -- THE FLOW, where it had calls
   this_flow : (b : Begun) → look same_flow f c.flows ≡ Some b → FlowIsKept answer made f b
   this_flow b found =
       let h = flow_found answer c f b facts found in
       let more = more_by request.0 left in
       let carried = λ (s : Span). payload_of c.world (call_at c s.call) in
-      record {
-        ranges = flow;
-        called = n;
-        is_called = is_new;
-        from_there = keys f.from.0 from_there;
-        to_there = keys f.to.0 to_there;
-        two_ends = two_ends;
-        one_way = key_other (reversed f) back_other ∙ no_way;
-        requests = requests_made (lie_as (items_taken c.world f) carried new_carried 0 (requests_on c f) (same_carried answer c made f b h (go f) more.0 more.1) (to_lie c.world f carried 0 (requests_on c f) h.requests));
-        replies = h.replies;
-        are_replies = replies_stay answer c made f b h (go f) more.0 more.1 (same_replies f) (items_other (reversed f) back_other);
-        requests_begun = begun_stays c.world request.1 f (requests_on c f) (requests_on made f) b.request (steady f) old_there h.requests_begun;
-        replies_begun = begun_stays c.world request.1 (reversed f) h.replies h.replies b.reply (steady (reversed f)) (λ s k. k) h.replies_begun;
-      }
+      flow_kept b h.replies
+      (lie_as (items_taken c.world f) carried new_carried 0 (requests_on c f) (same_carried answer c made f b h (go f) more.0 more.1) (to_lie c.world f carried 0 (requests_on c f) h.requests))
+      (replies_stay answer c made f b h (go f) more.0 more.1 (same_replies f) (items_other (reversed f) back_other))
+      (begun_stays c.world request.1 f (requests_on c f) (requests_on made f) b.request (steady f) old_there h.requests_begun)
+      (begun_stays c.world request.1 (reversed f) h.replies h.replies b.reply (steady (reversed f)) (λ s k. k) h.replies_begun)
 
   -- and where this is its first
   no_call_by : has_key same_flow f c.flows ≡ false → (m : ℕ) → is_call c f m ≡ true → ⊥
@@ -303,24 +311,13 @@ module _ (answer : List ℕ → List ℕ) (c : Calls) (f : Flow) (payload : List
       let items : items_taken c.world f ≡ [] = ap (map item_of) rows in
       let back : taken_rows request.1 (reversed f) ≡ [] = none_taken c.world request.1 (reversed f) (items_other (reversed f) back_other) (facts.others (reversed f) no_way none) in
       let lie : Lie (items_taken c.world f) new_carried 0 (requests_on c f) = subst (λ (ss : List Span). Lie (items_taken c.world f) new_carried 0 ss) (sym spans) (ap (λ (is : List Item). length is) items) in
+      flow_kept none_begun [] lie
       record {
-        ranges = flow;
-        called = n;
-        is_called = is_new;
-        from_there = keys f.from.0 from_there;
-        to_there = keys f.to.0 to_there;
-        two_ends = two_ends;
-        one_way = key_other (reversed f) back_other ∙ no_way;
-        requests = requests_made lie;
-        replies = [];
-        are_replies = record {
-          lie = ap (λ rs. length rs) back;
-          of_calls = All-nil (λ s. (is_call made f s.call ≡ true) × ((call_at made s.call).reply ≡ Some (Taken s.place s.count)));
-          all = λ m place count is reply. absurd (never m ((same_replies f).none_new m place count is reply));
-        };
-        requests_begun = tt;
-        replies_begun = tt;
+        lie = ap (λ rs. length rs) back;
+        of_calls = All-nil (λ s. (is_call made f s.call ≡ true) × ((call_at made s.call).reply ≡ Some (Taken s.place s.count)));
+        all = λ m place count is reply. absurd (never m ((same_replies f).none_new m place count is reply));
       }
+      tt tt
 
   -- ALL FLOWS
   each : (k : Flow) (x : Begun) → look same_flow k c.flows ≡ Some x → FlowIsKept answer made k x

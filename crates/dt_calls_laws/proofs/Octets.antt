@@ -15,7 +15,7 @@ use Rattle.dt_world_model.specs.Tables.{same_flow}
 use Rattle.dt_world_model.specs.World.{Noted, note_copy, note_told, world_handler}
 use Rattle.dt_world_model.proofs.Tables.{flow_is}
 use Rattle.dt_world_laws.proofs.Reported.{entry_changes, entry_stays}
-use Rattle.dt_calls_model.specs.Heard.{heard, heard_by}
+use Rattle.dt_calls_model.specs.Heard.{heard_by}
 use Rattle.dt_calls_laws.specs.Silence.{IsSilent, SameOctets, TellsNoMessage}
 
 pub same_octets : (l : FlowLedger) → SameOctets l l
@@ -53,12 +53,28 @@ IsQuiet (Settles count) = Unit {0}
 IsQuiet (Accepts run) = ⊥
 IsQuiet (ReadsOut count) = ⊥
 
-abbrev IsQuietEffect : Effect → Type 0
-IsQuietEffect (Changes f change) = IsQuiet change
-IsQuietEffect (Leaves link life) = Unit {0}
-IsQuietEffect Neither = Unit {0}
+-- an effect whose change is among some
+abbrev pub OfChange : (Change → Type 0) → Effect → Type 0
+OfChange Of (Changes f change) = Of change
+OfChange Of (Leaves link life) = Unit {0}
+OfChange Of Neither = Unit {0}
 
-quiet_matter : (m : Matter) → IsSilent (heard_by m) → IsQuietEffect (effect_by m)
+-- WHAT HOLDS BETWEEN A LEDGER AND ITSELF, and after each change among some, holds after each report with such a change
+module _ (Holds : FlowLedger → FlowLedger → Type 0) (Of : Change → Type 0) (same : (l : FlowLedger) → Holds l l) (changed : (o : Occasion) (change : Change) (l : FlowLedger) → Of change → Holds l (ledger_after o change l)) where
+  told_of_flow : (b : Bool) (o : Occasion) (told : Told) (all : Ledgers) (f g : Flow) (change : Change) → same_flow f g ≡ b → effect_of told ≡ Changes f change → Of change → Holds (ledger_of all g) (ledger_of (ledgers_after o told all) g)
+  told_of_flow true o told all f g change e is h =
+      let here : f ≡ g = flow_is f g e in
+      subst (λ (k : Flow). Holds (ledger_of all k) (ledger_of (ledgers_after o told all) k)) here
+      (subst (λ (l : FlowLedger). Holds (ledger_of all f) l) (sym (entry_changes o told all f change is).0) (changed o change (ledger_of all f) h))
+  told_of_flow false o told all f g change e is h =
+      subst (λ (l : FlowLedger). Holds (ledger_of all g) l) (sym (entry_stays o told all f change g is e).0) (same (ledger_of all g))
+
+  pub told_leaves : (o : Occasion) (told : Told) (all : Ledgers) (g : Flow) (effect : Effect) → effect_of told ≡ effect → OfChange Of effect → Holds (ledger_of all g) (ledger_of (ledgers_after o told all) g)
+  told_leaves o told all g (Changes f change) e h = told_of_flow (same_flow f g) o told all f g change refl e h
+  told_leaves o told all g (Leaves link life) e h = subst (λ (x : Effect). Holds (ledger_of all g) (ledger_of (ledgers_by o x all) g)) (sym e) (same (ledger_of all g))
+  told_leaves o told all g Neither e h = subst (λ (x : Effect). Holds (ledger_of all g) (ledger_of (ledgers_by o x all) g)) (sym e) (same (ledger_of all g))
+
+quiet_matter : (m : Matter) → IsSilent (heard_by m) → OfChange IsQuiet (effect_by m)
 quiet_matter (matter.Taken f count) h = absurd h
 quiet_matter (matter.Refused f fault) h = absurd h
 quiet_matter (matter.Transmitted f number count) h = tt
@@ -83,24 +99,11 @@ changed_same o (Settles count) l h = record { taken = settled_same o.life _ coun
 changed_same o (Accepts run) l h = absurd h
 changed_same o (ReadsOut count) l h = absurd h
 
-flow_case : (b : Bool) (o : Occasion) (told : Told) (all : Ledgers) (f g : Flow) (change : Change) → same_flow f g ≡ b → effect_of told ≡ Changes f change → IsQuiet change → SameOctets (ledger_of all g) (ledger_of (ledgers_after o told all) g)
-flow_case true o told all f g change e is h =
-    let here : f ≡ g = flow_is f g e in
-    subst (λ (k : Flow). SameOctets (ledger_of all k) (ledger_of (ledgers_after o told all) k)) here
-    (subst (λ (l : FlowLedger). SameOctets (ledger_of all f) l) (sym (entry_changes o told all f change is).0) (changed_same o change (ledger_of all f) h))
-flow_case false o told all f g change e is h =
-    subst (λ (l : FlowLedger). SameOctets (ledger_of all g) l) (sym (entry_stays o told all f change g is e).0) (same_octets (ledger_of all g))
-
-told_case : (o : Occasion) (told : Told) (all : Ledgers) (g : Flow) (effect : Effect) → effect_of told ≡ effect → IsQuietEffect effect → SameOctets (ledger_of all g) (ledger_of (ledgers_after o told all) g)
-told_case o told all g (Changes f change) e h = flow_case (same_flow f g) o told all f g change refl e h
-told_case o told all g (Leaves link life) e h = subst (λ (x : Effect). SameOctets (ledger_of all g) (ledger_of (ledgers_by o x all) g)) (sym e) (same_octets (ledger_of all g))
-told_case o told all g Neither e h = subst (λ (x : Effect). SameOctets (ledger_of all g) (ledger_of (ledgers_by o x all) g)) (sym e) (same_octets (ledger_of all g))
-
 -- A PLAY without a message
 pub silent_leaves : {A : Type 0} (o : Occasion) (s : Script Mark A) (d : Noted) (g : Flow) → TellsNoMessage s → SameOctets (ledger_of d.ledgers g) (ledger_of (play (world_handler o) s d).0.ledgers g)
 silent_leaves o (Done a) d g h = same_octets (ledger_of d.ledgers g)
 silent_leaves o (Tell r s) d g h =
     let mid = note_told o r d in
-    octets_then (ledger_of d.ledgers g) (ledger_of mid.ledgers g) (ledger_of (play (world_handler o) s mid).0.ledgers g) (told_case o r d.ledgers g (effect_of r) refl (quiet_matter (matter_of r) h.0)) (silent_leaves o s mid g h.1)
+    octets_then (ledger_of d.ledgers g) (ledger_of mid.ledgers g) (ledger_of (play (world_handler o) s mid).0.ledgers g) (told_leaves SameOctets IsQuiet same_octets changed_same o r d.ledgers g (effect_of r) refl (quiet_matter (matter_of r) h.0)) (silent_leaves o s mid g h.1)
 silent_leaves o (Ask host octets s) d g h = let t = (world_handler o).tag host octets d in silent_leaves o (s t) d g (h t)
 silent_leaves o (Hand link parcel s) d g h = silent_leaves o s (note_copy o link parcel d) g h

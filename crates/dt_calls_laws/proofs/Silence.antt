@@ -1,5 +1,5 @@
 -- A station that settles tells no message: no piece that was read, no send that was taken or refused and no data that was accepted.
-use Rattle.std.proofs.Common.{ℕ, zero, suc, ◌≡◌, ◌==◌, Bool, true, false, if◌then◌else◌, ◌||◌, List, [], ◌∷◌, ◌++◌, length, map, Option, Some, None, refl, ap, sym, subst, ◌∙◌, append_assoc, append-nil}
+use Rattle.std.proofs.Common.{ℕ, zero, suc, ◌≡◌, Bool, false, ◌||◌, List, [], ◌∷◌, ◌++◌, length, map, Option, Some, None, refl, ap, sym, subst, ◌∙◌, append_assoc, append-nil}
 use Rattle.std.specs.Prelude.{option_map}
 use Rattle.dt_units.specs.declared.parameters.Params.{Params}
 use Rattle.dt_units.specs.declared.endpoints.Flow.{Flow}
@@ -12,18 +12,17 @@ use Rattle.dt_flow_model.specs.declared.acts.RecvAct.{RecvAct}
 use Rattle.dt_flow_model.specs.declared.acts.RecvAct.TheVariants as R
 use Rattle.dt_flow_model.specs.SendActs.{told_of}
 use Rattle.dt_flow_model.specs.ReceiveRecord.{recv_told_of}
-use Rattle.dt_world_model.specs.declared.links.Entered.{Entered}
-use Rattle.dt_world_model.specs.declared.links.Entered.TheVariants.{Queued, NoRoute, Full}
 use Rattle.dt_world_model.specs.Host.{Host, HostAct, Offer, Turn, least, next_turn, offers, receiver_at, recv_act, send_act, told_recv, told_send, turn_of, work}
 use Rattle.dt_world_model.specs.Ledgers.{Changes, Effect, Leaves, Neither, Occasion, effect_of}
-use Rattle.dt_world_model.specs.Relay.{Expired, Goes, Left, Out, Parcel, Relay, enter, leave, with_outs}
+use Rattle.dt_world_model.specs.Relay.{Parcel, Relay, with_outs}
 use Rattle.dt_world_model.specs.Script.{Script, Done, Tell, Ask, Hand, ◌>>=◌, play}
-use Rattle.dt_world_model.specs.Station.{Station, do_turns, flush, flush_at, flush_entered, flush_links, flush_on, flush_turns, go_on, pass_on, send_off, settle_station, station_with}
+use Rattle.dt_world_model.specs.Station.{Station, do_turns, flush_links, go_on, pass_on, send_off, settle_station, station_with}
 use Rattle.dt_world_model.specs.World.{Noted, note_copy, note_told, world_handler, world_told}
 use Rattle.dt_world_laws.proofs.Plays.{do_turn, link_of}
 use Rattle.dt_calls_model.specs.Heard.{ALoss, APiece, ARefusal, ATaking, AnAcceptance, Heard, NoMessage, heard, is_refusal, or_later, piece_in, tells_refusal}
 use Rattle.dt_calls_model.specs.Messages.{Piece}
-use Rattle.dt_calls_laws.specs.Silence.{IsSilent, TellsNoMessage}
+use Rattle.dt_world_laws.proofs.Tellings.{OfRelays, links_told, off_told, passed_told, told_then}
+use Rattle.dt_calls_laws.specs.Silence.{IsSilent, IsSilentTold, TellsNoMessage}
 
 sent_silent : (f : Flow) (act : SendAct) → IsSilent (heard (told_send f act))
 sent_silent f (A.GaveUp count) = tt
@@ -48,45 +47,19 @@ offer_silent p now host (Some o) turn e = let is : turn_of p now host o.act ≡ 
 turn_silent : (p : Params) (now : ℕ) (host : Host) (turn : Turn) → next_turn p now host ≡ Some turn → IsSilent (heard turn.told)
 turn_silent p now host turn e = offer_silent p now host (least (offers p now host)) turn e
 
+-- a relay tells of no message
+silent_relays : OfRelays IsSilentTold
+silent_relays = record { put = λ link life. tt; expired = λ link. tt; no_route = λ to. tt; full = λ link. tt }
+
 module _ {T : Type 0} where
   pub silent_then : {A B : Type 0} (s : Script T A) (k : A → Script T B) → TellsNoMessage s → ((a : A) → TellsNoMessage (k a)) → TellsNoMessage (s >>= k)
-  silent_then (Done a) k h on = on a
-  silent_then (Tell r s) k h on = (h.0, silent_then s k h.1 on)
-  silent_then (Ask host octets s) k h on = λ t. silent_then (s t) k (h t) on
-  silent_then (Hand link parcel s) k h on = silent_then s k h on
-
-  left_silent : (again : Out T → Script T (Out T)) (r : Option (Left T) × Out T) → ((out : Out T) → TellsNoMessage (again out)) → TellsNoMessage (flush_on again r)
-  left_silent again (None, out) on = tt
-  left_silent again (Some Expired, out) on = (tt, on out)
-  left_silent again (Some (Goes parcel), out) on = (tt, on out)
-
-  turns_flush_silent : (most now : ℕ) (out : Out T) → TellsNoMessage (flush_turns most now out)
-  turns_flush_silent zero now out = tt
-  turns_flush_silent (suc most) now out = left_silent (flush_turns most now) (leave now out) (turns_flush_silent most now)
-
-  at_case : (here : Bool) (link now : ℕ) (out : Out T) (outs : List (Out T)) → TellsNoMessage (flush_at link now outs) → TellsNoMessage (if here then (flush now out >>= λ after. Done (after ∷ outs)) else (flush_at link now outs >>= λ rest. Done (out ∷ rest)))
-  at_case true link now out outs h = silent_then (flush now out) (λ after. Done (after ∷ outs)) (turns_flush_silent (length out.waits) now out) (λ after. tt)
-  at_case false link now out outs h = silent_then (flush_at link now outs) (λ rest. Done (out ∷ rest)) h (λ rest. tt)
-
-  at_silent : (link now : ℕ) (outs : List (Out T)) → TellsNoMessage (flush_at link now outs)
-  at_silent link now [] = tt
-  at_silent link now (out ∷ outs) = at_case (out.link == link) link now out outs (at_silent link now outs)
-
-  links_silent : (now : ℕ) (links : List ℕ) (outs : List (Out T)) → TellsNoMessage (flush_links now links outs)
-  links_silent now [] outs = tt
-  links_silent now (link ∷ links) outs = silent_then (flush_at link now outs) (λ rest. flush_links now links rest) (at_silent link now outs) (λ rest. links_silent now links rest)
-
-  entered_silent : (now : ℕ) (entered : Entered) (relay : Relay T) → TellsNoMessage (flush_entered now (entered, relay))
-  entered_silent now (Queued link) relay = silent_then (flush_at link now relay.outs) (λ outs. Done (with_outs relay outs)) (at_silent link now relay.outs) (λ outs. tt)
-  entered_silent now (NoRoute to) relay = (tt, tt)
-  entered_silent now (Full link) relay = (tt, tt)
+  silent_then s k h on = told_then IsSilentTold s k h on
 
   pub passed_silent : (now : ℕ) (parcel : Parcel T) (relay : Relay T) → TellsNoMessage (pass_on parcel now relay)
-  passed_silent now parcel relay = let r = enter parcel now relay in entered_silent now r.0 r.1
+  passed_silent now parcel relay = passed_told IsSilentTold silent_relays now parcel relay
 
   pub sent_off_silent : (now : ℕ) (host : Host) (frame : Option (List ℕ)) (relay : Relay T) → TellsNoMessage (send_off now host frame relay)
-  sent_off_silent now host None relay = tt
-  sent_off_silent now host (Some octets) relay = λ t. silent_then (pass_on (record { octets = octets; tag = t }) now relay) (λ after. Done (station_with host after)) (passed_silent now (record { octets = octets; tag = t }) relay) (λ after. tt)
+  sent_off_silent now host frame relay = off_told IsSilentTold silent_relays now host frame relay
 
   turn_on : (most : ℕ) (p : Params) (now : ℕ) (st : Station T) (turn : Option Turn) → next_turn p now st.host ≡ turn → ((other : Station T) → TellsNoMessage (do_turns most p now other)) → TellsNoMessage (go_on (do_turns most p now) now turn st)
   turn_on most p now st None e again = tt
@@ -100,7 +73,7 @@ module _ {T : Type 0} where
   -- A STATION THAT SETTLES
   pub settle_silent : (p : Params) (now : ℕ) (st : Station T) → TellsNoMessage (settle_station p now st)
   settle_silent p now st =
-      silent_then (flush_links now (map link_of st.relay.outs) st.relay.outs) (λ outs. do_turns (work p now st.host) p now (station_with st.host (with_outs st.relay outs))) (links_silent now (map link_of st.relay.outs) st.relay.outs)
+      silent_then (flush_links now (map link_of st.relay.outs) st.relay.outs) (λ outs. do_turns (work p now st.host) p now (station_with st.host (with_outs st.relay outs))) (links_told IsSilentTold silent_relays now (map link_of st.relay.outs) st.relay.outs)
       (λ outs. turns_silent (work p now st.host) p now (station_with st.host (with_outs st.relay outs)))
 
 -- THE LINES of what tells no message

@@ -1,5 +1,5 @@
 -- EACH STEP keeps the facts of calls, and so does every list of events.
-use Rattle.std.proofs.Common.{ap, Bool, List, None, Option, Some, ℕ, [], arith, false, if◌then◌else◌, length, map, refl, subst, suc, sym, true, ◌++◌, ◌+◌, ◌<◌, ◌^◌, ◌∙◌, ◌∷◌, ◌≡◌, ◌≢◌, ◌≤◌, ◌⊎◌, append-nil, append_assoc, inl, inr}
+use Rattle.std.proofs.Common.{ap, Bool, List, None, Option, Some, ℕ, [], arith, false, if◌then◌else◌, length, map, refl, subst, suc, sym, true, ◌++◌, ◌+◌, ◌<◌, ◌^◌, ◌∙◌, ◌∷◌, ◌≡◌, ◌≢◌, ◌≤◌, append-nil, append_assoc, inl, inr}
 use Rattle.std.specs.List.{All}
 use Rattle.std.proofs.lemmas.Bool.{cases_lt}
 use Rattle.std.proofs.lemmas.List.{get_or_append_left, get_or_at, length-map, length_push}

@@ -1,6 +1,5 @@
 //! Inputs of calls and what is told of them.
-use dt_calls::CallsOutcome;
-use dt_calls::running::calls;
+use dt_calls_input::{CallsOutcome, calls};
 use dt_edges::MemSink;
 use std::alloc::Global;
 use std::process::Abort;

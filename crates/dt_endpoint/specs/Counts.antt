@@ -1,5 +1,5 @@
 -- What an endpoint counts: datagrams, frames, and octets by what is told of them. No count passes 2^64 - 1.
-use Rattle.std.specs.Prelude.{ℕ, ◌+◌, ◌-◌, ◌^◌, min, List, [], ◌∷◌, length, Option, Some, None}
+use Rattle.std.specs.Prelude.{ℕ, ◌+◌, ◌-◌, ◌^◌, min, List, [], ◌∷◌, length, Option, Some, None, option_map}
 use Rattle.dt_units.specs.declared.endpoints.Flow.{Flow}
 use Rattle.dt_reports.specs.Told.{Told}
 use Rattle.dt_reports.specs.Matters as matter
@@ -7,7 +7,10 @@ use Rattle.dt_reports.specs.Matters.{Matter, matter_of}
 use Rattle.dt_world_model.specs.Station.{Arrive, Event, Read, Send, Tick}
 use Rattle.dt_world_model.specs.Tables.{look, same_flow, write}
 use Rattle.dt_endpoint.specs.declared.counts.Counts.{Counts}
+use Rattle.dt_endpoint.specs.declared.counts.Addition.{Addition}
 use Rattle.dt_endpoint.specs.declared.counts.Octets.{Octets}
+use Rattle.dt_endpoint.specs.declared.counts.Tally.{Tally}
+use Rattle.dt_endpoint.specs.declared.counts.Tally.TheVariants as tally
 use Rattle.dt_endpoint.specs.Acts.{Act, Hands, Tells}
 
 -- so many more
@@ -28,45 +31,40 @@ pub record Counted : Type 0 where
 abbrev pub none_counted : Counted
 none_counted = record { node = no_counts; flows = [] }
 
--- OCTETS, by a report
-abbrev pub octets_by : Matter → Octets → Octets
-octets_by (matter.Taken f count) o = record o { taken = counted count o.taken }
-octets_by (matter.Acknowledged f count window) o = record o { settled = counted count o.settled }
-octets_by (matter.GivenUp f count) o = record o { uncertain = counted count o.uncertain }
-octets_by (matter.Accepted f number count run) o = record o { accepted = counted count o.accepted }
-octets_by (matter.ReadOut f run begin end octets) o = record o { read = counted (length octets) o.read }
-octets_by (matter.Refused f fault) o = o
-octets_by (matter.Transmitted f number count) o = o
-octets_by (matter.Retransmitted f) o = o
-octets_by (matter.Replied f number) o = o
-octets_by (matter.Dropped f) o = o
-octets_by (matter.NothingRead f) o = o
-octets_by (matter.Left link life) o = o
-octets_by (matter.Begun life) o = o
-octets_by matter.Neither o = o
+-- OCTETS, by a report: which number of which flow it adds to, and how many
+abbrev pub addition_by : Matter → Option Addition
+addition_by (matter.Taken f count) = Some (record { flow = f; tally = tally.Taken; by = count })
+addition_by (matter.Acknowledged f count window) = Some (record { flow = f; tally = tally.Settled; by = count })
+addition_by (matter.GivenUp f count) = Some (record { flow = f; tally = tally.Uncertain; by = count })
+addition_by (matter.Accepted f number count run) = Some (record { flow = f; tally = tally.Accepted; by = count })
+addition_by (matter.ReadOut f run begin end octets) = Some (record { flow = f; tally = tally.Read; by = length octets })
+addition_by (matter.Refused f fault) = None
+addition_by (matter.Transmitted f number count) = None
+addition_by (matter.Retransmitted f) = None
+addition_by (matter.Replied f number) = None
+addition_by (matter.Dropped f) = None
+addition_by (matter.NothingRead f) = None
+addition_by (matter.Left link life) = None
+addition_by (matter.Begun life) = None
+addition_by matter.Neither = None
+
+abbrev pub with_more : Tally → ℕ → Octets → Octets
+with_more tally.Taken by o = record o { taken = counted by o.taken }
+with_more tally.Settled by o = record o { settled = counted by o.settled }
+with_more tally.Uncertain by o = record o { uncertain = counted by o.uncertain }
+with_more tally.Accepted by o = record o { accepted = counted by o.accepted }
+with_more tally.Read by o = record o { read = counted by o.read }
+
+abbrev pub added : Option Addition → Octets → Octets
+added None o = o
+added (Some a) o = with_more a.tally a.by o
 
 abbrev pub octets_told : Told → Octets → Octets
-octets_told told o = octets_by (matter_of told) o
+octets_told told o = added (addition_by (matter_of told)) o
 
 -- the flow of whose octets it tells
-abbrev pub flow_by : Matter → Option Flow
-flow_by (matter.Taken f count) = Some f
-flow_by (matter.Acknowledged f count window) = Some f
-flow_by (matter.GivenUp f count) = Some f
-flow_by (matter.Accepted f number count run) = Some f
-flow_by (matter.ReadOut f run begin end octets) = Some f
-flow_by (matter.Refused f fault) = None
-flow_by (matter.Transmitted f number count) = None
-flow_by (matter.Retransmitted f) = None
-flow_by (matter.Replied f number) = None
-flow_by (matter.Dropped f) = None
-flow_by (matter.NothingRead f) = None
-flow_by (matter.Left link life) = None
-flow_by (matter.Begun life) = None
-flow_by matter.Neither = None
-
 abbrev pub flow_told : Told → Option Flow
-flow_told told = flow_by (matter_of told)
+flow_told told = option_map (λ a. a.flow) (addition_by (matter_of told))
 
 abbrev pub flow_counts : Told → Flow → Option Octets → List (Flow × Octets) → List (Flow × Octets)
 flow_counts told f None flows = flows

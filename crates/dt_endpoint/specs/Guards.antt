@@ -1,5 +1,5 @@
 -- A guard against strangers: at which ports a node receives, and of how many flows at most. What it keeps out is a datagram that never came: a loss, and nothing else.
-use Rattle.std.specs.Prelude.{ℕ, ◌+◌, ◌==◌, ◌^◌, ◌&&◌, ◌-◌, min, nat_le, not, Bool, true, List, length, Option, Some, None, Result, Ok, Err, if◌then◌else◌}
+use Rattle.std.specs.Prelude.{ℕ, ◌==◌, ◌^◌, ◌&&◌, ◌-◌, nat_le, not, Bool, true, List, length, Option, Some, None, Result, Ok, Err, if◌then◌else◌}
 use Rattle.std.specs.List.{list_any}
 use Rattle.dt_units.specs.declared.endpoints.Flow.{Flow}
 use Rattle.dt_layout.specs.declared.faults.LayoutFault.{LayoutFault}

@@ -1,10 +1,11 @@
 //! What an endpoint counts.
 ghost use Rattle.std.specs.Prelude.{◌≡◌};
-ghost use Rattle.dt_reports.specs.Matters.{matter_seen};
+ghost use Rattle.dt_reports.specs.Matters.{matter_of, matter_seen};
 ghost use Rattle.dt_reports.specs.Told.{told};
-ghost use Rattle.dt_endpoint.specs.Counts.{counted, no_counts, no_octets, octets_by, octets_told};
+ghost use Rattle.dt_endpoint.specs.Counts.{addition_by, counted, no_counts, no_octets, octets_told, with_more};
 
 use dt_reports::{Matter, Report};
+use dt_units::Flow;
 
 /// Octets by what was told of them, since the endpoint opened. Each number stays at 2^64 - 1 once it is
 /// there.
@@ -40,36 +41,70 @@ impl Octets {
     pub(crate) fn note(&mut self, report: &Report<'_>)
         ensures { self.new ≡ octets_told (told report.now) self.old }
     {
-        self.count(report.matter())
-    }
-
-    /// The octets of which this says something are counted.
-    fn count(&mut self, matter: Matter<'_>)
-        ensures { self.new ≡ octets_by (matter_seen matter.entry) self.old }
-    {
-        match matter {
-            Matter::Taken { count, .. } => self.taken = more(self.taken, u64::from(count)),
-            Matter::Acknowledged { count, .. } => {
-                self.settled = more(self.settled, u64::from(count))
-            }
-            Matter::GivenUp { count, .. } => {
-                self.uncertain = more(self.uncertain, u64::from(count))
-            }
-            Matter::Accepted { count, .. } => {
-                self.accepted = more(self.accepted, u64::from(count))
-            }
-            Matter::ReadOut { octets, .. } => self.read = more(self.read, octets.len() as u64),
-            Matter::Refused { .. }
-            | Matter::Transmitted { .. }
-            | Matter::Retransmitted { .. }
-            | Matter::Replied { .. }
-            | Matter::Dropped { .. }
-            | Matter::NothingRead { .. }
-            | Matter::Left { .. }
-            | Matter::Begun { .. }
-            | Matter::Neither => {}
+        match added_by(report) {
+            Some(added) => self.add(added.tally, added.by),
+            None => {}
         }
     }
+
+    fn add(&mut self, tally: Tally, by: u64)
+        ensures { self.new ≡ with_more tally by self.old }
+    {
+        match tally {
+            Tally::Taken => self.taken = more(self.taken, by),
+            Tally::Settled => self.settled = more(self.settled, by),
+            Tally::Uncertain => self.uncertain = more(self.uncertain, by),
+            Tally::Accepted => self.accepted = more(self.accepted, by),
+            Tally::Read => self.read = more(self.read, by),
+        }
+    }
+}
+
+/// A number of [`Octets`].
+#[derive(Clone, Copy)]
+pub(crate) enum Tally {
+    Taken,
+    Settled,
+    Uncertain,
+    Accepted,
+    Read,
+}
+
+/// So many octets more of a flow, and the number that they add to.
+#[derive(Clone, Copy)]
+pub(crate) struct Addition {
+    pub flow: Flow,
+    pub tally: Tally,
+    pub by: u64,
+}
+
+/// What a report adds to the octets of its flow, or none where it tells of none.
+pub(crate) fn added_by(report: &Report<'_>) -> Option<Addition>
+    ensures { result ≡ addition_by (matter_of (told report.now)) }
+{
+    added_in(report.matter())
+}
+
+fn added_in(matter: Matter<'_>) -> Option<Addition>
+    ensures { result ≡ addition_by (matter_seen matter.entry) }
+{
+    let (flow, tally, by) = match matter {
+        Matter::Taken { flow, count } => (flow, Tally::Taken, u64::from(count)),
+        Matter::Acknowledged { flow, count, .. } => (flow, Tally::Settled, u64::from(count)),
+        Matter::GivenUp { flow, count } => (flow, Tally::Uncertain, u64::from(count)),
+        Matter::Accepted { flow, count, .. } => (flow, Tally::Accepted, u64::from(count)),
+        Matter::ReadOut { flow, octets, .. } => (flow, Tally::Read, octets.len() as u64),
+        Matter::Refused { .. }
+        | Matter::Transmitted { .. }
+        | Matter::Retransmitted { .. }
+        | Matter::Replied { .. }
+        | Matter::Dropped { .. }
+        | Matter::NothingRead { .. }
+        | Matter::Left { .. }
+        | Matter::Begun { .. }
+        | Matter::Neither => return None,
+    };
+    Some(Addition { flow, tally, by })
 }
 
 /// What a node has counted since its endpoint opened. Each number stays at 2^64 - 1 once it is there.

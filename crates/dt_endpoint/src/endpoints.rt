@@ -1,6 +1,6 @@
 ghost use Rattle.std.specs.Prelude.{ℕ, [], ◌≡◌, ◌+◌, ◌<◌, ◌≤◌, ◌++◌, false, IfNone, IfOk, OnOk, OnErr, is_some, drop, length, option_map, option_to_list, take};
 ghost use Rattle.dt_reports.specs.Told.{told};
-ghost use Rattle.dt_flow_model.specs.Keeping.{octets_below};
+ghost use Rattle.dt_flow_model.specs.Keeping.{most_moment, octets_below};
 ghost use Rattle.dt_world_model.specs.Relay.{route_to};
 ghost use Rattle.dt_world_model.specs.Tables.{has_key, look, same_flow};
 ghost use Rattle.dt_station.specs.Events.{MayHappenHere, local_seen};
@@ -338,6 +338,22 @@ impl Endpoint {
         ensures { result ≡ self.now.latest }
     {
         self.latest
+    }
+
+    /// The moment in milliseconds that an event has to which this one is told: no less than that of an
+    /// earlier event, and 2^62 at most.
+    pub fn moment_at(&self, now: u64) -> u64
+        ensures moment { result ≡ moment_of now self.now }
+        ensures within { result ≤ most_moment }
+    {
+        self.latest.max(now.min(MOST_MOMENT))
+    }
+
+    /// How many octets sends have handed in since the endpoint opened, also where they weren't taken.
+    pub fn asked(&self) -> u64
+        ensures { result ≡ self.now.asked }
+    {
+        self.asked
     }
 
     /// How many octets of a flow were taken and haven't been sent so far.

@@ -68,56 +68,9 @@ fn heard_by(matter: Matter<'_>, before: Heard) -> Heard
     }
 }
 
-/// A match on a report, with one row a report of which every field is kept.
-macro_rules! keeping {
-    ($report:expr; $($told:ident { $($field:ident),* },)*; $($other:pat => $kept:expr,)*) => {
-        match $report {
-            $(Report::$told { $($field),* } => Report::$told { $($field),* },)*
-            $($other => $kept,)*
-        }
-    };
-}
-
 /// The report without the octets of a piece, which are handed over by the read.
 pub fn kept_report(report: &Report<'_>) -> Report<'static>
     ensures { told result ≡ kept (told report.now) }
 {
-    keeping! { *report;
-        Took { flow, count },
-        Refused { flow, fault },
-        Sent { flow, number, length, drf, begin, end },
-        Resent { flow, number, length, drf, begin, end },
-        Met { flow, number },
-        Uncertain { flow, count },
-        Released { flow, sending },
-        Renewed { flow },
-        Acked { flow, number, window },
-        Replied { flow, number, window },
-        Accepted { flow, number, length, run },
-        Dropped { flow, number },
-        Closing { flow, number },
-        Settled { flow, count, window },
-        Ignored { flow, number, window },
-        Quiet { until },
-        Nothing { flow },
-        Put { link, life },
-        PutAs { link, life, copy },
-        ExpiredIn { link },
-        ExpiredOut { link },
-        NoRoute { to },
-        Full { link },
-        Bad { fault },
-        Unsent { link },
-        Shelved { flow, number },
-        NoShelf { flow, number },
-        Again { flow, number },
-        Stale { flow, number },
-        Restarted { life },
-        Lost { copy },
-        FlowTotals { flow, taken, acked, uncertain, unsettled, given, read },
-        Fault { line, fault },
-        ;
-        Report::Read { flow, run, begin, end, .. } => Report::Read { flow, run, begin, end, octets: &[] },
-        Report::End => Report::End,
-    }
+    report.without_octets()
 }

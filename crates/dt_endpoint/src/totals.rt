@@ -1,13 +1,12 @@
 //! Octets of the flows that are followed.
 ghost use Rattle.std.specs.Prelude.{◌≡◌, [], OnErr, OnOk};
-ghost use Rattle.dt_reports.specs.Matters.{matter_seen};
 ghost use Rattle.dt_reports.specs.Told.{told};
 ghost use Rattle.dt_world_model.specs.Tables.{look, same_flow};
-ghost use Rattle.dt_endpoint.specs.Counts.{flow_by, flow_told, flows_told, with_flow};
+ghost use Rattle.dt_endpoint.specs.Counts.{flow_told, flows_told, with_flow};
 
-use crate::counts::Octets;
+use crate::counts::{Octets, added_by};
 use dt_items::NoMemory;
-use dt_reports::{Matter, Report};
+use dt_reports::Report;
 use dt_units::Flow;
 use indexmap::IndexMap;
 use std::alloc::Global;
@@ -82,27 +81,8 @@ impl Totals {
 fn flow_in(report: &Report<'_>) -> Option<Flow>
     ensures { result ≡ flow_told (told report.now) }
 {
-    flow_by(report.matter())
-}
-
-/// The flow of whose octets this tells.
-fn flow_by(matter: Matter<'_>) -> Option<Flow>
-    ensures { result ≡ flow_by (matter_seen matter.entry) }
-{
-    match matter {
-        Matter::Taken { flow, .. }
-        | Matter::Acknowledged { flow, .. }
-        | Matter::GivenUp { flow, .. }
-        | Matter::Accepted { flow, .. }
-        | Matter::ReadOut { flow, .. } => Some(flow),
-        Matter::Refused { .. }
-        | Matter::Transmitted { .. }
-        | Matter::Retransmitted { .. }
-        | Matter::Replied { .. }
-        | Matter::Dropped { .. }
-        | Matter::NothingRead { .. }
-        | Matter::Left { .. }
-        | Matter::Begun { .. }
-        | Matter::Neither => None,
+    match added_by(report) {
+        Some(added) => Some(added.flow),
+        None => None,
     }
 }

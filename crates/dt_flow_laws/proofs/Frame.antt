@@ -417,9 +417,10 @@ pub run_now : (c : Params) (run : Option Run) (now : ℕ) → firsts_end run ≤
 run_now c None now h = omega arith
 run_now c (Some r) now h = omega arith
 
--- the receive record changes, or the moment until which its station is silent, and nothing else
-pub rest_with : (c : Params) (now z until until' life : ℕ) (run : Option Run) (taken : List Taken) (given : List Given) (y y' : Option ReceiveRecord) → ReceiveSide c now z until life run taken given y → ReceiverFacts c now z until' run taken given y' → ReceiveSide c now z until' life run taken given y'
-rest_with c now z until until' life run taken given y y' f ok = record {
+-- What is kept of the receiving side where its record changes, or the moment until which its station is silent, or the life of the sender, and nothing else.
+rest_as : (c : Params) (now z until until' life life' : ℕ) (run : Option Run) (taken : List Taken) (given : List Given) (y y' : Option ReceiveRecord) → ReceiveSide c now z until life run taken given y → ReceiverFacts c now z until' run taken given y'
+    → ((p : ℕ) → p < top given → IsGiven given p ⊎ ((row_at taken p).fate ≡ Uncertain) ⊎ ((row_at taken p).life < life')) → ReceiveSide c now z until' life' run taken given y'
+rest_as c now z until until' life life' run taken given y y' f ok skips = record {
   sent_now = f.sent_now;
   began = f.began;
   first_end = f.first_end;
@@ -430,23 +431,14 @@ rest_with c now z until until' life run taken given y y' f ok = record {
   last_before = f.last_before;
   record_facts = ok;
   rising = f.rising;
-  skipped = f.skipped;
+  skipped = skips;
   acked = f.acked;
 }
 
+-- the receive record changes, or the moment until which its station is silent
+pub rest_with : (c : Params) (now z until until' life : ℕ) (run : Option Run) (taken : List Taken) (given : List Given) (y y' : Option ReceiveRecord) → ReceiveSide c now z until life run taken given y → ReceiverFacts c now z until' run taken given y' → ReceiveSide c now z until' life run taken given y'
+rest_with c now z until until' life run taken given y y' f ok = rest_as c now z until until' life life run taken given y y' f ok f.skipped
+
 -- the sender restarts
 pub rest_reborn : (c : Params) (now z until life : ℕ) (run : Option Run) (taken : List Taken) (given : List Given) (y : Option ReceiveRecord) → ReceiveSide c now z until life run taken given y → ReceiveSide c now z until (life + 1) run taken given y
-rest_reborn c now z until life run taken given y f = record {
-  sent_now = f.sent_now;
-  began = f.began;
-  first_end = f.first_end;
-  firsts = f.firsts;
-  given_facts = f.given_facts;
-  moments = f.moments;
-  last_now = f.last_now;
-  last_before = f.last_before;
-  record_facts = f.record_facts;
-  rising = f.rising;
-  skipped = λ p h. skipped_later taken given life p (f.skipped p h);
-  acked = f.acked;
-}
+rest_reborn c now z until life run taken given y f = rest_as c now z until until life (life + 1) run taken given y y f f.record_facts (λ p h. skipped_later taken given life p (f.skipped p h))

@@ -34,7 +34,7 @@ rising_above n [] k h lt = absurd (omega arith)
 rising_above n (g ∷ gs) zero h lt = h.0
 rising_above n (g ∷ gs) (suc k) h lt = omega (arith, h.0, rising_above (suc g.place) gs k h.1 (omega arith))
 
-rising_at : (n : ℕ) (given : List Given) (j k : ℕ) → Rising n given → j < k → k < length given → (given_at given j).place < (given_at given k).place
+pub rising_at : (n : ℕ) (given : List Given) (j k : ℕ) → Rising n given → j < k → k < length given → (given_at given j).place < (given_at given k).place
 rising_at n [] j k h lt lt' = absurd (omega arith)
 rising_at n (g ∷ gs) j zero h lt lt' = absurd (omega arith)
 rising_at n (g ∷ gs) zero (suc k) h lt lt' = omega (arith, rising_above (suc g.place) gs k h.1 (omega arith))

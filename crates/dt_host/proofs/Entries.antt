@@ -1,12 +1,11 @@
 -- The entries of a table under the calls of its map are the model's table under the model's calls. A map tests a key that is asked against an entry's, the model an entry's against the one that is asked.
-use Rattle.std.proofs.Common.{◌≡◌, suc, Bool, true, false, List, [], ◌∷◌, Option, Some, None, refl, sym, ap, subst, ◌∙◌, inl, inr}
-use Rattle.std.specs.Prelude.{is_some, length, option_map}
-use Rattle.std.specs.Map.{keys_of, lookup, set_value, remove_entry}
-use Rattle.std.specs.List.{AllByRecursion, IsDistinct}
+use Rattle.std.proofs.Common.{ℕ, zero, ◌≡◌, suc, Bool, true, false, List, [], ◌∷◌, Option, Some, None, refl, sym, ap, subst, ◌∙◌, inl, inr}
+use Rattle.std.specs.Prelude.{is_some, length, option_map, slice_get}
+use Rattle.std.specs.Map.{lookup, set_value, remove_entry}
 use Rattle.std.proofs.lemmas.Bool.{cases_Bool}
 use Rattle.indexmap.specs.IndexMap.{insert_entry}
 use Rattle.dt_units.specs.declared.endpoints.Flow.{Flow}
-use Rattle.dt_world_model.specs.Tables.{look, write, erase, Lacks, Distinct, AllEntries}
+use Rattle.dt_world_model.specs.Tables.{look, write, erase, AllEntries}
 use Rattle.dt_host.specs.Hosts.{records_by}
 
 module _ (test same : Flow → Flow → Bool) (agrees : (f g : Flow) → test f g ≡ same g f) (is : (f g : Flow) → same f g ≡ true → f ≡ g) (A : Type 0) where
@@ -55,16 +54,6 @@ module _ (test same : Flow → Flow → Bool) (agrees : (f g : Flow) → test f 
           | inr n ↦ rw (n, n) (ap (λ (r : List (Flow × A)). e ∷ r) (removed_written f a es))
         ]
 
-    lacks : (f : Flow) (es : List (Flow × A)) → AllByRecursion (λ g. test f g ≡ false) (keys_of es) → Lacks same f (records_by seen es)
-    lacks f [] h = tt
-    lacks f (e ∷ es) h = (sym (agrees f e.0) ∙ h.0, lacks f es h.1)
-
-    -- keys that are distinct to the map are so to the model
-    pub distinct : (es : List (Flow × A)) → IsDistinct test (keys_of es) → Distinct same (records_by seen es)
-    unfolding IsDistinct
-    distinct [] h = tt
-    distinct (e ∷ es) h = (lacks e.0 es h.0, distinct es h.1)
-
   module _ (P : Flow → A → Type 0) where
     pub all_found : (f : Flow) (a : A) (es : List (Flow × A)) → AllEntries P es → lookup (test f) es ≡ Some a → P f a
     all_found f a [] all h = absurd cc
@@ -104,6 +93,18 @@ module _ (test same : Flow → Flow → Bool) (agrees : (f g : Flow) → test f 
           | inl y ↦ rw y (all.1)
           | inr n ↦ rw n (all.0, all_removed f es all.1)
         ]
+
+-- what holds of all holds of the entry of an index
+pub entry_at : {A : Type 0} (Q : Flow → A → Type 0) (es : List (Flow × A)) (i : ℕ) (f : Flow) (a : A) → AllEntries Q es → slice_get es i ≡ Some (f, a) → Q f a
+entry_at Q [] i f a all h = absurd cc
+entry_at Q (e ∷ es) zero f a all h = let same : e ≡ (f, a) = cc in subst (λ (d : Flow × _). Q d.0 d.1) same all.0
+entry_at Q (e ∷ es) (suc i) f a all h = entry_at Q es i f a all.1 h
+
+-- the record at an index is that of the entry
+pub record_at : {A B : Type 0} (seen : A → B) (es : List (Flow × A)) (i : ℕ) → slice_get (records_by seen es) i ≡ option_map (λ (e : Flow × A). let r : Flow × B = (e.0, seen e.1) in r) (slice_get es i)
+record_at seen [] i = refl
+record_at seen (e ∷ es) zero = refl
+record_at seen (e ∷ es) (suc i) = record_at seen es i
 
 -- whether there is a value is what the map says, and how many there are
 pub some_mapped : {A B : Type 0} (seen : A → B) (o : Option A) → is_some (option_map seen o) ≡ is_some o

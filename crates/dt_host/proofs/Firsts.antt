@@ -18,7 +18,7 @@ use Rattle.dt_host.specs.Agendas.{HasNone, IsFirstIn, SendNote, moment_in}
 use Rattle.dt_host.specs.Hosts.{records_by}
 use Rattle.dt_host.specs.Notes.{AreNoted, IsRecvNoted, IsSendNoted}
 use Rattle.dt_host.specs.Soonest.{IsQuiet, IsSoonest, receiver_moment, sender_moment}
-use Rattle.dt_host.proofs.Noting.{none_some, same_some}
+use Rattle.dt_host.proofs.Somes.{none_some, same_some}
 use Rattle.dt_host.proofs.Resends.{resend_later}
 
 module _ {A B N : Type 0} (seen : A → B) (P : B → N → Type 0) where

@@ -1,5 +1,5 @@
 -- The host of the model that a host is, by its parts.
-use Rattle.std.proofs.Common.{ℕ, List}
+use Rattle.std.proofs.Common.{ℕ, ◌≡◌, List, ap, ◌∙◌}
 use Rattle.dt_units.specs.declared.endpoints.Flow.{Flow}
 use Rattle.dt_units.specs.declared.parameters.Params.{Params}
 use Rattle.dt_send.specs.Senders.{SenderValue}
@@ -13,3 +13,7 @@ host_in me until ss rs = record { me = me; until = until; senders = send_records
 -- as its callers see it
 abbrev pub seen : Params → ℕ → Host → HostValue
 seen p latest host = record { rules = p; latest = latest; state = host }
+
+-- by the parameters and the latest moment of its other side
+pub either_seen : (p q : Params) (m n : ℕ) (host : Host) → q ≡ p → n ≡ m → seen q n host ≡ seen p m host
+either_seen p q m n host e f = ap (λ (r : Params). seen r n host) e ∙ ap (λ (k : ℕ). seen p k host) f

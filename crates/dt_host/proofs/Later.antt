@@ -10,14 +10,9 @@ use Rattle.dt_flow_model.specs.declared.moments.RecvMoments.{RecvMoments}
 use Rattle.dt_host.specs.Agendas.{SendNote, recv_wake}
 use Rattle.dt_host.specs.Notes.{AreNoted, IsRecvNoted, IsSendNoted}
 
-pub later_noted : (p : Params) (latest now : ℕ) → latest ≤ now → (rs : List (Flow × SendRecord)) (ns : List SendNote) → AreNoted (IsSendNoted p latest) rs ns → AreNoted (IsSendNoted p now) rs ns
-later_noted p latest now le [] [] all = tt
-later_noted p latest now le [] (n ∷ ns) all = absurd all
-later_noted p latest now le (e ∷ rs) [] all = absurd all
-later_noted p latest now le (e ∷ rs) (n ∷ ns) all =
-    let is = all.0 in
-    let past = is.past in
-    (record { since = is.since; past = omega arith; moments = is.moments; wake = is.wake }, later_noted p latest now le rs ns all.1)
+-- a note is that of a moment of the past at each later moment
+pub later_noted : (p : Params) (latest now : ℕ) → latest ≤ now → (x : SendRecord) (n : SendNote) → IsSendNoted p latest x n → IsSendNoted p now x n
+later_noted p latest now le x n is = let past = is.past in record { since = is.since; past = omega arith; moments = is.moments; wake = is.wake }
 
 pub senders_wake : (p : Params) (latest : ℕ) (rs : List (Flow × SendRecord)) (ns : List SendNote) → AreNoted (IsSendNoted p latest) rs ns → earliest (λ (n : SendNote). n.wake) ns ≡ earliest (λ (e : Flow × SendRecord). wake_of p e.1) rs
 senders_wake p latest [] [] all = refl

@@ -1,3 +1,8 @@
+pub mod Somes
+pub mod Standing
+pub mod Slots
+pub mod SendSides
+pub mod RecvSides
 pub mod Arrivals
 pub mod Entries
 pub mod Flows
@@ -8,14 +13,7 @@ pub mod SendTurns
 pub mod SenderTables
 pub mod Turns
 pub mod Walks
-pub mod Orders
 pub mod Rows
-pub mod Covering
-pub mod SendNotes
-pub mod RecvNotes
-pub mod Noting
-pub mod SendFollows
-pub mod RecvFollows
 pub mod Resends
 pub mod Firsts
 pub mod Stale
@@ -23,3 +21,4 @@ pub mod Picks
 pub mod Offered
 pub mod Later
 pub mod Apart
+pub mod Nexts

@@ -1,6 +1,6 @@
 -- What each record offers, by the moments of its kinds; and the offer that comes first.
-use Rattle.std.proofs.Common.{ℕ, ◌≡◌, ◌+◌, ◌<◌, ◌≤◌, ◌⊎◌, Bool, true, false, List, [], ◌∷◌, Option, Some, None, refl, sym, ap, subst, ◌∙◌, inl, inr, arith}
-use Rattle.std.specs.Prelude.{IfSome, ◌==◌, ◌&&◌, ◌||◌, if◌then◌else◌, nat_le, nat_lt, slice_get}
+use Rattle.std.proofs.Common.{ℕ, ◌≡◌, ◌+◌, ◌<◌, ◌≤◌, ◌⊎◌, Bool, true, false, List, Option, Some, None, refl, sym, ap, subst, ◌∙◌, inl, inr, arith}
+use Rattle.std.specs.Prelude.{IfSome, ◌==◌, if◌then◌else◌, nat_le, slice_get}
 use Rattle.std.specs.Option.{option_or}
 use Rattle.std.proofs.lemmas.Bool.{cases_Bool, cases_eq, cases_lt}
 use Rattle.std.proofs.lemmas.Bool.Decides.{nat_tests}
@@ -12,7 +12,6 @@ use Rattle.dt_flow_model.specs.declared.acts.SendKind.TheVariants as S
 use Rattle.dt_flow_model.specs.declared.acts.RecvKind.{RecvKind}
 use Rattle.dt_flow_model.specs.declared.acts.RecvKind.TheVariants as R
 use Rattle.dt_flow_model.specs.declared.moments.SendMoments.{SendMoments}
-use Rattle.dt_flow_model.specs.SendRecord.{SendRecord}
 use Rattle.dt_flow_model.specs.SendActs.{due_of, send_moment, send_moments}
 use Rattle.dt_flow_model.specs.ReceiveRecord.{ReceiveRecord, owing, recv_due_of, recv_moment, recv_moment_if, recv_moments}
 use Rattle.dt_send.specs.Senders.{SenderValue, due_if, first_due}
@@ -25,10 +24,10 @@ use Rattle.dt_host.specs.declared.dues.DueKind.TheVariants as due
 use Rattle.dt_host.specs.Dues.{class_of, goes_first, or_recv, or_send, soonest_recv, soonest_send}
 use Rattle.dt_host.specs.Hosts.{AreReceiveEntries, AreSendEntries}
 use Rattle.dt_host.specs.Soonest.{IsQuiet, IsSoonest, receiver_moment, sender_moment}
-use Rattle.dt_host.proofs.Noting.{none_some, same_some}
+use Rattle.dt_host.proofs.Somes.{none_some, same_some}
 use Rattle.dt_host.proofs.Picks.{Beaten, Stays, receiver_own, recv_end, recv_step, send_end, send_step, sender_own, walks_beaten, walks_none, walks_on, walks_to}
-use Rattle.dt_host.proofs.RecvFollows.{entry_at as recv_entry_at}
-use Rattle.dt_host.proofs.SendFollows.{entry_at as send_entry_at}
+use Rattle.dt_host.specs.Hosts.{IsReceiveEntry, IsSendEntry}
+use Rattle.dt_host.proofs.Entries.{entry_at}
 
 -- THE ORDER
 less_class : (a b : DueAct) → class_of a.kind < class_of b.kind → goes_first a b ≡ true
@@ -219,10 +218,10 @@ module _ (p : Params) (now : ℕ) (ss : List (Flow × SenderValue)) (all_s : Are
   QuietR k = IsQuiet (receiver_moment p k) now rs
 
   send_due : (i : ℕ) (e : Flow × SenderValue) → slice_get ss i ≡ Some e → due_of e.1.rules now e.1.state ≡ first_due now (send_moments p now e.1.state)
-  send_due i e at = let entry = send_entry_at p ss i e.0 e.1 all_s at in ap (λ (q : Params). due_of q now e.1.state) entry.rules ∙ due_is p now e.1.state
+  send_due i e at = let entry = entry_at (IsSendEntry p) ss i e.0 e.1 all_s at in ap (λ (q : Params). due_of q now e.1.state) entry.rules ∙ due_is p now e.1.state
 
   recv_due : (i : ℕ) (e : Flow × ReceiverValue) → slice_get rs i ≡ Some e → recv_due_of e.1.rules now e.1.state.standing ≡ recv_due_of p now e.1.state.standing
-  recv_due i e at = let entry = recv_entry_at p rs i e.0 e.1 all_r at in ap (λ (q : Params). recv_due_of q now e.1.state.standing) entry.rules
+  recv_due i e at = let entry = entry_at (IsReceiveEntry p) rs i e.0 e.1 all_r at in ap (λ (q : Params). recv_due_of q now e.1.state.standing) entry.rules
 
   -- what holds of each act that an entry may offer holds of the one that it offers
   send_all : (P : Option DueAct → Type 0) → P None → (i : ℕ) (e : Flow × SenderValue) → slice_get ss i ≡ Some e → ((k : SendKind) (mo : ℕ) → sender_moment p now k e.1 ≡ Some mo → mo ≤ now → P (Some (send_act e.0 k mo))) → P (sender_own now e)

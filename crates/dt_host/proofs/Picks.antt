@@ -1,31 +1,16 @@
 -- The walks over both tables find the act that the agendas tell.
-use Rattle.std.proofs.Common.{ℕ, zero, suc, ◌≡◌, ◌<◌, ◌≤◌, Bool, true, false, List, [], ◌∷◌, Option, Some, None, refl, sym, ap, subst, ◌∙◌, inl, inr, arith}
-use Rattle.std.specs.Prelude.{◌==◌, ◌&&◌, ◌||◌, if◌then◌else◌, nat_le, nat_lt, slice_get}
-use Rattle.std.specs.Option.{option_or}
-use Rattle.std.proofs.lemmas.Bool.{cases_Bool}
-use Rattle.std.proofs.lemmas.Bool.Decides.{nat_tests}
-use Rattle.dt_units.specs.declared.parameters.Params.{Params}
+use Rattle.std.proofs.Common.{ℕ, zero, suc, ◌≡◌, ◌<◌, Bool, true, false, List, [], ◌∷◌, Option, Some, None, refl, sym, ap, subst, ◌∙◌, arith}
+use Rattle.std.specs.Prelude.{if◌then◌else◌, slice_get}
 use Rattle.dt_units.specs.declared.endpoints.Flow.{Flow}
-use Rattle.dt_units.specs.Times.{receive_time}
 use Rattle.dt_flow_model.specs.declared.acts.SendKind.{SendKind}
-use Rattle.dt_flow_model.specs.declared.acts.SendKind.TheVariants as S
 use Rattle.dt_flow_model.specs.declared.acts.RecvKind.{RecvKind}
-use Rattle.dt_flow_model.specs.declared.acts.RecvKind.TheVariants as R
-use Rattle.dt_flow_model.specs.declared.moments.SendMoments.{SendMoments}
-use Rattle.dt_flow_model.specs.SendRecord.{SendRecord}
-use Rattle.dt_flow_model.specs.SendActs.{due_of, send_moment, send_moments}
-use Rattle.dt_flow_model.specs.ReceiveRecord.{ReceiveRecord, owing, recv_due_of, recv_moment, recv_moments}
-use Rattle.dt_send.specs.Senders.{SenderValue, due_if, first_due}
-use Rattle.dt_send.proofs.DueLemmas.{due_is}
+use Rattle.dt_flow_model.specs.SendActs.{due_of}
+use Rattle.dt_flow_model.specs.ReceiveRecord.{recv_due_of}
+use Rattle.dt_send.specs.Senders.{SenderValue}
 use Rattle.dt_recv.specs.Receivers.{ReceiverValue}
-use Rattle.dt_world_model.specs.Host.{recv_class, send_class}
 use Rattle.dt_host.specs.declared.dues.DueAct.{DueAct}
-use Rattle.dt_host.specs.declared.dues.DueKind.{DueKind}
-use Rattle.dt_host.specs.declared.dues.DueKind.TheVariants as due
-use Rattle.dt_host.specs.Dues.{class_of, goes_first, or_recv, or_send, sooner_of, soonest_recv, soonest_send}
-use Rattle.dt_host.specs.Hosts.{AreReceiveEntries, AreSendEntries}
-use Rattle.dt_host.specs.Soonest.{IsQuiet, IsSoonest, receiver_moment, sender_moment}
-use Rattle.dt_host.proofs.Noting.{none_some, same_some}
+use Rattle.dt_host.specs.Dues.{goes_first, or_recv, or_send, sooner_of, soonest_recv, soonest_send}
+use Rattle.dt_host.proofs.Somes.{none_some, same_some}
 
 -- ONE ACT against another
 abbrev pub Beaten : DueAct → Option DueAct → Type 0

@@ -25,7 +25,8 @@ use Rattle.dt_world_model.proofs.Tables.{flow_is}
 use Rattle.dt_host.specs.Dues.{HasRecvDue}
 use Rattle.dt_host.specs.Hosts.{AreReceiveEntries, IsReceiveEntry, receiver_in, receivers_of}
 use Rattle.dt_host.proofs.Entries.{all_found, all_inserted, all_removed, all_written, inserted, look_found, removed, removed_written, written}
-use Rattle.dt_host.proofs.Flows.{equal_flows, flows_agree}
+use Rattle.dt_host.specs.Places.{equal_flows}
+use Rattle.dt_host.proofs.Flows.{flows_agree}
 
 -- the receiver of an entry, by its parts
 abbrev pub receiver_of : Params → Flow → Receiver → ReceiverValue
@@ -282,7 +283,7 @@ module _ (f : Flow) (es : List (Flow × ReceiverValue)) (v : ReceiverValue) (fou
         none_left : first_piece most v.state.unread ≡ []
         none_left = ap (first_piece most) empty
 
-        unread_same : t ≡ v
+        pub unread_same : t ≡ v
         unread_same =
             e ∙ ap (λ (items : List Item). receiver_of v.rules v.flow (after_read v.rules now (length items) v.state)) none_left
             ∙ ap (λ (r : Receiver). receiver_of v.rules v.flow r) (unread_stays v.rules now v.state)

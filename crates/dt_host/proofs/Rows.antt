@@ -1,56 +1,8 @@
--- The notes of all records, as a list over their numbers.
-use Rattle.std.proofs.Common.{ℕ, zero, suc, ◌≡◌, ◌≢◌, ◌<◌, ◌≤◌, List, [], ◌∷◌, ◌++◌, length, get_or, map, set, Option, Some, None, refl, sym, ap, ◌∙◌, arith}
-use Rattle.std.specs.Prelude.{remove}
+-- The earliest of the moments that members of a list have.
+use Rattle.std.proofs.Common.{ℕ, zero, suc, ◌≡◌, ◌≤◌, List, [], ◌∷◌, Option, Some, None, refl, ap, ◌∙◌, arith}
 use Rattle.dt_flow_model.specs.SendActs.{earlier}
 use Rattle.dt_world_model.specs.Tables.{earliest}
-use Rattle.dt_host.specs.Agendas.{HasNone, IsFirstIn, IsFirstOf, moment_in}
-
-module _ {A : Type 0} (f g : ℕ → A) where
-  -- f and g agree at each index but one
-  abbrev pub AgreeBut : List ℕ → ℕ → Type 0
-  AgreeBut ks i = (j : ℕ) → j < length ks → j ≢ i → g (get_or ks j 0) ≡ f (get_or ks j 0)
-
-  abbrev pub Agree : List ℕ → Type 0
-  Agree ks = (j : ℕ) → j < length ks → g (get_or ks j 0) ≡ f (get_or ks j 0)
-
-  pub row_same : (ks : List ℕ) → Agree ks → map g ks ≡ map f ks
-  row_same [] h = refl
-  row_same (k ∷ ks) h = ap (λ (a : A). a ∷ map g ks) (h 0 (omega arith)) ∙ ap (λ (rest : List A). f k ∷ rest) (row_same ks (λ j within. h (suc j) (omega arith)))
-
-  pub row_set : (ks : List ℕ) (i : ℕ) (a : A) → i < length ks → AgreeBut ks i → g (get_or ks i 0) ≡ a → map g ks ≡ set (map f ks) i a
-  row_set [] i a within h e = absurd (omega arith)
-  row_set (k ∷ ks) zero a within h e = ap (λ (b : A). b ∷ map g ks) e ∙ ap (λ (rest : List A). a ∷ rest) (row_same ks (λ j j_in. let apart : suc j ≢ 0 = λ same. omega arith in h (suc j) (omega arith) apart))
-  row_set (k ∷ ks) (suc i) a within h e =
-      let apart : 0 ≢ suc i = λ same. omega arith in
-      ap (λ (b : A). b ∷ map g ks) (h 0 (omega arith) apart)
-      ∙ ap (λ (rest : List A). f k ∷ rest) (row_set ks i a (omega arith) (λ j j_in other. let more : suc j ≢ suc i = λ same. other (omega arith) in h (suc j) (omega arith) more) e)
-
-  pub row_removed : (ks : List ℕ) (i : ℕ) → i < length ks → AgreeBut ks i → map g (remove ks i) ≡ remove (map f ks) i
-  row_removed [] i within h = absurd (omega arith)
-  row_removed (k ∷ ks) zero within h = row_same ks (λ j j_in. let apart : suc j ≢ 0 = λ same. omega arith in h (suc j) (omega arith) apart)
-  row_removed (k ∷ ks) (suc i) within h =
-      let apart : 0 ≢ suc i = λ same. omega arith in
-      ap (λ (b : A). b ∷ map g (remove ks i)) (h 0 (omega arith) apart)
-      ∙ ap (λ (rest : List A). f k ∷ rest) (row_removed ks i (omega arith) (λ j j_in other. let more : suc j ≢ suc i = λ same. other (omega arith) in h (suc j) (omega arith) more))
-
-  pub row_added : (ks : List ℕ) (k : ℕ) (a : A) → Agree ks → g k ≡ a → map g (ks ++ k ∷ []) ≡ map f ks ++ a ∷ []
-  row_added [] k a h e = ap (λ (b : A). b ∷ []) e
-  row_added (x ∷ ks) k a h e = ap (λ (b : A). b ∷ map g (ks ++ k ∷ [])) (h 0 (omega arith)) ∙ ap (λ (rest : List A). f x ∷ rest) (row_added ks k a (λ j j_in. h (suc j) (omega arith)) e)
-
-module _ {A : Type 0} (f : ℕ → A) (moment : A → Option ℕ) where
-  seen_in : (ks : List ℕ) (j : ℕ) → moment_in moment (map f ks) j ≡ moment_in (λ k. moment (f k)) ks j
-  seen_in [] j = refl
-  seen_in (k ∷ ks) zero = refl
-  seen_in (k ∷ ks) (suc j) = seen_in ks j
-
-  -- the first of the numbers is the first of the notes
-  pub first_row : (ks : List ℕ) (first : Option (ℕ × ℕ)) → IsFirstOf (λ k. moment (f k)) ks first → IsFirstOf moment (map f ks) first
-  first_row ks None none = λ j m e. none j m (sym (seen_in ks j) ∙ e)
-  first_row ks (Some (m, i)) is = record {
-    there = seen_in ks i ∙ is.there;
-    least = λ j n e. is.least j n (sym (seen_in ks j) ∙ e);
-    before = λ j n less e. is.before j n less (sym (seen_in ks j) ∙ e);
-  }
+use Rattle.dt_host.specs.Agendas.{HasNone, IsFirstIn, moment_in}
 
 module _ {A : Type 0} (moment : A → Option ℕ) where
   pub none_earliest : (xs : List A) → HasNone moment xs → earliest moment xs ≡ None
@@ -94,11 +46,7 @@ module _ {A : Type 0} (moment : A → Option ℕ) where
       by (x ∷ xs) zero e least = ap (λ (o : Option ℕ). earlier o (earliest moment xs)) e ∙ front m (earliest moment xs) (all_not_below m xs (λ j n f. least (suc j) n f))
       by (x ∷ xs) (suc i) e least = ap (earlier (moment x)) (by xs i e (λ j n f. least (suc j) n f)) ∙ back m (moment x) (not_below m (moment x) (least 0))
 
--- THE EARLIEST of notes is that of what their numbers have. Of the lesser of two moments it is the lesser of the earliest two
-pub row_earliest : {A : Type 0} (f : ℕ → A) (moment : A → Option ℕ) (ks : List ℕ) → earliest moment (map f ks) ≡ earliest (λ k. moment (f k)) ks
-row_earliest f moment [] = refl
-row_earliest f moment (k ∷ ks) = ap (earlier (moment (f k))) (row_earliest f moment ks)
-
+-- Of the lesser of two moments it is the lesser of the earliest two.
 swapped : (a b c d : Option ℕ) → earlier (earlier a b) (earlier c d) ≡ earlier (earlier a c) (earlier b d)
 swapped None None c d = refl
 swapped None (Some b) None d = refl

@@ -25,7 +25,8 @@ use Rattle.dt_host.specs.declared.faults.SendFault.{SendFault}
 use Rattle.dt_host.specs.declared.faults.SendFault.TheVariants as fault
 use Rattle.dt_host.specs.Hosts.{AreSendEntries, IsSendEntry, send_record, send_records}
 use Rattle.dt_host.proofs.Entries.{all_found, all_inserted, all_written, inserted, look_found, written}
-use Rattle.dt_host.proofs.Flows.{equal_flows, flows_agree}
+use Rattle.dt_host.specs.Places.{equal_flows}
+use Rattle.dt_host.proofs.Flows.{flows_agree}
 
 -- a host with these senders
 abbrev pub with_senders : Host → List (Flow × SenderValue) → Host

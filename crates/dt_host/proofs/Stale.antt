@@ -1,5 +1,5 @@
 -- Moments of resends that are no more: as many as senders at most that missed one, and each look takes one away.
-use Rattle.std.proofs.Common.{ℕ, zero, suc, ◌≡◌, ◌+◌, ◌<◌, ◌≤◌, Bool, true, false, cond, List, [], ◌∷◌, length, set, Option, Some, None, refl, sym, ap, subst, ◌∙◌, inl, inr, arith}
+use Rattle.std.proofs.Common.{ℕ, zero, suc, ◌≡◌, ◌+◌, ◌≤◌, Bool, true, false, cond, List, [], ◌∷◌, set, Option, Some, None, refl, sym, ap, subst, ◌∙◌, inl, inr, arith}
 use Rattle.std.specs.Prelude.{nat_eq, slice_get}
 use Rattle.std.specs.Option.{option_eq}
 use Rattle.std.proofs.lemmas.Bool.{cases_Bool, eq-eqb, eqb-true, false≢true}
@@ -13,7 +13,7 @@ use Rattle.dt_world_model.specs.Host.{one_if}
 use Rattle.dt_host.specs.Agendas.{SendNote, no_send_note, note_at, with_resend}
 use Rattle.dt_host.specs.Notes.{AreNoted, IsSendNoted}
 use Rattle.dt_host.specs.Soonest.{has_missed, missed_senders}
-use Rattle.dt_host.proofs.Noting.{none_some, same_some}
+use Rattle.dt_host.proofs.Somes.{none_some, same_some}
 use Rattle.dt_host.proofs.Resends.{none_missed}
 
 abbrev differs : Option ℕ → Option ℕ → ℕ

@@ -1,30 +1,13 @@
--- Agendas: what is noted of each record that stands, in the order of making: from when on each kind of its acts is due, and of a sender when it is to be woken. And how the tables of deadlines tell it, which are keyed by the numbers of the records.
-use Rattle.std.specs.Prelude.{ℕ, ◌≡◌, ◌≢◌, ◌<◌, ◌≤◌, ◌⊎◌, true, List, slice_get, slice_index_or, Option, Some, None}
-use Rattle.std.specs.Option.{MatchOption, option_and_then, unwrap_or}
-use Rattle.std.specs.Ordering.{nat_cmp}
-use Rattle.std.specs.FinMap.{FinMap, contains_key, get}
+-- Agendas: what is noted of each record that stands: from when on each kind of its acts is due, and of a sender when it is to be woken. And the tables that tell it by the places of the records.
+use Rattle.std.specs.Prelude.{ℕ, ◌≡◌, ◌<◌, ◌≤◌, length, List, slice_get, slice_index_or, Option, Some, None}
+use Rattle.std.specs.Option.{MatchOption, option_and_then}
 use Rattle.dt_flow_model.specs.declared.moments.SendMoments.{SendMoments}
 use Rattle.dt_flow_model.specs.declared.moments.RecvMoments.{RecvMoments}
-use Rattle.dt_flow_model.specs.SendActs.{earlier}
-use Rattle.dt_host.specs.Orders.{Holds}
-
--- a table of deadlines
-abbrev pub Table : Type 0
-Table = FinMap nat_cmp (Option ℕ)
-
--- the moment of a number
-abbrev pub moment_at : Table → ℕ → Option ℕ
-moment_at table number = unwrap_or (get table number) None
-
--- A table covers the records that stand: it holds the number of each, and no other number has a moment in it.
-pub record Covers (numbers : List ℕ) (table : Table) : Type 0 where
-  pub held : (number i : ℕ) → Holds numbers number i → contains_key table number ≡ true
-  pub only : (number moment : ℕ) → get table number ≡ Some (Some moment) → (i : ℕ) × Holds numbers number i
-
--- A number was held, or tried to: it has no moment where it wasn't held, and all other numbers are as they were.
-pub record IsTried (number : ℕ) (before after : Table) : Type 0 where
-  pub others : (other : ℕ) → other ≢ number → get after other ≡ get before other
-  pub here : (get after number ≡ get before number) ⊎ ((get before number ≡ None) × (get after number ≡ Some None))
+use Rattle.dt_flow_model.specs.declared.acts.SendKind.{SendKind}
+use Rattle.dt_flow_model.specs.declared.acts.RecvKind.{RecvKind}
+use Rattle.dt_flow_model.specs.ReceiveRecord.{recv_moment}
+use Rattle.dt_flow_model.specs.SendActs.{earlier, send_moment}
+use Rattle.dt_timers.specs.Deadlines.{HasNoMoment, IsFirst, moment_at}
 
 -- what is noted of a sender. Of a receiver its moments are noted: they tell when to wake it
 pub record SendNote : Type 0 where
@@ -48,40 +31,59 @@ with_resend n moment = record n { moments = record n.moments { resend = moment }
 abbrev pub note_at : List SendNote → ℕ → SendNote
 note_at notes i = slice_index_or notes i no_send_note
 
+abbrev pub send_note_of : SendMoments → Option ℕ → SendNote
+send_note_of moments wake = record { moments = moments; wake = wake }
+
 -- one table for each class of acts, and of senders one for when to wake
 pub record SendTables : Type 0 where
-  pub give_up : Table
-  pub release : Table
-  pub resend : Table
-  pub send : Table
-  pub meet : Table
-  pub wake : Table
+  pub give_up : List (Option ℕ)
+  pub release : List (Option ℕ)
+  pub resend : List (Option ℕ)
+  pub send : List (Option ℕ)
+  pub meet : List (Option ℕ)
+  pub wake : List (Option ℕ)
 
 pub record RecvTables : Type 0 where
-  pub release : Table
-  pub ack : Table
+  pub release : List (Option ℕ)
+  pub ack : List (Option ℕ)
 
+-- the note of a place
 abbrev pub send_note : SendTables → ℕ → SendNote
-send_note t number =
+send_note t i =
     record {
-      moments = record { give_up = moment_at t.give_up number; release = moment_at t.release number; resend = moment_at t.resend number; send = moment_at t.send number; meet = moment_at t.meet number };
-      wake = moment_at t.wake number;
+      moments = record { give_up = moment_at t.give_up i; release = moment_at t.release i; resend = moment_at t.resend i; send = moment_at t.send i; meet = moment_at t.meet i };
+      wake = moment_at t.wake i;
     }
 
 abbrev pub recv_note : RecvTables → ℕ → RecvMoments
-recv_note t number = record { release = moment_at t.release number; ack = moment_at t.ack number }
+recv_note t i = record { release = moment_at t.release i; ack = moment_at t.ack i }
 
-pub record CoverSenders (numbers : List ℕ) (t : SendTables) : Type 0 where
-  pub give_up : Covers numbers t.give_up
-  pub release : Covers numbers t.release
-  pub resend : Covers numbers t.resend
-  pub send : Covers numbers t.send
-  pub meet : Covers numbers t.meet
-  pub wake : Covers numbers t.wake
+-- the moment of a kind that is noted in a place, and when to wake its sender
+abbrev pub send_moment_at : SendTables → SendKind → ℕ → Option ℕ
+send_moment_at t kind i = send_moment (send_note t i).moments kind
 
-pub record CoverReceivers (numbers : List ℕ) (t : RecvTables) : Type 0 where
-  pub release : Covers numbers t.release
-  pub ack : Covers numbers t.ack
+abbrev pub send_wake_at : SendTables → ℕ → Option ℕ
+send_wake_at t i = (send_note t i).wake
+
+abbrev pub recv_moment_at : RecvTables → RecvKind → ℕ → Option ℕ
+recv_moment_at t kind i = recv_moment (recv_note t i) kind
+
+-- the least of the moments that places have, and the first place that has it
+abbrev pub IsFirstPlace : (ℕ → Option ℕ) → Option (ℕ × ℕ) → Type 0
+IsFirstPlace moment first = MatchOption first (HasNoMoment moment) (λ f. IsFirst moment f.0 f.1)
+
+-- There are so many places, or more.
+pub record HasSendRoom (count : ℕ) (t : SendTables) : Type 0 where
+  pub give_up : count ≤ length t.give_up
+  pub release : count ≤ length t.release
+  pub resend : count ≤ length t.resend
+  pub send : count ≤ length t.send
+  pub meet : count ≤ length t.meet
+  pub wake : count ≤ length t.wake
+
+pub record HasRecvRoom (count : ℕ) (t : RecvTables) : Type 0 where
+  pub release : count ≤ length t.release
+  pub ack : count ≤ length t.ack
 
 -- THE FIRST of the moments that members of a list have: the least, and of equals that of the member that stands first.
 module _ {A : Type 0} (moment : A → Option ℕ) where

@@ -1,7 +1,8 @@
 pub mod Answers
 pub mod Dues
 pub mod Hosts
-pub mod Orders
+pub mod Sides
+pub mod Places
 pub mod Agendas
 pub mod Notes
 pub mod Soonest

@@ -1,12 +1,11 @@
 -- What is noted of a host's records, and how the notes follow a change of one flow's record.
-use Rattle.std.specs.Prelude.{ℕ, suc, ◌≡◌, ◌≤◌, if◌then◌else◌, List, [], ◌∷◌, option_map, Option, Some, None}
+use Rattle.std.specs.Prelude.{ℕ, ◌≡◌, ◌≤◌, List, [], ◌∷◌}
 use Rattle.dt_units.specs.declared.parameters.Params.{Params}
 use Rattle.dt_units.specs.declared.endpoints.Flow.{Flow}
 use Rattle.dt_flow_model.specs.SendRecord.{SendRecord}
 use Rattle.dt_flow_model.specs.SendActs.{send_moments, wake_of}
 use Rattle.dt_flow_model.specs.declared.moments.RecvMoments.{RecvMoments}
 use Rattle.dt_flow_model.specs.ReceiveRecord.{Receiver, recv_moments}
-use Rattle.dt_world_model.specs.Tables.{Distinct, same_flow, write_or_erase}
 use Rattle.dt_host.specs.Agendas.{SendNote}
 
 -- A sender's moments are noted as they stood at some moment of the past. All but that of a resend stand as long as the record does.
@@ -31,21 +30,3 @@ AreNoted P [] [] = Unit {0}
 AreNoted P [] (n ∷ ns) = ⊥
 AreNoted P (e ∷ es) [] = ⊥
 AreNoted P (e ∷ es) (n ∷ ns) = P e.1 n × AreNoted P es ns
-
--- the index of a flow's record
-abbrev pub place : {B : Type 0} → Flow → List (Flow × B) → Option ℕ
-place f [] = None
-place f (e ∷ es) = if same_flow e.0 f then Some 0 else option_map suc (place f es)
-
--- The records after a change of one flow's, of which the notes don't tell yet, and the index that it had before.
-pub record IsChanged {B N : Type 0} (P : B → N → Type 0) (f : Flow) (index : Option ℕ) (after : List (Flow × B)) (ns : List N) : Type 0 where
-  pub was : List (Flow × B)
-  pub becomes : Option B
-  pub noted : AreNoted P was ns
-  pub distinct : Distinct same_flow was
-  pub at : index ≡ place f was
-  pub is : after ≡ write_or_erase same_flow f becomes was
-
--- It isn't made by the change.
-abbrev pub IsNotMade : {B N : Type 0} → (P : B → N → Type 0) → (f : Flow) → (index : Option ℕ) → (after : List (Flow × B)) → (ns : List N) → Type 0
-IsNotMade P f index after ns = (c : IsChanged P f index after ns) × (index ≡ None → c.becomes ≡ None)

@@ -14,7 +14,6 @@ use Rattle.dt_world_model.specs.Host.{one_if}
 use Rattle.dt_world_model.specs.Tables.{total}
 use Rattle.dt_host.specs.declared.dues.DueAct.{DueAct}
 use Rattle.dt_host.specs.declared.dues.DueKind.{DueKind}
-use Rattle.dt_host.specs.declared.dues.DueKind.TheVariants as due
 
 -- A segment's resend was missed: it was to go out again before now, and may do so no more. And how many senders hold such a segment.
 abbrev pub is_missed : Params → ℕ → Segment → Bool

@@ -16,19 +16,16 @@ ghost use Rattle.dt_host.specs.Soonest.{missed_senders};
 ghost use Rattle.dt_host.specs.declared.faults.SendFault.TheVariants as send_fault;
 
 use crate::acts::{Act, Done};
-use crate::dues::{DueAct, DueKind};
+use crate::dues::{DueAct, DueKind, lesser};
 use crate::faults::SendFault;
-use crate::receiving::{Receivers, Segment};
-use crate::recv_agenda::RecvAgenda;
-use crate::send_agenda::SendAgenda;
-use crate::sending::{Octets, Senders};
-use crate::upcoming::upcoming;
-use crate::{receiving, recv_side, send_side, sending};
-use dt_flow_model::Arrived;
+use crate::octets::Octets;
+use crate::recv_side::RecvSide;
+use crate::segment::Segment;
+use crate::send_side::SendSide;
+use dt_flow_model::{Arrived, RecvKind, SendKind};
 use dt_items::{NoMemory, Piece};
 use dt_layout::{Frame, Packet};
 use dt_units::{Flow, NodeId, Rules, Steps};
-use indexmap::IndexMap;
 use std::alloc::Global;
 use std::marker::Model;
 use std::mem::size_of;
@@ -42,31 +39,25 @@ use std::sync::ledger::Ledger;
 /// raises it too.
 #[derive(Drop)]
 pub struct Host {
-    rules: Rules,
     me: NodeId,
     /// It is silent before this moment.
     until: u64,
-    /// The greatest moment that it was given.
-    latest: u64,
-    senders: Senders,
-    /// In a box, as the other is: an agenda is large.
-    send_agenda: Box<SendAgenda>,
-    receivers: Receivers,
-    recv_agenda: Box<RecvAgenda>,
+    senders: SendSide,
+    receivers: RecvSide,
 }
 
 // It is moved by value where a station is made.
-const _: () = prove!(size_of::<Host>() <= 512);
+const _: () = prove!(size_of::<Host>() <= 832);
 
 impl Model for Host {
-    ghost use Rattle.dt_host.specs.Hosts.{AreReceiveEntries, AreSendEntries, HostValue, receivers_of, send_records};
-    ghost use Rattle.dt_host.specs.Notes.{AreNoted, IsRecvNoted, IsSendNoted};
+    ghost use Rattle.std.specs.Prelude.{◌≡◌};
+    ghost use Rattle.dt_host.specs.Hosts.{HostValue, receivers_of, send_records};
 
     ghost Value = { HostValue };
 
-    ghost view = { λ h. record { rules = h.rules; latest = h.latest; state = record { me = h.me.0; until = h.until; senders = send_records h.senders.entries; receivers = receivers_of h.receivers.entries } } };
+    ghost view = { λ h. record { rules = h.senders.rules; latest = h.senders.latest; state = record { me = h.me.0; until = h.until; senders = send_records h.senders.entries; receivers = receivers_of h.receivers.entries } } };
 
-    ghost invariant = { λ h. AreSendEntries h.rules h.senders.entries × AreReceiveEntries h.rules h.receivers.entries × AreNoted (IsSendNoted h.rules h.latest) (send_records h.senders.entries) h.send_agenda.value × AreNoted (IsRecvNoted h.rules) (receivers_of h.receivers.entries) h.recv_agenda.value };
+    ghost invariant = { λ h. (h.receivers.rules ≡ h.senders.rules) × (h.receivers.latest ≡ h.senders.latest) };
 }
 
 impl Host {
@@ -77,14 +68,10 @@ impl Host {
         ensures { IfOk result (λ host. host ≡ record { rules = rules.now; latest = 0; state = first_host me.0 }) }
     {
         Ok(Host {
-            rules: *rules,
             me,
             until: 0,
-            latest: 0,
-            senders: IndexMap::new(alloc),
-            send_agenda: Box::new(alloc, SendAgenda::new(alloc))?,
-            receivers: IndexMap::new(alloc),
-            recv_agenda: Box::new(alloc, RecvAgenda::new(alloc))?,
+            senders: SendSide::new(alloc, rules, 0),
+            receivers: RecvSide::new(alloc, rules, 0),
         })
     }
 
@@ -96,9 +83,10 @@ impl Host {
         ensures { IfOk result (λ host. host ≡ record { rules = rules.now; latest = now; state = restarted_host rules.now me.0 now }) }
     {
         Ok(Host {
+            me,
             until: now + rules.times().quiet,
-            latest: now,
-            ..Host::first(alloc, rules, me)?
+            senders: SendSide::new(alloc, rules, now),
+            receivers: RecvSide::new(alloc, rules, now),
         })
     }
 
@@ -146,20 +134,12 @@ impl Host {
         ensures memory { IfErr result (λ fault. fault ≡ send_fault.NoMemory → sender_at self.old.state flow.now ≡ None) }
         ensures looks { steps.new ≤ steps.old + 4 }
     {
-        self.latest = now;
+        self.reach(now);
         if now < self.until {
             return Err(SendFault::Quiet { until: self.until });
         }
         let asked = Octets { octets, begin, end };
-        send_side::put(
-            &mut self.senders,
-            &mut *self.send_agenda,
-            &self.rules,
-            flow,
-            &asked,
-            now,
-            steps,
-        )
+        self.senders.put(flow, &asked, steps)
     }
 
     /// Unread octets of a flow are read at `now` into the buffer, which isn't empty, where the host is
@@ -189,16 +169,8 @@ impl Host {
             self.new ≡ record self.old { latest = now; state = taken.1 } }
         ensures looks { steps.new ≤ steps.old + 4 }
     {
-        self.latest = now;
-        recv_side::read(
-            &mut self.receivers,
-            &mut *self.recv_agenda,
-            &self.rules,
-            flow,
-            buf,
-            now,
-            steps,
-        )
+        self.reach(now);
+        self.receivers.read(flow, buf, steps)
     }
 
     /// A packet came from a node at `now`, where the host is current. A silent host answers `Quiet` to
@@ -241,7 +213,7 @@ impl Host {
         ensures awake { IsErr result → self.old.state.until ≤ now }
         ensures looks { steps.new ≤ steps.old + 4 }
     {
-        self.latest = now;
+        self.reach(now);
         if now < self.until {
             return Ok(Arrived::Quiet { until: self.until });
         }
@@ -262,51 +234,24 @@ impl Host {
                     end,
                     octets,
                 };
-                let receivers = &mut self.receivers;
-                let agenda = &mut *self.recv_agenda;
-                recv_side::take(
-                    receivers,
-                    agenda,
-                    &self.rules,
-                    &flow,
-                    &segment,
-                    now,
-                    reply,
-                    steps,
-                )
+                self.receivers.take(&flow, &segment, reply, steps)
             }
             Packet::Ack { number, window, .. } => {
-                let senders = &mut self.senders;
-                let agenda = &mut *self.send_agenda;
-                Ok(send_side::acknowledge(
-                    senders,
-                    agenda,
-                    &self.rules,
-                    &flow,
-                    number,
-                    window,
-                    now,
-                    steps,
-                ))
+                Ok(self.senders.acknowledge(&flow, number, window, steps))
             }
-            Packet::Meet { number, .. } => {
-                let receivers = &mut self.receivers;
-                let agenda = &mut *self.recv_agenda;
-                Ok(recv_side::meet(
-                    receivers,
-                    agenda,
-                    &self.rules,
-                    &flow,
-                    number,
-                    now,
-                    reply,
-                    steps,
-                ))
-            }
-            Packet::Close { number, .. } => {
-                Ok(receiving::close(&self.receivers, &flow, number, steps))
-            }
+            Packet::Meet { number, .. } => Ok(self.receivers.meet(&flow, number, reply, steps)),
+            Packet::Close { number, .. } => Ok(self.receivers.close(&flow, number, steps)),
         }
+    }
+
+    /// Now becomes the latest moment.
+    fn reach(&mut self, now: u64)
+        requires moment { now ≤ most_moment }
+        requires past { self.old.latest ≤ now }
+        ensures { self.new ≡ record self.old { latest = now } }
+    {
+        self.senders.reach(now);
+        self.receivers.reach(now);
     }
 
     /// Does the act that comes next at `now`, and tells whose it was. None comes exactly where no act is
@@ -345,81 +290,63 @@ impl Host {
         ensures looks { steps.new ≤ steps.old + missed_senders self.old.rules now self.old.state.senders + 4 }
         ensures none { result ≡ None → steps.new ≤ steps.old + missed_senders self.old.rules now self.old.state.senders }
     {
-        let due = self.upcoming(now, steps)?;
-        Some(self.act(due, now, frame, steps))
+        self.reach(now);
+        let due = self.upcoming(steps)?;
+        Some(self.act(due, frame, steps))
     }
 
-    /// The act that comes first of those that are due at `now`, by the agendas.
-    fn upcoming<L: Ledger>(&mut self, now: u64, steps: &mut Steps<L>) -> Option<DueAct>
-        requires past { self.old.latest ≤ now }
-        ensures next { IsNext self.old.rules now self.old.state result }
-        ensures same { self.new ≡ record self.old { latest = now } }
-        ensures looks { steps.new ≤ steps.old + missed_senders self.old.rules now self.old.state.senders + 1 }
-        ensures none { result ≡ None → steps.new ≤ steps.old + missed_senders self.old.rules now self.old.state.senders }
+    /// The act that comes first of those that are due at the latest moment, by the agendas. A look is
+    /// taken at the senders whose resend was missed, and at the one whose segment goes out again.
+    fn upcoming<L: Ledger>(&mut self, steps: &mut Steps<L>) -> Option<DueAct>
+        ensures next { IsNext self.old.rules self.old.latest self.old.state result }
+        ensures same { self.new ≡ self.old }
+        ensures looks { steps.new ≤ steps.old + missed_senders self.old.rules self.old.latest self.old.state.senders + 1 }
+        ensures none { result ≡ None → steps.new ≤ steps.old + missed_senders self.old.rules self.old.latest self.old.state.senders }
     {
-        self.latest = now;
-        // With its length a map tells that its keys differ.
-        let _senders = self.senders.len();
-        let _receivers = self.receivers.len();
-        upcoming(
-            &self.senders,
-            &mut *self.send_agenda,
-            &self.receivers,
-            &*self.recv_agenda,
-            &self.rules,
-            now,
-            steps,
-        )
+        // With their counts the sides tell that each flow has one record.
+        let _senders = self.senders.count();
+        let _receivers = self.receivers.count();
+        if let Some(due) = self.senders.due(SendKind::GiveUp) {
+            return Some(due);
+        }
+        if let Some(due) = self.senders.due(SendKind::Release) {
+            return Some(due);
+        }
+        if let Some(due) = self.receivers.due(RecvKind::Release) {
+            return Some(due);
+        }
+        if let Some(due) = self.receivers.due(RecvKind::Ack) {
+            return Some(due);
+        }
+        if let Some(due) = self.senders.resend_due(steps) {
+            return Some(due);
+        }
+        if let Some(due) = self.senders.due(SendKind::Send) {
+            return Some(due);
+        }
+        self.senders.due(SendKind::Meet)
     }
 
     /// Does the act that comes next at the latest moment.
-    fn act<L: Ledger>(
-        &mut self,
-        due: DueAct,
-        now: u64,
-        frame: &mut Frame,
-        steps: &mut Steps<L>,
-    ) -> Done
-        requires moment { now ≤ most_moment }
-        requires latest { self.old.latest ≡ now }
-        requires next { IsNext self.old.rules now self.old.state (Some due) }
-        ensures turn { let turn = next_turn self.old.rules now self.old.state in
+    fn act<L: Ledger>(&mut self, due: DueAct, frame: &mut Frame, steps: &mut Steps<L>) -> Done
+        requires next { IsNext self.old.rules self.old.latest self.old.state (Some due) }
+        ensures turn { let turn = next_turn self.old.rules self.old.latest self.old.state in
             Some (told_done result) ≡ option_map (λ done. done.told) turn }
-        ensures frame { let turn = next_turn self.old.rules now self.old.state in
+        ensures frame { let turn = next_turn self.old.rules self.old.latest self.old.state in
             frame.new ≡ unwrap_or (frame_made turn) frame.old }
-        ensures after { let turn = next_turn self.old.rules now self.old.state in
-            self.new ≡ record self.old { latest = now; state = host_after self.old.state turn } }
-        ensures gram { let turn = next_turn self.old.rules now self.old.state in
+        ensures after { let turn = next_turn self.old.rules self.old.latest self.old.state in
+            self.new ≡ record self.old { state = host_after self.old.state turn } }
+        ensures gram { let turn = next_turn self.old.rules self.old.latest self.old.state in
             IfSome (frame_made turn) (λ octets. IsGram octets) }
-        ensures falls { work self.old.rules now self.new.state < work self.old.rules now self.old.state }
+        ensures falls { work self.old.rules self.old.latest self.new.state < work self.old.rules self.old.latest self.old.state }
         ensures looks { steps.new ≤ steps.old + 3 }
     {
+        // With their parameters the rules tell that these are in their limits.
+        let _params = self.senders.rules().params();
         let DueAct { kind, flow, .. } = due;
         let act = match kind {
-            DueKind::Send(_) => {
-                let agenda = &mut *self.send_agenda;
-                Act::Send(send_side::act(
-                    &mut self.senders,
-                    agenda,
-                    &self.rules,
-                    &flow,
-                    now,
-                    frame,
-                    steps,
-                ))
-            }
-            DueKind::Recv(_) => {
-                let agenda = &mut *self.recv_agenda;
-                Act::Recv(recv_side::act(
-                    &mut self.receivers,
-                    agenda,
-                    &self.rules,
-                    &flow,
-                    now,
-                    frame,
-                    steps,
-                ))
-            }
+            DueKind::Send(_) => Act::Send(self.senders.act(&flow, frame, steps)),
+            DueKind::Recv(_) => Act::Recv(self.receivers.act(&flow, frame, steps)),
         };
         Done { flow, act }
     }
@@ -428,8 +355,11 @@ impl Host {
     fn soonest<L: Ledger>(&self, now: u64, steps: &mut Steps<L>) -> Option<DueAct>
         ensures { IsNext self.now.rules now self.now.state result }
     {
-        let best = sending::soonest(&self.senders, now, None, steps);
-        receiving::soonest(&self.receivers, now, best, steps)
+        // With their counts the sides tell that each flow has one record.
+        let _senders = self.senders.count();
+        let _receivers = self.receivers.count();
+        let best = self.senders.soonest(now, None, steps);
+        self.receivers.soonest(now, best, steps)
     }
 
     /// The least moment at which an act of any record is due, or none where there is no record that has
@@ -437,7 +367,7 @@ impl Host {
     pub fn wake(&self) -> Option<u64>
         ensures { result ≡ host_wake self.now.rules self.now.state }
     {
-        sending::lesser(self.send_agenda.wake(), self.recv_agenda.wake())
+        lesser(self.senders.wake(), self.receivers.wake())
     }
 
     /// The node that it is the host of.
@@ -451,14 +381,14 @@ impl Host {
     pub fn rules(&self) -> &Rules
         ensures { result.now ≡ self.now.rules }
     {
-        &self.rules
+        self.senders.rules()
     }
 
     /// How many octets of the flow wait for their first transmission: 0 where it has no sender.
     pub fn waiting(&self, flow: &Flow) -> u32
         ensures { result ≡ unwrap_or (option_map (λ x. length x.waiting) (sender_at self.now.state flow.now)) 0 }
     {
-        match self.senders.get(flow) {
+        match self.senders.sender(flow) {
             Some(sender) => sender.waiting(),
             None => 0,
         }
@@ -468,7 +398,7 @@ impl Host {
     pub fn next_number(&self, flow: &Flow) -> Option<u32>
         ensures { result ≡ option_map (λ x. number_of self.now.rules (next_of x)) (sender_at self.now.state flow.now) }
     {
-        Some(self.senders.get(flow)?.next_number())
+        Some(self.senders.sender(flow)?.next_number())
     }
 
     /// The number of the flow's leftmost octet that is neither acknowledged nor given up, or none where
@@ -476,14 +406,14 @@ impl Host {
     pub fn left(&self, flow: &Flow) -> Option<u32>
         ensures { result ≡ option_map (λ x. number_of self.now.rules x.left) (sender_at self.now.state flow.now) }
     {
-        Some(self.senders.get(flow)?.left())
+        Some(self.senders.sender(flow)?.left())
     }
 
     /// The number that the flow's receiver expects next, or none where no receive record stands.
     pub fn expected(&self, flow: &Flow) -> Option<u32>
         ensures { result ≡ expected_of (receiver_at self.now.state flow.now).standing }
     {
-        self.receivers.get(flow)?.expected()
+        self.receivers.receiver(flow)?.expected()
     }
 
     /// Whether the flow has a receiver: one whose receive record was released stands as long as it has
@@ -491,14 +421,14 @@ impl Host {
     pub fn has_receiver(&self, flow: &Flow) -> bool
         ensures { result ≡ has_key same_flow flow.now self.now.state.receivers }
     {
-        self.receivers.contains_key(flow)
+        self.receivers.receiver(flow).is_some()
     }
 
     /// How many flows have a receiver.
     pub fn receivers(&self) -> usize
         ensures { result ≡ length self.now.state.receivers }
     {
-        self.receivers.len()
+        self.receivers.count()
     }
 }
 

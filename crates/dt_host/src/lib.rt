@@ -6,15 +6,13 @@ mod dues;
 mod faults;
 mod hosts;
 mod laws;
-mod order;
-mod receiving;
+mod octets;
+mod places;
 mod recv_agenda;
 mod recv_side;
+mod segment;
 mod send_agenda;
 mod send_side;
-mod sending;
-mod tables;
-mod upcoming;
 
 pub use acts::{Act, Done};
 pub use dt_flow_model::{Arrived, Cut, RecvAct, SendAct};

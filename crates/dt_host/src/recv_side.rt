@@ -1,227 +1,452 @@
-//! Calls on a host's receivers after which the notes of its agenda tell them again.
-ghost use Rattle.std.specs.Prelude.{◌≡◌, ◌+◌, ◌<◌, ◌≤◌, ◌++◌, drop, false, length, set, slice_get, IfErr, IfOk, IfSome, OnErr, OnOk, Some, None, unwrap_or, ℕ};
+ghost use Rattle.std.specs.Prelude.{ℕ, suc, ◌≡◌, ◌≢◌, ◌+◌, ◌<◌, ◌≤◌, ◌++◌, [], drop, false, length, IfErr, IfOk, IfSome, OnErr, OnOk, Some, None, unwrap_or};
+ghost use Rattle.std.specs.Option.{option_copied};
+ghost use Rattle.std.specs.Map.{lookup};
+ghost use Rattle.indexmap.specs.IndexMap.{insert_entry};
 ghost use Rattle.dt_items.specs.Unread.{marked, octets_of, piece_told};
 ghost use Rattle.dt_layout.specs.Carried.{IsGram};
-ghost use Rattle.dt_units.specs.declared.endpoints.Flow.{Flow as FlowValue};
 ghost use Rattle.dt_flow_model.specs.declared.acts.RecvKind.{RecvKind};
 ghost use Rattle.dt_flow_model.specs.declared.arrivals.Action.TheVariants.{Make};
+ghost use Rattle.dt_flow_model.specs.declared.arrivals.Arrived.TheVariants.{Replied};
 ghost use Rattle.dt_flow_model.specs.Frames.{recv_frame, reply_frame};
 ghost use Rattle.dt_flow_model.specs.Keeping.{most_moment};
-ghost use Rattle.dt_flow_model.specs.ReceiveRecord.{ReceiveRecord, Receiver as ReceiverState, action_on, after_meet, after_recv_act, answer_to_meet, recv_told_of};
+ghost use Rattle.dt_flow_model.specs.ReceiveRecord.{ReceiveRecord, Receiver as ReceiverState, action_on, after_data, after_meet, after_recv_act, answer_to_close, answer_to_data, answer_to_meet, recv_told_of, recv_wake_of};
 ghost use Rattle.dt_world_model.specs.Host.{Host, host_with_receiver, read_octets, receiver_at};
-ghost use Rattle.dt_world_model.specs.Tables.{erase, look, same_flow};
+ghost use Rattle.dt_world_model.specs.Tables.{Distinct, earliest, look, same_flow};
+ghost use Rattle.dt_host.specs.Agendas.{HasRecvRoom, recv_note};
 ghost use Rattle.dt_host.specs.Answers.{IsDataAnswer, IsDataTaken, replied};
-ghost use Rattle.dt_host.specs.Dues.{HasRecvDue};
-ghost use Rattle.dt_host.specs.Hosts.{AreReceiveEntries, receivers_of};
-ghost use Rattle.dt_host.specs.Notes.{AreNoted, IsChanged, IsNotMade, IsRecvNoted, recv_noted};
+ghost use Rattle.dt_host.specs.declared.dues.DueKind.TheVariants as due;
+ghost use Rattle.dt_host.specs.Dues.{HasRecvDue, soonest_recv};
+ghost use Rattle.dt_host.specs.Hosts.{AreReceiveEntries, IsReceiveEntry, receivers_of};
+ghost use Rattle.dt_host.specs.Notes.{recv_noted};
+ghost use Rattle.dt_host.specs.Places.{equal_flows};
+ghost use Rattle.dt_host.specs.Soonest.{IsQuiet, IsSoonest, receiver_moment};
 
-use crate::receiving::{self, Receivers, Segment};
+use crate::dues::{DueAct, DueKind, lesser};
+use crate::places::Places;
 use crate::recv_agenda::RecvAgenda;
-use dt_flow_model::{Arrived, RecvAct};
+use crate::segment::Segment;
+use dt_flow_model::{Action, Arrived, RecvAct, RecvKind};
 use dt_items::{NoMemory, Piece};
-use dt_layout::Frame;
+use dt_layout::{Frame, Packet, write_frame};
+use dt_recv::{Receiver, action};
 use dt_units::{Flow, Rules, Steps};
+use std::alloc::Global;
+use std::marker::Model;
 use std::sync::ledger::Ledger;
 
-/// A data packet goes to the flow's receiver. Without one it is made where the table of cases says
-/// so, and else replied to or dropped.
-pub fn take<L: Ledger>(
-    receivers: &mut Receivers,
-    agenda: &mut RecvAgenda,
-    rules: &Rules,
-    flow: &Flow,
+/// The receivers of a host, each in its place, and what is noted of when each may act. None of them is
+/// idle. A contract sees the parameters, the latest moment, and the receivers with their flows in the
+/// order of their making, which their places keep as those of a [`SendSide`] do.
+///
+/// [`SendSide`]: crate::send_side::SendSide
+#[derive(Drop)]
+pub struct RecvSide {
+    rules: Rules,
+    /// The greatest moment that it was given.
+    latest: u64,
+    places: Places,
+    slots: Vec<Option<(Flow, Receiver)>>,
+    agenda: RecvAgenda,
+}
+
+impl Model for RecvSide {
+    ghost use Rattle.dt_host.specs.Places.{present};
+    ghost use Rattle.dt_host.specs.Sides.{IsRecvSide, RecvSideValue};
+
+    ghost Value = { RecvSideValue };
+
+    ghost view = { λ s. record { rules = s.rules; latest = s.latest; entries = present s.slots.items } };
+
+    ghost invariant = { λ s. IsRecvSide s.rules s.latest s.places s.slots.items s.agenda };
+}
+
+impl RecvSide {
+    /// No receivers. It takes no memory; what later calls take is taken of `alloc`.
+    pub fn new(alloc: Global, rules: &Rules, latest: u64) -> RecvSide
+        requires { latest ≤ most_moment }
+        ensures { result ≡ record { rules = rules.now; latest = latest; entries = [] } }
+    {
+        RecvSide {
+            rules: *rules,
+            latest,
+            places: Places::new(alloc),
+            slots: Vec::new(alloc),
+            agenda: RecvAgenda::new(alloc),
+        }
+    }
+
+    /// Now becomes the latest moment.
+    pub fn reach(&mut self, now: u64)
+        requires moment { now ≤ most_moment }
+        requires past { self.old.latest ≤ now }
+        ensures { self.new ≡ record self.old { latest = now } }
+    {
+        self.latest = now;
+    }
+
+    /// The flow's receiver.
+    pub fn receiver(&self, flow: &Flow) -> Option<&Receiver>
+        ensures value { option_copied result ≡ lookup (equal_flows flow.now) self.now.entries }
+    {
+        let place = self.places.find(flow)?;
+        match &self.slots[place] {
+            Some((_, receiver)) => Some(receiver),
+            None => unreachable!(),
+        }
+    }
+
+    /// How many flows have a receiver.
+    pub fn count(&self) -> usize
+        ensures count { result ≡ length self.now.entries }
+        ensures entries { AreReceiveEntries self.now.rules self.now.entries }
+        ensures distinct { Distinct same_flow (receivers_of self.now.entries) }
+    {
+        self.places.count()
+    }
+
+    /// The act that comes first at now: the best so far, or one of these receivers. Each is looked at.
+    pub fn soonest<L: Ledger>(
+        &self,
+        now: u64,
+        best: Option<DueAct>,
+        steps: &mut Steps<L>,
+    ) -> Option<DueAct>
+        ensures { result ≡ soonest_recv now best self.now.entries }
+    {
+        let mut best = best;
+        for slot in self.slots.iter() {
+            if let Some((flow, receiver)) = slot
+                && let Some((kind, moment)) = receiver.due(now, steps)
+            {
+                let due = DueAct {
+                    kind: DueKind::Recv(kind),
+                    moment,
+                    flow: *flow,
+                };
+                best = due.or_sooner(best);
+            }
+        }
+        best
+    }
+
+    /// A data packet goes to the flow's receiver. Without one it is made where the table of cases says
+    /// so, and else replied to or dropped.
+    pub fn take<L: Ledger>(
+        &mut self,
+        flow: &Flow,
+        segment: &Segment<'_>,
+        reply: &mut Frame,
+        steps: &mut Steps<L>,
+    ) -> Result<Arrived, NoMemory>
+        requires some { 1 ≤ length segment.now.octets.now }
+        requires few { length segment.now.octets.now ≤ 8192 }
+        ensures answer { let items = marked segment.now.octets.now segment.now.begin segment.now.end false in
+            IsDataAnswer self.old.rules flow.now segment.now.drf segment.now.number items self.old.entries result }
+        ensures after { let items = marked segment.now.octets.now segment.now.begin segment.now.end false in
+            IsDataTaken self.old.rules self.old.latest flow.now segment.now.drf segment.now.number items self.old.entries self.new.entries result }
+        ensures reply { reply.new ≡ unwrap_or (replied self.old.rules flow.now result) reply.old }
+        ensures gram { IfSome (replied self.old.rules flow.now result) (λ octets. IsGram octets) }
+        ensures same { self.new ≡ record self.old { entries = self.new.entries } }
+        ensures memory { (host : Host) → let before = record host { receivers = receivers_of self.old.entries } in
+            let items = marked segment.now.octets.now segment.now.begin segment.now.end false in
+            IfErr result (λ _. (look same_flow flow.now (receivers_of self.old.entries) ≡ None) × (action_on self.old.rules (receiver_at before flow.now) segment.now.drf segment.now.number items ≡ Make)) }
+        ensures looks { steps.new ≤ steps.old + 2 }
+    {
+        if let Some(place) = self.places.find(flow) {
+            let Some((_, receiver)) = &mut self.slots[place] else {
+                unreachable!();
+            };
+            let arrived = hand_over(receiver, segment, self.latest, reply, steps);
+            note(&mut self.agenda, place, receiver, steps);
+            return Ok(arrived);
+        }
+        let count = segment.octets.len() as u32;
+        let free = self.rules.params().rcap;
+        match action(None, segment.drf, segment.number, count, free) {
+            Action::Make => self.make(flow, segment, reply, steps),
+            Action::TellNumber => Ok(reply_without(&self.rules, flow, segment.number, reply)),
+            _ => Ok(Arrived::Dropped),
+        }
+    }
+
+    /// Makes the flow's receiver, with these octets unread in it.
+    fn make<L: Ledger>(
+        &mut self,
+        flow: &Flow,
+        segment: &Segment<'_>,
+        reply: &mut Frame,
+        steps: &mut Steps<L>,
+    ) -> Result<Arrived, NoMemory>
+        requires some { 1 ≤ length segment.now.octets.now }
+        requires few { length segment.now.octets.now ≤ 8192 }
+        requires none { lookup (equal_flows flow.now) self.old.entries ≡ None }
+        requires makes { let items = marked segment.now.octets.now segment.now.begin segment.now.end false in
+            action_on self.old.rules (record { unread = []; standing = None }) segment.now.drf segment.now.number items ≡ Make }
+        ensures answer { let items = marked segment.now.octets.now segment.now.begin segment.now.end false in
+            IsDataAnswer self.old.rules flow.now segment.now.drf segment.now.number items self.old.entries result }
+        ensures after { let items = marked segment.now.octets.now segment.now.begin segment.now.end false in
+            IsDataTaken self.old.rules self.old.latest flow.now segment.now.drf segment.now.number items self.old.entries self.new.entries result }
+        ensures reply { reply.new ≡ unwrap_or (replied self.old.rules flow.now result) reply.old }
+        ensures gram { IfSome (replied self.old.rules flow.now result) (λ octets. IsGram octets) }
+        ensures same { self.new ≡ record self.old { entries = self.new.entries } }
+        ensures looks { steps.new ≤ steps.old + 2 }
+    {
+        let mut receiver = Receiver::new(*self.slots.allocator(), &self.rules, *flow)?;
+        let arrived = hand_over(&mut receiver, segment, self.latest, reply, steps);
+        self.add(flow, receiver, steps)?;
+        Ok(arrived)
+    }
+
+    /// A receiver that was made stands behind all others. `NoMemory` leaves them as they were.
+    fn add<L: Ledger>(
+        &mut self,
+        flow: &Flow,
+        receiver: Receiver,
+        steps: &mut Steps<L>,
+    ) -> Result<(), NoMemory>
+        requires none { lookup (equal_flows flow.now) self.old.entries ≡ None }
+        requires entry { IsReceiveEntry self.old.rules flow.now receiver }
+        ensures ok { OnOk result (self.new ≡ record self.old { entries = insert_entry equal_flows self.old.entries flow.now receiver }) }
+        ensures err { OnErr result (self.new ≡ self.old) }
+        ensures looks { steps.new ≤ steps.old + 1 }
+    {
+        self.close_up();
+        let place = self.slots.len();
+        self.agenda.hold(place)?;
+        self.places.hold(place)?;
+        self.slots.push(None)?;
+        self.places.take(place, flow)?;
+        note(&mut self.agenda, place, &receiver, steps);
+        self.slots[place] = Some((*flow, receiver));
+        Ok(())
+    }
+
+    /// Where no place is left behind the receivers and half of the places are empty or more, the
+    /// receivers close up. The cost is that of all places, and it is paid once for as many receivers
+    /// that are made.
+    fn close_up(&mut self)
+        ensures { self.new ≡ self.old }
+    {
+        let count = self.slots.len();
+        if count < self.agenda.room() || self.places.count() > count / 2 {
+            return;
+        }
+        let mut to = 0;
+        for from in 0..count {
+            let Some((flow, receiver)) = self.slots[from].take() else {
+                continue;
+            };
+            // With its count it tells that each flow stands once.
+            let _count = self.places.count();
+            self.places.shift(&flow, from, to);
+            self.agenda.shift(from, to);
+            self.slots[to] = Some((flow, receiver));
+            to += 1;
+        }
+        self.slots.truncate(to);
+    }
+
+    /// A rendezvous packet goes to the flow's receiver. Without one it is replied to with its own number.
+    pub fn meet<L: Ledger>(
+        &mut self,
+        flow: &Flow,
+        number: u32,
+        reply: &mut Frame,
+        steps: &mut Steps<L>,
+    ) -> Arrived
+        ensures met { (host : Host) → let before = record host { receivers = receivers_of self.old.entries } in
+            (result ≡ answer_to_meet self.old.rules (receiver_at before flow.now) number)
+            × (record host { receivers = receivers_of self.new.entries } ≡ host_with_receiver before flow.now (after_meet self.old.rules (receiver_at before flow.now))) }
+        ensures reply { reply.new ≡ unwrap_or (reply_frame self.old.rules flow.now result) reply.old }
+        ensures gram { IfSome (reply_frame self.old.rules flow.now result) (λ octets. IsGram octets) }
+        ensures same { self.new ≡ record self.old { entries = self.new.entries } }
+        ensures looks { steps.new ≤ steps.old + 2 }
+    {
+        let Some(place) = self.places.find(flow) else {
+            return reply_without(&self.rules, flow, number, reply);
+        };
+        let Some((_, receiver)) = &mut self.slots[place] else {
+            unreachable!();
+        };
+        let arrived = receiver.on_meet(number, self.latest, reply, steps);
+        note(&mut self.agenda, place, receiver, steps);
+        arrived
+    }
+
+    /// A closing packet is told or dropped.
+    pub fn close<L: Ledger>(&self, flow: &Flow, number: u32, steps: &mut Steps<L>) -> Arrived
+        ensures answer { (host : Host) → result ≡ answer_to_close (receiver_at (record host { receivers = receivers_of self.now.entries }) flow.now) number }
+        ensures looks { steps.new ≤ steps.old + 1 }
+    {
+        match self.receiver(flow) {
+            Some(receiver) => receiver.on_close(number, steps),
+            None => Arrived::Dropped,
+        }
+    }
+
+    /// Reads unread octets of a flow at the latest moment. A receiver that becomes idle goes.
+    pub fn read<L: Ledger>(
+        &mut self,
+        flow: &Flow,
+        buf: &mut [u8],
+        steps: &mut Steps<L>,
+    ) -> Option<Piece>
+        requires room { 0 < length buf.old }
+        ensures piece { (host : Host) → let taken = read_octets self.old.rules self.old.latest flow.now (length buf.old) (record host { receivers = receivers_of self.old.entries }) in
+            result ≡ piece_told taken.0 }
+        ensures octets { (host : Host) → let taken = read_octets self.old.rules self.old.latest flow.now (length buf.old) (record host { receivers = receivers_of self.old.entries }) in
+            buf.new ≡ octets_of taken.0 ++ drop (length taken.0) buf.old }
+        ensures after { (host : Host) → let taken = read_octets self.old.rules self.old.latest flow.now (length buf.old) (record host { receivers = receivers_of self.old.entries }) in
+            record host { receivers = receivers_of self.new.entries } ≡ taken.1 }
+        ensures same { self.new ≡ record self.old { entries = self.new.entries } }
+        ensures looks { steps.new ≤ steps.old + 2 }
+    {
+        let place = self.places.find(flow)?;
+        let Some((_, receiver)) = &mut self.slots[place] else {
+            unreachable!();
+        };
+        let piece = receiver.read(buf, self.latest, steps)?;
+        let idle = receiver.is_idle();
+        if idle {
+            self.slots[place] = None;
+            self.places.leave(place, flow);
+            self.agenda.forget(place);
+        } else {
+            note(&mut self.agenda, place, receiver, steps);
+        }
+        Some(piece)
+    }
+
+    /// Does the act that the flow's receiver has due at the latest moment. A receiver that becomes idle
+    /// goes, as after a read.
+    pub fn act<L: Ledger>(
+        &mut self,
+        flow: &Flow,
+        frame: &mut Frame,
+        steps: &mut Steps<L>,
+    ) -> RecvAct
+        requires due { (r : ReceiverState) × (y : ReceiveRecord) × (kind : RecvKind) × (moment : ℕ) × HasRecvDue self.old.rules self.old.latest (look same_flow flow.now (receivers_of self.old.entries)) r y kind moment }
+        ensures told { (r : ReceiverState) (y : ReceiveRecord) (kind : RecvKind) (moment : ℕ) → HasRecvDue self.old.rules self.old.latest (look same_flow flow.now (receivers_of self.old.entries)) r y kind moment
+            → result ≡ recv_told_of self.old.rules r.unread y kind }
+        ensures frame { frame.new ≡ unwrap_or (recv_frame self.old.rules flow.now result) frame.old }
+        ensures gram { IfSome (recv_frame self.old.rules flow.now result) (λ octets. IsGram octets) }
+        ensures after { (r : ReceiverState) (y : ReceiveRecord) (kind : RecvKind) (moment : ℕ) → HasRecvDue self.old.rules self.old.latest (look same_flow flow.now (receivers_of self.old.entries)) r y kind moment
+            → (host : Host) → record host { receivers = receivers_of self.new.entries } ≡ host_with_receiver (record host { receivers = receivers_of self.old.entries }) flow.now (after_recv_act self.old.rules r kind) }
+        ensures same { self.new ≡ record self.old { entries = self.new.entries } }
+        ensures looks { steps.new ≤ steps.old + 2 }
+    {
+        let Some(place) = self.places.find(flow) else {
+            unreachable!();
+        };
+        let Some((_, receiver)) = &mut self.slots[place] else {
+            unreachable!();
+        };
+        let act = receiver.act(self.latest, frame, steps);
+        let idle = receiver.is_idle();
+        if idle {
+            self.slots[place] = None;
+            self.places.leave(place, flow);
+            self.agenda.forget(place);
+        } else {
+            note(&mut self.agenda, place, receiver, steps);
+        }
+        act
+    }
+
+    /// The act of a kind that comes first, where one is due at the latest moment.
+    pub fn due(&self, kind: RecvKind) -> Option<DueAct>
+        ensures quiet { result ≡ None → IsQuiet (receiver_moment self.now.rules kind) self.now.latest self.now.entries }
+        ensures found { IfSome result (λ d. IsSoonest (receiver_moment self.now.rules kind) self.now.latest self.now.entries (due.Recv kind) d) }
+    {
+        let (moment, place) = self.agenda.first(kind)?;
+        if moment > self.latest {
+            return None;
+        }
+        let Some((flow, _)) = &self.slots[place] else {
+            unreachable!();
+        };
+        Some(DueAct {
+            kind: DueKind::Recv(kind),
+            moment,
+            flow: *flow,
+        })
+    }
+
+    /// The least moment at which an act of a receiver is due.
+    pub fn wake(&self) -> Option<u64>
+        ensures { result ≡ earliest (λ e. recv_wake_of self.now.rules e.1.standing) (receivers_of self.now.entries) }
+    {
+        lesser(
+            self.soonest_of(RecvKind::Release),
+            self.soonest_of(RecvKind::Ack),
+        )
+    }
+
+    /// The least moment at which an act of a kind is due.
+    fn soonest_of(&self, kind: RecvKind) -> Option<u64>
+        ensures { result ≡ earliest (λ e. receiver_moment self.now.rules kind e.1) self.now.entries }
+    {
+        let (moment, _) = self.agenda.first(kind)?;
+        Some(moment)
+    }
+}
+
+/// Notes the moments of the receiver in a place.
+fn note<L: Ledger>(agenda: &mut RecvAgenda, place: usize, receiver: &Receiver, steps: &mut Steps<L>)
+    requires { HasRecvRoom (suc place) agenda.old }
+    ensures here { recv_note agenda.new place ≡ recv_noted receiver.now.rules receiver.now.state }
+    ensures others { (i : ℕ) → i ≢ place → recv_note agenda.new i ≡ recv_note agenda.old i }
+    ensures room { (count : ℕ) → HasRecvRoom count agenda.old → HasRecvRoom count agenda.new }
+    ensures looks { steps.new ≡ steps.old + 1 }
+{
+    let moments = receiver.moments(steps);
+    agenda.note(place, moments);
+}
+
+/// A data packet goes to its receiver.
+fn hand_over<L: Ledger>(
+    receiver: &mut Receiver,
     segment: &Segment<'_>,
     now: u64,
     reply: &mut Frame,
     steps: &mut Steps<L>,
-) -> Result<Arrived, NoMemory>
-    requires entries { AreReceiveEntries rules.now receivers.old.entries }
-    requires noted { AreNoted (IsRecvNoted rules.now) (receivers_of receivers.old.entries) agenda.old }
+) -> Arrived
     requires some { 1 ≤ length segment.now.octets.now }
     requires few { length segment.now.octets.now ≤ 8192 }
     requires moment { now ≤ most_moment }
-    ensures answer { let items = marked segment.now.octets.now segment.now.begin segment.now.end false in
-        IsDataAnswer rules.now flow.now segment.now.drf segment.now.number items receivers.old.entries result }
     ensures after { let items = marked segment.now.octets.now segment.now.begin segment.now.end false in
-        IsDataTaken rules.now now flow.now segment.now.drf segment.now.number items receivers.old.entries receivers.new.entries result }
-    ensures reply { reply.new ≡ unwrap_or (replied rules.now flow.now result) reply.old }
-    ensures gram { IfSome (replied rules.now flow.now result) (λ octets. IsGram octets) }
-    ensures entries { AreReceiveEntries rules.now receivers.new.entries }
-    ensures noted { AreNoted (IsRecvNoted rules.now) (receivers_of receivers.new.entries) agenda.new }
-    ensures memory { (host : Host) → let before = record host { receivers = receivers_of receivers.old.entries } in
-        let items = marked segment.now.octets.now segment.now.begin segment.now.end false in
-        IfErr result (λ _. (look same_flow flow.now (receivers_of receivers.old.entries) ≡ None) × (action_on rules.now (receiver_at before flow.now) segment.now.drf segment.now.number items ≡ Make)) }
-    ensures looks { steps.new ≤ steps.old + 2 }
-{
-    let index = receivers.get_index_of(flow);
-    let arrived = receiving::take(receivers, rules, flow, segment, now, reply, steps)?;
-    keep(receivers, agenda, rules, flow, index, steps)?;
-    Ok(arrived)
-}
-
-/// A rendezvous packet goes to the flow's receiver. Without one it is replied to with its own number.
-pub fn meet<L: Ledger>(
-    receivers: &mut Receivers,
-    agenda: &mut RecvAgenda,
-    rules: &Rules,
-    flow: &Flow,
-    number: u32,
-    now: u64,
-    reply: &mut Frame,
-    steps: &mut Steps<L>,
-) -> Arrived
-    requires entries { AreReceiveEntries rules.now receivers.old.entries }
-    requires noted { AreNoted (IsRecvNoted rules.now) (receivers_of receivers.old.entries) agenda.old }
-    ensures met { (host : Host) → let before = record host { receivers = receivers_of receivers.old.entries } in
-        (result ≡ answer_to_meet rules.now (receiver_at before flow.now) number)
-        × (record host { receivers = receivers_of receivers.new.entries } ≡ host_with_receiver before flow.now (after_meet rules.now (receiver_at before flow.now))) }
-    ensures reply { reply.new ≡ unwrap_or (reply_frame rules.now flow.now result) reply.old }
-    ensures gram { IfSome (reply_frame rules.now flow.now result) (λ octets. IsGram octets) }
-    ensures entries { AreReceiveEntries rules.now receivers.new.entries }
-    ensures noted { AreNoted (IsRecvNoted rules.now) (receivers_of receivers.new.entries) agenda.new }
-    ensures looks { steps.new ≤ steps.old + 2 }
-{
-    let index = receivers.get_index_of(flow);
-    let arrived = receiving::meet(receivers, rules, flow, number, now, reply, steps);
-    follow(receivers, agenda, rules, flow, index, steps);
-    arrived
-}
-
-/// Reads unread octets of a flow. A receiver that becomes idle goes, and those made after it move up
-/// by one place.
-pub fn read<L: Ledger>(
-    receivers: &mut Receivers,
-    agenda: &mut RecvAgenda,
-    rules: &Rules,
-    flow: &Flow,
-    buf: &mut [u8],
-    now: u64,
-    steps: &mut Steps<L>,
-) -> Option<Piece>
-    requires entries { AreReceiveEntries rules.now receivers.old.entries }
-    requires noted { AreNoted (IsRecvNoted rules.now) (receivers_of receivers.old.entries) agenda.old }
-    requires room { 0 < length buf.old }
-    ensures piece { (host : Host) → let taken = read_octets rules.now now flow.now (length buf.old) (record host { receivers = receivers_of receivers.old.entries }) in
-        result ≡ piece_told taken.0 }
-    ensures octets { (host : Host) → let taken = read_octets rules.now now flow.now (length buf.old) (record host { receivers = receivers_of receivers.old.entries }) in
-        buf.new ≡ octets_of taken.0 ++ drop (length taken.0) buf.old }
-    ensures after { (host : Host) → let taken = read_octets rules.now now flow.now (length buf.old) (record host { receivers = receivers_of receivers.old.entries }) in
-        record host { receivers = receivers_of receivers.new.entries } ≡ taken.1 }
-    ensures entries { AreReceiveEntries rules.now receivers.new.entries }
-    ensures noted { AreNoted (IsRecvNoted rules.now) (receivers_of receivers.new.entries) agenda.new }
-    ensures looks { steps.new ≤ steps.old + 2 }
-{
-    let index = receivers.get_index_of(flow);
-    let piece = receiving::read(receivers, rules, flow, buf, now, steps);
-    follow(receivers, agenda, rules, flow, index, steps);
-    piece
-}
-
-/// Does the act that the flow's receiver has due. A receiver that becomes idle goes, as after a read.
-pub fn act<L: Ledger>(
-    receivers: &mut Receivers,
-    agenda: &mut RecvAgenda,
-    rules: &Rules,
-    flow: &Flow,
-    now: u64,
-    frame: &mut Frame,
-    steps: &mut Steps<L>,
-) -> RecvAct
-    requires entries { AreReceiveEntries rules.now receivers.old.entries }
-    requires noted { AreNoted (IsRecvNoted rules.now) (receivers_of receivers.old.entries) agenda.old }
-    requires due { (r : ReceiverState) × (y : ReceiveRecord) × (kind : RecvKind) × (moment : ℕ) × HasRecvDue rules.now now (look same_flow flow.now (receivers_of receivers.old.entries)) r y kind moment }
-    ensures told { (r : ReceiverState) (y : ReceiveRecord) (kind : RecvKind) (moment : ℕ) → HasRecvDue rules.now now (look same_flow flow.now (receivers_of receivers.old.entries)) r y kind moment
-        → result ≡ recv_told_of rules.now r.unread y kind }
-    ensures frame { frame.new ≡ unwrap_or (recv_frame rules.now flow.now result) frame.old }
-    ensures gram { IfSome (recv_frame rules.now flow.now result) (λ octets. IsGram octets) }
-    ensures after { (r : ReceiverState) (y : ReceiveRecord) (kind : RecvKind) (moment : ℕ) → HasRecvDue rules.now now (look same_flow flow.now (receivers_of receivers.old.entries)) r y kind moment
-        → (host : Host) → record host { receivers = receivers_of receivers.new.entries } ≡ host_with_receiver (record host { receivers = receivers_of receivers.old.entries }) flow.now (after_recv_act rules.now r kind) }
-    ensures entries { AreReceiveEntries rules.now receivers.new.entries }
-    ensures noted { AreNoted (IsRecvNoted rules.now) (receivers_of receivers.new.entries) agenda.new }
-    ensures looks { steps.new ≤ steps.old + 2 }
-{
-    let index = receivers.get_index_of(flow);
-    let act = receiving::act(receivers, rules, flow, now, frame, steps);
-    follow(receivers, agenda, rules, flow, index, steps);
-    act
-}
-
-/// The notes follow a change of a flow's receiver, which stood at the index before: it was made, it
-/// went, or its moments are noted anew. Where there is no memory for the notes of one that was made it
-/// goes again.
-fn keep<L: Ledger>(
-    receivers: &mut Receivers,
-    agenda: &mut RecvAgenda,
-    rules: &Rules,
-    flow: &Flow,
-    index: Option<usize>,
-    steps: &mut Steps<L>,
-) -> Result<(), NoMemory>
-    requires entries { AreReceiveEntries rules.now receivers.old.entries }
-    requires changed { IsChanged (IsRecvNoted rules.now) flow.now index (receivers_of receivers.old.entries) agenda.old }
-    ensures ok { OnOk result (receivers.new.entries ≡ receivers.old.entries) }
-    ensures made { OnErr result ((index ≡ None) × (look same_flow flow.now (receivers_of receivers.old.entries) ≡ None → ⊥)) }
-    ensures err { OnErr result (receivers_of receivers.new.entries ≡ erase same_flow flow.now (receivers_of receivers.old.entries)) }
-    ensures entries { AreReceiveEntries rules.now receivers.new.entries }
-    ensures noted { AreNoted (IsRecvNoted rules.now) (receivers_of receivers.new.entries) agenda.new }
-    ensures looks { steps.new ≤ steps.old + 1 }
-{
-    if index.is_some() {
-        follow(receivers, agenda, rules, flow, index, steps);
-        return Ok(());
-    }
-    let Some(index) = receivers.get_index_of(flow) else {
-        return Ok(());
-    };
-    if agenda.hold().is_err() {
-        receivers.shift_remove(flow);
-        return Err(NoMemory);
-    }
-    note(receivers, agenda, rules, index, steps);
-    Ok(())
-}
-
-/// The notes follow a change of a flow's receiver, which stood at the index before: it went, or its
-/// moments are noted anew.
-fn follow<L: Ledger>(
-    receivers: &Receivers,
-    agenda: &mut RecvAgenda,
-    rules: &Rules,
-    flow: &Flow,
-    index: Option<usize>,
-    steps: &mut Steps<L>,
-)
-    requires entries { AreReceiveEntries rules.now receivers.now.entries }
-    requires changed { IsNotMade (IsRecvNoted rules.now) flow.now index (receivers_of receivers.now.entries) agenda.old }
-    ensures noted { AreNoted (IsRecvNoted rules.now) (receivers_of receivers.now.entries) agenda.new }
-    ensures looks { steps.new ≤ steps.old + 1 }
-{
-    if let Some(place) = receivers.get_index_of(flow) {
-        note(receivers, agenda, rules, place, steps);
-        return;
-    }
-    if let Some(index) = index {
-        agenda.forget(index);
-    }
-}
-
-/// Notes the moments of the receiver with this index.
-fn note<L: Ledger>(
-    receivers: &Receivers,
-    agenda: &mut RecvAgenda,
-    rules: &Rules,
-    index: usize,
-    steps: &mut Steps<L>,
-)
-    requires entries { AreReceiveEntries rules.now receivers.now.entries }
-    requires within { index < length receivers.now.entries }
-    requires noted { index < length agenda.old }
-    ensures note { (flow : FlowValue) (r : ReceiverState) → slice_get (receivers_of receivers.now.entries) index ≡ Some (flow, r) → agenda.new ≡ set agenda.old index (recv_noted rules.now r) }
+        receiver.new ≡ record receiver.old { state = after_data receiver.old.rules now receiver.old.state segment.now.drf segment.now.number items } }
+    ensures answer { let items = marked segment.now.octets.now segment.now.begin segment.now.end false in
+        result ≡ answer_to_data receiver.old.rules receiver.old.state segment.now.drf segment.now.number items }
+    ensures reply { reply.new ≡ unwrap_or (reply_frame receiver.old.rules receiver.old.flow result) reply.old }
+    ensures gram { IfSome (reply_frame receiver.old.rules receiver.old.flow result) (λ octets. IsGram octets) }
     ensures looks { steps.new ≡ steps.old + 1 }
 {
-    let Some((_, receiver)) = receivers.get_index(index) else {
-        unreachable!();
+    receiver.on_data(
+        segment.number,
+        segment.drf,
+        segment.begin,
+        segment.end,
+        segment.octets,
+        now,
+        reply,
+        steps,
+    )
+}
+
+/// Replies for a flow without a receiver: with this number and the whole queue.
+fn reply_without(rules: &Rules, flow: &Flow, number: u32, reply: &mut Frame) -> Arrived
+    ensures answer { result ≡ Replied number rules.now.rcap }
+    ensures reply { reply.new ≡ unwrap_or (reply_frame rules.now flow.now result) reply.old }
+    ensures gram { IfSome (reply_frame rules.now flow.now result) (λ octets. IsGram octets) }
+{
+    let window = rules.params().rcap;
+    let packet = Packet::Ack {
+        from_port: flow.to_port,
+        to_port: flow.from_port,
+        number,
+        window,
     };
-    let moments = receiver.moments(steps);
-    agenda.note(index, moments);
+    write_frame(reply, rules.params().mpl, flow.to.0, flow.from.0, &packet);
+    Arrived::Replied { number, window }
 }

@@ -9,13 +9,13 @@ abbrev Goes : Item → List Item → Type 0
 Goes before [] = Unit {0}
 Goes before (item ∷ items) = (goes_on before item ≡ true) × Goes item items
 
-all_off : (a b c : Bool) → not (a || (b || c)) ≡ true → (a ≡ false) × (b ≡ false) × (c ≡ false)
+pub all_off : (a b c : Bool) → not (a || (b || c)) ≡ true → (a ≡ false) × (b ≡ false) × (c ≡ false)
 all_off true b c h = cc
 all_off false true c h = cc
 all_off false false true h = cc
 all_off false false false h = (refl, refl, refl)
 
-from_all_off : (a b c : Bool) → a ≡ false → b ≡ false → c ≡ false → not (a || (b || c)) ≡ true
+pub from_all_off : (a b c : Bool) → a ≡ false → b ≡ false → c ≡ false → not (a || (b || c)) ≡ true
 from_all_off true b c p q r = cc
 from_all_off false true c p q r = cc
 from_all_off false false true p q r = cc

@@ -1,103 +1,9 @@
--- How a loop takes the piece of a read, one item after another.
-use Rattle.std.proofs.Common.{◌≡◌, ℕ, zero, suc, ◌+◌, ◌-◌, ◌<◌, ◌≤◌, true, false, cond, List, [], ◌∷◌, ◌++◌, length, get_or, set, take, drop, append_assoc, Some, refl, sym, ap, ◌∙◌, arith}
-use Rattle.std.proofs.lemmas.List.{append-nil, length-append, length-map, drop_at, drop_more, map_push, set_at}
+-- What a read takes of the items, and what it leaves.
+use Rattle.std.proofs.Common.{◌≡◌, ℕ, zero, suc, ◌+◌, ◌-◌, ◌<◌, ◌≤◌, true, false, cond, List, [], ◌∷◌, ◌++◌, length, set, take, drop, Some, refl, subst, sym, ap, ◌∙◌, arith}
+use Rattle.std.specs.List.{slice_get}
+use Rattle.std.proofs.lemmas.List.{append-nil, drop_all, take_all, take-append-drop}
 use Rattle.dt_items.specs.declared.item.Item.{Item}
-use Rattle.dt_items.specs.Unread.{goes_on, following, first_piece, last_item, piece_told, octets_of, TakesPiece}
-
--- What a read of at most n octets has done so far: it took the first item and more behind it, of
--- which `last` is the last, and their octets stand in the buffer. What it takes yet follows that one.
-pub record HasTaken (n : ℕ) (items : List Item) (was : List ℕ) (first last : Item) (len : ℕ) (rest : List Item) (buf : List ℕ) : Type 0 where
-  pub more : List Item
-  pub len_is : len ≡ suc (length more)
-  pub within : len ≤ n
-  pub items_are : items ≡ (first ∷ more) ++ rest
-  pub last_is : last_item first more ≡ last
-  pub piece_is : first_piece n items ≡ (first ∷ more) ++ following (n - len) last rest
-  pub octets_are : buf ≡ octets_of (first ∷ more) ++ drop len was
-
-pub taken_first : (n : ℕ) (first : Item) (rest : List Item) (was : List ℕ) → length was ≡ n → 0 < n → HasTaken n (first ∷ rest) was first first 1 rest (set was 0 first.octet)
-taken_first zero first rest was l h = absurd (omega arith)
-taken_first (suc n) first rest [] l h = absurd (omega arith)
-taken_first (suc n) first rest (x ∷ was) l h =
-    let e : suc n - 1 ≡ n = omega arith in
-    record {
-      more = [];
-      len_is = refl;
-      within = omega arith;
-      items_are = refl;
-      last_is = refl;
-      piece_is = rw e refl;
-      octets_are = refl;
-    }
-
-last_item-push : (first : Item) (more : List Item) (next : Item) → last_item first (more ++ next ∷ []) ≡ next
-last_item-push first [] next = refl
-last_item-push first (item ∷ more) next = last_item-push item more next
-
-following_yes : (n : ℕ) (before item : Item) (items : List Item) → goes_on before item ≡ true → following (suc n) before (item ∷ items) ≡ item ∷ following n item items
-following_yes n before item items h = ap (λ b. cond b (item ∷ following n item items) []) h
-
-following_no : (n : ℕ) (before item : Item) (items : List Item) → goes_on before item ≡ false → following n before (item ∷ items) ≡ []
-following_no zero before item items h = refl
-following_no (suc n) before item items h = ap (λ b. cond b (item ∷ following n item items) []) h
-
-following_none : (before : Item) (items : List Item) → following 0 before items ≡ []
-following_none before [] = refl
-following_none before (item ∷ items) = refl
-
--- one more octet is written behind those of the items before it
-written_more : (items : List Item) (next : Item) (was buf : List ℕ) (len : ℕ) → len ≡ length items → len < length was → buf ≡ octets_of items ++ drop len was → set buf len next.octet ≡ octets_of (items ++ next ∷ []) ++ drop (len + 1) was
-written_more items next was buf len e p h =
-    let l : length (octets_of items) ≡ len = length-map _ _ ∙ sym e in
-    ap (λ b. set b len next.octet) (h ∙ ap (λ r. octets_of items ++ r) (drop_more was len 0 p))
-    ∙ set_at (octets_of items) (get_or was len 0) (drop (len + 1) was) next.octet len l
-    ∙ sym (ap (λ r. r ++ drop (len + 1) was) (map_push _ items next) ∙ append_assoc (octets_of items) (next.octet ∷ []) (drop (len + 1) was))
-
-pub taken_more : {n : ℕ} {items : List Item} {was : List ℕ} {first last : Item} {len : ℕ} {rest : List Item} {buf : List ℕ} → HasTaken n items was first last len rest buf → (next : Item) (left : List Item) → length was ≡ n → len < n → rest ≡ next ∷ left → goes_on last next ≡ true → HasTaken n items was first next (len + 1) left (set buf len next.octet)
-taken_more {n} {items} {was} {first} {last} {len} {rest} {buf} t next left l p split goes =
-    let e : n - len ≡ suc (n - (len + 1)) = omega arith in
-    let f : following (n - len) last rest ≡ next ∷ following (n - (len + 1)) next left =
-    ap (λ r. following (n - len) last r) split ∙ ap (λ k. following k last (next ∷ left)) e ∙ following_yes (n - (len + 1)) last next left goes in
-    record {
-      more = t.more ++ next ∷ [];
-      len_is = omega (arith, t.len_is, length-append t.more (next ∷ []));
-      within = omega arith;
-      items_are = t.items_are ∙ ap (λ r. (first ∷ t.more) ++ r) split ∙ sym (append_assoc (first ∷ t.more) (next ∷ []) left);
-      last_is = last_item-push first t.more next;
-      piece_is = t.piece_is ∙ ap (λ r. (first ∷ t.more) ++ r) f ∙ sym (append_assoc (first ∷ t.more) (next ∷ []) (following (n - (len + 1)) next left));
-      octets_are = written_more (first ∷ t.more) next was buf len t.len_is (omega arith) t.octets_are;
-    }
-
--- where nothing more follows, what was taken is the piece
-taken_all : {n : ℕ} {items : List Item} {was : List ℕ} {first last : Item} {len : ℕ} {rest : List Item} {buf : List ℕ} → (t : HasTaken n items was first last len rest buf) → following (n - len) last rest ≡ [] → TakesPiece n items was (record { len = len; begin = first.begin; end = last.end; run = first.run }) rest buf
-taken_all {n} {items} {was} {first} {last} {len} {rest} {buf} t none =
-    let piece : first_piece n items ≡ first ∷ t.more = t.piece_is ∙ ap (λ r. (first ∷ t.more) ++ r) none ∙ append-nil (first ∷ t.more) in
-    let l : length (first_piece n items) ≡ len = ap length piece ∙ sym t.len_is in
-    let m : length t.more + 1 ≡ len = omega (arith, t.len_is) in
-    record {
-      told = ap piece_told piece ∙ ap (λ item. Some (record { len = length t.more + 1; begin = first.begin; end = item.end; run = first.run })) t.last_is ∙ ap (λ k. Some (record { len = k; begin = first.begin; end = last.end; run = first.run })) m;
-      split = t.items_are ∙ ap (λ p. p ++ rest) (sym piece);
-      octets = t.octets_are ∙ ap (λ k. octets_of (first ∷ t.more) ++ drop k was) (sym l) ∙ ap (λ p. octets_of p ++ drop (length (first_piece n items)) was) (sym piece);
-    }
-
-pub taken_full : {n : ℕ} {items : List Item} {was : List ℕ} {first last : Item} {len : ℕ} {rest : List Item} {buf : List ℕ} → HasTaken n items was first last len rest buf → n ≤ len → TakesPiece n items was (record { len = len; begin = first.begin; end = last.end; run = first.run }) rest buf
-taken_full {n} {items} {was} {first} {last} {len} {rest} {buf} t p =
-    let e : n - len ≡ 0 = omega arith in
-    taken_all t (ap (λ k. following k last rest) e ∙ following_none last rest)
-
-pub taken_to_the_end : {n : ℕ} {items : List Item} {was : List ℕ} {first last : Item} {len : ℕ} {rest : List Item} {buf : List ℕ} → HasTaken n items was first last len rest buf → rest ≡ [] → TakesPiece n items was (record { len = len; begin = first.begin; end = last.end; run = first.run }) rest buf
-taken_to_the_end {n} {items} {was} {first} {last} {len} {rest} {buf} t none =
-    taken_all t (ap (λ r. following (n - len) last r) none)
-
-pub taken_to_a_mark : {n : ℕ} {items : List Item} {was : List ℕ} {first last : Item} {len : ℕ} {rest : List Item} {buf : List ℕ} → HasTaken n items was first last len rest buf → (next : Item) (left : List Item) → rest ≡ next ∷ left → goes_on last next ≡ false → TakesPiece n items was (record { len = len; begin = first.begin; end = last.end; run = first.run }) rest buf
-taken_to_a_mark {n} {items} {was} {first} {last} {len} {rest} {buf} t next left split stops =
-    taken_all t (ap (λ r. following (n - len) last r) split ∙ following_no (n - len) last next left stops)
-
--- what a read leaves
-pub left_behind : {n : ℕ} {tail : List Item} {was : List ℕ} {first last : Item} {len : ℕ} {rest : List Item} {buf : List ℕ} → HasTaken n (first ∷ tail) was first last len rest buf → rest ≡ drop (len - 1) tail
-left_behind {n} {tail} {was} {first} {last} {len} {rest} {buf} t =
-    let long : len - 1 ≡ length t.more = omega (arith, t.len_is) in
-    sym (ap (λ k. drop k tail) long ∙ ap (λ items. drop (length t.more) (drop 1 items)) t.items_are ∙ drop_at t.more rest (length t.more) refl)
+use Rattle.dt_items.specs.Unread.{goes_on, following, first_piece, last_item, octets_of, TakesPiece}
 
 -- a prefix of as many items as the piece has is the piece
 following_prefix : (n : ℕ) (before : Item) (items : List Item) → take (length (following n before items)) items ≡ following n before items
@@ -127,3 +33,43 @@ pub first_piece-fits : (n : ℕ) (items : List Item) → length (first_piece n i
 first_piece-fits n [] = omega arith
 first_piece-fits zero (item ∷ items) = omega arith
 first_piece-fits (suc n) (item ∷ items) = omega (arith, following_fits n item items)
+
+-- what a read of a buffer of m octets and one more does, where the first item and those behind it that
+-- go on its piece are written to its front
+pub takes : (m : ℕ) (first : Item) (rest : List Item) (was : List ℕ) (more : ℕ) (last : Item) (buf : List ℕ) → more ≡ length (following m first rest) → last ≡ last_item first (take more rest)
+    → buf ≡ first.octet ∷ (octets_of (take more rest) ++ drop (suc more) was)
+    → TakesPiece (suc m) (first ∷ rest) was (record { len = more + 1; begin = first.begin; end = last.end; run = first.run }) (drop more rest) buf
+takes m first rest was more last buf e l b =
+    let piece : take more rest ≡ following m first rest = ap (λ k. take k rest) e ∙ following_prefix m first rest in
+    let len : length (following m first rest) ≡ more = sym e in
+    let ended : (last_item first (following m first rest)).end ≡ last.end = ap (λ items. (last_item first items).end) (sym piece) ∙ ap (λ (item : Item). item.end) (sym l) in
+    record {
+      told = ap (λ k. Some (record { len = k + 1; begin = first.begin; end = (last_item first (following m first rest)).end; run = first.run })) len ∙ ap (λ z. Some (record { len = more + 1; begin = first.begin; end = z; run = first.run })) ended;
+      split = ap (λ items. first ∷ items) (sym (take-append-drop more rest) ∙ ap (λ items. items ++ drop more rest) piece);
+      octets = b ∙ ap (λ items. first.octet ∷ (octets_of items ++ drop (suc more) was)) piece ∙ ap (λ k. first.octet ∷ (octets_of (following m first rest) ++ drop (suc k) was)) e;
+    }
+
+-- the same where the first octet is written, and those of the others to the rest of the buffer
+pub takes_behind : (first : Item) (rest : List Item) (was : List ℕ) (more size : ℕ) (last : Item) (room : List ℕ) → 0 < length was → size ≡ length (set was 0 first.octet) - 1 → more ≡ length (following (length was - 1) first rest) → last ≡ last_item first (take more rest)
+    → room ≡ octets_of (take more rest) ++ drop more (take size (drop 1 (set was 0 first.octet)))
+    → TakesPiece (length was) (first ∷ rest) was (record { len = more + 1; begin = first.begin; end = last.end; run = first.run }) (drop (more + 1 - 1) rest) (take 1 (set was 0 first.octet) ++ (room ++ drop size (drop 1 (set was 0 first.octet))))
+takes_behind first rest [] more size last room some z e l b = absurd (omega arith)
+takes_behind first rest (w ∷ was) more size last room some z e l b =
+    let one : suc (length was) - 1 ≡ length was = omega arith in
+    let same : more + 1 - 1 ≡ more = omega arith in
+    let within : length was ≤ size = omega arith in
+    let written : room ++ drop size was ≡ octets_of (take more rest) ++ drop more was =
+    ap (λ r. room ++ r) (drop_all size was within) ∙ append-nil room ∙ b ∙ ap (λ r. octets_of (take more rest) ++ drop more r) (take_all size was within) in
+    subst (λ (k : ℕ). TakesPiece (suc (length was)) (first ∷ rest) (w ∷ was) (record { len = more + 1; begin = first.begin; end = last.end; run = first.run }) (drop k rest) (first.octet ∷ (room ++ drop size was))) (sym same)
+    (takes (length was) first rest (w ∷ was) more last (first.octet ∷ (room ++ drop size was)) (e ∙ ap (λ k. length (following k first rest)) one) l (ap (λ r. first.octet ∷ r) written))
+
+last_item-at : (first : Item) (items : List Item) (k : ℕ) (x : Item) → slice_get items k ≡ Some x → last_item first (take (suc k) items) ≡ x
+last_item-at first [] k x h = cc
+last_item-at first (item ∷ items) zero x h = cc
+last_item-at first (item ∷ items) (suc k) x h = last_item-at item items k x h
+
+pub last_item-is : (first : Item) (items : List Item) (more : ℕ) (x : Item) → 0 < more → slice_get items (more - 1) ≡ Some x → x ≡ last_item first (take more items)
+last_item-is first items zero x lt h = absurd (omega arith)
+last_item-is first items (suc k) x lt h =
+    let e : suc k - 1 ≡ k = omega arith in
+    sym (last_item-at first items k x (ap (slice_get items) (sym e) ∙ h))

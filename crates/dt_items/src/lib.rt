@@ -4,10 +4,12 @@
 
 mod item;
 mod memory;
+mod octets;
 mod piece;
 mod unread;
 
 pub use item::Item;
 pub use memory::NoMemory;
+pub use octets::{copy_octets, item_in, unmarked_from};
 pub use piece::Piece;
 pub use unread::{Queue, append_marked};

@@ -1,9 +1,10 @@
 ghost use Rattle.std.specs.Prelude.{◌≡◌, ◌+◌, ◌-◌, ◌^◌, ◌<◌, ◌≤◌, ◌↔◌, [], ◌∷◌, ◌++◌, drop, take, length, slice_get, slice_index, ◌==◌, ◌&&◌, IfOk, IfSome, IfNone, IsNone, IsSome};
 ghost use Rattle.circular_buffer.specs.Buffer.{buffer};
-ghost use Rattle.dt_items.specs.Unread.{Backlog, marked, unmarked, unmarked_item, octets_of, goes_on, first_piece, piece_told, IsLongestPiece, TakesPiece};
+ghost use Rattle.dt_items.specs.Unread.{Backlog, marked, unmarked, unmarked_item, octets_of, goes_on, first_piece, following, last_item, piece_told, IsLongestPiece, TakesPiece};
 
 use crate::item::Item;
 use crate::memory::NoMemory;
+use crate::octets::{copy_octets, item_in, unmarked_from};
 use crate::piece::Piece;
 use circular_buffer::HeapCircularBuffer;
 use std::alloc::Global;
@@ -32,6 +33,38 @@ fn goes_on(before: &Item, item: &Item) -> bool
     !(before.end || item.begin || item.run)
 }
 
+/// How many of the items, at most `most`, go on the piece of the item before them. Those without a
+/// mark do, and then one more whose only mark is the end mark.
+fn following_len(before: &Item, items: &HeapCircularBuffer<Item>, most: usize) -> usize
+    ensures value { result ≡ length (following most before.now items.now.items) }
+    ensures within { (result ≤ most) × (result ≤ length items.now.items) }
+{
+    if before.end {
+        return 0;
+    }
+    let count = unmarked_from(items, 0, most);
+    if count == most || count == items.len() {
+        return count;
+    }
+    if goes_on(before, &item_in(items, count)) {
+        count + 1
+    } else {
+        count
+    }
+}
+
+/// The last of the first item and of so many behind it.
+fn last_of(first: &Item, items: &HeapCircularBuffer<Item>, more: usize) -> Item
+    requires { more ≤ length items.now.items }
+    ensures { result ≡ last_item first.now (take more items.now.items) }
+{
+    if more == 0 {
+        *first
+    } else {
+        item_in(items, more - 1)
+    }
+}
+
 /// Copies the octets of the first item, and of those behind it that go on its piece, as many as fit, to
 /// the front of the buffer, and tells the piece.
 fn copy_piece(first: &Item, items: &HeapCircularBuffer<Item>, buf: &mut [u8]) -> Piece
@@ -40,21 +73,13 @@ fn copy_piece(first: &Item, items: &HeapCircularBuffer<Item>, buf: &mut [u8]) ->
         TakesPiece (length buf.old) (first.now ∷ items.now.items) buf.old result left buf.new }
     ensures within { (0 < result.len) × (result.len ≤ length items.now.items + 1) }
 {
+    let more = following_len(first, items, buf.len() - 1);
     buf[0] = first.octet;
-    let mut last = *first;
-    let mut len = 1;
-    for next in items.iter() {
-        if len == buf.len() || !goes_on(&last, next) {
-            break;
-        }
-        buf[len] = next.octet;
-        last = *next;
-        len += 1;
-    }
+    copy_octets(items, 0, more, &mut buf[1..]);
     Piece {
-        len,
+        len: more + 1,
         begin: first.begin,
-        end: last.end,
+        end: last_of(first, items, more).end,
         run: first.run,
     }
 }

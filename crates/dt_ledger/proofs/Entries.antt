@@ -1,75 +1,25 @@
--- The entries of the map under its calls are the model's table under the model's calls. A map tests the key that is asked for against an entry's, the model an entry's against the one that is asked for.
-use Rattle.std.proofs.Common.{ℕ, ◌≡◌, ◌==◌, Bool, true, false, List, [], ◌∷◌, Option, Some, None, Bor, is_some, refl, sym, ap, ◌∙◌, inl, inr, arith}
-use Rattle.std.specs.Prelude.{◌&&◌, OnSome, unwrap_or}
+-- The entries of the map under its calls are the model's table under the model's calls.
+use Rattle.std.proofs.Common.{◌≡◌, true, false, List, [], Option, Some, None, Result, OnErr, OnOk, Bor, is_some, refl, sym, ap, ◌∙◌}
+use Rattle.std.proofs.lemmas.Result.{on_err_weaker, on_ok_weaker}
+use Rattle.std.specs.Prelude.{OnSome, unwrap_or}
 use Rattle.std.specs.Borrow.{MutBor}
 use Rattle.std.specs.Option.{option_copied, option_copied_mut}
-use Rattle.std.specs.List.{AllByRecursion, IsDistinct}
-use Rattle.std.specs.Map.{keys_of, lookup, set_value}
-use Rattle.std.proofs.lemmas.Bool.{cases_Bool}
-use Rattle.std.proofs.lemmas.Bool.Decides.{nat_tests}
+use Rattle.std.specs.Map.{lookup, set_value}
 use Rattle.indexmap.specs.IndexMap.{insert_entry}
 use Rattle.dt_units.specs.declared.endpoints.Flow.{Flow}
 use Rattle.dt_world_model.specs.Ledgers.{FlowLedger}
-use Rattle.dt_world_model.specs.Tables.{Distinct, Lacks, look, same_flow, write}
+use Rattle.dt_world_model.specs.Tables.{look, same_flow, write}
+use Rattle.dt_world_model.proofs.Maps.{equal_flows, flow_inserted, flow_stays, flow_written}
 use Rattle.dt_world_model.proofs.Tables.{flow_is, flow_self, look_write}
 use Rattle.dt_ledger.specs.Flows.{ledger_in}
 
--- the equality of flows as it is derived
-abbrev pub equal_flows : Flow → Flow → Bool
-equal_flows f g = (f.from.0 == g.from.0) && ((f.from_port == g.from_port) && ((f.to.0 == g.to.0) && (f.to_port == g.to_port)))
-
-either_way : (m n : ℕ) → (m == n) ≡ (n == m)
-either_way m n = grind (arith, nat_tests)
-
-regrouped : (a b c d : Bool) → (a && (b && (c && d))) ≡ (((a && b) && c) && d)
-regrouped true true c d = refl
-regrouped true false c d = refl
-regrouped false b c d = refl
-
-flows_agree : (f g : Flow) → equal_flows f g ≡ same_flow g f
-flows_agree f g = rw (either_way f.from.0 g.from.0, either_way f.from_port g.from_port, either_way f.to.0 g.to.0, either_way f.to_port g.to_port) (regrouped (g.from.0 == f.from.0) (g.from_port == f.from_port) (g.to.0 == f.to.0) (g.to_port == f.to_port))
-
-pub look_found : (f : Flow) (es : List (Flow × FlowLedger)) → look same_flow f es ≡ lookup (equal_flows f) es
-look_found f [] = refl
-look_found f (e ∷ es) =
-    elim (cases_Bool (same_flow e.0 f)) [
-      | inl y ↦ let t : equal_flows f e.0 ≡ true = flows_agree f e.0 ∙ y in rw (y, t) refl
-      | inr other ↦ let t : equal_flows f e.0 ≡ false = flows_agree f e.0 ∙ other in rw (other, t) (look_found f es)
-    ]
-
-written : (f : Flow) (a b : FlowLedger) (es : List (Flow × FlowLedger)) → lookup (equal_flows f) es ≡ Some b → set_value (equal_flows f) es a ≡ write same_flow f a es
-written f a b [] h = absurd cc
-written f a b (e ∷ es) h =
-    elim (cases_Bool (same_flow e.0 f)) [
-      | inl y ↦ let t : equal_flows f e.0 ≡ true = flows_agree f e.0 ∙ y in rw (y, t) (ap (λ (g : Flow). (g, a) ∷ es) (flow_is e.0 f y))
-      | inr other ↦
-          let t : equal_flows f e.0 ≡ false = flows_agree f e.0 ∙ other in
-          let found : lookup (equal_flows f) es ≡ Some b = rw t at h in
-          rw (other, t) (ap (λ (r : List (Flow × FlowLedger)). e ∷ r) (written f a b es found))
-    ]
-
 pub inserted : (f : Flow) (a : FlowLedger) (es : List (Flow × FlowLedger)) → insert_entry equal_flows es f a ≡ write same_flow f a es
-inserted f a [] = refl
-inserted f a (e ∷ es) =
-    elim (cases_Bool (same_flow e.0 f)) [
-      | inl y ↦ let t : equal_flows f e.0 ≡ true = flows_agree f e.0 ∙ y in rw (y, t) (ap (λ (g : Flow). (g, a) ∷ es) (flow_is e.0 f y))
-      | inr other ↦ let t : equal_flows f e.0 ≡ false = flows_agree f e.0 ∙ other in rw (other, t) (ap (λ (r : List (Flow × FlowLedger)). e ∷ r) (inserted f a es))
-    ]
-
-lacks : (f : Flow) (es : List (Flow × FlowLedger)) → AllByRecursion (λ g. equal_flows f g ≡ false) (keys_of es) → Lacks same_flow f es
-lacks f [] h = tt
-lacks f (e ∷ es) h = (sym (flows_agree f e.0) ∙ h.0, lacks f es h.1)
-
--- keys that are distinct to the map are so to the model
-pub distinct : (es : List (Flow × FlowLedger)) → IsDistinct equal_flows (keys_of es) → Distinct same_flow es
-unfolding IsDistinct
-distinct [] h = tt
-distinct (e ∷ es) h = (lacks e.0 es h.0, distinct es h.1)
+inserted f a es = flow_inserted f (insert_entry equal_flows) (λ b. refl) (λ b e rest. refl) a es
 
 -- what is written through a loan of the map's value
 pub lent : (f : Flow) (r : Option (MutBor FlowLedger)) (w : FlowLedger) (es after : List (Flow × FlowLedger)) → option_copied_mut r ≡ lookup (equal_flows f) es → after ≡ set_value (equal_flows f) es w → OnSome r (after ≡ write same_flow f w es)
 lent f None w es after v e = tt
-lent f (Some b) w es after v e = e ∙ written f w b.now es (sym v)
+lent f (Some b) w es after v e = e ∙ flow_written f w b.now es (sym v)
 
 -- what holds of a loan holds where there is one
 pub on_some : {X P : Type 0} (r : Option X) (x : X) → r ≡ Some x → OnSome r P → P
@@ -85,30 +35,36 @@ changed change f old new l after there is e =
     e ∙ ap (λ (a : FlowLedger). write same_flow f a old) (is ∙ ap change (ledger_there f old l there))
 
 -- a flow that isn't there
-pub ledger_absent : (f : Flow) (rows : List (Flow × FlowLedger)) → None ≡ look same_flow f rows → record { taken = []; given = []; reads = [] } ≡ ledger_in rows f
+ledger_absent : (f : Flow) (rows : List (Flow × FlowLedger)) → None ≡ look same_flow f rows → record { taken = []; given = []; reads = [] } ≡ ledger_in rows f
 ledger_absent f rows e = ap (λ (o : Option FlowLedger). unwrap_or o (record { taken = []; given = []; reads = [] })) e
 
-pub all_stays : (f : Flow) (rows : List (Flow × FlowLedger)) (l : FlowLedger) → Some l ≡ look same_flow f rows → write same_flow f l rows ≡ rows
-all_stays f [] l e = absurd cc
-all_stays f (row ∷ rows) l e =
-    elim (cases_Bool (same_flow row.0 f)) [
-      | inl y ↦
-          let found : Some l ≡ Some row.1 = rw y at e in
-          let is : l ≡ row.1 = cc in
-          rw y (ap (λ (g : Flow). (g, l) ∷ rows) (sym (flow_is row.0 f y)) ∙ ap (λ (a : FlowLedger). (row.0, a) ∷ rows) is)
-      | inr other ↦
-          let found : Some l ≡ look same_flow f rows = rw other at e in
-          rw other (ap (λ (r : List (Flow × FlowLedger)). row ∷ r) (all_stays f rows l found))
-    ]
-
 -- where a call on the flow's ledger changes it, or leaves it
-pub unchanged : (f : Flow) (old new : List (Flow × FlowLedger)) (l after : FlowLedger) → Some l ≡ look same_flow f old → after ≡ l → new ≡ write same_flow f after old → new ≡ old
-unchanged f old new l after there is e = e ∙ ap (λ (a : FlowLedger). write same_flow f a old) is ∙ all_stays f old l there
+unchanged : (f : Flow) (old new : List (Flow × FlowLedger)) (l after : FlowLedger) → Some l ≡ look same_flow f old → after ≡ l → new ≡ write same_flow f after old → new ≡ old
+unchanged f old new l after there is e = e ∙ ap (λ (a : FlowLedger). write same_flow f a old) is ∙ flow_stays f l old (sym there)
+
+-- A CALL ON THE LEDGER OF A FLOW, over plain variables
+module _ (change : FlowLedger → FlowLedger) (f : Flow) (old : List (Flow × FlowLedger)) where
+  -- the flow is there, and the call goes by a loan of its ledger
+  module _ {B T E : Type 0} (r : Result T E) (loan : Option B) (b : B) (l after : FlowLedger) (new : List (Flow × FlowLedger)) (is : loan ≡ Some b) (wrote : OnSome loan (new ≡ write same_flow f after old)) (there : Some l ≡ look same_flow f old) where
+    pub there_ok : OnOk r (after ≡ change l) → OnOk r (new ≡ write same_flow f (change (ledger_in old f)) old)
+    there_ok h = on_ok_weaker r (λ e. changed change f old new l after there e (on_some loan b is wrote)) h
+
+    pub there_err : OnErr r (after ≡ l) → OnErr r (new ≡ old)
+    there_err h = on_err_weaker r (λ e. unchanged f old new l after there e (on_some loan b is wrote)) h
+
+  -- it isn't, and comes behind all others with what the call makes of an empty ledger
+  pub absent_ok : (first after : FlowLedger) (inside new : List (Flow × FlowLedger)) → None ≡ look same_flow f old → first ≡ record { taken = []; given = []; reads = [] } → after ≡ change first → inside ≡ old → new ≡ insert_entry equal_flows inside f after
+      → new ≡ write same_flow f (change (ledger_in old f)) old
+  absent_ok first after inside new none is made same e =
+      e
+      ∙ inserted f after inside
+      ∙ ap (λ (rows : List (Flow × FlowLedger)). write same_flow f after rows) same
+      ∙ ap (λ (l : FlowLedger). write same_flow f l old) (made ∙ ap change (is ∙ ledger_absent f old none))
 
 -- a flow that is there is written as it was
 pub begun_already : (f : Flow) (r : Option (Bor FlowLedger)) (rows : List (Flow × FlowLedger)) → option_copied r ≡ look same_flow f rows → true ≡ is_some r → rows ≡ write same_flow f (ledger_in rows f) rows
 begun_already f None rows v e = absurd cc
-begun_already f (Some b) rows v e = sym (all_stays f rows b.now v) ∙ ap (λ (l : FlowLedger). write same_flow f l rows) (ledger_there f rows b.now v)
+begun_already f (Some b) rows v e = sym (flow_stays f b.now rows (sym v)) ∙ ap (λ (l : FlowLedger). write same_flow f l rows) (ledger_there f rows b.now v)
 
 -- of one that isn't there nothing is found
 pub none_there : (f : Flow) (r : Option (Bor FlowLedger)) (rows : List (Flow × FlowLedger)) → option_copied r ≡ look same_flow f rows → false ≡ is_some r → None ≡ look same_flow f rows

@@ -20,12 +20,11 @@ use Rattle.dt_reports.specs.declared.faults.StepFault.TheVariants as step_faults
 use Rattle.dt_reports.specs.declared.faults.Refusal.{Refusal}
 use Rattle.dt_reports.specs.declared.faults.Refusal.TheVariants as refusals
 use Rattle.dt_reports.specs.declared.reports.Report.TheVariants as reports
-use Rattle.dt_reports.specs.declared.flow_totals.Totals.{Totals}
 use Rattle.dt_reports.specs.Told.{Told}
 use Rattle.dt_reports.specs.Entries.{Entry}
 use Rattle.dt_log.specs.Words.{Text, endpoint_text, flow_text, hex_text, sent_letters, read_letters, record_text, run_text, spaced}
 use Rattle.dt_log.specs.FaultWords.{refusal_words, layout_fault_words, field_text, line_fault_text, setup_fault_words, step_fault_words, fault_words}
-use Rattle.dt_log.specs.LogLines.{at_node, totals_words, line_words}
+use Rattle.dt_log.specs.LogLines.{node_words, line_words}
 use Rattle.dt_log.specs.Logs.{entry_words, log_text}
 
 -- each octet of the text is above this one
@@ -207,62 +206,72 @@ fault_are (faults.Step fault) = step_are fault
 
 -- LINES
 
-told_at : (moment : ℕ) (teller : Option ℕ) (words : List Text) → AreWords words → IsWords (at_node moment teller words)
-told_at moment None words h = (number_word moment, h)
-told_at moment (Some node) words h = (number_word moment, (number_word node, h))
+-- of these the search finds the words of a line one by one
+record Word (text : Text) : Type 0 where
+  is : IsWord text
 
--- a name, a flow and more words
-of_flow : (moment : ℕ) (teller : Option ℕ) (name : Text) (flow : Flow) (words : List Text) → is_word name ≡ true → AreWords words → IsWords (at_node moment teller (name ∷ flow_text flow ∷ words))
-of_flow moment teller name flow words h more = told_at moment teller (name ∷ flow_text flow ∷ words) (as_it_stands name h, (flow_word flow, more))
+record Words (words : List Text) : Type 0 where
+  are : AreWords words
 
--- a name and more words
-of_name : (moment : ℕ) (teller : Option ℕ) (name : Text) (words : List Text) → is_word name ≡ true → AreWords words → IsWords (at_node moment teller (name ∷ words))
-of_name moment teller name words h more = told_at moment teller (name ∷ words) (as_it_stands name h, more)
+record Line (words : List Text) : Type 0 where
+  are : IsWords words
 
--- two numbers and a mark
-segment : (number length : ℕ) (mark : Text) → IsWord mark → AreWords (decimal number ∷ decimal length ∷ mark ∷ [])
-segment number length mark h = (number_word number, (number_word length, (h, tt)))
+line : (word : Text) (words : List Text) → Word word → Words words → Line (word ∷ words)
+line word words h more = record { are = (h.is, more.are) }
 
-totals_are : (flow : Flow) (t : Totals) → IsWords (totals_words flow t)
-totals_are flow t = (as_it_stands (codes "flow") refl, (flow_word flow, (as_it_stands (codes "taken") refl, (number_word t.taken, (as_it_stands (codes "acked") refl, (number_word t.acked, (as_it_stands (codes "uncertain") refl, (number_word t.uncertain, (as_it_stands (codes "open") refl, (number_word t.unsettled, (as_it_stands (codes "given") refl, (number_word t.given, (as_it_stands (codes "read") refl, (number_word t.read, tt))))))))))))))
+none : Words []
+none = record { are = tt }
 
-line_are : (moment : ℕ) (teller : Option ℕ) (told : Told) → IsWords (line_words moment teller told)
-line_are moment teller (reports.Took flow count) = of_flow moment teller (codes "took") flow _ refl (numbers1 count)
-line_are moment teller (reports.Refused flow fault) = of_flow moment teller (codes "refused") flow _ refl (refusal_are fault)
-line_are moment teller (reports.Sent flow number length drf begin end) = of_flow moment teller (codes "sent") flow _ refl (segment number length _ (sent_word drf begin end))
-line_are moment teller (reports.Resent flow number length drf begin end) = of_flow moment teller (codes "resent") flow _ refl (segment number length _ (sent_word drf begin end))
-line_are moment teller (reports.Met flow number) = of_flow moment teller (codes "met") flow _ refl (numbers1 number)
-line_are moment teller (reports.Uncertain flow count) = of_flow moment teller (codes "uncertain") flow _ refl (numbers1 count)
-line_are moment teller (reports.Released flow sending) = of_flow moment teller (codes "released") flow _ refl (record_word sending, tt)
-line_are moment teller (reports.Renewed flow) = of_flow moment teller (codes "renewed") flow _ refl tt
-line_are moment teller (reports.Acked flow number window) = of_flow moment teller (codes "acked") flow _ refl (numbers2 number window)
-line_are moment teller (reports.Replied flow number window) = of_flow moment teller (codes "replied") flow _ refl (numbers2 number window)
-line_are moment teller (reports.Accepted flow number length run) = of_flow moment teller (codes "accepted") flow _ refl (segment number length _ (run_word run))
-line_are moment teller (reports.Dropped flow number) = of_flow moment teller (codes "dropped") flow _ refl (numbers1 number)
-line_are moment teller (reports.Closing flow number) = of_flow moment teller (codes "closing") flow _ refl (numbers1 number)
-line_are moment teller (reports.Settled flow count window) = of_flow moment teller (codes "settled") flow _ refl (numbers2 count window)
-line_are moment teller (reports.Ignored flow number window) = of_flow moment teller (codes "ignored") flow _ refl (numbers2 number window)
-line_are moment teller (reports.Quiet until) = of_name moment teller (codes "quiet") _ refl (numbers1 until)
-line_are moment teller (reports.Read flow run begin end octets) = of_flow moment teller (codes "read") flow _ refl (read_word run begin end, (hex_word octets.now, tt))
-line_are moment teller (reports.Nothing flow) = of_flow moment teller (codes "nothing") flow _ refl tt
-line_are moment teller (reports.Put link life) = of_name moment teller (codes "put") _ refl (numbers2 link life)
-line_are moment teller (reports.PutAs link life copy) = of_name moment teller (codes "put") _ refl (number_word link, (number_word life, named (codes "as") copy refl))
-line_are moment teller (reports.ExpiredIn link) = of_name moment teller (codes "expired") _ refl (named (codes "in") link refl)
-line_are moment teller (reports.ExpiredOut link) = of_name moment teller (codes "expired") _ refl (named (codes "out") link refl)
-line_are moment teller (reports.NoRoute to) = of_name moment teller (codes "noroute") _ refl (numbers1 to)
-line_are moment teller (reports.Full link) = of_name moment teller (codes "full") _ refl (numbers1 link)
-line_are moment teller (reports.Bad fault) = of_name moment teller (codes "bad") _ refl (layout_are fault)
-line_are moment teller (reports.Unsent link) = of_name moment teller (codes "unsent") _ refl (numbers1 link)
-line_are moment teller (reports.Shelved flow number) = of_flow moment teller (codes "shelved") flow _ refl (numbers1 number)
-line_are moment teller (reports.NoShelf flow number) = of_flow moment teller (codes "noshelf") flow _ refl (numbers1 number)
-line_are moment teller (reports.Again flow number) = of_flow moment teller (codes "again") flow _ refl (numbers1 number)
-line_are moment teller (reports.Stale flow number) = of_flow moment teller (codes "stale") flow _ refl (numbers1 number)
-line_are moment teller (reports.Restarted life) = of_name moment teller (codes "restarted") _ refl (numbers1 life)
-line_are moment teller (reports.Lost copy) = (number_word moment, named (codes "lost") copy refl)
-line_are moment teller (reports.FlowTotals flow taken acked uncertain unsettled given read) =
-    totals_are flow (record { taken = taken; acked = acked; uncertain = uncertain; unsettled = unsettled; given = given; read = read })
-line_are moment teller reports.End = (as_it_stands (codes "end") refl, numbers1 moment)
-line_are moment teller (reports.Fault line fault) = (as_it_stands (codes "line") refl, (above_append 32 (decimal line) (codes ":") (number_word line) (as_it_stands (codes ":") refl), fault_are fault))
+some : (word : Text) (words : List Text) → Word word → Words words → Words (word ∷ words)
+some word words h more = record { are = (h.is, more.are) }
+
+-- behind the word of the node, where a node tells the line
+behind : (teller : Option ℕ) (words : List Text) → Words words → Words (node_words teller ++ words)
+behind None words h = h
+behind (Some node) words h = record { are = (number_word node, h.are) }
+
+stood : (text : Text) → is_word text ≡ true → Word text
+stood text h = record { is = as_it_stands text h }
+
+number : (n : ℕ) → Word (decimal n)
+number n = record { is = number_word n }
+
+of_line : (n : ℕ) → Word (decimal n ++ codes ":")
+of_line n = record { is = above_append 32 (decimal n) (codes ":") (number_word n) (as_it_stands (codes ":") refl) }
+
+flow : (f : Flow) → Word (flow_text f)
+flow f = record { is = flow_word f }
+
+hex : (octets : List ℕ) → Word (hex_text octets)
+hex octets = record { is = hex_word octets }
+
+sent : (drf begin end : Bool) → Word (sent_letters drf begin end)
+sent drf begin end = record { is = sent_word drf begin end }
+
+read : (run begin end : Bool) → Word (read_letters run begin end)
+read run begin end = record { is = read_word run begin end }
+
+released : (sending : Bool) → Word (record_text sending)
+released sending = record { is = record_word sending }
+
+run : (run : Bool) → Word (run_text run)
+run mark = record { is = run_word mark }
+
+refused : (refusal : Refusal) → Words (refusal_words refusal)
+refused refusal = record { are = refusal_are refusal }
+
+bad : (fault : LayoutFault) → Words (layout_fault_words fault)
+bad fault = record { are = layout_are fault }
+
+faulty : (fault : Fault) → Words (fault_words fault)
+faulty fault = record { are = fault_are fault }
+
+ruleset words = (line, none, some, behind, stood, number, of_line, flow, hex, sent, read, released, run, refused, bad, faulty)
+
+-- The last clause has each line that isn't named before.
+line_are : (moment : ℕ) (teller : Option ℕ) (told : Told) → Line (line_words moment teller told)
+line_are moment teller reports.End = search (words, refl) depth 24
+line_are moment teller told = search (words, refl) depth 24
 
 -- CUTTING
 
@@ -298,12 +307,12 @@ are_words [] h = tt
 are_words (word ∷ words) h = h
 
 pub words_again : (entry : Entry) → slice_split (λ octet. octet == 32) (spaced (entry_words entry)) ≡ entry_words entry
-words_again entry = words_cut (entry_words entry) (line_are entry.moment entry.node entry.told)
+words_again entry = words_cut (entry_words entry) (line_are entry.moment entry.node entry.told).are
 
 pub lines_again : (entries : List Entry) → slice_split (λ octet. octet == 10) (log_text entries) ≡ map (λ entry. spaced (entry_words entry)) entries ++ [] ∷ []
 lines_again [] = refl
 lines_again (entry ∷ entries) =
     let line = spaced (entry_words entry) in
     ap (slice_split (λ octet. octet == 10)) (append_assoc line (codes "\n") (log_text entries))
-    ∙ cut_first 10 line (log_text entries) (in_line (entry_words entry) (are_words (entry_words entry) (line_are entry.moment entry.node entry.told)))
+    ∙ cut_first 10 line (log_text entries) (in_line (entry_words entry) (are_words (entry_words entry) (line_are entry.moment entry.node entry.told).are))
     ∙ ap (λ rest. line ∷ rest) (lines_again entries)

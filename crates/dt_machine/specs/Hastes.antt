@@ -10,6 +10,10 @@ first_haste = record { soon = 0; vain = 3; wait = 50000 }
 abbrev pub is_brisk : Haste → Bool
 is_brisk h = nat_lt h.vain h.soon
 
+-- the last wait brought a datagram that came soon
+abbrev pub came_soon : Haste → Bool
+came_soon h = nat_lt 0 h.soon
+
 -- after looks in vain: they weigh twice as much and one more, 1,023 at most, and no datagram came soon
 abbrev pub missed : Haste → Haste
 missed h = record { soon = 0; vain = min (h.vain * 2 + 1) 1023; wait = 50000 }

@@ -1,6 +1,6 @@
 //! Whether it pays to look for a datagram again and again before it is waited for.
 ghost use Rattle.std.specs.Prelude.{◌≡◌, ◌<◌, false};
-ghost use Rattle.dt_machine.specs.Hastes.{first_haste, is_brisk, met, missed, rested, waited};
+ghost use Rattle.dt_machine.specs.Hastes.{came_soon, first_haste, is_brisk, met, missed, rested, waited};
 
 /// How long after the begin of a take a datagram still comes soon, in nanoseconds: 50 microseconds.
 pub const SOON: u64 = 50_000;
@@ -44,6 +44,13 @@ impl Haste {
         ensures { result ≡ is_brisk self }
     {
         self.vain < self.soon
+    }
+
+    /// Whether the last wait brought a datagram that came soon.
+    pub fn came_soon(self) -> bool
+        ensures came { result ≡ came_soon self }
+    {
+        0 < self.soon
     }
 
     /// After looks that found something so many nanoseconds after the take's begin. Where the waits were

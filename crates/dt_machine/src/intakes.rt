@@ -19,11 +19,14 @@ use std::{io, time};
 /// How many nanoseconds a millisecond has.
 const MILLISECOND: u64 = 1_000_000;
 
-/// How long the socket may not have been found empty before it is emptied, in nanoseconds: 4 ms.
-const PERIOD: u64 = 4 * MILLISECOND;
+/// How long the socket may not have been found empty before it is emptied, in nanoseconds: 1 ms.
+const PERIOD: u64 = MILLISECOND;
 
 /// The longest single wait for a datagram, in milliseconds: at its end it is known that none came.
 const LONGEST_WAIT: u64 = 5;
+
+/// How long a take is at least that begins with a sleep, in nanoseconds: a sleep may last half as long.
+const SLEEPY: u64 = 20 * MILLISECOND;
 
 /// How many datagrams are looked at when the socket is emptied, at most.
 const MOST_LOOKS: u32 = 1024;
@@ -36,6 +39,13 @@ const MOST_ROUNDS: u32 = 1024;
 
 /// How often a take looks before it waits, at most, also where the machine's clock stands still.
 const MOST_SOON: u32 = 1024;
+
+/// When a take began, and until when it waits, in nanoseconds.
+#[derive(Clone, Copy)]
+pub struct Span {
+    begun: u64,
+    until: u64,
+}
 
 /// What is known of the datagrams of a socket.
 #[derive(Drop)]
@@ -118,7 +128,7 @@ impl Intake {
         peers: &[Peer],
         now: u64,
         buf: &mut [u8],
-    ) -> io::Result<()>
+    )
         requires { All (λ p. p.link ≤ 255) peers.now }
         ensures same_room { length buf.new ≡ length buf.old }
     {
@@ -128,7 +138,7 @@ impl Intake {
             if !self.backlog.has_room(buf.len()) {
                 break;
             }
-            match socket.look(buf)? {
+            match socket.look(buf) {
                 Look::Datagram { from, count } => {
                     if let Some(link) = link_of(peers, from) {
                         self.backlog.keep(link, &buf[..count], self.empty);
@@ -143,7 +153,6 @@ impl Intake {
                 }
             }
         }
-        Ok(())
     }
 
     /// A datagram that is there without waiting: the backlog's, or the socket's where it is emptied.
@@ -153,20 +162,20 @@ impl Intake {
         peers: &[Peer],
         now: u64,
         buf: &mut [u8],
-    ) -> io::Result<Option<(u64, u16, usize)>>
+    ) -> Option<(u64, u16, usize)>
         requires { All (λ p. p.link ≤ 255) peers.now }
-        ensures link { IfOk result (λ t. IfSome t (λ d. d.1 ≤ 255)) }
-        ensures within { IfOk result (λ t. IfSome t (λ d. d.2 ≤ length buf.old)) }
+        ensures link { IfSome result (λ d. d.1 ≤ 255) }
+        ensures within { IfSome result (λ d. d.2 ≤ length buf.old) }
         ensures same_room { length buf.new ≡ length buf.old }
     {
         if let Some(found) = self.fresh(now, buf) {
-            return Ok(Some(found));
+            return Some(found);
         }
         if !self.crowded && now.saturating_sub(self.empty) < PERIOD {
-            return Ok(None);
+            return None;
         }
-        self.empty_socket(socket, peers, now, buf)?;
-        Ok(self.fresh(socket.now(), buf))
+        self.empty_socket(socket, peers, now, buf);
+        self.fresh(socket.now(), buf)
     }
 
     /// The datagram that a look found, if it did, by the moment `now`. None where it is a stranger's, or
@@ -190,37 +199,71 @@ impl Intake {
         Some((now, link, count))
     }
 
-    /// Waits for a datagram until the moment `until`, from the moment `now` on. None as of a take.
+    /// Whether a take may sleep at first: the last datagram came soon, so that one is likely to end the
+    /// sleep, and a sleep is far shorter than the take.
+    fn may_sleep(&self, span: Span) -> bool {
+        self.haste.came_soon() && span.until.saturating_sub(span.begun) >= SLEEPY
+    }
+
+    /// Waits for a datagram until the end of a take. None as of a take.
     fn wait_for<R: Net + time::Clock>(
         &mut self,
         socket: &Socket<'_, R>,
         peers: &[Peer],
-        now: u64,
-        until: u64,
+        span: Span,
         buf: &mut [u8],
     ) -> io::Result<Option<(u64, u16, usize)>>
         requires { All (λ p. p.link ≤ 255) peers.now }
         ensures link { IfOk result (λ t. IfSome t (λ d. d.1 ≤ 255)) }
         ensures within { IfOk result (λ t. IfSome t (λ d. d.2 ≤ length buf.old)) }
     {
-        let mut now = now;
+        let mut now = span.begun;
+        if self.may_sleep(span) {
+            if let Some(found) = self.sleep(socket, peers, now, buf)? {
+                return Ok(Some(found));
+            }
+        }
         for _ in 0..MOST_ROUNDS {
-            let rest = until.saturating_sub(now).div_ceil(MILLISECOND);
+            let rest = span.until.saturating_sub(now).div_ceil(MILLISECOND);
             if rest == 0 {
                 return Ok(None);
             }
             let wait = rest.min(LONGEST_WAIT);
             if socket.wait(wait as u16) {
-                let look = socket.look(buf)?;
+                let look = socket.sleep(buf)?;
                 return Ok(self.judged(look, socket.now(), peers));
             }
             self.empty = now.saturating_add(wait * MILLISECOND);
             now = socket.now();
-            if let Some(found) = self.at_hand(socket, peers, now, buf)? {
+            if let Some(found) = self.at_hand(socket, peers, now, buf) {
                 return Ok(Some(found));
             }
         }
         Ok(None)
+    }
+
+    /// Sleeps until a datagram comes, some milliseconds at most, where the take began at the moment `begun`.
+    /// That is one call of the machine in place of the three of a look, a wait and a look.
+    fn sleep<R: Net + time::Clock>(
+        &mut self,
+        socket: &Socket<'_, R>,
+        peers: &[Peer],
+        begun: u64,
+        buf: &mut [u8],
+    ) -> io::Result<Option<(u64, u16, usize)>>
+        requires { All (λ p. p.link ≤ 255) peers.now }
+        ensures link { IfOk result (λ t. IfSome t (λ d. d.1 ≤ 255)) }
+        ensures within { IfOk result (λ t. IfSome t (λ d. d.2 ≤ length buf.old)) }
+        ensures same_room { length buf.new ≡ length buf.old }
+    {
+        let look = socket.sleep(buf)?;
+        let now = socket.now();
+        if look == Look::Empty {
+            // (it was empty at the sleep's end, which is later)
+            self.empty = begun;
+            return Ok(None);
+        }
+        Ok(self.judged(look, now, peers))
     }
 
     /// Looks for a datagram, where the take began at the moment `begun`: once, and where the last ones came
@@ -230,13 +273,13 @@ impl Intake {
         socket: &Socket<'_, R>,
         begun: u64,
         buf: &mut [u8],
-    ) -> io::Result<Look>
-        ensures within { IfOk result (IsLook (length buf.old)) }
+    ) -> Look
+        ensures within { IsLook (length buf.old) result }
         ensures same_room { length buf.new ≡ length buf.old }
     {
-        let look = self.look_once(socket, begun, buf)?;
+        let look = self.look_once(socket, begun, buf);
         if look != Look::Empty || !self.haste.is_brisk() {
-            return Ok(look);
+            return look;
         }
         for _ in 0..MOST_SOON {
             let now = socket.now();
@@ -244,14 +287,14 @@ impl Intake {
             if took > SOON {
                 break;
             }
-            let look = self.look_once(socket, now, buf)?;
+            let look = self.look_once(socket, now, buf);
             if look != Look::Empty {
                 self.haste = self.haste.met(took);
-                return Ok(look);
+                return look;
             }
         }
         self.haste = self.haste.missed();
-        Ok(Look::Empty)
+        Look::Empty
     }
 
     /// Looks for a datagram once, after the moment `now`.
@@ -260,15 +303,15 @@ impl Intake {
         socket: &Socket<'_, R>,
         now: u64,
         buf: &mut [u8],
-    ) -> io::Result<Look>
-        ensures within { IfOk result (IsLook (length buf.old)) }
+    ) -> Look
+        ensures within { IsLook (length buf.old) result }
         ensures same_room { length buf.new ≡ length buf.old }
     {
-        let look = socket.look(buf)?;
+        let look = socket.look(buf);
         if look == Look::Empty {
             self.empty = now;
         }
-        Ok(look)
+        look
     }
 
     /// Waits for a datagram, so many milliseconds, which aren't 0: the moment at which it is handed over,
@@ -287,15 +330,18 @@ impl Intake {
         ensures within { IfOk result (λ t. IfSome t (λ d. d.2 ≤ length buf.old)) }
     {
         let begun = socket.now();
-        if let Some(found) = self.at_hand(socket, peers, begun, buf)? {
+        if let Some(found) = self.at_hand(socket, peers, begun, buf) {
             return Ok(Some(found));
         }
-        let look = self.look_soon(socket, begun, buf)?;
-        if look != Look::Empty {
-            return Ok(self.judged(look, socket.now(), peers));
-        }
         let until = begun.saturating_add(u64::from(wait_ms) * MILLISECOND);
-        let found = self.wait_for(socket, peers, begun, until, buf)?;
+        let span = Span { begun, until };
+        if self.haste.is_brisk() || !self.may_sleep(span) {
+            let look = self.look_soon(socket, begun, buf);
+            if look != Look::Empty {
+                return Ok(self.judged(look, socket.now(), peers));
+            }
+        }
+        let found = self.wait_for(socket, peers, span, buf)?;
         self.haste = match found {
             Some((moment, _, _)) => self.haste.waited(moment.saturating_sub(begun)),
             None => self.haste.rested(),

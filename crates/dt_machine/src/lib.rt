@@ -8,6 +8,7 @@ mod hastes;
 mod intakes;
 mod machine_clock;
 mod moments;
+mod names;
 mod peers;
 mod sockets;
 mod udp_wire;

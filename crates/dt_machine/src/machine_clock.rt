@@ -39,8 +39,11 @@ impl<'a, R: time::Clock> Clock for MachineClock<'a, R> {
     /// is that of the moment at which it did. Where the machine's clocks fail it is the last reading
     /// again, or 0 where there was none.
     fn now(&mut self) -> u64 {
-        let found = self.moments.take_found();
-        if let Some(now) = found.or(uptime(self.rt)) {
+        let now = match self.moments.take_found() {
+            Some(found) => Some(found),
+            None => uptime(self.rt),
+        };
+        if let Some(now) = now {
             self.moments.note_read(now);
             match self.first {
                 Some(first) => self.last = now.saturating_sub(first) / MILLISECOND,

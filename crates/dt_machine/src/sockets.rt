@@ -2,17 +2,30 @@
 ghost use Rattle.std.specs.Prelude.{◌≡◌, length, IfOk};
 ghost use Rattle.dt_machine.specs.Looks.{IsLook};
 
+use crate::names::{Name, address_in, name_of};
 use crate::uptime::uptime;
 use dt_edges::Address;
-use libc::net::{POLLIN, POLLOUT, poll};
+use libc::net::{
+    MSG_DONTWAIT, MSG_NOSIGNAL, POLLIN, POLLOUT, SO_RCVBUF, SOL_SOCKET, poll, recvfrom, sendto,
+    setsockopt,
+};
 use libc::types::pollfd;
 use std::io::ErrorKind;
 use std::net::{Ipv4Addr, Net, SocketAddr, UdpSocket};
 use std::os::fd::AsRawFd;
+use std::time::Duration;
 use std::{io, time};
 
 /// How long a send waits for room in the machine at most, in milliseconds: what is given later isn't sent.
 const LONGEST_SEND: i32 = 20;
+
+/// How long a sleep is at most, in milliseconds. The kernel goes by its own ticks and sleeps up to two of
+/// them, which are 4 ms or less each.
+const SLEEP: u64 = 1;
+
+/// How many octets the kernel is asked to keep for the socket: what comes in 20 ms at a hundred thousand
+/// datagrams a second. It keeps no more than its own limit.
+const KEPT: i32 = 2_097_152;
 
 /// What a look into a socket found.
 #[derive(Clone, Copy, Debug, PartialEq, Eq)]
@@ -25,29 +38,26 @@ pub enum Look {
     Empty,
 }
 
-/// What became of a datagram that was sent.
-#[derive(Clone, Copy, Debug, PartialEq, Eq)]
-pub enum Sent {
-    /// All its octets left.
-    Whole,
-    /// The machine had no room for it.
-    NoRoom,
-    /// The machine's call failed.
-    Failed,
-}
-
-/// A UDP socket whose reads and sends don't wait.
+/// A UDP socket, whose sleeps alone wait.
 #[derive(Drop)]
 pub struct Socket<'a, R> {
     rt: &'a R,
     socket: UdpSocket,
 }
 
+/// Asks the kernel to keep so many octets for a socket. Where it refuses, it keeps as many as before.
+fn keep_octets(fd: i32, count: i32) {
+    let mut value = [0u8; 16];
+    value[..4].copy_from_slice(&count.to_ne_bytes());
+    let _ = unsafe { setsockopt(fd, SOL_SOCKET, SO_RCVBUF, &value, 4) };
+}
+
 impl<'a, R: Net + time::Clock> Socket<'a, R> {
     /// A socket that has the address.
     pub fn bind(rt: &'a R, local: Address) -> io::Result<Self> {
         let socket = UdpSocket::bind(rt, socket_address(local))?;
-        socket.set_nonblocking(true)?;
+        socket.set_read_timeout(Some(Duration::from_millis(SLEEP)))?;
+        keep_octets(socket.as_raw_fd(), KEPT);
         Ok(Socket { rt, socket })
     }
 
@@ -56,9 +66,29 @@ impl<'a, R: Net + time::Clock> Socket<'a, R> {
         uptime(self.rt).unwrap_or(0)
     }
 
-    /// Looks for a datagram without waiting. A longer one is cut to the buffer. Fails where the
-    /// machine's call does.
-    pub fn look(&self, buf: &mut [u8]) -> io::Result<Look>
+    /// Looks for a datagram without waiting. A longer one is cut to the buffer. A call that fails finds
+    /// nothing: why it failed is told by a sleep.
+    pub fn look(&self, buf: &mut [u8]) -> Look
+        ensures within { IsLook (length buf.old) result }
+        ensures same_room { length buf.new ≡ length buf.old }
+    {
+        let mut name: Name = [0; 128];
+        let mut len = 128;
+        let fd = self.socket.as_raw_fd();
+        let got = unsafe { recvfrom(fd, buf, MSG_DONTWAIT, &mut name, &mut len) };
+        if got < 0 {
+            return Look::Empty;
+        }
+        let count = got as usize;
+        match address_in(&name) {
+            Some(from) => Look::Datagram { from, count },
+            None => Look::Other,
+        }
+    }
+
+    /// Sleeps until there is a datagram to take, some milliseconds at most. A longer one is cut to the
+    /// buffer. Nothing says that the socket was empty at its end. Fails where the machine's call does.
+    pub fn sleep(&self, buf: &mut [u8]) -> io::Result<Look>
         ensures within { IfOk result (IsLook (length buf.old)) }
         ensures same_room { length buf.new ≡ length buf.old }
     {
@@ -89,7 +119,7 @@ impl<'a, R: Net + time::Clock> Socket<'a, R> {
     }
 
     /// Waits for a datagram, at most so many milliseconds. False says that the socket was empty at
-    /// their end. True comes where there is something to look at, or a signal ended the wait.
+    /// their end. True comes where there is something to take, or a signal ended the wait.
     pub fn wait(&self, wait_ms: u16) -> bool {
         self.wait_for(POLLIN, i32::from(wait_ms))
     }
@@ -99,13 +129,13 @@ impl<'a, R: Net + time::Clock> Socket<'a, R> {
         self.wait_for(POLLOUT, LONGEST_SEND);
     }
 
-    /// Sends the octets to the address without waiting.
-    pub fn send(&self, address: Address, octets: &[u8]) -> Sent {
-        match self.socket.send_to(octets, socket_address(address)) {
-            Ok(count) if count == octets.len() => Sent::Whole,
-            Err(fault) if fault.kind() == ErrorKind::WouldBlock => Sent::NoRoom,
-            Ok(_) | Err(_) => Sent::Failed,
-        }
+    /// Sends the octets to the address without waiting, and says whether all of them left.
+    pub fn send(&self, address: Address, octets: &[u8]) -> bool {
+        let name = name_of(address);
+        let fd = self.socket.as_raw_fd();
+        let flags = MSG_DONTWAIT | MSG_NOSIGNAL;
+        let count = unsafe { sendto(fd, octets, flags, &name, 16) };
+        count >= 0 && count as usize == octets.len()
     }
 }
 

@@ -4,7 +4,7 @@ ghost use Rattle.dt_machine.specs.Waits.{may_have_waited};
 use crate::intakes::Intake;
 use crate::moments::Moments;
 use crate::peers::address_of;
-use crate::sockets::{Sent, Socket};
+use crate::sockets::Socket;
 use crate::waits::may_have_waited;
 use dt_edges::{Address, Failed, Peer, Wire};
 use dt_items::NoMemory;
@@ -85,8 +85,8 @@ fn bound<'a, R: Net + time::Clock>(
     Socket::bind(rt, local).ok()
 }
 
-/// Sends a datagram, and waits for room where there is none. Whether it left before the last reading was
-/// longer past than 20 ms.
+/// Sends a datagram, and where it doesn't leave once more, after a wait for room. Whether it left before the
+/// last reading was longer past than 20 ms.
 fn send_soon<R: Net + time::Clock>(
     socket: &Socket<'_, R>,
     moments: &Moments,
@@ -96,12 +96,11 @@ fn send_soon<R: Net + time::Clock>(
     if is_late(moments.last_read(), socket.now()) {
         return false;
     }
-    let sent = socket.send(address, octets);
-    if sent != Sent::NoRoom {
-        return sent == Sent::Whole;
+    if socket.send(address, octets) {
+        return true;
     }
     socket.wait_for_room();
-    !is_late(moments.last_read(), socket.now()) && socket.send(address, octets) == Sent::Whole
+    !is_late(moments.last_read(), socket.now()) && socket.send(address, octets)
 }
 
 impl<'a, R> Model for UdpWire<'a, R> {

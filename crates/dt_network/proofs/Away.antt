@@ -8,7 +8,7 @@ use Rattle.dt_units.specs.declared.parameters.Params.{Params}
 use Rattle.dt_units.specs.Limits.{IsWithinLimits}
 use Rattle.dt_units.specs.Times.{quiet_time}
 use Rattle.dt_flow_model.specs.Facts.{Facts, free_from}
-use Rattle.dt_flow_model.specs.Flow.{FlowState, Run}
+use Rattle.dt_flow_model.specs.Flow.{Run}
 use Rattle.dt_flow_model.specs.Frames.{Mark}
 use Rattle.dt_flow_model.specs.Ledger.{last_at, top}
 use Rattle.dt_world_laws.proofs.Books.{no_placed}
@@ -17,7 +17,7 @@ use Rattle.dt_world_laws.proofs.Promise.{facts_are_safe}
 use Rattle.dt_world_model.proofs.Tables.{all_look, all_write, look_write, look_write_other, nat_is, nat_self}
 use Rattle.dt_world_model.specs.Ledgers.{FlowLedger, FlowRun, ledger_of, run_of}
 use Rattle.dt_world_model.specs.Relay.{Out, Waiting, charge_of, empty_out}
-use Rattle.dt_world_model.specs.Tables.{AllEntries, look, write}
+use Rattle.dt_world_model.specs.Tables.{look, write}
 use Rattle.dt_world_model.specs.World.{Placed, ReceiverSide, SenderSide, World, flow_state, placed, receiver_side, sender_side, view}
 use Rattle.dt_world_model.specs.WorldFacts.{AllOuts, IsCopy, IsPlaced, IsWaiting, SafeWorld, WorldFacts}
 use Rattle.dt_world_model.specs.WorldStep.{link_in, restart_at, restarted}

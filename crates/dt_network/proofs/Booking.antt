@@ -1,35 +1,30 @@
 -- The rows that the world writes are those that the reports of an endpoint tell, but for their first moments.
-use Rattle.std.proofs.Common.{◌≡◌, ◌∙◌, ◌==◌, ℕ, zero, suc, Bool, true, false, List, [], ◌∷◌, ◌++◌, map, Option, Some, None, Result, Ok, Err, refl, ap, subst, inl, inr}
+use Rattle.std.proofs.Common.{◌≡◌, ◌∙◌, ℕ, zero, suc, Bool, true, false, List, [], ◌∷◌, ◌++◌, map, None, refl, ap, subst, inl, inr}
 use Rattle.std.proofs.lemmas.Bool.{cases_Bool}
 use Rattle.std.proofs.lemmas.List.{map-append}
 use Rattle.dt_items.specs.declared.item.Item.{Item}
 use Rattle.dt_units.specs.declared.endpoints.Flow.{Flow}
 use Rattle.dt_units.specs.declared.parameters.Params.{Params}
-use Rattle.dt_layout.specs.declared.faults.LayoutFault.{LayoutFault}
-use Rattle.dt_layout.specs.Carried.{to_of}
-use Rattle.dt_layout.specs.Reading.{gram_in, packet_read}
-use Rattle.dt_layout.specs.Spelling.{Ack, Close, Data, Meet, PacketValue}
 use Rattle.dt_reports.specs.declared.reports.Report.TheVariants as report
 use Rattle.dt_reports.specs.Told.{Told}
-use Rattle.dt_flow_model.specs.declared.arrivals.Arrived.{Arrived}
-use Rattle.dt_flow_model.specs.declared.arrivals.Arrived.TheVariants as arrived
 use Rattle.dt_flow_model.specs.declared.rows.Fate.{Fate}
 use Rattle.dt_flow_model.specs.declared.rows.Fate.TheVariants as fate
 use Rattle.dt_flow_model.specs.declared.rows.Taken.{Taken}
-use Rattle.dt_flow_model.specs.Frames.{Mark, flow_of, reply_frame}
+use Rattle.dt_flow_model.specs.Frames.{Mark}
 use Rattle.dt_flow_model.specs.Ledger.{is_open_in, note_first, open_row, settle, take_rows}
 use Rattle.dt_world_laws.proofs.Reported.{entry_changes, entry_stays}
 use Rattle.dt_world_model.proofs.Tables.{flow_is}
-use Rattle.dt_world_model.specs.Host.{arrive, told_arrival}
 use Rattle.dt_world_model.specs.Ledgers.{Accepts, Change, Changes, GivesUp, Ledgers, Occasion, ReadsOut, Settles, Takes, Transmits, TransmitsAgain, effect_of, ledger_after, ledger_of, ledgers_after, mark_of}
 use Rattle.dt_world_model.specs.Relay.{Parcel, admit}
-use Rattle.dt_world_model.specs.Script.{Ask, Done, Hand, Script, Tell, ◌>>=◌, play}
-use Rattle.dt_world_model.specs.Station.{Arrive, Station, come, come_in, deliver, happen, pass_on, send_off, settle_station, station_event, station_with}
+use Rattle.dt_world_model.specs.Script.{Ask, Done, Hand, Script, Tell, play}
+use Rattle.dt_world_model.specs.Station.{Arrive, Station, settle_station, station_event}
 use Rattle.dt_world_model.specs.Tables.{same_flow}
 use Rattle.dt_world_model.specs.Tags.{Alike, ask, done, hand, tell}
 use Rattle.dt_world_model.specs.World.{Noted, note_copy, note_told, world_handler}
-use Rattle.dt_calls_laws.proofs.Silence.{passed_silent, sent_off_silent, settle_silent, silent_then}
-use Rattle.dt_calls_laws.specs.Silence.{IsSilent, TellsNoMessage}
+use Rattle.dt_calls_laws.proofs.Silence.{settle_silent}
+use Rattle.dt_world_laws.specs.Tellings.{AllTold}
+use Rattle.dt_world_laws.proofs.Tellings.{OfArrivals, comes_in_told, event_told, told_weaker}
+use Rattle.dt_calls_laws.specs.Silence.{IsSilent, IsSilentTold, TellsNoMessage}
 use Rattle.dt_calls_model.specs.Heard.{heard}
 use Rattle.dt_endpoint.specs.Acts.{acts_of, reports_in}
 use Rattle.dt_endpoint.specs.Hearing.{kept}
@@ -101,7 +96,7 @@ script_booked R o g (ask host octets h) d = script_booked R o g (h (mark_of o d.
 script_booked R o g (hand link parcel h) d = script_booked R o g h (note_copy o link parcel d)
 
 -- AN ARRIVAL tells of nothing that was taken, so its octets don't count
-abbrev IsFree : Told → Type 0
+abbrev pub IsFree : Told → Type 0
 IsFree r = (f : Flow) (life : ℕ) (items : List Item) (rows : List Taken) → book_told f life items (kept r) rows ≡ book_told f life [] (kept r) rows
 
 silent_is_free : (r : Told) → IsSilent (heard r) → IsFree r
@@ -109,61 +104,32 @@ silent_is_free (report.Took f count) h = absurd h
 silent_is_free (report.Uncertain g count) h = λ f life items rows. refl
 silent_is_free other h = λ f life items rows. refl
 
-abbrev AllFree : {A : Type 0} → Script (Unit {0}) A → Type 0
-AllFree (Done a) = Unit {0}
-AllFree (Tell r s) = IsFree r × AllFree s
-AllFree (Ask host octets s) = AllFree (s tt)
-AllFree (Hand link parcel s) = AllFree s
-
-free_then : {A B : Type 0} (s : Script (Unit {0}) A) (k : A → Script (Unit {0}) B) → AllFree s → ((a : A) → AllFree (k a)) → AllFree (s >>= k)
-free_then (Done a) k h on = on a
-free_then (Tell r s) k h on = (h.0, free_then s k h.1 on)
-free_then (Ask host octets s) k h on = free_then (s tt) k h on
-free_then (Hand link parcel s) k h on = free_then s k h on
+abbrev pub AllFree : {A : Type 0} → Script (Unit {0}) A → Type 0
+AllFree s = AllTold IsFree s
 
 free_of_silence : {A : Type 0} (s : Script (Unit {0}) A) → TellsNoMessage s → AllFree s
-free_of_silence (Done a) h = tt
-free_of_silence (Tell r s) h = (silent_is_free r h.0, free_of_silence s h.1)
-free_of_silence (Ask host octets s) h = free_of_silence (s tt) (h tt)
-free_of_silence (Hand link parcel s) h = free_of_silence s h
+free_of_silence s h = told_weaker IsSilentTold IsFree s silent_is_free h
 
-dropped_is_free : (f : Flow) (v : PacketValue) → IsFree (told_arrival f v arrived.Dropped)
-dropped_is_free f (Data from_port to_port number drf begin end octets) = λ g life items rows. refl
-dropped_is_free f (Ack from_port to_port number window) = λ g life items rows. refl
-dropped_is_free f (Meet from_port to_port number) = λ g life items rows. refl
-dropped_is_free f (Close from_port to_port number) = λ g life items rows. refl
+free_arrivals : OfArrivals IsFree
+free_arrivals = record {
+  relays = record { put = λ link life g life' items rows. refl; expired = λ link g life items rows. refl; no_route = λ to g life items rows. refl; full = λ link g life items rows. refl };
+  expired = λ link g life items rows. refl;
+  bad = λ fault g life items rows. refl;
+  quiet = λ until g life items rows. refl;
+  accepted = λ f number count run g life items rows. refl;
+  replied = λ f number window g life items rows. refl;
+  dropped = λ f number g life items rows. refl;
+  ignored = λ f number window g life items rows. refl;
+  settled = λ f count window g life items rows. refl;
+  closing = λ f number g life items rows. refl;
+}
 
-answer_is_free : (f : Flow) (v : PacketValue) (a : Arrived) → IsFree (told_arrival f v a)
-answer_is_free f v (arrived.Quiet until) = λ g life items rows. refl
-answer_is_free f v (arrived.Accepted run count) = λ g life items rows. refl
-answer_is_free f v (arrived.Replied number window) = λ g life items rows. refl
-answer_is_free f v arrived.Dropped = dropped_is_free f v
-answer_is_free f v (arrived.Acked count) = λ g life items rows. refl
-answer_is_free f v (arrived.Closing number) = λ g life items rows. refl
-
-module _ (p : Params) (now : ℕ) where
-  deliver_free : (from : ℕ) (packet : Result PacketValue LayoutFault) (st : Station (Unit {0})) → AllFree (deliver p now from packet st)
-  deliver_free from (Err fault) st = free_of_silence (deliver p now from (Err fault) st) (tt, tt)
-  deliver_free from (Ok v) st =
-      let f = flow_of from st.host.me v in
-      let r = arrive p now from v st.host in
-      (answer_is_free f v r.0, free_of_silence (send_off now r.1 (reply_frame p f r.0) st.relay) (sent_off_silent now r.1 (reply_frame p f r.0) st.relay))
-
-  come_free : (mine : Bool) (parcel : Parcel (Unit {0})) (st : Station (Unit {0})) → AllFree (come p now mine parcel st)
-  come_free true parcel st = deliver_free (gram_in parcel.octets).from (packet_read (gram_in parcel.octets)) st
-  come_free false parcel st = free_of_silence (come p now false parcel st) (silent_then (pass_on parcel now st.relay) (λ relay. Done (station_with st.host relay)) (passed_silent now parcel st.relay) (λ relay. tt))
-
-  come_in_free : (link : ℕ) (o : Option (Parcel (Unit {0}))) (st : Station (Unit {0})) → AllFree (come_in p now link o st)
-  come_in_free link None st = free_of_silence (come_in p now link None st) (tt, tt)
-  come_in_free link (Some parcel) st = come_free (to_of parcel.octets == st.host.me) parcel st
-
-  pub arrival_free : (link : ℕ) (parcel : Parcel (Unit {0})) (st : Station (Unit {0})) → AllFree (station_event p now (Arrive link parcel) st)
-  arrival_free link parcel st =
-      free_then (settle_station p now st) (λ before. happen p now (Arrive link parcel) before >>= λ after. settle_station p now after) (free_of_silence (settle_station p now st) (settle_silent p now st))
-      (λ before. free_then (happen p now (Arrive link parcel) before) (settle_station p now) (come_in_free link (admit link parcel before.relay) before) (λ after. free_of_silence (settle_station p now after) (settle_silent p now after)))
+pub arrival_free : (p : Params) (now link : ℕ) (parcel : Parcel (Unit {0})) (st : Station (Unit {0})) → AllFree (station_event p now (Arrive link parcel) st)
+arrival_free p now link parcel st =
+    event_told IsFree p now (Arrive link parcel) st (λ other. free_of_silence (settle_station p now other) (settle_silent p now other)) (λ before. comes_in_told IsFree free_arrivals p now link (admit link parcel before.relay) before)
 
 pub free_books : {A : Type 0} (s : Script (Unit {0}) A) (f : Flow) (life : ℕ) (items : List Item) (rows : List Taken) → AllFree s → book_all f life items (reports_in (acts_of s)) rows ≡ book_all f life [] (reports_in (acts_of s)) rows
 free_books (Done a) f life items rows h = refl
 free_books (Tell r s) f life items rows h = free_books s f life items (book_told f life items (kept r) rows) h.1 ∙ ap (book_all f life [] (reports_in (acts_of s))) (h.0 f life items rows)
-free_books (Ask host octets s) f life items rows h = free_books (s tt) f life items rows h
+free_books (Ask host octets s) f life items rows h = free_books (s tt) f life items rows (h tt)
 free_books (Hand link parcel s) f life items rows h = free_books s f life items rows h

@@ -30,7 +30,8 @@ use Rattle.dt_endpoint.specs.declared.answers.Routed.{Routed}
 use Rattle.dt_endpoint.specs.declared.answers.Routed.TheVariants as routed
 use Rattle.dt_world_model.specs.declared.links.Route.{Route}
 use Rattle.dt_endpoint.specs.Calls.{AddsRoute, ArriveDoes, Arrives, RouteDoes, route_refusals, ReadDoes, Reads, SendDoes, Sends, TickDoes, Ticks, Unless, arrive_event, arrive_fault, arrive_refusal, has_link, piece_of, read_answer, read_refusals, send_answer, send_refusals, tick_refusals}
-use Rattle.dt_endpoint.specs.Endpoints.{EndpointValue, with_refused, with_route}
+use Rattle.dt_endpoint.specs.Counts.{Counted, counts_refused}
+use Rattle.dt_endpoint.specs.Endpoints.{EndpointValue, with_followed, with_refused, with_route}
 use Rattle.dt_network.proofs.Frames.{Ends}
 use Rattle.dt_network.specs.Steps.{Does, Follow}
 use Rattle.dt_world_model.specs.Setup.{Setup}
@@ -44,8 +45,9 @@ pub record IsStill (e f : EndpointValue) : Type 0 where
   pub frames : drop (length e.frames) f.frames ≡ []
   pub reports : drop (length e.reports) f.reports ≡ []
 
-pub same_is_still : (e f : EndpointValue) → f ≡ e → IsStill e f
-same_is_still e f same = record {
+-- at most something is counted
+counted_is_still : (counts : Counted) (e f : EndpointValue) → f ≡ record e { counts = counts } → IsStill e f
+counted_is_still counts e f same = record {
   rules = ap (λ (x : EndpointValue). x.rules) same;
   latest = ap (λ (x : EndpointValue). x.latest) same;
   spent = ap (λ (x : EndpointValue). x.spent) same;
@@ -53,6 +55,9 @@ same_is_still e f same = record {
   frames = ap (λ (x : EndpointValue). drop (length e.frames) x.frames) same ∙ drop-length e.frames;
   reports = ap (λ (x : EndpointValue). drop (length e.reports) x.reports) same ∙ drop-length e.reports;
 }
+
+pub same_is_still : (e f : EndpointValue) → f ≡ e → IsStill e f
+same_is_still e f same = counted_is_still e.counts e f same
 
 pub pulled_frame_is_still : (e f : EndpointValue) → f ≡ record e { frames = drop 1 e.frames } → IsStill e f
 pulled_frame_is_still e f same = record {
@@ -76,26 +81,12 @@ pulled_report_is_still e f same = record {
 
 -- a refused datagram is counted
 refused_is_still : (e f : EndpointValue) → f ≡ with_refused e → IsStill e f
-refused_is_still e f same = record {
-  rules = ap (λ (x : EndpointValue). x.rules) same;
-  latest = ap (λ (x : EndpointValue). x.latest) same;
-  spent = ap (λ (x : EndpointValue). x.spent) same;
-  state = ap (λ (x : EndpointValue). x.state) same;
-  frames = ap (λ (x : EndpointValue). drop (length e.frames) x.frames) same ∙ drop-length e.frames;
-  reports = ap (λ (x : EndpointValue). drop (length e.reports) x.reports) same ∙ drop-length e.reports;
-}
+refused_is_still e f same = counted_is_still (counts_refused e.counts) e f same
 
 -- a flow is followed, or there was no memory for it
 pub followed_is_still : (flow : Flow) (done : Bool) (setup : Setup) (n : ℕ) (e f : EndpointValue) → Does setup n (Follow flow done) e f → IsStill e f
 followed_is_still flow false setup n e f same = same_is_still e f same
-followed_is_still flow true setup n e f same = record {
-  rules = ap (λ (x : EndpointValue). x.rules) same;
-  latest = ap (λ (x : EndpointValue). x.latest) same;
-  spent = ap (λ (x : EndpointValue). x.spent) same;
-  state = ap (λ (x : EndpointValue). x.state) same;
-  frames = ap (λ (x : EndpointValue). drop (length e.frames) x.frames) same ∙ drop-length e.frames;
-  reports = ap (λ (x : EndpointValue). drop (length e.reports) x.reports) same ∙ drop-length e.reports;
-}
+followed_is_still flow true setup n e f same = counted_is_still (with_followed flow e).counts e f same
 
 -- a refused call with its answer, or one that is done
 pub record IsRefused {A : Type 0} (o : Option A) (answer : A) (e f : EndpointValue) : Type 0 where

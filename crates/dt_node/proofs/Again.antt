@@ -17,17 +17,18 @@ use Rattle.dt_shelf.specs.declared.held.Held.{Held}
 use Rattle.dt_shelf.specs.declared.taken.Taken.{Taken}
 use Rattle.dt_shelf.specs.declared.taken.Taken.TheVariants as taken
 use Rattle.dt_shelf.specs.Shelves.{Shelf, empty_shelf, held_packet, hold, take_held, taken_at}
-use Rattle.dt_node.specs.declared.heard.Heard.{Heard}
-use Rattle.dt_node.specs.declared.heard.Heard.TheVariants as heard
+use Rattle.dt_turn.specs.declared.heard.Heard.{Heard}
+use Rattle.dt_turn.specs.declared.heard.Heard.TheVariants as heard
 use Rattle.dt_node.specs.declared.watch.Watch.{Watch}
 use Rattle.dt_node.specs.Acts.{answer_of}
-use Rattle.dt_node.specs.Drafts.{has_link}
+use Rattle.dt_script.specs.Drafts.{has_link}
 use Rattle.dt_node.specs.HandingIn.{HandIn, IsAgainOf, IsOld, Lowered, again_after, again_arriving, again_by, again_from, again_in, again_on, again_then, as_it_was, hand_in_at, handed_again, handed_from, handed_over, once_more}
-use Rattle.dt_node.specs.Hearing.{heard_in}
-use Rattle.dt_node.specs.Orders.{Command, Node, Orders, first_node, node_with}
+use Rattle.dt_turn.specs.Hearing.{heard_in}
+use Rattle.dt_script.specs.Orders.{Command, Orders}
+use Rattle.dt_turn.specs.Nodes.{Node, first_node, node_with}
 use Rattle.dt_node.specs.Runs.{capped, first_watch, moment, most_equal, next_watch}
-use Rattle.dt_node.specs.Shelving.{Round, datagram, early_number, fetch, fetch_on, fetch_turns, first_round, hold_if, inside, plain, round, round_with, rounds, rounds_on, use_shelf}
-use Rattle.dt_node.specs.Turns.{comes, do_due, event_of, finish, hand_in, turn}
+use Rattle.dt_turn.specs.Shelving.{Round, datagram, early_number, fetch, fetch_on, fetch_turns, first_round, hold_if, inside, plain, round, round_with, rounds, rounds_on, use_shelf}
+use Rattle.dt_turn.specs.Turns.{comes, do_due, event_of, finish, hand_in, turn}
 use Rattle.dt_node.proofs.Completed.{answer_then}
 use Rattle.dt_shelf.proofs.Keeping.{pick_had, pick_keeps, take_had}
 

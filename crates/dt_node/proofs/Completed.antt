@@ -15,11 +15,12 @@ use Rattle.dt_node.specs.declared.watch.Watch.{Watch}
 use Rattle.dt_node.specs.Acts.{answer_of}
 use Rattle.dt_node.specs.Answering.{Answers, AnswersBy}
 use Rattle.dt_node.specs.Completing.{Completes, ReachesStop, planned_watch, watch_on}
-use Rattle.dt_node.specs.Drafts.{refusal_text}
-use Rattle.dt_node.specs.Orders.{Node, Orders, first_node}
+use Rattle.dt_script.specs.Drafts.{refusal_text}
+use Rattle.dt_script.specs.Orders.{Orders}
+use Rattle.dt_turn.specs.Nodes.{Node, first_node}
 use Rattle.dt_node.specs.Runs.{Run, StoodStill, after_turn, ends_at, first_watch, moment, most_equal, next_watch, node_run, run_from}
 use Rattle.dt_node.specs.Serving.{Edges, Serves, first_readings}
-use Rattle.dt_node.specs.Turns.{do_due, finish, hand_in, turn}
+use Rattle.dt_turn.specs.Turns.{do_due, finish, hand_in, turn}
 use Rattle.dt_node.proofs.RunsOn.{next_of, run_from_is}
 
 -- A TURN THAT GOES ON comes before the stop

@@ -18,13 +18,14 @@ use Rattle.dt_fold.specs.Logging.{HasAll, HasPart, StopsIn}
 use Rattle.dt_node.specs.declared.watch.Watch.{Watch}
 use Rattle.dt_node.specs.declared.outcomes.NodeOutcome.{NodeOutcome}
 use Rattle.dt_node.specs.declared.outcomes.NodeOutcome.TheVariants.{Done, Refused, NoMemory, WireFault, ClockStill, WriteFault}
-use Rattle.dt_node.specs.Orders.{Orders, Node, opening_of}
+use Rattle.dt_script.specs.Orders.{Orders, opening_of}
+use Rattle.dt_turn.specs.Nodes.{Node}
 use Rattle.dt_node.specs.Acts.{Act, Deed, act_of, acts_of, answer_of, log_lines, node_lines, sent_frames, fates}
-use Rattle.dt_node.specs.Turns.{turn}
+use Rattle.dt_turn.specs.Turns.{turn}
 use Rattle.dt_node.specs.Runs.{Run, node_run, moment, most_equal}
-use Rattle.dt_node.specs.Codes.{IsGood}
-use Rattle.dt_node.specs.Drafts.{Draft, Empty, orders_in, read_script, refusal_text, script_turns}
-use Rattle.dt_node.proofs.Fitting.{script_good, script_read}
+use Rattle.dt_script.specs.Codes.{IsGood}
+use Rattle.dt_script.specs.Drafts.{Draft, Empty, orders_in, read_script, refusal_text, script_turns}
+use Rattle.dt_script.proofs.Fitting.{script_good, script_read}
 use Rattle.dt_trace.specs.Inputs.{Input, FailedOpen, FailedTake, Reading, Taken as Found}
 use Rattle.dt_trace.specs.Standing.{HasFound}
 use Rattle.dt_node.specs.declared.forms.Form.{Form}

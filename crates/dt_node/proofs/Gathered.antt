@@ -16,8 +16,8 @@ use Rattle.dt_node.specs.Logging.{NotesBehind}
 use Rattle.dt_node.specs.declared.forms.Form.{Form}
 use Rattle.dt_node.specs.declared.forms.Form.TheVariants as forms
 use Rattle.dt_node.specs.Acts.{Deed, act_of, acts_of, answer_of}
-use Rattle.dt_node.specs.Codes.{turned}
-use Rattle.dt_node.specs.Orders.{Node}
+use Rattle.dt_node.specs.TurnScripts.{turned}
+use Rattle.dt_turn.specs.Nodes.{Node}
 use Rattle.dt_node.proofs.Doing.{gave_some}
 use Rattle.dt_node.specs.Deeds.{TurnEnds, Wrote, WroteSome, deeds_text, scene}
 

@@ -5,10 +5,11 @@ use Rattle.std.proofs.Math.Seq.{drop-append_seam, take-append_seam}
 use Rattle.dt_edges.specs.Wires.{Datagram}
 use Rattle.dt_trace.specs.Inputs.{Input, Reading, Taken, FailedTake, FailedOpen}
 use Rattle.dt_node.specs.declared.watch.Watch.{Watch}
-use Rattle.dt_node.specs.Orders.{Orders, Node, first_node}
+use Rattle.dt_script.specs.Orders.{Orders}
+use Rattle.dt_turn.specs.Nodes.{Node, first_node}
 use Rattle.dt_node.specs.Acts.{Deed, act_of, acts_of, answer_of, fates}
 use Rattle.dt_node.specs.Deeds.{counted}
-use Rattle.dt_node.specs.Turns.{turn}
+use Rattle.dt_turn.specs.Turns.{turn}
 use Rattle.dt_node.specs.Runs.{first_watch, moment, next_watch}
 use Rattle.dt_node.specs.TakingIn.{failed_gives, inputs_from, inputs_in, run_inputs, take_then, turn_inputs}
 use Rattle.dt_node.proofs.Doing.{counted_more, fates_more}

@@ -1,18 +1,27 @@
 -- A script that is played before a log.
-use Rattle.std.proofs.Common.{◌≡◌, inl, inr, ℕ, Bool, true, false, List, [], ◌∷◌, ◌++◌, map, take, Result, Ok, Err, refl, sym, ap, subst, ◌∙◌}
+use Rattle.std.proofs.Common.{◌≡◌, inl, inr, ℕ, Bool, true, false, List, [], ◌∷◌, ◌++◌, map, take, Option, Result, Ok, Err, refl, sym, ap, subst, ◌∙◌}
 use Rattle.std.proofs.lemmas.Bool.{cases_Bool, false≢true}
 use Rattle.std.proofs.lemmas.List.{map-append}
 use Rattle.dt_reports.specs.Told.{Told}
 use Rattle.std.specs.Io.KnownBytes.{Appends}
 use Rattle.dt_edges.specs.Sinks.{Grows, SinkSight}
 use Rattle.dt_fold.specs.Logging.{StopsIn}
-use Rattle.dt_world_model.specs.Script.{Script, Done, Tell, Ask, Hand, Plays, Stops}
+use Rattle.dt_world_model.specs.Script.{Script, Done, Tell, Ask, Hand, Plays, Stops, Concludes}
 use Rattle.dt_fold.specs.declared.stops.Stop.{Stop}
 use Rattle.dt_fold.specs.declared.stops.Stop.TheVariants as stops
+use Rattle.std.specs.Prelude.{IfOk, OnErr, OnOk}
+use Rattle.dt_items.specs.declared.memory.NoMemory.{NoMemory}
+use Rattle.dt_turn.specs.Codes as codes
+use Rattle.dt_turn.specs.Nodes.{Node}
+use Rattle.dt_node.specs.TurnScripts.{ended_by, turned}
 use Rattle.dt_node.specs.Acts.{Act, Tells, Hands, Deed, Says, Gives, act_of, acts_of, answer_of}
-use Rattle.dt_node.specs.Logging.{Fixed, LogSight, LogTells, LogHands, HandsIf, TellsIf, log_tells, log_tags, log_hands, log_fails, LogEnds, failed_by}
+use Rattle.dt_node.specs.Logging.{Fixed, LogSight, LogTells, LogHands, HandsIf, TellsIf, log_tells, log_tags, log_hands, log_fails, wants_memory}
 use Rattle.dt_node.specs.Deeds.{deeds_text, Did, DidSome, FaultsBy, TurnEnds, WroteSome, scene, stop_by, unlost}
 use Rattle.dt_node.proofs.Doing.{did_none, did_then, did_then_some, some_more, some_none, acts_unlost, told_did, told_some, handed}
+
+-- After Ok the script was played before the log, with this answer; after an error it was played up to some point.
+abbrev LogEnds : {V A U E : Type 0} → (V → LogSight) → Result U E → Script (Unit {0}) A → V → V → A → Type 0
+LogEnds view result script v w answer = Concludes (log_tells view) log_tags (log_hands view) log_fails result script v w answer
 
 -- after a line that couldn't be written nothing is done
 still_tells : (s t : LogSight) (told : Told) → LogTells s told t → s.failed ≡ true → t ≡ s
@@ -158,9 +167,17 @@ some_held : (text : List ℕ) (stop : Stop) (a b : SinkSight) → StopsIn text s
 some_held text stops.NoMemory a b h = ((h.0, h.1.held), h.1.faults)
 some_held text stops.WriteFault a b h = ((h.count, h.held), h.faults)
 
+-- what a turn that ended well answers, by either name
+abbrev answered : Bool → Node → Option Node
+answered stopped node = codes.turned {E = NoMemory} (Ok stopped) node
+
+same_answer : (stopped : Bool) (node : Node) → answered stopped node ≡ turned (Ok stopped) node
+same_answer true node = refl
+same_answer false node = refl
+
 -- A turn by what it leaves.
-module _ {V A : Type 0} (view : V → LogSight) where
-  turn_stops : (stop : Stop) (failed : Bool) (script : Script (Unit {0}) A) (v w : V) → Stops (log_tells view) log_tags (log_hands view) log_fails script v w → (view v).failed ≡ false → (view w).failed ≡ failed → stop_by failed ≡ stop →
+module _ {V : Type 0} (view : V → LogSight) where
+  turn_stops : {A : Type 0} (stop : Stop) (failed : Bool) (script : Script (Unit {0}) A) (v w : V) → Stops (log_tells view) log_tags (log_hands view) log_fails script v w → (view v).failed ≡ false → (view w).failed ≡ failed → stop_by failed ≡ stop →
       (deeds : List Deed) × (map act_of deeds ≡ acts_of (view v).fixed.moment script) × WroteSome (view v).fixed.form (view v).fixed.me [] deeds stop (scene (view v).gives (view v).wire (view v).out) (scene (view w).gives (view w).wire (view w).out)
   turn_stops stop failed script v w h f g e =
       let k = stops_partly view script v w h f in
@@ -169,10 +186,26 @@ module _ {V A : Type 0} (view : V → LogSight) where
       let part = some_held text stop (view v).out (view w).out out in
       (k.deeds, k.acts, record { held = part.0; faults = part.1; wire = k.did.wire })
 
-  pub turn_ends : (result : Result Bool Stop) (script : Script (Unit {0}) A) (v w : V) (b : A) → LogEnds view result script v w b → (view v).failed ≡ false → (view w).failed ≡ failed_by result →
-      TurnEnds result (view v).fixed.form (view v).fixed.me (view v).fixed.moment [] script b (scene (view v).gives (view v).wire (view v).out) (scene (view w).gives (view w).wire (view w).out)
-  turn_ends (Ok stopped) script v w b h f g =
-      let k = plays_whole view script v w b h f g in
-      (k.deeds, k.acts, record { gives = k.did.gives; held = k.did.out.held; faults = k.did.out.faults; wire = k.did.wire }, k.answers)
-  turn_ends (Err stops.NoMemory) script v w b h f g = turn_stops stops.NoMemory false script v w h f g refl
-  turn_ends (Err stops.WriteFault) script v w b h f g = turn_stops stops.WriteFault true script v w h f g refl
+  pub turn_ends : (failed : Bool) (done : Result Bool NoMemory) (script : Script (Unit {0}) (Option Node)) (v w : V) (node : Node) → LogEnds view done script v w (codes.turned done node) → (view v).failed ≡ false → (view w).failed ≡ failed →
+      TurnEnds (ended_by failed done) (view v).fixed.form (view v).fixed.me (view v).fixed.moment [] script (turned (ended_by failed done) node) (scene (view v).gives (view v).wire (view v).out) (scene (view w).gives (view w).wire (view w).out)
+  turn_ends true done script v w node h f g = turn_stops stops.WriteFault true script v w (ends_stops view done script v w (codes.turned done node) h) f g refl
+  turn_ends false (Ok stopped) script v w node h f g =
+      let k = plays_whole view script v w (answered stopped node) h f g in
+      (k.deeds, k.acts, record { gives = k.did.gives; held = k.did.out.held; faults = k.did.out.faults; wire = k.did.wire }, k.answers ∙ same_answer stopped node)
+  turn_ends false (Err fault) script v w node h f g = turn_stops stops.NoMemory false script v w h f g refl
+
+-- what is true of a turn that ended well is true of it before a log
+pub on_ended : (P : Type 0) (failed : Bool) (done : Result Bool NoMemory) → OnOk done P → OnOk (ended_by failed done) P
+on_ended P true done h = tt
+on_ended P false (Ok stopped) h = h
+on_ended P false (Err fault) h = tt
+
+pub if_ended : (P : Bool → Type 0) (failed : Bool) (done : Result Bool NoMemory) → IfOk done P → IfOk (ended_by failed done) P
+if_ended P true done h = tt
+if_ended P false (Ok stopped) h = h
+if_ended P false (Err fault) h = tt
+
+pub wanted_memory : (P : Type 0) (failed : Bool) (done : Result Bool NoMemory) → OnErr done P → wants_memory (ended_by failed done) ≡ true → P
+wanted_memory P true done h e = absurd (false≢true e)
+wanted_memory P false (Ok stopped) h e = absurd (false≢true e)
+wanted_memory P false (Err fault) h e = h

@@ -36,15 +36,16 @@ use Rattle.dt_shelf.specs.Shelves.{Shelf, held_packet, hold, take_held}
 use Rattle.dt_world_laws.proofs.Plays.{do_turn, link_of}
 use Rattle.dt_node.specs.declared.watch.Watch.{Watch}
 use Rattle.dt_node.specs.Acts.{Act, Deed, Says, Gives, act_of, acts_of, answer_of, entry, log_lines, node_lines}
-use Rattle.dt_node.specs.Drafts.{has_link}
+use Rattle.dt_script.specs.Drafts.{has_link}
 use Rattle.dt_node.specs.InOrder.{InOrder, Orderly, UnsentInOrder, is_unsent, link_put, without_unsent}
-use Rattle.dt_node.specs.Orders.{Command, Orders, Node, node_with, first_node}
+use Rattle.dt_script.specs.Orders.{Command, Orders}
+use Rattle.dt_turn.specs.Nodes.{Node, node_with, first_node}
 use Rattle.dt_node.specs.Runs.{Run, after_turn, turn_then, run_from, node_run, first_watch, next_watch, moment, most_equal, ends, ends_at, Ending, Stopped, Unfinished, StoodStill}
-use Rattle.dt_node.specs.declared.heard.Heard.{Heard}
-use Rattle.dt_node.specs.declared.heard.Heard.TheVariants as heard
-use Rattle.dt_node.specs.Hearing.{heard_in}
-use Rattle.dt_node.specs.Shelving.{Round, arrive as arrives, early_number, fetch, fetch_on, fetch_turns, first_round, hold_if, inside, plain, round, round_with, rounds, rounds_on, told_held, use_shelf}
-use Rattle.dt_node.specs.Turns.{comes, hand_in, event_of, do_due, finish, turn}
+use Rattle.dt_turn.specs.declared.heard.Heard.{Heard}
+use Rattle.dt_turn.specs.declared.heard.Heard.TheVariants as heard
+use Rattle.dt_turn.specs.Hearing.{heard_in}
+use Rattle.dt_turn.specs.Shelving.{Round, arrive as arrives, early_number, fetch, fetch_on, fetch_turns, first_round, hold_if, inside, plain, round, round_with, rounds, rounds_on, told_held, use_shelf}
+use Rattle.dt_turn.specs.Turns.{comes, hand_in, event_of, do_due, finish, turn}
 
 abbrev Any : {A : Type 0} → Script (Unit {0}) A → Type 0
 Any s = (before : Option ℕ) → Orderly before s

@@ -3,9 +3,10 @@ use Rattle.std.proofs.Common.{◌≡◌, if◌then◌else◌, ℕ, ◌==◌, Boo
 use Rattle.std.proofs.lemmas.List.{append-nil}
 use Rattle.dt_edges.specs.Wires.{Datagram}
 use Rattle.dt_node.specs.declared.watch.Watch.{Watch}
-use Rattle.dt_node.specs.Orders.{Orders, Node, first_node}
+use Rattle.dt_script.specs.Orders.{Orders}
+use Rattle.dt_turn.specs.Nodes.{Node, first_node}
 use Rattle.dt_node.specs.Acts.{Act, acts_of, answer_of}
-use Rattle.dt_node.specs.Turns.{turn}
+use Rattle.dt_turn.specs.Turns.{turn}
 use Rattle.dt_node.specs.Runs.{Run, Ending, Stopped, StoodStill, Unfinished, LeftOver, ends, behind, after_turn, turn_then, run_from, node_run, first_watch, next_watch, moment, most_equal}
 
 -- the turns of the readings that are left

@@ -11,9 +11,10 @@ use Rattle.dt_trace.specs.Lines.{most_number}
 use Rattle.dt_trace.specs.Standing.{HasFound}
 use Rattle.dt_node.specs.declared.forms.Form.{Form}
 use Rattle.dt_node.specs.declared.watch.Watch.{Watch}
-use Rattle.dt_node.specs.Orders.{Orders, Node, first_node, opening_of}
+use Rattle.dt_script.specs.Orders.{Orders, opening_of}
+use Rattle.dt_turn.specs.Nodes.{Node, first_node}
 use Rattle.dt_node.specs.Acts.{Act, Deed, act_of, fates}
-use Rattle.dt_node.specs.Turns.{turn}
+use Rattle.dt_turn.specs.Turns.{turn}
 use Rattle.dt_node.specs.Runs.{moment, most_equal, first_watch, next_watch}
 use Rattle.dt_node.specs.Deeds.{Scene, Wrote, TurnEnds, counted, deeds_text}
 use Rattle.dt_node.specs.Logging.{noted_text}

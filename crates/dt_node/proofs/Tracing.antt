@@ -20,7 +20,7 @@ use Rattle.dt_node.specs.Acts.{Deed, fates, log_lines}
 use Rattle.dt_node.specs.Deeds.{counted, deeds_text, lost_numbers}
 use Rattle.dt_node.specs.Logging.{noted_text}
 use Rattle.dt_node.specs.Serving.{HasFailed, IsTrace, Traced, Written, recorded}
-use Rattle.dt_node.specs.Orders.{Orders}
+use Rattle.dt_script.specs.Orders.{Orders}
 use Rattle.dt_node.specs.TakingIn.{failed_gives, inputs_in, run_inputs}
 use Rattle.dt_node.proofs.Listing.{failed_list, unopened_list, whole_list}
 use Rattle.dt_node.proofs.Doing.{fates_more, log_more, number_more, numbers_more}

@@ -12,12 +12,14 @@ use Rattle.dt_units.specs.declared.parameters.Params.{Params}
 use Rattle.dt_node.specs.declared.outcomes.NodeOutcome.{NodeOutcome}
 use Rattle.dt_node.specs.declared.outcomes.NodeOutcome.TheVariants.{NoMemory, WireFault, WriteFault}
 use Rattle.dt_node.specs.declared.watch.Watch.{Watch}
-use Rattle.dt_node.specs.declared.orders.Orders as code
-use Rattle.dt_node.specs.declared.nodes.Node as coded
-use Rattle.dt_node.specs.Codes.{left_of, node_seen, orders_seen}
-use Rattle.dt_node.specs.Orders.{Orders, Node, first_node}
+use Rattle.dt_script.specs.declared.orders.Orders as code
+use Rattle.dt_turn.specs.declared.nodes.Node as coded
+use Rattle.dt_script.specs.Codes.{orders_seen}
+use Rattle.dt_turn.specs.Codes.{left_of, node_seen}
+use Rattle.dt_script.specs.Orders.{Orders}
+use Rattle.dt_turn.specs.Nodes.{Node, first_node}
 use Rattle.dt_node.specs.Acts.{answer_of}
-use Rattle.dt_node.specs.Turns.{turn}
+use Rattle.dt_turn.specs.Turns.{turn}
 use Rattle.dt_node.specs.Runs.{first_watch, moment, next_moment, next_watch, wait_until, wakes_by}
 use Rattle.dt_node.specs.Waiting.{Asks, CountsPauses, IsShort, OpensOnce, Pause, last_asked, node_pauses, pause_of, pauses_from, pauses_then, wait_in}
 
@@ -181,11 +183,11 @@ pub asks_write_early : (o : Orders) (b : WireSight) → Asks o WriteFault [] [] 
 asks_write_early o b = nothing_asked o WriteFault b b refl (inl refl) (inr (refl, refl))
 
 -- THE CODE'S WAIT is that of the pause
-pub asked_wait : (o : code.Orders) (node : coded.Node) (watch : Watch) (now wait : ℕ) → node.station.rules ≡ o.setup.rules → now ≡ moment watch → wait ≡ wait_until (wakes_by (station_wake node.station.rules node.station.state) (next_moment o.stop (left_of o node.next))) now
+pub asked_wait : (o : code.Orders) (node : coded.Node) (watch : Watch) (now wait : ℕ) → node.dock.station.rules ≡ o.setup.rules → now ≡ moment watch → wait ≡ wait_until (wakes_by (station_wake node.dock.station.rules node.dock.station.state) (next_moment o.stop (left_of o node.next))) now
     → wait ≡ wait_in (pause_of (orders_seen o) watch (node_seen o node))
 asked_wait o node watch now wait rules n e =
-    e ∙ ap (λ (p : Params). wait_until (wakes_by (station_wake p node.station.state) (next_moment o.stop (left_of o node.next))) now) rules
-    ∙ ap (λ (k : ℕ). wait_until (wakes_by (station_wake o.setup.rules node.station.state) (next_moment o.stop (left_of o node.next))) k) n
+    e ∙ ap (λ (p : Params). wait_until (wakes_by (station_wake p node.dock.station.state) (next_moment o.stop (left_of o node.next))) now) rules
+    ∙ ap (λ (k : ℕ). wait_until (wakes_by (station_wake o.setup.rules node.dock.station.state) (next_moment o.stop (left_of o node.next))) k) n
 
 -- A WAIT IS SHORT
 reaches : (due now wait : ℕ) → wait ≡ wait_until due now → (1 ≤ wait) × (wait ≤ 1000) × (now < due → now + wait ≤ due) × (due ≤ now → wait ≡ 1) × (wait < 1000 → due ≤ now + wait)

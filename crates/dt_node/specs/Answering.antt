@@ -3,8 +3,8 @@ use Rattle.std.specs.Prelude.{◌≡◌, ℕ, List, Option, Some, None}
 use Rattle.dt_node.specs.declared.outcomes.NodeOutcome.{NodeOutcome}
 use Rattle.dt_node.specs.declared.outcomes.NodeOutcome.TheVariants.{Done, Refused, NoMemory, WireFault, ClockStill, WriteFault}
 use Rattle.dt_node.specs.declared.forms.Form.{Form}
-use Rattle.dt_node.specs.Drafts.{refusal_text, script_of}
-use Rattle.dt_node.specs.Orders.{Orders}
+use Rattle.dt_script.specs.Drafts.{refusal_text, script_of}
+use Rattle.dt_script.specs.Orders.{Orders}
 use Rattle.dt_node.specs.Serving.{Edges, Logs, Serves, SinkFaults}
 
 -- answers that a script leads to that is refused

@@ -6,8 +6,8 @@ use Rattle.dt_edges.specs.Counts.{HasRisen}
 use Rattle.dt_node.specs.declared.outcomes.NodeOutcome.{NodeOutcome}
 use Rattle.dt_node.specs.declared.outcomes.NodeOutcome.TheVariants.{Done, NoMemory}
 use Rattle.dt_node.specs.declared.watch.Watch.{Watch}
-use Rattle.dt_node.specs.Drafts.{script_of}
-use Rattle.dt_node.specs.Orders.{Orders}
+use Rattle.dt_script.specs.Drafts.{script_of}
+use Rattle.dt_script.specs.Orders.{Orders}
 use Rattle.dt_node.specs.Runs.{first_watch, moment, most_equal, next_watch}
 use Rattle.dt_node.specs.Serving.{Edges}
 

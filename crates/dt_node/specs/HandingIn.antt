@@ -11,11 +11,12 @@ use Rattle.dt_world_model.specs.Station.{Station}
 use Rattle.dt_shelf.specs.Shelves.{Shelf}
 use Rattle.dt_node.specs.declared.watch.Watch.{Watch}
 use Rattle.dt_node.specs.Acts.{answer_of}
-use Rattle.dt_node.specs.Drafts.{has_link}
-use Rattle.dt_node.specs.Orders.{Node, Orders, first_node}
+use Rattle.dt_script.specs.Drafts.{has_link}
+use Rattle.dt_script.specs.Orders.{Orders}
+use Rattle.dt_turn.specs.Nodes.{Node, first_node}
 use Rattle.dt_node.specs.Runs.{first_watch, moment, most_equal, next_watch}
-use Rattle.dt_node.specs.Shelving.{Round, first_round, round}
-use Rattle.dt_node.specs.Turns.{turn}
+use Rattle.dt_turn.specs.Shelving.{Round, first_round, round}
+use Rattle.dt_turn.specs.Turns.{turn}
 
 -- a frame, and the moment at which it is handed in
 pub record HandIn : Type 0 where

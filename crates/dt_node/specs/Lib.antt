@@ -1,8 +1,3 @@
-pub mod Orders
-pub mod Drafts
-pub mod Hearing
-pub mod Shelving
-pub mod Turns
 pub mod Acts
 pub mod Runs
 pub mod HandingIn
@@ -11,7 +6,7 @@ pub mod Logging
 pub mod Deeds
 pub mod TakingIn
 pub mod Waiting
-pub mod Codes
+pub mod TurnScripts
 pub mod Serving
 pub mod Answering
 pub mod Completing

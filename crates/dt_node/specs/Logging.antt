@@ -14,7 +14,6 @@ use Rattle.dt_fold.specs.Logging.{HasAll, HasPart}
 use Rattle.dt_trace.specs.Inputs.{FailedGive, Input, input_text}
 use Rattle.dt_world_model.specs.Host.{Host}
 use Rattle.dt_world_model.specs.Relay.{Parcel}
-use Rattle.dt_world_model.specs.Script.{Script, Concludes}
 use Rattle.dt_node.specs.Acts.{entry}
 use Rattle.dt_node.specs.declared.forms.Form.{Form}
 use Rattle.dt_node.specs.declared.forms.Form.TheVariants as forms
@@ -116,16 +115,7 @@ log_hands view v link parcel w = LogHands (view v) link parcel.octets (view w)
 abbrev pub log_fails : {V : Type 0} → V → V → Type 0
 log_fails v w = ⊥
 
--- After Ok the script was played before the log, with this answer; after an error it was played up to some point.
-abbrev pub LogEnds : {V A U E : Type 0} → (V → LogSight) → Result U E → Script (Unit {0}) A → V → V → A → Type 0
-LogEnds view result script v w answer = Concludes (log_tells view) log_tags (log_hands view) log_fails result script v w answer
-
 -- Why a turn stops before its end: memory was wanted, or a line couldn't be written.
-abbrev pub failed_by : {U : Type 0} → Result U Stop → Bool
-failed_by (Ok done) = false
-failed_by (Err stops.NoMemory) = false
-failed_by (Err stops.WriteFault) = true
-
 abbrev pub wants_memory : {U : Type 0} → Result U Stop → Bool
 wants_memory (Ok done) = false
 wants_memory (Err stops.NoMemory) = true

@@ -2,9 +2,10 @@
 use Rattle.std.specs.Prelude.{ℕ, ◌+◌, ◌-◌, ◌^◌, ◌==◌, if◌then◌else◌, nat_lt, max, min, List, [], ◌∷◌, ◌++◌, Option, Some, None}
 use Rattle.dt_edges.specs.Wires.{Datagram}
 use Rattle.dt_node.specs.declared.watch.Watch.{Watch}
-use Rattle.dt_node.specs.Orders.{Command, Orders, Node, first_node}
+use Rattle.dt_script.specs.Orders.{Command, Orders}
+use Rattle.dt_turn.specs.Nodes.{Node, first_node}
 use Rattle.dt_node.specs.Acts.{Act, acts_of, answer_of}
-use Rattle.dt_node.specs.Turns.{turn}
+use Rattle.dt_turn.specs.Turns.{turn}
 
 abbrev pub capped : ℕ → ℕ
 capped reading = min reading (2 ^ 62)

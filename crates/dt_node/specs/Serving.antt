@@ -10,7 +10,7 @@ use Rattle.dt_edges.specs.Wires.{Datagram, Plan, WireSight, cut_to, entry_at}
 use Rattle.dt_log.specs.Logs.{log_text}
 use Rattle.dt_node.specs.declared.outcomes.NodeOutcome.{NodeOutcome}
 use Rattle.dt_node.specs.declared.outcomes.NodeOutcome.TheVariants.{Done, Refused, NoMemory, WireFault, ClockStill, WriteFault}
-use Rattle.dt_node.specs.Orders.{Orders, opening_of}
+use Rattle.dt_script.specs.Orders.{Orders, opening_of}
 use Rattle.dt_node.specs.Acts.{Deed, act_of, log_lines, node_lines, sent_frames, node_frames, fates}
 use Rattle.dt_node.specs.Runs.{Ending, Stopped, StoodStill, Unfinished, node_run, most_equal}
 use Rattle.dt_node.specs.HandingIn.{IsAgainOf, handed_again, handed_over}

@@ -3,11 +3,12 @@ use Rattle.std.specs.Prelude.{ℕ, Bool, if◌then◌else◌, List, [], ◌∷�
 use Rattle.dt_edges.specs.Wires.{Datagram}
 use Rattle.dt_trace.specs.Inputs.{Input, Reading, Taken, FailedTake, FailedGive, FailedOpen}
 use Rattle.dt_node.specs.declared.watch.Watch.{Watch}
-use Rattle.dt_node.specs.Orders.{Node, Orders, first_node}
+use Rattle.dt_script.specs.Orders.{Orders}
+use Rattle.dt_turn.specs.Nodes.{Node, first_node}
 use Rattle.dt_node.specs.Acts.{Deed, acts_of, answer_of, fates}
 use Rattle.dt_node.specs.Deeds.{counted, lost_numbers}
 use Rattle.dt_node.specs.Runs.{first_watch, moment, next_watch}
-use Rattle.dt_node.specs.Turns.{turn}
+use Rattle.dt_turn.specs.Turns.{turn}
 
 -- the gives of these deeds that failed, after so many gives
 abbrev pub failed_gives : ℕ → List Deed → List Input

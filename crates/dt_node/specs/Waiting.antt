@@ -6,10 +6,11 @@ use Rattle.dt_world_model.specs.Station.{station_wake}
 use Rattle.dt_node.specs.declared.outcomes.NodeOutcome.{NodeOutcome}
 use Rattle.dt_node.specs.declared.outcomes.NodeOutcome.TheVariants.{Done, Refused, NoMemory, WireFault, ClockStill, WriteFault}
 use Rattle.dt_node.specs.declared.watch.Watch.{Watch}
-use Rattle.dt_node.specs.Orders.{Node, Orders, first_node}
+use Rattle.dt_script.specs.Orders.{Orders}
+use Rattle.dt_turn.specs.Nodes.{Node, first_node}
 use Rattle.dt_node.specs.Acts.{answer_of}
 use Rattle.dt_node.specs.Runs.{first_watch, moment, next_moment, next_watch, wait_until, wakes_by}
-use Rattle.dt_node.specs.Turns.{turn}
+use Rattle.dt_turn.specs.Turns.{turn}
 
 -- How it stands when a take is called: the turn's moment, the station's wake behind the turn, and the moment of the next command or of the stop.
 pub record Pause : Type 0 where

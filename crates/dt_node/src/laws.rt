@@ -3,7 +3,7 @@ ghost use Rattle.std.specs.Prelude.{ℕ, All, List, Option, None};
 ghost use Rattle.dt_edges.specs.Wires.{Datagram};
 ghost use Rattle.dt_node.specs.HandingIn.{IsAgainOf, handed_again, handed_over};
 ghost use Rattle.dt_node.specs.InOrder.{InOrder};
-ghost use Rattle.dt_node.specs.Orders.{Orders};
+ghost use Rattle.dt_script.specs.Orders.{Orders};
 ghost use Rattle.dt_node.specs.Runs.{node_run};
 ghost use Rattle.dt_node.specs.Waiting.{IsShort, Pause, wait_in};
 

@@ -1,19 +1,13 @@
-//! A station over a wire: its script, its turns, its log and its trace.
+//! A node over a wire and a clock: its turns, its log and its trace.
 #![tactic(auto)]
 
-mod arriving;
-mod drafts;
 mod forms;
-mod heard;
 mod laws;
 mod logs;
-mod nodes;
-mod orders;
 mod outcomes;
 mod recorders;
 mod running;
 mod serving;
-mod turns;
 mod watch;
 mod worked;
 

@@ -1,77 +1,87 @@
+//! What is carried out of a script.
 ghost use Rattle.std.specs.Prelude.{◌≡◌, ◌≤◌, [], IfOk, length};
 ghost use Rattle.dt_node.specs.Answering.{Answers};
 ghost use Rattle.dt_node.specs.Completing.{Completes};
-ghost use Rattle.dt_node.specs.Codes.{IsGood, IsReady, node_seen, orders_seen};
+ghost use Rattle.dt_script.specs.Codes.{IsGood, orders_seen};
+ghost use Rattle.dt_turn.specs.Codes.{IsReady, node_seen};
 ghost use Rattle.dt_node.specs.declared.forms.Form.TheVariants.{Log, Trace};
-ghost use Rattle.dt_node.specs.Orders.{first_node};
+ghost use Rattle.dt_turn.specs.Nodes.{first_node};
 ghost use Rattle.dt_node.specs.Serving.{Serves, edges};
 
-use crate::drafts::Draft;
 use crate::forms::Form;
-use crate::nodes::Node;
-use crate::orders::Orders;
 use crate::outcomes::NodeOutcome;
 use crate::recorders::{Recorder, Writer};
-use crate::running::run_turns;
+use crate::running::{Run, run_turns};
 use dt_edges::{Buffer, Clock, Sink, Wire};
 use dt_fold::{Stop, fold_input};
 use dt_items::NoMemory;
+use dt_script::{Draft, Orders};
+use dt_turn::Node;
 use std::alloc::Global;
 
-/// What a run takes before its first turn: the node, and the buffer for the lines of a turn.
-fn prepare(alloc: Global, form: Form, orders: &Orders) -> Result<(Node, Recorder), NoMemory>
-    ensures first { IfOk result (λ made. node_seen orders.now made.0 ≡ first_node (orders_seen orders.now)) }
-    ensures ready { IfOk result (λ made. IsReady orders.now 0 made.0) }
-    ensures empty { IfOk result (λ made. made.1.buffer ≡ []) }
-    ensures new { IfOk result (λ made. made.1.writer ≡ record { form = form; gives = 0 }) }
-{
-    let buffer = Buffer::new(alloc)?;
-    let writer = Writer { form, gives: 0 };
-    let node = Node::new(alloc, orders)?;
-    Ok((node, Recorder { writer, buffer }))
-}
-
-/// Carries out the orders of a script.
-fn serve_orders<W: Wire, C: Clock, K: Sink>(
+/// How a script is served: from where memory is taken, and what is written.
+#[derive(Clone, Copy)]
+struct Job {
     alloc: Global,
     form: Form,
-    orders: &Orders,
-    wire: &mut W,
-    clock: &mut C,
-    out: &mut K,
-) -> NodeOutcome
-    requires { IsGood (orders_seen orders.now) }
-    ensures { Serves form (orders_seen orders.now) result (edges (W.sight wire.old) (C.sight clock.old) (K.sight out.old)) (edges (W.sight wire.new) (C.sight clock.new) (K.sight out.new)) }
-{
-    match prepare(alloc, form, orders) {
-        Ok((mut node, mut recorder)) => {
-            run_turns(orders, &mut node, wire, clock, out, &mut recorder)
-        }
-        Err(_) => NodeOutcome::NoMemory,
+}
+
+impl Job {
+    /// What a run takes before its first turn: the node, and the buffer for the lines of a turn.
+    fn prepare(self, orders: &Orders) -> Result<Run, NoMemory>
+        ensures first { IfOk result (λ run. node_seen orders.now run.node ≡ first_node (orders_seen orders.now)) }
+        ensures ready { IfOk result (λ run. IsReady orders.now 0 run.node) }
+        ensures empty { IfOk result (λ run. run.recorder.buffer ≡ []) }
+        ensures new { IfOk result (λ run. run.recorder.writer ≡ record { form = self.form; gives = 0 }) }
+    {
+        let buffer = Buffer::new(self.alloc)?;
+        let writer = Writer {
+            form: self.form,
+            gives: 0,
+        };
+        let node = Node::new(self.alloc, orders)?;
+        let recorder = Recorder { writer, buffer };
+        Ok(Run { node, recorder })
     }
-}
 
-/// Reads the script, and carries out its orders.
-fn serve_script<W: Wire, C: Clock, K: Sink>(
-    alloc: Global,
-    form: Form,
-    script: &[u8],
-    wire: &mut W,
-    clock: &mut C,
-    out: &mut K,
-) -> NodeOutcome
-    requires { length script.now ≤ 16777216 }
-    ensures { Answers form script.now result (edges (W.sight wire.old) (C.sight clock.old) (K.sight out.old)) (edges (W.sight wire.new) (C.sight clock.new) (K.sight out.new)) }
-{
-    let mut draft = Draft::new(alloc);
-    match fold_input(&mut draft, script, out) {
-        Ok(true) => match draft.into_orders() {
-            Some(orders) => serve_orders(alloc, form, &orders, wire, clock, out),
-            None => unreachable!(),
-        },
-        Ok(false) => NodeOutcome::Refused,
-        Err(Stop::NoMemory) => NodeOutcome::NoMemory,
-        Err(Stop::WriteFault) => NodeOutcome::WriteFault,
+    /// Carries out the orders of a script.
+    fn serve_orders<W: Wire, C: Clock, K: Sink>(
+        self,
+        orders: &Orders,
+        wire: &mut W,
+        clock: &mut C,
+        out: &mut K,
+    ) -> NodeOutcome
+        requires { IsGood (orders_seen orders.now) }
+        ensures { Serves self.form (orders_seen orders.now) result (edges (W.sight wire.old) (C.sight clock.old) (K.sight out.old)) (edges (W.sight wire.new) (C.sight clock.new) (K.sight out.new)) }
+    {
+        match self.prepare(orders) {
+            Ok(mut run) => run_turns(orders, &mut run, wire, clock, out),
+            Err(_) => NodeOutcome::NoMemory,
+        }
+    }
+
+    /// Reads the script, and carries out its orders.
+    fn serve_script<W: Wire, C: Clock, K: Sink>(
+        self,
+        script: &[u8],
+        wire: &mut W,
+        clock: &mut C,
+        out: &mut K,
+    ) -> NodeOutcome
+        requires { length script.now ≤ 16777216 }
+        ensures { Answers self.form script.now result (edges (W.sight wire.old) (C.sight clock.old) (K.sight out.old)) (edges (W.sight wire.new) (C.sight clock.new) (K.sight out.new)) }
+    {
+        let mut draft = Draft::new(self.alloc);
+        match fold_input(&mut draft, script, out) {
+            Ok(true) => match draft.into_orders() {
+                Some(orders) => self.serve_orders(&orders, wire, clock, out),
+                None => unreachable!(),
+            },
+            Ok(false) => NodeOutcome::Refused,
+            Err(Stop::NoMemory) => NodeOutcome::NoMemory,
+            Err(Stop::WriteFault) => NodeOutcome::WriteFault,
+        }
     }
 }
 
@@ -111,7 +121,8 @@ pub fn serve<W: Wire, C: Clock, K: Sink>(
     ensures answers { Answers Log script.now result (edges (W.sight wire.old) (C.sight clock.old) (K.sight out.old)) (edges (W.sight wire.new) (C.sight clock.new) (K.sight out.new)) }
     ensures completes { Completes script.now result (edges (W.sight wire.old) (C.sight clock.old) (K.sight out.old)) (edges (W.sight wire.new) (C.sight clock.new) (K.sight out.new)) }
 {
-    serve_script(alloc, Form::Log, script, wire, clock, out)
+    let form = Form::Log;
+    Job { alloc, form }.serve_script(script, wire, clock, out)
 }
 
 /// Runs the node of a script as [`serve`] does, and writes a trace in place of the log: what the run
@@ -137,5 +148,6 @@ pub fn serve_traced<W: Wire, C: Clock, K: Sink>(
     ensures answers { Answers Trace script.now result (edges (W.sight wire.old) (C.sight clock.old) (K.sight out.old)) (edges (W.sight wire.new) (C.sight clock.new) (K.sight out.new)) }
     ensures completes { Completes script.now result (edges (W.sight wire.old) (C.sight clock.old) (K.sight out.old)) (edges (W.sight wire.new) (C.sight clock.new) (K.sight out.new)) }
 {
-    serve_script(alloc, Form::Trace, script, wire, clock, out)
+    let form = Form::Trace;
+    Job { alloc, form }.serve_script(script, wire, clock, out)
 }

@@ -3,77 +3,79 @@ use std::process::Abort;
 
 /// What is done with deadlines, and asked of them.
 enum Step {
-    /// A key is held that wasn't.
-    Hold(u64),
-    /// A key that is held gets a moment, or none. Place 1 is its guess.
-    Set(u64, Option<u64>),
-    /// A key that is held goes.
-    Forget(u64),
-    /// This moment and its key come first.
-    First(Option<(u64, u64)>),
+    /// There is one place more than so many.
+    Hold(usize),
+    /// A place gets a moment, or none.
+    Set(usize, Option<u64>),
+    /// A place has this moment.
+    At(usize, Option<u64>),
+    /// This moment and its place come first.
+    First(Option<(u64, usize)>),
 }
 
-fn hold(rt: &impl Abort, deadlines: &mut Deadlines, key: u64) {
-    assert!(rt; !deadlines.holds(key));
-    assert!(rt; deadlines.hold(key).is_ok());
+fn hold(rt: &impl Abort, deadlines: &mut Deadlines, count: usize) {
+    assert!(rt; count <= deadlines.room());
+    assert!(rt; deadlines.hold(count).is_ok());
 }
 
-fn set(rt: &impl Abort, deadlines: &mut Deadlines, key: u64, near: usize, moment: Option<u64>) {
-    assert!(rt; deadlines.holds(key));
-    deadlines.set(key, near, moment);
+fn set(rt: &impl Abort, deadlines: &mut Deadlines, place: usize, moment: Option<u64>) {
+    assert!(rt; place < deadlines.room());
+    deadlines.set(place, moment);
 }
 
-fn forget(rt: &impl Abort, deadlines: &mut Deadlines, key: u64) {
-    assert!(rt; deadlines.holds(key));
-    deadlines.forget(key);
+fn has(rt: &impl Abort, deadlines: &Deadlines, place: usize, moment: Option<u64>) -> bool {
+    assert!(rt; place < deadlines.room());
+    deadlines.at(place) == moment
 }
 
-fn has_first(deadlines: &Deadlines, first: Option<(u64, u64)>) -> bool {
+fn has_first(deadlines: &Deadlines, first: Option<(u64, usize)>) -> bool {
     deadlines.first() == first
 }
 
 fn take(rt: &impl Abort, deadlines: &mut Deadlines, step: &Step) {
     match step {
-        Step::Hold(key) => hold(rt, deadlines, *key),
-        Step::Set(key, moment) => set(rt, deadlines, *key, 1, *moment),
-        Step::Forget(key) => forget(rt, deadlines, *key),
+        Step::Hold(count) => hold(rt, deadlines, *count),
+        Step::Set(place, moment) => set(rt, deadlines, *place, *moment),
+        Step::At(place, moment) => assert!(rt; has(rt, deadlines, *place, *moment)),
         Step::First(first) => assert!(rt; has_first(deadlines, *first)),
     }
 }
 
-static LESSER_KEY: [Step; 10] = [
+static LESSER_PLACE: [Step; 12] = [
     Step::First(None),
-    Step::Hold(2),
+    Step::Hold(0),
     Step::Hold(1),
+    Step::Hold(2),
     Step::First(None),
     Step::Set(1, Some(9)),
     Step::Set(2, Some(9)),
     Step::First(Some((9, 1))),
+    Step::At(2, Some(9)),
     Step::Set(1, None),
     Step::First(Some((9, 2))),
-    Step::Forget(2),
+    Step::Set(2, None),
 ];
 
 #[test]
-fn the_first_is_the_least_moment_and_then_the_lesser_key(rt: HostRuntime) {
+fn the_first_is_the_least_moment_and_then_the_lesser_place(rt: HostRuntime) {
     let mut deadlines = Deadlines::new(rt.alloc());
-    for step in &LESSER_KEY {
+    for step in &LESSER_PLACE {
         take(&rt, &mut deadlines, step);
     }
     assert!(rt; has_first(&deadlines, None));
 }
 
-/// A thousand keys with the moments 1000 down to 1 go in the order of their moments.
+/// A thousand places with the moments 1000 down to 1 go in the order of their moments.
 #[test]
-fn a_thousand_keys_go_in_order(rt: HostRuntime) {
+fn a_thousand_places_go_in_order(rt: HostRuntime) {
     let mut deadlines = Deadlines::new(rt.alloc());
-    for key in 0..1000u64 {
-        hold(&rt, &mut deadlines, key);
-        set(&rt, &mut deadlines, key, key as usize, Some(1000 - key));
+    for place in 0..1000usize {
+        hold(&rt, &mut deadlines, place);
+        set(&rt, &mut deadlines, place, Some(1000 - place as u64));
     }
-    for moment in 1..=1000u64 {
-        assert!(rt; has_first(&deadlines, Some((moment, 1000 - moment))));
-        forget(&rt, &mut deadlines, 1000 - moment);
+    for moment in 1..=1000usize {
+        assert!(rt; has_first(&deadlines, Some((moment as u64, 1000 - moment))));
+        set(&rt, &mut deadlines, 1000 - moment, None);
     }
     assert!(rt; has_first(&deadlines, None));
 }

@@ -7,7 +7,7 @@ use Rattle.dt_world_model.specs.declared.links.InLink.{InLink}
 use Rattle.dt_world_model.specs.declared.links.Route.{Route}
 use Rattle.dt_world_model.specs.declared.links.OutLink.{OutLink}
 use Rattle.dt_world_model.specs.Relay.{Out, charge_of, empty_out, route_to}
-use Rattle.dt_relay.specs.Places.{AreFirsts, TellsPlaces, link_in, link_of, place_from, place_of}
+use Rattle.dt_relay.specs.Places.{AreFirsts, ArePlaces, TellsPlaces, link_in, link_of, place_from, place_of}
 use Rattle.std.specs.HashMap.{HashMap, get}
 use Rattle.std.specs.declared.hash.FoldHasher.{FoldHasher}
 use Rattle.std.specs.declared.hash.BuildHasherDefault.{BuildHasherDefault}
@@ -121,6 +121,16 @@ module _ {T : Type 0} where
   firsts_set n outs x y firsts is same h =
       h ∙ sym (places_set n outs x y (map link_of outs) is same)
       ∙ ap (map (λ link. place_of link_of link (slice_set outs n y))) (sym (map-set_same link_of outs n y x (same ∙ ap link_of is)))
+
+  -- an out link that keeps its number keeps all places
+  pub stays_placed : {ins : List InLink} {routes : List Route} {out_places in_places route_places : HashMap ℕ ℕ (BuildHasherDefault FoldHasher)} {firsts : List (Option ℕ)} (n : ℕ) (outs : List (Out T)) (x y : Out T)
+      → x ≡ get_or outs n x → link_of y ≡ link_of x → ArePlaces outs ins routes out_places in_places route_places firsts → ArePlaces (slice_set outs n y) ins routes out_places in_places route_places firsts
+  stays_placed {ins} {routes} {out_places} {in_places} {route_places} {firsts} n outs x y is same h = record {
+    by_out_link = tells_set link_of n outs x y out_places is same h.by_out_link;
+    by_in_link = h.by_in_link;
+    by_node = h.by_node;
+    by_place = firsts_set n outs x y firsts is same h.by_place;
+  }
 
   told_firsts : (outs : List OutLink) (queues : List (Out T)) (table : HashMap ℕ ℕ (BuildHasherDefault FoldHasher)) → TellsPlaces link_of queues table →
       map (λ (o : OutLink). get nat_eq table o.link) outs ≡ map (λ link. place_of link_of link queues) (map link_of (map (λ (o : OutLink). empty_out {T = T} o.link o.pace) outs))

@@ -1,21 +1,20 @@
 -- A packet that goes straight on: what its passage means, in the words of entering and leaving.
-use Rattle.std.proofs.Common.{◌≡◌, ◌≢◌, ℕ, ◌+◌, ◌-◌, ◌<◌, ◌≤◌, All, List, [], ◌∷◌, ◌++◌, Bool, true, false, cond, Option, Some, None, get_or, length, nat_lt, nat_le, option_and_then, refl, sym, subst, slice_set, ◌∙◌, ap, arith}
+use Rattle.std.proofs.Common.{◌≡◌, ℕ, ◌+◌, ◌-◌, ◌<◌, ◌≤◌, All, List, [], ◌∷◌, Bool, true, false, cond, Option, Some, None, get_or, length, nat_lt, nat_le, option_and_then, refl, sym, subst, slice_set, ◌∙◌, ap, arith}
 use Rattle.std.proofs.lemmas.List.{get_or-set_same, length-set, set-get_or, set-set}
 use Rattle.std.proofs.lemmas.Bool.Decides.{nat_tests}
 use Rattle.std.proofs.lemmas.List.Elements.{All-set}
-use Rattle.dt_flow_model.specs.Keeping.{IsBy}
 use Rattle.dt_layout.specs.Carried.{life_of, to_of}
 use Rattle.dt_world_model.specs.declared.links.Entered.{Entered}
 use Rattle.dt_world_model.specs.declared.links.Entered.TheVariants as entered
 use Rattle.dt_world_model.specs.Relay.{Expired, Goes, IsOutUpTo, Left, Out, Parcel, Relay, Waiting, enter, leave, left_of, lower_parcel, may_leave_from, most_on_link, on_link, push, route_to, with_outs, with_waits}
 use Rattle.dt_relay.specs.declared.passages.Passage.{Passage}
 use Rattle.dt_relay.specs.declared.passages.Passage.TheVariants as passage
-use Rattle.dt_relay.specs.Passages.{GoesStraight, IsTurnedAway, Passes, WouldWait, passage_by, passage_on, passed_on}
+use Rattle.dt_relay.specs.Passages.{GoesStraight, IsTurnedAway, Passes, WouldWait, passage_on, passed_on}
 use Rattle.dt_relay.specs.Places.{link_of, place_of}
 use Rattle.dt_relay.specs.Ways.{queue_of, way_to}
-use Rattle.dt_relay.proofs.Links.{enter_nowhere, enter_there, on_link_at, past_at, put_at, put_in, unchanged}
+use Rattle.dt_relay.proofs.Links.{enter_nowhere, enter_there, on_link_at, past_at, put_at, put_in}
 use Rattle.dt_relay.proofs.Lookups.{found_key, place_set, value_at, value_by, value_nowhere}
-use Rattle.dt_relay.proofs.Past.{leave_link, push_link}
+use Rattle.dt_relay.proofs.Past.{push_link}
 
 none_before : {T : Type 0} (ws : List (Waiting T)) → nat_lt 0 (length ws) ≡ false → ws ≡ []
 none_before [] h = refl

@@ -1,5 +1,5 @@
 -- A packet that goes straight on: it enters, and as the first that waits on its link it leaves at once.
-use Rattle.std.specs.Prelude.{◌≡◌, ◌<◌, ℕ, List, length, Option, Some, None, nat_lt, nat_le, if◌then◌else◌}
+use Rattle.std.specs.Prelude.{◌≡◌, ◌<◌, ℕ, length, Option, Some, None, nat_lt, nat_le, if◌then◌else◌}
 use Rattle.dt_world_model.specs.declared.links.Entered.{Entered}
 use Rattle.dt_world_model.specs.declared.links.Entered.TheVariants as entered
 use Rattle.dt_world_model.specs.Relay.{Expired, Goes, Left, Out, Parcel, Relay, enter, leave, lower_parcel, may_leave_from, most_on_link, on_link, with_outs, with_waits}

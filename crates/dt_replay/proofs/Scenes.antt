@@ -6,15 +6,17 @@ use Rattle.dt_reports.specs.declared.faults.StepFault.{StepFault}
 use Rattle.dt_text.specs.InputLines.{lines_of}
 use Rattle.dt_text.specs.Hexadecimal.{octets_of_hex}
 use Rattle.dt_text.specs.Said as said
-use Rattle.dt_text.specs.Said.{Said}
+use Rattle.dt_text.specs.Said.{RunSaid}
 use Rattle.dt_world_model.specs.Setup.{Setup, new_world}
 use Rattle.dt_world_model.specs.World.{World}
 use Rattle.dt_world_model.specs.WorldFacts.{CanHappen, SafeWorld, WorldFacts}
-use Rattle.dt_world_model.specs.WorldStep.{Arrives, Loses, Passes, Reads, Restarts, Sends, Ticks, WorldEvent, after_event, first_refusal, refusals, step_unless}
+use Rattle.dt_world_model.specs.WorldStep.{Reads, Sends, WorldEvent, after_event, first_refusal, refusals, step_unless}
 use Rattle.dt_world_laws.proofs.Promise.{facts_are_safe}
 use Rattle.dt_world_laws.proofs.Running.{run_goes}
 use Rattle.dt_world_laws.proofs.Starts.{new_world_facts}
 use Rattle.dt_scenario.specs.Parts.{IsLineOf}
+use Rattle.dt_scenario.specs.Scenes.{event_by}
+use Rattle.dt_scenario.proofs.Happenings.{can_happen}
 use Rattle.dt_scenario.proofs.Keeping.{IfTurned, facts_after}
 use Rattle.dt_replay.specs.Schedules.{by_step, does, replayed, simulates_world, world_after_lines, world_of}
 
@@ -39,27 +41,10 @@ event_kept : (count : ℕ) (w : World) (e : WorldEvent) → HasFacts count w →
 event_kept count w e h can = step_kept count w e (first_refusal (refusals w e)) refl h can
 
 -- the flow of a line has its numbers in their ranges
-line_kept : (count : ℕ) (w : World) (line : Said) → IsLineOf simulates_world line → HasFacts count w → IfTurned (HasFacts (suc count)) (does w line)
-line_kept count w (said.Pass by) is h = event_kept count w (Passes by) h tt
-line_kept count w (said.Send f begin end hex) is h = event_kept count w (Sends f (octets_of_hex hex) begin end) h is.1.0
-line_kept count w (said.Read f max) is h = event_kept count w (Reads f max) h is.1.0
-line_kept count w (said.Tick n) is h = event_kept count w (Ticks n) h tt
-line_kept count w (said.Arrive copy) is h = event_kept count w (Arrives copy) h tt
-line_kept count w (said.Lose copy) is h = event_kept count w (Loses copy) h tt
-line_kept count w (said.Restart n) is h = event_kept count w (Restarts n) h tt
-line_kept count w said.Blank is h = tt
-line_kept count w (said.Params p) is h = tt
-line_kept count w (said.Station n ahead) is h = tt
-line_kept count w (said.Link link from to charge pace) is h = tt
-line_kept count w (said.Route at to link) is h = tt
-line_kept count w said.Go is h = tt
-line_kept count w (said.Me n again) is h = tt
-line_kept count w (said.Local address) is h = tt
-line_kept count w (said.Peer link address charge pace) is h = tt
-line_kept count w (said.AtSend at f begin end hex) is h = tt
-line_kept count w (said.AtRead at f max) is h = tt
-line_kept count w (said.AtStop at) is h = tt
-line_kept count w (said.Shelf room) is h = tt
+line_kept : (count : ℕ) (w : World) (line : RunSaid) → IsLineOf simulates_world line → HasFacts count w → IfTurned (HasFacts (suc count)) (does w line)
+line_kept count w (said.World line) is h = event_kept count w (event_by line) h (can_happen line)
+line_kept count w (said.User (said.Send f begin end hex)) is h = event_kept count w (Sends f (octets_of_hex hex) begin end) h is.1.0
+line_kept count w (said.User (said.Read f max)) is h = event_kept count w (Reads f max) h is.1.0
 line_kept count w (said.Call f hex) is h = tt
 
 -- a world with its facts is safe

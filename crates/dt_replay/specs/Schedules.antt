@@ -5,41 +5,28 @@ use Rattle.dt_reports.specs.declared.faults.Fault.TheVariants as faults
 use Rattle.dt_log.specs.Logs.{log_text}
 use Rattle.dt_text.specs.declared.lines.Form.TheVariants.{Schedule}
 use Rattle.dt_text.specs.Said as said
-use Rattle.dt_text.specs.Said.{Said}
+use Rattle.dt_text.specs.Said.{RunSaid, UserSaid}
 use Rattle.dt_text.specs.Hexadecimal.{octets_of_hex}
 use Rattle.dt_text.specs.InputLines.{lines_of}
 use Rattle.dt_fold.specs.Folds.{Folded, Turned, fold_from, fold_input}
 use Rattle.dt_world_model.specs.World.{World, last_lines}
-use Rattle.dt_world_model.specs.WorldStep.{Arrives, Loses, Outcome, Passes, Reads, Refused, Restarts, Sends, Stepped, Ticks, world_step}
-use Rattle.dt_scenario.specs.Scenes.{Empty, Scene, Simulates, misplaced, scenario_turns, simulated}
+use Rattle.dt_world_model.specs.WorldStep.{Outcome, Reads, Refused, Sends, Stepped, WorldEvent, world_step}
+use Rattle.dt_scenario.specs.Scenes.{Empty, Scene, Simulates, event_by, misplaced, scenario_turns, simulated}
 
 -- a step of the world: its lines are logged, or its line is refused
 abbrev pub by_step : Outcome → Result (Turned World) Fault
 by_step (Stepped told after) = Ok (record { text = log_text told; state = after })
 by_step (Refused fault) = Err (faults.Step fault)
 
--- WHAT A LINE DOES behind `go`, one row a line. What the lines of the setup do is in `Scenes` of dt_scenario
-abbrev pub does : World → Said → Result (Turned World) Fault
-does w (said.Pass by) = by_step (world_step w (Passes by))
-does w (said.Send flow begin end hex) = by_step (world_step w (Sends flow (octets_of_hex hex) begin end))
-does w (said.Read flow max) = by_step (world_step w (Reads flow max))
-does w (said.Tick n) = by_step (world_step w (Ticks n))
-does w (said.Arrive copy) = by_step (world_step w (Arrives copy))
-does w (said.Lose copy) = by_step (world_step w (Loses copy))
-does w (said.Restart n) = by_step (world_step w (Restarts n))
-does w said.Blank = misplaced
-does w (said.Params p) = misplaced
-does w (said.Station n ahead) = misplaced
-does w (said.Link link from to charge pace) = misplaced
-does w (said.Route at to link) = misplaced
-does w said.Go = misplaced
-does w (said.Me n again) = misplaced
-does w (said.Local address) = misplaced
-does w (said.Peer link address charge pace) = misplaced
-does w (said.AtSend at flow begin end hex) = misplaced
-does w (said.AtRead at flow max) = misplaced
-does w (said.AtStop at) = misplaced
-does w (said.Shelf room) = misplaced
+-- what a user of a node makes happen, one row a line
+abbrev pub event_of_user : UserSaid → WorldEvent
+event_of_user (said.Send flow begin end hex) = Sends flow (octets_of_hex hex) begin end
+event_of_user (said.Read flow max) = Reads flow max
+
+-- WHAT A LINE DOES behind `go`. What the lines of the setup do is in `Scenes` of dt_scenario
+abbrev pub does : World → RunSaid → Result (Turned World) Fault
+does w (said.World line) = by_step (world_step w (event_by line))
+does w (said.User line) = by_step (world_step w (event_of_user line))
 does w (said.Call flow hex) = misplaced
 
 -- A SCHEDULE simulates the world of its setup. Behind the last line: the totals of the flows and the end

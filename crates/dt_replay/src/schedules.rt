@@ -1,12 +1,17 @@
 //! What the lines of a schedule do behind `go`.
+ghost use Rattle.dt_fold.specs.Logging.{TurnsTo};
+ghost use Rattle.dt_text.specs.Said.{User, user_said};
+ghost use Rattle.dt_world_model.specs.WorldStep.{world_step};
+ghost use Rattle.dt_scenario.specs.Parts.{IsLineOf};
+ghost use Rattle.dt_replay.specs.Schedules.{by_step, event_of_user, simulates_world};
+
 use crate::running::{close_world, step};
 use dt_edges::{Failed, Sink};
 use dt_fold::Stop;
 use dt_items::NoMemory;
 use dt_reports::Fault;
-use dt_scenario::{MISPLACED, Scenario, Simulation};
-use dt_text::{Form, Line, decode_hex};
-use dt_units::NodeId;
+use dt_scenario::{MISPLACED, Scenario, Simulation, world_event};
+use dt_text::{Form, RunLine, UserLine, decode_hex};
 use dt_world::{Event, Setup, World};
 use std::alloc::Global;
 use std::mem::size_of;
@@ -44,11 +49,27 @@ impl Simulation for ScheduledWorld {
         })
     }
 
-    fn happen<K: Sink>(&mut self, line: &Line<'_>, out: &mut K) -> Result<Option<Fault>, Stop> {
-        let world = &mut self.world;
+    fn happen<K: Sink>(&mut self, line: &RunLine<'_>, out: &mut K) -> Result<Option<Fault>, Stop> {
+        match line {
+            RunLine::World(line) => step(&mut self.world, &world_event(*line), out),
+            RunLine::User(line) => self.use_node(line, out),
+            RunLine::Call { .. } => Ok(Some(MISPLACED)),
+        }
+    }
+
+    fn close<K: Sink>(&self, out: &mut K) -> Result<(), Failed> {
+        close_world(&self.world, out)
+    }
+}
+
+impl ScheduledWorld {
+    /// The user of a node does something.
+    fn use_node<K: Sink>(&mut self, line: &UserLine<'_>, out: &mut K) -> Result<Option<Fault>, Stop>
+        requires { IsLineOf simulates_world (User (user_said line.now)) }
+        ensures { TurnsTo K.sight (by_step (world_step self.old.world.state (event_of_user (user_said line.now)))) result self.old.world.state self.new.world.state out.old out.new }
+    {
         match *line {
-            Line::Pass { by } => step(world, &Event::Pass { by }, out),
-            Line::Send {
+            UserLine::Send {
                 flow,
                 begin,
                 end,
@@ -56,40 +77,15 @@ impl Simulation for ScheduledWorld {
             } => {
                 decode_hex(hex, &mut self.octets)?;
                 let octets = &self.octets;
-                step(
-                    world,
-                    &Event::Send {
-                        flow,
-                        octets,
-                        begin,
-                        end,
-                    },
-                    out,
-                )
+                let event = Event::Send {
+                    flow,
+                    octets,
+                    begin,
+                    end,
+                };
+                step(&mut self.world, &event, out)
             }
-            Line::Read { flow, max } => step(world, &Event::Read { flow, max }, out),
-            Line::Tick { n } => step(world, &Event::Tick { station: NodeId(n) }, out),
-            Line::Arrive { copy } => step(world, &Event::Arrive { copy }, out),
-            Line::Lose { copy } => step(world, &Event::Lose { copy }, out),
-            Line::Restart { n } => step(world, &Event::Restart { station: NodeId(n) }, out),
-            Line::Blank
-            | Line::Params(_)
-            | Line::Station { .. }
-            | Line::Link { .. }
-            | Line::Route { .. }
-            | Line::Go
-            | Line::Me { .. }
-            | Line::Local(_)
-            | Line::Peer { .. }
-            | Line::AtSend { .. }
-            | Line::AtRead { .. }
-            | Line::AtStop { .. }
-            | Line::Shelf { .. }
-            | Line::Call { .. } => Ok(Some(MISPLACED)),
+            UserLine::Read { flow, max } => step(&mut self.world, &Event::Read { flow, max }, out),
         }
-    }
-
-    fn close<K: Sink>(&self, out: &mut K) -> Result<(), Failed> {
-        close_world(&self.world, out)
     }
 }

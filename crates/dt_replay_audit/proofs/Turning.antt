@@ -18,7 +18,11 @@ use Rattle.dt_text.specs.declared.stages.Stage.{Stage}
 use Rattle.dt_text.specs.InputLines.{lines_of}
 use Rattle.dt_text.specs.Hexadecimal.{octets_of_hex}
 use Rattle.dt_text.specs.Said as said
-use Rattle.dt_text.specs.Said.{Said}
+use Rattle.dt_text.specs.Said.{RunSaid, Said}
+use Rattle.dt_text.specs.declared.lines.SetupLine.{SetupLine}
+use Rattle.dt_text.specs.declared.lines.SetupLine.TheVariants as setups
+use Rattle.dt_text.specs.declared.lines.WorldLine.{WorldLine}
+use Rattle.dt_text.specs.declared.lines.WorldLine.TheVariants as worlds
 use Rattle.dt_text.specs.Lines.{line_of}
 use Rattle.dt_text.specs.Spelling.{IsLine}
 use Rattle.dt_text.specs.Stages.{stage_after}
@@ -27,8 +31,9 @@ use Rattle.dt_world_model.specs.Setup.{AddLink, AddRoute, AddStation, Setup, Set
 use Rattle.dt_world_model.specs.Tables.{AllEntries}
 use Rattle.dt_world_model.specs.World.{World, last_lines}
 use Rattle.dt_world_model.specs.WorldFacts.{CanHappen}
-use Rattle.dt_world_model.specs.WorldStep.{Arrives, Loses, Outcome, Passes, Reads, Refused, Restarts, Sends, Stepped, Ticks, WorldEvent, first_refusal, world_step}
-use Rattle.dt_scenario.specs.Scenes.{Empty, Prepares, Runs, Scene, adds, by_params, by_run, by_setup, close, done_by, done_if, goes, happens, scenario_turns, stage_of, turn, turn_read}
+use Rattle.dt_world_model.specs.WorldStep.{Outcome, Reads, Refused, Sends, Stepped, WorldEvent, first_refusal, world_step}
+use Rattle.dt_scenario.specs.Scenes.{Empty, Prepares, Runs, Scene, adds, call_of, event_by, by_params, by_run, by_setup, close, done_by, done_if, goes, happens, scenario_turns, stage_of, turn, turn_read}
+use Rattle.dt_scenario.proofs.Happenings.{can_happen}
 use Rattle.dt_scenario.proofs.Keeping.{read_line}
 use Rattle.dt_replay.specs.Schedules.{by_step, does, replay_text, replayed, simulates_world}
 use Rattle.dt_audit.specs.declared.facts.Fact.{Fact}
@@ -116,7 +121,7 @@ step_turn count book w e (Stepped lines after) is small can short h =
     let one = step_passes count w book e lines after small can short h is in
     record { told = lines; logs = refl; next = one.next; passes = one.passes; written = one.written; logged = one.logged }
 
-happens_turn : (count : ℕ) (book : Book FlowLog) (scene : Scene World) (line : Said) → ((w : World) → IsLogged count w book → TurnPasses (suc count) book (by_run (does w line))) → IsSceneLogged count scene book → TurnPasses (suc count) book (happens simulates_world scene line)
+happens_turn : (count : ℕ) (book : Book FlowLog) (scene : Scene World) (line : RunSaid) → ((w : World) → IsLogged count w book → TurnPasses (suc count) book (by_run (does w line))) → IsSceneLogged count scene book → TurnPasses (suc count) book (happens simulates_world scene line)
 happens_turn count book Empty line on h = tt
 happens_turn count book (Prepares setup) line on h = tt
 happens_turn count book (Runs w) line on h = on w h
@@ -124,31 +129,31 @@ happens_turn count book (Runs w) line on h = on w h
 event_turn : (count : ℕ) (book : Book FlowLog) (e : WorldEvent) → suc count < 2 ^ 32 → CanHappen e → IsShort e → (w : World) → IsLogged count w book → TurnPasses (suc count) book (by_run (by_step (world_step w e)))
 event_turn count book e small can short w h = step_turn count book w e (world_step w e) refl small can short h
 
+-- LINES of a kind: the numbers of the setup, of what happens and of what a user does are within 32 bits
+call_small : (line : SetupLine) → IsLine Schedule (said.Setup line) → IsCallSmall (call_of line)
+call_small (setups.Station n ahead) is = omega (arith, is.1.0.1)
+call_small line is = search refl
+
+world_short : (line : WorldLine) → IsLine Schedule (said.Run (said.World line)) → IsShort (event_by line)
+world_short (worlds.Pass by) is = omega (arith, is.1.0.1)
+world_short line is = search refl
+
+run_passes : (count : ℕ) (book : Book FlowLog) (line : RunSaid) → suc count < 2 ^ 32 → IsLine Schedule (said.Run line) → (w : World) → IsLogged count w book → TurnPasses (suc count) book (by_run (does w line))
+run_passes count book (said.World line) small is w h = event_turn count book (event_by line) small (can_happen line) (world_short line is) w h
+run_passes count book (said.User (said.Send f begin end hex)) small is w h = event_turn count book (Sends f (octets_of_hex hex) begin end) small is.1.0 tt w h
+run_passes count book (said.User (said.Read f max)) small is w h = event_turn count book (Reads f max) small is.1.0 tt w h
+run_passes count book (said.Call f hex) small is w h = tt
+
 -- A LINE: what it does where it is allowed. `params` is allowed before a world alone
 done_passes : (count : ℕ) (book : Book FlowLog) (scene : Scene World) (line : Said) (stage : Stage) → stage_after Schedule (stage_of scene) line ≡ Some stage → suc count < 2 ^ 32 → IsLine Schedule line → IsSceneLogged count scene book → TurnPasses (suc count) book (done_by simulates_world scene line)
 done_passes count book scene said.Blank stage on small is h = tells_nothing (suc count) scene book (scene_more count scene book h)
 done_passes count book Empty (said.Params p) stage on small is h = params_passes (suc count) book p (first_out_of_range p) refl h
 done_passes count book (Prepares setup) (said.Params p) stage on small is h = params_passes (suc count) book p (first_out_of_range p) refl h.1
 done_passes count book (Runs w) (said.Params p) stage on small is h = absurd cc
-done_passes count book scene (said.Station n ahead) stage on small is h = setup_turn (suc count) book scene (AddStation n ahead) (omega (arith, is.1.0.1)) (scene_more count scene book h)
-done_passes count book scene (said.Link link from to charge pace) stage on small is h = setup_turn (suc count) book scene (AddLink (record { link = link; from = from; to = to; charge = charge; pace = pace })) tt (scene_more count scene book h)
-done_passes count book scene (said.Route at to link) stage on small is h = setup_turn (suc count) book scene (AddRoute at (record { to = to; link = link })) tt (scene_more count scene book h)
 done_passes count book scene said.Go stage on small is h = go_turn (suc count) book scene (scene_more count scene book h)
-done_passes count book scene (said.Pass by) stage on small is h = happens_turn count book scene (said.Pass by) (event_turn count book (Passes by) small tt (omega (arith, is.1.0.1))) h
-done_passes count book scene (said.Send f begin end hex) stage on small is h = happens_turn count book scene (said.Send f begin end hex) (event_turn count book (Sends f (octets_of_hex hex) begin end) small is.1.0 tt) h
-done_passes count book scene (said.Read f max) stage on small is h = happens_turn count book scene (said.Read f max) (event_turn count book (Reads f max) small is.1.0 tt) h
-done_passes count book scene (said.Tick n) stage on small is h = happens_turn count book scene (said.Tick n) (event_turn count book (Ticks n) small tt tt) h
-done_passes count book scene (said.Arrive copy) stage on small is h = happens_turn count book scene (said.Arrive copy) (event_turn count book (Arrives copy) small tt tt) h
-done_passes count book scene (said.Lose copy) stage on small is h = happens_turn count book scene (said.Lose copy) (event_turn count book (Loses copy) small tt tt) h
-done_passes count book scene (said.Restart n) stage on small is h = happens_turn count book scene (said.Restart n) (event_turn count book (Restarts n) small tt tt) h
-done_passes count book scene (said.Me n again) stage on small is h = happens_turn count book scene (said.Me n again) (λ w logged. tt) h
-done_passes count book scene (said.Local address) stage on small is h = happens_turn count book scene (said.Local address) (λ w logged. tt) h
-done_passes count book scene (said.Peer link address charge pace) stage on small is h = happens_turn count book scene (said.Peer link address charge pace) (λ w logged. tt) h
-done_passes count book scene (said.AtSend at f begin end hex) stage on small is h = happens_turn count book scene (said.AtSend at f begin end hex) (λ w logged. tt) h
-done_passes count book scene (said.AtRead at f max) stage on small is h = happens_turn count book scene (said.AtRead at f max) (λ w logged. tt) h
-done_passes count book scene (said.AtStop at) stage on small is h = happens_turn count book scene (said.AtStop at) (λ w logged. tt) h
-done_passes count book scene (said.Shelf room) stage on small is h = happens_turn count book scene (said.Shelf room) (λ w logged. tt) h
-done_passes count book scene (said.Call f hex) stage on small is h = happens_turn count book scene (said.Call f hex) (λ w logged. tt) h
+done_passes count book scene (said.Setup line) stage on small is h = setup_turn (suc count) book scene (call_of line) (call_small line is) (scene_more count scene book h)
+done_passes count book scene (said.Run line) stage on small is h = happens_turn count book scene line (run_passes count book line small is) h
+done_passes count book scene (said.Script line) stage on small is h = tt
 
 allowed_passes : (count : ℕ) (book : Book FlowLog) (scene : Scene World) (line : Said) (stage : Option Stage) → stage_after Schedule (stage_of scene) line ≡ stage → suc count < 2 ^ 32 → IsLine Schedule line → IsSceneLogged count scene book → TurnPasses (suc count) book (done_if simulates_world stage scene line)
 allowed_passes count book scene line None on small is h = tt

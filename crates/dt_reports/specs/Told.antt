@@ -1,6 +1,6 @@
 -- What was told: the report itself. But octets that it lends are known by what they are alone, so the place
 -- where they lie is put out of it: of two reports with the same octets at two places the same is told.
-use Rattle.std.specs.Prelude.{ℕ, List, Bool}
+use Rattle.std.specs.Prelude.{ℕ, List, [], Bool}
 use Rattle.dt_units.specs.declared.endpoints.Flow.{Flow}
 use Rattle.dt_reports.specs.declared.reports.Report.{Report}
 use Rattle.dt_reports.specs.declared.reports.Report.TheVariants as reports
@@ -21,3 +21,8 @@ totals_told flow t = reports.FlowTotals flow t.taken t.acked t.uncertain t.unset
 abbrev pub told : Report → Told
 told (reports.Read flow run begin end octets) = read_told flow run begin end octets.now
 told other = other
+
+-- the same without the octets of a piece
+abbrev pub without_octets : Told → Told
+without_octets (reports.Read flow run begin end octets) = read_told flow run begin end []
+without_octets other = other

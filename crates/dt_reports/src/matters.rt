@@ -1,10 +1,5 @@
-//! What a report says of octets, packets and lives: the one table over all reports.
-ghost use Rattle.std.specs.Prelude.{◌≡◌};
-ghost use Rattle.dt_reports.specs.Matters.{matter_of, matter_seen};
-ghost use Rattle.dt_reports.specs.Told.{told};
-
+//! What a report says of octets, packets and lives.
 use crate::faults::Refusal;
-use crate::reports::Report;
 use dt_units::Flow;
 
 /// What a report says of octets, packets and lives. Counts and windows are octets, lives of packets
@@ -81,89 +76,4 @@ pub enum Matter<'a> {
     },
     /// None of these.
     Neither,
-}
-
-impl<'a> Report<'a> {
-    /// What the report says of octets, packets and lives: one row a report.
-    pub fn matter(&self) -> Matter<'a>
-        ensures { matter_seen result ≡ matter_of (told self.now) }
-    {
-        match *self {
-            Report::Took { flow, count } => Matter::Taken { flow, count },
-            Report::Refused { flow, fault } => Matter::Refused { flow, fault },
-            Report::Sent {
-                flow,
-                number,
-                length: count,
-                ..
-            } => Matter::Transmitted {
-                flow,
-                number,
-                count,
-            },
-            Report::Resent { flow, .. } | Report::Met { flow, .. } => Matter::Retransmitted {
-                flow,
-            },
-            Report::Uncertain { flow, count } => Matter::GivenUp { flow, count },
-            Report::Settled {
-                flow,
-                count,
-                window,
-            } => Matter::Acknowledged {
-                flow,
-                count,
-                window,
-            },
-            Report::Accepted {
-                flow,
-                number,
-                length: count,
-                run,
-            } => Matter::Accepted {
-                flow,
-                number,
-                count,
-                run,
-            },
-            Report::Replied { flow, number, .. } => Matter::Replied { flow, number },
-            Report::Dropped { flow, .. } => Matter::Dropped { flow },
-            Report::Read {
-                flow,
-                run,
-                begin,
-                end,
-                octets,
-            } => Matter::ReadOut {
-                flow,
-                run,
-                begin,
-                end,
-                octets,
-            },
-            Report::Nothing { flow } => Matter::NothingRead { flow },
-            Report::Put { link, life } => Matter::Left { link, life },
-            Report::Restarted { life } => Matter::Begun { life },
-            Report::Released { .. }
-            | Report::Renewed { .. }
-            | Report::Acked { .. }
-            | Report::Closing { .. }
-            | Report::Ignored { .. }
-            | Report::Quiet { .. }
-            | Report::PutAs { .. }
-            | Report::ExpiredIn { .. }
-            | Report::ExpiredOut { .. }
-            | Report::NoRoute { .. }
-            | Report::Full { .. }
-            | Report::Bad { .. }
-            | Report::Unsent { .. }
-            | Report::Shelved { .. }
-            | Report::NoShelf { .. }
-            | Report::Again { .. }
-            | Report::Stale { .. }
-            | Report::Lost { .. }
-            | Report::FlowTotals { .. }
-            | Report::End
-            | Report::Fault { .. } => Matter::Neither,
-        }
-    }
 }

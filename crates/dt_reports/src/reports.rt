@@ -1,4 +1,10 @@
+//! What is told in the log, and what each report says of octets, packets and lives: one row a report.
+ghost use Rattle.std.specs.Prelude.{◌≡◌};
+ghost use Rattle.dt_reports.specs.Matters.{matter_of, matter_seen};
+ghost use Rattle.dt_reports.specs.Told.{told, without_octets};
+
 use crate::faults::{Fault, Refusal};
+use crate::matters::Matter;
 use dt_layout::LayoutFault;
 use dt_units::Flow;
 
@@ -191,4 +197,144 @@ pub enum Report<'a> {
         line: u64,
         fault: Fault,
     },
+}
+
+/// A match on a report, with one row a report of which every field is kept.
+macro_rules! keeping {
+    ($report:expr; $($told:ident { $($field:ident),* },)*; $($other:pat => $kept:expr,)*) => {
+        match $report {
+            $(Report::$told { $($field),* } => Report::$told { $($field),* },)*
+            $($other => $kept,)*
+        }
+    };
+}
+
+impl<'a> Report<'a> {
+    /// What the report says of octets, packets and lives: one row a report.
+    pub fn matter(&self) -> Matter<'a>
+        ensures { matter_seen result ≡ matter_of (told self.now) }
+    {
+        match *self {
+            Report::Took { flow, count } => Matter::Taken { flow, count },
+            Report::Refused { flow, fault } => Matter::Refused { flow, fault },
+            Report::Sent {
+                flow,
+                number,
+                length: count,
+                ..
+            } => Matter::Transmitted {
+                flow,
+                number,
+                count,
+            },
+            Report::Resent { flow, .. } | Report::Met { flow, .. } => Matter::Retransmitted {
+                flow,
+            },
+            Report::Uncertain { flow, count } => Matter::GivenUp { flow, count },
+            Report::Settled {
+                flow,
+                count,
+                window,
+            } => Matter::Acknowledged {
+                flow,
+                count,
+                window,
+            },
+            Report::Accepted {
+                flow,
+                number,
+                length: count,
+                run,
+            } => Matter::Accepted {
+                flow,
+                number,
+                count,
+                run,
+            },
+            Report::Replied { flow, number, .. } => Matter::Replied { flow, number },
+            Report::Dropped { flow, .. } => Matter::Dropped { flow },
+            Report::Read {
+                flow,
+                run,
+                begin,
+                end,
+                octets,
+            } => Matter::ReadOut {
+                flow,
+                run,
+                begin,
+                end,
+                octets,
+            },
+            Report::Nothing { flow } => Matter::NothingRead { flow },
+            Report::Put { link, life } => Matter::Left { link, life },
+            Report::Restarted { life } => Matter::Begun { life },
+            Report::Released { .. }
+            | Report::Renewed { .. }
+            | Report::Acked { .. }
+            | Report::Closing { .. }
+            | Report::Ignored { .. }
+            | Report::Quiet { .. }
+            | Report::PutAs { .. }
+            | Report::ExpiredIn { .. }
+            | Report::ExpiredOut { .. }
+            | Report::NoRoute { .. }
+            | Report::Full { .. }
+            | Report::Bad { .. }
+            | Report::Unsent { .. }
+            | Report::Shelved { .. }
+            | Report::NoShelf { .. }
+            | Report::Again { .. }
+            | Report::Stale { .. }
+            | Report::Lost { .. }
+            | Report::FlowTotals { .. }
+            | Report::End
+            | Report::Fault { .. } => Matter::Neither,
+        }
+    }
+
+    /// The report without the octets of a piece that was read, which are known by their count no more
+    /// either: one row a report.
+    pub fn without_octets(&self) -> Report<'static>
+        ensures { told result ≡ without_octets (told self.now) }
+    {
+        keeping! { *self;
+            Took { flow, count },
+            Refused { flow, fault },
+            Sent { flow, number, length, drf, begin, end },
+            Resent { flow, number, length, drf, begin, end },
+            Met { flow, number },
+            Uncertain { flow, count },
+            Released { flow, sending },
+            Renewed { flow },
+            Acked { flow, number, window },
+            Replied { flow, number, window },
+            Accepted { flow, number, length, run },
+            Dropped { flow, number },
+            Closing { flow, number },
+            Settled { flow, count, window },
+            Ignored { flow, number, window },
+            Quiet { until },
+            Nothing { flow },
+            Put { link, life },
+            PutAs { link, life, copy },
+            ExpiredIn { link },
+            ExpiredOut { link },
+            NoRoute { to },
+            Full { link },
+            Bad { fault },
+            Unsent { link },
+            Shelved { flow, number },
+            NoShelf { flow, number },
+            Again { flow, number },
+            Stale { flow, number },
+            Restarted { life },
+            Lost { copy },
+            FlowTotals { flow, taken, acked, uncertain, unsettled, given, read },
+            Fault { line, fault },
+            ;
+            Report::Read { flow, run, begin, end, .. } => Report::Read { flow, run, begin, end, octets: &[] },
+            Report::End => Report::End,
+        }
+    }
 }

@@ -10,8 +10,8 @@ use Rattle.dt_node.specs.declared.forms.Form.TheVariants as forms
 use Rattle.dt_node.specs.declared.outcomes.NodeOutcome.{NodeOutcome}
 use Rattle.dt_node.specs.declared.outcomes.NodeOutcome.TheVariants.{Done, Refused, NoMemory, WireFault, ClockStill, WriteFault}
 use Rattle.dt_node.specs.Answering.{AnswersBy}
-use Rattle.dt_node.specs.Drafts.{refusal_text}
-use Rattle.dt_node.specs.Orders.{Orders}
+use Rattle.dt_script.specs.Drafts.{refusal_text}
+use Rattle.dt_script.specs.Orders.{Orders}
 use Rattle.dt_node.specs.Serving.{Serves, edges}
 use Rattle.dt_retrace.specs.Completing.{GoesToStop}
 use Rattle.dt_retrace.specs.Parts.{text_of}

@@ -12,8 +12,8 @@ use Rattle.dt_reports.specs.declared.faults.LineFault.TheVariants.{Word}
 use Rattle.dt_text.specs.declared.lines.Form.TheVariants.{Script}
 use Rattle.dt_text.specs.Lines.{line_of}
 use Rattle.dt_text.specs.Said.{Said}
-use Rattle.dt_node.specs.Drafts.{Draft, Empty, orders_in, read_script, script_of, script_turns, turn_line, turn_read}
-use Rattle.dt_node.specs.Orders.{Orders}
+use Rattle.dt_script.specs.Drafts.{Draft, Empty, orders_in, read_script, script_of, script_turns, turn_line, turn_read}
+use Rattle.dt_script.specs.Orders.{Orders}
 use Rattle.dt_retrace.specs.Parts.{cut_lines, is_mark, text_of, with_line}
 use Rattle.dt_retrace.specs.Repeating.{joined}
 use Rattle.dt_retrace.proofs.Cutting.{not_mark}

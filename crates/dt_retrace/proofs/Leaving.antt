@@ -3,9 +3,10 @@ use Rattle.std.proofs.Common.{◌≡◌, ◌⊎◌, inl, inr, if◌then◌else�
 use Rattle.dt_edges.specs.Wires.{Datagram}
 use Rattle.dt_node.specs.declared.watch.Watch.{Watch}
 use Rattle.dt_node.specs.Acts.{answer_of}
-use Rattle.dt_node.specs.Orders.{Node, Orders, first_node}
+use Rattle.dt_script.specs.Orders.{Orders}
+use Rattle.dt_turn.specs.Nodes.{Node, first_node}
 use Rattle.dt_node.specs.Runs.{Ending, LeftOver, Run, StoodStill, Stopped, Unfinished, after_turn, ends, ends_at, first_watch, moment, most_equal, next_watch, node_run, run_from}
-use Rattle.dt_node.specs.Turns.{turn}
+use Rattle.dt_turn.specs.Turns.{turn}
 
 abbrev pub HasEnded : Ending → Type 0
 HasEnded ending = (ending ≡ Stopped) ⊎ (ending ≡ StoodStill)

@@ -9,7 +9,7 @@ use Rattle.dt_edges.specs.Counts.{is_planned}
 use Rattle.dt_edges.specs.Wires.{Datagram, Plan}
 use Rattle.dt_node.specs.declared.outcomes.NodeOutcome.{NodeOutcome}
 use Rattle.dt_node.specs.declared.outcomes.NodeOutcome.TheVariants.{Done, Refused, NoMemory, WireFault, ClockStill, WriteFault}
-use Rattle.dt_node.specs.Orders.{Orders}
+use Rattle.dt_script.specs.Orders.{Orders}
 use Rattle.dt_node.specs.Runs.{Ending, LeftOver, Run, StoodStill, Stopped, Unfinished, node_run}
 use Rattle.dt_node.specs.Serving.{CountsTakes, EndsAs, FailsAs, HasFailed, IsWhole, NoneFails}
 use Rattle.dt_retrace.proofs.Leaving.{HasEnded, run_leaves}

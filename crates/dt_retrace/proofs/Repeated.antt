@@ -18,8 +18,8 @@ use Rattle.dt_node.specs.declared.outcomes.NodeOutcome.TheVariants.{Done, Refuse
 use Rattle.dt_node.specs.Acts.{Deed, act_of, fates, log_lines}
 use Rattle.dt_node.specs.Answering.{AnswersBy}
 use Rattle.dt_node.specs.Deeds.{lost_numbers}
-use Rattle.dt_node.specs.Drafts.{refusal_text, script_of}
-use Rattle.dt_node.specs.Orders.{Orders}
+use Rattle.dt_script.specs.Drafts.{refusal_text, script_of}
+use Rattle.dt_script.specs.Orders.{Orders}
 use Rattle.dt_node.specs.Runs.{Run, node_run}
 use Rattle.dt_node.specs.TakingIn.{run_inputs}
 use Rattle.dt_node.specs.Serving.{Edges, EndsAs, IsFresh, IsWhole, Serves, edges, most_taken, recorded}

@@ -3,8 +3,8 @@ use Rattle.std.specs.Prelude.{◌≡◌, ℕ, false, List, [], Some, Ok}
 use Rattle.dt_text.specs.InputLines.{lines_of}
 use Rattle.dt_trace.specs.Traces.{Recorded, nothing, or_zero, read_from}
 use Rattle.dt_node.specs.Completing.{ReachesStop}
-use Rattle.dt_node.specs.Drafts.{script_of}
-use Rattle.dt_node.specs.Orders.{Orders}
+use Rattle.dt_script.specs.Drafts.{script_of}
+use Rattle.dt_script.specs.Orders.{Orders}
 use Rattle.dt_retrace.specs.Parts.{cut_lines, text_of}
 
 -- No line of the input is refused, the readings of its trace reach the stop of its script, and the trace lists neither an open nor a take that failed.

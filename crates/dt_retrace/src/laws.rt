@@ -4,8 +4,8 @@ ghost use Rattle.std.specs.Prelude.{◌≡◌, ◌<◌, ◌^◌, List, Some, ℕ
 ghost use Rattle.dt_edges.specs.Sinks.{SinkSight};
 ghost use Rattle.dt_log.specs.Logs.{log_text};
 ghost use Rattle.dt_node.specs.Acts.{fates, log_lines};
-ghost use Rattle.dt_node.specs.Drafts.{script_of};
-ghost use Rattle.dt_node.specs.Orders.{Orders};
+ghost use Rattle.dt_script.specs.Drafts.{script_of};
+ghost use Rattle.dt_script.specs.Orders.{Orders};
 ghost use Rattle.dt_node.specs.Serving.{Edges, IsWhole, Serves};
 ghost use Rattle.dt_node.specs.declared.forms.Form.TheVariants.{Trace};
 ghost use Rattle.dt_node.specs.declared.outcomes.NodeOutcome.{NodeOutcome};

@@ -11,7 +11,7 @@ use Rattle.dt_text.specs.declared.lines.Form.{Form}
 use Rattle.dt_text.specs.declared.lines.Form.TheVariants.{Schedule, Script, Calls}
 use Rattle.dt_text.specs.declared.stages.Stage.{Stage}
 use Rattle.dt_text.specs.Said as said
-use Rattle.dt_text.specs.Said.{Said}
+use Rattle.dt_text.specs.Said.{RunSaid, Said}
 use Rattle.dt_text.specs.Lines.{line_of}
 use Rattle.dt_text.specs.Spelling.{IsLine}
 use Rattle.dt_text.specs.Stages.{stage_after}
@@ -20,7 +20,7 @@ use Rattle.dt_fold.specs.Folds.{Folded, Turned, closed, fold_from, fold_on}
 use Rattle.dt_world_model.specs.Setup.{AddLink, AddRoute, AddStation, Setup, SetupCall, added, new_world, setup_refusals, setup_unless}
 use Rattle.dt_world_model.specs.WorldStep.{first_refusal}
 use Rattle.dt_scenario.specs.Parts.{IsLineOf}
-use Rattle.dt_scenario.specs.Scenes.{Empty, Prepares, Runs, Scene, Simulates, adds, by_params, by_run, by_setup, close, done_by, done_if, goes, happens, scenario_turns, simulated, stage_of, turn, turn_read}
+use Rattle.dt_scenario.specs.Scenes.{Empty, Prepares, Runs, Scene, Simulates, adds, call_of, by_params, by_run, by_setup, close, done_by, done_if, goes, happens, scenario_turns, simulated, stage_of, turn, turn_read}
 
 -- a line that is read is one of its form
 blank_line : (form : Form) → IsLine form said.Blank
@@ -40,7 +40,7 @@ IfTurned P (Err fault) = Unit {0}
 module _ {S : Type 0} (sim : Simulates S) (Facts : ℕ → S → Type 0)
     (later : (count more : ℕ) (s : S) → count ≤ more → Facts count s → Facts more s)
     (starts : (count : ℕ) (setup : Setup) → IsWithinLimits setup.params → Facts count (sim.starts (new_world setup)))
-    (does : (count : ℕ) (s : S) (line : Said) → IsLineOf sim line → Facts count s → IfTurned (Facts (suc count)) (sim.does s line)) where
+    (does : (count : ℕ) (s : S) (line : RunSaid) → IsLineOf sim line → Facts count s → IfTurned (Facts (suc count)) (sim.does s line)) where
   -- After so many lines: the parameters are within their limits, and the simulation has its facts.
   abbrev IsScene : ℕ → Scene S → Type 0
   IsScene count Empty = Unit {0}
@@ -82,35 +82,20 @@ module _ {S : Type 0} (sim : Simulates S) (Facts : ℕ → S → Type 0)
   run_kept count (Ok turned) h = h
   run_kept count (Err fault) h = tt
 
-  happens_kept : (count : ℕ) (scene : Scene S) (line : Said) → IsLineOf sim line → IsScene count scene → IsKept (suc count) (happens sim scene line)
+  happens_kept : (count : ℕ) (scene : Scene S) (line : RunSaid) → IsLineOf sim line → IsScene count scene → IsKept (suc count) (happens sim scene line)
   happens_kept count Empty line is h = tt
   happens_kept count (Prepares setup) line is h = tt
   happens_kept count (Runs s) line is h = run_kept (suc count) (sim.does s line) (does count s line is h)
 
-  done_kept : (count : ℕ) (scene : Scene S) (line : Said) → IsLineOf sim line → IsScene count scene → IsKept (suc count) (done_by sim scene line)
+  done_kept : (count : ℕ) (scene : Scene S) (line : Said) → IsLine sim.form line → IsScene count scene → IsKept (suc count) (done_by sim scene line)
   done_kept count scene said.Blank is h = scene_later count (suc count) scene (omega arith) h
   done_kept count scene (said.Params p) is h = params_kept (suc count) p (first_out_of_range p) refl
-  done_kept count scene (said.Station n ahead) is h = adds_kept count scene (AddStation n ahead) h
-  done_kept count scene (said.Link link from to charge pace) is h = adds_kept count scene (AddLink (record { link = link; from = from; to = to; charge = charge; pace = pace })) h
-  done_kept count scene (said.Route at to link) is h = adds_kept count scene (AddRoute at (record { to = to; link = link })) h
   done_kept count scene said.Go is h = go_kept count scene h
-  done_kept count scene (said.Pass by) is h = happens_kept count scene (said.Pass by) is h
-  done_kept count scene (said.Send flow begin end hex) is h = happens_kept count scene (said.Send flow begin end hex) is h
-  done_kept count scene (said.Read flow max) is h = happens_kept count scene (said.Read flow max) is h
-  done_kept count scene (said.Tick n) is h = happens_kept count scene (said.Tick n) is h
-  done_kept count scene (said.Arrive copy) is h = happens_kept count scene (said.Arrive copy) is h
-  done_kept count scene (said.Lose copy) is h = happens_kept count scene (said.Lose copy) is h
-  done_kept count scene (said.Restart n) is h = happens_kept count scene (said.Restart n) is h
-  done_kept count scene (said.Me n again) is h = happens_kept count scene (said.Me n again) is h
-  done_kept count scene (said.Local address) is h = happens_kept count scene (said.Local address) is h
-  done_kept count scene (said.Peer link address charge pace) is h = happens_kept count scene (said.Peer link address charge pace) is h
-  done_kept count scene (said.AtSend at flow begin end hex) is h = happens_kept count scene (said.AtSend at flow begin end hex) is h
-  done_kept count scene (said.AtRead at flow max) is h = happens_kept count scene (said.AtRead at flow max) is h
-  done_kept count scene (said.AtStop at) is h = happens_kept count scene (said.AtStop at) is h
-  done_kept count scene (said.Shelf room) is h = happens_kept count scene (said.Shelf room) is h
-  done_kept count scene (said.Call flow hex) is h = happens_kept count scene (said.Call flow hex) is h
+  done_kept count scene (said.Setup line) is h = adds_kept count scene (call_of line) h
+  done_kept count scene (said.Run line) is h = happens_kept count scene line is h
+  done_kept count scene (said.Script line) is h = tt
 
-  allowed_kept : (count : ℕ) (scene : Scene S) (line : Said) (stage : Option Stage) → IsLineOf sim line → IsScene count scene → IsKept (suc count) (done_if sim stage scene line)
+  allowed_kept : (count : ℕ) (scene : Scene S) (line : Said) (stage : Option Stage) → IsLine sim.form line → IsScene count scene → IsKept (suc count) (done_if sim stage scene line)
   allowed_kept count scene line None is h = tt
   allowed_kept count scene line (Some stage) is h = done_kept count scene line is h
 

@@ -11,13 +11,18 @@ use Rattle.dt_reports.specs.declared.faults.SetupFault.{SetupFault}
 use Rattle.dt_text.specs.declared.lines.Form.{Form}
 use Rattle.dt_text.specs.declared.stages.Stage.{Stage}
 use Rattle.dt_text.specs.declared.stages.Stage.TheVariants as stages
+use Rattle.dt_text.specs.declared.lines.SetupLine.{SetupLine}
+use Rattle.dt_text.specs.declared.lines.SetupLine.TheVariants as setups
+use Rattle.dt_text.specs.declared.lines.WorldLine.{WorldLine}
+use Rattle.dt_text.specs.declared.lines.WorldLine.TheVariants as worlds
 use Rattle.dt_text.specs.Said as said
-use Rattle.dt_text.specs.Said.{Said}
+use Rattle.dt_text.specs.Said.{RunSaid, Said}
 use Rattle.dt_text.specs.Lines.{line_of}
 use Rattle.dt_text.specs.Stages.{stage_after}
 use Rattle.dt_fold.specs.Folds.{Turned, Turns}
 use Rattle.dt_world_model.specs.Setup.{AddLink, AddRoute, AddStation, Setup, SetupCall, new_setup, new_world, setup_call}
 use Rattle.dt_world_model.specs.World.{World}
+use Rattle.dt_world_model.specs.WorldStep.{Arrives, Loses, Passes, Restarts, Ticks, WorldEvent}
 
 -- what the lines so far have led to
 pub data Scene (S : Type 0) : Type 0 where
@@ -32,7 +37,7 @@ pub data Scene (S : Type 0) : Type 0 where
 pub record Simulates (S : Type 0) : Type 0 where
   pub form : Form
   pub starts : World → S
-  pub does : S → Said → Result (Turned S) Fault
+  pub does : S → RunSaid → Result (Turned S) Fault
   pub close : S → List ℕ
 
 abbrev pub stage_of : {S : Type 0} → Scene S → Stage
@@ -75,34 +80,33 @@ abbrev pub by_run : {S : Type 0} → Result (Turned S) Fault → Result (Turned 
 by_run (Ok turned) = Ok (record { text = turned.text; state = Runs turned.state })
 by_run (Err fault) = Err fault
 
-abbrev pub happens : {S : Type 0} → Simulates S → Scene S → Said → Result (Turned (Scene S)) Fault
+abbrev pub happens : {S : Type 0} → Simulates S → Scene S → RunSaid → Result (Turned (Scene S)) Fault
 happens sim Empty line = misplaced
 happens sim (Prepares setup) line = misplaced
 happens sim (Runs s) line = by_run (sim.does s line)
 
--- WHAT A LINE DOES where it is allowed, one row a line
+-- what a line of the setup adds, one row a line
+abbrev pub call_of : SetupLine → SetupCall
+call_of (setups.Station n ahead) = AddStation n ahead
+call_of (setups.Link link from to charge pace) = AddLink (record { link = link; from = from; to = to; charge = charge; pace = pace })
+call_of (setups.Route at to link) = AddRoute at (record { to = to; link = link })
+
+-- what a line of a world makes happen in it, one row a line
+abbrev pub event_by : WorldLine → WorldEvent
+event_by (worlds.Pass by) = Passes by
+event_by (worlds.Tick n) = Ticks n
+event_by (worlds.Arrive copy) = Arrives copy
+event_by (worlds.Lose copy) = Loses copy
+event_by (worlds.Restart n) = Restarts n
+
+-- WHAT A LINE DOES where it is allowed
 abbrev pub done_by : {S : Type 0} → Simulates S → Scene S → Said → Result (Turned (Scene S)) Fault
 done_by sim scene said.Blank = to_scene scene
 done_by sim scene (said.Params p) = by_params p (first_out_of_range p)
-done_by sim scene (said.Station n ahead) = adds scene (AddStation n ahead)
-done_by sim scene (said.Link link from to charge pace) = adds scene (AddLink (record { link = link; from = from; to = to; charge = charge; pace = pace }))
-done_by sim scene (said.Route at to link) = adds scene (AddRoute at (record { to = to; link = link }))
 done_by sim scene said.Go = goes sim scene
-done_by sim scene (said.Pass by) = happens sim scene (said.Pass by)
-done_by sim scene (said.Send flow begin end hex) = happens sim scene (said.Send flow begin end hex)
-done_by sim scene (said.Read flow max) = happens sim scene (said.Read flow max)
-done_by sim scene (said.Tick n) = happens sim scene (said.Tick n)
-done_by sim scene (said.Arrive copy) = happens sim scene (said.Arrive copy)
-done_by sim scene (said.Lose copy) = happens sim scene (said.Lose copy)
-done_by sim scene (said.Restart n) = happens sim scene (said.Restart n)
-done_by sim scene (said.Me n again) = happens sim scene (said.Me n again)
-done_by sim scene (said.Local address) = happens sim scene (said.Local address)
-done_by sim scene (said.Peer link address charge pace) = happens sim scene (said.Peer link address charge pace)
-done_by sim scene (said.AtSend at flow begin end hex) = happens sim scene (said.AtSend at flow begin end hex)
-done_by sim scene (said.AtRead at flow max) = happens sim scene (said.AtRead at flow max)
-done_by sim scene (said.AtStop at) = happens sim scene (said.AtStop at)
-done_by sim scene (said.Shelf room) = happens sim scene (said.Shelf room)
-done_by sim scene (said.Call flow hex) = happens sim scene (said.Call flow hex)
+done_by sim scene (said.Setup line) = adds scene (call_of line)
+done_by sim scene (said.Run line) = happens sim scene line
+done_by sim scene (said.Script line) = misplaced
 
 -- A LINE IS TURNED: it is read, then its place is tested, and then it is done. The first of the three that refuses it tells the fault.
 abbrev pub done_if : {S : Type 0} → Simulates S → Option Stage → Scene S → Said → Result (Turned (Scene S)) Fault

@@ -6,8 +6,10 @@ mod logs;
 mod parts;
 mod scenarios;
 mod simulations;
+mod world_events;
 
 pub use logs::{Log, stepped};
 pub use parts::MISPLACED;
 pub use scenarios::Scenario;
 pub use simulations::Simulation;
+pub use world_events::world_event;

@@ -1,19 +1,20 @@
 //! What the lines of a setup do.
-ghost use Rattle.std.specs.Prelude.{◌≡◌, Ok};
+ghost use Rattle.std.specs.Prelude.{◌≡◌, Ok, IfErr, OnErr, OnOk};
 ghost use Rattle.dt_units.specs.Limits.{first_out_of_range};
 ghost use Rattle.dt_edges.specs.Sinks.{Puts};
-ghost use Rattle.dt_text.specs.Said.{said};
+ghost use Rattle.dt_text.specs.Said.{run_said};
 ghost use Rattle.dt_fold.specs.Logging.{TurnsTo};
-ghost use Rattle.dt_world_model.specs.Setup.{AddLink, AddRoute, AddStation};
+ghost use Rattle.dt_world.specs.Setups.{IsFaultOf};
+ghost use Rattle.dt_world_model.specs.Setup.{setup_call};
 ghost use Rattle.dt_scenario.specs.Parts.{IsLineOf, LeadsTo, added, scene_of};
-ghost use Rattle.dt_scenario.specs.Scenes.{adds, by_params, goes, happens, stage_of};
+ghost use Rattle.dt_scenario.specs.Scenes.{adds, by_params, call_of, goes, happens, stage_of};
 
 use crate::simulations::Simulation;
 use dt_edges::Sink;
 use dt_fold::Stop;
 use dt_items::NoMemory;
 use dt_reports::{Fault, LineFault, SetupFault};
-use dt_text::{Line, Stage};
+use dt_text::{RunLine, SetupLine, Stage};
 use dt_units::{NodeId, Params};
 use dt_world::Setup;
 use std::alloc::Global;
@@ -53,46 +54,12 @@ impl<S: Simulation> Part<S> {
         }
     }
 
-    /// A station is added to the setup.
-    pub fn add_station(&mut self, station: NodeId, zero: u32) -> Result<Option<Fault>, NoMemory>
-        ensures { LeadsTo (adds (scene_of S.state self.old) (AddStation station.0 zero)) result (scene_of S.state self.old) (scene_of S.state self.new) }
+    /// A station, a link or a route is added to the setup.
+    pub fn add(&mut self, line: SetupLine) -> Result<Option<Fault>, NoMemory>
+        ensures { LeadsTo (adds (scene_of S.state self.old) (call_of line)) result (scene_of S.state self.old) (scene_of S.state self.new) }
     {
         match self {
-            Part::Preparing(setup) => answer(setup.add_station(station, zero)),
-            Part::Nothing | Part::Running(_) => Ok(Some(MISPLACED)),
-        }
-    }
-
-    /// A link is added to the setup.
-    pub fn add_link(
-        &mut self,
-        link: u16,
-        from: NodeId,
-        to: NodeId,
-        charge: u32,
-        pace: u32,
-    ) -> Result<Option<Fault>, NoMemory>
-        ensures { let call = AddLink record { link = link; from = from.0; to = to.0; charge = charge; pace = pace } in
-            LeadsTo (adds (scene_of S.state self.old) call) result (scene_of S.state self.old) (scene_of S.state self.new) }
-    {
-        match self {
-            Part::Preparing(setup) => answer(setup.add_link(link, from, to, charge, pace)),
-            Part::Nothing | Part::Running(_) => Ok(Some(MISPLACED)),
-        }
-    }
-
-    /// A route is added to the setup.
-    pub fn add_route(
-        &mut self,
-        at: NodeId,
-        to: NodeId,
-        link: u16,
-    ) -> Result<Option<Fault>, NoMemory>
-        ensures { let call = AddRoute at.0 record { to = to.0; link = link } in
-            LeadsTo (adds (scene_of S.state self.old) call) result (scene_of S.state self.old) (scene_of S.state self.new) }
-    {
-        match self {
-            Part::Preparing(setup) => answer(setup.add_route(at, to, link)),
+            Part::Preparing(setup) => answer(add(setup, line)),
             Part::Nothing | Part::Running(_) => Ok(Some(MISPLACED)),
         }
     }
@@ -113,14 +80,37 @@ impl<S: Simulation> Part<S> {
 
     /// Something happens in the simulation.
     #[tactic(auto, using(crate::proofs::Happenings::happening_turns))]
-    pub fn happen<K: Sink>(&mut self, line: &Line<'_>, out: &mut K) -> Result<Option<Fault>, Stop>
-        requires { IsLineOf S.simulates (said line.now) }
-        ensures { TurnsTo K.sight (happens S.simulates (scene_of S.state self.old) (said line.now)) result (scene_of S.state self.old) (scene_of S.state self.new) out.old out.new }
+    pub fn happen<K: Sink>(
+        &mut self,
+        line: &RunLine<'_>,
+        out: &mut K,
+    ) -> Result<Option<Fault>, Stop>
+        requires { IsLineOf S.simulates (run_said line.now) }
+        ensures { TurnsTo K.sight (happens S.simulates (scene_of S.state self.old) (run_said line.now)) result (scene_of S.state self.old) (scene_of S.state self.new) out.old out.new }
     {
         match self {
             Part::Running(simulation) => simulation.happen(line, out),
             Part::Nothing | Part::Preparing(_) => Ok(Some(MISPLACED)),
         }
+    }
+}
+
+/// The station, the link or the route of a line is added to the setup.
+fn add(setup: &mut Setup, line: SetupLine) -> Result<(), SetupFault>
+    ensures ok { OnOk result (setup_call setup.old (call_of line) ≡ Ok setup.new) }
+    ensures fault { IfErr result (IsFaultOf (setup_call setup.old (call_of line))) }
+    ensures same { OnErr result (setup.new ≡ setup.old) }
+{
+    match line {
+        SetupLine::Station { n, zero } => setup.add_station(NodeId(n), zero),
+        SetupLine::Link {
+            link,
+            from,
+            to,
+            charge,
+            pace,
+        } => setup.add_link(link, NodeId(from), NodeId(to), charge, pace),
+        SetupLine::Route { at, to, link } => setup.add_route(NodeId(at), NodeId(to), link),
     }
 }
 

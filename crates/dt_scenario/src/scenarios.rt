@@ -1,7 +1,8 @@
 ghost use Rattle.std.specs.Prelude.{◌≡◌};
 ghost use Rattle.dt_text.specs.Said.{said};
 ghost use Rattle.dt_fold.specs.Logging.{Closes, TurnsTo};
-ghost use Rattle.dt_scenario.specs.Parts.{IsLineOf, scene_in};
+ghost use Rattle.dt_text.specs.Spelling.{IsLine};
+ghost use Rattle.dt_scenario.specs.Parts.{scene_in};
 ghost use Rattle.dt_scenario.specs.Scenes.{Empty, done_by};
 
 use crate::parts::{MISPLACED, Part};
@@ -10,7 +11,6 @@ use dt_edges::Sink;
 use dt_fold::{LineTurns, Stop};
 use dt_reports::Fault;
 use dt_text::{Line, follows, read_line};
-use dt_units::NodeId;
 use std::alloc::Global;
 
 /// An input that is read line by line: its first lines set up a world, `go` starts a simulation over
@@ -34,38 +34,17 @@ impl<S: Simulation> Scenario<S> {
 
     /// Does what a line says that is allowed here.
     fn does<K: Sink>(&mut self, line: &Line<'_>, out: &mut K) -> Result<Option<Fault>, Stop>
-        requires in_form { IsLineOf S.simulates (said line.now) }
+        requires in_form { IsLine S.simulates.form (said line.now) }
         ensures { TurnsTo K.sight (done_by S.simulates (scene_in S.state self.old) (said line.now)) result (scene_in S.state self.old) (scene_in S.state self.new) out.old out.new }
     {
         let part = &mut self.part;
-        match *line {
+        match line {
             Line::Blank => Ok(None),
-            Line::Params(params) => Ok(part.configure(self.alloc, &params)),
-            Line::Station { n, zero } => Ok(part.add_station(NodeId(n), zero)?),
-            Line::Link {
-                link,
-                from,
-                to,
-                charge,
-                pace,
-            } => { Ok(part.add_link(link, NodeId(from), NodeId(to), charge, pace)?) }
-            Line::Route { at, to, link } => Ok(part.add_route(NodeId(at), NodeId(to), link)?),
+            Line::Params(params) => Ok(part.configure(self.alloc, params)),
             Line::Go => Ok(part.go(self.alloc)?),
-            Line::Pass { .. }
-            | Line::Send { .. }
-            | Line::Read { .. }
-            | Line::Tick { .. }
-            | Line::Arrive { .. }
-            | Line::Lose { .. }
-            | Line::Restart { .. }
-            | Line::Me { .. }
-            | Line::Local(_)
-            | Line::Peer { .. }
-            | Line::AtSend { .. }
-            | Line::AtRead { .. }
-            | Line::AtStop { .. }
-            | Line::Shelf { .. }
-            | Line::Call { .. } => part.happen(line, out),
+            Line::Setup(line) => Ok(part.add(*line)?),
+            Line::Run(line) => part.happen(line, out),
+            Line::Script(_) => Ok(Some(MISPLACED)),
         }
     }
 }

@@ -1,7 +1,7 @@
 ghost use Rattle.std.specs.Prelude.{◌≡◌, IfOk};
 ghost use Rattle.dt_edges.specs.Sinks.{Puts};
 ghost use Rattle.dt_fold.specs.Logging.{TurnsTo};
-ghost use Rattle.dt_text.specs.Said.{said};
+ghost use Rattle.dt_text.specs.Said.{run_said};
 ghost use Rattle.dt_world_model.specs.Setup.{new_world};
 ghost use Rattle.dt_scenario.specs.Parts.{IsLineOf};
 ghost use Rattle.dt_scenario.specs.Scenes.{Simulates};
@@ -10,7 +10,7 @@ use dt_edges::{Failed, Sink};
 use dt_fold::Stop;
 use dt_items::NoMemory;
 use dt_reports::Fault;
-use dt_text::{Form, Line};
+use dt_text::{Form, RunLine};
 use dt_world::Setup;
 use std::alloc::Global;
 
@@ -33,9 +33,9 @@ pub trait Simulation: Drop {
 
     /// Does what a line behind `go` says, and logs its text; or says why it is refused, and changes
     /// and logs nothing then.
-    fn happen<K: Sink>(&mut self, line: &Line<'_>, out: &mut K) -> Result<Option<Fault>, Stop>
-        requires { IsLineOf simulates (said line.now) }
-        ensures { TurnsTo K.sight (simulates.does (state self.old) (said line.now)) result (state self.old) (state self.new) out.old out.new };
+    fn happen<K: Sink>(&mut self, line: &RunLine<'_>, out: &mut K) -> Result<Option<Fault>, Stop>
+        requires { IsLineOf simulates (run_said line.now) }
+        ensures { TurnsTo K.sight (simulates.does (state self.old) (run_said line.now)) result (state self.old) (state self.new) out.old out.new };
 
     /// Logs what stands behind the last line.
     fn close<K: Sink>(&self, out: &mut K) -> Result<(), Failed>

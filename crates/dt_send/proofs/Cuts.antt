@@ -1,9 +1,12 @@
 -- How the length of a cut is found item by item.
-use Rattle.std.proofs.Common.{add-one, ◌≡◌, ℕ, zero, suc, ◌+◌, ◌-◌, ◌==◌, ◌<◌, ◌≤◌, Bool, true, false, not, ◌&&◌, ◌||◌, if◌then◌else◌, List, [], ◌∷◌, length, get_or, drop, refl, ap, ◌∙◌, arith}
-use Rattle.std.proofs.lemmas.List.{drop_all}
+use Rattle.std.proofs.Common.{add-one, ◌≡◌, ℕ, zero, suc, ◌+◌, ◌-◌, ◌==◌, ◌<◌, ◌≤◌, Bool, true, false, not, ◌&&◌, ◌||◌, if◌then◌else◌, cond, List, [], ◌∷◌, length, get_or, take, drop, refl, sym, ap, ◌∙◌, arith}
+use Rattle.std.proofs.lemmas.List.{drop_all, drop-drop}
+use Rattle.std.proofs.lemmas.Bool.Decides.{nat_tests}
 use Rattle.std.proofs.Math.Seq.{drop-cons}
 use Rattle.std.proofs.lemmas.Bool.{eqb-true, eqb-false}
 use Rattle.dt_items.specs.declared.item.Item.{Item}
+use Rattle.dt_items.specs.Unmarked.{is_unmarked, unmarked_count}
+use Rattle.dt_items.proofs.Longest.{all_off}
 use Rattle.dt_flow_model.specs.SendRecord.{cut_length}
 
 -- the item after which a segment ends, with what follows it
@@ -62,3 +65,32 @@ ends_all most items i le s = omega (arith, s, ap (cut_length (most - i) (i == 0)
 -- an item that isn't beyond the segment stands below its greatest length
 pub below_most : (most i : ℕ) (begins : Bool) → i ≤ most → ((i == most) || begins) ≡ false → i + 1 ≤ most
 below_most most i begins le h = let differs = eqb-false i most (left_false (i == most) begins h) in omega arith
+
+-- items without marks go into a segment behind its first item, as many as there is room for
+over : (m : ℕ) (items : List Item) → cut_length m false items ≡ unmarked_count (take m items) + cut_length (m - unmarked_count (take m items)) false (drop (unmarked_count (take m items)) items)
+over zero items = refl
+over (suc m) [] = let e : suc m - 0 ≡ suc m = omega arith in omega (arith, ap (λ k. cut_length k false []) e)
+over (suc m) (x ∷ xs) =
+    elim (is_unmarked x) as (λ b. is_unmarked x ≡ b → cut_length (suc m) false (x ∷ xs) ≡ cond b (suc (unmarked_count (take m xs))) 0 + cut_length (suc m - cond b (suc (unmarked_count (take m xs))) 0) false (drop (cond b (suc (unmarked_count (take m xs))) 0) (x ∷ xs))) [
+      | true ↦ λ e.
+          let off = all_off x.end x.begin x.run e in
+          let step : cut_length (suc m) false (x ∷ xs) ≡ suc (cut_length m false xs) = rw (off.0, off.1) refl in
+          let less : suc m - suc (unmarked_count (take m xs)) ≡ m - unmarked_count (take m xs) = omega arith in
+          rw less (omega (arith, step, over m xs))
+      | false ↦ λ e. let same : suc m - 0 ≡ suc m = omega arith in omega (arith, ap (λ k. cut_length k false (x ∷ xs)) same)
+    ] refl
+
+pub jumps : (most i place from n : ℕ) (all items : List Item) → items ≡ drop from all → place ≡ from + i → 0 < i → i ≤ most → so_far most i items → n ≡ unmarked_count (take (most - i) (drop place all)) → so_far most (i + n) items
+jumps most i place from n all items e p some le s h =
+    let there : drop place all ≡ drop i items = ap (λ k. drop k all) p ∙ sym (drop-drop i from all) ∙ ap (drop i) (sym e) in
+    let count : n ≡ unmarked_count (take (most - i) (drop i items)) = h ∙ ap (λ xs. unmarked_count (take (most - i) xs)) there in
+    let first : (i == 0) ≡ false = grind (arith, nat_tests) in
+    let later : (i + n == 0) ≡ false = grind (arith, nat_tests) in
+    let rest : most - i - n ≡ most - (i + n) = omega arith in
+    let step : cut_length (most - i) false (drop i items) ≡ n + cut_length (most - i - n) false (drop n (drop i items)) =
+    over (most - i) (drop i items) ∙ ap (λ k. k + cut_length (most - i - k) false (drop k (drop i items))) (sym count) in
+    let behind : drop n (drop i items) ≡ drop (i + n) items = drop-drop n i items in
+    let whole : cut_length most true items ≡ i + cut_length (most - i) false (drop i items) = s ∙ ap (λ b. i + cut_length (most - i) b (drop i items)) first in
+    let left : cut_length (most - i - n) false (drop n (drop i items)) ≡ cut_length (most - (i + n)) (i + n == 0) (drop (i + n) items) =
+    ap (λ k. cut_length k false (drop n (drop i items))) rest ∙ ap (λ xs. cut_length (most - (i + n)) false xs) behind ∙ ap (λ b. cut_length (most - (i + n)) b (drop (i + n) items)) (sym later) in
+    omega (arith, whole, step, left)

@@ -11,4 +11,3 @@ pub mod SendLemmas
 pub mod Choices
 pub mod SenderLemmas
 pub mod GramLemmas
-pub mod Copies

@@ -16,11 +16,11 @@ ghost use Rattle.dt_send.specs.Rings.{Acts, AreRings, IsChosen, IsEndAt, record_
 
 use crate::dues::{due_first, lesser};
 use crate::numbering::{crosses, crossing_after, number_at};
-use crate::octets::{copy_octets, cut_at, item_at};
+use crate::octets::cut_at;
 use crate::stretches::{Stretch, stretch_at};
 use circular_buffer::HeapCircularBuffer;
 use dt_flow_model::{Cut, SendAct, SendKind, SendMoments};
-use dt_items::{Item, NoMemory, append_marked};
+use dt_items::{Item, NoMemory, append_marked, copy_octets, item_in};
 use dt_layout::{Frame, Packet, write_frame};
 use dt_units::{Flow, Rules};
 use std::alloc::Global;
@@ -331,8 +331,8 @@ impl Rings {
             number: number_at(rules, stretch.offset),
             length: stretch.length,
             drf: stretch.offset == self.left,
-            begin: item_at(&self.items, from).begin,
-            end: item_at(&self.items, from + length - 1).end,
+            begin: item_in(&self.items, from).begin,
+            end: item_in(&self.items, from + length - 1).end,
         };
         let packet = Packet::Data {
             from_port: flow.from_port,

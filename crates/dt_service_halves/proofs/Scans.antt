@@ -1,7 +1,8 @@
 -- A loop that writes a list from left to right: what is left to do from a place on.
-use Rattle.std.proofs.Common.{ℕ, zero, suc, ◌+◌, ◌-◌, ◌≡◌, ◌<◌, ◌≤◌, Bool, true, false, List, [], ◌∷◌, length, map, set, get_or, refl, ap, sym, subst, ◌∙◌, arith, add-one}
+use Rattle.std.proofs.Common.{ℕ, zero, suc, ◌+◌, ◌-◌, ◌≡◌, ◌<◌, ◌≤◌, Bool, true, false, List, [], ◌∷◌, length, map, set, get_or, drop, Option, Some, None, refl, ap, sym, subst, ◌∙◌, arith, add-one}
 use Rattle.dt_units.specs.declared.endpoints.Flow.{Flow}
-use Rattle.dt_world_model.specs.Tables.{same_flow}
+use Rattle.dt_flow_model.specs.SendActs.{earlier}
+use Rattle.dt_world_model.specs.Tables.{earliest, same_flow}
 use Rattle.dt_service_model.specs.declared.calls.Call.{Call}
 use Rattle.dt_service_model.specs.Hearing.{with_fate, with_fates}
 use Rattle.dt_service_model.specs.Whole.{answered_at, ended}
@@ -87,3 +88,32 @@ pub answered_is : (i : ℕ) (calls : List Call) (d : Call) → i < length calls 
 answered_is i [] d lt = absurd (omega arith)
 answered_is zero (c ∷ calls) d lt = refl
 answered_is (suc i) (c ∷ calls) d lt = ap (λ (xs : List Call). c ∷ xs) (answered_is i calls d (omega arith))
+
+-- THE LEAST MOMENT, from the left: of those that were seen, and of the rest
+pub earlier_in : (a b c : Option ℕ) → earlier (earlier a b) c ≡ earlier a (earlier b c)
+earlier_in None b c = refl
+earlier_in (Some m) None c = refl
+earlier_in (Some m) (Some n) None = refl
+earlier_in (Some m) (Some n) (Some o) = ap (λ (k : ℕ). Some k) (omega arith)
+
+pub earlier_none : (a : Option ℕ) → earlier a None ≡ a
+earlier_none None = refl
+earlier_none (Some m) = refl
+
+module _ {A : Type 0} (moment : A → Option ℕ) where
+  from_suc : (i : ℕ) (xs : List A) (d : A) (best : Option ℕ) → i < length xs → earlier (earlier best (moment (get_or xs i d))) (earliest moment (drop (suc i) xs)) ≡ earlier best (earliest moment (drop i xs))
+  from_suc i [] d best lt = absurd (omega arith)
+  from_suc zero (x ∷ xs) d best lt = earlier_in best (moment x) (earliest moment xs)
+  from_suc (suc i) (x ∷ xs) d best lt = from_suc i xs d best (omega arith)
+
+  pub least_stepped : (i : ℕ) (xs : List A) (d : A) (best after target : Option ℕ) → i < length xs → after ≡ earlier best (moment (get_or xs i d))
+      → earlier best (earliest moment (drop i xs)) ≡ target → earlier after (earliest moment (drop (i + 1) xs)) ≡ target
+  least_stepped i xs d best after target lt is so =
+      subst (λ (o : Option ℕ). earlier o (earliest moment (drop (i + 1) xs)) ≡ target) (sym is)
+      (subst (λ (k : ℕ). earlier (earlier best (moment (get_or xs i d))) (earliest moment (drop k xs)) ≡ target) (sym (add-one i)) (from_suc i xs d best lt ∙ so))
+
+  pub least_end : (i : ℕ) (xs : List A) (best : Option ℕ) → length xs ≤ i → earlier best (earliest moment (drop i xs)) ≡ best
+  least_end zero [] best le = earlier_none best
+  least_end (suc i) [] best le = earlier_none best
+  least_end zero (x ∷ xs) best le = absurd (omega arith)
+  least_end (suc i) (x ∷ xs) best le = least_end i xs best (omega arith)

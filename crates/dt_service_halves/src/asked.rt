@@ -4,6 +4,7 @@ ghost use Rattle.std.specs.List.{list_any};
 ghost use Rattle.dt_world_model.specs.Tables.{same_flow};
 ghost use Rattle.dt_service_model.specs.declared.calls.Call.{Call};
 ghost use Rattle.dt_service_model.specs.Asked.{forgotten, is_life_in_use, next_number, raised, with_call, with_kind};
+ghost use Rattle.dt_service_model.specs.Carrying.{carried_by, next_size};
 ghost use Rattle.dt_service_model.specs.Ends.{close, next};
 ghost use Rattle.dt_service_model.specs.Halves.{calls_held, kind_in};
 ghost use Rattle.dt_service_model.specs.Turns.{done_with};
@@ -42,6 +43,17 @@ fn drop_flow(flow: &Flow, flows: &mut Vec<Flow>)
     ensures { flows.new.items ≡ filter (λ g. not (same_flow g flow.now)) flows.old.items }
 {
     flows.retain(|other| !is_same(other, flow));
+}
+
+/// What a happening carries: the payload of a request, or an answer.
+pub fn carried(happening: &Happening) -> &[u8]
+    ensures { result.now ≡ carried_by happening.now }
+{
+    match happening {
+        Happening::Request { payload, .. } => payload.octets.as_slice(),
+        Happening::Answered { answer, .. } => answer.octets.as_slice(),
+        Happening::Unsure { .. } => &[],
+    }
 }
 
 impl Halves {
@@ -186,6 +198,18 @@ impl Halves {
         let call = self.calls.remove(0).number;
         let cause = Cause::Closed;
         Some(Happening::Unsure { call, cause })
+    }
+
+    /// How many octets what [`Halves::next_happening`] would take carries, or none where it would take
+    /// nothing.
+    pub fn next_size(&self) -> Option<usize>
+        ensures { result ≡ next_size self.now }
+    {
+        match self.happenings.front() {
+            Some(happening) => Some(carried(happening).len()),
+            None if self.closed && !self.calls.is_empty() => Some(0),
+            None => None,
+        }
     }
 
     /// How many messages were dropped, by cause.

@@ -1,10 +1,12 @@
 //! What was read of messages that aren't whole yet.
-ghost use Rattle.std.specs.Prelude.{◌≡◌, IfOk, OnOk, option_map};
+ghost use Rattle.std.specs.Prelude.{◌≡◌, IfOk, OnOk, filter, option_map};
 ghost use Rattle.std.specs.List.{position};
 ghost use Rattle.dt_calls_model.specs.Messages.{joined};
 ghost use Rattle.dt_messages.specs.Joining.{piece_with};
+ghost use Rattle.dt_service_model.specs.Turns.{has_receiver};
 ghost use Rattle.dt_service_model.specs.Whole.{begun_at, is_of, with_begun, without_begun};
 
+use dt_endpoint::Endpoint;
 use dt_items::NoMemory;
 use dt_messages::Marks;
 use dt_units::Flow;
@@ -47,6 +49,19 @@ fn place_of(table: &[Begun], flow: &Flow) -> Option<usize>
     ensures { result ≡ position (is_of flow.now) table.now }
 {
     table.iter().position(|begun| is_of(begun, flow))
+}
+
+fn has_receiver(endpoint: &Endpoint, begun: &Begun) -> bool
+    ensures { result ≡ has_receiver endpoint.now.state.host begun.now }
+{
+    endpoint.has_receiver(&begun.flow)
+}
+
+/// What was begun of a flow of which the endpoint has no receiver goes.
+pub fn keep_received(endpoint: &Endpoint, table: &mut Vec<Begun>)
+    ensures { table.new.items ≡ filter (has_receiver endpoint.now.state.host) table.old.items }
+{
+    table.retain(|begun| has_receiver(endpoint, begun));
 }
 
 /// Puts it back as it is then, if anything is begun.

@@ -1,6 +1,9 @@
 //! How calls end without an answer.
 ghost use Rattle.std.specs.Prelude.{◌≡◌, ◌+◌, ◌≤◌, ◌++◌, true, false, filter, filter_map, map, length, OnOk, OnErr};
 ghost use Rattle.std.specs.VecDeque.{deque_len, deque_capacity};
+ghost use Rattle.dt_flow_model.specs.SendActs.{earlier};
+ghost use Rattle.dt_world_model.specs.Tables.{earliest};
+ghost use Rattle.dt_service_model.specs.Turns.{deadline_of};
 ghost use Rattle.dt_service_model.specs.Ends.{cause_of, is_kept, judged_call, unsure_of};
 
 use dt_items::NoMemory;
@@ -82,4 +85,37 @@ pub fn judge(
     judge_calls(now, calls);
     drop_ended(calls);
     Ok(())
+}
+
+/// The moment at which the patience of a call is over, if it waits.
+fn deadline_of(call: &Call) -> Option<u64>
+    ensures { result ≡ deadline_of call.now }
+{
+    if call.waits {
+        Some(call.deadline)
+    } else {
+        None
+    }
+}
+
+/// The lesser of two moments, of those that there are.
+pub fn earlier(one: Option<u64>, other: Option<u64>) -> Option<u64>
+    ensures { result ≡ earlier one other }
+{
+    match (one, other) {
+        (Some(one), Some(other)) => Some(one.min(other)),
+        (Some(one), None) => Some(one),
+        (None, other) => other,
+    }
+}
+
+/// The least deadline of those that wait.
+pub fn deadline(calls: &[Call]) -> Option<u64>
+    ensures { result ≡ earliest deadline_of calls.now }
+{
+    let mut least = None;
+    for call in calls {
+        least = earlier(least, deadline_of(call));
+    }
+    least
 }

@@ -6,11 +6,14 @@ ghost use Rattle.dt_service_model.specs.declared.ports.Most.{Most};
 ghost use Rattle.dt_service_model.specs.Ends.{judge};
 ghost use Rattle.dt_service_model.specs.Halves.{has_room, may_read, new_halves};
 ghost use Rattle.dt_service_model.specs.Hearing.{Accepts, hear, hear_as, heard_by};
+ghost use Rattle.dt_service_model.specs.Turns.{deadline_of, sweep};
+ghost use Rattle.dt_world_model.specs.Tables.{earliest};
 
-use crate::begun::Begun;
+use crate::begun::{Begun, keep_received};
 use crate::counting::{has_flow, requests_in, tokens_of};
 use crate::ends;
 use crate::hearing::{kind_in, with_fates};
+use dt_endpoint::Endpoint;
 use dt_items::NoMemory;
 use dt_reports::{Matter, Report};
 use dt_service_model::{Call, Counts, Happening, Kind, Most, Port, Token};
@@ -139,6 +142,25 @@ impl Halves {
         self.tokens.len() < self.most.requests as usize
             && tokens_of(&self.tokens, flow) < self.most.of_a_flow as usize
             && requests_in(&self.happenings) < self.most.requests as usize
+    }
+
+    /// What was begun of a flow of which the endpoint has no receiver goes, and is counted. The cost is a
+    /// look-up for each.
+    pub fn sweep(&mut self, endpoint: &Endpoint)
+        ensures { self.new ≡ sweep endpoint.now.state.host self.old }
+    {
+        let before = self.begun.len();
+        keep_received(endpoint, &mut self.begun);
+        let gone = before.saturating_sub(self.begun.len());
+        self.counts.cut = self.counts.cut.saturating_add(gone as u64);
+    }
+
+    /// The least moment in milliseconds at which the patience of a call that waits is over, or none where
+    /// none waits. The cost is a look at each call.
+    pub fn deadline(&self) -> Option<u64>
+        ensures { result ≡ earliest deadline_of self.now.calls }
+    {
+        ends::deadline(&self.calls)
     }
 
     /// Calls are judged at a moment. `NoMemory` leaves all as it was.

@@ -11,5 +11,7 @@ mod hearing;
 mod messages;
 mod whole;
 
+pub use asked::carried;
+pub use ends::earlier;
 pub use halves::Halves;
 pub use messages::{read_message, reversed, write_message};

@@ -1,3 +1,3 @@
-mod Accounts
-mod Turning
-mod Making
+pub mod Accounts
+pub mod Turning
+pub mod Making

@@ -36,12 +36,12 @@ number_heard (GivesUp f count) h = refl
 number_heard (Accepts f) h = number_if (is_some (kind_in f.to_port h.ports)) f h
 number_heard NoMatter h = refl
 
-numbers_heard : (told : List Told) (h : Halves) → next_number (fold hear h told) ≡ next_number h
+pub numbers_heard : (told : List Told) (h : Halves) → next_number (fold hear h told) ≡ next_number h
 numbers_heard [] h = refl
 numbers_heard (t ∷ told) h = numbers_heard told (hear h t) ∙ number_heard (heard t) h
 
 -- the call is kept where its request was taken
-added : (n : CallNumber) (o : Option Refusal) (f : Flow) (count deadline : ℕ) (g h : Halves) → next_number g ≡ next_number h → account n (with_call_unless o f count deadline g) ≡ account n g + made_in n (made_of o h)
+pub added : (n : CallNumber) (o : Option Refusal) (f : Flow) (count deadline : ℕ) (g h : Halves) → next_number g ≡ next_number h → account n (with_call_unless o f count deadline g) ≡ account n g + made_in n (made_of o h)
 added n None f count deadline g h e =
     let a = waits_append n g.calls (new_call f count deadline g ∷ []) in
     let b = ap (λ (m : CallNumber). one_if (same_number m n)) e in

@@ -8,3 +8,4 @@ pub mod Turns
 pub mod Asked
 pub mod Worked
 pub mod Runs
+pub mod Carrying

@@ -5,7 +5,7 @@ ghost use Rattle.dt_flow_model.specs.Frames.{number_in};
 ghost use Rattle.dt_host.specs.Answers.{told_done};
 ghost use Rattle.dt_world_model.specs.Host.{told_arrival, told_dropped, told_recv, told_send, window_in};
 
-use dt_flow_model::{Arrived, Cut, RecvAct, SendAct};
+use dt_flow_model::{Arrived, RecvAct, SendAct};
 use dt_host::{Act, Done};
 use dt_layout::Packet;
 use dt_reports::Report;
@@ -22,6 +22,20 @@ pub(crate) fn report_of_act(done: &Done) -> Report<'static>
     }
 }
 
+// `Sent` and `Resent` tell the same of a cut.
+macro_rules! told_cut {
+    ($report:ident, $flow:expr, $cut:expr) => {
+        Report::$report {
+            flow: $flow,
+            number: $cut.number,
+            length: $cut.length,
+            drf: $cut.drf,
+            begin: $cut.begin,
+            end: $cut.end,
+        }
+    };
+}
+
 fn report_of_send_act(flow: Flow, act: SendAct) -> Report<'static>
     ensures { told result ≡ told_send flow act }
 {
@@ -32,38 +46,8 @@ fn report_of_send_act(flow: Flow, act: SendAct) -> Report<'static>
             sending: true,
         },
         SendAct::Renewed => Report::Renewed { flow },
-        SendAct::Resent(
-            Cut {
-                number,
-                length,
-                drf,
-                begin,
-                end,
-            },
-        ) => Report::Resent {
-            flow,
-            number,
-            length,
-            drf,
-            begin,
-            end,
-        },
-        SendAct::Sent(
-            Cut {
-                number,
-                length,
-                drf,
-                begin,
-                end,
-            },
-        ) => Report::Sent {
-            flow,
-            number,
-            length,
-            drf,
-            begin,
-            end,
-        },
+        SendAct::Resent(cut) => told_cut!(Resent, flow, cut),
+        SendAct::Sent(cut) => told_cut!(Sent, flow, cut),
         SendAct::Met { number } => Report::Met { flow, number },
     }
 }

@@ -10,11 +10,18 @@ use Rattle.dt_reports.specs.declared.faults.LineFault.TheVariants as faults
 use Rattle.dt_text.specs.declared.lines.Form.{Form}
 use Rattle.dt_text.specs.declared.lines.Form.TheVariants.{Schedule, Script, Calls}
 use Rattle.dt_text.specs.declared.lines.Line.{Line}
+use Rattle.dt_text.specs.declared.lines.NodeLine.{NodeLine}
+use Rattle.dt_text.specs.declared.lines.NodeLine.TheVariants as nodes
+use Rattle.dt_text.specs.declared.lines.SetupLine.{SetupLine}
+use Rattle.dt_text.specs.declared.lines.SetupLine.TheVariants as setups
+use Rattle.dt_text.specs.declared.lines.WorldLine.{WorldLine}
+use Rattle.dt_text.specs.declared.lines.WorldLine.TheVariants as worlds
 use Rattle.dt_text.specs.Splitting.{cut, words, word}
-use Rattle.dt_text.specs.Said.{Said, Blank, ReadAs, said}
+use Rattle.dt_text.specs.Said as saids
+use Rattle.dt_text.specs.Said.{Said, RunSaid, ScriptSaid, UserSaid, Blank, ReadAs, said}
 use Rattle.dt_text.specs.Rows.{Part, Fixed, Given, Makes, LineRow, LineKind, params_row, of_schedules, of_scripts, of_calls, behind_moments}
 use Rattle.dt_text.specs.Lines.{said_by, said_as, name_at, said_by_name, said_at, said_in, line_of}
-use Rattle.dt_text.specs.Spelling.{Values, made, texts, AreOfKinds, Way, ways, IsLine, way_text, IsSpelledBy, IsSpelling}
+use Rattle.dt_text.specs.Spelling.{Values, made, texts, AreOfKinds, Way, in_world, in_schedule, in_script, setup_ways, world_ways, user_ways, run_ways, node_ways, at_ways, script_ways, ways, IsLine, way_text, IsSpelledBy, IsSpelling}
 use Rattle.dt_text.proofs.CutLemmas.{words-cut_none, words-cut_some, cut-cons_no, onto_front}
 use Rattle.dt_text.proofs.CutLaws.{IsFree, cut-at}
 use Rattle.dt_text.proofs.WordLaws.{IsTold, told-err, told-choice, not_order, chosen, is_text}
@@ -73,11 +80,65 @@ AreFound form [] = Unit {0}
 AreFound form (way ∷ ways) = IsFound form way × AreFound form ways
 
 -- the rows of the ways to write a line are found by their words, for each kind of line
-ways-found : (form : Form) (line : Said) → (line ≡ Blank) ⊎ AreFound form (ways form line)
+setup-found : (form : Form) (line : SetupLine) → AreFound form (in_world form (setup_ways line))
+unfolding said_as
+setup-found Schedule (setups.Station n zero) = search refl
+setup-found Script (setups.Station n zero) = search refl
+setup-found Calls (setups.Station n zero) = search refl
+setup-found form line = search refl
+
+world-found : (form : Form) (line : WorldLine) → AreFound form (in_world form (world_ways line))
+unfolding said_as
+world-found Schedule (worlds.Pass by) = search refl
+world-found Script (worlds.Pass by) = search refl
+world-found Calls (worlds.Pass by) = search refl
+world-found form line = search refl
+
+user-found : (form : Form) (line : UserSaid) → AreFound form (in_schedule form (user_ways line))
+unfolding said_as
+user-found Schedule (saids.Read flow max) = search refl
+user-found Script (saids.Read flow max) = search refl
+user-found Calls (saids.Read flow max) = search refl
+user-found form line = search refl
+
+run-found : (form : Form) (line : RunSaid) → AreFound form (run_ways form line)
+unfolding said_as
+run-found form (saids.World line) = world-found form line
+run-found form (saids.User line) = user-found form line
+run-found Schedule (saids.Call flow hex) = search refl
+run-found Script (saids.Call flow hex) = search refl
+run-found Calls (saids.Call flow hex) = search refl
+
+node-found : (form : Form) (line : NodeLine) → AreFound form (in_script form (node_ways line))
+unfolding said_as
+node-found Schedule (nodes.Me n again) = search refl
+node-found Script (nodes.Me n again) = search refl
+node-found Calls (nodes.Me n again) = search refl
+node-found form line = search refl
+
+at-found : (form : Form) (at : ℕ) (does : UserSaid) → AreFound form (in_script form (at_ways at does))
 unfolding said_as said_at
+at-found Schedule at (saids.Read flow max) = search refl
+at-found Script at (saids.Read flow max) = search refl
+at-found Calls at (saids.Read flow max) = search refl
+at-found form at does = search refl
+
+script-found : (form : Form) (line : ScriptSaid) → AreFound form (in_script form (script_ways line))
+unfolding said_as said_at
+script-found form (saids.Node line) = node-found form line
+script-found form (saids.At at does) = at-found form at does
+script-found Schedule (saids.Stop at) = search refl
+script-found Script (saids.Stop at) = search refl
+script-found Calls (saids.Stop at) = search refl
+
+ways-found : (form : Form) (line : Said) → (line ≡ Blank) ⊎ AreFound form (ways form line)
+unfolding said_as
 ways-found Schedule Blank = inl refl
 ways-found Script Blank = inl refl
 ways-found Calls Blank = inl refl
+ways-found form (saids.Setup line) = inr (setup-found form line)
+ways-found form (saids.Run line) = inr (run-found form line)
+ways-found form (saids.Script line) = inr (script-found form line)
 ways-found form line = inr (search refl)
 
 spelled-read : (form : Form) (line : Said) (octets : List ℕ) (some : List Way) → AreFound form some → IsSpelledBy line octets some → line_of form octets ≡ Ok line

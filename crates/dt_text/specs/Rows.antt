@@ -1,7 +1,10 @@
 -- The lines of schedules, of scripts and of calls, a row each: which words a line has, and what it says.
 use Rattle.std.specs.Prelude.{ℕ, List, [], ◌∷◌, codes, replicate}
 use Rattle.dt_units.specs.Limits.{day}
-use Rattle.dt_text.specs.Said.{Said, Params, Station, Link, Route, Go, Pass, Send, Read, Tick, Arrive, Lose, Restart, Me, Local, Peer, AtSend, AtRead, AtStop, Shelf, Call}
+use Rattle.dt_text.specs.declared.lines.NodeLine.TheVariants as nodes
+use Rattle.dt_text.specs.declared.lines.SetupLine.TheVariants as setups
+use Rattle.dt_text.specs.declared.lines.WorldLine.TheVariants as worlds
+use Rattle.dt_text.specs.Said.{Said, Params, Go, Setup, Run, Script, World, User, Call, Node, At, Stop, Send, Read}
 use Rattle.dt_text.specs.WordKinds.{WordKind, NumberWord, FlowWord, AddressWord, HexWord, MarksWord, AgainWord, Value}
 
 -- A word of a line is fixed, or it is one of a kind and gives the line a value.
@@ -94,15 +97,15 @@ params_start_row = record {
 
 -- `station N ZERO`
 abbrev pub station_row : LineRow
-station_row = record { words = Fixed (codes "station") ∷ number_word ∷ number_word ∷ []; says = Station }
+station_row = record { words = Fixed (codes "station") ∷ number_word ∷ number_word ∷ []; says = λ n zero. Setup (setups.Station n zero) }
 
 -- `link L FROM TO CHARGE PACE`
 abbrev pub link_row : LineRow
-link_row = record { words = Fixed (codes "link") ∷ link_word ∷ number_word ∷ number_word ∷ time_word ∷ time_word ∷ []; says = Link }
+link_row = record { words = Fixed (codes "link") ∷ link_word ∷ number_word ∷ number_word ∷ time_word ∷ time_word ∷ []; says = λ link from to charge pace. Setup (setups.Link link from to charge pace) }
 
 -- `route AT TO L`
 abbrev pub route_row : LineRow
-route_row = record { words = Fixed (codes "route") ∷ number_word ∷ number_word ∷ link_word ∷ []; says = Route }
+route_row = record { words = Fixed (codes "route") ∷ number_word ∷ number_word ∷ link_word ∷ []; says = λ at to link. Setup (setups.Route at to link) }
 
 -- `go`
 abbrev pub go_row : LineRow
@@ -110,70 +113,70 @@ go_row = record { words = Fixed (codes "go") ∷ []; says = Go }
 
 -- `pass D`
 abbrev pub pass_row : LineRow
-pass_row = record { words = Fixed (codes "pass") ∷ number_word ∷ []; says = Pass }
+pass_row = record { words = Fixed (codes "pass") ∷ number_word ∷ []; says = λ by. Run (World (worlds.Pass by)) }
 
 -- `send FLOW MARKS HEX`
 abbrev pub send_row : LineRow
-send_row = record { words = Fixed (codes "send") ∷ flow_word ∷ marks_word ∷ hex_word ∷ []; says = λ flow marks hex. Send flow marks.0 marks.1 hex }
+send_row = record { words = Fixed (codes "send") ∷ flow_word ∷ marks_word ∷ hex_word ∷ []; says = λ flow marks hex. Run (User (Send flow marks.0 marks.1 hex)) }
 
 -- `read FLOW MAX`
 abbrev pub read_row : LineRow
-read_row = record { words = Fixed (codes "read") ∷ flow_word ∷ count_word ∷ []; says = Read }
+read_row = record { words = Fixed (codes "read") ∷ flow_word ∷ count_word ∷ []; says = λ flow max. Run (User (Read flow max)) }
 
 -- `tick N`
 abbrev pub tick_row : LineRow
-tick_row = record { words = Fixed (codes "tick") ∷ number_word ∷ []; says = Tick }
+tick_row = record { words = Fixed (codes "tick") ∷ number_word ∷ []; says = λ n. Run (World (worlds.Tick n)) }
 
 -- `arrive C`
 abbrev pub arrive_row : LineRow
-arrive_row = record { words = Fixed (codes "arrive") ∷ number_word ∷ []; says = Arrive }
+arrive_row = record { words = Fixed (codes "arrive") ∷ number_word ∷ []; says = λ copy. Run (World (worlds.Arrive copy)) }
 
 -- `lose C`
 abbrev pub lose_row : LineRow
-lose_row = record { words = Fixed (codes "lose") ∷ number_word ∷ []; says = Lose }
+lose_row = record { words = Fixed (codes "lose") ∷ number_word ∷ []; says = λ copy. Run (World (worlds.Lose copy)) }
 
 -- `restart N`
 abbrev pub restart_row : LineRow
-restart_row = record { words = Fixed (codes "restart") ∷ number_word ∷ []; says = Restart }
+restart_row = record { words = Fixed (codes "restart") ∷ number_word ∷ []; says = λ n. Run (World (worlds.Restart n)) }
 
 -- `call FLOW HEX`
 abbrev pub call_row : LineRow
-call_row = record { words = Fixed (codes "call") ∷ flow_word ∷ payload_word ∷ []; says = Call }
+call_row = record { words = Fixed (codes "call") ∷ flow_word ∷ payload_word ∷ []; says = λ flow hex. Run (Call flow hex) }
 
 -- `me N first` or `me N again`
 abbrev pub me_row : LineRow
-me_row = record { words = Fixed (codes "me") ∷ number_word ∷ again_word ∷ []; says = Me }
+me_row = record { words = Fixed (codes "me") ∷ number_word ∷ again_word ∷ []; says = λ n again. Script (Node (nodes.Me n again)) }
 
 -- `local ADDRESS`
 abbrev pub local_row : LineRow
-local_row = record { words = Fixed (codes "local") ∷ address_word ∷ []; says = Local }
+local_row = record { words = Fixed (codes "local") ∷ address_word ∷ []; says = λ address. Script (Node (nodes.Local address)) }
 
 -- `peer L ADDRESS CHARGE PACE`
 abbrev pub peer_row : LineRow
-peer_row = record { words = Fixed (codes "peer") ∷ link_word ∷ address_word ∷ time_word ∷ time_word ∷ []; says = Peer }
+peer_row = record { words = Fixed (codes "peer") ∷ link_word ∷ address_word ∷ time_word ∷ time_word ∷ []; says = λ link address charge pace. Script (Node (nodes.Peer link address charge pace)) }
 
--- `route TO L`: at the node itself
+-- `route TO L`
 abbrev pub own_route_row : LineRow
-own_route_row = record { words = Fixed (codes "route") ∷ number_word ∷ link_word ∷ []; says = Route 0 }
+own_route_row = record { words = Fixed (codes "route") ∷ number_word ∷ link_word ∷ []; says = λ to link. Script (Node (nodes.Route to link)) }
 
 -- `shelf N`
 abbrev pub shelf_row : LineRow
-shelf_row = record { words = Fixed (codes "shelf") ∷ room_word ∷ []; says = Shelf }
+shelf_row = record { words = Fixed (codes "shelf") ∷ room_word ∷ []; says = λ room. Script (Node (nodes.Shelf room)) }
 
 -- `at T send FLOW MARKS HEX`
 abbrev pub at_send_row : LineRow
 at_send_row = record {
   words = Fixed (codes "at") ∷ number_word ∷ Fixed (codes "send") ∷ flow_word ∷ marks_word ∷ hex_word ∷ [];
-  says = λ at flow marks hex. AtSend at flow marks.0 marks.1 hex;
+  says = λ at flow marks hex. Script (At at (Send flow marks.0 marks.1 hex));
 }
 
 -- `at T read FLOW MAX`
 abbrev pub at_read_row : LineRow
-at_read_row = record { words = Fixed (codes "at") ∷ number_word ∷ Fixed (codes "read") ∷ flow_word ∷ count_word ∷ []; says = AtRead }
+at_read_row = record { words = Fixed (codes "at") ∷ number_word ∷ Fixed (codes "read") ∷ flow_word ∷ count_word ∷ []; says = λ at flow max. Script (At at (Read flow max)) }
 
 -- `at T stop`
 abbrev pub at_stop_row : LineRow
-at_stop_row = record { words = Fixed (codes "at") ∷ number_word ∷ Fixed (codes "stop") ∷ []; says = AtStop }
+at_stop_row = record { words = Fixed (codes "at") ∷ number_word ∷ Fixed (codes "stop") ∷ []; says = λ at. Script (Stop at) }
 
 -- the rows of one kind of line: they have the same fixed words, and differ in how many words there are
 abbrev pub LineKind : Type 0

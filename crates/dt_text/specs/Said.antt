@@ -1,58 +1,67 @@
--- What a line says: a line as a value without loans. The digits of hex are a list.
+-- What a line says: a line as a value without loans. The digits of hex are a list. Lines that lend nothing are what they are.
 use Rattle.std.specs.Prelude.{◌≡◌, ℕ, List, Bool, Result, Ok, Err}
 use Rattle.dt_units.specs.declared.endpoints.Flow.{Flow}
 use Rattle.dt_units.specs.declared.parameters.Params as units
-use Rattle.dt_edges.specs.declared.addresses.Address.{Address}
 use Rattle.dt_reports.specs.declared.faults.LineFault.{LineFault}
 use Rattle.dt_text.specs.declared.lines.Line.{Line}
 use Rattle.dt_text.specs.declared.lines.Line.TheVariants as lines
+use Rattle.dt_text.specs.declared.lines.NodeLine.{NodeLine}
+use Rattle.dt_text.specs.declared.lines.RunLine.{RunLine}
+use Rattle.dt_text.specs.declared.lines.RunLine.TheVariants as runs
+use Rattle.dt_text.specs.declared.lines.ScriptLine.{ScriptLine}
+use Rattle.dt_text.specs.declared.lines.ScriptLine.TheVariants as scripts
+use Rattle.dt_text.specs.declared.lines.SetupLine.{SetupLine}
+use Rattle.dt_text.specs.declared.lines.UserLine.{UserLine}
+use Rattle.dt_text.specs.declared.lines.UserLine.TheVariants as users
+use Rattle.dt_text.specs.declared.lines.WorldLine.{WorldLine}
+
+-- what a user of a node does
+pub data UserSaid : Type 0 where
+  Send : (flow : Flow) (begin end : Bool) (hex : List ℕ) → UserSaid
+  Read : (flow : Flow) (max : ℕ) → UserSaid
+
+-- a line behind `go` in the input of a world
+pub data RunSaid : Type 0 where
+  World : (line : WorldLine) → RunSaid
+  User : (line : UserSaid) → RunSaid
+  Call : (flow : Flow) (hex : List ℕ) → RunSaid
+
+-- a line of a script alone
+pub data ScriptSaid : Type 0 where
+  Node : (line : NodeLine) → ScriptSaid
+  At : (at : ℕ) (does : UserSaid) → ScriptSaid
+  Stop : (at : ℕ) → ScriptSaid
 
 pub data Said : Type 0 where
   Blank : Said
   Params : (params : units.Params) → Said
-  Station : (n zero : ℕ) → Said
-  Link : (link from to charge pace : ℕ) → Said
-  Route : (at to link : ℕ) → Said
   Go : Said
-  Pass : (by : ℕ) → Said
-  Send : (flow : Flow) (begin end : Bool) (hex : List ℕ) → Said
-  Read : (flow : Flow) (max : ℕ) → Said
-  Tick : (n : ℕ) → Said
-  Arrive : (copy : ℕ) → Said
-  Lose : (copy : ℕ) → Said
-  Restart : (n : ℕ) → Said
-  Me : (n : ℕ) (again : Bool) → Said
-  Local : (address : Address) → Said
-  Peer : (link : ℕ) (address : Address) (charge pace : ℕ) → Said
-  AtSend : (at : ℕ) (flow : Flow) (begin end : Bool) (hex : List ℕ) → Said
-  AtRead : (at : ℕ) (flow : Flow) (max : ℕ) → Said
-  AtStop : (at : ℕ) → Said
-  Shelf : (room : ℕ) → Said
-  Call : (flow : Flow) (hex : List ℕ) → Said
+  Setup : (line : SetupLine) → Said
+  Run : (line : RunSaid) → Said
+  Script : (line : ScriptSaid) → Said
+
+abbrev pub user_said : UserLine → UserSaid
+user_said (users.Send flow begin end hex) = Send flow begin end hex.now
+user_said (users.Read flow max) = Read flow max
+
+abbrev pub run_said : RunLine → RunSaid
+run_said (runs.World line) = World line
+run_said (runs.User line) = User (user_said line)
+run_said (runs.Call flow hex) = Call flow hex.now
+
+abbrev pub script_said : ScriptLine → ScriptSaid
+script_said (scripts.Node line) = Node line
+script_said (scripts.At at does) = At at (user_said does)
+script_said (scripts.Stop at) = Stop at
 
 -- what a line says
 abbrev pub said : Line → Said
 said lines.Blank = Blank
 said (lines.Params params) = Params params
-said (lines.Station n zero) = Station n zero
-said (lines.Link link from to charge pace) = Link link from to charge pace
-said (lines.Route at to link) = Route at to link
 said lines.Go = Go
-said (lines.Pass by) = Pass by
-said (lines.Send flow begin end hex) = Send flow begin end hex.now
-said (lines.Read flow max) = Read flow max
-said (lines.Tick n) = Tick n
-said (lines.Arrive copy) = Arrive copy
-said (lines.Lose copy) = Lose copy
-said (lines.Restart n) = Restart n
-said (lines.Me n again) = Me n again
-said (lines.Local address) = Local address
-said (lines.Peer link address charge pace) = Peer link address charge pace
-said (lines.AtSend at flow begin end hex) = AtSend at flow begin end hex.now
-said (lines.AtRead at flow max) = AtRead at flow max
-said (lines.AtStop at) = AtStop at
-said (lines.Shelf room) = Shelf room
-said (lines.Call flow hex) = Call flow hex.now
+said (lines.Setup line) = Setup line
+said (lines.Run line) = Run (run_said line)
+said (lines.Script line) = Script (script_said line)
 
 -- what was read is what the definition says: this line, or this fault
 abbrev pub ReadAs : Result Line LineFault → Result Said LineFault → Type 0

@@ -19,7 +19,7 @@ pub use dt_reports::{Fault, LineFault, LogLine, Refusal, Report, SetupFault, Ste
 pub use endpoints::read_flow;
 pub use hexadecimal::{decode_hex, is_hex};
 pub use input_lines::split_line;
-pub use lines::{Form, Line};
+pub use lines::{Form, Line, NodeLine, RunLine, ScriptLine, SetupLine, UserLine, WorldLine};
 pub use numerals::read_number;
 pub use reading::read_line;
 pub use stages::{Stage, follows};

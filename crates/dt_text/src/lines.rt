@@ -13,9 +13,8 @@ pub enum Form {
     Calls,
 }
 
-/// A line of an input, as its words say. `hex` lends the digits of the line, which are pairs of
-/// hexadecimal digits, at least one pair and at most 65,536. Where it isn't said of a line in which
-/// forms it stands, it stands in all; those of a world stand in schedules and in inputs of calls.
+/// A line of an input, as its words say. Lines of a kind have a type of their own: those of the setup of
+/// a world, those behind its `go`, and those of a script alone.
 #[derive(Clone, Copy, Debug, PartialEq, Eq)]
 pub enum Line<'a> {
     /// An empty line, or one that begins with `#`.
@@ -23,14 +22,26 @@ pub enum Line<'a> {
     /// The parameters of the protocol. Their ranges aren't tested yet. `start` is 0 where the line
     /// leaves it out.
     Params(Params),
-    /// Of a world: the node `n` stands in it. Its clock reads `zero` ms more than the
-    /// world's.
+    /// The setup ends.
+    Go,
+    /// The setup of a world: of schedules and of inputs of calls.
+    Setup(SetupLine),
+    /// Behind `go`, of schedules and of inputs of calls.
+    Run(RunLine<'a>),
+    /// Of a script.
+    Script(ScriptLine<'a>),
+}
+
+/// A line of the setup of a world.
+#[derive(Clone, Copy, Debug, PartialEq, Eq)]
+pub enum SetupLine {
+    /// The node `n` stands in the world. Its clock reads `zero` ms more than the world's.
     Station {
         n: u32,
         zero: u32,
     },
-    /// Of a world: a link goes from a node to another. Its number is 0 to 255. Its charge and its
-    /// pace are 0 to 86,400,000 ms.
+    /// A link goes from a node to another. Its number is 0 to 255. Its charge and its pace are 0 to
+    /// 86,400,000 ms.
     Link {
         link: u16,
         from: u32,
@@ -38,87 +49,94 @@ pub enum Line<'a> {
         charge: u32,
         pace: u32,
     },
-    /// Packets for `to` leave the node `at` over the link. In a script `at` is 0 and means the
-    /// node itself.
+    /// Packets for `to` leave the node `at` over the link.
     Route {
         at: u32,
         to: u32,
         link: u16,
     },
-    /// The setup ends.
-    Go,
-    /// Of a world: `by` ms pass.
-    Pass {
-        by: u32,
-    },
-    /// A schedule: octets are handed in to be sent.
+}
+
+/// A line behind `go` in the input of a world.
+#[derive(Clone, Copy, Debug, PartialEq, Eq)]
+pub enum RunLine<'a> {
+    /// Of schedules and of inputs of calls: what happens to the world.
+    World(WorldLine),
+    /// A schedule: what a user of a node does.
+    User(UserLine<'a>),
+    /// An input of calls: a call is made along the flow, with 1 to 65,528 pairs of hexadecimal digits.
+    Call { flow: Flow, hex: &'a [u8] },
+}
+
+/// What happens to a world.
+#[derive(Clone, Copy, Debug, PartialEq, Eq)]
+pub enum WorldLine {
+    /// `by` ms pass.
+    Pass { by: u32 },
+    /// The station `n` does what is due.
+    Tick { n: u32 },
+    /// A copy of a packet comes to the end of its link.
+    Arrive { copy: u32 },
+    /// A copy of a packet is lost.
+    Lose { copy: u32 },
+    /// The station `n` loses its records and begins again.
+    Restart { n: u32 },
+}
+
+/// What a user of a node does.
+#[derive(Clone, Copy, Debug, PartialEq, Eq)]
+pub enum UserLine<'a> {
+    /// Octets are handed in to be sent. `hex` lends the digits of the line, 1 to 65,536 pairs of
+    /// hexadecimal digits.
     Send {
         flow: Flow,
         begin: bool,
         end: bool,
         hex: &'a [u8],
     },
-    /// A schedule: at most `max` octets are read, 1 to 65,536.
+    /// At most `max` octets are read, 1 to 65,536.
     Read {
         flow: Flow,
         max: u32,
     },
-    /// Of a world: the station `n` does what is due.
-    Tick {
-        n: u32,
-    },
-    /// Of a world: a copy of a packet comes to the end of its link.
-    Arrive {
-        copy: u32,
-    },
-    /// Of a world: a copy of a packet is lost.
-    Lose {
-        copy: u32,
-    },
-    /// Of a world: the station `n` loses its records and begins again.
-    Restart {
-        n: u32,
-    },
-    /// A script: the node's number, and whether it begins again after an earlier life.
+}
+
+/// A line of a script alone. The moments behind its `go` are in ms after the first reading of the clock.
+#[derive(Clone, Copy, Debug, PartialEq, Eq)]
+pub enum ScriptLine<'a> {
+    /// Before `go`: the node is set up.
+    Node(NodeLine),
+    /// Behind `go`: what the user of the node does at this moment.
+    At { at: u32, does: UserLine<'a> },
+    /// Behind `go`: the run ends at this moment.
+    Stop { at: u32 },
+}
+
+/// A line by which a script sets up its node.
+#[derive(Clone, Copy, Debug, PartialEq, Eq)]
+pub enum NodeLine {
+    /// The node's number, and whether it begins again after an earlier life.
     Me {
         n: u32,
         again: bool,
     },
-    /// A script: the address that the node binds.
+    /// The address that the node binds.
     Local(Address),
-    /// A script: the other end of a link in both directions. Its number is 0 to 255. Its charge
-    /// and its pace are 0 to 86,400,000 ms.
+    /// The other end of a link in both directions. Its number is 0 to 255. Its charge and its pace are
+    /// 0 to 86,400,000 ms.
     Peer {
         link: u16,
         address: Address,
         charge: u32,
         pace: u32,
     },
-    /// A script: octets are handed in to be sent, `at` ms after the first reading of the clock.
-    AtSend {
-        at: u32,
-        flow: Flow,
-        begin: bool,
-        end: bool,
-        hex: &'a [u8],
+    /// Packets for `to` leave over the link.
+    Route {
+        to: u32,
+        link: u16,
     },
-    /// A script: at most `max` octets are read, 1 to 65,536, `at` ms after the first reading.
-    AtRead {
-        at: u32,
-        flow: Flow,
-        max: u32,
-    },
-    /// A script: the run ends `at` ms after the first reading.
-    AtStop {
-        at: u32,
-    },
-    /// A script: the node keeps up to `room` packets that came too early, 1 to 64.
+    /// The node keeps up to `room` packets that came too early, 1 to 64.
     Shelf {
         room: u32,
-    },
-    /// Calls: a call is made along the flow, with 1 to 65,528 pairs of digits.
-    Call {
-        flow: Flow,
-        hex: &'a [u8],
     },
 }

@@ -9,7 +9,7 @@ ghost use Rattle.dt_text.specs.Splitting.{word};
 ghost use Rattle.dt_text.specs.WordKinds.{value_read};
 
 use crate::fields::{address, again, day, flow, has, hex, link, marks, max, number, payload, room};
-use crate::lines::{Form, Line};
+use crate::lines::{Form, Line, NodeLine, RunLine, ScriptLine, SetupLine, UserLine, WorldLine};
 use crate::splitting::{Words, is};
 use dt_reports::LineFault;
 use dt_units::Params;
@@ -77,7 +77,7 @@ fn station_line<'a>(words: &Words<'a>) -> Result<Line<'a>, LineFault>
     has(3, words)?;
     let n = number(words.word(1))?;
     let zero = number(words.word(2))?;
-    Ok(Line::Station { n, zero })
+    Ok(Line::Setup(SetupLine::Station { n, zero }))
 }
 
 /// `link L FROM TO CHARGE PACE`
@@ -91,13 +91,13 @@ fn link_line<'a>(words: &Words<'a>) -> Result<Line<'a>, LineFault>
     let to = number(words.word(3))?;
     let charge = day(words.word(4))?;
     let pace = day(words.word(5))?;
-    Ok(Line::Link {
+    Ok(Line::Setup(SetupLine::Link {
         link,
         from,
         to,
         charge,
         pace,
-    })
+    }))
 }
 
 /// `route AT TO L`
@@ -109,7 +109,7 @@ fn route_line<'a>(words: &Words<'a>) -> Result<Line<'a>, LineFault>
     let at = number(words.word(1))?;
     let to = number(words.word(2))?;
     let link = link(words.word(3))?;
-    Ok(Line::Route { at, to, link })
+    Ok(Line::Setup(SetupLine::Route { at, to, link }))
 }
 
 /// `go`
@@ -128,7 +128,7 @@ fn pass_line<'a>(words: &Words<'a>) -> Result<Line<'a>, LineFault>
 {
     has(2, words)?;
     let by = number(words.word(1))?;
-    Ok(Line::Pass { by })
+    Ok(Line::Run(RunLine::World(WorldLine::Pass { by })))
 }
 
 /// `send FLOW MARKS HEX`
@@ -140,12 +140,12 @@ fn send_line<'a>(words: &Words<'a>) -> Result<Line<'a>, LineFault>
     let flow = flow(words.word(1))?;
     let (begin, end) = marks(words.word(2))?;
     let hex = hex(words.word(3))?;
-    Ok(Line::Send {
+    Ok(Line::Run(RunLine::User(UserLine::Send {
         flow,
         begin,
         end,
         hex,
-    })
+    })))
 }
 
 /// `read FLOW MAX`
@@ -156,7 +156,7 @@ fn reading_line<'a>(words: &Words<'a>) -> Result<Line<'a>, LineFault>
     has(3, words)?;
     let flow = flow(words.word(1))?;
     let max = max(words.word(2))?;
-    Ok(Line::Read { flow, max })
+    Ok(Line::Run(RunLine::User(UserLine::Read { flow, max })))
 }
 
 /// `tick N`
@@ -166,7 +166,7 @@ fn tick_line<'a>(words: &Words<'a>) -> Result<Line<'a>, LineFault>
 {
     has(2, words)?;
     let n = number(words.word(1))?;
-    Ok(Line::Tick { n })
+    Ok(Line::Run(RunLine::World(WorldLine::Tick { n })))
 }
 
 /// `arrive C`
@@ -176,7 +176,7 @@ fn arrive_line<'a>(words: &Words<'a>) -> Result<Line<'a>, LineFault>
 {
     has(2, words)?;
     let copy = number(words.word(1))?;
-    Ok(Line::Arrive { copy })
+    Ok(Line::Run(RunLine::World(WorldLine::Arrive { copy })))
 }
 
 /// `lose C`
@@ -186,7 +186,7 @@ fn lose_line<'a>(words: &Words<'a>) -> Result<Line<'a>, LineFault>
 {
     has(2, words)?;
     let copy = number(words.word(1))?;
-    Ok(Line::Lose { copy })
+    Ok(Line::Run(RunLine::World(WorldLine::Lose { copy })))
 }
 
 /// `restart N`
@@ -196,7 +196,7 @@ fn restart_line<'a>(words: &Words<'a>) -> Result<Line<'a>, LineFault>
 {
     has(2, words)?;
     let n = number(words.word(1))?;
-    Ok(Line::Restart { n })
+    Ok(Line::Run(RunLine::World(WorldLine::Restart { n })))
 }
 
 /// `me N first` or `me N again`
@@ -207,7 +207,7 @@ fn me_line<'a>(words: &Words<'a>) -> Result<Line<'a>, LineFault>
     has(3, words)?;
     let n = number(words.word(1))?;
     let again = again(words.word(2))?;
-    Ok(Line::Me { n, again })
+    Ok(Line::Script(ScriptLine::Node(NodeLine::Me { n, again })))
 }
 
 /// `local ADDRESS`
@@ -217,7 +217,7 @@ fn local_line<'a>(words: &Words<'a>) -> Result<Line<'a>, LineFault>
 {
     has(2, words)?;
     let address = address(words.word(1))?;
-    Ok(Line::Local(address))
+    Ok(Line::Script(ScriptLine::Node(NodeLine::Local(address))))
 }
 
 /// `peer L ADDRESS CHARGE PACE`
@@ -230,12 +230,12 @@ fn peer_line<'a>(words: &Words<'a>) -> Result<Line<'a>, LineFault>
     let address = address(words.word(2))?;
     let charge = day(words.word(3))?;
     let pace = day(words.word(4))?;
-    Ok(Line::Peer {
+    Ok(Line::Script(ScriptLine::Node(NodeLine::Peer {
         link,
         address,
         charge,
         pace,
-    })
+    })))
 }
 
 /// `route TO L`
@@ -246,7 +246,7 @@ fn own_route_line<'a>(words: &Words<'a>) -> Result<Line<'a>, LineFault>
     has(3, words)?;
     let to = number(words.word(1))?;
     let link = link(words.word(2))?;
-    Ok(Line::Route { at: 0, to, link })
+    Ok(Line::Script(ScriptLine::Node(NodeLine::Route { to, link })))
 }
 
 /// `shelf N`
@@ -256,7 +256,7 @@ fn shelf_line<'a>(words: &Words<'a>) -> Result<Line<'a>, LineFault>
 {
     has(2, words)?;
     let room = room(words.word(1))?;
-    Ok(Line::Shelf { room })
+    Ok(Line::Script(ScriptLine::Node(NodeLine::Shelf { room })))
 }
 
 /// `at T send FLOW MARKS HEX`
@@ -269,13 +269,13 @@ fn at_send_line<'a>(words: &Words<'a>) -> Result<Line<'a>, LineFault>
     let flow = flow(words.word(3))?;
     let (begin, end) = marks(words.word(4))?;
     let hex = hex(words.word(5))?;
-    Ok(Line::AtSend {
-        at,
+    let does = UserLine::Send {
         flow,
         begin,
         end,
         hex,
-    })
+    };
+    Ok(Line::Script(ScriptLine::At { at, does }))
 }
 
 /// `at T read FLOW MAX`
@@ -287,7 +287,8 @@ fn at_read_line<'a>(words: &Words<'a>) -> Result<Line<'a>, LineFault>
     let at = number(words.word(1))?;
     let flow = flow(words.word(3))?;
     let max = max(words.word(4))?;
-    Ok(Line::AtRead { at, flow, max })
+    let does = UserLine::Read { flow, max };
+    Ok(Line::Script(ScriptLine::At { at, does }))
 }
 
 /// `at T stop`
@@ -297,7 +298,7 @@ fn at_stop_line<'a>(words: &Words<'a>) -> Result<Line<'a>, LineFault>
 {
     has(3, words)?;
     let at = number(words.word(1))?;
-    Ok(Line::AtStop { at })
+    Ok(Line::Script(ScriptLine::Stop { at }))
 }
 
 /// `call FLOW HEX`
@@ -308,7 +309,14 @@ fn call_line<'a>(words: &Words<'a>) -> Result<Line<'a>, LineFault>
     has(3, words)?;
     let flow = flow(words.word(1))?;
     let hex = payload(words.word(2))?;
-    Ok(Line::Call { flow, hex })
+    Ok(Line::Run(RunLine::Call { flow, hex }))
+}
+
+/// The reader that a word names, one row a kind of line, or the fault of a word that names none.
+macro_rules! by_name {
+    ($name:expr, $words:expr; $($text:literal => $read:ident,)*) => {
+        $(if is($name, $text) { $read($words) } else)* { Err(LineFault::Word) }
+    };
 }
 
 /// A line of a script behind `at T`, which its third word chooses.
@@ -320,14 +328,10 @@ fn at_line<'a>(words: &Words<'a>) -> Result<Line<'a>, LineFault>
         return Err(LineFault::Count);
     }
     let name = words.word(2);
-    if is(name, "send") {
-        at_send_line(words)
-    } else if is(name, "read") {
-        at_read_line(words)
-    } else if is(name, "stop") {
-        at_stop_line(words)
-    } else {
-        Err(LineFault::Word)
+    by_name! { name, words;
+        "send" => at_send_line,
+        "read" => at_read_line,
+        "stop" => at_stop_line,
     }
 }
 
@@ -337,32 +341,19 @@ fn schedule_line<'a>(words: &Words<'a>) -> Result<Line<'a>, LineFault>
     ensures { ReadAs result (said_in Schedule words.now) }
 {
     let name = words.word(0);
-    if is(name, "params") {
-        params_line(words)
-    } else if is(name, "station") {
-        station_line(words)
-    } else if is(name, "link") {
-        link_line(words)
-    } else if is(name, "route") {
-        route_line(words)
-    } else if is(name, "go") {
-        go_line(words)
-    } else if is(name, "pass") {
-        pass_line(words)
-    } else if is(name, "send") {
-        send_line(words)
-    } else if is(name, "read") {
-        reading_line(words)
-    } else if is(name, "tick") {
-        tick_line(words)
-    } else if is(name, "arrive") {
-        arrive_line(words)
-    } else if is(name, "lose") {
-        lose_line(words)
-    } else if is(name, "restart") {
-        restart_line(words)
-    } else {
-        Err(LineFault::Word)
+    by_name! { name, words;
+        "params" => params_line,
+        "station" => station_line,
+        "link" => link_line,
+        "route" => route_line,
+        "go" => go_line,
+        "pass" => pass_line,
+        "send" => send_line,
+        "read" => reading_line,
+        "tick" => tick_line,
+        "arrive" => arrive_line,
+        "lose" => lose_line,
+        "restart" => restart_line,
     }
 }
 
@@ -372,30 +363,18 @@ fn calls_line<'a>(words: &Words<'a>) -> Result<Line<'a>, LineFault>
     ensures { ReadAs result (said_in Calls words.now) }
 {
     let name = words.word(0);
-    if is(name, "params") {
-        params_line(words)
-    } else if is(name, "station") {
-        station_line(words)
-    } else if is(name, "link") {
-        link_line(words)
-    } else if is(name, "route") {
-        route_line(words)
-    } else if is(name, "go") {
-        go_line(words)
-    } else if is(name, "call") {
-        call_line(words)
-    } else if is(name, "pass") {
-        pass_line(words)
-    } else if is(name, "tick") {
-        tick_line(words)
-    } else if is(name, "arrive") {
-        arrive_line(words)
-    } else if is(name, "lose") {
-        lose_line(words)
-    } else if is(name, "restart") {
-        restart_line(words)
-    } else {
-        Err(LineFault::Word)
+    by_name! { name, words;
+        "params" => params_line,
+        "station" => station_line,
+        "link" => link_line,
+        "route" => route_line,
+        "go" => go_line,
+        "call" => call_line,
+        "pass" => pass_line,
+        "tick" => tick_line,
+        "arrive" => arrive_line,
+        "lose" => lose_line,
+        "restart" => restart_line,
     }
 }
 
@@ -405,24 +384,15 @@ fn script_line<'a>(words: &Words<'a>) -> Result<Line<'a>, LineFault>
     ensures { ReadAs result (said_in Script words.now) }
 {
     let name = words.word(0);
-    if is(name, "at") {
-        at_line(words)
-    } else if is(name, "params") {
-        params_line(words)
-    } else if is(name, "me") {
-        me_line(words)
-    } else if is(name, "local") {
-        local_line(words)
-    } else if is(name, "peer") {
-        peer_line(words)
-    } else if is(name, "route") {
-        own_route_line(words)
-    } else if is(name, "shelf") {
-        shelf_line(words)
-    } else if is(name, "go") {
-        go_line(words)
-    } else {
-        Err(LineFault::Word)
+    by_name! { name, words;
+        "at" => at_line,
+        "params" => params_line,
+        "me" => me_line,
+        "local" => local_line,
+        "peer" => peer_line,
+        "route" => own_route_line,
+        "shelf" => shelf_line,
+        "go" => go_line,
     }
 }
 

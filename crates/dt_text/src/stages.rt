@@ -1,8 +1,8 @@
 ghost use Rattle.std.specs.Prelude.{◌≡◌};
-ghost use Rattle.dt_text.specs.Said.{said};
-ghost use Rattle.dt_text.specs.Stages.{calls_after, schedule_after, script_after, stage_after};
+ghost use Rattle.dt_text.specs.Said.{run_said, said, script_said};
+ghost use Rattle.dt_text.specs.Stages.{before_params, calls_run, in_run, in_setup, node_after, not_before, schedule_run, script_after, script_line_after, stage_after, world_after};
 
-use crate::lines::{Form, Line};
+use crate::lines::{Form, Line, NodeLine, RunLine, ScriptLine};
 
 /// How far an input has come, by its lines that aren't blank.
 #[derive(Clone, Copy, Debug, PartialEq, Eq)]
@@ -22,28 +22,116 @@ pub enum Stage {
     Ended,
 }
 
+/// At the start alone, and then in the next stage.
+fn before_params(stage: Stage, next: Stage) -> Option<Stage>
+    ensures { result ≡ before_params stage next }
+{
+    match stage {
+        Stage::Start => Some(next),
+        _ => None,
+    }
+}
+
+/// In the setup alone, and then in the next stage.
+fn in_setup(stage: Stage, next: Stage) -> Option<Stage>
+    ensures { result ≡ in_setup stage next }
+{
+    match stage {
+        Stage::Setup => Some(next),
+        _ => None,
+    }
+}
+
+/// Behind `go` alone, and the stage stays.
+fn in_run(stage: Stage) -> Option<Stage>
+    ensures { result ≡ in_run stage }
+{
+    match stage {
+        Stage::Run { last } => Some(Stage::Run { last }),
+        _ => None,
+    }
+}
+
+/// Behind `go` alone, and not before the last moment.
+fn not_before(stage: Stage, moment: u32, next: Stage) -> Option<Stage>
+    ensures { result ≡ not_before stage moment next }
+{
+    match stage {
+        Stage::Run { last } if moment >= last => Some(next),
+        _ => None,
+    }
+}
+
+/// The stage behind a line of a schedule behind `go`.
+fn schedule_run(stage: Stage, line: &RunLine<'_>) -> Option<Stage>
+    ensures { result ≡ schedule_run stage (run_said line.now) }
+{
+    match line {
+        RunLine::World(_) | RunLine::User(_) => in_run(stage),
+        RunLine::Call { .. } => None,
+    }
+}
+
+/// The stage behind a line of an input of calls behind `go`.
+fn calls_run(stage: Stage, line: &RunLine<'_>) -> Option<Stage>
+    ensures { result ≡ calls_run stage (run_said line.now) }
+{
+    match line {
+        RunLine::World(_) | RunLine::Call { .. } => in_run(stage),
+        RunLine::User(_) => None,
+    }
+}
+
+/// A match on a line of the input of a world, by what says which lines stand behind its `go`.
+macro_rules! world_after {
+    ($stage:expr, $line:expr, $run:ident) => {
+        match $line {
+            Line::Blank => Some($stage),
+            Line::Params(_) => before_params($stage, Stage::Setup),
+            Line::Go => in_setup($stage, Stage::Run { last: 0 }),
+            Line::Setup(_) => in_setup($stage, Stage::Setup),
+            Line::Run(line) => $run($stage, line),
+            Line::Script(_) => None,
+        }
+    };
+}
+
 /// The stage behind a line of a schedule.
 fn schedule_after(stage: Stage, line: &Line<'_>) -> Option<Stage>
-    ensures { result ≡ schedule_after stage (said line.now) }
+    ensures { result ≡ world_after schedule_run stage (said line.now) }
+{
+    world_after!(stage, line, schedule_run)
+}
+
+/// The stage behind a line of an input of calls.
+fn calls_after(stage: Stage, line: &Line<'_>) -> Option<Stage>
+    ensures { result ≡ world_after calls_run stage (said line.now) }
+{
+    world_after!(stage, line, calls_run)
+}
+
+/// The stage behind a line that sets up the node of a script.
+fn node_after(stage: Stage, line: &NodeLine) -> Option<Stage>
+    ensures { result ≡ node_after stage line.now }
 {
     match (stage, line) {
-        (stage, Line::Blank) => Some(stage),
-        (Stage::Start, Line::Params(_)) => Some(Stage::Setup),
-        (Stage::Setup, Line::Station { .. } | Line::Link { .. } | Line::Route { .. }) => {
+        (Stage::Params, NodeLine::Me { .. }) => Some(Stage::Me),
+        (Stage::Me, NodeLine::Local(_)) => Some(Stage::Setup),
+        (Stage::Setup, NodeLine::Peer { .. } | NodeLine::Route { .. } | NodeLine::Shelf { .. }) => {
             Some(Stage::Setup)
         }
-        (Stage::Setup, Line::Go) => Some(Stage::Run { last: 0 }),
-        (
-            Stage::Run { last },
-            Line::Pass { .. }
-            | Line::Send { .. }
-            | Line::Read { .. }
-            | Line::Tick { .. }
-            | Line::Arrive { .. }
-            | Line::Lose { .. }
-            | Line::Restart { .. },
-        ) => Some(Stage::Run { last }),
         _ => None,
+    }
+}
+
+/// The stage behind a line of a script alone.
+fn script_line_after(stage: Stage, line: &ScriptLine<'_>) -> Option<Stage>
+    ensures { result ≡ script_line_after stage (script_said line.now) }
+{
+    match line {
+        ScriptLine::Node(line) => node_after(stage, line),
+        ScriptLine::At { at, .. } => not_before(stage, *at, Stage::Run { last: *at }),
+        ScriptLine::Stop { at } => not_before(stage, *at, Stage::Ended),
     }
 }
 
@@ -51,31 +139,12 @@ fn schedule_after(stage: Stage, line: &Line<'_>) -> Option<Stage>
 fn script_after(stage: Stage, line: &Line<'_>) -> Option<Stage>
     ensures { result ≡ script_after stage (said line.now) }
 {
-    match (stage, line) {
-        (stage, Line::Blank) => Some(stage),
-        (Stage::Start, Line::Params(_)) => Some(Stage::Params),
-        (Stage::Params, Line::Me { .. }) => Some(Stage::Me),
-        (Stage::Me, Line::Local(_)) => Some(Stage::Setup),
-        (Stage::Setup, Line::Peer { .. } | Line::Route { .. } | Line::Shelf { .. }) => {
-            Some(Stage::Setup)
-        }
-        (Stage::Setup, Line::Go) => Some(Stage::Run { last: 0 }),
-        (Stage::Run { last }, Line::AtSend { at, .. } | Line::AtRead { at, .. }) if *at >= last => {
-            Some(Stage::Run { last: *at })
-        }
-        (Stage::Run { last }, Line::AtStop { at }) if *at >= last => Some(Stage::Ended),
-        _ => None,
-    }
-}
-
-/// The stage behind a line of an input of calls.
-fn calls_after(stage: Stage, line: &Line<'_>) -> Option<Stage>
-    ensures { result ≡ calls_after stage (said line.now) }
-{
-    match (stage, line) {
-        (Stage::Run { last }, Line::Call { .. }) => Some(Stage::Run { last }),
-        (_, Line::Call { .. } | Line::Send { .. } | Line::Read { .. }) => None,
-        (stage, line) => schedule_after(stage, line),
+    match line {
+        Line::Blank => Some(stage),
+        Line::Params(_) => before_params(stage, Stage::Params),
+        Line::Go => in_setup(stage, Stage::Run { last: 0 }),
+        Line::Script(line) => script_line_after(stage, line),
+        Line::Setup(_) | Line::Run(_) => None,
     }
 }
 

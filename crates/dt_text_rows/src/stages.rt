@@ -25,7 +25,8 @@ n|at 5 stop
 n|at 4 read 1:10>2:20 1
 n|at 4 stop
 c|call 1:10>2:20 61
-n|shelf 1";
+n|shelf 1
+n|route 2 1";
 
 /// The stage that a letter stands for: a number is the last moment of a run.
 fn stage_of(letter: u8) -> Option<Stage> {
@@ -44,19 +45,19 @@ fn stage_of(letter: u8) -> Option<Stage> {
 
 /// A form, the letter of a stage, and the letters of the stages behind it, for each of the kinds: `-`
 /// where the kind isn't allowed there.
-const STAGES: &str = "s|a|as---------------------
-s|s|s-sss0-----------------
-s|0|0-----0000000----------
-n|a|ap---------------------
-n|p|p------------m---------
-n|m|m-------------s--------
-n|s|s---s0---------s------s
-n|0|0---------------55e4e--
-n|5|5---------------55e----
-n|e|e----------------------
-c|a|as---------------------
-c|s|s-sss0-----------------
-c|0|0-----0--0000--------0-";
+const STAGES: &str = "s|a|as----------------------
+s|s|s-sss0------------------
+s|0|0-----0000000-----------
+n|a|ap----------------------
+n|p|p------------m----------
+n|m|m-------------s---------
+n|s|s----0---------s------ss
+n|0|0---------------55e4e---
+n|5|5---------------55e-----
+n|e|e-----------------------
+c|a|as----------------------
+c|s|s-sss0------------------
+c|0|0-----0--0000--------0--";
 
 /// Whether the line of each kind is followed so.
 fn are_followed(form: Form, stage: Stage, after: &str) -> bool {

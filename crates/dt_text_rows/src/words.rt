@@ -1,6 +1,9 @@
 //! Words by themselves, and the cut of an input into lines.
 use crate::forms::parts;
-use dt_text::{Form, Line, decode_hex, is_hex, read_flow, read_line, read_number, split_line};
+use dt_text::{
+    Form, Line, RunLine, UserLine, decode_hex, is_hex, read_flow, read_line, read_number,
+    split_line,
+};
 use dt_units::{Flow, NodeId};
 use std::alloc::Global;
 use std::test::Fail;
@@ -69,7 +72,7 @@ fn flows(rt: HostRuntime) {
 /// The octets that the digits of a line spell are put in the place of others.
 fn decode(line: &[u8], octets: &mut Vec<u8>) -> Result<(), Fail> {
     match read_line(Form::Schedule, line) {
-        Ok(Line::Send { hex, .. }) => Ok(decode_hex(hex, octets)?),
+        Ok(Line::Run(RunLine::User(UserLine::Send { hex, .. }))) => Ok(decode_hex(hex, octets)?),
         _ => Err("no send".into()),
     }
 }

@@ -1,3 +1,3 @@
 pub mod Order
 pub mod Tournaments
-pub mod Entries
+pub mod Places

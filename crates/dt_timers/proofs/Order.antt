@@ -52,12 +52,12 @@ by_second (Some d) (Some e) =
     ]
 
 -- what is compared field by field, and is equal in both, is the same
-pub same_deadline : (a b : Deadline) → (nat_eq a.moment b.moment && nat_eq a.key b.key) ≡ true → a ≡ b
+pub same_deadline : (a b : Deadline) → (nat_eq a.moment b.moment && nat_eq a.place b.place) ≡ true → a ≡ b
 same_deadline a b h =
-    let both = and_parts (nat_eq a.moment b.moment) (nat_eq a.key b.key) h in
-    ap (λ (m : ℕ). record a { moment = m }) (eqb-true a.moment b.moment both.0) ∙ ap (λ (k : ℕ). record b { key = k }) (eqb-true a.key b.key both.1)
+    let both = and_parts (nat_eq a.moment b.moment) (nat_eq a.place b.place) h in
+    ap (λ (m : ℕ). record a { moment = m }) (eqb-true a.moment b.moment both.0) ∙ ap (λ (k : ℕ). record b { place = k }) (eqb-true a.place b.place both.1)
 
-pub same_place : (one other : Option Deadline) → true ≡ option_eq (λ (a b : Deadline). nat_eq a.moment b.moment && nat_eq a.key b.key) one other → one ≡ other
+pub same_place : (one other : Option Deadline) → true ≡ option_eq (λ (a b : Deadline). nat_eq a.moment b.moment && nat_eq a.place b.place) one other → one ≡ other
 same_place None None h = refl
 same_place None (Some b) h = absurd cc
 same_place (Some a) None h = absurd cc

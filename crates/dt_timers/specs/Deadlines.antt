@@ -1,32 +1,25 @@
--- A table of deadlines as its callers see it, and how its entries stand in the tournament.
-use Rattle.std.specs.Prelude.{ℕ, ◌≡◌, ◌<◌, ◌≤◌, ◌⊎◌, List, length, nat_eq, slice_index_or, Option, Some, None}
-use Rattle.std.specs.List.{IsDistinct}
-use Rattle.std.specs.Map.{keys_of}
-use Rattle.std.specs.Ordering.{nat_cmp}
-use Rattle.std.specs.FinMap.{FinMap, get}
+-- A table of deadlines as its callers see it: the moments that stand in its places, of which the first is the least.
+use Rattle.std.specs.Prelude.{ℕ, ◌≡◌, ◌<◌, ◌≤◌, ◌⊎◌, List, slice_index_or, option_map, Option, Some, None}
 use Rattle.dt_timers.specs.declared.deadline.Deadline.{Deadline}
 use Rattle.dt_timers.specs.Tournaments.{node}
 
--- no key that is held has a moment
-abbrev pub HasNoMoment : FinMap nat_cmp (Option ℕ) → Type 0
-HasNoMoment held = (key moment : ℕ) → get held key ≡ Some (Some moment) → ⊥
+-- the moment of a place, and none beyond the last
+abbrev pub moment_at : List (Option ℕ) → ℕ → Option ℕ
+moment_at moments i = slice_index_or moments i None
 
--- A moment is the least of all, and its key the least of those that have it.
-pub record IsFirst (held : FinMap nat_cmp (Option ℕ)) (moment key : ℕ) : Type 0 where
-  pub there : get held key ≡ Some (Some moment)
-  pub least : (other later : ℕ) → get held other ≡ Some (Some later) → (moment < later) ⊎ ((moment ≡ later) × (key ≤ other))
+abbrev pub moment_of : Option Deadline → Option ℕ
+moment_of d = option_map (λ e. e.moment) d
 
--- the deadline of an entry
-abbrev pub deadline_at : ℕ → Option ℕ → Option Deadline
-deadline_at key None = None
-deadline_at key (Some moment) = Some (record { moment = moment; key = key })
+-- each deadline stands in its own place
+abbrev pub StandInPlace : List (Option Deadline) → Type 0
+StandInPlace places = (i : ℕ) (d : Deadline) → node places i ≡ Some d → d.place ≡ i
 
--- the entry of an index, and one without a moment beyond the last
-abbrev pub entry_at : List (ℕ × Option ℕ) → ℕ → ℕ × Option ℕ
-entry_at es i = slice_index_or es i (0, None)
+-- what is said of places that each have a moment or none
+module _ (moment : ℕ → Option ℕ) where
+  abbrev pub HasNoMoment : Type 0
+  HasNoMoment = (i m : ℕ) → moment i ≡ Some m → ⊥
 
--- The keys differ. The place of each entry is its index, and the places after the entries are empty.
-pub record AreEntered (es : List (ℕ × Option ℕ)) (places : List (Option Deadline)) : Type 0 where
-  pub distinct : IsDistinct nat_eq (keys_of es)
-  pub room : length es ≤ length places
-  pub entered : (i : ℕ) → node places i ≡ deadline_at (entry_at es i).0 (entry_at es i).1
+  -- A place's moment is the least of all, and the place the first of those that have it.
+  pub record IsFirst (first place : ℕ) : Type 0 where
+    pub there : moment place ≡ Some first
+    pub least : (i m : ℕ) → moment i ≡ Some m → (first < m) ⊎ ((first ≡ m) × (place ≤ i))

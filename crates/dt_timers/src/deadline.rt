@@ -1,19 +1,19 @@
 ghost use Rattle.std.specs.Prelude.{◌≡◌};
 ghost use Rattle.dt_timers.specs.Order.{goes_first, sooner_of};
 
-/// A moment and the key that it stands under.
+/// A moment and the place that it stands in.
 #[derive(Clone, Copy, PartialEq, Eq)]
 pub struct Deadline {
     pub moment: u64,
-    pub key: u64,
+    pub place: usize,
 }
 
 impl Deadline {
-    /// Whether it comes before another: its moment is less, or its key where the moments are equal.
+    /// Whether it comes before another: its moment is less, or its place where the moments are equal.
     fn goes_before(self, other: Deadline) -> bool
         ensures { result ≡ goes_first self other }
     {
-        self.moment < other.moment || (self.moment == other.moment && self.key < other.key)
+        self.moment < other.moment || (self.moment == other.moment && self.place < other.place)
     }
 }
 

@@ -81,6 +81,14 @@ impl Tournament {
         play_from(&mut self.nodes, leaf);
     }
 
+    /// The deadline of a place, or none. The cost doesn't grow.
+    pub fn at(&self, place: usize) -> Option<Deadline>
+        requires { place < length self.now }
+        ensures { result ≡ node self.now place }
+    {
+        self.nodes[self.room + place]
+    }
+
     /// The soonest of all places, or none where all are empty. The cost doesn't grow.
     pub fn soonest(&self) -> Option<Deadline>
         ensures { IsSoonestOf self.now result }

@@ -1,16 +1,16 @@
 -- What a run answers follows from how it ends.
 use Rattle.std.proofs.Common.{arith, ◌≡◌, ◌⊎◌, ◌≤◌, ◌<◌, ◌+◌, ℕ, Bool, true, false, List, length, Option, Some, None, Result, Ok, Err, IfSome, inl, inr, refl, sym, subst, ◌∙◌}
 use Rattle.dt_audit.specs.Audits.{has_flaw}
-use Rattle.dt_calls.proofs.CallFolds.{own_answers}
-use Rattle.dt_calls.specs.CallAnswers.{TellsOwnAnswers}
-use Rattle.dt_calls.specs.CallInputs.{are_calls_accepted, calls_text}
+use Rattle.dt_calls_input.proofs.CallFolds.{own_answers}
+use Rattle.dt_calls_input.specs.CallAnswers.{TellsOwnAnswers}
+use Rattle.dt_calls_input.specs.CallInputs.{are_calls_accepted, calls_text}
 use Rattle.dt_edges.specs.Counts.{HasRisen}
 use Rattle.dt_edges.specs.Sinks.{SinkSight, Takes}
 use Rattle.dt_fold.specs.Logging.{HasAll, HasPart}
 use Rattle.dt_make.specs.Schedules.{make_text}
 use Rattle.dt_node.specs.Answering.{Answers as NodeLeaves, AnswersBy}
-use Rattle.dt_node.specs.Drafts.{refusal_text, script_of}
-use Rattle.dt_node.specs.Orders.{Orders}
+use Rattle.dt_script.specs.Drafts.{refusal_text, script_of}
+use Rattle.dt_script.specs.Orders.{Orders}
 use Rattle.dt_node.specs.Serving.{Edges, edges}
 use Rattle.dt_node.specs.declared.forms.Form.{Form}
 use Rattle.dt_node.specs.declared.forms.Form.TheVariants as forms

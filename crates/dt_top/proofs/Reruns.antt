@@ -4,8 +4,8 @@ use Rattle.dt_edges.specs.Counts.{HasRisen}
 use Rattle.dt_edges.specs.Sinks.{SinkSight}
 use Rattle.dt_log.specs.Logs.{log_text}
 use Rattle.dt_node.specs.Acts.{fates, log_lines}
-use Rattle.dt_node.specs.Drafts.{script_of}
-use Rattle.dt_node.specs.Orders.{Orders}
+use Rattle.dt_script.specs.Drafts.{script_of}
+use Rattle.dt_script.specs.Orders.{Orders}
 use Rattle.dt_node.specs.Serving.{Edges, IsWhole, Serves}
 use Rattle.dt_node.specs.declared.forms.Form.TheVariants as forms
 use Rattle.dt_node.specs.declared.outcomes.NodeOutcome.{NodeOutcome}

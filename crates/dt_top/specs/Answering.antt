@@ -1,16 +1,16 @@
 -- WHAT `run` ANSWERS, by command and by status. `IsEnded` is the whole statement, from which all else follows.
 use Rattle.std.specs.Prelude.{ℕ, ◌≡◌, ◌⊎◌, ◌≤◌, ◌<◌, ◌^◌, true, false, List, [], length, Some, None, IfSome}
 use Rattle.dt_audit.specs.Audits.{audit_text, has_flaw}
-use Rattle.dt_calls.specs.CallAnswers.{TellsOwnAnswers}
-use Rattle.dt_calls.specs.CallInputs.{are_calls_accepted, calls_text}
+use Rattle.dt_calls_input.specs.CallAnswers.{TellsOwnAnswers}
+use Rattle.dt_calls_input.specs.CallInputs.{are_calls_accepted, calls_text}
 use Rattle.dt_edges.specs.Sinks.{Takes}
 use Rattle.dt_fold.specs.Logging.{HasAll, HasPart}
 use Rattle.dt_log.specs.Logs.{log_text}
 use Rattle.dt_make.specs.Schedules.{make_text}
 use Rattle.dt_node.specs.Acts.{fates, log_lines}
 use Rattle.dt_node.specs.Completing.{ReachesStop}
-use Rattle.dt_node.specs.Drafts.{script_of}
-use Rattle.dt_node.specs.Orders.{Orders}
+use Rattle.dt_script.specs.Drafts.{script_of}
+use Rattle.dt_script.specs.Orders.{Orders}
 use Rattle.dt_node.specs.Serving.{Edges, IsWhole}
 use Rattle.dt_node.specs.Serving as nodes
 use Rattle.dt_node.specs.declared.forms.Form.TheVariants as forms

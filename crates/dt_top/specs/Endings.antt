@@ -2,8 +2,8 @@
 use Rattle.std.specs.Prelude.{ℕ, List, [], codes}
 use Rattle.dt_audit.specs.declared.outcomes.AuditOutcome.{AuditOutcome}
 use Rattle.dt_audit.specs.declared.outcomes.AuditOutcome.TheVariants as verdict
-use Rattle.dt_calls.specs.declared.outcomes.CallsOutcome.{CallsOutcome}
-use Rattle.dt_calls.specs.declared.outcomes.CallsOutcome.TheVariants as called
+use Rattle.dt_calls_input.specs.declared.outcomes.CallsOutcome.{CallsOutcome}
+use Rattle.dt_calls_input.specs.declared.outcomes.CallsOutcome.TheVariants as called
 use Rattle.dt_node.specs.declared.outcomes.NodeOutcome.{NodeOutcome}
 use Rattle.dt_node.specs.declared.outcomes.NodeOutcome.TheVariants as node
 use Rattle.dt_replay.specs.declared.outcomes.Outcome.{Outcome}

@@ -3,8 +3,8 @@ use Rattle.std.specs.Prelude.{ℕ, ◌≡◌, ◌⊎◌, ◌<◌, ◌≤◌, Lis
 use Rattle.std.specs.Io.KnownBytes.{Appends}
 use Rattle.dt_audit.specs.declared.outcomes.AuditOutcome.TheVariants as verdict
 use Rattle.dt_audit.specs.Audits.{Audits}
-use Rattle.dt_calls.specs.declared.outcomes.CallsOutcome.TheVariants as called
-use Rattle.dt_calls.specs.CallEnds.{CallsEnd}
+use Rattle.dt_calls_input.specs.declared.outcomes.CallsOutcome.TheVariants as called
+use Rattle.dt_calls_input.specs.CallEnds.{CallsEnd}
 use Rattle.dt_edges.specs.Counts.{HasRisen}
 use Rattle.dt_edges.specs.Sinks.{SinkSight, Takes, TakesPart}
 use Rattle.dt_make.specs.Schedules.{make_text}

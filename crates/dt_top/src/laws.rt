@@ -2,8 +2,8 @@
 //! function with an empty body.
 ghost use Rattle.std.specs.Prelude.{ℕ, ◌≡◌, ◌≤◌, false, List, length, IfOk, IfSome};
 ghost use Rattle.dt_audit.specs.Audits.{AreSafe, has_flaw, ledger_of};
-ghost use Rattle.dt_calls.specs.CallAnswers.{AreCallsOf, TellsOwnAnswers};
-ghost use Rattle.dt_calls.specs.CallInputs.{calls_after_lines};
+ghost use Rattle.dt_calls_input.specs.CallAnswers.{AreCallsOf, TellsOwnAnswers};
+ghost use Rattle.dt_calls_input.specs.CallInputs.{calls_after_lines};
 ghost use Rattle.dt_calls_model.specs.Promises.{AreServedOnce};
 ghost use Rattle.dt_replay.specs.Schedules.{replay_text, world_after_lines, world_of};
 ghost use Rattle.dt_world_model.specs.WorldFacts.{SafeWorld};

@@ -10,8 +10,9 @@ use Rattle.dt_world_model.specs.Relay.{new_relay}
 use Rattle.dt_world_model.specs.Station.{station_with}
 use Rattle.dt_world_model.specs.World.{Placed, World, placed}
 use Rattle.dt_world_model.proofs.Tables.{nat_is}
+use Rattle.dt_world.specs.declared.parts.Parts.{Parts}
 use Rattle.dt_world.specs.declared.placed.PlacedStation.{PlacedStation}
-use Rattle.dt_world.specs.Worlds.{placed_seen, stations_seen}
+use Rattle.dt_world.specs.Worlds.{placed_seen, stations_seen, world_seen}
 
 either_way : (m n : ℕ) → (m == n) ≡ (n == m)
 either_way m n = grind (arith, nat_tests)
@@ -34,6 +35,14 @@ station_written n s was (e ∷ es) h =
           let rest : lookup (nat_eq n) es ≡ Some was = rw t at h in
           rw (f, t) (ap (λ (r : List (ℕ × Placed)). (e.0, placed_seen e.1) ∷ r) (station_written n s was es rest))
     ]
+
+-- where the map finds no station there is none
+pub not_there : (n : ℕ) (es : List (ℕ × PlacedStation)) → None ≡ lookup (nat_eq n) es → look ◌==◌ n (stations_seen es) ≡ None
+not_there n es none = look_seen n es ∙ ap (option_map placed_seen) (sym none)
+
+-- the world of these parts with other stations
+abbrev pub with_stations : Parts → List (ℕ × Placed) → World
+with_stations p stations = record (world_seen p) { stations = stations }
 
 -- what is written as it was changes nothing
 pub station_same : (n : ℕ) (was : PlacedStation) (es : List (ℕ × PlacedStation)) → lookup (nat_eq n) es ≡ Some was → stations_seen (set_value (nat_eq n) es was) ≡ stations_seen es

@@ -1,6 +1,5 @@
 -- At every point of a station's event the ledger is safe: so it is where the event stops for want of memory.
-use Rattle.std.proofs.Common.{ℕ, zero, suc, ◌+◌, ◌≡◌, ◌==◌, Bool, true, false, List, [], ◌∷◌, length, map, Option, Some, None, Ok, Err, Result, refl, sym, ap, subst, inl, inr, ◌∙◌}
-use Rattle.std.specs.Prelude.{nat_le, nat_lt}
+use Rattle.std.proofs.Common.{ℕ, zero, suc, ◌+◌, ◌≡◌, ◌==◌, Bool, true, false, map, Option, Some, None, Ok, Err, Result, refl, sym, ap, subst, inl, inr, ◌∙◌}
 use Rattle.std.proofs.lemmas.Bool.{cases_Bool}
 use Rattle.dt_units.specs.declared.parameters.Params.{Params}
 use Rattle.dt_units.specs.declared.endpoints.Flow.{Flow}
@@ -9,17 +8,15 @@ use Rattle.dt_reports.specs.Told.{Told}
 use Rattle.dt_layout.specs.declared.faults.LayoutFault.{LayoutFault}
 use Rattle.dt_layout.specs.Spelling.{PacketValue}
 use Rattle.dt_layout.specs.Reading.{gram_in, packet_read}
-use Rattle.dt_layout.specs.Carried.{life_of, to_of}
+use Rattle.dt_layout.specs.Carried.{to_of}
 use Rattle.dt_flow_model.specs.Safe.{SafeLedger}
 use Rattle.dt_flow_laws.proofs.SafeOf.{safe_of}
-use Rattle.dt_world_model.specs.declared.links.Entered.{Entered}
-use Rattle.dt_world_model.specs.declared.links.Entered.TheVariants.{Queued, NoRoute, Full}
 use Rattle.dt_world_model.specs.Tables.{look}
 use Rattle.dt_flow_model.specs.Frames.{Mark}
 use Rattle.dt_world_model.specs.Host.{Host, Turn, next_turn, work, IsCurrentHost, offers}
-use Rattle.dt_world_model.specs.Relay.{Parcel, Waiting, Out, Relay, admit, enter, leave_first, may_leave_from, time_charge, with_outs}
+use Rattle.dt_world_model.specs.Relay.{Parcel, admit, with_outs}
 use Rattle.dt_world_model.specs.Script.{Script, Done, Tell, Ask, Hand, ◌>>=◌, play, Along}
-use Rattle.dt_world_model.specs.Station.{Station, Event, Send, Read, Tick, Arrive, come, come_in, deliver, do_turns, flush, flush_at, flush_entered, flush_links, flush_on, flush_turns, go_on, happen, pass_on, send_off, settle_station, station_event, station_with}
+use Rattle.dt_world_model.specs.Station.{Station, Event, Send, Read, Tick, Arrive, come, come_in, deliver, do_turns, flush_links, go_on, happen, pass_on, settle_station, station_event, station_with}
 use Rattle.dt_world_laws.proofs.Books.{Cause, book_of, cause_of, occasion_is}
 use Rattle.dt_world_model.specs.Ledgers.{Changes, Ledgers, Neither, Leaves, Effect, Occasion, effect_of, ledgers_by, mark_of}
 use Rattle.dt_world_laws.proofs.Plays.{do_turn, link_of}
@@ -27,13 +24,15 @@ use Rattle.dt_world_model.specs.World.{World, Placed, Noted, note_copy, world_ha
 use Rattle.dt_world_model.specs.WorldStep.{noted_at, occasion}
 use Rattle.dt_world_model.specs.WorldFacts.{IsPossible, SafeLedgers, WorldFacts}
 use Rattle.dt_world_model.proofs.Tables.{nat_is}
+use Rattle.dt_world_laws.specs.Tellings.{AllTold}
+use Rattle.dt_world_laws.proofs.Tellings.{OfRelays, links_told, off_told, passed_with_told}
 use Rattle.dt_world_laws.proofs.Views.{views}
 use Rattle.dt_world_laws.proofs.Good.{Good, reading, relay_leads, stage}
 use Rattle.dt_world_laws.proofs.Flushing.{flush_links_keeps}
 use Rattle.dt_world_laws.proofs.Turns.{settle_leads, turn_leads}
 use Rattle.dt_world_laws.proofs.Settles.{no_offer}
 use Rattle.dt_world_laws.proofs.Settled.{settle_done}
-use Rattle.dt_world_laws.proofs.Events.{Possible, event_done, happens, possible_then}
+use Rattle.dt_world_laws.proofs.Events.{Possible, event_done, happens_then}
 use Rattle.dt_world_laws.proofs.Worlds.{possible_here, starts}
 
 -- what changes no ledger: a packet that leaves, or what is no flow's
@@ -42,29 +41,23 @@ IsQuiet (Changes f change) = ⊥
 IsQuiet (Leaves link life) = Unit {0}
 IsQuiet Neither = Unit {0}
 
-quiet_by : (o : Occasion) (e : Effect) (all : Ledgers) → IsQuiet e → ledgers_by o e all ≡ all
+pub quiet_by : (o : Occasion) (e : Effect) (all : Ledgers) → IsQuiet e → ledgers_by o e all ≡ all
 quiet_by o (Changes f change) all h = absurd h
 quiet_by o (Leaves link life) all h = refl
 quiet_by o Neither all h = refl
 
 -- a script that tells nothing about a ledger, and one that does so at its first node at most
+abbrev pub IsQuietTold : Told → Type 0
+IsQuietTold r = IsQuiet (effect_of r)
+
 abbrev pub Silent : {A : Type 0} → Script Mark A → Type 0
-Silent (Done a) = Unit {0}
-Silent (Tell r s) = IsQuiet (effect_of r) × Silent s
-Silent (Ask h o k) = (t : Mark) → Silent (k t)
-Silent (Hand l p s) = Silent s
+Silent s = AllTold IsQuietTold s
 
 abbrev Single : {A : Type 0} → Script Mark A → Type 0
 Single (Tell r s) = Silent s
 Single (Done a) = Unit {0}
 Single (Ask h o k) = (t : Mark) → Silent (k t)
 Single (Hand l p s) = Silent s
-
-pub silent_bind : {A B : Type 0} (s : Script Mark A) (k : A → Script Mark B) → Silent s → ((a : A) → Silent (k a)) → Silent (s >>= k)
-silent_bind (Done a) k h g = g a
-silent_bind (Tell r s) k h g = (h.0, silent_bind s k h.1 g)
-silent_bind (Ask x o c) k h g = λ t. silent_bind (c t) k (h t) g
-silent_bind (Hand l p s) k h g = silent_bind s k h g
 
 silent_single : {A : Type 0} (s : Script Mark A) → Silent s → Single s
 silent_single (Done a) h = tt
@@ -73,47 +66,17 @@ silent_single (Ask x o c) h = h
 silent_single (Hand l p s) h = h
 
 -- relays are silent
-first_silent : (most now : ℕ) (out : Out Mark) (ws : List (Waiting Mark)) → ((o : Out Mark) → Silent (flush_turns most now o)) → Silent (flush_on (flush_turns most now) (leave_first now out ws))
-first_silent most now out [] again = tt
-first_silent most now out (w ∷ ws) again =
-    elim (cases_Bool (nat_lt now (may_leave_from out.pace out.last))) [
-      | inl y ↦ rw y tt
-      | inr n ↦ rw n (elim (cases_Bool (nat_le (life_of w.parcel.octets) (time_charge now w.since))) [ inl y ↦ rw y (tt, again _) | inr o ↦ rw o (tt, again _) ])
-    ]
-
-turns_silent : (most now : ℕ) (out : Out Mark) → Silent (flush_turns most now out)
-turns_silent zero now out = tt
-turns_silent (suc most) now out = first_silent most now out out.waits (turns_silent most now)
-
-at_silent : (link now : ℕ) (outs : List (Out Mark)) → Silent (flush_at link now outs)
-at_silent link now [] = tt
-at_silent link now (out ∷ outs) =
-    elim (cases_Bool (out.link == link)) [
-      | inl y ↦ rw y (silent_bind (flush now out) (λ after. Done (after ∷ outs)) (turns_silent (length out.waits) now out) (λ r. tt))
-      | inr n ↦ rw n (silent_bind (flush_at link now outs) (λ rest. Done (out ∷ rest)) (at_silent link now outs) (λ r. tt))
-    ]
-
-pub links_silent : (now : ℕ) (links : List ℕ) (outs : List (Out Mark)) → Silent (flush_links now links outs)
-links_silent now [] outs = tt
-links_silent now (link ∷ links) outs = silent_bind (flush_at link now outs) (λ rest. flush_links now links rest) (at_silent link now outs) (λ rest. links_silent now links rest)
-
-pub entered_silent : (now : ℕ) (r : Entered × Relay Mark) → Silent (flush_entered now r)
-entered_silent now (Queued link, relay) = silent_bind (flush_at link now relay.outs) (λ outs. Done (with_outs relay outs)) (at_silent link now relay.outs) (λ outs. tt)
-entered_silent now (NoRoute to, relay) = (tt, tt)
-entered_silent now (Full link, relay) = (tt, tt)
-
-pub off_silent : (now : ℕ) (host : Host) (frame : Option (List ℕ)) (relay : Relay Mark) → Silent (send_off now host frame relay)
-off_silent now host None relay = tt
-off_silent now host (Some octets) relay = λ t. silent_bind (pass_on (record { octets = octets; tag = t }) now relay) (λ after. Done (station_with host after)) (entered_silent now (enter (record { octets = octets; tag = t }) now relay)) (λ after. tt)
+pub quiet_relays : OfRelays IsQuietTold
+quiet_relays = record { put = λ link life. tt; expired = λ link. tt; no_route = λ to. tt; full = λ link. tt }
 
 come_single : (p : Params) (now : ℕ) (b : Bool) (parcel : Parcel Mark) (st : Station Mark) → Single (come p now b parcel st)
 come_single p now true parcel st = deliver_single (packet_read (gram_in parcel.octets))
   where
     deliver_single : (r : Result PacketValue LayoutFault) → Single (deliver p now (gram_in parcel.octets).from r st)
     deliver_single (Err fault) = tt
-    deliver_single (Ok v) = off_silent now _ _ st.relay
+    deliver_single (Ok v) = off_told IsQuietTold quiet_relays now _ _ st.relay
 come_single p now false parcel st =
-    silent_single (pass_on parcel now st.relay >>= λ relay. Done (station_with st.host relay)) (silent_bind (pass_on parcel now st.relay) (λ relay. Done (station_with st.host relay)) (entered_silent now (enter parcel now st.relay)) (λ relay. tt))
+    silent_single (pass_on parcel now st.relay >>= λ relay. Done (station_with st.host relay)) (passed_with_told IsQuietTold quiet_relays now parcel st.host st.relay)
 
 happen_single : (p : Params) (now : ℕ) (e : Event Mark) (st : Station Mark) → Single (happen p now e st)
 happen_single p now Tick st = tt
@@ -177,7 +140,7 @@ module _ (w : World) (n : ℕ) (cause : Cause) (limits : IsWithinLimits w.params
       let r = play (world_handler (stage w n cause)) (do_turn (reading w n cause) turn st.relay) d in
       let first = turn_leads w n cause limits st d turn good e in
       along_bind (stage w n cause) (SafeLedgers w) (do_turn (reading w n cause) turn st.relay) (do_turns most w.params (reading w n cause)) d
-      (single_along (stage w n cause) (SafeLedgers w) (do_turn (reading w n cause) turn st.relay) d (off_silent (reading w n cause) turn.host turn.frame st.relay) (good_safe st d good) (good_safe r.1 r.0 first.good))
+      (single_along (stage w n cause) (SafeLedgers w) (do_turn (reading w n cause) turn st.relay) d (off_told IsQuietTold quiet_relays (reading w n cause) turn.host turn.frame st.relay) (good_safe st d good) (good_safe r.1 r.0 first.good))
       (again r.1 r.0 first.good)
 
   do_turns_along : (most : ℕ) (st : Station Mark) (d : Noted) → Good w n cause st d → SafeAlong (do_turns most w.params (reading w n cause) st) d
@@ -192,7 +155,7 @@ module _ (w : World) (n : ℕ) (cause : Cause) (limits : IsWithinLimits w.params
       let first = relay_leads w n cause st d (with_outs st.relay r.1) r.0 good k.ledgers k.rest k.copies refl refl in
       along_bind (stage w n cause) (SafeLedgers w) (flush_links (reading w n cause) links st.relay.outs)
       (λ outs. do_turns (work w.params (reading w n cause) st.host) w.params (reading w n cause) (station_with st.host (with_outs st.relay outs))) d
-      (silent_along (stage w n cause) (SafeLedgers w) (flush_links (reading w n cause) links st.relay.outs) d (links_silent (reading w n cause) links st.relay.outs) (good_safe st d good))
+      (silent_along (stage w n cause) (SafeLedgers w) (flush_links (reading w n cause) links st.relay.outs) d (links_told IsQuietTold quiet_relays (reading w n cause) links st.relay.outs) (good_safe st d good))
       (do_turns_along (work w.params (reading w n cause) st.host) (station_with st.host (with_outs st.relay r.1)) r.0 first.good)
 
 module _ (w : World) (n : ℕ) (limits : IsWithinLimits w.params) where
@@ -202,13 +165,11 @@ module _ (w : World) (n : ℕ) (limits : IsWithinLimits w.params) where
       let m = world_handler (stage w n c) in
       let now = reading w n c in
       let r1 = play m (settle_station w.params now st) d in
-      let one = settle_leads w n c limits st d good in
-      let idle = settle_done w n c limits st d good in
       let r2 = play m (happen w.params now e r1.1) r1.0 in
-      let two = happens w n limits e r1.1 r1.0 one.good idle (possible_then w n limits e st d r1 one can) in
+      let two = happens_then w n limits e st d good can in
       along_bind (stage w n c) (SafeLedgers w) (settle_station w.params now st) (λ before. happen w.params now e before >>= λ after. settle_station w.params now after) d (settle_along w n c limits st d good)
       (along_bind (stage w n c) (SafeLedgers w) (happen w.params now e r1.1) (settle_station w.params now) r1.0
-      (single_along (stage w n c) (SafeLedgers w) (happen w.params now e r1.1) r1.0 (happen_single w.params now e r1.1) (good_safe w n c limits r1.1 r1.0 one.good) (good_safe w n c limits r2.1 r2.0 two.good))
+      (single_along (stage w n c) (SafeLedgers w) (happen w.params now e r1.1) r1.0 (happen_single w.params now e r1.1) (good_safe w n c limits r1.1 r1.0 (settle_leads w n c limits st d good).good) (good_safe w n c limits r2.1 r2.0 two.good))
       (settle_along w n c limits r2.1 r2.0 two.good))
 
 -- AT EVERY POINT OF AN EVENT THE LEDGER IS SAFE

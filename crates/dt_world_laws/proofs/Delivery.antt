@@ -147,6 +147,16 @@ module _ (w : World) (n : ℕ) (mark : Mark) (limits : IsWithinLimits w.params) 
 
 -- A COPY
 
+-- a packet at the node that it is for: its nodes are in range, it is alive, it reads as its value, and that fits its flow
+pub record ComesHere (w : World) (n : ℕ) (st : Station Mark) (d : Noted) (parcel : Parcel Mark) (e : DeltagramValue) : Type 0 where
+  pub from_node : e.from < 2 ^ 32
+  pub my_node : st.host.me < 2 ^ 32
+  pub alive : w.now < parcel.tag.birth + w.params.mpl
+  pub reads : packet_read e ≡ Ok (value_in parcel.octets)
+  pub ports : HasPorts (value_in parcel.octets)
+  pub rules : KeepsRules (value_in parcel.octets)
+  pub fits : FitsSome w.params (views w n st.host d.ledgers (flow_of e.from st.host.me (value_in parcel.octets))) (marked_packet parcel.tag (value_in parcel.octets))
+
 lt_by : (m n : ℕ) → nat_le m n ≡ false → n < m
 lt_by m n h = grind (arith, nat_tests)
 
@@ -183,21 +193,31 @@ module _ (w : World) (n : ℕ) (limits : IsWithinLimits w.params) (st : Station 
       } in
       pass_on_leads w n c low st d good one
 
-  delivered : charge < life_of parcel.octets → to_of low.octets ≡ st.host.me → Leads w n c st d (play (world_handler (stage w n c)) (come w.params (reading w n c) true low st) d)
-  delivered below mine =
+  pub comes_here : charge < life_of parcel.octets → to_of low.octets ≡ st.host.me → ComesHere w n st d parcel (gram_in low.octets)
+  comes_here below mine =
       let k = low_packet below in
       let e = gram_in low.octets in
       let to : e.to ≡ st.host.me = sym (to_of-gram_in low.octets) ∙ mine in
-      let alive = arrives_alive w.params.mpl w.now (carried_of parcel put) age (omega (arith, held, below)) in
       let value = low_value below in
       let carries : Carries e (value_in parcel.octets) = subst (λ (v : PacketValue). Carries e v) value k.carries in
       let fits0 : FitsSome w.params (views w n st.host d.ledgers (flow_of e.from e.to (value_in low.octets))) (marked_packet parcel.tag (value_in low.octets)) = k.fits in
       let fits1 : FitsSome w.params (views w n st.host d.ledgers (flow_of e.from e.to (value_in parcel.octets))) (marked_packet parcel.tag (value_in parcel.octets)) =
       subst (λ (v : PacketValue). FitsSome w.params (views w n st.host d.ledgers (flow_of e.from e.to v)) (marked_packet parcel.tag v)) value fits0 in
-      let fits2 : FitsSome w.params (views w n st.host d.ledgers (flow_of e.from st.host.me (value_in parcel.octets))) (marked_packet parcel.tag (value_in parcel.octets)) =
-      subst (λ (m : ℕ). FitsSome w.params (views w n st.host d.ledgers (flow_of e.from m (value_in parcel.octets))) (marked_packet parcel.tag (value_in parcel.octets))) to fits1 in
-      deliver_leads w n parcel.tag limits st d e.from k.gram.fits.from (subst (λ (m : ℕ). m < 2 ^ 32) to k.gram.fits.to) alive idle (value_in parcel.octets) (packet_read e) (packet_is_read e (value_in parcel.octets) carries)
-      carries.pack.ports carries.pack.rules good fits2
+      record {
+        from_node = k.gram.fits.from;
+        my_node = subst (λ (m : ℕ). m < 2 ^ 32) to k.gram.fits.to;
+        alive = arrives_alive w.params.mpl w.now (carried_of parcel put) age (omega (arith, held, below));
+        reads = packet_is_read e (value_in parcel.octets) carries;
+        ports = carries.pack.ports;
+        rules = carries.pack.rules;
+        fits = subst (λ (m : ℕ). FitsSome w.params (views w n st.host d.ledgers (flow_of e.from m (value_in parcel.octets))) (marked_packet parcel.tag (value_in parcel.octets))) to fits1;
+      }
+
+  delivered : charge < life_of parcel.octets → to_of low.octets ≡ st.host.me → Leads w n c st d (play (world_handler (stage w n c)) (come w.params (reading w n c) true low st) d)
+  delivered below mine =
+      let h = comes_here below mine in
+      let e = gram_in low.octets in
+      deliver_leads w n parcel.tag limits st d e.from h.from_node h.my_node h.alive idle (value_in parcel.octets) (packet_read e) h.reads h.ports h.rules good h.fits
 
   comes_in : (b : Bool) → (to_of low.octets == st.host.me) ≡ b → charge < life_of parcel.octets → Leads w n c st d (play (world_handler (stage w n c)) (come w.params (reading w n c) b low st) d)
   comes_in true e below = delivered below (nat_is _ _ e)

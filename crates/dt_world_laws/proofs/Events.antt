@@ -54,6 +54,15 @@ module _ (w : World) (n : ℕ) (limits : IsWithinLimits w.params) where
         held = rw (l.ins) (can.held);
       }
 
+  -- the event itself, where the station has settled before it
+  pub happens_then : (e : Event Mark) (st : Station Mark) (d : Noted) → Good w n (cause_of e) st d → Possible w n st d e
+      → let c = cause_of e in let r = play (world_handler (stage w n c)) (settle_station w.params (reading w n c) st) d in Leads w n c r.1 r.0 (play (world_handler (stage w n c)) (happen w.params (reading w n c) e r.1) r.0)
+  happens_then e st d good can =
+      let c = cause_of e in
+      let r = play (world_handler (stage w n c)) (settle_station w.params (reading w n c) st) d in
+      let one = settle_leads w n c limits st d good in
+      happens e r.1 r.0 one.good (settle_done w n c limits st d good) (possible_then e st d r one can)
+
   pub event_leads : (e : Event Mark) (st : Station Mark) (d : Noted) → Good w n (cause_of e) st d → Possible w n st d e → Leads w n (cause_of e) st d (play (world_handler (stage w n (cause_of e))) (station_event w.params (reading w n (cause_of e)) e st) d)
   event_leads e st d good can =
       let c = cause_of e in
@@ -61,9 +70,8 @@ module _ (w : World) (n : ℕ) (limits : IsWithinLimits w.params) where
       let now = reading w n c in
       let r1 = play m (settle_station w.params now st) d in
       let one = settle_leads w n c limits st d good in
-      let idle = settle_done w n c limits st d good in
       let r2 = play m (happen w.params now e r1.1) r1.0 in
-      let two = happens e r1.1 r1.0 one.good idle (possible_then e st d r1 one can) in
+      let two = happens_then e st d good can in
       let three = settle_leads w n c limits r2.1 r2.0 two.good in
       let inner : Leads w n c r1.1 r1.0 (play m (happen w.params now e r1.1 >>= λ after. settle_station w.params now after) r1.0) =
       play_then m (Leads w n c r1.1 r1.0) (happen w.params now e r1.1) (settle_station w.params now) r1.0 (leads_then w n c r1.1 r1.0 r2 _ two three) in
@@ -77,10 +85,8 @@ module _ (w : World) (n : ℕ) (limits : IsWithinLimits w.params) where
       let now = reading w n c in
       let Idle : Noted × Station Mark → Type 0 = λ r. next_turn w.params now r.1.host ≡ None in
       let r1 = play m (settle_station w.params now st) d in
-      let one = settle_leads w n c limits st d good in
-      let idle = settle_done w n c limits st d good in
       let r2 = play m (happen w.params now e r1.1) r1.0 in
-      let two = happens e r1.1 r1.0 one.good idle (possible_then e st d r1 one can) in
+      let two = happens_then e st d good can in
       let done = settle_done w n c limits r2.1 r2.0 two.good in
       let inner : Idle (play m (happen w.params now e r1.1 >>= λ after. settle_station w.params now after) r1.0) = play_then m Idle (happen w.params now e r1.1) (settle_station w.params now) r1.0 done in
       play_then m Idle (settle_station w.params now st) (λ before. happen w.params now e before >>= λ after. settle_station w.params now after) d inner

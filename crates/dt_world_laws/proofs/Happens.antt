@@ -27,7 +27,7 @@ use Rattle.dt_flow_laws.proofs.Records.{none_kept, read_kept}
 use Rattle.dt_flow_laws.proofs.Laws.{taking_is_steps}
 use Rattle.dt_world_model.specs.Tables.{same_flow, look}
 use Rattle.dt_flow_model.specs.Frames.{Mark}
-use Rattle.dt_world_model.specs.Host.{IsHost, IsReceiver, IsSender, read_piece, receiver_at, send_octets, sender_at, host_with_receiver, host_with_sender, no_receiver}
+use Rattle.dt_world_model.specs.Host.{Host, IsHost, IsReceiver, IsSender, read_piece, receiver_at, send_octets, sender_at, host_with_receiver, host_with_sender, no_receiver}
 use Rattle.dt_units.specs.Flows.{IsFlow}
 use Rattle.dt_flow_model.specs.Keeping.{HasNoRun}
 use Rattle.dt_world_model.specs.Script.{play}
@@ -61,18 +61,51 @@ marked_no_run (o ∷ o' ∷ os) begin end = All-cons HasNoRun _ _ refl (marked_n
 not_lt : (m n : ℕ) → nat_lt m n ≡ false → n ≤ m
 not_lt m n h = grind (arith, nat_tests)
 
+-- the flow where it begins, the record that its octets go to, and the host with that record
+abbrev pub taking_state : World → ℕ → Station Mark → Noted → Flow → FlowState
+taking_state w n st d f = flow_state w.now (near_sender w n st.host.until (sender_at st.host f)) (near_or_receiver w n st.host.until (receiver_at st.host f) f) (book_of d.ledgers f)
+
+abbrev pub taking_record : World → ℕ → List Item → Station Mark → Flow → SendRecord
+taking_record w n items st f = record_for w.params (reading w n (Octets items)) (sender_at st.host f)
+
+abbrev pub taking_host : World → ℕ → List Item → Station Mark → Flow → Host
+taking_host w n items st f = host_with_sender st.host f (Some (put items (taking_record w n items st f)))
+
+abbrev pub taking_books : World → ℕ → List Item → Noted → Flow → ℕ → Ledgers
+taking_books w n items d f count = books_after w.params w.now (placed w n).life (Octets items) (words.Took f count) d.ledgers
+
+module _ (w : World) (n : ℕ) (items : List Item) (st : Station Mark) (d : Noted) (good : Good w n (Octets items) st d) (f : Flow) (from : f.from.0 ≡ n) where
+  begins : (n == f.from.0) ≡ true
+  begins = rw from (nat_self n)
+
+  pub taking_before : views w n st.host d.ledgers f ≡ taking_state w n st d f
+  taking_before = begins_here w n st.host.until (sender_at st.host f) (receiver_at st.host f) (book_of d.ledgers f) f begins
+
+  -- the flow takes the octets, and no other is touched
+  pub taking_after : (count : ℕ) → views w n (taking_host w n items st f) (taking_books w n items d f count) f ≡ after_taking w.params (taking_state w n st d f) items
+  taking_after count =
+      let told = words.Took f count in
+      let host = taking_host w n items st f in
+      let books = taking_books w n items d f count in
+      begins_here w n host.until (sender_at host f) (receiver_at host f) (book_of books f) f begins
+      ∙ ap (λ (o : Option SendRecord). flow_state w.now (near_sender w n st.host.until o) (near_or_receiver w n st.host.until (receiver_at st.host f) f) (book_of books f)) (sender_set st.host f (Some (put items (taking_record w n items st f))) good.host.one_sender)
+      ∙ ap (λ (b : Book). flow_state w.now (near_sender w n st.host.until (Some (put items (taking_record w n items st f)))) (near_or_receiver w n st.host.until (receiver_at st.host f) f) b) (book_told w.params w.now (placed w n).life (Octets items) told d.ledgers f (inl (_, refl)))
+      ∙ follows_taking w.params (taking_state w n st d f) f items count
+
+  pub taking_others : (count : ℕ) (g : Flow) → same_flow f g ≡ false → views w n (taking_host w n items st f) (taking_books w n items d f count) g ≡ views w n st.host d.ledgers g
+  taking_others count g apart =
+      ap (λ (o : Option SendRecord). flow_by w n st.host.until o (receiver_at st.host g) (book_of (taking_books w n items d f count) g) g) (sender_set_other st.host f (Some (put items (taking_record w n items st f))) g apart)
+      ∙ ap (λ (b : Book). flow_by w n st.host.until (sender_at st.host g) (receiver_at st.host g) b g) (book_told_other w.params w.now (placed w n).life (Octets items) (words.Took f count) d.ledgers f g (inl (_, refl)) apart)
+
 module _ (w : World) (n : ℕ) (items : List Item) (limits : IsWithinLimits w.params) (st : Station Mark) (d : Noted) (good : Good w n (Octets items) st d) (f : Flow) (flow : IsFlow f) (from : f.from.0 ≡ n) (plain : All HasNoRun items) where
   abbrev p : Params
   p = w.params
 
-  here : (n == f.from.0) ≡ true
-  here = rw from (nat_self n)
-
   abbrev s : FlowState
-  s = flow_state w.now (near_sender w n st.host.until (sender_at st.host f)) (near_or_receiver w n st.host.until (receiver_at st.host f) f) (book_of d.ledgers f)
+  s = taking_state w n st d f
 
   abbrev x : SendRecord
-  x = record_for p (reading w n (Octets items)) (sender_at st.host f)
+  x = taking_record w n items st f
 
   for_is : (o : Option SendRecord) → look same_flow f st.host.senders ≡ o → IsSender p st.host.me f (record_for p (reading w n (Octets items)) o)
   for_is None e = record { flow = flow; from = from ∙ sym good.me; kept = new_kept p (reading w n (Octets items)) limits }
@@ -87,20 +120,14 @@ module _ (w : World) (n : ℕ) (items : List Item) (limits : IsWithinLimits w.pa
       let host = host_with_sender st.host f (Some (put items x)) in
       let d' = note_told (stage w n (Octets items)) told d in
       let books = books_after w.params w.now (placed w n).life (Octets items) told d.ledgers in
-      let before : views w n st.host d.ledgers f ≡ s = begins_here w n st.host.until (sender_at st.host f) (receiver_at st.host f) (book_of d.ledgers f) f here in
-      let after : views w n host books f ≡ after_taking p s items =
-      begins_here w n host.until (sender_at host f) (receiver_at host f) (book_of books f) f here
-      ∙ ap (λ (o : Option SendRecord). flow_state w.now (near_sender w n st.host.until o) (near_or_receiver w n st.host.until (receiver_at st.host f) f) (book_of books f)) (sender_set st.host f (Some (put items x)) good.host.one_sender)
-      ∙ ap (λ (b : Book). flow_state w.now (near_sender w n st.host.until (Some (put items x))) (near_or_receiver w n st.host.until (receiver_at st.host f) f) b) (book_told w.params w.now (placed w n).life (Octets items) told d.ledgers f (inl (_, refl)))
-      ∙ follows_taking p s f items count in
+      let before : views w n st.host d.ledgers f ≡ s = taking_before w n items st d good f from in
+      let after : views w n host books f ≡ after_taking p s items = taking_after w n items st d good f from count in
       let facts : Facts p s = subst (λ (t : FlowState). Facts p t) before (good.flows f) in
       let kept : Kept p s (after_taking p s items) [] = steps_keep p s (after_taking p s items) [] limits (taking_is_steps p s items limits awake room) facts in
       let m : Moves p (views w n st.host d.ledgers) (views w n host books) f [] =
       record {
         kept = subst (λ (t : FlowState). Kept p t (views w n host books f) []) (sym before) (subst (λ (t : FlowState). Kept p s t []) (sym after) kept);
-        others = λ g apart.
-            ap (λ (o : Option SendRecord). flow_by w n st.host.until o (receiver_at st.host g) (book_of books g) g) (sender_set_other st.host f (Some (put items x)) g apart)
-            ∙ ap (λ (b : Book). flow_by w n st.host.until (sender_at st.host g) (receiver_at st.host g) b g) (book_told_other w.params w.now (placed w n).life (Octets items) told d.ledgers f g (inl (_, refl)) apart);
+        others = taking_others w n items st d good f from count;
       } in
       let is : IsHost p host =
       record {

@@ -19,6 +19,7 @@ pub mod Promise
 pub mod Rows
 pub mod Starts
 pub mod Running
+pub mod Tellings
 pub mod Alongside
 pub mod Bare
 pub mod Hosts

@@ -1,5 +1,5 @@
 -- A flow takes no more octets than were handed in: settling takes none, and an event those of a send once at most.
-use Rattle.std.proofs.Common.{ℕ, zero, suc, ◌+◌, ◌≤◌, ◌≡◌, ◌==◌, Bool, true, false, if◌then◌else◌, List, [], ◌∷◌, length, map, Option, Some, None, Result, Ok, Err, refl, sym, ap, subst, inl, inr, ◌∙◌, arith, length-append}
+use Rattle.std.proofs.Common.{ℕ, zero, suc, ◌+◌, ◌≤◌, ◌≡◌, ◌==◌, true, false, if◌then◌else◌, List, [], ◌∷◌, length, map, Option, Some, None, refl, sym, ap, subst, inl, inr, ◌∙◌, arith, length-append}
 use Rattle.std.specs.Prelude.{option_map, unwrap_or}
 use Rattle.std.proofs.lemmas.Bool.{cases_Bool}
 use Rattle.std.proofs.lemmas.List.{length-map}
@@ -11,32 +11,28 @@ use Rattle.dt_units.specs.declared.endpoints.Flow.{Flow}
 use Rattle.dt_reports.specs.Entries.{Entry}
 use Rattle.dt_reports.specs.declared.faults.Refusal.{Refusal}
 use Rattle.dt_reports.specs.declared.faults.StepFault.{StepFault}
-use Rattle.dt_layout.specs.declared.faults.LayoutFault.{LayoutFault}
-use Rattle.dt_layout.specs.Spelling.{PacketValue, Data, Ack, Meet, Close}
-use Rattle.dt_layout.specs.Reading.{gram_in, packet_read}
-use Rattle.dt_layout.specs.Carried.{to_of}
+use Rattle.dt_reports.specs.Told.{Told}
 use Rattle.dt_flow_model.specs.declared.acts.RecvAct.{RecvAct}
 use Rattle.dt_flow_model.specs.declared.acts.RecvAct.TheVariants as recv
 use Rattle.dt_flow_model.specs.declared.acts.SendAct.{SendAct}
 use Rattle.dt_flow_model.specs.declared.acts.SendAct.TheVariants as send
-use Rattle.dt_flow_model.specs.declared.arrivals.Arrived.{Arrived}
-use Rattle.dt_flow_model.specs.declared.arrivals.Arrived.TheVariants as arrived
 use Rattle.dt_flow_model.specs.declared.rows.Fate.TheVariants as fate
-use Rattle.dt_flow_model.specs.Frames.{Mark, flow_of, reply_frame}
+use Rattle.dt_flow_model.specs.Frames.{Mark}
 use Rattle.dt_flow_model.specs.Ledger.{first_unsent, open_row}
 use Rattle.dt_flow_laws.proofs.Ledger.{note_length, settle_length}
-use Rattle.dt_world_model.specs.Host.{Host, HostAct, Offer, Turn, arrive, least, next_turn, offers, recv_act, send_act, send_octets, told_arrival, told_dropped, told_recv, told_send, turn_of, work}
+use Rattle.dt_world_model.specs.Host.{Host, HostAct, Offer, Turn, least, next_turn, offers, recv_act, send_act, send_octets, told_recv, told_send, turn_of, work}
 use Rattle.dt_world_model.specs.Ledgers.{Accepts, Change, Changes, Effect, FlowLedger, GivesUp, Leaves, Ledgers, Neither, Occasion, ReadsOut, Settles, Takes, Transmits, TransmitsAgain, effect_of, ledger_after, ledger_of, ledgers_by, mark_of}
-use Rattle.dt_world_model.specs.Relay.{Parcel, admit, enter, with_outs}
+use Rattle.dt_world_model.specs.Relay.{admit, with_outs}
 use Rattle.dt_world_model.specs.Script.{Script, Done, Tell, Ask, Hand, ◌>>=◌, play}
 use Rattle.dt_world_model.specs.Setup.{Setup, new_world}
-use Rattle.dt_world_model.specs.Station.{Station, Event, Send, Read, Tick, Arrive, come, come_in, deliver, do_turns, flush_links, go_on, happen, pass_on, send_off, settle_station, station_event, station_with, told_piece, told_sent}
+use Rattle.dt_world_model.specs.Station.{Station, Event, Send, Read, Tick, Arrive, do_turns, flush_links, go_on, happen, settle_station, station_event, station_with, told_piece, told_sent}
 use Rattle.dt_world_model.specs.Tables.{look, same_flow, write}
 use Rattle.dt_world_model.specs.World.{Noted, Placed, World, note_copy, note_told, world_handler}
 use Rattle.dt_world_model.specs.WorldStep.{Arrives, Loses, Passes, Reads, Restarts, Sends, Ticks, WorldEvent, after_event, copy_at, event_at, first_refusal, link_for, noted_at, occasion, refusals, restart_at, run_from, step_unless, then_step, world_after, world_step}
 use Rattle.dt_world_model.proofs.Tables.{flow_is, flow_self, look_write, look_write_other}
 use Rattle.dt_world_laws.specs.Handed.{handed_in, handed_in_all}
-use Rattle.dt_world_laws.proofs.Alongside.{IsQuiet, Silent, entered_silent, links_silent, off_silent}
+use Rattle.dt_world_laws.specs.Tellings.{AllTold}
+use Rattle.dt_world_laws.proofs.Tellings.{OfArrivals, OfRelays, comes_in_told, links_told, off_told, told_then}
 use Rattle.dt_world_laws.proofs.Plays.{do_turn, link_of, play_bind}
 
 -- what is told without octets being taken
@@ -105,28 +101,18 @@ takes_once o g f all =
     ]
 
 -- SCRIPTS that take none
+abbrev TakesNoneTold : Told → Type 0
+TakesNoneTold r = TakesNone (effect_of r)
+
 abbrev Takeless : {A : Type 0} → Script Mark A → Type 0
-Takeless (Done a) = Unit {0}
-Takeless (Tell r s) = TakesNone (effect_of r) × Takeless s
-Takeless (Ask h o k) = (t : Mark) → Takeless (k t)
-Takeless (Hand l p s) = Takeless s
+Takeless s = AllTold TakesNoneTold s
 
-bind_takeless : {A B : Type 0} (s : Script Mark A) (k : A → Script Mark B) → Takeless s → ((a : A) → Takeless (k a)) → Takeless (s >>= k)
-bind_takeless (Done a) k h g = g a
-bind_takeless (Tell r s) k h g = (h.0, bind_takeless s k h.1 g)
-bind_takeless (Ask x o c) k h g = λ t. bind_takeless (c t) k (h t) g
-bind_takeless (Hand l p s) k h g = bind_takeless s k h g
+-- a relay takes none, and a packet that comes hands none in
+takeless_relays : OfRelays TakesNoneTold
+takeless_relays = record { put = λ link life. tt; expired = λ link. tt; no_route = λ to. tt; full = λ link. tt }
 
-quiet_takes_none : (e : Effect) → IsQuiet e → TakesNone e
-quiet_takes_none (Changes f change) h = absurd h
-quiet_takes_none (Leaves link life) h = tt
-quiet_takes_none Neither h = tt
-
-silent_takeless : {A : Type 0} (s : Script Mark A) → Silent s → Takeless s
-silent_takeless (Done a) h = tt
-silent_takeless (Tell r s) h = (quiet_takes_none (effect_of r) h.0, silent_takeless s h.1)
-silent_takeless (Ask x o c) h = λ t. silent_takeless (c t) (h t)
-silent_takeless (Hand l p s) h = silent_takeless s h
+takeless_arrivals : OfArrivals TakesNoneTold
+takeless_arrivals = record { relays = takeless_relays; expired = λ link. tt; bad = λ fault. tt; quiet = λ until. tt; accepted = λ f number count run. tt; replied = λ f number window. tt; dropped = λ f number. tt; ignored = λ f number window. tt; settled = λ f count window. tt; closing = λ f number. tt }
 
 -- an act of a host
 told_send_none : (f : Flow) (a : SendAct) → TakesNone (effect_of (told_send f a))
@@ -154,8 +140,8 @@ module _ (p : Params) (now : ℕ) where
   turn_takeless : (most : ℕ) (st : Station Mark) (turn : Option Turn) → next_turn p now st.host ≡ turn → ((after : Station Mark) → Takeless (do_turns most p now after)) → Takeless (go_on (do_turns most p now) now turn st)
   turn_takeless most st None e again = tt
   turn_takeless most st (Some turn) e again =
-      bind_takeless (do_turn now turn st.relay) (do_turns most p now)
-      (least_none p now st.host (least (offers p now st.host)) turn e, silent_takeless (send_off now turn.host turn.frame st.relay) (off_silent now turn.host turn.frame st.relay)) again
+      told_then TakesNoneTold (do_turn now turn st.relay) (do_turns most p now)
+      (least_none p now st.host (least (offers p now st.host)) turn e, off_told TakesNoneTold takeless_relays now turn.host turn.frame st.relay) again
 
   turns_takeless : (most : ℕ) (st : Station Mark) → Takeless (do_turns most p now st)
   turns_takeless zero st = tt
@@ -164,39 +150,8 @@ module _ (p : Params) (now : ℕ) where
   settle_takeless : (st : Station Mark) → Takeless (settle_station p now st)
   settle_takeless st =
       let links = map link_of st.relay.outs in
-      bind_takeless (flush_links now links st.relay.outs) (λ outs. do_turns (work p now st.host) p now (station_with st.host (with_outs st.relay outs)))
-      (silent_takeless (flush_links now links st.relay.outs) (links_silent now links st.relay.outs)) (λ outs. turns_takeless (work p now st.host) (station_with st.host (with_outs st.relay outs)))
-
-  -- A PACKET COMES
-  dropped_none : (f : Flow) (v : PacketValue) → TakesNone (effect_of (told_dropped f v))
-  dropped_none f (Data from_port to_port number drf begin end octets) = tt
-  dropped_none f (Ack from_port to_port number window) = tt
-  dropped_none f (Meet from_port to_port number) = tt
-  dropped_none f (Close from_port to_port number) = tt
-
-  arrival_none : (f : Flow) (v : PacketValue) (a : Arrived) → TakesNone (effect_of (told_arrival f v a))
-  arrival_none f v (arrived.Quiet until) = tt
-  arrival_none f v (arrived.Accepted run count) = tt
-  arrival_none f v (arrived.Replied number window) = tt
-  arrival_none f v arrived.Dropped = dropped_none f v
-  arrival_none f v (arrived.Acked count) = tt
-  arrival_none f v (arrived.Closing number) = tt
-
-  deliver_takeless : (from : ℕ) (r : Result PacketValue LayoutFault) (st : Station Mark) → Takeless (deliver p now from r st)
-  deliver_takeless from (Err fault) st = (tt, tt)
-  deliver_takeless from (Ok v) st =
-      let f = flow_of from st.host.me v in
-      let r = arrive p now from v st.host in
-      (arrival_none f v r.0, silent_takeless (send_off now r.1 (reply_frame p f r.0) st.relay) (off_silent now r.1 (reply_frame p f r.0) st.relay))
-
-  come_takeless : (b : Bool) (parcel : Parcel Mark) (st : Station Mark) → Takeless (come p now b parcel st)
-  come_takeless true parcel st = deliver_takeless (gram_in parcel.octets).from (packet_read (gram_in parcel.octets)) st
-  come_takeless false parcel st =
-      bind_takeless (pass_on parcel now st.relay) (λ relay. Done (station_with st.host relay)) (silent_takeless (pass_on parcel now st.relay) (entered_silent now (enter parcel now st.relay))) (λ relay. tt)
-
-  in_takeless : (link : ℕ) (o : Option (Parcel Mark)) (st : Station Mark) → Takeless (come_in p now link o st)
-  in_takeless link None st = (tt, tt)
-  in_takeless link (Some low) st = come_takeless (to_of low.octets == st.host.me) low st
+      told_then TakesNoneTold (flush_links now links st.relay.outs) (λ outs. do_turns (work p now st.host) p now (station_with st.host (with_outs st.relay outs)))
+      (links_told TakesNoneTold takeless_relays now links st.relay.outs) (λ outs. turns_takeless (work p now st.host) (station_with st.host (with_outs st.relay outs)))
 
   piece_none : (f : Flow) (octets : List ℕ) (o : Option Piece) → TakesNone (effect_of (told_piece f octets o))
   piece_none f octets None = tt
@@ -231,7 +186,7 @@ module _ (w : World) (n : ℕ) (p : Params) (now : ℕ) (f : Flow) where
   happen_takes (Read g most) st d = let k = none_taken (occasion w n (Read g most)) f (happen p now (Read g most) st) d (piece_none p now g _ _, tt) in omega (arith, k)
   happen_takes Tick st d = omega arith
   happen_takes (Arrive link parcel) st d =
-      let k = none_taken (occasion w n (Arrive link parcel)) f (happen p now (Arrive link parcel) st) d (in_takeless p now link (admit link parcel st.relay) st) in omega (arith, k)
+      let k = none_taken (occasion w n (Arrive link parcel)) f (happen p now (Arrive link parcel) st) d (comes_in_told TakesNoneTold takeless_arrivals p now link (admit link parcel st.relay) st) in omega (arith, k)
 
   event_takes : (e : Event Mark) (st : Station Mark) (d : Noted) → taken_count (play (world_handler (occasion w n e)) (station_event p now e st) d).0.ledgers f ≤ taken_count d.ledgers f + sent_in f e
   event_takes e st d =

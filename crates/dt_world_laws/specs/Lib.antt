@@ -4,6 +4,7 @@ pub mod Follow
 pub mod Lives
 pub mod Meeting
 pub mod Schedule
+pub mod Tellings
 pub mod Visits
 pub mod Waking
 pub mod Handed

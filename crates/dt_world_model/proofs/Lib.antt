@@ -1,3 +1,4 @@
 pub mod Tables
+pub mod Maps
 pub mod Offers
 pub mod Work

@@ -10,14 +10,17 @@ use Rattle.dt_trace.specs.Inputs.{FailedTake, Input, Reading, Taken as Found}
 use Rattle.dt_edges.specs.Counts.{HasRisen}
 use Rattle.dt_edges.specs.Sinks.{SinkSight}
 use Rattle.dt_fold.specs.Logging.{HasAll, HasPart}
-use Rattle.dt_node.specs.Turns.{turn}
+use Rattle.dt_turn.specs.Turns.{turn}
 use Rattle.dt_node.specs.Logging.{NotesBehind, NotesFault, noted_text}
-use Rattle.dt_node.proofs.Readying.{ready_later, not_equal}
+use Rattle.dt_turn.proofs.Readying.{ready_later, not_equal}
 use Rattle.dt_node.specs.declared.forms.Form.{Form}
 use Rattle.dt_node.specs.declared.recorders.Writer.{Writer}
 use Rattle.dt_node.specs.declared.watch.Watch.{Watch}
-use Rattle.dt_node.specs.Orders.{Node, Orders, first_node}
-use Rattle.dt_node.specs.Codes.{IsReady, node_seen, orders_seen, turned}
+use Rattle.dt_script.specs.Orders.{Orders}
+use Rattle.dt_turn.specs.Nodes.{Node, first_node}
+use Rattle.dt_script.specs.Codes.{orders_seen}
+use Rattle.dt_turn.specs.Codes.{IsReady, arrived, node_seen}
+use Rattle.dt_node.specs.TurnScripts.{turned}
 use Rattle.dt_node.specs.Runs.{moment, most_equal, next_watch}
 use Rattle.dt_node.specs.Deeds.{Scene, TurnEnds, scene}
 use Rattle.dt_node.specs.Serving.{Edges, edges, most_taken}
@@ -44,13 +47,13 @@ Unwritten f found a z = HasPart (noted_text f (Found found)) a z × HasRisen a.f
 pub returns-in-Err-clause-serves : goal.returns-in-Err-clause-serves
 returns-in-Err-clause-serves g c =
     let sight = g.W.Wire.sight in
-    unopened_ends c.args.recorder.now.writer.form (orders_seen c.args.orders.now) (sight c.args.wire.now) (sight c.open.new.self) (g.C.Clock.sight c.args.clock.now) (g.K.Sink.sight c.args.out.now) (g.K.Sink.sight c.fail.new.out) c.fail.result
+    unopened_ends c.args.run.now.recorder.writer.form (orders_seen c.args.orders.now) (sight c.args.wire.now) (sight c.open.new.self) (g.C.Clock.sight c.args.clock.now) (g.K.Sink.sight c.args.out.now) (g.K.Sink.sight c.fail.new.out) c.fail.result
     c.in-Err.ensures.failed c.fail.ensures.notes
 
 pub turns-init : goal.turns-init
 turns-init g c =
     let sight = g.W.Wire.sight in
-    let form = c.args.recorder.now.writer.form in
+    let form = c.args.run.now.recorder.writer.form in
     let o = orders_seen c.args.orders.now in
     let b = edges (sight c.args.wire.now) (g.C.Clock.sight c.args.clock.now) (g.K.Sink.sight c.args.out.now) in
     let n = edges (sight c.open.new.self) (g.C.Clock.sight c.now-reading.new.self) (g.K.Sink.sight c.args.out.now) in
@@ -61,9 +64,9 @@ turns-init g c =
     let counted = subst (λ (gives : ℕ). Going form o b r gives c.start-watch.result None (first_node o) n) (sym c.requires.new) watched in
     let zero : 0 ≤ moment c.start-watch.result = omega arith in
     record {
-      going = subst (λ (x : Node). Going form o b r c.args.recorder.now.writer.gives c.start-watch.result None x n) (sym c.requires.first) counted;
+      going = subst (λ (x : Node). Going form o b r c.args.run.now.recorder.writer.gives c.start-watch.result None x n) (sym c.requires.first) counted;
       well = subst IsWell (sym c.start-watch.ensures) (first_well r);
-      ready = ready_later c.args.orders.now c.args.node.now 0 (moment c.start-watch.result) zero c.requires.ready;
+      ready = ready_later c.args.orders.now c.args.run.now.node 0 (moment c.start-watch.result) zero c.requires.ready;
       within = tt;
       empty = c.requires.empty;
       form = refl;
@@ -72,72 +75,72 @@ turns-init g c =
 pub returns-in-Ok-true-clause-serves : goal.returns-in-Ok-true-clause-serves
 returns-in-Ok-true-clause-serves g c =
     let sight = g.W.Wire.sight in
-    let form = c.args.recorder.now.writer.form in
+    let form = c.args.run.now.recorder.writer.form in
     let o = orders_seen c.args.orders.now in
     let b = edges (sight c.args.wire.now) (g.C.Clock.sight c.args.clock.now) (g.K.Sink.sight c.args.out.now) in
     let n = edges (sight c.turns.wire) (g.C.Clock.sight c.turns.clock) (g.K.Sink.sight c.turns.out) in
-    let gives = c.turns.recorder.writer.gives in
-    let t = scene c.turn_at.new.recorder.writer.gives (sight c.turn_at.new.wire) (g.K.Sink.sight c.turn_at.new.out) in
+    let gives = c.turns.run.recorder.writer.gives in
+    let t = scene c.turn_at.new.run.recorder.writer.gives (sight c.turn_at.new.wire) (g.K.Sink.sight c.turn_at.new.out) in
     let came = handed c.turns.came c.turns.octets in
-    let node = node_seen c.args.orders.now c.turns.node in
-    let after = node_seen c.args.orders.now c.turn_at.new.node in
+    let node = node_seen c.args.orders.now c.turns.run.node in
+    let after = node_seen c.args.orders.now c.turn_at.new.run.node in
     let watch = c.turns.watch in
     let now = c.moment-moment.result in
     let m = edges_of t n.clock in
-    let ends = subst (λ (f : Form). Ends f o c.in-Ok-true.field-0 now c.turns.reading came node after gives n t) c.turns.invariant.form c.in-Ok-true.ensures.ends in
+    let ends = subst (λ (d : Option Datagram). Ends form o c.in-Ok-true.field-0 now c.turns.reading d node after gives n t) c.arrival_of-arrival.ensures (subst (λ (f : Form). Ends f o c.in-Ok-true.field-0 now c.turns.reading (arrived c.arrival_of-arrival.result) node after gives n t) c.turns.invariant.form c.in-Ok-true.ensures.ends) in
     let passed = passed_by form o b c.turns.reading gives watch came node n t now (turned (Ok c.in-Ok-true.field-0) after) c.in-Ok-true.field-0 c.moment-moment.ensures c.turns.invariant.going ends in
     serve_done form o b t.gives watch m (subst (λ (x : Bool). Passed form o b t.gives watch (turned (Ok x) after) m) c.in-Ok-true.field-0-test passed)
 
 pub returns-in-Err-NoMemory-clause-serves : goal.returns-in-Err-NoMemory-clause-serves
 returns-in-Err-NoMemory-clause-serves g c =
     let sight = g.W.Wire.sight in
-    let form = c.args.recorder.now.writer.form in
+    let form = c.args.run.now.recorder.writer.form in
     let o = orders_seen c.args.orders.now in
     let b = edges (sight c.args.wire.now) (g.C.Clock.sight c.args.clock.now) (g.K.Sink.sight c.args.out.now) in
     let n = edges (sight c.turns.wire) (g.C.Clock.sight c.turns.clock) (g.K.Sink.sight c.turns.out) in
-    let gives = c.turns.recorder.writer.gives in
-    let t = scene c.turn_at.new.recorder.writer.gives (sight c.turn_at.new.wire) (g.K.Sink.sight c.turn_at.new.out) in
+    let gives = c.turns.run.recorder.writer.gives in
+    let t = scene c.turn_at.new.run.recorder.writer.gives (sight c.turn_at.new.wire) (g.K.Sink.sight c.turn_at.new.out) in
     let came = handed c.turns.came c.turns.octets in
-    let node = node_seen c.args.orders.now c.turns.node in
+    let node = node_seen c.args.orders.now c.turns.run.node in
     let watch = c.turns.watch in
     let now = c.moment-moment.result in
-    let ends = subst (λ (f : Form). Stops f o stops.NoMemory now c.turns.reading came node gives n t) c.turns.invariant.form (rw c.in-Err-NoMemory.field-0-is at c.in-Err-NoMemory.ensures.ends) in
+    let ends = subst (λ (d : Option Datagram). Stops form o stops.NoMemory now c.turns.reading d node gives n t) c.arrival_of-arrival.ensures (subst (λ (f : Form). Stops f o stops.NoMemory now c.turns.reading (arrived c.arrival_of-arrival.result) node gives n t) c.turns.invariant.form (rw c.in-Err-NoMemory.field-0-is at c.in-Err-NoMemory.ensures.ends)) in
     serve_memory form o b c.turns.reading gives watch came node n t now None c.moment-moment.ensures c.turns.invariant.going ends
 
 pub returns-in-Err-WriteFault-clause-serves : goal.returns-in-Err-WriteFault-clause-serves
 returns-in-Err-WriteFault-clause-serves g c =
     let sight = g.W.Wire.sight in
-    let form = c.args.recorder.now.writer.form in
+    let form = c.args.run.now.recorder.writer.form in
     let o = orders_seen c.args.orders.now in
     let b = edges (sight c.args.wire.now) (g.C.Clock.sight c.args.clock.now) (g.K.Sink.sight c.args.out.now) in
     let n = edges (sight c.turns.wire) (g.C.Clock.sight c.turns.clock) (g.K.Sink.sight c.turns.out) in
-    let gives = c.turns.recorder.writer.gives in
-    let t = scene c.turn_at.new.recorder.writer.gives (sight c.turn_at.new.wire) (g.K.Sink.sight c.turn_at.new.out) in
+    let gives = c.turns.run.recorder.writer.gives in
+    let t = scene c.turn_at.new.run.recorder.writer.gives (sight c.turn_at.new.wire) (g.K.Sink.sight c.turn_at.new.out) in
     let came = handed c.turns.came c.turns.octets in
-    let node = node_seen c.args.orders.now c.turns.node in
+    let node = node_seen c.args.orders.now c.turns.run.node in
     let watch = c.turns.watch in
     let now = c.moment-moment.result in
-    let ends = subst (λ (f : Form). Stops f o stops.WriteFault now c.turns.reading came node gives n t) c.turns.invariant.form (rw c.in-Err-WriteFault.field-0-is at c.in-Err-WriteFault.ensures.ends) in
+    let ends = subst (λ (d : Option Datagram). Stops form o stops.WriteFault now c.turns.reading d node gives n t) c.arrival_of-arrival.ensures (subst (λ (f : Form). Stops f o stops.WriteFault now c.turns.reading (arrived c.arrival_of-arrival.result) node gives n t) c.turns.invariant.form (rw c.in-Err-WriteFault.field-0-is at c.in-Err-WriteFault.ensures.ends)) in
     serve_write form o b c.turns.reading gives watch came node n t now None c.moment-moment.ensures c.turns.invariant.going ends
 
 pub returns-in-Err-take-clause-serves : goal.returns-in-Err-take-clause-serves
 returns-in-Err-take-clause-serves g c =
     let sight = g.W.Wire.sight in
-    let form = c.args.recorder.now.writer.form in
+    let form = c.args.run.now.recorder.writer.form in
     let o = orders_seen c.args.orders.now in
     let b = edges (sight c.args.wire.now) (g.C.Clock.sight c.args.clock.now) (g.K.Sink.sight c.args.out.now) in
     let n = edges (sight c.turns.wire) (g.C.Clock.sight c.turns.clock) (g.K.Sink.sight c.turns.out) in
-    let gives = c.turns.recorder.writer.gives in
-    let t = scene c.turn_at.new.recorder.writer.gives (sight c.turn_at.new.wire) (g.K.Sink.sight c.turn_at.new.out) in
+    let gives = c.turns.run.recorder.writer.gives in
+    let t = scene c.turn_at.new.run.recorder.writer.gives (sight c.turn_at.new.wire) (g.K.Sink.sight c.turn_at.new.out) in
     let came = handed c.turns.came c.turns.octets in
-    let node = node_seen c.args.orders.now c.turns.node in
-    let after = node_seen c.args.orders.now c.turn_at.new.node in
+    let node = node_seen c.args.orders.now c.turns.run.node in
+    let after = node_seen c.args.orders.now c.turn_at.new.run.node in
     let watch = c.turns.watch in
     let now = c.moment-moment.result in
     let m = edges_of t n.clock in
     let wait = c.wait_for-wait.result in
-    let is : wait ≡ wait_in (pause_of o watch after) = asked_wait c.args.orders.now c.turn_at.new.node watch now wait c.in-Ok-false.ensures.ready.rules c.moment-moment.ensures c.wait_for-wait.ensures in
-    let ends = subst (λ (f : Form). Ends f o c.in-Ok-false.field-0 now c.turns.reading came node after gives n t) c.turns.invariant.form c.in-Ok-false.ensures.ends in
+    let is : wait ≡ wait_in (pause_of o watch after) = asked_wait c.args.orders.now c.turn_at.new.run.node watch now wait c.in-Ok-false.ensures.ready.rules c.moment-moment.ensures c.wait_for-wait.ensures in
+    let ends = subst (λ (d : Option Datagram). Ends form o c.in-Ok-false.field-0 now c.turns.reading d node after gives n t) c.arrival_of-arrival.ensures (subst (λ (f : Form). Ends f o c.in-Ok-false.field-0 now c.turns.reading (arrived c.arrival_of-arrival.result) node after gives n t) c.turns.invariant.form c.in-Ok-false.ensures.ends) in
     let passed = passed_by form o b c.turns.reading gives watch came node n t now (turned (Ok c.in-Ok-false.field-0) after) c.in-Ok-false.field-0 c.moment-moment.ensures c.turns.invariant.going ends in
     let noted = subst (λ (f : Form). NotesFault FailedTake f c.fail-in-Err-take.result (g.K.Sink.sight c.turn_at.new.out) (g.K.Sink.sight c.fail-in-Err-take.new.out)) (c.in-Ok-false.ensures.same_form ∙ c.turns.invariant.form) c.fail-in-Err-take.ensures.notes in
     untaken_ends form o b t.gives watch after t.wire (sight c.take.new.self) n.clock (g.K.Sink.sight c.turn_at.new.out) (g.K.Sink.sight c.fail-in-Err-take.new.out) wait c.fail-in-Err-take.result
@@ -146,28 +149,28 @@ returns-in-Err-take-clause-serves g c =
 pub returns-in-Err-note-clause-serves : goal.returns-in-Err-note-clause-serves
 returns-in-Err-note-clause-serves g c =
     let sight = g.W.Wire.sight in
-    let form = c.args.recorder.now.writer.form in
+    let form = c.args.run.now.recorder.writer.form in
     let o = orders_seen c.args.orders.now in
     let b = edges (sight c.args.wire.now) (g.C.Clock.sight c.args.clock.now) (g.K.Sink.sight c.args.out.now) in
     let n = edges (sight c.turns.wire) (g.C.Clock.sight c.turns.clock) (g.K.Sink.sight c.turns.out) in
-    let gives = c.turns.recorder.writer.gives in
-    let t = scene c.turn_at.new.recorder.writer.gives (sight c.turn_at.new.wire) (g.K.Sink.sight c.turn_at.new.out) in
+    let gives = c.turns.run.recorder.writer.gives in
+    let t = scene c.turn_at.new.run.recorder.writer.gives (sight c.turn_at.new.wire) (g.K.Sink.sight c.turn_at.new.out) in
     let came = handed c.turns.came c.turns.octets in
-    let node = node_seen c.args.orders.now c.turns.node in
-    let after = node_seen c.args.orders.now c.turn_at.new.node in
+    let node = node_seen c.args.orders.now c.turns.run.node in
+    let after = node_seen c.args.orders.now c.turn_at.new.run.node in
     let watch = c.turns.watch in
     let now = c.moment-moment.result in
     let m = edges_of t n.clock in
     let wait = c.wait_for-wait.result in
-    let is : wait ≡ wait_in (pause_of o watch after) = asked_wait c.args.orders.now c.turn_at.new.node watch now wait c.in-Ok-false.ensures.ready.rules c.moment-moment.ensures c.wait_for-wait.ensures in
-    let ends = subst (λ (f : Form). Ends f o c.in-Ok-false.field-0 now c.turns.reading came node after gives n t) c.turns.invariant.form c.in-Ok-false.ensures.ends in
+    let is : wait ≡ wait_in (pause_of o watch after) = asked_wait c.args.orders.now c.turn_at.new.run.node watch now wait c.in-Ok-false.ensures.ready.rules c.moment-moment.ensures c.wait_for-wait.ensures in
+    let ends = subst (λ (d : Option Datagram). Ends form o c.in-Ok-false.field-0 now c.turns.reading d node after gives n t) c.arrival_of-arrival.ensures (subst (λ (f : Form). Ends f o c.in-Ok-false.field-0 now c.turns.reading (arrived c.arrival_of-arrival.result) node after gives n t) c.turns.invariant.form c.in-Ok-false.ensures.ends) in
     let passed = passed_by form o b c.turns.reading gives watch came node n t now (turned (Ok c.in-Ok-false.field-0) after) c.in-Ok-false.field-0 c.moment-moment.ensures c.turns.invariant.going ends in
     let passed' = subst (λ (x : Bool). Passed form o b t.gives watch (turned (Ok x) after) m) c.in-Ok-false.field-0-test passed in
     let size : length c.turns.octets ≡ most_taken = search rules in
     let found = handed c.in-Ok.found c.take.new.buf in
     let taken = subst (λ (k : ℕ). TakesOne k found t.wire (sight c.take.new.self)) size c.in-Ok.ensures.taken in
     let fits = c.input_of.ensures.fits in
-    let input = subst (λ (i : Input). NotesBehind {T = Unit {0}} {E = Failed} c.turn_at.new.recorder.writer.form i (Err c.in-Err-note.field-0) (g.K.Sink.sight c.turn_at.new.out) (g.K.Sink.sight c.note.new.out)) c.input_of.ensures.input c.in-Err-note.ensures.notes in
+    let input = subst (λ (i : Input). NotesBehind {T = Unit {0}} {E = Failed} c.turn_at.new.run.recorder.writer.form i (Err c.in-Err-note.field-0) (g.K.Sink.sight c.turn_at.new.out) (g.K.Sink.sight c.note.new.out)) c.input_of.ensures.input c.in-Err-note.ensures.notes in
     let noted = subst (λ (f : Form). NotesBehind {T = Unit {0}} {E = Failed} f (Found found) (Err c.in-Err-note.field-0) (g.K.Sink.sight c.turn_at.new.out) (g.K.Sink.sight c.note.new.out)) (c.in-Ok-false.ensures.same_form ∙ c.turns.invariant.form) input in
     let written : Unwritten form found (g.K.Sink.sight c.turn_at.new.out) (g.K.Sink.sight c.note.new.out) = noted_err (Unit {0}) form (Found found) c.in-Err-note.field-0 (g.K.Sink.sight c.turn_at.new.out) (g.K.Sink.sight c.note.new.out) noted in
     serve_take_write form o b t.gives watch after m found (sight c.take.new.self) (g.K.Sink.sight c.note.new.out).held (g.K.Sink.sight c.note.new.out).faults wait fits passed' taken c.take.ensures.waited is written.0 written.1
@@ -175,28 +178,28 @@ returns-in-Err-note-clause-serves g c =
 pub returns-then-watch-eq-MOST_EQUAL-clause-serves : goal.returns-then-watch-eq-MOST_EQUAL-clause-serves
 returns-then-watch-eq-MOST_EQUAL-clause-serves g c =
     let sight = g.W.Wire.sight in
-    let form = c.args.recorder.now.writer.form in
+    let form = c.args.run.now.recorder.writer.form in
     let o = orders_seen c.args.orders.now in
     let b = edges (sight c.args.wire.now) (g.C.Clock.sight c.args.clock.now) (g.K.Sink.sight c.args.out.now) in
     let n = edges (sight c.turns.wire) (g.C.Clock.sight c.turns.clock) (g.K.Sink.sight c.turns.out) in
-    let gives = c.turns.recorder.writer.gives in
-    let t = scene c.turn_at.new.recorder.writer.gives (sight c.turn_at.new.wire) (g.K.Sink.sight c.turn_at.new.out) in
+    let gives = c.turns.run.recorder.writer.gives in
+    let t = scene c.turn_at.new.run.recorder.writer.gives (sight c.turn_at.new.wire) (g.K.Sink.sight c.turn_at.new.out) in
     let came = handed c.turns.came c.turns.octets in
-    let node = node_seen c.args.orders.now c.turns.node in
-    let after = node_seen c.args.orders.now c.turn_at.new.node in
+    let node = node_seen c.args.orders.now c.turns.run.node in
+    let after = node_seen c.args.orders.now c.turn_at.new.run.node in
     let watch = c.turns.watch in
     let now = c.moment-moment.result in
     let m = edges_of t n.clock in
     let wait = c.wait_for-wait.result in
-    let is : wait ≡ wait_in (pause_of o watch after) = asked_wait c.args.orders.now c.turn_at.new.node watch now wait c.in-Ok-false.ensures.ready.rules c.moment-moment.ensures c.wait_for-wait.ensures in
-    let ends = subst (λ (f : Form). Ends f o c.in-Ok-false.field-0 now c.turns.reading came node after gives n t) c.turns.invariant.form c.in-Ok-false.ensures.ends in
+    let is : wait ≡ wait_in (pause_of o watch after) = asked_wait c.args.orders.now c.turn_at.new.run.node watch now wait c.in-Ok-false.ensures.ready.rules c.moment-moment.ensures c.wait_for-wait.ensures in
+    let ends = subst (λ (d : Option Datagram). Ends form o c.in-Ok-false.field-0 now c.turns.reading d node after gives n t) c.arrival_of-arrival.ensures (subst (λ (f : Form). Ends f o c.in-Ok-false.field-0 now c.turns.reading (arrived c.arrival_of-arrival.result) node after gives n t) c.turns.invariant.form c.in-Ok-false.ensures.ends) in
     let passed = passed_by form o b c.turns.reading gives watch came node n t now (turned (Ok c.in-Ok-false.field-0) after) c.in-Ok-false.field-0 c.moment-moment.ensures c.turns.invariant.going ends in
     let passed' = subst (λ (x : Bool). Passed form o b t.gives watch (turned (Ok x) after) m) c.in-Ok-false.field-0-test passed in
     let size : length c.turns.octets ≡ most_taken = search rules in
     let found = handed c.in-Ok.found c.take.new.buf in
     let taken = subst (λ (k : ℕ). TakesOne k found t.wire (sight c.take.new.self)) size c.in-Ok.ensures.taken in
     let fits = c.input_of.ensures.fits in
-    let input = subst (λ (i : Input). NotesBehind {T = Unit {0}} {E = Failed} c.turn_at.new.recorder.writer.form i (Ok tt) (g.K.Sink.sight c.turn_at.new.out) (g.K.Sink.sight c.note.new.out)) c.input_of.ensures.input c.in_default-note.ensures.notes in
+    let input = subst (λ (i : Input). NotesBehind {T = Unit {0}} {E = Failed} c.turn_at.new.run.recorder.writer.form i (Ok tt) (g.K.Sink.sight c.turn_at.new.out) (g.K.Sink.sight c.note.new.out)) c.input_of.ensures.input c.in_default-note.ensures.notes in
     let noted = subst (λ (f : Form). NotesBehind {T = Unit {0}} {E = Failed} f (Found found) (Ok tt) (g.K.Sink.sight c.turn_at.new.out) (g.K.Sink.sight c.note.new.out)) (c.in-Ok-false.ensures.same_form ∙ c.turns.invariant.form) input in
     let written : Appended form found (g.K.Sink.sight c.turn_at.new.out) (g.K.Sink.sight c.note.new.out) = noted_ok Failed form (Found found) tt (g.K.Sink.sight c.turn_at.new.out) (g.K.Sink.sight c.note.new.out) noted in
     let on = noted_take form o b t.gives watch after m found (sight c.take.new.self) (g.K.Sink.sight c.note.new.out).held (g.K.Sink.sight c.note.new.out).faults wait fits written.0 written.1 passed' taken c.take.ensures.waited is in
@@ -206,28 +209,28 @@ returns-then-watch-eq-MOST_EQUAL-clause-serves g c =
 pub turns-preserved : goal.turns-preserved
 turns-preserved g c =
     let sight = g.W.Wire.sight in
-    let form = c.args.recorder.now.writer.form in
+    let form = c.args.run.now.recorder.writer.form in
     let o = orders_seen c.args.orders.now in
     let b = edges (sight c.args.wire.now) (g.C.Clock.sight c.args.clock.now) (g.K.Sink.sight c.args.out.now) in
     let n = edges (sight c.turns.wire) (g.C.Clock.sight c.turns.clock) (g.K.Sink.sight c.turns.out) in
-    let gives = c.turns.recorder.writer.gives in
-    let t = scene c.turn_at.new.recorder.writer.gives (sight c.turn_at.new.wire) (g.K.Sink.sight c.turn_at.new.out) in
+    let gives = c.turns.run.recorder.writer.gives in
+    let t = scene c.turn_at.new.run.recorder.writer.gives (sight c.turn_at.new.wire) (g.K.Sink.sight c.turn_at.new.out) in
     let came = handed c.turns.came c.turns.octets in
-    let node = node_seen c.args.orders.now c.turns.node in
-    let after = node_seen c.args.orders.now c.turn_at.new.node in
+    let node = node_seen c.args.orders.now c.turns.run.node in
+    let after = node_seen c.args.orders.now c.turn_at.new.run.node in
     let watch = c.turns.watch in
     let now = c.moment-moment.result in
     let m = edges_of t n.clock in
     let wait = c.wait_for-wait.result in
-    let is : wait ≡ wait_in (pause_of o watch after) = asked_wait c.args.orders.now c.turn_at.new.node watch now wait c.in-Ok-false.ensures.ready.rules c.moment-moment.ensures c.wait_for-wait.ensures in
-    let ends = subst (λ (f : Form). Ends f o c.in-Ok-false.field-0 now c.turns.reading came node after gives n t) c.turns.invariant.form c.in-Ok-false.ensures.ends in
+    let is : wait ≡ wait_in (pause_of o watch after) = asked_wait c.args.orders.now c.turn_at.new.run.node watch now wait c.in-Ok-false.ensures.ready.rules c.moment-moment.ensures c.wait_for-wait.ensures in
+    let ends = subst (λ (d : Option Datagram). Ends form o c.in-Ok-false.field-0 now c.turns.reading d node after gives n t) c.arrival_of-arrival.ensures (subst (λ (f : Form). Ends f o c.in-Ok-false.field-0 now c.turns.reading (arrived c.arrival_of-arrival.result) node after gives n t) c.turns.invariant.form c.in-Ok-false.ensures.ends) in
     let passed = passed_by form o b c.turns.reading gives watch came node n t now (turned (Ok c.in-Ok-false.field-0) after) c.in-Ok-false.field-0 c.moment-moment.ensures c.turns.invariant.going ends in
     let passed' = subst (λ (x : Bool). Passed form o b t.gives watch (turned (Ok x) after) m) c.in-Ok-false.field-0-test passed in
     let size : length c.turns.octets ≡ most_taken = search rules in
     let found = handed c.in-Ok.found c.take.new.buf in
     let taken = subst (λ (k : ℕ). TakesOne k found t.wire (sight c.take.new.self)) size c.in-Ok.ensures.taken in
     let fits = c.input_of.ensures.fits in
-    let input = subst (λ (i : Input). NotesBehind {T = Unit {0}} {E = Failed} c.turn_at.new.recorder.writer.form i (Ok tt) (g.K.Sink.sight c.turn_at.new.out) (g.K.Sink.sight c.note.new.out)) c.input_of.ensures.input c.in_default-note.ensures.notes in
+    let input = subst (λ (i : Input). NotesBehind {T = Unit {0}} {E = Failed} c.turn_at.new.run.recorder.writer.form i (Ok tt) (g.K.Sink.sight c.turn_at.new.out) (g.K.Sink.sight c.note.new.out)) c.input_of.ensures.input c.in_default-note.ensures.notes in
     let noted = subst (λ (f : Form). NotesBehind {T = Unit {0}} {E = Failed} f (Found found) (Ok tt) (g.K.Sink.sight c.turn_at.new.out) (g.K.Sink.sight c.note.new.out)) (c.in-Ok-false.ensures.same_form ∙ c.turns.invariant.form) input in
     let written : Appended form found (g.K.Sink.sight c.turn_at.new.out) (g.K.Sink.sight c.note.new.out) = noted_ok Failed form (Found found) tt (g.K.Sink.sight c.turn_at.new.out) (g.K.Sink.sight c.note.new.out) noted in
     let on = noted_take form o b t.gives watch after m found (sight c.take.new.self) (g.K.Sink.sight c.note.new.out).held (g.K.Sink.sight c.note.new.out).faults wait fits written.0 written.1 passed' taken c.take.ensures.waited is in
@@ -245,7 +248,7 @@ turns-preserved g c =
     record {
       going = subst (λ (w : Watch). Going form o b r c.note.new.self.writer.gives w found after next) (sym c.next-watch.ensures) counted;
       well = subst IsWell (sym c.next-watch.ensures) (goes 0).well;
-      ready = subst (λ (w : Watch). IsReady c.args.orders.now (moment w) c.turn_at.new.node) (sym c.next-watch.ensures) (ready_later c.args.orders.now c.turn_at.new.node now (moment (next_watch r watch)) later c.in-Ok-false.ensures.ready);
+      ready = subst (λ (w : Watch). IsReady c.args.orders.now (moment w) c.turn_at.new.run.node) (sym c.next-watch.ensures) (ready_later c.args.orders.now c.turn_at.new.run.node now (moment (next_watch r watch)) later c.in-Ok-false.ensures.ready);
       within = subst (λ (k : ℕ). IfSome c.in-Ok.found (λ d. d.1 ≤ k)) size c.in-Ok.ensures.within;
       empty = c.in_default-note.ensures.empty;
       form = ap (λ (w : Writer). w.form) c.in_default-note.ensures.same ∙ c.in-Ok-false.ensures.same_form ∙ c.turns.invariant.form;

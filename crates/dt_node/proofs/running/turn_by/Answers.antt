@@ -1,37 +1,48 @@
-use Rattle.std.proofs.Common.{ap}
-use Rattle.dt_edges.specs.Wires.{handed}
-use Rattle.dt_node.specs.Codes.{node_seen, orders_seen, turned}
+use Rattle.std.proofs.Common.{◌≡◌, ◌<◌, Bool, Result, [], ap, false, refl, subst, sym}
+use Rattle.std.specs.Prelude.{IfOk, OnOk}
+use Rattle.dt_fold.specs.declared.stops.Stop.{Stop}
+use Rattle.dt_turn.specs.Codes.{IsReady, node_seen}
+use Rattle.dt_node.specs.TurnScripts.{turned}
+use Rattle.dt_node.specs.Deeds.{TurnEnds, scene}
 use Rattle.dt_node.specs.Logging.{Fixed, log_sight}
-use Rattle.dt_node.specs.Turns.{turn}
-use Rattle.dt_node.proofs.Logged.{ends_sink, turn_ends}
+use Rattle.dt_node.specs.TurnScripts.{turn_script}
+use Rattle.dt_node.proofs.Logged.{ends_fixed, ends_sink, if_ended, on_ended, turn_ends, wanted_memory}
 use Rattle.dt_node.proofs.running.turn_by.Goals as goal
 
 pub returns-clause-ends : goal.returns-clause-ends
 returns-clause-ends g c =
-    let o = c.args.orders.now in
-    let script = turn (orders_seen o) c.args.log.now.moment (handed c.args.came c.args.octets.now) (node_seen o c.args.node.now) in
-    let answer = turned c.turn.result (node_seen o c.turn.new.node) in
-    turn_ends (log_sight g.W.Wire.sight g.K.Sink.sight) c.turn.result script c.args.log.now c.turn.new.log answer c.turn.ensures.ends c.requires.fine c.turn.ensures.failed
-
-pub returns-clause-same_wire : goal.returns-clause-same_wire
-returns-clause-same_wire g c = ap (λ (f : Fixed). f.wire) c.turn.ensures.fixed
-
-pub returns-clause-same_out : goal.returns-clause-same_out
-returns-clause-same_out g c = ap (λ (f : Fixed). f.out) c.turn.ensures.fixed
-
-pub returns-clause-same_sink : goal.returns-clause-same_sink
-returns-clause-same_sink g c =
-    let o = c.args.orders.now in
-    let script = turn (orders_seen o) c.args.log.now.moment (handed c.args.came c.args.octets.now) (node_seen o c.args.node.now) in
-    let answer = turned c.turn.result (node_seen o c.turn.new.node) in
-    (ends_sink (log_sight g.W.Wire.sight g.K.Sink.sight) c.turn.result script c.args.log.now c.turn.new.log answer c.turn.ensures.ends c.requires.fine).0
-
-pub returns-clause-reached : goal.returns-clause-reached
-returns-clause-reached g c =
-    let o = c.args.orders.now in
-    let script = turn (orders_seen o) c.args.log.now.moment (handed c.args.came c.args.octets.now) (node_seen o c.args.node.now) in
-    let answer = turned c.turn.result (node_seen o c.turn.new.node) in
-    (ends_sink (log_sight g.W.Wire.sight g.K.Sink.sight) c.turn.result script c.args.log.now c.turn.new.log answer c.turn.ensures.ends c.requires.fine).1
+    let view = log_sight g.W.Wire.sight g.K.Sink.sight in
+    let v = c.args.log.now in
+    let w = c.turn-done.new.visitor in
+    let script = turn_script c.args.turn c.args.node.now in
+    let node = node_seen c.args.turn.orders.now c.turn-done.new.node in
+    subst (λ (r : Result Bool Stop). TurnEnds r v.writer.form v.me v.moment [] script (turned r node) (scene v.writer.gives (view v).wire (view v).out) (scene w.writer.gives (view w).wire (view w).out)) (sym c.ended.ensures)
+    (turn_ends view w.failed c.turn-done.result script v w node c.turn-done.ensures.ends c.requires.fine refl)
 
 pub returns-clause-same_form : goal.returns-clause-same_form
-returns-clause-same_form g c = ap (λ (f : Fixed). f.form) c.turn.ensures.fixed
+returns-clause-same_form g c = ap (λ (f : Fixed). f.form) (ends_fixed (log_sight g.W.Wire.sight g.K.Sink.sight) c.turn-done.result _ _ _ _ c.turn-done.ensures.ends c.requires.fine)
+
+pub returns-clause-same_wire : goal.returns-clause-same_wire
+returns-clause-same_wire g c = ap (λ (f : Fixed). f.wire) (ends_fixed (log_sight g.W.Wire.sight g.K.Sink.sight) c.turn-done.result _ _ _ _ c.turn-done.ensures.ends c.requires.fine)
+
+pub returns-clause-same_out : goal.returns-clause-same_out
+returns-clause-same_out g c = ap (λ (f : Fixed). f.out) (ends_fixed (log_sight g.W.Wire.sight g.K.Sink.sight) c.turn-done.result _ _ _ _ c.turn-done.ensures.ends c.requires.fine)
+
+pub returns-clause-same_sink : goal.returns-clause-same_sink
+returns-clause-same_sink g c = (ends_sink (log_sight g.W.Wire.sight g.K.Sink.sight) c.turn-done.result _ _ _ _ c.turn-done.ensures.ends c.requires.fine).0
+
+pub returns-clause-reached : goal.returns-clause-reached
+returns-clause-reached g c = (ends_sink (log_sight g.W.Wire.sight g.K.Sink.sight) c.turn-done.result _ _ _ _ c.turn-done.ensures.ends c.requires.fine).1
+
+pub returns-clause-ready : goal.returns-clause-ready
+returns-clause-ready g c =
+    let ready = IsReady c.args.turn.orders.now c.args.turn.moment c.turn-done.new.node in
+    subst (λ (r : Result Bool Stop). OnOk r ready) (sym c.ended.ensures) (on_ended ready c.turn-done.new.visitor.failed c.turn-done.result c.turn-done.ensures.ready)
+
+pub returns-clause-going : goal.returns-clause-going
+returns-clause-going g c =
+    let goes = λ (stopped : Bool). stopped ≡ false → c.args.turn.moment < c.args.turn.orders.now.stop in
+    subst (λ (r : Result Bool Stop). IfOk r goes) (sym c.ended.ensures) (if_ended goes c.turn-done.new.visitor.failed c.turn-done.result c.turn-done.ensures.going)
+
+pub returns-clause-memory : goal.returns-clause-memory
+returns-clause-memory g c = λ wants. wanted_memory _ c.turn-done.new.visitor.failed c.turn-done.result c.turn-done.ensures.memory (rw c.ended.ensures at wants)

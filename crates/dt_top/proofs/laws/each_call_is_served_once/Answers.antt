@@ -1,4 +1,4 @@
-use Rattle.dt_calls.proofs.CallFolds.{made_by_lines, own_answers, served_once}
+use Rattle.dt_calls_input.proofs.CallFolds.{made_by_lines, own_answers, served_once}
 use Rattle.dt_top.proofs.laws.each_call_is_served_once.Goals as goal
 
 pub returns-clause-called_once : goal.returns-clause-called_once

@@ -1,12 +1,11 @@
 use Rattle.std.proofs.Common.{ℕ, ◌+◌, ◌^◌, ◌≡◌, ◌==◌, List, Some, ap, nat_eq, refl, sym, subst, ◌∙◌, arith}
 use Rattle.std.specs.Map.{set_value}
-use Rattle.std.specs.Prelude.{option_map}
 use Rattle.dt_reports.specs.declared.reports.Report.TheVariants as report
 use Rattle.dt_flow_model.specs.Frames.{Mark}
 use Rattle.dt_world_model.specs.Relay.{Relay, emptied, new_relay}
 use Rattle.dt_world_model.specs.Station.{Station}
 use Rattle.dt_world_model.specs.Tables.{AllEntries, write}
-use Rattle.dt_world_model.specs.World.{Placed, World}
+use Rattle.dt_world_model.specs.World.{Placed}
 use Rattle.dt_world_model.specs.WorldStep.{Restarts, after_event}
 use Rattle.dt_world.specs.declared.placed.Plan.{Plan}
 use Rattle.dt_world.specs.declared.placed.PlacedStation.{PlacedStation}
@@ -15,30 +14,22 @@ use Rattle.dt_world.specs.Worlds.{IsStationOf, placed_seen, stations_seen, world
 use Rattle.dt_world.proofs.Possible.{is_placed, stopped_at_once, there}
 use Rattle.dt_world.proofs.Restarting.{emptied_new, nobody_restarts, restart_happened, started_again}
 use Rattle.dt_world.proofs.SetupTables.{look_keyed}
-use Rattle.dt_world.proofs.StationTables.{all_at, all_written, look_seen, station_same, station_written}
+use Rattle.dt_world.proofs.StationTables.{all_at, all_written, not_there, station_same, station_written, with_stations}
 use Rattle.dt_world.proofs.doing.restart.Goals as goal
 
 pub returns-in-None-clause-happens : goal.returns-in-None-clause-happens
 returns-in-None-clause-happens g c =
     let p = c.args.parts.now in
-    let w = world_seen p in
-    let n = c.args.node in
-    let same = ap (λ (m : List (ℕ × PlacedStation)). stations_seen m) (ap (λ m. m.entries) c.get_mut.follows.holds-at-none) in
-    nobody_restarts g.L.Lines.tells w n c.args.lines.now _
-    (look_seen n p.stations.entries ∙ ap (λ o. option_map placed_seen o) (sym c.in-None.ensures.value))
-    (ap (λ (st : List (ℕ × Placed)). let u : World = record { params = p.rules; now = p.now; stations = st; links = w.links; copies = w.copies; ledgers = w.ledgers } in u) same)
+    nobody_restarts g.L.Lines.tells (world_seen p) c.args.node c.args.lines.now _ (not_there c.args.node p.stations.entries c.in-None.ensures.value) (ap (with_stations p) (ap (λ m. stations_seen m.entries) c.get_mut.follows.holds-at-none))
 
 pub returns-in-Err-clause-happens : goal.returns-in-Err-clause-happens
 returns-in-Err-clause-happens g c =
     let p = c.args.parts.now in
     let w = world_seen p in
     let n = c.args.node in
-    let s = c.in-Some.placed.now in
-    let after = c.start_again.new.placed in
-    let found = sym c.in-Some.ensures.value in
-    let stations = ap stations_seen (c.get_mut.follows.holds after).0 ∙ ap (λ (x : PlacedStation). stations_seen (set_value (nat_eq n) p.stations.entries x)) c.in-Err.ensures.err ∙ station_same n s p.stations.entries found in
-    stopped_at_once p c.requires.whole g.L.Lines.tells (ComesTo w (Restarts n)) (after_event w (Restarts n)) c.args.lines.now _ refl
-    (ap (λ (st : List (ℕ × Placed)). let u : World = record { params = p.rules; now = p.now; stations = st; links = w.links; copies = w.copies; ledgers = w.ledgers } in u) stations)
+    let entries = (c.get_mut.follows.holds c.start_again.new.placed).0 in
+    let stations = ap stations_seen entries ∙ ap (λ (x : PlacedStation). stations_seen (set_value (nat_eq n) p.stations.entries x)) c.in-Err.ensures.err ∙ station_same n c.in-Some.placed.now p.stations.entries (sym c.in-Some.ensures.value) in
+    stopped_at_once p c.requires.whole g.L.Lines.tells (ComesTo w (Restarts n)) (after_event w (Restarts n)) c.args.lines.now _ refl (ap (with_stations p) stations)
 
 pub returns-in-Ok-clause-happens : goal.returns-in-Ok-clause-happens
 returns-in-Ok-clause-happens g c =
@@ -56,7 +47,7 @@ returns-in-Ok-clause-happens g c =
     let stations = ap stations_seen entries ∙ station_written n after s p.stations.entries found ∙ ap (λ (at : Placed). write ◌==◌ n at w.stations) again in
     restart_happened g.L.Lines.tells w n (placed_seen s) c.args.lines.now c.line.new.self _ (there p c.requires.whole n s keyed)
     (subst (λ (life : ℕ). g.L.Lines.tells c.args.lines.now (record { moment = p.now; node = Some n; told = report.Restarted life }) c.line.new.self) c.in-Ok.ensures.life c.line.ensures)
-    (ap (λ (st : List (ℕ × Placed)). let u : World = record { params = p.rules; now = p.now; stations = st; links = w.links; copies = w.copies; ledgers = w.ledgers } in u) stations)
+    (ap (with_stations p) stations)
 
 pub returns-in-Ok-clause-stations : goal.returns-in-Ok-clause-stations
 returns-in-Ok-clause-stations g c =
@@ -75,10 +66,7 @@ returns-in-Ok-clause-stations g c =
     c.requires.whole.stations)
 
 pub returns-in-None-clause-within : goal.returns-in-None-clause-within
-returns-in-None-clause-within g c =
-    let p = c.args.parts.now in
-    let none = look_seen c.args.node p.stations.entries ∙ ap (λ o. option_map placed_seen o) (sym c.in-None.ensures.value) in
-    λ last. subst IsLastLife none last
+returns-in-None-clause-within g c = λ last. subst IsLastLife (not_there c.args.node c.args.parts.now.stations.entries c.in-None.ensures.value) last
 
 pub returns-in-Ok-clause-within : goal.returns-in-Ok-clause-within
 returns-in-Ok-clause-within g c =

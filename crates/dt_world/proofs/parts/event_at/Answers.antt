@@ -16,18 +16,13 @@ use Rattle.dt_world.specs.Worlds.{IsStationOf, placed_seen, stations_seen, world
 use Rattle.dt_world.proofs.Happening.{nothing_happened, occasion_is, result_happened}
 use Rattle.dt_world.proofs.RunTables.{on_both}
 use Rattle.dt_world.proofs.SetupTables.{look_keyed}
-use Rattle.dt_world.proofs.StationTables.{all_at, all_written, look_seen, station_written}
+use Rattle.dt_world.proofs.StationTables.{all_at, all_written, look_seen, not_there, station_written, with_stations}
 use Rattle.dt_world.proofs.parts.event_at.Goals as goal
 
 pub returns-in-None-clause-happens : goal.returns-in-None-clause-happens
 returns-in-None-clause-happens g c =
     let p = c.args.parts.now in
-    let w = world_seen p in
-    let n = c.args.node in
-    let same = ap (λ (m : List (ℕ × PlacedStation)). stations_seen m) (ap (λ m. m.entries) c.get_mut.follows.holds-at-none) in
-    nothing_happened g.L.Lines.tells w n (event_seen c.args.event) c.args.lines.now _
-    (look_seen n p.stations.entries ∙ ap (λ o. option_map placed_seen o) (sym c.in-None.ensures.value))
-    (ap (λ (st : List (ℕ × Placed)). let u : World = record { params = p.rules; now = p.now; stations = st; links = w.links; copies = w.copies; ledgers = w.ledgers } in u) same)
+    nothing_happened g.L.Lines.tells (world_seen p) c.args.node (event_seen c.args.event) c.args.lines.now _ (not_there c.args.node p.stations.entries c.in-None.ensures.value) (ap (with_stations p) (ap (λ m. stations_seen m.entries) c.get_mut.follows.holds-at-none))
 
 pub happen-requires-clause-unspent : goal.happen-requires-clause-unspent
 happen-requires-clause-unspent g c =

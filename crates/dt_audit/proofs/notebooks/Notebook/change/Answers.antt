@@ -3,7 +3,8 @@ use Rattle.indexmap.specs.IndexMap.{insert_entry}
 use Rattle.dt_audit.specs.Books.{Book}
 use Rattle.dt_units.specs.declared.endpoints.Flow.{Flow}
 use Rattle.dt_audit.specs.FlowNotes.{Notes, TakenWithin}
-use Rattle.dt_audit.proofs.Entries.{on_any, taken_absent, taken_found, taken_more, taken_there, absent_changed, absent_flawed, equal_flows, there_changed}
+use Rattle.dt_world_model.proofs.Maps.{equal_flows}
+use Rattle.dt_audit.proofs.Entries.{on_any, taken_absent, taken_found, taken_more, taken_there, absent_changed, absent_flawed, there_changed}
 use Rattle.dt_audit.proofs.notebooks.Notebook.change.Goals as goal
 
 pub returns-in-Some-clause-notes : goal.returns-in-Some-clause-notes

@@ -1,4 +1,4 @@
-use Rattle.std.proofs.Common.{List, ap, subst, sym, Some, ◌≡◌, ◌∙◌}
+use Rattle.std.proofs.Common.{List, ap, sym, Some, ◌≡◌, ◌∙◌}
 use Rattle.dt_reports.specs.Told.{told}
 use Rattle.dt_units.specs.declared.endpoints.Flow.{Flow}
 use Rattle.dt_world_model.specs.Tables.{look, same_flow, write}

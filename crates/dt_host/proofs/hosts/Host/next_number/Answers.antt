@@ -8,21 +8,21 @@ use Rattle.dt_host.specs.Hosts.{HostValue}
 use Rattle.dt_host.proofs.SenderTables.{entry_is, look_is, none_is}
 use Rattle.dt_host.proofs.hosts.Host.next_number.Goals as goal
 
-pub returns-in_err-get : goal.returns-in_err-get
-returns-in_err-get c =
+pub returns-in_err-sender : goal.returns-in_err-sender
+returns-in_err-sender c =
     let h = c.self.inside in
     let f = c.args.flow.now in
-    let none = none_is h.rules f h.senders.entries c.self.invariant.0 (sym c.in_err-get.ensures.value) in
+    let none = none_is h.senders.rules f h.senders.entries c.sender.ensures.entries (sym c.in_err-sender.ensures.value) in
     subst (λ (v : HostValue). c.from_residual.result ≡ option_map (λ (x : SendRecord). number_of v.rules (next_of x)) (sender_at v.state f)) c.self.view_is
-    (c.from_residual.ensures ∙ sym (ap (option_map (λ (x : SendRecord). number_of h.rules (next_of x))) none))
+    (c.from_residual.ensures ∙ sym (ap (option_map (λ (x : SendRecord). number_of h.senders.rules (next_of x))) none))
 
 pub returns : goal.returns
 returns c =
     let h = c.self.inside in
     let f = c.args.flow.now in
-    let s = c.in_ok-get.field-0.now in
-    let found = sym c.in_ok-get.ensures.value in
-    let here = look_is h.rules f h.senders.entries c.self.invariant.0 s found in
-    let entry = entry_is h.rules f h.senders.entries c.self.invariant.0 s found in
+    let s = c.in_ok-sender.field-0.now in
+    let found = sym c.in_ok-sender.ensures.value in
+    let here = look_is h.senders.rules f h.senders.entries c.sender.ensures.entries s found in
+    let entry = entry_is h.senders.rules f h.senders.entries c.sender.ensures.entries s found in
     subst (λ (v : HostValue). Some c.next_number.result ≡ option_map (λ (x : SendRecord). number_of v.rules (next_of x)) (sender_at v.state f)) c.self.view_is
-    (ap (λ (n : ℕ). Some n) (c.next_number.ensures ∙ ap (λ (p : Params). number_of p (next_of s.state)) entry.rules) ∙ sym (ap (option_map (λ (x : SendRecord). number_of h.rules (next_of x))) here))
+    (ap (λ (n : ℕ). Some n) (c.next_number.ensures ∙ ap (λ (p : Params). number_of p (next_of s.state)) entry.rules) ∙ sym (ap (option_map (λ (x : SendRecord). number_of h.senders.rules (next_of x))) here))

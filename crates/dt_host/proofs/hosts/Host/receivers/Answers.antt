@@ -7,4 +7,4 @@ use Rattle.dt_host.proofs.hosts.Host.receivers.Goals as goal
 pub returns : goal.returns
 returns c =
     let h = c.self.inside in
-    subst (λ (v : HostValue). c.len.result ≡ length v.state.receivers) c.self.view_is (c.len.ensures.len ∙ sym (as_many receiver_in h.receivers.entries))
+    subst (λ (v : HostValue). c.count.result ≡ length v.state.receivers) c.self.view_is (c.count.ensures.count ∙ sym (as_many receiver_in h.receivers.entries))

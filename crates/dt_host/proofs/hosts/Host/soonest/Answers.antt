@@ -2,7 +2,8 @@ use Rattle.std.proofs.Common.{refl, ap, subst, ◌∙◌}
 use Rattle.std.specs.Prelude.{Option}
 use Rattle.dt_host.specs.declared.dues.DueAct.{DueAct}
 use Rattle.dt_host.specs.Dues.{IsNext, soonest_recv}
-use Rattle.dt_host.specs.Hosts.{HostValue}
+use Rattle.dt_units.specs.declared.parameters.Params.{Params}
+use Rattle.dt_host.specs.Hosts.{AreReceiveEntries, HostValue}
 use Rattle.dt_host.proofs.HostParts.{host_in}
 use Rattle.dt_host.proofs.Turns.{next_is}
 use Rattle.dt_host.proofs.Walks.{walk_is}
@@ -13,8 +14,9 @@ returns g c =
     let h = c.self.inside in
     let now = c.args.now in
     let host = host_in h.me.0 h.until h.senders.entries h.receivers.entries in
+    let all_r = subst (λ (p : Params). AreReceiveEntries p h.receivers.entries) c.self.invariant.0 c.count-receivers.ensures.entries in
     let found =
-    c.soonest.ensures.found ∙ ap (λ (best : Option DueAct). soonest_recv now best h.receivers.entries) c.soonest-best.ensures.found
-    ∙ walk_is h.rules now host h.senders.entries h.receivers.entries c.self.invariant.0 c.self.invariant.1 refl refl in
+    c.soonest.ensures ∙ ap (λ (best : Option DueAct). soonest_recv now best h.receivers.entries) c.soonest-best.ensures
+    ∙ walk_is h.senders.rules now host h.senders.entries h.receivers.entries c.count-senders.ensures.entries all_r refl refl in
     subst (λ (v : HostValue). IsNext v.rules now v.state c.soonest.result) c.self.view_is
-    (next_is h.rules now host c.soonest-best.ensures.distinct c.soonest.ensures.distinct c.soonest.result found)
+    (next_is h.senders.rules now host c.count-senders.ensures.distinct c.count-receivers.ensures.distinct c.soonest.result found)

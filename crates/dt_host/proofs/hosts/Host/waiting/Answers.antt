@@ -10,7 +10,7 @@ pub returns-in-Some : goal.returns-in-Some
 returns-in-Some c =
     let h = c.self.inside in
     let f = c.args.flow.now in
-    let here = look_is h.rules f h.senders.entries c.self.invariant.0 c.in-Some.sender.now (sym c.in-Some.ensures.value) in
+    let here = look_is h.senders.rules f h.senders.entries c.sender.ensures.entries c.in-Some.sender.now (sym c.in-Some.ensures.value) in
     subst (λ (v : HostValue). c.waiting.result ≡ unwrap_or (option_map (λ (x : SendRecord). length x.waiting) (sender_at v.state f)) 0) c.self.view_is
     (c.waiting.ensures ∙ sym (ap (λ (o : Option SendRecord). unwrap_or (option_map (λ (x : SendRecord). length x.waiting) o) 0) here))
 
@@ -18,6 +18,6 @@ pub returns-in-None : goal.returns-in-None
 returns-in-None c =
     let h = c.self.inside in
     let f = c.args.flow.now in
-    let none = none_is h.rules f h.senders.entries c.self.invariant.0 (sym c.in-None.ensures.value) in
+    let none = none_is h.senders.rules f h.senders.entries c.sender.ensures.entries (sym c.in-None.ensures.value) in
     subst (λ (v : HostValue). 0 ≡ unwrap_or (option_map (λ (x : SendRecord). length x.waiting) (sender_at v.state f)) 0) c.self.view_is
     (sym (ap (λ (o : Option SendRecord). unwrap_or (option_map (λ (x : SendRecord). length x.waiting) o) 0) none))

@@ -1,38 +1,21 @@
-use Rattle.std.proofs.Common.{◌≡◌, ◌++◌, List, false, ap, ◌∙◌}
-use Rattle.std.proofs.lemmas.Result.{on_err_weaker, on_ok_weaker}
+use Rattle.std.proofs.Common.{false, ◌++◌, ◌∙◌}
 use Rattle.dt_items.specs.Unread.{marked}
 use Rattle.dt_flow_model.specs.Ledger.{given_rows}
-use Rattle.dt_units.specs.declared.endpoints.Flow.{Flow}
 use Rattle.dt_world_model.specs.Ledgers.{FlowLedger}
-use Rattle.dt_world_model.specs.Tables.{same_flow, write}
-use Rattle.dt_ledger.specs.Flows.{ledger_in}
-use Rattle.dt_ledger.proofs.Entries.{changed, inserted, ledger_absent, on_some, unchanged}
+use Rattle.dt_ledger.proofs.Entries.{absent_ok, there_err, there_ok}
 use Rattle.dt_ledger.proofs.ledgers.Ledger.give.Goals as goal
 
 pub returns-in-Some-clause-ok : goal.returns-in-Some-clause-ok
 returns-in-Some-clause-ok c =
-    let after = c.rows_mut.follows.lender c.give.new.self in
-    let written = (on_some c.rows_mut.result c.in-Some.rows c.in-Some.is (c.rows_mut.follows.holds c.give.new.self)) in
-    on_ok_weaker c.give.result
-    (λ e. changed (λ (l : FlowLedger). record l { given = l.given ++ given_rows c.args.life c.args.at c.args.run c.args.place (marked c.args.octets.now c.args.begin c.args.end false) }) c.args.flow.now c.args.self.now after c.in-Some.rows.now c.give.new.self c.in-Some.ensures.value e written)
-    c.give.ensures.ok
+    there_ok (λ (l : FlowLedger). record l { given = l.given ++ given_rows c.args.life c.args.at c.args.run c.args.place (marked c.args.octets.now c.args.begin c.args.end false) }) c.args.flow.now c.args.self.now
+    c.give.result c.rows_mut.result c.in-Some.rows c.in-Some.rows.now c.give.new.self _ c.in-Some.is (c.rows_mut.follows.holds c.give.new.self) c.in-Some.ensures.value c.give.ensures.ok
 
 pub returns-in-Some-clause-err : goal.returns-in-Some-clause-err
 returns-in-Some-clause-err c =
-    let after = c.rows_mut.follows.lender c.give.new.self in
-    let written = (on_some c.rows_mut.result c.in-Some.rows c.in-Some.is (c.rows_mut.follows.holds c.give.new.self)) in
-    on_err_weaker c.give.result
-    (λ e. unchanged c.args.flow.now c.args.self.now after c.in-Some.rows.now c.give.new.self c.in-Some.ensures.value e written)
-    c.give.ensures.err
+    there_err (λ (l : FlowLedger). l) c.args.flow.now c.args.self.now
+    c.give.result c.rows_mut.result c.in-Some.rows c.in-Some.rows.now c.give.new.self _ c.in-Some.is (c.rows_mut.follows.holds c.give.new.self) c.in-Some.ensures.value c.give.ensures.err
 
 pub returns-clause-ok : goal.returns-clause-ok
 returns-clause-ok c =
-    let f = c.args.flow.now in
-    let old = c.args.self.now in
-    let change = λ (l : FlowLedger). record l { given = l.given ++ given_rows c.args.life c.args.at c.args.run c.args.place (marked c.args.octets.now c.args.begin c.args.end false) } in
-    let after = c.give-2.new.self in
-    let new : after ≡ change (ledger_in old f) = c.in_ok-give.ensures.ok ∙ ap change (c.new-rows.ensures ∙ ledger_absent f old c.in_default.ensures.value) in
-    c.in_ok-insert.ensures.entries
-    ∙ inserted f after c.self.inside.flows.entries
-    ∙ ap (λ (rows : List (Flow × FlowLedger)). write same_flow f after rows) (c.self.view_is ∙ c.rows_mut.follows.holds-at-none)
-    ∙ ap (λ (l : FlowLedger). write same_flow f l old) new
+    absent_ok (λ (l : FlowLedger). record l { given = l.given ++ given_rows c.args.life c.args.at c.args.run c.args.place (marked c.args.octets.now c.args.begin c.args.end false) }) c.args.flow.now c.args.self.now
+    c.new-rows.result c.give-2.new.self _ _ c.in_default.ensures.value c.new-rows.ensures c.in_ok-give.ensures.ok (c.self.view_is ∙ c.rows_mut.follows.holds-at-none) c.in_ok-insert.ensures.entries

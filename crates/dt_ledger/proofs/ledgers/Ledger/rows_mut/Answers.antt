@@ -1,9 +1,10 @@
-use Rattle.std.proofs.Common.{◌≡◌, sym, ap, refl, subst, ◌∙◌, List}
+use Rattle.std.proofs.Common.{◌≡◌, ap, refl, subst, ◌∙◌, List}
 use Rattle.std.specs.Prelude.{OnSome}
 use Rattle.dt_units.specs.declared.endpoints.Flow.{Flow}
 use Rattle.dt_world_model.specs.Ledgers.{FlowLedger}
 use Rattle.dt_world_model.specs.Tables.{look, same_flow, write}
-use Rattle.dt_ledger.proofs.Entries.{lent, look_found}
+use Rattle.dt_world_model.proofs.Maps.{flow_looked}
+use Rattle.dt_ledger.proofs.Entries.{lent}
 use Rattle.dt_ledger.proofs.ledgers.Ledger.rows_mut.Goals as goal
 
 pub returns : goal.returns
@@ -17,6 +18,6 @@ returns c =
       ),
       record {
         writes_back = tt;
-        value = c.get_mut.ensures.value ∙ sym (look_found f es) ∙ ap (look same_flow f) c.self.view_is;
+        value = c.get_mut.ensures.value ∙ flow_looked f es ∙ ap (look same_flow f) c.self.view_is;
       },
     )

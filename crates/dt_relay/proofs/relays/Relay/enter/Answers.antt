@@ -5,7 +5,7 @@ use Rattle.dt_relay.specs.Carrying.{parcel_seen}
 use Rattle.dt_relay.specs.Places.{link_of}
 use Rattle.dt_relay.proofs.Causes.{enter_cause}
 use Rattle.dt_relay.proofs.Links.{enter_there, enter_nowhere}
-use Rattle.dt_relay.proofs.Lookups.{firsts_set, tells_set}
+use Rattle.dt_relay.proofs.Lookups.{stays_placed}
 use Rattle.dt_relay.proofs.Past.{enter_past, push_link}
 use Rattle.dt_relay.proofs.relays.Relay.enter.Goals as goal
 
@@ -38,14 +38,7 @@ returns-in-Some-place-clause-after g c =
     ) refl
 
 pub invariant_of-self : goal.invariant_of-self
-invariant_of-self g c = record {
-  by_out_link = tells_set link_of c.in-Some-place.i c.self.inside.outs.items c.index_mut-queue.result.now c.enter.new.self c.self.inside.out_places c.index_mut-queue.ensures.value
-      (ap link_of c.enter.ensures.queue ∙ push_link (parcel_seen g.P.Carry.octets g.P.Carry.label c.args.packet) c.args.now c.index_mut-queue.result.now) c.self.invariant.by_out_link;
-  by_in_link = c.self.invariant.by_in_link;
-  by_node = c.self.invariant.by_node;
-  by_place = firsts_set c.in-Some-place.i c.self.inside.outs.items c.index_mut-queue.result.now c.enter.new.self c.self.inside.firsts.items c.index_mut-queue.ensures.value
-      (ap link_of c.enter.ensures.queue ∙ push_link (parcel_seen g.P.Carry.octets g.P.Carry.label c.args.packet) c.args.now c.index_mut-queue.result.now) c.self.invariant.by_place;
-}
+invariant_of-self g c = stays_placed c.in-Some-place.i c.self.inside.outs.items c.index_mut-queue.result.now c.enter.new.self c.index_mut-queue.ensures.value (ap link_of c.enter.ensures.queue ∙ push_link (parcel_seen g.P.Carry.octets g.P.Carry.label c.args.packet) c.args.now c.index_mut-queue.result.now) c.self.invariant
 
 pub returns-in-None-place-clause-cause : goal.returns-in-None-place-clause-cause
 returns-in-None-place-clause-cause g c = returns-in-None-place-clause-answer g c ∙ enter_cause (parcel_seen g.P.Carry.octets g.P.Carry.label c.args.packet) c.args.now c.args.self.now

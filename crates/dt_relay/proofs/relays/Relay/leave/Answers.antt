@@ -2,7 +2,7 @@ use Rattle.std.proofs.Common.{◌≡◌, All, List, ap, refl, subst, sym, None, 
 use Rattle.dt_world_model.specs.Relay.{IsOutUpTo, Out, leave}
 use Rattle.dt_relay.proofs.Links.{on_link_at, on_link_nowhere, past_at}
 use Rattle.dt_relay.specs.Places.{link_of}
-use Rattle.dt_relay.proofs.Lookups.{firsts_set, tells_set}
+use Rattle.dt_relay.proofs.Lookups.{stays_placed}
 use Rattle.dt_relay.proofs.Past.{leave_all_past, leave_link}
 use Rattle.dt_relay.proofs.relays.Relay.leave.Goals as goal
 
@@ -34,11 +34,4 @@ returns-in-Some-clause-past g c =
     subst (λ (outs : List (Out _)). All (IsOutUpTo c.args.now) outs) (sym (ap (λ w. w.outs) (returns-in-Some-clause-after g c))) (leave_all_past c.args.link c.args.now c.args.self.now.outs c.requires.past)
 
 pub invariant_of-self : goal.invariant_of-self
-invariant_of-self g c = record {
-  by_out_link = tells_set link_of c.in-Some.i c.self.inside.outs.items c.index_mut-queue.result.now c.leave.new.self c.self.inside.out_places c.index_mut-queue.ensures.value
-      (ap link_of c.leave.ensures.queue ∙ leave_link c.args.now c.index_mut-queue.result.now) c.self.invariant.by_out_link;
-  by_in_link = c.self.invariant.by_in_link;
-  by_node = c.self.invariant.by_node;
-  by_place = firsts_set c.in-Some.i c.self.inside.outs.items c.index_mut-queue.result.now c.leave.new.self c.self.inside.firsts.items c.index_mut-queue.ensures.value
-      (ap link_of c.leave.ensures.queue ∙ leave_link c.args.now c.index_mut-queue.result.now) c.self.invariant.by_place;
-}
+invariant_of-self g c = stays_placed c.in-Some.i c.self.inside.outs.items c.index_mut-queue.result.now c.leave.new.self c.index_mut-queue.ensures.value (ap link_of c.leave.ensures.queue ∙ leave_link c.args.now c.index_mut-queue.result.now) c.self.invariant

@@ -1,9 +1,7 @@
-use Rattle.std.proofs.Common.{◌≡◌, All, List, ap, sym, subst, refl, ◌∙◌}
-use Rattle.dt_layout.specs.Carried.{life_of}
-use Rattle.dt_world_model.specs.Relay.{IsOutUpTo, Out, Relay, with_outs}
+use Rattle.std.proofs.Common.{◌≡◌, ap, sym, refl, ◌∙◌}
 use Rattle.dt_relay.specs.Passages.{passage_by}
 use Rattle.dt_relay.specs.Places.{link_of}
-use Rattle.dt_relay.proofs.Lookups.{firsts_set, tells_set}
+use Rattle.dt_relay.proofs.Lookups.{stays_placed}
 use Rattle.dt_relay.proofs.Straight.{passed_link, passes_nowhere, passes_past, passes_there, way_nowhere, way_there}
 use Rattle.dt_relay.proofs.relays.Relay.pass.Goals as goal
 
@@ -34,11 +32,4 @@ returns-in-Some-place-clause-past g c =
     rw same (passes_past c.pass.result c.args.now c.in-Some-place.i c.args.self.now.outs c.index_mut-queue.result.now c.pass.new.self c.in-Some-place.ensures.within (rw (← same) c.index_mut-queue.ensures.value) c.pass.ensures.queue c.requires.past)
 
 pub invariant_of-self : goal.invariant_of-self
-invariant_of-self g c =
-    let keeps = ap link_of c.pass.ensures.queue ∙ passed_link c.pass.result c.args.now c.index_mut-queue.result.now in
-    record {
-      by_out_link = tells_set link_of c.in-Some-place.i c.self.inside.outs.items c.index_mut-queue.result.now c.pass.new.self c.self.inside.out_places c.index_mut-queue.ensures.value keeps c.self.invariant.by_out_link;
-      by_in_link = c.self.invariant.by_in_link;
-      by_node = c.self.invariant.by_node;
-      by_place = firsts_set c.in-Some-place.i c.self.inside.outs.items c.index_mut-queue.result.now c.pass.new.self c.self.inside.firsts.items c.index_mut-queue.ensures.value keeps c.self.invariant.by_place;
-    }
+invariant_of-self g c = stays_placed c.in-Some-place.i c.self.inside.outs.items c.index_mut-queue.result.now c.pass.new.self c.index_mut-queue.ensures.value (ap link_of c.pass.ensures.queue ∙ passed_link c.pass.result c.args.now c.index_mut-queue.result.now) c.self.invariant

@@ -9,12 +9,11 @@ use Rattle.dt_world.proofs.worlds.World.step.Goals as goal
 pub invariant_of-self : goal.invariant_of-self
 invariant_of-self g c =
     let unspent = ap (λ (x : WorldValue). x.spent) c.self.view_is ∙ c.requires.unspent in
-    let h = c.in-Ok.ensures in
     let e = event_of c.args.event.now in
     let parts = c.deref_mut.result.now in
     let is = c.deref_mut.ensures.value in
     let begun = ap (λ (p : Parts). first_refusal (refusals (world_seen p) e)) (is ∙ sym c.deref.ensures) ∙ sym c.in_default.ensures in
-    let whole = whole_after parts (subst (λ (p : Parts). IsWhole p) (sym is) (c.self.invariant.1 unspent)) e h.can begun c.happen.new.parts g.L.Lines.tells c.args.lines.now c.happen.new.lines h.happens h.rules h.links h.moment h.stations in
+    let whole = whole_after parts (subst (λ (p : Parts). IsWhole p) (sym is) (c.self.invariant.1 unspent)) e c.in-Ok.ensures.can begun c.happen.new.parts g.L.Lines.tells c.args.lines.now c.happen.new.lines c.in-Ok.ensures.happens c.in-Ok.ensures.rules c.in-Ok.ensures.links c.in-Ok.ensures.moment c.in-Ok.ensures.stations in
     (buf_kept c.happen.new.buf c.self.inside.buf.items c.self.inside.buf.len (search rules) (search rules) c.self.invariant.0, λ u. whole, safe_now c.happen.new.parts whole)
 
 pub returns-in-Ok : goal.returns-in-Ok

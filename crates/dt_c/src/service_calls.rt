@@ -1,0 +1,335 @@
+//! The calls, on what a handle of a service holds.
+ghost use Rattle.std.specs.Prelude.{◌≡◌, ◌≤◌, IfOk, length};
+ghost use Rattle.std.specs.Option.{ForSome};
+ghost use Rattle.dt_service_model.specs.Carrying.{carried_by};
+ghost use Rattle.dt_service_model.specs.Ends.{next};
+ghost use Rattle.dt_c.specs.Serving.{CallCounting, Calling, Forgetting, GetsKind, HandsFrame, NextEvent, Porting, Raises, Raising, Replying, ServiceAddingRoute, ServiceArriving, ServiceCounting, ServiceGuarding, ServiceKeptOut, ServiceNextFrame, ServiceOpening, ServiceOpens, ServiceTicking, ServiceWaking, Stopping, TakesEvent, empty_service, service_started};
+ghost use Rattle.dt_c.specs.ServiceRows.{kind_of};
+
+use crate::calls::{ins_of, outs_of, routes_of};
+use crate::rows::{
+    CLOSED, CameRow, CountsRow, DONE, FlowRow, HELD, KEPT_OUT, KeptOutRow, LinkRow, MomentRow,
+    NO_MEMORY, NOTHING, Opened, OpenedRow, OutRow, ParamsRow, REFUSED, ROOM, RouteRow, came_as,
+    came_row, counts_row, kept_out_row, moment_row, no_counts_row, no_frame, opened_row,
+    routed_status, ticked_status,
+};
+use crate::service_rows::{
+    CallCountsRow, EventRow, MadeRow, RepliedRow, ServiceStartRow, TokenRow, call_counts_row,
+    event_row, event_without_room, forgot_status, kind_of, made_as, made_row, no_call_counts,
+    no_event, replied_as, replied_row,
+};
+use crate::service_slots::ServiceSlot;
+use dt_endpoint::{Admission, Guard, Links};
+use dt_items::NoMemory;
+use dt_service::Service;
+use dt_service_halves::carried;
+use dt_service_model::Kind;
+use dt_units::Rules;
+use std::alloc::Global;
+
+pub fn empty_service_slot() -> ServiceSlot
+    ensures { result ≡ empty_service }
+{
+    ServiceSlot {
+        service: None,
+        guard: Guard::new(),
+    }
+}
+
+pub fn close_service_in(slot: &mut ServiceSlot)
+    ensures { slot.new ≡ empty_service }
+{
+    *slot = empty_service_slot();
+}
+
+fn new_service(
+    alloc: Global,
+    rules: &Rules,
+    start: &ServiceStartRow,
+    links: &[LinkRow],
+    routes: &[RouteRow],
+) -> Result<Service, NoMemory>
+    ensures { IfOk result (λ s. s ≡ service_started rules.now start.now links.now routes.now) }
+{
+    let outs = outs_of(alloc, links)?;
+    let ins = ins_of(alloc, links)?;
+    let routes = routes_of(alloc, routes)?;
+    let links = Links {
+        outs: &outs,
+        ins: &ins,
+        routes: &routes,
+    };
+    Service::open(alloc, rules, &start.start(), &links)
+}
+
+fn opens_service(
+    slot: &mut ServiceSlot,
+    alloc: Global,
+    params: &ParamsRow,
+    start: &ServiceStartRow,
+    links: &[LinkRow],
+    routes: &[RouteRow],
+) -> Opened
+    ensures { ServiceOpens result params.now start.now links.now routes.now slot.old slot.new }
+{
+    if slot.service.is_some() {
+        return Opened::Held;
+    }
+    let rules = match params.params().check() {
+        Ok(rules) => rules,
+        Err(fault) => return Opened::Refused { fault },
+    };
+    match new_service(alloc, &rules, start, links, routes) {
+        Ok(service) => {
+            slot.service = Some(service);
+            Opened::Done
+        }
+        Err(NoMemory) => Opened::NoMemory,
+    }
+}
+
+pub fn open_service_in(
+    slot: &mut ServiceSlot,
+    alloc: Global,
+    params: &ParamsRow,
+    start: &ServiceStartRow,
+    links: &[LinkRow],
+    routes: &[RouteRow],
+) -> OpenedRow
+    ensures { ServiceOpening result params.now start.now links.now routes.now slot.old slot.new }
+{
+    opened_row(opens_service(slot, alloc, params, start, links, routes))
+}
+
+fn give_kind(service: &mut Service, port: u16, kind: Option<Kind>) -> u8
+    ensures { GetsKind result port kind service.old service.new }
+{
+    let Some(kind) = kind else {
+        return REFUSED;
+    };
+    match service.port(port, kind) {
+        Ok(true) => DONE,
+        Ok(false) => HELD,
+        Err(NoMemory) => NO_MEMORY,
+    }
+}
+
+pub fn port_in(slot: &mut ServiceSlot, port: u16, kind: u8) -> u8
+    ensures { Porting result port kind slot.old slot.new }
+{
+    match &mut slot.service {
+        Some(service) => give_kind(service, port, kind_of(kind)),
+        None => CLOSED,
+    }
+}
+
+pub fn call_in(
+    slot: &mut ServiceSlot,
+    now: u64,
+    flow: &FlowRow,
+    payload: &[u8],
+    patience: u32,
+) -> MadeRow
+    ensures { Calling result now flow.now payload.now patience slot.old slot.new }
+{
+    match &mut slot.service {
+        Some(service) => made_row(service.call(now, flow.flow(), payload, patience)),
+        None => made_as(CLOSED),
+    }
+}
+
+pub fn reply_in(slot: &mut ServiceSlot, now: u64, token: &TokenRow, payload: &[u8]) -> RepliedRow
+    ensures { Replying result now token.now payload.now slot.old slot.new }
+{
+    match &mut slot.service {
+        Some(service) => replied_row(service.reply(now, token.token(), payload)),
+        None => replied_as(CLOSED),
+    }
+}
+
+pub fn forget_in(slot: &mut ServiceSlot, now: u64, token: &TokenRow) -> u8
+    ensures { Forgetting result now token.now slot.old slot.new }
+{
+    match &mut slot.service {
+        Some(service) => forgot_status(service.forget(now, &token.token())),
+        None => CLOSED,
+    }
+}
+
+pub fn tick_service_in(slot: &mut ServiceSlot, now: u64) -> u8
+    ensures { ServiceTicking result now slot.old slot.new }
+{
+    match &mut slot.service {
+        Some(service) => ticked_status(service.tick(now)),
+        None => CLOSED,
+    }
+}
+
+pub fn arrive_service_in(
+    slot: &mut ServiceSlot,
+    now: u64,
+    link: u16,
+    datagram: &[u8],
+    waited: u32,
+) -> CameRow
+    ensures { ServiceArriving result now link datagram.now waited slot.old slot.new }
+{
+    let Some(service) = &mut slot.service else {
+        return came_as(CLOSED);
+    };
+    match slot.guard.admits(service.endpoint(), datagram) {
+        Admission::Admitted => came_row(service.arrive(now, link, datagram, waited)),
+        Admission::ClosedPort | Admission::TooManyFlows => came_as(KEPT_OUT),
+    }
+}
+
+/// The next of what happened goes out. The buffer has room for what it carries.
+fn hand_event(service: &mut Service, buf: &mut [u8]) -> EventRow
+    requires { ForSome (next service.old.halves).0 (λ happening. length (carried_by happening) ≤ length buf.old) }
+    ensures { TakesEvent result buf.old buf.new service.old service.new }
+{
+    let Some(happening) = service.next() else {
+        return no_event(NOTHING);
+    };
+    let octets = carried(&happening);
+    buf[..octets.len()].copy_from_slice(octets);
+    event_row(&happening)
+}
+
+/// The next of what happened goes out, where the buffer has room for what it carries.
+fn take_event(service: &mut Service, buf: &mut [u8]) -> EventRow
+    ensures { TakesEvent result buf.old buf.new service.old service.new }
+{
+    match service.next_size() {
+        Some(len) if len > buf.len() => event_without_room(len),
+        _ => hand_event(service, buf),
+    }
+}
+
+pub fn next_event_in(slot: &mut ServiceSlot, buf: &mut [u8]) -> EventRow
+    ensures { NextEvent result buf.old buf.new slot.old slot.new }
+{
+    match &mut slot.service {
+        Some(service) => take_event(service, buf),
+        None => no_event(CLOSED),
+    }
+}
+
+fn raise_life(service: &mut Service, life: u32) -> u8
+    ensures { Raises result life service.old service.new }
+{
+    if service.raise(life) { DONE } else { HELD }
+}
+
+pub fn raise_in(slot: &mut ServiceSlot, life: u32) -> u8
+    ensures { Raising result life slot.old slot.new }
+{
+    match &mut slot.service {
+        Some(service) => raise_life(service, life),
+        None => CLOSED,
+    }
+}
+
+pub fn stop_in(slot: &mut ServiceSlot) -> u8
+    ensures { Stopping result slot.old slot.new }
+{
+    match &mut slot.service {
+        Some(service) => {
+            service.close();
+            DONE
+        }
+        None => CLOSED,
+    }
+}
+
+/// The first frame that waits goes out, where the buffer has room for it.
+fn hand_frame(service: &mut Service, buf: &mut [u8]) -> OutRow
+    ensures { HandsFrame result buf.old buf.new service.old service.new }
+{
+    let Some(frame) = service.endpoint().first_frame() else {
+        return no_frame(NOTHING);
+    };
+    let octets = frame.octets();
+    let mut row = OutRow {
+        len: octets.len(),
+        to: frame.to(),
+        link: frame.link(),
+        status: ROOM,
+    };
+    if row.len <= buf.len() {
+        buf[..row.len].copy_from_slice(octets);
+        row.status = DONE;
+        let _ = service.next_frame();
+    }
+    row
+}
+
+pub fn next_service_frame_in(slot: &mut ServiceSlot, buf: &mut [u8]) -> OutRow
+    ensures { ServiceNextFrame result buf.old buf.new slot.old slot.new }
+{
+    match &mut slot.service {
+        Some(service) => hand_frame(service, buf),
+        None => no_frame(CLOSED),
+    }
+}
+
+pub fn wake_service_in(slot: &mut ServiceSlot) -> MomentRow
+    ensures { ServiceWaking result slot.old slot.new }
+{
+    match &slot.service {
+        Some(service) => moment_row(service.wake()),
+        None => moment_row(None),
+    }
+}
+
+pub fn add_service_route_in(slot: &mut ServiceSlot, route: &RouteRow) -> u8
+    ensures { ServiceAddingRoute result route.now slot.old slot.new }
+{
+    match &mut slot.service {
+        Some(service) => routed_status(service.add_route(route.route())),
+        None => CLOSED,
+    }
+}
+
+pub fn guard_service_in(
+    slot: &mut ServiceSlot,
+    alloc: Global,
+    ports: &[u16],
+    all: bool,
+    most: u32,
+) -> u8
+    ensures { ServiceGuarding result ports.now all most slot.old slot.new }
+{
+    if slot.service.is_none() {
+        return CLOSED;
+    }
+    let ports = if all { None } else { Some(ports) };
+    match slot.guard.limit(alloc, ports, most) {
+        Ok(()) => DONE,
+        Err(NoMemory) => NO_MEMORY,
+    }
+}
+
+pub fn service_kept_out_in(slot: &mut ServiceSlot) -> KeptOutRow
+    ensures { ServiceKeptOut result slot.old slot.new }
+{
+    kept_out_row(&slot.guard)
+}
+
+pub fn service_counts_in(slot: &mut ServiceSlot) -> CountsRow
+    ensures { ServiceCounting result slot.old slot.new }
+{
+    match &slot.service {
+        Some(service) => counts_row(service.endpoint().counts()),
+        None => no_counts_row(CLOSED),
+    }
+}
+
+pub fn call_counts_in(slot: &mut ServiceSlot) -> CallCountsRow
+    ensures { CallCounting result slot.old slot.new }
+{
+    match &slot.service {
+        Some(service) => call_counts_row(service.counts()),
+        None => no_call_counts(),
+    }
+}

@@ -1,0 +1,17 @@
+use dt_endpoint::Guard;
+use dt_service::Service;
+
+/// What a handle of a service holds: a service, or none.
+#[derive(Drop)]
+pub struct ServiceSlot {
+    pub service: Option<Service>,
+    /// What stands before the service.
+    pub guard: Guard,
+}
+
+/// The memory of a handle of a service, as C sees it.
+#[repr(C)]
+#[derive(Drop)]
+pub struct ServiceHandle {
+    opaque: u8,
+}

@@ -1,0 +1,4 @@
+pub mod CallTurns
+pub mod CallFolds
+pub mod CallEnds
+pub mod CallClosing

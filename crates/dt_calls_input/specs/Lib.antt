@@ -1,0 +1,4 @@
+pub mod CallTexts
+pub mod CallInputs
+pub mod CallAnswers
+pub mod CallEnds

@@ -1,0 +1,26 @@
+-- What a turn of the code plays, and how it ends before a log.
+use Rattle.std.specs.Prelude.{Bool, true, false, Option, Result, Ok, Err}
+use Rattle.dt_items.specs.declared.memory.NoMemory.{NoMemory}
+use Rattle.dt_fold.specs.declared.stops.Stop.{Stop}
+use Rattle.dt_fold.specs.declared.stops.Stop.TheVariants as stops
+use Rattle.dt_world_model.specs.Script.{Script}
+use Rattle.dt_script.specs.Codes.{orders_seen}
+use Rattle.dt_turn.specs.declared.nodes.Node.{Node}
+use Rattle.dt_turn.specs.Codes.{arrived, node_seen}
+use Rattle.dt_turn.specs.Codes as codes
+use Rattle.dt_turn.specs.Nodes as model
+use Rattle.dt_turn.specs.Turns.{turn}
+use Rattle.dt_node.specs.declared.running.Turn.{Turn}
+
+abbrev pub turn_script : Turn → Node → Script (Unit {0}) (Option model.Node)
+turn_script t node = turn (orders_seen t.orders.now) t.moment (arrived t.came) (node_seen t.orders.now node)
+
+-- A turn before a log that couldn't write a line ends by that, and any other by its own answer.
+abbrev pub ended_by : Bool → Result Bool NoMemory → Result Bool Stop
+ended_by true done = Err stops.WriteFault
+ended_by false (Ok stopped) = Ok stopped
+ended_by false (Err fault) = Err stops.NoMemory
+
+-- what it answers: nothing where it met the stop
+abbrev pub turned : Result Bool Stop → model.Node → Option model.Node
+turned result node = codes.turned {E = Stop} result node

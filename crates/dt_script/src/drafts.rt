@@ -1,0 +1,415 @@
+//! A script, read line by line.
+ghost use Rattle.std.specs.Prelude.{◌≡◌, ◌++◌, ◌∷◌, [], Ok, IfOk, IsTrue, option_map};
+ghost use Rattle.dt_units.specs.Limits.{first_out_of_range};
+ghost use Rattle.dt_text.specs.Hexadecimal.{are_pairs, octets_of_hex};
+ghost use Rattle.dt_text.specs.Said.{At, Script, said, user_said};
+ghost use Rattle.dt_text.specs.Spelling.{IsLine};
+ghost use Rattle.dt_text.specs.declared.lines.Form.TheVariants.{Script as OfScript};
+ghost use Rattle.dt_script.specs.Codes.{LeadsTo, draft_seen, orders_seen, setup_seen, task_seen};
+ghost use Rattle.dt_script.specs.Orders.{Sends};
+ghost use Rattle.dt_script.specs.Drafts.{Collects, Complete, Empty, by_command, by_local, by_me, by_node, by_params, by_peer, by_route, by_shelf, by_user, done_by, has_link, has_route, in_commands, in_setup, orders_in, route_fault, stage_of, to_draft};
+
+use crate::orders::{Command, NodeSetup, Orders, Task};
+use dt_edges::{Address, Peer, Sink};
+use dt_fold::{LineTurns, Stop};
+use dt_items::NoMemory;
+use dt_reports::{Fault, LineFault, SetupFault, StepFault};
+use dt_text::{Form, Line, NodeLine, ScriptLine, Stage, UserLine, decode_hex, follows, read_line};
+use dt_units::{Flow, NodeId, Params, Rules};
+use dt_world_model::{InLink, OutLink, Route};
+use std::alloc::Global;
+use std::marker::Model;
+use std::mem;
+
+/// A line that isn't allowed where it stands.
+const MISPLACED: Fault = Fault::Line(LineFault::Order);
+
+/// What the lines so far have led to.
+#[derive(Drop)]
+pub enum Part {
+    Nothing,
+    /// The parameters were read.
+    Ruled(Rules),
+    /// The node's number was read.
+    Named {
+        rules: Rules,
+        me: NodeId,
+        again: bool,
+    },
+    /// Its address was read, and peers and routes are added.
+    Preparing(NodeSetup),
+    /// Commands are added, of which the last has this moment.
+    Collecting {
+        setup: NodeSetup,
+        commands: Vec<Command>,
+        last: u32,
+    },
+    /// The stop was read.
+    Complete(Orders),
+}
+
+/// A script that is read line by line. A contract sees the draft that its lines have led to.
+#[derive(Drop)]
+pub struct Draft {
+    alloc: Global,
+    part: Part,
+}
+
+impl Model for Draft {
+    ghost use Rattle.dt_script.specs.Codes.{draft_seen};
+    ghost use Rattle.dt_script.specs.Drafts as model;
+
+    ghost Value = { model.Draft };
+
+    ghost view = { λ d. draft_seen d.part };
+}
+
+impl Draft {
+    /// Nothing was read yet. What its lines take is taken of `alloc`.
+    pub fn new(alloc: Global) -> Draft
+        ensures { result ≡ Empty }
+    {
+        Draft {
+            alloc,
+            part: Part::Nothing,
+        }
+    }
+
+    /// The orders of a script that was read whole, or none where its stop is missing.
+    pub fn into_orders(self) -> Option<Orders>
+        ensures { option_map orders_seen result ≡ orders_in self }
+    {
+        let Draft { part, .. } = self;
+        match part {
+            Part::Complete(orders) => Some(orders),
+            _ => None,
+        }
+    }
+
+    /// Does what a line says that is allowed here.
+    fn does(&mut self, line: &Line<'_>) -> Result<Option<Fault>, NoMemory>
+        requires in_form { IsLine OfScript (said line.now) }
+        ensures { LeadsTo (done_by self.old (said line.now)) result self.old self.new }
+    {
+        let part = &mut self.part;
+        match line {
+            Line::Blank => Ok(None),
+            Line::Params(params) => Ok(add_params(part, params)),
+            Line::Go => Ok(begin(part, self.alloc)),
+            Line::Script(ScriptLine::Node(line)) => add_node(part, *line, self.alloc),
+            Line::Script(ScriptLine::At { at, does }) => add_use(part, *at, does, self.alloc),
+            Line::Script(ScriptLine::Stop { at }) => Ok(stop(part, *at)),
+            Line::Setup(_) | Line::Run(_) => Ok(Some(MISPLACED)),
+        }
+    }
+}
+
+impl LineTurns for Draft {
+    ghost use Rattle.dt_script.specs.Drafts as model;
+
+    ghost State = { model.Draft };
+
+    ghost state = { λ d. d };
+
+    ghost turns = { model.script_turns };
+
+    fn turn<K: Sink>(&mut self, line: &[u8], _out: &mut K) -> Result<Option<Fault>, Stop> {
+        let said = match read_line(Form::Script, line) {
+            Ok(said) => said,
+            Err(fault) => return Ok(Some(Fault::Line(fault))),
+        };
+        match follows(Form::Script, self.part.stage(), &said) {
+            Some(_) => Ok(self.does(&said)?),
+            None => Ok(Some(MISPLACED)),
+        }
+    }
+
+    fn close<K: Sink>(&self, _out: &mut K) -> Result<Option<Fault>, Stop> {
+        match &self.part {
+            Part::Complete(_) => Ok(None),
+            _ => Ok(Some(MISPLACED)),
+        }
+    }
+}
+
+impl Part {
+    fn stage(&self) -> Stage
+        ensures { result ≡ stage_of (draft_seen self.now) }
+    {
+        match self {
+            Part::Nothing => Stage::Start,
+            Part::Ruled(_) => Stage::Params,
+            Part::Named { .. } => Stage::Me,
+            Part::Preparing(_) => Stage::Setup,
+            Part::Collecting { last, .. } => Stage::Run { last: *last },
+            Part::Complete(_) => Stage::Ended,
+        }
+    }
+}
+
+/// The node is set up by a line.
+fn add_node(part: &mut Part, line: NodeLine, alloc: Global) -> Result<Option<Fault>, NoMemory>
+    ensures { LeadsTo (by_node (draft_seen part.old) line) result (draft_seen part.old) (draft_seen part.new) }
+{
+    match line {
+        NodeLine::Me { n, again } => Ok(add_me(part, NodeId(n), again)),
+        NodeLine::Local(address) => Ok(add_local(part, address, alloc)),
+        NodeLine::Peer {
+            link,
+            address,
+            charge,
+            pace,
+        } => add_peer(part, Peer { link, address }, charge, pace),
+        NodeLine::Route { to, link } => add_route(part, Route { to, link }),
+        NodeLine::Shelf { room } => Ok(add_shelf(part, room)),
+    }
+}
+
+/// What the user of the node does at a moment, in ms.
+fn add_use(
+    part: &mut Part,
+    at: u32,
+    does: &UserLine<'_>,
+    alloc: Global,
+) -> Result<Option<Fault>, NoMemory>
+    requires { IsLine OfScript (Script (At at (user_said does.now))) }
+    ensures { LeadsTo (by_user (draft_seen part.old) at (user_said does.now)) result (draft_seen part.old) (draft_seen part.new) }
+{
+    match *does {
+        UserLine::Send {
+            flow,
+            begin,
+            end,
+            hex,
+        } => {
+            let task = send_task(alloc, flow, begin, end, hex)?;
+            add_command(part, at, flow.from, flow.to, task)
+        }
+        UserLine::Read { flow, max } => {
+            add_command(part, at, flow.to, flow.from, Task::Read { flow, max })
+        }
+    }
+}
+
+/// The parameters are checked.
+fn add_params(part: &mut Part, params: &Params) -> Option<Fault>
+    ensures { LeadsTo (by_params params.now (first_out_of_range params.now)) (Ok result) (draft_seen part.old) (draft_seen part.new) }
+{
+    match params.check() {
+        Ok(rules) => {
+            *part = Part::Ruled(rules);
+            None
+        }
+        Err(fault) => Some(Fault::Param(fault)),
+    }
+}
+
+fn add_me(part: &mut Part, me: NodeId, again: bool) -> Option<Fault>
+    ensures { LeadsTo (by_me (draft_seen part.old) me.0 again) (Ok result) (draft_seen part.old) (draft_seen part.new) }
+{
+    match part {
+        Part::Ruled(rules) => {
+            let rules = *rules;
+            *part = Part::Named { rules, me, again };
+            None
+        }
+        _ => Some(MISPLACED),
+    }
+}
+
+fn add_local(part: &mut Part, local: Address, alloc: Global) -> Option<Fault>
+    ensures { LeadsTo (by_local (draft_seen part.old) local) (Ok result) (draft_seen part.old) (draft_seen part.new) }
+{
+    match part {
+        Part::Named { rules, me, again } => {
+            let setup = NodeSetup {
+                rules: *rules,
+                me: *me,
+                again: *again,
+                local,
+                peers: Vec::new(alloc),
+                outs: Vec::new(alloc),
+                ins: Vec::new(alloc),
+                routes: Vec::new(alloc),
+                shelf: None,
+            };
+            *part = Part::Preparing(setup);
+            None
+        }
+        _ => Some(MISPLACED),
+    }
+}
+
+/// A peer is a link of its number in both directions. `charge` and `pace` are in ms.
+fn add_peer(part: &mut Part, peer: Peer, charge: u32, pace: u32) -> Result<Option<Fault>, NoMemory>
+    ensures { LeadsTo (in_setup (draft_seen part.old) (by_peer peer.link peer.address charge pace)) result (draft_seen part.old) (draft_seen part.new) }
+{
+    match part {
+        Part::Preparing(setup) => {
+            let link = peer.link;
+            if has_link(link, &setup.ins) {
+                let n = u32::from(link);
+                return Ok(Some(Fault::Setup(SetupFault::Twice { n })));
+            }
+            setup.peers.push(peer)?;
+            setup.outs.push(OutLink { link, pace })?;
+            setup.ins.push(InLink { link, charge })?;
+            Ok(None)
+        }
+        _ => Ok(Some(MISPLACED)),
+    }
+}
+
+fn add_route(part: &mut Part, route: Route) -> Result<Option<Fault>, NoMemory>
+    ensures { LeadsTo (in_setup (draft_seen part.old) (by_route route.to route.link)) result (draft_seen part.old) (draft_seen part.new) }
+{
+    match part {
+        Part::Preparing(setup) => {
+            if let Some(fault) = route_fault(setup, route) {
+                return Ok(Some(Fault::Setup(fault)));
+            }
+            setup.routes.push(route)?;
+            Ok(None)
+        }
+        _ => Ok(Some(MISPLACED)),
+    }
+}
+
+/// A shelf for so many packets. There is one at most.
+fn add_shelf(part: &mut Part, room: u32) -> Option<Fault>
+    ensures { LeadsTo (in_setup (draft_seen part.old) (by_shelf room)) (Ok result) (draft_seen part.old) (draft_seen part.new) }
+{
+    match part {
+        Part::Preparing(setup) => match setup.shelf {
+            Some(_) => Some(Fault::Setup(SetupFault::Twice { n: room })),
+            None => {
+                setup.shelf = Some(room);
+                None
+            }
+        },
+        _ => Some(MISPLACED),
+    }
+}
+
+/// The setup ends, and commands come.
+fn begin(part: &mut Part, alloc: Global) -> Option<Fault>
+    ensures { LeadsTo (in_setup (draft_seen part.old) (λ s. to_draft (Collects s [] 0))) (Ok result) (draft_seen part.old) (draft_seen part.new) }
+{
+    match mem::replace(part, Part::Nothing) {
+        Part::Preparing(setup) => {
+            *part = Part::Collecting {
+                setup,
+                commands: Vec::new(alloc),
+                last: 0,
+            };
+            None
+        }
+        other => {
+            *part = other;
+            Some(MISPLACED)
+        }
+    }
+}
+
+/// To send the octets that the pairs of hexadecimal digits spell.
+fn send_task(
+    alloc: Global,
+    flow: Flow,
+    begin: bool,
+    end: bool,
+    hex: &[u8],
+) -> Result<Task, NoMemory>
+    requires { IsTrue (are_pairs hex.now) }
+    ensures { IfOk result (λ task. task_seen task ≡ Sends flow begin end (octets_of_hex hex.now)) }
+{
+    let mut octets = Vec::new(alloc);
+    decode_hex(hex, &mut octets)?;
+    Ok(Task::Send {
+        flow,
+        begin,
+        end,
+        octets,
+    })
+}
+
+/// A command from a moment on, in ms. Its flow begins or ends here, and the other end is there.
+fn add_command(
+    part: &mut Part,
+    at: u32,
+    here: NodeId,
+    there: NodeId,
+    task: Task,
+) -> Result<Option<Fault>, NoMemory>
+    ensures { LeadsTo (in_commands (draft_seen part.old) (by_command at here.0 there.0 (task_seen task))) result (draft_seen part.old) (draft_seen part.new) }
+{
+    match part {
+        Part::Collecting {
+            setup,
+            commands,
+            last,
+        } => {
+            if here != setup.me || there == setup.me {
+                return Ok(Some(Fault::Step(StepFault::BadFlow)));
+            }
+            commands.push(Command { at, task })?;
+            *last = at;
+            Ok(None)
+        }
+        _ => Ok(Some(MISPLACED)),
+    }
+}
+
+/// The stop comes last.
+fn stop(part: &mut Part, at: u32) -> Option<Fault>
+    ensures { LeadsTo (in_commands (draft_seen part.old) (λ s cs. to_draft (Complete (record { setup = s; commands = cs; stop = at })))) (Ok result) (draft_seen part.old) (draft_seen part.new) }
+{
+    match mem::replace(part, Part::Nothing) {
+        Part::Collecting {
+            setup,
+            commands,
+            ..
+        } => {
+            *part = Part::Complete(Orders {
+                setup,
+                commands,
+                stop: at,
+            });
+            None
+        }
+        other => {
+            *part = other;
+            Some(MISPLACED)
+        }
+    }
+}
+
+/// Whether a link of this number stands.
+pub fn has_link(link: u16, ins: &[InLink]) -> bool
+    ensures { result ≡ has_link link ins.now }
+{
+    ins.iter().any(|i| i.link == link)
+}
+
+/// Whether a route to the node stands.
+fn has_route(to: u32, routes: &[Route]) -> bool
+    ensures { result ≡ has_route to routes.now }
+{
+    routes.iter().any(|r| r.to == to)
+}
+
+/// Why a route is refused.
+fn route_fault(setup: &NodeSetup, route: Route) -> Option<SetupFault>
+    ensures { result ≡ route_fault route.to route.link (setup_seen setup.now) }
+{
+    let n = u32::from(route.link);
+    if has_route(route.to, &setup.routes) {
+        return Some(SetupFault::Twice { n: route.to });
+    }
+    if route.to == setup.me.0 {
+        return Some(SetupFault::Stray { n });
+    }
+    if !has_link(route.link, &setup.ins) {
+        return Some(SetupFault::Unknown { n });
+    }
+    None
+}

@@ -1,0 +1,301 @@
+-- What an endpoint's call did, by its answer.
+use Rattle.std.proofs.Common.{ℕ, ◌≡◌, ◌≤◌, Bool, true, false, List, [], ◌∷◌, length, take, Option, Some, None, refl, ap, sym, subst, ◌∙◌, arith}
+use Rattle.std.specs.Prelude.{cond, nat_le}
+use Rattle.std.proofs.lemmas.List.{length-take}
+use Rattle.dt_items.specs.declared.item.Item.{Item}
+use Rattle.dt_items.specs.declared.piece.Piece.{Piece as ItemPiece}
+use Rattle.dt_items.specs.Unread.{octets_of, piece_told}
+use Rattle.dt_units.specs.declared.endpoints.Flow.{Flow}
+use Rattle.dt_layout.specs.declared.faults.LayoutFault.{LayoutFault}
+use Rattle.dt_layout.specs.Carried.{life_of}
+use Rattle.dt_layout.specs.Reading.{gram_fault}
+use Rattle.dt_reports.specs.declared.faults.Refusal.{Refusal}
+use Rattle.dt_reports.specs.declared.faults.Refusal.TheVariants as refusal
+use Rattle.dt_world_model.specs.Station.{Event, Read, Send, Tick}
+use Rattle.dt_world_model.specs.WorldStep.{first_refusal}
+use Rattle.dt_calls_model.specs.Messages.{Piece as MessagePiece}
+use Rattle.dt_messages.specs.declared.joiners.Marks.{Marks}
+use Rattle.dt_endpoint.specs.declared.answers.Arrived.{Arrived}
+use Rattle.dt_endpoint.specs.declared.answers.Arrived.TheVariants as arrived
+use Rattle.dt_endpoint.specs.declared.answers.Piece.{Piece}
+use Rattle.dt_endpoint.specs.declared.answers.Piece.TheVariants as piece
+use Rattle.dt_endpoint.specs.declared.answers.Sent.{Sent}
+use Rattle.dt_endpoint.specs.declared.answers.Sent.TheVariants as sent
+use Rattle.dt_endpoint.specs.declared.answers.Ticked.{Ticked}
+use Rattle.dt_endpoint.specs.declared.answers.Ticked.TheVariants as ticked
+use Rattle.dt_endpoint.specs.Calls.{ArriveDoes, Arrives, ReadDoes, Reads, SendDoes, Sends, TickDoes, Ticks, Unless, arrive_event, arrive_fault, arrive_refusal, has_link, piece_of, read_answer, read_refusals, send_answer, send_refusals, sent_of, tick_refusals}
+use Rattle.dt_endpoint.specs.Endpoints.{EndpointValue, after_event, with_refused}
+use Rattle.dt_service_model.specs.Turns.{piece_at, piece_with}
+use Rattle.dt_service.specs.Nodes.{EndpointGoesOn, piece_found}
+use Rattle.dt_service.proofs.Going.{break_goes, endpoint_same, event_goes}
+
+-- WHAT IS REFUSED answers as one of its tests says
+abbrev Never : {A : Type 0} → (A → Type 0) → List (Bool × A) → Type 0
+Never P [] = Unit {0}
+Never P (test ∷ tests) = (P test.1 → ⊥) × Never P tests
+
+never_if : {A : Type 0} (P : A → Type 0) (b : Bool) (a r : A) (o : Option A) → (P a → ⊥) → (o ≡ Some r → P r → ⊥) → cond b (Some a) o ≡ Some r → P r → ⊥
+never_if P true a r o not rest is so = not (subst P (sym (some_is is)) so)
+  where
+    some_is : {B : Type 0} {x y : B} → Some x ≡ Some y → x ≡ y
+    some_is h = cc
+never_if P false a r o not rest is so = rest is so
+
+never_first : {A : Type 0} (P : A → Type 0) (tests : List (Bool × A)) (r : A) → Never P tests → first_refusal tests ≡ Some r → P r → ⊥
+never_first P [] r never is so = cc
+never_first P (test ∷ tests) r never is so = never_if P test.0 test.1 r (first_refusal tests) never.0 (never_first P tests r never.1) is so
+
+done_unless : {A : Type 0} (P : A → Type 0) (o : Option A) (answer : A) (e f : EndpointValue) (Done : Type 0) → ((r : A) → o ≡ Some r → P r → ⊥) → P answer → Unless o answer e f Done → Done
+done_unless P None answer e f Done never so h = h
+done_unless P (Some r) answer e f Done never so h = absurd (never r refl (subst P h.0 so))
+
+goes_unless : {A : Type 0} (o : Option A) (answer : A) (base e f : EndpointValue) (Done : Type 0) → EndpointGoesOn e base → (Done → EndpointGoesOn e f) → Unless o answer base f Done → EndpointGoesOn e f
+goes_unless (Some r) answer base e f Done first done h = subst (λ (g : EndpointValue). EndpointGoesOn e g) (sym h.1) first
+goes_unless None answer base e f Done first done h = done h
+
+-- A SEND
+abbrev IsSent : Sent → Type 0
+IsSent sent.Done = Unit {0}
+IsSent (sent.Quiet until) = Unit {0}
+IsSent (sent.Full free) = Unit {0}
+IsSent sent.NoMemory = ⊥
+IsSent sent.Spent = ⊥
+IsSent sent.BadFlow = ⊥
+IsSent sent.Empty = ⊥
+IsSent sent.TooMany = ⊥
+
+send_goes : (answer : Sent) (now : ℕ) (refused : Option Refusal) (event : Event (Unit {0})) (e f : EndpointValue) → SendDoes answer now refused event e f → EndpointGoesOn e f
+send_goes sent.NoMemory now refused event e f h = break_goes now event e f h
+send_goes sent.Done now refused event e f h = event_goes now event e f h.1
+send_goes (sent.Quiet until) now refused event e f h = event_goes now event e f h.1
+send_goes (sent.Full free) now refused event e f h = event_goes now event e f h.1
+send_goes sent.Spent now refused event e f h = event_goes now event e f h.1
+send_goes sent.BadFlow now refused event e f h = event_goes now event e f h.1
+send_goes sent.Empty now refused event e f h = event_goes now event e f h.1
+send_goes sent.TooMany now refused event e f h = event_goes now event e f h.1
+
+pub sends_goes : (answer : Sent) (now : ℕ) (flow : Flow) (octets : List ℕ) (begin end : Bool) (e f : EndpointValue) → Sends answer now flow octets begin end e f → EndpointGoesOn e f
+sends_goes answer now flow octets begin end e f h =
+    let refused = send_answer now flow octets begin end e in
+    let event = Send flow octets begin end in
+    goes_unless (first_refusal (send_refusals flow octets e)) answer e e f (SendDoes answer now refused event e f) (endpoint_same e) (send_goes answer now refused event e f) h
+
+sends_is : (answer : Sent) (now : ℕ) (flow : Flow) (octets : List ℕ) (begin end : Bool) (e f : EndpointValue) → IsSent answer → Sends answer now flow octets begin end e f
+    → SendDoes answer now (send_answer now flow octets begin end e) (Send flow octets begin end) e f
+sends_is answer now flow octets begin end e f so h =
+    done_unless IsSent (first_refusal (send_refusals flow octets e)) answer e f (SendDoes answer now (send_answer now flow octets begin end e) (Send flow octets begin end) e f)
+    (λ r. never_first IsSent (send_refusals flow octets e) r ((λ x. x), ((λ x. x), ((λ x. x), ((λ x. x), tt))))) so h
+
+pub refused_none : (o : Option Refusal) → sent.Done ≡ sent_of o → o ≡ None
+refused_none None h = refl
+refused_none (Some (refusal.Quiet until)) h = cc
+refused_none (Some (refusal.Full free)) h = cc
+
+pub refused_quiet : (until : ℕ) (o : Option Refusal) → sent.Quiet until ≡ sent_of o → o ≡ Some (refusal.Quiet until)
+refused_quiet until None h = cc
+refused_quiet until (Some (refusal.Quiet v)) h = cc
+refused_quiet until (Some (refusal.Full free)) h = cc
+
+pub refused_full : (free : ℕ) (o : Option Refusal) → sent.Full free ≡ sent_of o → o ≡ Some (refusal.Full free)
+refused_full free None h = cc
+refused_full free (Some (refusal.Quiet v)) h = cc
+refused_full free (Some (refusal.Full v)) h = cc
+
+pub record SentSo (refused : Option Refusal) (now : ℕ) (flow : Flow) (octets : List ℕ) (begin end : Bool) (e f : EndpointValue) : Type 0 where
+  pub answer : send_answer now flow octets begin end e ≡ refused
+  pub after : f ≡ after_event now (Send flow octets begin end) e
+
+pub sends_done : (now : ℕ) (flow : Flow) (octets : List ℕ) (begin end : Bool) (e f : EndpointValue) → Sends sent.Done now flow octets begin end e f → SentSo None now flow octets begin end e f
+sends_done now flow octets begin end e f h = let s = sends_is sent.Done now flow octets begin end e f tt h in record { answer = refused_none (send_answer now flow octets begin end e) s.0; after = s.1 }
+
+pub sends_quiet : (until now : ℕ) (flow : Flow) (octets : List ℕ) (begin end : Bool) (e f : EndpointValue) → Sends (sent.Quiet until) now flow octets begin end e f → SentSo (Some (refusal.Quiet until)) now flow octets begin end e f
+sends_quiet until now flow octets begin end e f h = let s = sends_is (sent.Quiet until) now flow octets begin end e f tt h in record { answer = refused_quiet until (send_answer now flow octets begin end e) s.0; after = s.1 }
+
+pub sends_full : (free now : ℕ) (flow : Flow) (octets : List ℕ) (begin end : Bool) (e f : EndpointValue) → Sends (sent.Full free) now flow octets begin end e f → SentSo (Some (refusal.Full free)) now flow octets begin end e f
+sends_full free now flow octets begin end e f h = let s = sends_is (sent.Full free) now flow octets begin end e f tt h in record { answer = refused_full free (send_answer now flow octets begin end e) s.0; after = s.1 }
+
+-- A READ
+abbrev IsRead : Piece → Type 0
+IsRead (piece.Read len run begin end) = Unit {0}
+IsRead piece.Nothing = Unit {0}
+IsRead piece.NoMemory = ⊥
+IsRead piece.Spent = ⊥
+IsRead piece.BadFlow = ⊥
+IsRead piece.NoRoom = ⊥
+
+read_goes : (answer : Piece) (now : ℕ) (items : List Item) (event : Event (Unit {0})) (buf : List ℕ) (e f : EndpointValue) → ReadDoes answer now items event buf e f → EndpointGoesOn e f
+read_goes piece.NoMemory now items event buf e f h = break_goes now event e f h
+read_goes (piece.Read len run begin end) now items event buf e f h = event_goes now event e f h.2
+read_goes piece.Nothing now items event buf e f h = event_goes now event e f h.2
+read_goes piece.Spent now items event buf e f h = event_goes now event e f h.2
+read_goes piece.BadFlow now items event buf e f h = event_goes now event e f h.2
+read_goes piece.NoRoom now items event buf e f h = event_goes now event e f h.2
+
+pub reads_goes : (answer : Piece) (now : ℕ) (flow : Flow) (room : ℕ) (buf : List ℕ) (e f : EndpointValue) → Reads answer now flow room buf e f → EndpointGoesOn e f
+reads_goes answer now flow room buf e f h =
+    let items = read_answer now flow room e in
+    goes_unless (first_refusal (read_refusals flow room e)) answer e e f (ReadDoes answer now items (Read flow room) buf e f) (endpoint_same e) (read_goes answer now items (Read flow room) buf e f) h
+
+reads_is : (answer : Piece) (now : ℕ) (flow : Flow) (room : ℕ) (buf : List ℕ) (e f : EndpointValue) → IsRead answer → Reads answer now flow room buf e f
+    → ReadDoes answer now (read_answer now flow room e) (Read flow room) buf e f
+reads_is answer now flow room buf e f so h =
+    done_unless IsRead (first_refusal (read_refusals flow room e)) answer e f (ReadDoes answer now (read_answer now flow room e) (Read flow room) buf e f)
+    (λ r. never_first IsRead (read_refusals flow room e) r ((λ x. x), ((λ x. x), ((λ x. x), tt)))) so h
+
+pub record ReadSo (found : Option MessagePiece) (len now : ℕ) (flow : Flow) (room : ℕ) (buf : List ℕ) (e f : EndpointValue) : Type 0 where
+  pub found_is : found ≡ piece_with (octets_of (read_answer now flow room e)) (piece_told (read_answer now flow room e))
+  pub within : len ≤ length buf
+  pub after : f ≡ after_event now (Read flow room) e
+
+none_found : (octets : List ℕ) (o : Option ItemPiece) → piece.Nothing ≡ piece_of (length octets) o → None ≡ piece_with octets o
+none_found octets None h = refl
+none_found octets (Some told) h = cc
+
+pub reads_nothing : (now : ℕ) (flow : Flow) (room : ℕ) (buf : List ℕ) (e f : EndpointValue) → Reads piece.Nothing now flow room buf e f → ReadSo None 0 now flow room buf e f
+reads_nothing now flow room buf e f h =
+    let s = reads_is piece.Nothing now flow room buf e f tt h in
+    let items = read_answer now flow room e in
+    record { found_is = none_found (octets_of items) (piece_told items) s.0; within = omega arith; after = s.2 }
+
+some_found : (marks : Marks) (len : ℕ) (octets buf : List ℕ) (o : Option ItemPiece) → piece.Read len marks.run marks.begin marks.end ≡ piece_of (length octets) o → take (length octets) buf ≡ octets
+    → piece_found (Some (record { marks = marks; len = len })) buf ≡ piece_with octets o
+some_found marks len octets buf None h same = cc
+some_found marks len octets buf (Some told) h same =
+    let n : len ≡ length octets = cc in
+    let run : marks.run ≡ told.run = cc in
+    let begin : marks.begin ≡ told.begin = cc in
+    let end : marks.end ≡ told.end = cc in
+    let octets_same : take len buf ≡ octets = ap (λ (k : ℕ). take k buf) n ∙ same in
+    cc
+
+found_within : (marks : Marks) (len : ℕ) (octets buf : List ℕ) (o : Option ItemPiece) → piece.Read len marks.run marks.begin marks.end ≡ piece_of (length octets) o → take (length octets) buf ≡ octets → len ≤ length buf
+found_within marks len octets buf None h same = cc
+found_within marks len octets buf (Some told) h same =
+    let n : len ≡ length octets = cc in
+    let count : length (take (length octets) buf) ≡ length octets = ap length same in
+    omega (arith, n, count, length-take (length octets) buf)
+
+pub reads_some : (marks : Marks) (len now : ℕ) (flow : Flow) (room : ℕ) (buf : List ℕ) (e f : EndpointValue) → Reads (piece.Read len marks.run marks.begin marks.end) now flow room buf e f
+    → ReadSo (piece_found (Some (record { marks = marks; len = len })) buf) len now flow room buf e f
+reads_some marks len now flow room buf e f h =
+    let s = reads_is (piece.Read len marks.run marks.begin marks.end) now flow room buf e f tt h in
+    let items = read_answer now flow room e in
+    record {
+      found_is = some_found marks len (octets_of items) buf (piece_told items) s.0 s.1;
+      within = found_within marks len (octets_of items) buf (piece_told items) s.0 s.1;
+      after = s.2;
+    }
+
+-- A TICK
+tick_goes : (answer : Ticked) (now : ℕ) (e f : EndpointValue) → TickDoes answer now e f → EndpointGoesOn e f
+tick_goes ticked.NoMemory now e f h = break_goes now Tick e f h
+tick_goes ticked.Done now e f h = event_goes now Tick e f h.1
+tick_goes ticked.Spent now e f h = event_goes now Tick e f h.1
+
+pub ticks_goes : (answer : Ticked) (now : ℕ) (e f : EndpointValue) → Ticks answer now e f → EndpointGoesOn e f
+ticks_goes answer now e f h = goes_unless (first_refusal (tick_refusals e)) answer e e f (TickDoes answer now e f) (endpoint_same e) (tick_goes answer now e f) h
+
+abbrev IsTicked : Ticked → Type 0
+IsTicked ticked.Done = Unit {0}
+IsTicked ticked.NoMemory = ⊥
+IsTicked ticked.Spent = ⊥
+
+pub ticks_done : (now : ℕ) (e f : EndpointValue) → Ticks ticked.Done now e f → f ≡ after_event now Tick e
+ticks_done now e f h =
+    let s = done_unless IsTicked (first_refusal (tick_refusals e)) ticked.Done e f (TickDoes ticked.Done now e f) (λ r. never_first IsTicked (tick_refusals e) r ((λ x. x), tt)) tt h in s.1
+
+-- A DATAGRAM
+arrive_goes : (answer : Arrived) (now : ℕ) (event : Event (Unit {0})) (e f : EndpointValue) → ArriveDoes answer now event e f → EndpointGoesOn e f
+arrive_goes arrived.NoMemory now event e f h = break_goes now event e f h
+arrive_goes arrived.Done now event e f h = event_goes now event e f h.1
+arrive_goes arrived.Spent now event e f h = event_goes now event e f h.1
+arrive_goes arrived.NoLink now event e f h = event_goes now event e f h.1
+arrive_goes (arrived.Bad fault) now event e f h = event_goes now event e f h.1
+arrive_goes arrived.Stale now event e f h = event_goes now event e f h.1
+
+refused_goes : (e : EndpointValue) → EndpointGoesOn e (with_refused e)
+refused_goes e = let s = endpoint_same e in record { rules = refl; more = s.more; frames = s.frames }
+
+pub arrives_goes : (answer : Arrived) (now link : ℕ) (octets : List ℕ) (waited : ℕ) (e f : EndpointValue) → Arrives answer now link octets waited e f → EndpointGoesOn e f
+arrives_goes answer now link octets waited e f h =
+    goes_unless (arrive_refusal link octets waited e) answer (with_refused e) e f (ArriveDoes answer now (arrive_event link octets waited) e f) (refused_goes e) (arrive_goes answer now (arrive_event link octets waited) e f) h
+
+-- a refusal is one of four
+abbrev pub IsRefused : Arrived → Type 0
+IsRefused arrived.Done = ⊥
+IsRefused arrived.NoMemory = ⊥
+IsRefused arrived.Spent = Unit {0}
+IsRefused arrived.NoLink = Unit {0}
+IsRefused (arrived.Bad fault) = Unit {0}
+IsRefused arrived.Stale = Unit {0}
+
+abbrev AllRefused : Option Arrived → Type 0
+AllRefused None = Unit {0}
+AllRefused (Some r) = IsRefused r
+
+stale_if : (b : Bool) → AllRefused (cond b (Some arrived.Stale) None)
+stale_if true = tt
+stale_if false = tt
+
+fault_refused : (waited : ℕ) (octets : List ℕ) (o : Option LayoutFault) → AllRefused (arrive_fault waited octets o)
+fault_refused waited octets (Some fault) = tt
+fault_refused waited octets None = stale_if (nat_le (life_of octets) waited)
+
+link_if : (b : Bool) (o : Option Arrived) → AllRefused o → AllRefused (cond b o (Some arrived.NoLink))
+link_if true o all = all
+link_if false o all = tt
+
+spent_if : (b : Bool) (o : Option Arrived) → AllRefused o → AllRefused (cond b (Some arrived.Spent) o)
+spent_if true o all = tt
+spent_if false o all = all
+
+refusals_are : (link : ℕ) (octets : List ℕ) (waited : ℕ) (e : EndpointValue) → AllRefused (arrive_refusal link octets waited e)
+refusals_are link octets waited e =
+    spent_if e.spent (cond (has_link link e.state.relay.ins) (arrive_fault waited octets (gram_fault octets)) (Some arrived.NoLink))
+    (link_if (has_link link e.state.relay.ins) (arrive_fault waited octets (gram_fault octets)) (fault_refused waited octets (gram_fault octets)))
+
+pub record CameSo (now link : ℕ) (octets : List ℕ) (waited : ℕ) (e f : EndpointValue) : Type 0 where
+  pub unrefused : arrive_refusal link octets waited e ≡ None
+  pub after : f ≡ after_event now (arrive_event link octets waited) e
+
+came_as : (o : Option Arrived) (now : ℕ) (event : Event (Unit {0})) (e f : EndpointValue) → AllRefused o → Unless o arrived.Done (with_refused e) f (ArriveDoes arrived.Done now event e f) → (o ≡ None) × (f ≡ after_event now event e)
+came_as None now event e f all h = (refl, h.1)
+came_as (Some r) now event e f all h = absurd (subst IsRefused (sym h.0) all)
+
+pub arrives_done : (now link : ℕ) (octets : List ℕ) (waited : ℕ) (e f : EndpointValue) → Arrives arrived.Done now link octets waited e f → CameSo now link octets waited e f
+arrives_done now link octets waited e f h =
+    let s = came_as (arrive_refusal link octets waited e) now (arrive_event link octets waited) e f (refusals_are link octets waited e) h in
+    record { unrefused = s.0; after = s.1 }
+
+pub record RefusedSo (answer : Arrived) (link : ℕ) (octets : List ℕ) (waited : ℕ) (e f : EndpointValue) : Type 0 where
+  pub refused : arrive_refusal link octets waited e ≡ Some answer
+  pub after : f ≡ with_refused e
+
+done_or_not : (answer : Arrived) (now : ℕ) (event : Event (Unit {0})) (e f : EndpointValue) → IsRefused answer → ArriveDoes answer now event e f → ⊥
+done_or_not arrived.Done now event e f so h = so
+done_or_not arrived.NoMemory now event e f so h = so
+done_or_not arrived.Spent now event e f so h = differ h.0
+  where
+    differ : arrived.Spent ≡ arrived.Done → ⊥
+    differ k = cc
+done_or_not arrived.NoLink now event e f so h = differ h.0
+  where
+    differ : arrived.NoLink ≡ arrived.Done → ⊥
+    differ k = cc
+done_or_not (arrived.Bad fault) now event e f so h = differ h.0
+  where
+    differ : arrived.Bad fault ≡ arrived.Done → ⊥
+    differ k = cc
+done_or_not arrived.Stale now event e f so h = differ h.0
+  where
+    differ : arrived.Stale ≡ arrived.Done → ⊥
+    differ k = cc
+
+refused_as : (o : Option Arrived) (answer : Arrived) (now : ℕ) (event : Event (Unit {0})) (e f : EndpointValue) → IsRefused answer → Unless o answer (with_refused e) f (ArriveDoes answer now event e f) → (o ≡ Some answer) × (f ≡ with_refused e)
+refused_as None answer now event e f so h = absurd (done_or_not answer now event e f so h)
+refused_as (Some r) answer now event e f so h = (ap (λ (a : Arrived). Some a) (sym h.0), h.1)
+
+pub arrives_refused : (answer : Arrived) (now link : ℕ) (octets : List ℕ) (waited : ℕ) (e f : EndpointValue) → IsRefused answer → Arrives answer now link octets waited e f → RefusedSo answer link octets waited e f
+arrives_refused answer now link octets waited e f so h =
+    let s = refused_as (arrive_refusal link octets waited e) answer now (arrive_event link octets waited) e f so h in
+    record { refused = s.0; after = s.1 }

@@ -1,0 +1,135 @@
+//! Why what is asked of a service is refused.
+ghost use Rattle.std.specs.Prelude.{◌≡◌, ◌+◌, ◌≤◌, ◌<◌, ◌^◌, IfNone, length, nat_le, not};
+ghost use Rattle.dt_world_model.specs.WorldStep.{first_refusal};
+ghost use Rattle.dt_service_model.specs.Asked.{call_refusals, goes_out, is_closed, is_one_too_many, is_too_long, reply_refusals};
+ghost use Rattle.dt_service_model.specs.Halves.{calls_held, is_caller, kind_in, most_octets};
+ghost use Rattle.dt_service.specs.Nodes.{node_in};
+
+use crate::parts::Parts;
+use dt_service_halves::reversed;
+use dt_service_model::{Declined, Kind, Made, Replied, Token, Unfit};
+use dt_units::Flow;
+
+/// So many octets in all, or more, are refused.
+const MOST_OCTETS: u64 = 1 << 62;
+
+/// No longer message is put together.
+const LONGEST: usize = 65_536;
+
+fn is_caller(kind: Option<Kind>) -> bool
+    ensures { result ≡ is_caller kind }
+{
+    match kind {
+        Some(Kind::Caller) => true,
+        Some(Kind::Service) | None => false,
+    }
+}
+
+impl Parts {
+    /// Whether the node was closed, or found no memory.
+    pub fn is_closed(&self) -> bool
+        ensures { result ≡ is_closed (node_in self.now) }
+    {
+        self.endpoint.is_spent() || self.halves.is_closed()
+    }
+
+    /// Whether a flow goes from this node to another.
+    fn goes_out(&self, flow: &Flow) -> bool
+        ensures { result ≡ goes_out (node_in self.now) flow.now }
+    {
+        let me = self.endpoint.me();
+        flow.from == me && flow.to != me
+    }
+
+    /// Whether a message with this is longer than any that is sent.
+    fn is_too_long(&self, carried: &[u8]) -> bool
+        ensures { result ≡ is_too_long (node_in self.now) carried.now }
+    {
+        let most = LONGEST.min(self.endpoint.rules().params().cap as usize);
+        most < 8 + carried.len()
+    }
+
+    /// Whether with a message of this as many octets as may be would have been handed in.
+    fn is_one_too_many(&self, carried: &[u8]) -> bool
+        ensures { result ≡ is_one_too_many (node_in self.now) carried.now }
+    {
+        let count = 8 + carried.len() as u64;
+        self.endpoint.asked().saturating_add(count) >= MOST_OCTETS
+    }
+
+    /// Whether each number of this life was used.
+    fn is_out_of_numbers(&self) -> bool
+        ensures { result ≡ nat_le (2 ^ 32) self.now.halves.count }
+    {
+        self.halves.next_number().is_none()
+    }
+
+    /// Whether as many calls as may be wait, or have ends that weren't taken.
+    fn is_crowded(&self) -> bool
+        ensures { result ≡ nat_le self.now.halves.most.calls (calls_held self.now.halves) }
+    {
+        !self.halves.has_room_for_call()
+    }
+
+    /// Whether a flow goes from a caller.
+    fn goes_from_caller(&self, flow: &Flow) -> bool
+        ensures { result ≡ is_caller (kind_in flow.now.from_port self.now.halves.ports) }
+    {
+        is_caller(self.halves.kind(flow.from_port))
+    }
+
+    /// Why a call is refused, or none where it isn't.
+    pub fn refuses_call(&self, flow: &Flow, payload: &[u8], patience: u32) -> Option<Made>
+        ensures refusal { result ≡ first_refusal (call_refusals (node_in self.now) flow.now payload.now patience) }
+        ensures short { IfNone result (8 + length payload.now ≤ most_octets) }
+        ensures numbered { IfNone result (self.now.halves.count < 2 ^ 32) }
+    {
+        if self.is_closed() {
+            return Some(Made::Refused(Unfit::Closed));
+        }
+        if !self.goes_out(flow) {
+            return Some(Made::Refused(Unfit::BadFlow));
+        }
+        if !self.goes_from_caller(flow) {
+            return Some(Made::Refused(Unfit::NotACaller));
+        }
+        if self.is_too_long(payload) {
+            return Some(Made::Refused(Unfit::TooLong));
+        }
+        if patience == 0 {
+            return Some(Made::Refused(Unfit::NoPatience));
+        }
+        if self.is_one_too_many(payload) {
+            return Some(Made::Refused(Unfit::TooMany));
+        }
+        if self.is_out_of_numbers() {
+            return Some(Made::Declined(Declined::Numbers));
+        }
+        if self.is_crowded() {
+            return Some(Made::Declined(Declined::Many));
+        }
+        None
+    }
+
+    /// Why a reply is refused, or none where it isn't.
+    pub fn refuses_reply(&self, token: &Token, payload: &[u8]) -> Option<Replied>
+        ensures { result ≡ first_refusal (reply_refusals (node_in self.now) token.now payload.now) }
+    {
+        if self.is_closed() {
+            return Some(Replied::Refused(Unfit::Closed));
+        }
+        if self.is_too_long(payload) {
+            return Some(Replied::Refused(Unfit::TooLong));
+        }
+        if !self.halves.is_open(token) {
+            return Some(Replied::Gone);
+        }
+        if !self.goes_out(&reversed(token.flow)) {
+            return Some(Replied::Refused(Unfit::BadFlow));
+        }
+        if self.is_one_too_many(payload) {
+            return Some(Replied::Refused(Unfit::TooMany));
+        }
+        None
+    }
+}

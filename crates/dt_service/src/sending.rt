@@ -1,0 +1,64 @@
+//! One event of an endpoint, by what it answers.
+ghost use Rattle.std.specs.Prelude.{◌≡◌, true, IfOk, OnErr, OnOk};
+ghost use Rattle.dt_world_model.specs.Station.{Tick};
+ghost use Rattle.dt_endpoint.specs.Calls.{arrive_refusal, send_answer};
+ghost use Rattle.dt_endpoint.specs.Endpoints.{after_event};
+ghost use Rattle.dt_service_model.specs.Asked.{message_event};
+ghost use Rattle.dt_service.specs.Nodes.{EndpointGoesOn, came_to};
+
+use dt_endpoint::{Arrived, Endpoint, Sent, Ticked};
+use dt_items::NoMemory;
+use dt_reports::Refusal;
+use dt_units::Flow;
+
+/// Sends a message, and answers why it wasn't taken.
+pub fn send_message(
+    endpoint: &mut Endpoint,
+    now: u64,
+    flow: Flow,
+    message: &[u8],
+) -> Result<Option<Refusal>, NoMemory>
+    ensures refused { IfOk result (λ refused. refused ≡ send_answer now flow message.now true true endpoint.old) }
+    ensures after { OnOk result (endpoint.new ≡ after_event now (message_event flow message.now) endpoint.old) }
+    ensures part { OnErr result (EndpointGoesOn endpoint.old endpoint.new) }
+{
+    match endpoint.send(now, flow, message, true, true) {
+        Sent::Done => Ok(None),
+        Sent::Quiet { until } => Ok(Some(Refusal::Quiet { until })),
+        Sent::Full { free } => Ok(Some(Refusal::Full { free })),
+        Sent::NoMemory | Sent::Spent | Sent::BadFlow | Sent::Empty | Sent::TooMany => Err(NoMemory),
+    }
+}
+
+/// What is due is done.
+pub fn pass(endpoint: &mut Endpoint, now: u64) -> Result<(), NoMemory>
+    ensures after { OnOk result (endpoint.new ≡ after_event now Tick endpoint.old) }
+    ensures part { OnErr result (EndpointGoesOn endpoint.old endpoint.new) }
+{
+    match endpoint.tick(now) {
+        Ticked::Done => Ok(()),
+        Ticked::NoMemory | Ticked::Spent => Err(NoMemory),
+    }
+}
+
+/// A datagram comes, or it is answered why it is refused.
+pub fn receive(
+    endpoint: &mut Endpoint,
+    now: u64,
+    link: u16,
+    datagram: &[u8],
+    waited: u32,
+) -> Result<Option<Arrived>, NoMemory>
+    ensures refused { IfOk result (λ refused. refused ≡ arrive_refusal link datagram.now waited endpoint.old) }
+    ensures after { IfOk result (λ refused. endpoint.new ≡ came_to refused now link datagram.now waited endpoint.old) }
+    ensures part { OnErr result (EndpointGoesOn endpoint.old endpoint.new) }
+{
+    match endpoint.arrive(now, link, datagram, waited) {
+        Arrived::Done => Ok(None),
+        Arrived::NoMemory => Err(NoMemory),
+        Arrived::Spent => Ok(Some(Arrived::Spent)),
+        Arrived::NoLink => Ok(Some(Arrived::NoLink)),
+        Arrived::Bad { fault } => Ok(Some(Arrived::Bad { fault })),
+        Arrived::Stale => Ok(Some(Arrived::Stale)),
+    }
+}

@@ -1,0 +1,231 @@
+-- The requests of a flow that are handed out are calls of it, in their order.
+use Rattle.std.proofs.Common.{ℕ, ◌+◌, ◌<◌, ◌≤◌, ◌^◌, ◌≡◌, ◌==◌, Bool, true, false, List, [], ◌∷◌, ◌++◌, map, Option, Some, None, refl, ap, sym, subst, ◌∙◌, inl, inr, append-nil, arith}
+use Rattle.std.specs.Prelude.{Contains, cond, option_map}
+use Rattle.std.proofs.lemmas.Bool.{cases_Bool}
+use Rattle.std.proofs.lemmas.List.Elements.{All-nil}
+use Rattle.dt_items.specs.declared.item.Item.{Item}
+use Rattle.dt_units.specs.declared.endpoints.Flow.{Flow}
+use Rattle.dt_world_model.proofs.Tables.{flow_is, nat_is}
+use Rattle.dt_world_model.specs.Host.{one_if}
+use Rattle.dt_world_model.specs.Setup.{Setup}
+use Rattle.dt_world_model.specs.Tables.{look, same_flow}
+use Rattle.dt_calls_laws.specs.Wholes.{AreSome}
+use Rattle.dt_calls_model.specs.Messages.{reversed}
+use Rattle.dt_endpoint.specs.Endpoints.{EndpointValue}
+use Rattle.dt_network.specs.Duties.{KeepsDuties}
+use Rattle.dt_network.specs.Network.{Network, new_network}
+use Rattle.dt_network.specs.Octets.{AreTaken, IsReadOf, all_read}
+use Rattle.dt_network.specs.Steps.{AreSteps, Step}
+use Rattle.dt_service_model.specs.declared.calls.Call.{Call}
+use Rattle.dt_service_model.specs.declared.names.CallNumber.{CallNumber}
+use Rattle.dt_service_model.specs.declared.ports.Kind.{Kind}
+use Rattle.dt_service_model.specs.declared.ports.Most.{Most}
+use Rattle.dt_service_model.specs.Names.{same_number}
+use Rattle.dt_service_laws.specs.Histories.{Message, answers_at, at_node, call_by, calls_on, count_of, in_turn, in_turns, lives_at, replies_on, reply_by, requests_on}
+use Rattle.dt_service_laws.specs.Orders.{AreSomeOf, none, skips, takes}
+use Rattle.dt_service_laws.specs.Premises.{Differ, IsLife, IsServed, KeepsFrom, KeepsKind, KeepsKinds, KeepsTurn, KeepsTurns}
+use Rattle.dt_service_laws.specs.Services.{Deed, Does, Passes, Services, Turn, new_services, node_after, node_does, node_with, services_after}
+use Rattle.dt_service_laws.specs.Wholes.{messages_in}
+use Rattle.dt_service_laws.proofs.Answering.{contains_first, contains_more, contains_parts, number_is, number_self, some_contains}
+use Rattle.dt_service_laws.proofs.Asked.{spelled}
+use Rattle.dt_service_laws.proofs.Numbering.{all_made, numbers_once, two_flows}
+use Rattle.dt_service_laws.proofs.Elsewhere.{IsLawful}
+use Rattle.dt_service_laws.proofs.Moves.{Tracks}
+use Rattle.dt_service_laws.proofs.Orders.{mapped, some_through}
+use Rattle.dt_service_laws.proofs.Pieces.{read_back}
+use Rattle.dt_service_laws.proofs.Sound.{AreFit, IsSound, back_is, back_none, calls_fit, fit_said, new_sound, no_call_back, said_again, sound_deed}
+use Rattle.dt_service_laws.proofs.Telling.{said}
+use Rattle.dt_service_laws.proofs.Sent.{back_by, sent_on}
+use Rattle.dt_service_laws.proofs.Turned.{AreUnspent, Waits, and_then, calls_made, made_in, ran, turned}
+use Rattle.dt_service_laws.proofs.Wholes.{in_order}
+
+pub fit_both : (xs ys : List Message) → AreFit xs → AreFit ys → AreFit (xs ++ ys)
+fit_both [] ys h k = k
+fit_both (x ∷ xs) ys h k = (h.0, h.1, fit_both xs ys h.2 k)
+
+-- counting
+fewer_of : {xs ys : List Message} (m : CallNumber) → AreSomeOf xs ys → count_of m xs ≤ count_of m ys
+fewer_of m none = omega arith
+fewer_of m (takes h) = let l = fewer_of m h in omega (arith, l)
+fewer_of m (skips h) = let l = fewer_of m h in omega (arith, l)
+
+counts_some : (ms : List Message) (x : Message) → Contains ms x → 0 < count_of x.number ms
+counts_some [] x there = absurd (let lt = there.1 in omega (arith, lt))
+counts_some (m ∷ ms) x there =
+    elim (contains_parts m x ms there) [
+      | inl same ↦ (let one : one_if (same_number m.number x.number) ≡ 1 = ap one_if (ap (λ (y : Message). same_number y.number x.number) same ∙ number_self x.number) in omega (arith, one))
+      | inr more ↦ (let l = counts_some ms x more in omega (arith, l))
+    ]
+
+counted_some : (n : CallNumber) (ms : List Message) → 0 < count_of n ms → (m : Message) × Contains ms m × (m.number ≡ n)
+counted_some n [] some = absurd (omega (arith, some))
+counted_some n (m ∷ ms) some =
+    elim (cases_Bool (same_number m.number n)) [
+      | inl y ↦ (m, contains_first m m ms refl, number_is m.number n y)
+      | inr o ↦
+          let here : one_if (same_number m.number n) ≡ 0 = ap one_if o in
+          let more = counted_some n ms (omega (arith, some, here)) in
+          (more.0, contains_more m more.0 ms more.1, more.2)
+    ]
+
+fit_at : (ms : List Message) (x : Message) → AreFit ms → Contains ms x → (x.number.life < 2 ^ 32) × (x.number.count < 2 ^ 32)
+fit_at [] x fit there = absurd (let lt = there.1 in omega (arith, lt))
+fit_at (m ∷ ms) x fit there = elim (contains_parts m x ms there) [ inl same ↦ subst (λ (y : Message). (y.number.life < 2 ^ 32) × (y.number.count < 2 ^ 32)) same (fit.0, fit.1) | inr more ↦ fit_at ms x fit.2 more ]
+
+from_mapped : (g : Message → Message) (ms : List Message) (a : Message) → Contains (map g ms) a → (m : Message) × Contains ms m × (g m ≡ a)
+from_mapped g [] a there = absurd (let lt = there.1 in omega (arith, lt))
+from_mapped g (m ∷ ms) a there =
+    elim (contains_parts (g m) a (map g ms) there) [
+      | inl same ↦ (m, contains_first m m ms refl, same)
+      | inr more ↦ (let f = from_mapped g ms a more in (f.0, contains_more m f.0 ms f.1, f.2))
+    ]
+
+map_twice : (ms : List Message) → map said (map spelled ms) ≡ map (λ (x : Message). said (spelled x)) ms
+map_twice [] = refl
+map_twice (m ∷ ms) = ap (λ (xs : List Message). said (spelled m) ∷ xs) (map_twice ms)
+
+pub spelled_some : (ms : List Message) → AreSome (map spelled ms)
+spelled_some [] = tt
+spelled_some (m ∷ ms) = (omega arith, spelled_some ms)
+
+module _ (setup : Setup) (Good : Network → Type 0) (law : IsLawful setup Good) (kinds : (node port : ℕ) → Kind) where
+  abbrev pub AreSound : Services → Type 0
+  AreSound s = (k : ℕ) → IsSound kinds k (s.halves k)
+
+  -- one turn
+  pub record Alone (f : Flow) (v : Services) (sent calls returned replies : List Message) : Type 0 where
+    pub sound : AreSound v
+    pub alone : sent ≡ calls
+    pub fit : AreFit calls
+    pub back : returned ≡ replies
+
+  alone_at : (f : Flow) → IsServed kinds f → (s : Services) → Good s.network → AreUnspent setup Good law s → AreSound s → (n : ℕ) (deed : Deed) → KeepsKind kinds n deed → (o : Option EndpointValue) → look ◌==◌ n s.network.endpoints ≡ o → KeepsFrom setup s.network n deed (option_map (node_with n s) o)
+      → Alone f (node_does setup n deed s (option_map (node_with n s) o)) (at_node (sent_on f deed) (option_map (node_with n s) o)) (at_node (call_by f deed) (option_map (node_with n s) o)) (at_node (sent_on (reversed f) deed) (option_map (node_with n s) o)) (at_node (reply_by f deed) (option_map (node_with n s) o))
+  alone_at f served s good unspent sound n deed agrees None found keeps = record { sound = sound; alone = refl; fit = tt; back = refl }
+  alone_at f served s good unspent sound n deed agrees (Some e) found keeps =
+      let x = node_with n s e in
+      let y = node_after setup n deed x in
+      let here = sound_deed kinds n setup s.network x deed agrees keeps (sound n) in
+      let me = law.named s.network n e good found (unspent n e found) in
+      record {
+        sound = λ k. by_test k (n == k) refl here;
+        alone = ap (λ (ms : List Message). call_by f deed x ++ ms) (back_none kinds n f served x (sound n) me deed) ∙ append-nil (call_by f deed x);
+        fit = calls_fit f deed x (sound n).life;
+        back = ap (λ (ms : List Message). ms ++ back_by (reversed f) deed x) (no_call_back kinds n f served x (sound n) me deed) ∙ back_is f deed x;
+      }
+    where
+      by_test : (k : ℕ) (b : Bool) → (n == k) ≡ b → IsSound kinds n (node_after setup n deed (node_with n s e)).halves → IsSound kinds k (cond b (node_after setup n deed (node_with n s e)).halves (s.halves k))
+      by_test k true is h = subst (λ (j : ℕ). IsSound kinds j (node_after setup n deed (node_with n s e)).halves) (nat_is n k is) h
+      by_test k false is h = sound k
+
+  abbrev pub KeepsKindIn : Turn → Type 0
+  KeepsKindIn (Passes by) = Unit {0}
+  KeepsKindIn (Does n deed) = KeepsKind kinds n deed
+
+  pub alone_in : (f : Flow) → IsServed kinds f → (s : Services) → Good s.network → AreUnspent setup Good law s → AreSound s → (t : Turn) → KeepsKindIn t → KeepsTurn setup t s → Alone f (services_after setup t s) (in_turn (λ n. sent_on f) t s) (in_turn (λ n. call_by f) t s) (in_turn (λ n. sent_on (reversed f)) t s) (in_turn (λ n. reply_by f) t s)
+  alone_in f served s good unspent sound (Passes by) agrees keeps = record { sound = sound; alone = refl; fit = tt; back = refl }
+  alone_in f served s good unspent sound (Does n deed) agrees keeps = alone_at f served s good unspent sound n deed agrees (look ◌==◌ n s.network.endpoints) refl keeps
+
+  pub kinds_parts : (t : Turn) (turns : List Turn) → KeepsKinds kinds (t ∷ turns) → KeepsKindIn t × KeepsKinds kinds turns
+  kinds_parts (Passes by) turns h = (tt, h)
+  kinds_parts (Does n deed) turns h = h
+
+  -- all turns
+  pub calls_alone : (f : Flow) → IsServed kinds f → (turns : List Turn) (b : Option (List ℕ)) (past : Flow → CallNumber → ℕ) (s : Services) → Good s.network → AreUnspent setup Good law s → AreSound s → Tracks f b (s.halves f.to.0).begun → Waits setup Good law past (s.halves f.to.0).calls → KeepsKinds kinds turns → KeepsTurns setup turns s
+      → (in_turns (λ n. sent_on f) setup turns s ≡ calls_on f setup turns s) × AreFit (calls_on f setup turns s) × (in_turns (λ n. sent_on (reversed f)) setup turns s ≡ replies_on f setup turns s)
+  calls_alone f served [] b past s good unspent sound tracks waits agree keeps = (refl, tt, refl)
+  calls_alone f served (t ∷ turns) b past s good unspent sound tracks waits agree keeps =
+      let parts = kinds_parts t turns agree in
+      let first = turned setup Good law f b past s good unspent tracks waits t keeps.0 in
+      let one = alone_in f served s good unspent sound t parts.0 keeps.0 in
+      let good_next : Good (services_after setup t s).network = subst Good first.ends (law.on s.network first.steps good first.are first.keep) in
+      let rest = calls_alone f served turns _ (and_then setup Good law past (made_in setup Good law f t s)) (services_after setup t s) good_next first.unspent one.sound first.begun first.waits parts.1 keeps.1 in (
+        ap (λ (ms : List Message). ms ++ in_turns (λ n. sent_on f) setup turns (services_after setup t s)) one.alone ∙ ap (λ (ms : List Message). in_turn (λ n. call_by f) t s ++ ms) rest.0,
+        fit_both (in_turn (λ n. call_by f) t s) (calls_on f setup turns (services_after setup t s)) one.fit rest.1,
+        ap (λ (ms : List Message). ms ++ in_turns (λ n. sent_on (reversed f)) setup turns (services_after setup t s)) one.back ∙ ap (λ (ms : List Message). in_turn (λ n. reply_by f) t s ++ ms) rest.2,
+      )
+
+  -- REQUESTS ARE CALLS, where what is read is what was sent
+  module _ (most : ℕ → Most) (life : ℕ → ℕ) (lives : (n : ℕ) → IsLife (life n)) (new : Good (new_network setup)) (unspent : AreUnspent setup Good law (new_services setup most life))
+      (network : (f : Flow) (steps : List Step) → AreSteps setup steps (new_network setup) → KeepsDuties setup steps (new_network setup) → (taken : List Item) × AreTaken f steps taken × IsReadOf false (all_read f steps) taken) where
+    abbrev start : Services
+    start = new_services setup most life
+
+    no_waits : Waits setup Good law (λ g m. 0) []
+    no_waits = All-nil (λ (c : Call). c.waits ≡ true → 0 < 0)
+
+    -- what is sent on a flow, and what comes of it
+    pub sent_come : (f : Flow) (turns : List Turn) → KeepsTurns setup turns start → AreSomeOf (requests_on f setup turns start) (map said (map spelled (in_turns (λ n. sent_on f) setup turns start)))
+    sent_come f turns keeps =
+        let r = ran setup Good law f turns None (λ g m. 0) start new unspent (inl refl) no_waits keeps in
+        let t = network f r.steps r.are r.keep in
+        let sent = in_turns (λ n. sent_on f) setup turns start in
+        let taken : messages_in t.0 ≡ map spelled sent = ap messages_in (r.takes t.0 t.1) ∙ read_back (map spelled sent) (spelled_some sent) in
+        subst (λ (ms : List (List ℕ)). AreSomeOf (requests_on f setup turns start) (map said ms)) taken (some_through r.some (mapped said (in_order (all_read f r.steps) t.0 t.2)))
+
+    pub requests_come : (f : Flow) → IsServed kinds f → (turns : List Turn) → KeepsKinds kinds turns → KeepsTurns setup turns start → AreSomeOf (requests_on f setup turns start) (calls_on f setup turns start)
+    requests_come f served turns agree keeps =
+        let c = calls_alone f served turns None (λ g m. 0) start new unspent (λ k. new_sound kinds k (most k) (life k) (lives k)) (inl refl) no_waits agree keeps in
+        subst (λ (ms : List Message). AreSomeOf (requests_on f setup turns start) ms) (ap (λ (ms : List Message). map said (map spelled ms)) c.0 ∙ fit_said (calls_on f setup turns start) c.1) (sent_come f turns keeps)
+
+    -- how often a name stands among calls, requests and replies
+    pub requests_few : (f : Flow) → IsServed kinds f → (turns : List Turn) → KeepsKinds kinds turns → KeepsTurns setup turns start → (m : CallNumber) → count_of m (requests_on f setup turns start) ≤ count_of m (calls_on f setup turns start)
+    requests_few f served turns agree keeps m = fewer_of m (requests_come f served turns agree keeps)
+
+    pub replies_few : (f : Flow) (turns : List Turn) → KeepsTurns setup turns start → (m : CallNumber) → count_of m (replies_on f setup turns start) ≤ count_of m (requests_on f setup turns start)
+    replies_few f turns keeps m = let o = (ran setup Good law f turns None (λ g n. 0) start new unspent (inl refl) no_waits keeps).opens m in omega (arith, o)
+
+    calls_few_at : (f : Flow) (turns : List Turn) → KeepsTurns setup turns start → calls_on f setup turns start ≡ calls_made setup Good law (reversed f) turns start f
+    calls_few_at f turns keeps = (ran setup Good law (reversed f) turns None (λ g n. 0) start new unspent (inl refl) no_waits keeps).here f refl
+
+    -- a flow that no call has
+    abbrev nowhere : Flow → Flow
+    nowhere f = record { from = f.from; from_port = f.from_port; to = f.to; to_port = f.to_port + 1 }
+
+    nowhere_apart : (f : Flow) → same_flow (nowhere f) f ≡ false
+    nowhere_apart f = by_test (same_flow (nowhere f) f) refl
+      where
+        by_test : (b : Bool) → same_flow (nowhere f) f ≡ b → b ≡ false
+        by_test true is = (let e : f.to_port + 1 ≡ f.to_port = ap (λ (g : Flow). g.to_port) (flow_is (nowhere f) f is) in absurd (omega (arith, e)))
+        by_test false is = refl
+
+    all_few : (c : ℕ) (turns : List Turn) → Differ (life c ∷ lives_at c setup turns start) → (m : CallNumber) → count_of m (all_made setup c turns start) ≤ 1
+    all_few c turns differ m = (numbers_once setup c turns start m differ).once
+
+    pub calls_few : (f : Flow) (turns : List Turn) → KeepsTurns setup turns start → Differ (life f.from.0 ∷ lives_at f.from.0 setup turns start) → (m : CallNumber) → count_of m (calls_on f setup turns start) ≤ 1
+    calls_few f turns keeps differ m =
+        let e = ap (count_of m) (calls_few_at f turns keeps) in
+        let two = two_flows setup f.from.0 m f (nowhere f) (nowhere_apart f) turns start in
+        let all = all_few f.from.0 turns differ m in
+        omega (arith, e, two, all)
+
+    -- ANSWERS
+    pub answers_come : (f : Flow) → IsServed kinds f → (turns : List Turn) → KeepsKinds kinds turns → KeepsTurns setup turns start → Differ (life f.from.0 ∷ lives_at f.from.0 setup turns start)
+        → (a : Message) → Contains (answers_at f.from.0 setup turns start) a → 0 < count_of a.number (calls_on f setup turns start) → Contains (replies_on f setup turns start) a
+    answers_come f served turns agree keeps differ a there called =
+        let r = ran setup Good law (reversed f) turns None (λ g n. 0) start new unspent (inl refl) no_waits keeps in
+        let c = calls_alone f served turns None (λ g n. 0) start new unspent (λ k. new_sound kinds k (most k) (life k) (lives k)) (inl refl) no_waits agree keeps in
+        elim (r.answered a there) [
+          | inl read ↦
+              let t = network (reversed f) r.steps r.are r.keep in
+              let sent = in_turns (λ n. sent_on (reversed f)) setup turns start in
+              let replies = replies_on f setup turns start in
+              let taken : messages_in t.0 ≡ map spelled replies = ap messages_in (r.takes t.0 t.1) ∙ read_back (map spelled sent) (spelled_some sent) ∙ ap (map spelled) c.2 in
+              let some : AreSomeOf (map said (messages_in (all_read (reversed f) r.steps))) (map said (map spelled replies)) = subst (λ (ms : List (List ℕ)). AreSomeOf (map said (messages_in (all_read (reversed f) r.steps))) (map said ms)) taken (mapped said (in_order (all_read (reversed f) r.steps) t.0 t.2)) in
+              let given = some_contains a some read in
+              let from = from_mapped (λ (x : Message). said (spelled x)) replies a (subst (λ (ms : List Message). Contains ms a) (map_twice replies) given) in
+              let once : 0 < count_of from.0.number replies = counts_some replies from.0 from.1 in
+              let few = replies_few f turns keeps from.0.number in
+              let fewer = requests_few f served turns agree keeps from.0.number in
+              let call = counted_some from.0.number (calls_on f setup turns start) (omega (arith, once, few, fewer)) in
+              let fits = fit_at (calls_on f setup turns start) call.0 c.1 call.1 in
+              let number : call.0.number ≡ from.0.number = call.2 in
+              let same : from.0 ≡ a = sym (said_again from.0 (subst (λ (k : CallNumber). k.life < 2 ^ 32) number fits.0) (subst (λ (k : CallNumber). k.count < 2 ^ 32) number fits.1)) ∙ from.2 in
+              subst (λ (x : Message). Contains replies x) same from.1
+          | inr o ↦
+              let e = ap (count_of a.number) (calls_few_at f turns keeps) in
+              let two = two_flows setup f.from.0 a.number f o.flow o.other turns start in
+              let all = all_few f.from.0 turns differ a.number in
+              let made = o.made in
+              absurd (omega (arith, called, e, two, all, made))
+        ]

@@ -1,0 +1,207 @@
+-- What is done at a node are steps of its network, of which it is known what they take and read.
+use Rattle.std.proofs.Common.{ℕ, ◌+◌, ◌≤◌, ◌≡◌, ◌⊎◌, ◌==◌, false, List, [], ◌∷◌, ◌++◌, drop, length, map, Option, refl, ap, sym, subst, ◌∙◌, append-nil, append_assoc, arith}
+use Rattle.std.specs.Prelude.{All, Contains, drop, fold}
+use Rattle.std.proofs.Math.Seq.{drop-append_seam, drop-length}
+use Rattle.dt_items.specs.declared.item.Item.{Item}
+use Rattle.dt_units.specs.declared.endpoints.Flow.{Flow}
+use Rattle.dt_units.specs.Flows.{IsFlow}
+use Rattle.dt_world_model.specs.Setup.{Setup}
+use Rattle.dt_endpoint.specs.Endpoints.{EndpointValue}
+use Rattle.dt_network.specs.Duties.{KeepsDuties, KeepsTime}
+use Rattle.dt_network.specs.Network.{Network}
+use Rattle.dt_network.specs.Octets.{Takes, all_read, read_by}
+use Rattle.dt_network.specs.Steps.{AreSteps, Call, Calls, PullFrame, Step, network_after, network_by}
+use Rattle.dt_service_model.specs.declared.happenings.Happening.{Happening}
+use Rattle.dt_service_model.specs.Halves.{Halves}
+use Rattle.dt_service_model.specs.Hearing.{hear}
+use Rattle.dt_service_model.specs.Turns.{Node, hears, turn_end}
+use Rattle.dt_service_model.specs.declared.names.Token.{Token}
+use Rattle.dt_service_laws.specs.Histories.{Message, answer_in, count_of, each_of, request_in}
+use Rattle.dt_service_laws.specs.Orders.{AreSomeOf, none}
+use Rattle.dt_service_laws.specs.Services.{told_between}
+use Rattle.dt_service_laws.specs.Wholes.{begun_after, messages_from}
+use Rattle.dt_service_laws.proofs.Answering.{IsOther, moves_answer, not_in_none, unsure_answers}
+use Rattle.dt_service_laws.proofs.Elsewhere.{IsLawful, calls_elsewhere, elsewhere}
+use Rattle.dt_service_laws.proofs.Ending.{end_goes}
+use Rattle.dt_service_laws.proofs.Keeping.{end_keeps}
+use Rattle.dt_service_laws.proofs.Moves.{AreKeptFrom, IsLater, IsQuiet, MayCall, Tracks, open_count, pulls}
+use Rattle.dt_service_laws.proofs.Quiet.{all_heard_quiet, kept_itself}
+use Rattle.dt_service_laws.proofs.Runs.{IsAt, Runs, heard_calls, no_steps, one_put, runs}
+use Rattle.dt_service_laws.proofs.Sending.{Takings, behind_takes, moves_take, takes_more, takes_nothing}
+use Rattle.dt_service_laws.proofs.Telling.{Tells, behind_read, each_append, moves_tell, quiet_tells, said, tells_then, unsure_requests}
+
+module _ (setup : Setup) (n : ℕ) where
+  -- A NODE COMES TO ANOTHER by steps of its network; between an event and the end of its turn its halves are `h`
+  pub record Comes (x : Node) (h : Halves) (y : Node) (m : Network) (posted : Flow → List Item) : Type 0 where
+    pub steps : List Step
+    pub are : AreSteps setup steps m
+    pub keep : KeepsDuties setup steps m
+    pub ends : network_by steps m ≡ network_after (Calls n PullFrame y.endpoint) m
+    pub unspent : y.endpoint.spent ≡ false
+    pub takes : (g : Flow) → Takings g steps (posted g)
+    pub begun : (g : Flow) (b : Option (List ℕ)) → Tracks g b x.halves.begun → Tracks g (begun_after b (all_read g steps)) y.halves.begun
+    pub requests : (g : Flow) (b : Option (List ℕ)) → Tracks g b x.halves.begun → AreSomeOf (each_of (request_in g) (told_between x y)) (map said (messages_from b (all_read g steps)))
+    pub waits : AreKeptFrom h.calls y.halves.calls
+    pub opens : (g : Flow) (b : Option (List ℕ)) → Tracks g b x.halves.begun → (t : Token) → open_count t y.halves.tokens ≤ open_count t h.tokens + count_of t.number (each_of (request_in t.flow) (told_between x y))
+    pub answers : (g : Flow) (b : Option (List ℕ)) → Tracks g b x.halves.begun → (a : Message) → Contains (each_of answer_in (told_between x y)) a → Contains (map said (messages_from b (all_read g steps))) a ⊎ IsOther g h.calls a
+    pub elsewhere : (g : Flow) → (n == g.to.0) ≡ false → (all_read g steps ≡ []) × (each_of (request_in g) (told_between x y) ≡ [])
+
+  ends_of : (e f : EndpointValue) (steps : List Step) (m : Network) → IsAt n m e → Runs setup n e f steps m → network_by steps m ≡ network_after (Calls n PullFrame f) m
+  ends_of e f steps m there r = r.ends ∙ sym (one_put n PullFrame e f r.frames m there r.appended)
+
+  told_is : (x y : Node) (told : List Happening) → y.halves.happenings ≡ x.halves.happenings ++ told → told_between x y ≡ told
+  told_is x y told is = ap (drop (length x.halves.happenings)) is ∙ drop-append_seam x.halves.happenings told
+
+  -- BESIDE ITS ENDPOINT alone
+  pub comes_quietly : (x : Node) (h : Halves) (m : Network) → IsAt n m x.endpoint → x.endpoint.spent ≡ false → ((g : Flow) (b : Option (List ℕ)) → Tracks g b x.halves.begun → Tracks g b h.begun) → drop (length x.halves.happenings) h.happenings ≡ []
+      → Comes x h (record x { halves = h }) m (λ g. [])
+  comes_quietly x h m there unspent begun told =
+      let r = no_steps setup n x.endpoint m there in
+      record {
+        steps = [];
+        are = r.are;
+        keep = r.keep;
+        ends = ends_of x.endpoint x.endpoint [] m there r;
+        unspent = unspent;
+        takes = λ g. takes_nothing g;
+        begun = begun;
+        requests = λ g b tracks. subst (λ (ts : List Happening). AreSomeOf (each_of (request_in g) ts) []) (sym told) none;
+        waits = kept_itself h.calls;
+        opens = λ g b tracks t. omega arith;
+        answers = λ g b tracks a there. absurd (not_in_none (each_of answer_in (told_between x (record x { halves = h }))) a (ap (each_of answer_in) told) there);
+        elsewhere = λ g other. (refl, ap (each_of (request_in g)) told);
+      }
+
+  pub comes_nowhere : (x : Node) (m : Network) → IsAt n m x.endpoint → x.endpoint.spent ≡ false → Comes x x.halves x m (λ g. [])
+  comes_nowhere x m there unspent = comes_quietly x x.halves m there unspent (λ g b tracks. tracks) (drop-length x.halves.happenings)
+
+  -- BY ONE STEP that is no turn
+  pub comes_by_step : (x : Node) (m : Network) (y : Node) (s : Step) → AreSteps setup (s ∷ []) m → KeepsDuties setup (s ∷ []) m → network_after s m ≡ network_after (Calls n PullFrame y.endpoint) m → y.endpoint.spent ≡ false → ((g : Flow) → all_read g (s ∷ []) ≡ []) → ((g : Flow) → Takings g (s ∷ []) [])
+      → ((g : Flow) (b : Option (List ℕ)) → Tracks g b x.halves.begun → Tracks g b y.halves.begun) → told_between x y ≡ [] → Comes x y.halves y m (λ g. [])
+  comes_by_step x m y s are keep ends on read takes begun told = record {
+    steps = s ∷ [];
+    are = are;
+    keep = keep;
+    ends = ends;
+    unspent = on;
+    takes = takes;
+    begun = λ g b tracks. subst (λ (is : List Item). Tracks g (begun_after b is) y.halves.begun) (sym (read g)) (begun g b tracks);
+    requests = λ g b tracks. subst (λ (ts : List Happening). AreSomeOf (each_of (request_in g) ts) (map said (messages_from b (all_read g (s ∷ []))))) (sym told) none;
+    waits = kept_itself y.halves.calls;
+    opens = λ g b tracks t. omega arith;
+    answers = λ g b tracks a there. absurd (not_in_none (each_of answer_in (told_between x y)) a (ap (each_of answer_in) told) there);
+    elsewhere = λ g other. (read g, ap (each_of (request_in g)) told);
+  }
+
+  -- what stays where an event's turn is under way and its end is still to come
+  pub record IsBetween (h k : Halves) : Type 0 where
+    pub begun : k.begun ≡ h.begun
+    pub happenings : k.happenings ≡ h.happenings
+
+  pub nothing_between : (h : Halves) → IsBetween h h
+  nothing_between h = record { begun = refl; happenings = refl }
+
+  between_tells : (g : Flow) (b : Option (List ℕ)) (h k : Halves) → IsBetween h k → Tracks g b h.begun → Tells g b [] h k
+  between_tells g b h k between tracks = record {
+    told = [];
+    happenings = between.happenings ∙ sym (append-nil h.happenings);
+    begun = subst (λ (es : List (Flow × List ℕ)). Tracks g b es) (sym between.begun) tracks;
+    requests = none;
+  }
+
+  from_tells : (g : Flow) (b : Option (List ℕ)) (items : List Item) (x y : Node) → Tells g b items x.halves y.halves → AreSomeOf (each_of (request_in g) (told_between x y)) (map said (messages_from b items))
+  from_tells g b items x y t = subst (λ (ts : List Happening). AreSomeOf (each_of (request_in g) ts) (map said (messages_from b items))) (sym (told_is x y t.told t.happenings)) t.requests
+
+  -- what is told is what was heard, which says no request and no answer, and what the moves tell
+  opens_by : (x y : Node) (h : Halves) (heard told : List Happening) (t : Token) → y.halves.happenings ≡ x.halves.happenings ++ (heard ++ told) → each_of (request_in t.flow) heard ≡ [] → open_count t y.halves.tokens ≤ open_count t h.tokens + count_of t.number (each_of (request_in t.flow) told)
+      → open_count t y.halves.tokens ≤ open_count t h.tokens + count_of t.number (each_of (request_in t.flow) (told_between x y))
+  opens_by x y h heard told t is clear le =
+      let same = ap (count_of t.number) (ap (each_of (request_in t.flow)) (told_is x y (heard ++ told) is) ∙ each_append (request_in t.flow) heard told ∙ ap (λ (ms : List Message). ms ++ each_of (request_in t.flow) told) clear) in
+      omega (arith, same, le)
+
+  answer_by : (x y : Node) (heard told : List Happening) (a : Message) → y.halves.happenings ≡ x.halves.happenings ++ (heard ++ told) → each_of answer_in heard ≡ [] → Contains (each_of answer_in (told_between x y)) a → Contains (each_of answer_in told) a
+  answer_by x y heard told a is clear there = subst (λ (ms : List Message). Contains ms a) (ap (each_of answer_in) (told_is x y (heard ++ told) is) ∙ each_append answer_in heard told ∙ ap (λ (ms : List Message). ms ++ each_of answer_in told) clear) there
+
+  -- AN EVENT, and the end of its turn
+  module _ (x : Node) (m : Network) (there : IsAt n m x.endpoint) (now : ℕ) (time : KeepsTime setup m n now) (Good : Network → Type 0) (law : IsLawful setup Good) (good : Good m) (unspent : x.endpoint.spent ≡ false) where
+    itself : IsLater m m
+    itself = record { now = refl; left = λ g h. h }
+
+    pub comes_by_event : (call : Call) (f : EndpointValue) (h : Halves) (posted : Flow → List Item) → MayCall setup n m call x.endpoint f → ((g : Flow) → read_by g call ≡ []) → ((g : Flow) (taken : List Item) → Takes g call taken → taken ≡ posted g)
+        → IsBetween (fold hear x.halves f.reports) h → All IsFlow h.unread
+        → Comes x h (turn_end now (record { endpoint = record f { reports = [] }; halves = h })) m (λ g. posted g ++ [])
+    comes_by_event call f h posted may reads_none takes_it between flows =
+        let z0 : Node = hears (record x { endpoint = f }) in
+        let z1 : Node = record { endpoint = record f { reports = [] }; halves = h } in
+        let y = turn_end now z1 in
+        let r = end_goes setup n m now time z1 flows may.unspent in
+        let quiet = all_heard_quiet f.reports x.halves in
+        let heard_told = quiet.told in
+        let mid_tracks : (g : Flow) (b : Option (List ℕ)) → Tracks g b x.halves.begun → Tracks g b h.begun = λ (g : Flow) (b : Option (List ℕ)) (tracks : Tracks g b x.halves.begun). subst (λ (es : List (Flow × List ℕ)). Tracks g b es) (sym between.begun) (quiet.begun g b tracks) in
+        let told_in : (more : List Happening) → y.halves.happenings ≡ h.happenings ++ more → y.halves.happenings ≡ x.halves.happenings ++ (quiet.told ++ more) =
+        λ (more : List Happening) (is : y.halves.happenings ≡ h.happenings ++ more). is ∙ ap (λ (hs : List Happening). hs ++ more) (between.happenings ∙ quiet.happenings) ∙ append_assoc x.halves.happenings quiet.told more in
+        let rest = pulls setup n f f.reports ++ r.steps in
+        let run = heard_calls setup n m x call f y.endpoint r.steps m may itself there (λ k on at. runs setup n m z1 y r.steps r.moves k on at) in
+        let read_is : (g : Flow) → all_read g (Calls n call f ∷ rest) ≡ all_read g r.steps = λ (g : Flow). ap (λ (is : List Item). is ++ all_read g rest) (reads_none g) ∙ behind_read setup n g f f.reports r.steps in
+        let tells : (g : Flow) (b : Option (List ℕ)) → Tracks g b x.halves.begun → Tells g b (all_read g (Calls n call f ∷ rest)) x.halves y.halves =
+        λ (g : Flow) (b : Option (List ℕ)) (tracks : Tracks g b x.halves.begun).
+        let heard = quiet_tells g b x.halves z0.halves (all_heard_quiet f.reports x.halves) tracks in
+        let mid = between_tells g b z0.halves h between heard.begun in
+        let end = moves_tell setup n m g b z1 y r.steps r.moves mid.begun in
+        subst (λ (is : List Item). Tells g b is x.halves y.halves) (sym (read_is g)) (tells_then g b [] (all_read g r.steps) x.halves z0.halves y.halves heard (tells_then g b [] (all_read g r.steps) z0.halves h y.halves mid end)) in
+        record {
+          steps = Calls n call f ∷ rest;
+          are = run.are;
+          keep = run.keep;
+          ends = ends_of x.endpoint y.endpoint (Calls n call f ∷ rest) m there run;
+          unspent = r.unspent;
+          takes = λ g. takes_more g (Calls n call f) rest (posted g) [] (takes_it g) (behind_takes setup n g f f.reports r.steps [] (moves_take setup n m g z1 y r.steps r.moves));
+          begun = λ g b tracks. (tells g b tracks).begun;
+          requests = λ g b tracks. from_tells g b (all_read g (Calls n call f ∷ rest)) x y (tells g b tracks);
+          waits = (end_keeps now z1).waits;
+          opens = λ g b tracks t.
+              let a = moves_answer setup n m g b z1 y r.steps r.moves (mid_tracks g b tracks) in
+              opens_by x y h quiet.told a.told t (told_in a.told a.happenings) (unsure_requests t.flow quiet.told quiet.unsure) (a.opens t);
+          answers = λ g b tracks a there.
+              let c = moves_answer setup n m g b z1 y r.steps r.moves (mid_tracks g b tracks) in
+              subst (λ (is : List Item). Contains (map said (messages_from b is)) a ⊎ IsOther g h.calls a) (sym (read_is g)) (c.from a (answer_by x y quiet.told c.told a (told_in c.told c.happenings) (unsure_answers quiet.told quiet.unsure) there));
+          elsewhere = λ g other.
+              let c = calls_elsewhere setup Good law n m g other m x call f z1 y r.steps may r.moves itself there good in
+              let told : y.halves.happenings ≡ x.halves.happenings ++ (heard_told ++ c.told) = c.happenings ∙ ap (λ (hs : List Happening). hs ++ c.told) (between.happenings ∙ quiet.happenings) ∙ append_assoc x.halves.happenings heard_told c.told in
+              (read_is g ∙ c.none, ap (each_of (request_in g)) (told_is x y (heard_told ++ c.told) told) ∙ each_append (request_in g) heard_told c.told ∙ ap (λ (ms : List Message). ms ++ each_of (request_in g) c.told) (unsure_requests g heard_told quiet.unsure) ∙ c.requests);
+        }
+
+    -- the end of a turn without an event
+    pub comes_by_end : (h : Halves) → IsQuiet x.halves h → All IsFlow h.unread → Comes x h (turn_end now (record x { halves = h })) m (λ g. [])
+    comes_by_end h quiet flows =
+        let z1 : Node = record x { halves = h } in
+        let y = turn_end now z1 in
+        let r = end_goes setup n m now time z1 flows unspent in
+        let run = runs setup n m z1 y r.steps r.moves m itself there in
+        let told_in : (more : List Happening) → y.halves.happenings ≡ h.happenings ++ more → y.halves.happenings ≡ x.halves.happenings ++ (quiet.told ++ more) =
+        λ (more : List Happening) (is : y.halves.happenings ≡ h.happenings ++ more). is ∙ ap (λ (hs : List Happening). hs ++ more) quiet.happenings ∙ append_assoc x.halves.happenings quiet.told more in
+        let tells : (g : Flow) (b : Option (List ℕ)) → Tracks g b x.halves.begun → Tells g b (all_read g r.steps) x.halves y.halves =
+        λ (g : Flow) (b : Option (List ℕ)) (tracks : Tracks g b x.halves.begun).
+        let first = quiet_tells g b x.halves h quiet tracks in
+        tells_then g b [] (all_read g r.steps) x.halves h y.halves first (moves_tell setup n m g b z1 y r.steps r.moves first.begun) in
+        record {
+          steps = r.steps;
+          are = run.are;
+          keep = run.keep;
+          ends = ends_of x.endpoint y.endpoint r.steps m there run;
+          unspent = r.unspent;
+          takes = λ g. moves_take setup n m g z1 y r.steps r.moves;
+          begun = λ g b tracks. (tells g b tracks).begun;
+          requests = λ g b tracks. from_tells g b (all_read g r.steps) x y (tells g b tracks);
+          waits = (end_keeps now z1).waits;
+          opens = λ g b tracks t.
+              let a = moves_answer setup n m g b z1 y r.steps r.moves (quiet.begun g b tracks) in
+              opens_by x y h quiet.told a.told t (told_in a.told a.happenings) (unsure_requests t.flow quiet.told quiet.unsure) (a.opens t);
+          answers = λ g b tracks a there.
+              let c = moves_answer setup n m g b z1 y r.steps r.moves (quiet.begun g b tracks) in
+              c.from a (answer_by x y quiet.told c.told a (told_in c.told c.happenings) (unsure_answers quiet.told quiet.unsure) there);
+          elsewhere = λ g other.
+              let c = elsewhere setup Good law n m g other z1 y r.steps r.moves m itself there good unspent in
+              let told : y.halves.happenings ≡ x.halves.happenings ++ (quiet.told ++ c.told) = c.happenings ∙ ap (λ (hs : List Happening). hs ++ c.told) quiet.happenings ∙ append_assoc x.halves.happenings quiet.told c.told in
+              (c.none, ap (each_of (request_in g)) (told_is x y (quiet.told ++ c.told) told) ∙ each_append (request_in g) quiet.told c.told ∙ ap (λ (ms : List Message). ms ++ each_of (request_in g) c.told) (unsure_requests g quiet.told quiet.unsure) ∙ c.requests);
+        }

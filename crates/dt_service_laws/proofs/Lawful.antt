@@ -1,0 +1,60 @@
+-- Networks that a setup's own comes to by steps: beside each goes a world, as the laws of networks say.
+use Rattle.std.proofs.Common.{ℕ, ◌≡◌, ◌==◌, false, List, [], ◌∷◌, ◌++◌, map, Some, None, refl, ap, sym, subst, ◌∙◌, inl, inr}
+use Rattle.std.proofs.lemmas.Bool.{cases_Bool}
+use Rattle.dt_world_model.proofs.Tables.{all_look, nat_is, nat_self}
+use Rattle.dt_world_model.specs.Setup.{Setup, new_world}
+use Rattle.dt_world_model.specs.Station.{Station}
+use Rattle.dt_world_model.specs.Tables.{look}
+use Rattle.dt_world_model.specs.World.{Placed, World, view}
+use Rattle.dt_world_model.specs.WorldFacts.{IsPlaced}
+use Rattle.dt_endpoint.specs.Endpoints.{EndpointValue}
+use Rattle.dt_network.specs.Beside.{GoesBeside, IsBeside}
+use Rattle.dt_network.specs.Duties.{KeepsDuties}
+use Rattle.dt_network.specs.Network.{Network, new_network, opened_at}
+use Rattle.dt_network.specs.Steps.{AreSteps, Step, network_after, network_by}
+use Rattle.dt_service_laws.proofs.Elsewhere.{IsLawful}
+use Rattle.dt_service_laws.proofs.Runs.{IsAt, by_append, duties_append, steps_append}
+
+-- a network that a setup's own comes to
+pub record IsReached (setup : Setup) (net : Network) : Type 0 where
+  pub steps : List Step
+  pub are : AreSteps setup steps (new_network setup)
+  pub keep : KeepsDuties setup steps (new_network setup)
+  pub is : network_by steps (new_network setup) ≡ net
+
+last_beside : (setup : Setup) (steps : List Step) (net : Network) (w : World) → GoesBeside setup steps net w → (v : World) × IsBeside setup (network_by steps net) v
+last_beside setup [] net w h = (w, h.0)
+last_beside setup (s ∷ steps) net w h = last_beside setup steps (network_after s net) h.2.0 h.2.3
+
+beside_named : (setup : Setup) (net : Network) (w : World) → IsBeside setup net w → (n : ℕ) (e : EndpointValue) → IsAt n net e → e.spent ≡ false → e.state.host.me ≡ n
+beside_named setup net w beside n e there unspent =
+    let s = beside.endpoints n e there in
+    ap (λ (st : Station (Unit {0})). st.host.me) (s.state unspent) ∙ (all_look ℕ Placed ◌==◌ nat_self nat_is (IsPlaced w.params w.now (view w)) n s.at w.stations s.there beside.facts.stations).me
+
+pub new_there : (setup : Setup) → IsReached setup (new_network setup)
+new_there setup = record { steps = []; are = tt; keep = tt; is = refl }
+
+pub new_unspent : (setup : Setup) (k : ℕ) (e : EndpointValue) → IsAt k (new_network setup) e → e.spent ≡ false
+new_unspent setup k e there = first setup.stations there
+  where
+    first : (stations : List (ℕ × ℕ)) → look ◌==◌ k (map (λ (s : ℕ × ℕ). let x : ℕ × EndpointValue = (s.0, opened_at setup s.0 None) in x) stations) ≡ Some e → e.spent ≡ false
+    first [] h = absurd cc
+    first (s ∷ stations) h =
+        elim (cases_Bool (s.0 == k)) [
+          | inl y ↦ (let one : Some (opened_at setup s.0 None) ≡ Some e = rw y at h in let same : opened_at setup s.0 None ≡ e = cc in subst (λ (x : EndpointValue). x.spent ≡ false) same refl)
+          | inr o ↦ (let more : look ◌==◌ k (map (λ (s : ℕ × ℕ). let x : ℕ × EndpointValue = (s.0, opened_at setup s.0 None) in x) stations) ≡ Some e = rw o at h in first stations more)
+        ]
+
+module _ (setup : Setup) (world : (steps : List Step) → AreSteps setup steps (new_network setup) → KeepsDuties setup steps (new_network setup) → GoesBeside setup steps (new_network setup) (new_world setup)) where
+  pub lawful : IsLawful setup (IsReached setup)
+  lawful = record {
+    on = λ m steps h are keep. record {
+      steps = h.steps ++ steps;
+      are = steps_append setup h.steps steps (new_network setup) h.are (subst (AreSteps setup steps) (sym h.is) are);
+      keep = duties_append setup h.steps steps (new_network setup) h.keep (subst (KeepsDuties setup steps) (sym h.is) keep);
+      is = by_append h.steps steps (new_network setup) ∙ ap (network_by steps) h.is;
+    };
+    named = λ m n e h there unspent.
+        let b = last_beside setup h.steps (new_network setup) (new_world setup) (world h.steps h.are h.keep) in
+        beside_named setup (network_by h.steps (new_network setup)) b.0 b.1 n e (subst (λ (net : Network). IsAt n net e) (sym h.is) there) unspent;
+  }

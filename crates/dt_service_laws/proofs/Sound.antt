@@ -1,0 +1,356 @@
+-- Where kinds agree, a caller's flow takes nothing but calls, and each says its own number and payload.
+use Rattle.std.proofs.Common.{ℕ, ◌+◌, ◌*◌, ◌<◌, ◌^◌, ◌≡◌, ◌⊎◌, ◌==◌, Bool, true, false, List, [], ◌∷◌, ◌++◌, length, map, Option, Some, None, refl, ap, sym, subst, ◌∙◌, inl, inr, arith}
+use Rattle.std.specs.Prelude.{Contains, cond, find, nat_le, not, option_map, ◌||◌, ◌/◌, ◌%◌}
+use Rattle.std.specs.List.{list_any}
+use Rattle.std.proofs.lemmas.Bool.{and_parts}
+use Rattle.std.proofs.lemmas.Bool.Decides.{nat_tests}
+use Rattle.std.proofs.lemmas.List.Folds.{Any-from_list_any}
+use Rattle.dt_reports.specs.declared.faults.Refusal.{Refusal}
+use Rattle.dt_reports.specs.declared.faults.Refusal.TheVariants as refusal
+use Rattle.dt_units.specs.declared.endpoints.Flow.{Flow}
+use Rattle.dt_world_model.proofs.Tables.{flow_is, nat_is}
+use Rattle.dt_world_model.specs.Setup.{Setup}
+use Rattle.dt_world_model.specs.Station.{Tick}
+use Rattle.dt_world_model.specs.Tables.{same_flow}
+use Rattle.dt_world_model.specs.WorldStep.{first_refusal}
+use Rattle.dt_calls_laws.proofs.SideBySide.{number_back}
+use Rattle.dt_calls_model.specs.Messages.{message_of, reversed}
+use Rattle.dt_endpoint.specs.declared.answers.Arrived.{Arrived}
+use Rattle.dt_endpoint.specs.declared.answers.Arrived.TheVariants as arrived
+use Rattle.dt_endpoint.specs.declared.answers.Ticked.{Ticked}
+use Rattle.dt_endpoint.specs.declared.answers.Ticked.TheVariants as ticked
+use Rattle.dt_endpoint.specs.Calls.{arrive_event, arrive_refusal, send_answer}
+use Rattle.dt_endpoint.specs.Endpoints.{moment_of}
+use Rattle.dt_network.specs.Network.{Network}
+use Rattle.dt_service_model.specs.declared.answers.Forgot.{Forgot}
+use Rattle.dt_service_model.specs.declared.answers.Forgot.TheVariants as forgot
+use Rattle.dt_service_model.specs.declared.answers.Made.{Made}
+use Rattle.dt_service_model.specs.declared.answers.Replied.{Replied}
+use Rattle.dt_service_model.specs.declared.calls.Call.{Call}
+use Rattle.dt_service_model.specs.declared.happenings.Happening.{Happening}
+use Rattle.dt_service_model.specs.declared.names.CallNumber.{CallNumber}
+use Rattle.dt_service_model.specs.declared.names.Token.{Token}
+use Rattle.dt_service_model.specs.declared.ports.Kind.{Kind}
+use Rattle.dt_service_model.specs.declared.ports.Kind.TheVariants.{Caller, Service}
+use Rattle.dt_service_model.specs.declared.ports.Most.{Most}
+use Rattle.dt_service_model.specs.declared.ports.Port.{Port}
+use Rattle.dt_service_model.specs.Asked.{call, call_refusals, forget_refusals, forgotten, forgotten_unless, is_closed, is_life_in_use, made_by, made_of, message_event, next_number, replied_by, reply, reply_refusals, unless, with_call_unless, with_port}
+use Rattle.dt_service_model.specs.Ends.{next_call, next_in}
+use Rattle.dt_service_model.specs.Halves.{Halves, is_caller, kind_in, new_halves}
+use Rattle.dt_service_model.specs.Names.{call_number, number_of, same_number, same_token}
+use Rattle.dt_service_model.specs.Turns.{Node, happens, turn, turn_end, with_halves}
+use Rattle.dt_service_laws.specs.Histories.{Message, call_by, made_as, replied_as, reply_by}
+use Rattle.dt_service_laws.specs.Premises.{IsLife, IsServed, KeepsDeed, KeepsKind}
+use Rattle.dt_service_laws.specs.Services.{Arrives, Closes, Deed, Forgets, GivesKind, GivesReply, MakesCall, OpensAgain, PullsFrame, Raises, TakesHappening, Ticks, node_after, comes_to}
+use Rattle.dt_service_laws.proofs.Asked.{all_clear, first_none, not_false, spelled}
+use Rattle.dt_service_laws.proofs.Answering.{same_reversed}
+use Rattle.dt_service_laws.proofs.Keeping.{IsOfService, Keeps, end_keeps, happens_keeps, keeps_quietly, turn_keeps}
+use Rattle.dt_service_laws.proofs.Quiet.{close_quiet, forgotten_quiet}
+use Rattle.dt_service_laws.proofs.Telling.{said}
+use Rattle.dt_service_laws.proofs.Sent.{back_by}
+
+-- a token that is open is there
+pub token_there : (token : Token) (tokens : List Token) → list_any (same_token token) tokens ≡ true → (t : Token) × Contains tokens t × (token.flow ≡ t.flow) × (same_number token.number t.number ≡ true)
+token_there token tokens h =
+    let a = Any-from_list_any (same_token token) tokens h in
+    let b = and_parts (same_flow token.flow a.1.flow) (same_number token.number a.1.number) a.4 in
+    (a.1, (a.0, a.2, a.3), flow_is token.flow a.1.flow b.0, b.1)
+
+module _ (kinds : (node port : ℕ) → Kind) (n : ℕ) where
+  -- kinds, tokens and the life of a node
+  pub record IsSound (h : Halves) : Type 0 where
+    pub ports : (port : ℕ) (kind : Kind) → kind_in port h.ports ≡ Some kind → kind ≡ kinds n port
+    pub tokens : (t : Token) → Contains h.tokens t → IsOfService h.ports t
+    pub life : IsLife h.life
+
+  pub sound_keeps : (h k : Halves) → Keeps h k → IsSound h → IsSound k
+  sound_keeps h k keeps s = record {
+    ports = λ port kind is. s.ports port kind (subst (λ (ps : List Port). kind_in port ps ≡ Some kind) keeps.ports is);
+    tokens = λ t there. subst (λ (ps : List Port). IsOfService ps t) (sym keeps.ports) (elim (keeps.tokens t there) [ inl was ↦ s.tokens t was | inr of ↦ of ]);
+    life = subst IsLife (sym keeps.life) s.life;
+  }
+
+  -- a call that is made, and one that isn't
+  sound_call : (o : Option Refusal) (f : Flow) (count deadline : ℕ) (h : Halves) → IsSound h → IsSound (with_call_unless o f count deadline h)
+  sound_call None f count deadline h s = record { ports = s.ports; tokens = s.tokens; life = s.life }
+  sound_call (Some r) f count deadline h s = s
+
+  sound_forgot : (o : Option Refusal) (token : Token) (h : Halves) → IsSound h → IsSound (forgotten_unless o token h)
+  sound_forgot None token h s = sound_keeps h (forgotten token h) (keeps_quietly h (forgotten token h) (forgotten_quiet token h)) s
+  sound_forgot (Some r) token h s = s
+
+  sound_end : (now : ℕ) (x : Node) → IsSound x.halves → IsSound (turn_end now x).halves
+  sound_end now x s = sound_keeps x.halves (turn_end now x).halves (end_keeps now x) s
+
+  call_sound : (o : Option Made) (now : ℕ) (f : Flow) (message : List ℕ) (patience : ℕ) (x : Node) → IsSound x.halves → IsSound (unless o x (made_by now f message patience x)).1.halves
+  call_sound (Some a) now f message patience x s = s
+  call_sound None now f message patience x s =
+      let y = happens now (message_event f message) x in
+      sound_end now _ (sound_call (send_answer now f message true true x.endpoint) f (length message) (moment_of now x.endpoint + patience) y.halves (sound_keeps x.halves y.halves (happens_keeps now (message_event f message) x) s))
+
+  reply_sound : (o : Option Replied) (now : ℕ) (token : Token) (message : List ℕ) (x : Node) → IsSound x.halves → IsSound (unless o x (replied_by now token message x)).1.halves
+  reply_sound (Some a) now token message x s = s
+  reply_sound None now token message x s =
+      let y = happens now (message_event (reversed token.flow) message) x in
+      sound_end now _ (sound_forgot (send_answer now (reversed token.flow) message true true x.endpoint) token y.halves (sound_keeps x.halves y.halves (happens_keeps now (message_event (reversed token.flow) message) x) s))
+
+  forget_sound : (o : Option Forgot) (now : ℕ) (token : Token) (x : Node) → IsSound x.halves → IsSound (unless o x (forgot.Done, turn_end now (with_halves (forgotten token) x))).1.halves
+  forget_sound (Some a) now token x s = s
+  forget_sound None now token x s = sound_end now (with_halves (forgotten token) x) (sound_forgot None token x.halves s)
+
+  tick_sound : (b : Bool) (now : ℕ) (x : Node) → IsSound x.halves → IsSound (cond {A = Ticked × Node} b (ticked.Spent, x) (ticked.Done, turn now Tick x)).1.halves
+  tick_sound true now x s = s
+  tick_sound false now x s = sound_keeps x.halves (turn now Tick x).halves (turn_keeps now Tick x) s
+
+  arrive_sound : (c : Bool) (o : Option Arrived) (now link : ℕ) (datagram : List ℕ) (waited : ℕ) (x : Node) → IsSound x.halves → IsSound (cond c x (comes_to o now link datagram waited x)).halves
+  arrive_sound true o now link datagram waited x s = s
+  arrive_sound false (Some a) now link datagram waited x s = s
+  arrive_sound false None now link datagram waited x s = sound_keeps x.halves (turn now (arrive_event link datagram waited) x).halves (turn_keeps now (arrive_event link datagram waited) x) s
+
+  raise_sound : (b : Bool) (life : ℕ) (h : Halves) → IsLife life → IsSound h → IsSound (cond b h (record h { life = life; count = 0 }))
+  raise_sound true life h fits s = s
+  raise_sound false life h fits s = record { ports = s.ports; tokens = s.tokens; life = fits }
+
+  next_sound : (calls : List Call) (h : Halves) → IsSound h → IsSound (next_call calls h).1
+  next_sound [] h s = s
+  next_sound (call ∷ calls) h s = record { ports = s.ports; tokens = s.tokens; life = s.life }
+
+  closed_sound : (b : Bool) (h : Halves) → IsSound h → IsSound (cond {A = Option Happening × Halves} b (next_call h.calls h) (None, h)).1
+  closed_sound true h s = next_sound h.calls h s
+  closed_sound false h s = s
+
+  taken_sound : (told : List Happening) (h : Halves) → IsSound h → IsSound (next_in told h).1
+  taken_sound [] h s = closed_sound h.closed h s
+  taken_sound (x ∷ told) h s = record { ports = s.ports; tokens = s.tokens; life = s.life }
+
+  -- a port gets its kind
+  kept_kind : (port : ℕ) (kind : Kind) (ports more : List Port) → kind_in port ports ≡ Some kind → kind_in port (ports ++ more) ≡ Some kind
+  kept_kind port kind [] more is = absurd cc
+  kept_kind port kind (p ∷ ports) more is = by_test (p.port == port) is (kept_kind port kind ports more)
+    where
+      by_test : (b : Bool) → option_map (λ (p : Port). p.kind) (cond b (Some p) (find (λ (p : Port). p.port == port) ports)) ≡ Some kind → (kind_in port ports ≡ Some kind → kind_in port (ports ++ more) ≡ Some kind)
+          → option_map (λ (p : Port). p.kind) (cond b (Some p) (find (λ (p : Port). p.port == port) (ports ++ more))) ≡ Some kind
+      by_test true is rest = is
+      by_test false is rest = rest is
+
+  new_kind : (q : ℕ) (k : Kind) (port : ℕ) (kind : Kind) (ports : List Port) → kind_in q (ports ++ (record { port = port; kind = kind }) ∷ []) ≡ Some k → (kind_in q ports ≡ Some k) ⊎ ((port ≡ q) × (kind ≡ k))
+  new_kind q k port kind [] is = by_test (port == q) refl is
+    where
+      by_test : (b : Bool) → (port == q) ≡ b → option_map (λ (p : Port). p.kind) (cond b (Some (record { port = port; kind = kind })) None) ≡ Some k → (kind_in q [] ≡ Some k) ⊎ ((port ≡ q) × (kind ≡ k))
+      by_test true e is = inr (nat_is port q e, (let same : kind ≡ k = cc in same))
+      by_test false e is = absurd cc
+  new_kind q k port kind (p ∷ ports) is = by_test (p.port == q) is (new_kind q k port kind ports)
+    where
+      by_test : (b : Bool) → option_map (λ (p : Port). p.kind) (cond b (Some p) (find (λ (p : Port). p.port == q) (ports ++ (record { port = port; kind = kind }) ∷ []))) ≡ Some k
+          → (kind_in q (ports ++ (record { port = port; kind = kind }) ∷ []) ≡ Some k → (kind_in q ports ≡ Some k) ⊎ ((port ≡ q) × (kind ≡ k)))
+          → (option_map (λ (p : Port). p.kind) (cond b (Some p) (find (λ (p : Port). p.port == q) ports)) ≡ Some k) ⊎ ((port ≡ q) × (kind ≡ k))
+      by_test true is rest = inl is
+      by_test false is rest = rest is
+
+  kind_sound : (o : Option Kind) (port : ℕ) (kind : Kind) (h : Halves) → kind ≡ kinds n port → IsSound h → IsSound (with_port port o kind h)
+  kind_sound (Some has) port kind h agrees s = s
+  kind_sound None port kind h agrees s = record {
+    ports = λ q k is. elim (new_kind q k port kind h.ports is) [ inl was ↦ s.ports q k was | inr new ↦ sym new.1 ∙ agrees ∙ ap (kinds n) new.0 ];
+    tokens = λ t there. kept_kind t.flow.to_port Service h.ports ((record { port = port; kind = kind }) ∷ []) (s.tokens t there);
+    life = s.life;
+  }
+
+  pub new_sound : (most : Most) (life : ℕ) → IsLife life → IsSound (new_halves most life)
+  new_sound most life fits = record { ports = λ port kind is. absurd cc; tokens = λ t there. absurd (omega (arith, there.1)); life = fits }
+
+  -- WHATEVER IS DONE
+  pub sound_deed : (setup : Setup) (m : Network) (x : Node) (deed : Deed) → KeepsKind kinds n deed → KeepsDeed setup m n deed x → IsSound x.halves → IsSound (node_after setup n deed x).halves
+  sound_deed setup m x (GivesKind port kind) agrees keeps s = kind_sound (kind_in port x.halves.ports) port kind x.halves agrees s
+  sound_deed setup m x (MakesCall now f payload patience) agrees keeps s = call_sound (first_refusal (call_refusals x f payload patience)) now f (message_of (number_of (next_number x.halves)) payload) patience x s
+  sound_deed setup m x (GivesReply now token payload) agrees keeps s = reply_sound (first_refusal (reply_refusals x token payload)) now token (message_of (number_of token.number) payload) x s
+  sound_deed setup m x (Forgets now token) agrees keeps s = forget_sound (first_refusal (forget_refusals x token)) now token x s
+  sound_deed setup m x (Ticks now) agrees keeps s = tick_sound (is_closed x) now x s
+  sound_deed setup m x (Arrives now link datagram waited) agrees keeps s = arrive_sound (is_closed x) (arrive_refusal link datagram waited x.endpoint) now link datagram waited x s
+  sound_deed setup m x (Raises life) agrees keeps s = raise_sound (is_life_in_use life x.halves) life x.halves keeps s
+  sound_deed setup m x TakesHappening agrees keeps s = taken_sound x.halves.happenings x.halves s
+  sound_deed setup m x PullsFrame agrees keeps s = s
+  sound_deed setup m x Closes agrees keeps s = sound_keeps x.halves _ (keeps_quietly x.halves _ (close_quiet x.halves)) s
+  sound_deed setup m x (OpensAgain again routes most life) agrees keeps s = new_sound most life keeps.1
+
+  -- A REPLY goes back to a caller, and never on a caller's flow
+  both_not : (a b : Bool) → not (not a || b) ≡ true → a ≡ true
+  both_not true b h = refl
+  both_not false b h = absurd cc
+
+  reply_apart : (f : Flow) → IsServed kinds f → (x : Node) → IsSound x.halves → x.endpoint.state.host.me ≡ n → (now : ℕ) (token : Token) (payload : List ℕ) → same_flow (reversed token.flow) f ≡ true
+      → (o : Option Replied) → first_refusal (reply_refusals x token payload) ≡ o → replied_as (unless o x (replied_by now token (message_of (number_of token.number) payload) x)).0 token payload ≡ []
+  reply_apart f served x s me now token payload same (Some a) refused = first_none (λ (r : Replied). replied_as r token payload) (reply_refusals x token payload) a (refl, (refl, (refl, (refl, (refl, tt))))) refused
+  reply_apart f served x s me now token payload same None clear =
+      let c = all_clear (reply_refusals x token payload) clear in
+      let open_at = token_there token x.halves.tokens (not_false _ c.1.1.0) in
+      let service : Service ≡ kinds n open_at.0.flow.to_port = s.ports open_at.0.flow.to_port Service (s.tokens open_at.0 open_at.1) in
+      let flow : reversed token.flow ≡ f = flow_is (reversed token.flow) f same in
+      let from : token.flow.to.0 ≡ n = nat_is _ _ (both_not (token.flow.to.0 == x.endpoint.state.host.me) (token.flow.from.0 == x.endpoint.state.host.me) (not_false _ c.1.1.1.0)) ∙ me in
+      let here : kinds n token.flow.to_port ≡ Caller = subst (λ (k : ℕ). kinds k token.flow.to_port ≡ Caller) from (subst (λ (g : Flow). kinds g.from.0 g.from_port ≡ Caller) (sym flow) served.caller) in
+      let no : Service ≡ Caller = service ∙ ap (λ (g : Flow). kinds n g.to_port) (sym open_at.2) ∙ here in
+      absurd cc
+
+  reply_none : (f : Flow) → IsServed kinds f → (x : Node) → IsSound x.halves → x.endpoint.state.host.me ≡ n → (now : ℕ) (token : Token) (payload : List ℕ) → (b : Bool) → same_flow (reversed token.flow) f ≡ b → cond b (replied_as (reply now token payload x).0 token payload) [] ≡ []
+  reply_none f served x s me now token payload true is = reply_apart f served x s me now token payload is (first_refusal (reply_refusals x token payload)) refl
+  reply_none f served x s me now token payload false is = refl
+
+  pub back_none : (f : Flow) → IsServed kinds f → (x : Node) → IsSound x.halves → x.endpoint.state.host.me ≡ n → (deed : Deed) → back_by f deed x ≡ []
+  back_none f served x s me (GivesReply now token payload) = reply_none f served x s me now token payload (same_flow (reversed token.flow) f) refl
+  back_none f served x s me (GivesKind port kind) = refl
+  back_none f served x s me (MakesCall now g payload patience) = refl
+  back_none f served x s me (Forgets now token) = refl
+  back_none f served x s me (Ticks now) = refl
+  back_none f served x s me (Arrives now link datagram waited) = refl
+  back_none f served x s me (Raises life) = refl
+  back_none f served x s me TakesHappening = refl
+  back_none f served x s me PullsFrame = refl
+  back_none f served x s me Closes = refl
+  back_none f served x s me (OpensAgain again routes most life) = refl
+
+-- A CALL goes from its node, and its port is a caller's
+is_a_caller : (o : Option Kind) → is_caller o ≡ true → o ≡ Some Caller
+is_a_caller None h = absurd cc
+is_a_caller (Some Caller) h = refl
+is_a_caller (Some Service) h = absurd cc
+
+first_of_both : (a b : Bool) → not (not a || b) ≡ true → a ≡ true
+first_of_both true b h = refl
+first_of_both false b h = absurd cc
+
+pub record IsCall (x : Node) (f : Flow) : Type 0 where
+  pub from : f.from.0 ≡ x.endpoint.state.host.me
+  pub caller : kind_in f.from_port x.halves.ports ≡ Some Caller
+
+made_if : (o : Option Made) (now : ℕ) (f : Flow) (payload : List ℕ) (patience : ℕ) (x : Node) → first_refusal (call_refusals x f payload patience) ≡ o
+    → (made_as (unless o x (made_by now f (message_of (number_of (next_number x.halves)) payload) patience x)).0 payload ≡ []) ⊎ IsCall x f
+made_if (Some a) now f payload patience x refused = inl (first_none (λ (r : Made). made_as r payload) (call_refusals x f payload patience) a (refl, (refl, (refl, (refl, (refl, (refl, (refl, (refl, tt)))))))) refused)
+made_if None now f payload patience x clear =
+    let c = all_clear (call_refusals x f payload patience) clear in
+    inr (record {
+      from = nat_is f.from.0 x.endpoint.state.host.me (first_of_both (f.from.0 == x.endpoint.state.host.me) (f.to.0 == x.endpoint.state.host.me) (not_false _ c.1.0));
+      caller = is_a_caller (kind_in f.from_port x.halves.ports) (not_false _ c.1.1.0);
+    })
+
+call_if : (f g : Flow) (ms : List Message) (x : Node) → (ms ≡ []) ⊎ IsCall x g → (b : Bool) → same_flow g f ≡ b → (cond b ms [] ≡ []) ⊎ IsCall x f
+call_if f g ms x h false is = inl refl
+call_if f g ms x (inl none) true is = inl none
+call_if f g ms x (inr call) true is = inr (subst (IsCall x) (flow_is g f is) call)
+
+pub call_is : (f : Flow) (deed : Deed) (x : Node) → (call_by f deed x ≡ []) ⊎ IsCall x f
+call_is f (MakesCall now g payload patience) x = call_if f g _ x (made_if (first_refusal (call_refusals x g payload patience)) now g payload patience x refl) (same_flow g f) refl
+call_is f (GivesKind port kind) x = inl refl
+call_is f (GivesReply now token payload) x = inl refl
+call_is f (Forgets now token) x = inl refl
+call_is f (Ticks now) x = inl refl
+call_is f (Arrives now link datagram waited) x = inl refl
+call_is f (Raises life) x = inl refl
+call_is f TakesHappening x = inl refl
+call_is f PullsFrame x = inl refl
+call_is f Closes x = inl refl
+call_is f (OpensAgain again routes most life) x = inl refl
+
+-- on the way back to a caller no call is made, and what goes there are the replies
+pub no_call_back : (kinds : (node port : ℕ) → Kind) (n : ℕ) (f : Flow) → IsServed kinds f → (x : Node) → IsSound kinds n x.halves → x.endpoint.state.host.me ≡ n → (deed : Deed) → call_by (reversed f) deed x ≡ []
+no_call_back kinds n f served x s me deed =
+    elim (call_is (reversed f) deed x) [
+      | inl none ↦ none
+      | inr call ↦
+          let here : f.to.0 ≡ n = call.from ∙ me in
+          let caller : Caller ≡ kinds n f.to_port = s.ports f.to_port Caller call.caller in
+          let service : kinds n f.to_port ≡ Service = subst (λ (k : ℕ). kinds k f.to_port ≡ Service) here served.service in
+          let wrong : Caller ≡ Service = caller ∙ service in
+          absurd cc
+    ]
+
+pub back_is : (f : Flow) (deed : Deed) (x : Node) → back_by (reversed f) deed x ≡ reply_by f deed x
+back_is f (GivesReply now token payload) x = ap (λ (b : Bool). cond b (replied_as (reply now token payload x).0 token payload) []) (same_reversed token.flow f)
+back_is f (GivesKind port kind) x = refl
+back_is f (MakesCall now g payload patience) x = refl
+back_is f (Forgets now token) x = refl
+back_is f (Ticks now) x = refl
+back_is f (Arrives now link datagram waited) x = refl
+back_is f (Raises life) x = refl
+back_is f TakesHappening x = refl
+back_is f PullsFrame x = refl
+back_is f Closes x = refl
+back_is f (OpensAgain again routes most life) x = refl
+
+-- A REPLY goes from its node
+pub reply_is : (f : Flow) (deed : Deed) (x : Node) → (reply_by f deed x ≡ []) ⊎ (f.to.0 ≡ x.endpoint.state.host.me)
+reply_is f (GivesReply now token payload) x = by_flow (same_flow token.flow f) refl (first_refusal (reply_refusals x token payload)) refl
+  where
+    by_flow : (b : Bool) → same_flow token.flow f ≡ b → (o : Option Replied) → first_refusal (reply_refusals x token payload) ≡ o
+        → (cond b (replied_as (unless o x (replied_by now token (message_of (number_of token.number) payload) x)).0 token payload) [] ≡ []) ⊎ (f.to.0 ≡ x.endpoint.state.host.me)
+    by_flow false is o h = inl refl
+    by_flow true is (Some a) h = inl (first_none (λ (r : Replied). replied_as r token payload) (reply_refusals x token payload) a (refl, (refl, (refl, (refl, (refl, tt))))) h)
+    by_flow true is None h =
+        let c = all_clear (reply_refusals x token payload) h in
+        inr (ap (λ (g : Flow). g.to.0) (sym (flow_is token.flow f is)) ∙ nat_is token.flow.to.0 x.endpoint.state.host.me (first_of_both (token.flow.to.0 == x.endpoint.state.host.me) (token.flow.from.0 == x.endpoint.state.host.me) (not_false _ c.1.1.1.0)))
+reply_is f (GivesKind port kind) x = inl refl
+reply_is f (MakesCall now g payload patience) x = inl refl
+reply_is f (Forgets now token) x = inl refl
+reply_is f (Ticks now) x = inl refl
+reply_is f (Arrives now link datagram waited) x = inl refl
+reply_is f (Raises life) x = inl refl
+reply_is f TakesHappening x = inl refl
+reply_is f PullsFrame x = inl refl
+reply_is f Closes x = inl refl
+reply_is f (OpensAgain again routes most life) x = inl refl
+
+-- WHAT IS SPELLED is said
+pub number_again : (number : CallNumber) → number.life < 2 ^ 32 → number.count < 2 ^ 32 → call_number (number_of number) ≡ number
+number_again number life count =
+    let l : (number.life * 2 ^ 32 + number.count) / 2 ^ 32 ≡ number.life = omega arith in
+    let c : (number.life * 2 ^ 32 + number.count) % 2 ^ 32 ≡ number.count = omega arith in
+    ap (λ (k : ℕ). let r : CallNumber = record { life = k; count = (number.life * 2 ^ 32 + number.count) % 2 ^ 32 } in r) l
+    ∙ ap (λ (k : ℕ). let r : CallNumber = record { life = number.life; count = k } in r) c
+
+pub said_again : (m : Message) → m.number.life < 2 ^ 32 → m.number.count < 2 ^ 32 → said (spelled m) ≡ m
+said_again m life count =
+    let fits : number_of m.number < 2 ^ 64 = omega arith in
+    ap (λ (k : ℕ). let r : Message = record { number = call_number k; carried = m.carried } in r) (number_back (number_of m.number) m.carried fits)
+    ∙ ap (λ (k : CallNumber). let r : Message = record { number = k; carried = m.carried } in r) (number_again m.number life count)
+
+-- messages whose numbers fit into their octets
+abbrev pub AreFit : List Message → Type 0
+AreFit [] = Unit {0}
+AreFit (m ∷ ms) = (m.number.life < 2 ^ 32) × (m.number.count < 2 ^ 32) × AreFit ms
+
+abbrev pub AreSaid : List Message → Type 0
+AreSaid ms = map said (map spelled ms) ≡ ms
+
+pub fit_said : (ms : List Message) → AreFit ms → AreSaid ms
+fit_said [] fit = refl
+fit_said (m ∷ ms) fit = ap (λ (x : Message). x ∷ map said (map spelled ms)) (said_again m fit.0 fit.1) ∙ ap (λ (xs : List Message). m ∷ xs) (fit_said ms fit.2)
+
+fit_made : (o : Option Refusal) (h : Halves) (payload : List ℕ) → IsLife h.life → h.count < 2 ^ 32 → AreFit (made_as (made_of o h) payload)
+fit_made None h payload life count = (life, count, tt)
+fit_made (Some (refusal.Quiet until)) h payload life count = tt
+fit_made (Some (refusal.Full free)) h payload life count = tt
+
+call_fits : (o : Option Made) (now : ℕ) (f : Flow) (payload : List ℕ) (patience : ℕ) (x : Node) → IsLife x.halves.life → first_refusal (call_refusals x f payload patience) ≡ o
+    → AreFit (made_as (unless o x (made_by now f (message_of (number_of (next_number x.halves)) payload) patience x)).0 payload)
+call_fits (Some a) now f payload patience x life refused =
+    subst AreFit (sym (first_none (λ (r : Made). made_as r payload) (call_refusals x f payload patience) a (refl, (refl, (refl, (refl, (refl, (refl, (refl, (refl, tt)))))))) refused)) tt
+call_fits None now f payload patience x life clear =
+    let c = all_clear (call_refusals x f payload patience) clear in
+    let many : nat_le (2 ^ 32) x.halves.count ≡ false = c.1.1.1.1.1.1.0 in
+    let count : x.halves.count < 2 ^ 32 = grind (arith, nat_tests, many) in
+    fit_made (send_answer now f (message_of (number_of (next_number x.halves)) payload) true true x.endpoint) x.halves payload life count
+
+fit_if : (b : Bool) (ms : List Message) → AreFit ms → AreFit (cond b ms [])
+fit_if true ms h = h
+fit_if false ms h = tt
+
+pub calls_fit : (f : Flow) (deed : Deed) (x : Node) → IsLife x.halves.life → AreFit (call_by f deed x)
+calls_fit f (MakesCall now g payload patience) x life = fit_if (same_flow g f) _ (call_fits (first_refusal (call_refusals x g payload patience)) now g payload patience x life refl)
+calls_fit f (GivesKind port kind) x life = tt
+calls_fit f (GivesReply now token payload) x life = tt
+calls_fit f (Forgets now token) x life = tt
+calls_fit f (Ticks now) x life = tt
+calls_fit f (Arrives now link datagram waited) x life = tt
+calls_fit f (Raises l) x life = tt
+calls_fit f TakesHappening x life = tt
+calls_fit f PullsFrame x life = tt
+calls_fit f Closes x life = tt
+calls_fit f (OpensAgain again routes most l) x life = tt

@@ -1,0 +1,317 @@
+-- Turns of services are steps of the network of their endpoints.
+use Rattle.std.proofs.Common.{ℕ, ◌+◌, ◌<◌, ◌≤◌, ◌≡◌, ◌⊎◌, ◌==◌, Bool, true, false, List, [], ◌∷◌, ◌++◌, drop, length, map, Option, Some, None, refl, ap, sym, subst, ◌∙◌, inl, inr, append-nil, append_assoc, drop_of_length-le, arith}
+use Rattle.std.specs.Prelude.{All, Contains, cond, option_map}
+use Rattle.std.proofs.Math.Seq.{drop-length, drop-nil}
+use Rattle.std.proofs.lemmas.Bool.{cases_Bool}
+use Rattle.std.proofs.lemmas.List.{map-append}
+use Rattle.std.proofs.lemmas.List.Elements.{All-contains, All-weaker, Contains-append_cases, Contains-append_left, Contains-append_right}
+use Rattle.dt_items.specs.declared.item.Item.{Item}
+use Rattle.dt_items.specs.Unread.{marked}
+use Rattle.dt_units.specs.declared.endpoints.Flow.{Flow}
+use Rattle.dt_world_model.proofs.Tables.{look_write_other, nat_is, nat_self}
+use Rattle.dt_world_model.specs.Setup.{Setup}
+use Rattle.dt_world_model.specs.Tables.{look, same_flow, write}
+use Rattle.dt_calls_laws.specs.Wholes.{items_of_all}
+use Rattle.dt_calls_model.specs.Messages.{reversed}
+use Rattle.dt_service_model.specs.Names.{token_with}
+use Rattle.dt_endpoint.specs.Endpoints.{EndpointValue}
+use Rattle.dt_network.specs.Duties.{KeepsDuties}
+use Rattle.dt_network.specs.Network.{Network}
+use Rattle.dt_network.specs.Octets.{all_read}
+use Rattle.dt_network.specs.Steps.{AreSteps, Calls, DoesFrom, OpenAgain, Pass, PullFrame, Step, network_after, network_by}
+use Rattle.dt_network.specs.Duties.{KeepsFrom as CallKeeps}
+use Rattle.dt_service_model.specs.declared.happenings.Happening.{Happening}
+use Rattle.dt_service_model.specs.declared.names.CallNumber.{CallNumber}
+use Rattle.dt_service_model.specs.declared.ports.Kind.{Kind}
+use Rattle.dt_service_model.specs.declared.calls.Call.{Call}
+use Rattle.dt_service_model.specs.Asked.{is_life_in_use, raised, with_kind, with_port}
+use Rattle.dt_service_model.specs.Ends.{close, next, next_call, next_in}
+use Rattle.dt_service_model.specs.Halves.{Halves, kind_in}
+use Rattle.dt_service_model.specs.Turns.{Node}
+use Rattle.dt_service_laws.specs.Histories.{Message, answer_in, answers_at, at_node, at_the, call_by, calls_on, count_of, each_of, in_turn, in_turns, replies_on, reply_by, request_in, requests_on, told_by}
+use Rattle.dt_service_laws.specs.Orders.{AreSomeOf, none}
+use Rattle.dt_service_laws.specs.Premises.{KeepsDeed, KeepsFrom, KeepsTurn, KeepsTurns}
+use Rattle.dt_service_laws.specs.Services.{Arrives, Closes, Deed, Does, Forgets, GivesKind, GivesReply, MakesCall, OpensAgain, Passes, PullsFrame, Raises, Services, TakesHappening, Ticks, Turn, node_after, node_does, node_with, services_after, told_between, with_node}
+use Rattle.dt_service_laws.specs.Wholes.{begun_after, messages_from}
+use Rattle.dt_service_laws.proofs.Answering.{IsOther, count_append, not_in_none}
+use Rattle.dt_service_laws.proofs.Asked.{alike, arrive_comes, call_comes, forget_comes, reply_comes, spelled, tick_comes}
+use Rattle.dt_service_laws.proofs.Deeds.{Comes, comes_by_step, comes_quietly}
+use Rattle.dt_service_laws.proofs.Elsewhere.{IsLawful}
+use Rattle.dt_service_laws.proofs.Moves.{AreKeptFrom, IsKeptFrom, Tracks, open_count}
+use Rattle.dt_service_laws.proofs.Orders.{both}
+use Rattle.dt_service_laws.proofs.Pieces.{messages_append}
+use Rattle.dt_service_laws.proofs.Quiet.{close_quiet, kept_itself}
+use Rattle.dt_service_laws.proofs.Middle.{AreOf, mid_opens, mid_waits}
+use Rattle.dt_service_laws.proofs.Sent.{mid_by, sent_on}
+use Rattle.dt_service_laws.proofs.Sound.{call_is, reply_is}
+use Rattle.dt_service_laws.proofs.Runs.{IsAt, duties_append, steps_append, written_there}
+use Rattle.dt_service_laws.proofs.Sending.{Takings, takes_append, takes_more, takes_nothing}
+use Rattle.dt_service_laws.proofs.Telling.{read_append, said}
+
+-- what is beside an endpoint
+kind_between : (port : ℕ) (o : Option Kind) (kind : Kind) (h : Halves) → ((with_port port o kind h).begun ≡ h.begun) × ((with_port port o kind h).happenings ≡ h.happenings)
+kind_between port None kind h = (refl, refl)
+kind_between port (Some k) kind h = (refl, refl)
+
+life_between : (b : Bool) (life : ℕ) (h : Halves) → ((cond b h (record h { life = life; count = 0 })).begun ≡ h.begun) × ((cond b h (record h { life = life; count = 0 })).happenings ≡ h.happenings)
+life_between true life h = (refl, refl)
+life_between false life h = (refl, refl)
+
+record Takes1 (h k : Halves) : Type 0 where
+  begun : k.begun ≡ h.begun
+  none : drop (length h.happenings) k.happenings ≡ []
+
+taken_call : (calls : List Call) (h : Halves) → h.happenings ≡ [] → Takes1 h (next_call calls h).1
+taken_call [] h is = record { begun = refl; none = drop-length h.happenings }
+taken_call (call ∷ calls) h is = record { begun = refl; none = drop-length h.happenings }
+
+taken_closed : (b : Bool) (h : Halves) → h.happenings ≡ [] → Takes1 h (cond {A = Option Happening × Halves} b (next_call h.calls h) (None, h)).1
+taken_closed true h is = taken_call h.calls h is
+taken_closed false h is = record { begun = refl; none = drop-length h.happenings }
+
+rest_dropped : (x : Happening) (xs : List Happening) → drop (length (x ∷ xs)) xs ≡ []
+rest_dropped x xs = let le : length xs ≤ length (x ∷ xs) = omega arith in drop_of_length-le xs le
+
+taken_first : (told : List Happening) (h : Halves) → h.happenings ≡ told → Takes1 h (next_in told h).1
+taken_first [] h is = taken_closed h.closed h is
+taken_first (x ∷ xs) h is = record { begun = refl; none = ap (λ (ts : List Happening). drop (length ts) xs) is ∙ rest_dropped x xs }
+
+module _ (setup : Setup) (Good : Network → Type 0) (law : IsLawful setup Good) where
+  module _ (n : ℕ) (m : Network) (x : Node) (there : IsAt n m x.endpoint) (unspent : x.endpoint.spent ≡ false) (good : Good m) where
+    pub deed_comes : (deed : Deed) → KeepsDeed setup m n deed x → Comes setup n x (mid_by setup n deed x) (node_after setup n deed x) m (λ g. items_of_all (map spelled (sent_on g deed x)))
+    deed_comes (GivesKind port kind) keeps =
+        let k = kind_between port (kind_in port x.halves.ports) kind x.halves in
+        comes_quietly setup n x (with_kind port kind x.halves) m there unspent (λ g b tracks. subst (λ (es : List (Flow × List ℕ)). Tracks g b es) (sym k.0) tracks) (ap (drop (length x.halves.happenings)) k.1 ∙ drop-length x.halves.happenings)
+    deed_comes (MakesCall now f payload patience) keeps =
+        alike setup n m x there unspent Good law good _ _ _ _ (λ g. ap (λ (ms : List Message). items_of_all (map spelled ms)) (sym (append-nil _))) (call_comes setup n m x there unspent Good law good now keeps.0 f keeps.1 payload patience keeps.2)
+    deed_comes (GivesReply now token payload) keeps = reply_comes setup n m x there unspent Good law good now keeps.0 token keeps.1 payload keeps.2
+    deed_comes (Forgets now token) keeps = forget_comes setup n m x there unspent Good law good now keeps.0 token keeps.1
+    deed_comes (Ticks now) keeps = tick_comes setup n m x there unspent Good law good now keeps.0 keeps.1
+    deed_comes (Arrives now link datagram waited) keeps = arrive_comes setup n m x there unspent Good law good now link datagram waited keeps.0 keeps.1
+    deed_comes (Raises life) keeps =
+        let k = life_between (is_life_in_use life x.halves) life x.halves in
+        comes_quietly setup n x (raised life x.halves) m there unspent (λ g b tracks. subst (λ (es : List (Flow × List ℕ)). Tracks g b es) (sym k.0) tracks) (ap (drop (length x.halves.happenings)) k.1 ∙ drop-length x.halves.happenings)
+    deed_comes TakesHappening keeps =
+        let k = taken_first x.halves.happenings x.halves refl in
+        comes_quietly setup n x (next x.halves).1 m there unspent (λ g b tracks. subst (λ (es : List (Flow × List ℕ)). Tracks g b es) (sym k.begun) tracks) k.none
+    deed_comes PullsFrame keeps =
+        let y = node_after setup n PullsFrame x in
+        comes_by_step setup n x m y (Calls n PullFrame y.endpoint) (subst (DoesFrom setup n PullFrame y.endpoint) (sym there) refl, tt) (subst (CallKeeps setup m n PullFrame) (sym there) tt, tt) refl unspent (λ g. refl) (λ g. takes_more g (Calls n PullFrame y.endpoint) [] [] [] (λ first t. t) (takes_nothing g)) (λ g b tracks. tracks) (drop-length x.halves.happenings)
+    deed_comes Closes keeps = comes_quietly setup n x (close x.halves) m there unspent (λ g b tracks. (close_quiet x.halves).begun g b tracks) (drop-length x.halves.happenings)
+    deed_comes (OpensAgain again routes most life) keeps =
+        let y = node_after setup n (OpensAgain again routes most life) x in
+        comes_by_step setup n x m y (Calls n (OpenAgain again routes) y.endpoint) (subst (DoesFrom setup n (OpenAgain again routes) y.endpoint) (sym there) refl, tt) (subst (CallKeeps setup m n (OpenAgain again routes)) (sym there) keeps.0, tt) refl refl (λ g. refl)
+        (λ g. takes_more g (Calls n (OpenAgain again routes) y.endpoint) [] [] [] (λ first t. t) (takes_nothing g)) (λ g b tracks. inl refl) (drop-nil (length x.halves.happenings))
+
+  -- ONE TURN, for a flow
+  abbrev pub AreUnspent : Services → Type 0
+  AreUnspent s = (k : ℕ) (e : EndpointValue) → IsAt k s.network e → e.spent ≡ false
+
+  -- calls that wait were made before, as often as is said
+  abbrev pub Waits : (past : Flow → CallNumber → ℕ) → List Call → Type 0
+  Waits past calls = All (λ (call : Call). call.waits ≡ true → 0 < past call.flow call.number) calls
+
+  -- a call of another flow than the reverse of this one was made under the number of an answer
+  pub record OtherCall (f : Flow) (past : Flow → CallNumber → ℕ) (a : Message) : Type 0 where
+    pub flow : Flow
+    pub other : same_flow flow (reversed f) ≡ false
+    pub made : 0 < past flow a.number
+
+  abbrev pub and_then : (past : Flow → CallNumber → ℕ) → (Flow → List Message) → Flow → CallNumber → ℕ
+  and_then past calls g m = past g m + count_of m (calls g)
+
+  pub record Turned (f : Flow) (b : Option (List ℕ)) (past : Flow → CallNumber → ℕ) (s v : Services) (sent requests replies answers : List Message) (all_calls made : Flow → List Message) : Type 0 where
+    pub steps : List Step
+    pub are : AreSteps setup steps s.network
+    pub keep : KeepsDuties setup steps s.network
+    pub ends : network_by steps s.network ≡ v.network
+    pub takes : Takings f steps (items_of_all (map spelled sent))
+    pub some : AreSomeOf requests (map said (messages_from b (all_read f steps)))
+    pub begun : Tracks f (begun_after b (all_read f steps)) (v.halves f.to.0).begun
+    pub unspent : AreUnspent v
+    pub waits : Waits (and_then past made) (v.halves f.to.0).calls
+    pub opens : (m : CallNumber) → count_of m replies + open_count (token_with f m) (v.halves f.to.0).tokens ≤ open_count (token_with f m) (s.halves f.to.0).tokens + count_of m requests
+    pub answered : (a : Message) → Contains answers a → Contains (map said (messages_from b (all_read f steps))) a ⊎ OtherCall f (and_then past made) a
+    pub here : (k : Flow) → k.from.0 ≡ f.to.0 → all_calls k ≡ made k
+
+  written_unspent : (n : ℕ) (s : Services) (y : Node) → AreUnspent s → y.endpoint.spent ≡ false → AreUnspent (with_node n s y)
+  written_unspent n s y all one k e there =
+      elim (cases_Bool (n == k)) [
+        | inl is ↦
+            let first : look ◌==◌ k (write ◌==◌ n y.endpoint s.network.endpoints) ≡ Some y.endpoint = subst (λ (j : ℕ). look ◌==◌ j (write ◌==◌ n y.endpoint s.network.endpoints) ≡ Some y.endpoint) (nat_is n k is) (written_there n y.endpoint s.network.endpoints) in
+            let two : Some y.endpoint ≡ Some e = sym first ∙ there in
+            let same : y.endpoint ≡ e = cc in
+            subst (λ (z : EndpointValue). z.spent ≡ false) same one
+        | inr other ↦ all k e (sym (look_write_other ℕ EndpointValue ◌==◌ nat_self nat_is k n y.endpoint s.network.endpoints other) ∙ there)
+      ]
+
+  past_more : (past : Flow → CallNumber → ℕ) (made : Flow → List Message) (calls : List Call) → Waits past calls → Waits (and_then past made) calls
+  past_more past made calls waits = All-weaker (λ (c : Call). c.waits ≡ true → 0 < past c.flow c.number) (λ (c : Call). c.waits ≡ true → 0 < and_then past made c.flow c.number) (λ c h w. (let l = h w in omega (arith, l))) calls waits
+
+  -- calls that wait between what is done and the end of its turn
+  mid_past : (past : Flow → CallNumber → ℕ) (made : Flow → List Message) (before calls : List Call) → Waits past before → AreOf made before calls → Waits (and_then past made) calls
+  mid_past past made before calls waits of =
+      All-weaker (λ (c : Call). c.waits ≡ true → IsKeptFrom before c ⊎ (0 < count_of c.number (made c.flow))) (λ (c : Call). c.waits ≡ true → 0 < and_then past made c.flow c.number)
+      (λ c h w.
+      elim (h w) [
+        | inl k ↦
+            let l = All-contains (λ (c : Call). c.waits ≡ true → 0 < past c.flow c.number) before k.was waits k.there k.waits in
+            let here : 0 < past c.flow c.number = subst (λ (m : CallNumber). 0 < past c.flow m) k.number (subst (λ (g : Flow). 0 < past g k.was.number) k.flow l) in
+            omega (arith, here)
+        | inr new ↦ omega (arith, new)
+      ])
+      calls of
+
+  kept_past : (past : Flow → CallNumber → ℕ) (before calls : List Call) → Waits past before → AreKeptFrom before calls → Waits past calls
+  kept_past past before calls waits kept =
+      All-weaker (λ (c : Call). c.waits ≡ true → IsKeptFrom before c) (λ (c : Call). c.waits ≡ true → 0 < past c.flow c.number)
+      (λ c h w.
+      let k = h w in
+      let l = All-contains (λ (c : Call). c.waits ≡ true → 0 < past c.flow c.number) before k.was waits k.there k.waits in
+      subst (λ (m : CallNumber). 0 < past c.flow m) k.number (subst (λ (g : Flow). 0 < past g k.was.number) k.flow l))
+      calls kept
+
+  other_past : (f : Flow) (past : Flow → CallNumber → ℕ) (calls : List Call) (a : Message) → Waits past calls → IsOther f calls a → OtherCall f past a
+  other_past f past calls a waits o =
+      let l = All-contains (λ (c : Call). c.waits ≡ true → 0 < past c.flow c.number) calls o.call waits o.there o.waits in
+      record { flow = o.call.flow; other = o.other; made = subst (λ (m : CallNumber). 0 < past o.call.flow m) o.number l }
+
+  abbrev pub made_in : Flow → Turn → Services → Flow → List Message
+  made_in f t s g = in_turn (at_the f.to.0 (λ n. call_by g)) t s
+
+  turned_at : (f : Flow) (b : Option (List ℕ)) (past : Flow → CallNumber → ℕ) (s : Services) → Good s.network → AreUnspent s → Tracks f b (s.halves f.to.0).begun → Waits past (s.halves f.to.0).calls → (n : ℕ) (deed : Deed) (o : Option EndpointValue) → look ◌==◌ n s.network.endpoints ≡ o → KeepsFrom setup s.network n deed (option_map (node_with n s) o)
+      → Turned f b past s (node_does setup n deed s (option_map (node_with n s) o)) (at_node (sent_on f deed) (option_map (node_with n s) o)) (at_node (told_by (request_in f) setup n deed) (option_map (node_with n s) o)) (at_node (reply_by f deed) (option_map (node_with n s) o))
+      (at_node (at_the f.to.0 (told_by answer_in setup) n deed) (option_map (node_with n s) o)) (λ k. at_node (call_by k deed) (option_map (node_with n s) o)) (λ g. at_node (at_the f.to.0 (λ k. call_by g) n deed) (option_map (node_with n s) o))
+  turned_at f b past s good unspent tracks waits n deed None found keeps =
+      record { steps = []; are = tt; keep = tt; ends = refl; takes = takes_nothing f; some = none; begun = tracks; unspent = unspent; waits = past_more past (λ g. []) _ waits; opens = λ m. omega arith; answered = λ a there. absurd (let lt = there.1 in omega (arith, lt)); here = λ k from. refl }
+  turned_at f b past s good unspent tracks waits n deed (Some e) found keeps =
+      let x = node_with n s e in
+      let y = node_after setup n deed x in
+      let c = deed_comes n s.network x found (unspent n e found) good deed keeps in
+      by_test (n == f.to.0) refl c
+    where
+      by_test : (t : Bool) → (n == f.to.0) ≡ t → Comes setup n (node_with n s e) (mid_by setup n deed (node_with n s e)) (node_after setup n deed (node_with n s e)) s.network (λ g. items_of_all (map spelled (sent_on g deed (node_with n s e))))
+          → let x = node_with n s e in
+          let y = node_after setup n deed x in
+          Turned f b past s (with_node n s y) (sent_on f deed x) (told_by (request_in f) setup n deed x) (reply_by f deed x) (cond (n == f.to.0) (told_by answer_in setup n deed x) []) (λ k. call_by k deed x) (λ g. cond (n == f.to.0) (call_by g deed x) [])
+      by_test true is c =
+          let x = node_with n s e in
+          let y = node_after setup n deed x in
+          let same : n ≡ f.to.0 = nat_is n f.to.0 is in
+          let here : Tracks f b x.halves.begun = subst (λ (k : ℕ). Tracks f b (s.halves k).begun) (sym same) tracks in
+          let wait : Waits past x.halves.calls = subst (λ (k : ℕ). Waits past (s.halves k).calls) (sym same) waits in
+          let mid = mid_past past (λ g. call_by g deed x) x.halves.calls (mid_by setup n deed x).calls wait (mid_waits setup n deed x) in
+          let left : Waits (and_then past (λ g. call_by g deed x)) y.halves.calls = kept_past (and_then past (λ g. call_by g deed x)) (mid_by setup n deed x).calls y.halves.calls mid c.waits in
+          let opens : (m : CallNumber) → count_of m (reply_by f deed x) + open_count (token_with f m) y.halves.tokens ≤ open_count (token_with f m) (s.halves f.to.0).tokens + count_of m (told_by (request_in f) setup n deed x) =
+          λ (m : CallNumber).
+          let p = mid_opens setup n deed x (token_with f m) in
+          let q = c.opens f b here (token_with f m) in
+          let r : open_count (token_with f m) x.halves.tokens ≡ open_count (token_with f m) (s.halves f.to.0).tokens = ap (λ (k : ℕ). open_count (token_with f m) (s.halves k).tokens) same in
+          omega (arith, p, q, r) in
+          record {
+            steps = c.steps;
+            are = c.are;
+            keep = c.keep;
+            ends = c.ends;
+            takes = c.takes f;
+            some = c.requests f b here;
+            begun = subst (λ (t : Bool). Tracks f (begun_after b (all_read f c.steps)) (cond t y.halves (s.halves f.to.0)).begun) (sym is) (c.begun f b here);
+            unspent = written_unspent n s y unspent c.unspent;
+            waits = subst (λ (t : Bool). Waits (and_then past (λ g. cond t (call_by g deed x) [])) (cond t y.halves (s.halves f.to.0)).calls) (sym is) left;
+            opens = subst (λ (t : Bool). (m : CallNumber) → count_of m (reply_by f deed x) + open_count (token_with f m) (cond t y.halves (s.halves f.to.0)).tokens ≤ open_count (token_with f m) (s.halves f.to.0).tokens + count_of m (told_by (request_in f) setup n deed x)) (sym is) opens;
+            answered = subst (λ (t : Bool). (a : Message) → Contains (cond t (told_by answer_in setup n deed x) []) a → Contains (map said (messages_from b (all_read f c.steps))) a ⊎ OtherCall f (and_then past (λ g. cond t (call_by g deed x) [])) a) (sym is)
+                (λ a there. elim (c.answers f b here a there) [ inl m ↦ inl m | inr o ↦ inr (other_past f (and_then past (λ g. call_by g deed x)) (mid_by setup n deed x).calls a mid o) ]);
+            here = λ k from. ap (λ (t : Bool). cond t (call_by k deed x) []) (sym is);
+          }
+      by_test false is c =
+          let x = node_with n s e in
+          let y = node_after setup n deed x in
+          let no = c.elsewhere f is in
+          let me = law.named s.network n e good found (unspent n e found) in
+          let no_reply : reply_by f deed x ≡ [] = elim (reply_is f deed x) [
+            | inl nothing ↦ nothing
+            | inr from ↦ (let yes : (n == f.to.0) ≡ true = subst (λ (k : ℕ). (n == k) ≡ true) (sym (from ∙ me)) (nat_self n) in absurd cc)
+          ] in
+          record {
+            steps = c.steps;
+            are = c.are;
+            keep = c.keep;
+            ends = c.ends;
+            takes = c.takes f;
+            some = subst (λ (ms : List Message). AreSomeOf ms (map said (messages_from b (all_read f c.steps)))) (sym no.1) none;
+            begun = subst (λ (t : Bool). Tracks f (begun_after b (all_read f c.steps)) (cond t y.halves (s.halves f.to.0)).begun) (sym is) (subst (λ (is : List Item). Tracks f (begun_after b is) (s.halves f.to.0).begun) (sym no.0) tracks);
+            unspent = written_unspent n s y unspent c.unspent;
+            waits = subst (λ (t : Bool). Waits (and_then past (λ g. cond t (call_by g deed x) [])) (cond t y.halves (s.halves f.to.0)).calls) (sym is) (past_more past (λ g. []) (s.halves f.to.0).calls waits);
+            opens = subst (λ (t : Bool). (m : CallNumber) → count_of m (reply_by f deed x) + open_count (token_with f m) (cond t y.halves (s.halves f.to.0)).tokens ≤ open_count (token_with f m) (s.halves f.to.0).tokens + count_of m (told_by (request_in f) setup n deed x)) (sym is)
+                (λ m. (let z = ap (count_of m) no_reply in omega (arith, z)));
+            answered = subst (λ (t : Bool). (a : Message) → Contains (cond t (told_by answer_in setup n deed x) []) a → Contains (map said (messages_from b (all_read f c.steps))) a ⊎ OtherCall f (and_then past (λ g. cond t (call_by g deed x) [])) a) (sym is)
+                (λ a there. absurd (let lt = there.1 in omega (arith, lt)));
+            here = λ k from.
+                elim (call_is k deed x) [
+                  | inl nothing ↦ nothing ∙ ap (λ (t : Bool). cond t (call_by k deed x) []) (sym is)
+                  | inr call ↦ (let yes : (n == f.to.0) ≡ true = subst (λ (j : ℕ). (n == j) ≡ true) (sym me ∙ sym call.from ∙ from) (nat_self n) in absurd cc)
+                ];
+          }
+
+  pub turned : (f : Flow) (b : Option (List ℕ)) (past : Flow → CallNumber → ℕ) (s : Services) → Good s.network → AreUnspent s → Tracks f b (s.halves f.to.0).begun → Waits past (s.halves f.to.0).calls → (t : Turn) → KeepsTurn setup t s
+      → Turned f b past s (services_after setup t s) (in_turn (λ n. sent_on f) t s) (in_turn (told_by (request_in f) setup) t s) (in_turn (λ n. reply_by f) t s) (in_turn (at_the f.to.0 (told_by answer_in setup)) t s) (λ k. in_turn (λ n. call_by k) t s) (made_in f t s)
+  turned f b past s good unspent tracks waits (Passes by) keeps =
+      record { steps = Pass by ∷ []; are = (tt, tt); keep = (tt, tt); ends = refl; takes = takes_more f (Pass by) [] [] [] (λ first t. t) (takes_nothing f); some = none; begun = tracks; unspent = unspent; waits = past_more past (λ g. []) _ waits; opens = λ m. omega arith; answered = λ a there. absurd (let lt = there.1 in omega (arith, lt)); here = λ k from. refl }
+  turned f b past s good unspent tracks waits (Does n deed) keeps = turned_at f b past s good unspent tracks waits n deed (look ◌==◌ n s.network.endpoints) refl keeps
+
+  -- ALL TURNS
+  -- the calls of a flow that are made at the node to which another comes
+  abbrev pub calls_made : Flow → List Turn → Services → Flow → List Message
+  calls_made f turns s g = in_turns (at_the f.to.0 (λ n. call_by g)) setup turns s
+
+  pub record Ran (f : Flow) (b : Option (List ℕ)) (past : Flow → CallNumber → ℕ) (turns : List Turn) (s : Services) : Type 0 where
+    pub steps : List Step
+    pub are : AreSteps setup steps s.network
+    pub keep : KeepsDuties setup steps s.network
+    pub takes : Takings f steps (items_of_all (map spelled (in_turns (λ n. sent_on f) setup turns s)))
+    pub some : AreSomeOf (requests_on f setup turns s) (map said (messages_from b (all_read f steps)))
+    pub opens : (m : CallNumber) → count_of m (replies_on f setup turns s) ≤ open_count (token_with f m) (s.halves f.to.0).tokens + count_of m (requests_on f setup turns s)
+    pub answered : (a : Message) → Contains (answers_at f.to.0 setup turns s) a → Contains (map said (messages_from b (all_read f steps))) a ⊎ OtherCall f (and_then past (calls_made f turns s)) a
+    pub here : (k : Flow) → k.from.0 ≡ f.to.0 → calls_on k setup turns s ≡ calls_made f turns s k
+
+  items_both : (xs ys : List (List ℕ)) → items_of_all (xs ++ ys) ≡ items_of_all xs ++ items_of_all ys
+  items_both [] ys = refl
+  items_both (x ∷ xs) ys = ap (λ (is : List Item). marked x true true false ++ is) (items_both xs ys) ∙ sym (append_assoc (marked x true true false) (items_of_all xs) (items_of_all ys))
+
+  pub ran : (f : Flow) (turns : List Turn) (b : Option (List ℕ)) (past : Flow → CallNumber → ℕ) (s : Services) → Good s.network → AreUnspent s → Tracks f b (s.halves f.to.0).begun → Waits past (s.halves f.to.0).calls → KeepsTurns setup turns s → Ran f b past turns s
+  ran f [] b past s good unspent tracks waits keeps = record { steps = []; are = tt; keep = tt; takes = takes_nothing f; some = none; opens = λ m. omega arith; answered = λ a there. absurd (let lt = there.1 in omega (arith, lt)); here = λ k from. refl }
+  ran f (t ∷ turns) b past s good unspent tracks waits keeps =
+      let v = services_after setup t s in
+      let first = turned f b past s good unspent tracks waits t keeps.0 in
+      let next_good : Good v.network = subst Good first.ends (law.on s.network first.steps good first.are first.keep) in
+      let rest = ran f turns (begun_after b (all_read f first.steps)) (and_then past (made_in f t s)) v next_good first.unspent first.begun first.waits keeps.1 in
+      let one = in_turn (λ n. sent_on f) t s in
+      let more = in_turns (λ n. sent_on f) setup turns v in
+      let all : map said (messages_from b (all_read f (first.steps ++ rest.steps))) ≡ map said (messages_from b (all_read f first.steps)) ++ map said (messages_from (begun_after b (all_read f first.steps)) (all_read f rest.steps)) =
+      ap (λ (is : List Item). map said (messages_from b is)) (read_append f first.steps rest.steps) ∙ ap (map said) (messages_append b (all_read f first.steps) (all_read f rest.steps)) ∙ map-append said (messages_from b (all_read f first.steps)) (messages_from (begun_after b (all_read f first.steps)) (all_read f rest.steps)) in
+      record {
+        steps = first.steps ++ rest.steps;
+        are = steps_append setup first.steps rest.steps s.network first.are (subst (AreSteps setup rest.steps) (sym first.ends) rest.are);
+        keep = duties_append setup first.steps rest.steps s.network first.keep (subst (KeepsDuties setup rest.steps) (sym first.ends) rest.keep);
+        takes = λ taken h. takes_append f first.steps rest.steps _ _ first.takes rest.takes taken h ∙ sym (ap items_of_all (map-append spelled one more) ∙ items_both (map spelled one) (map spelled more));
+        some = subst (λ (ms : List Message). AreSomeOf (requests_on f setup (t ∷ turns) s) ms) (sym all) (both first.some rest.some);
+        opens = λ m. (
+            let p = first.opens m in
+            let q = rest.opens m in
+            let r = count_append m (in_turn (λ n. reply_by f) t s) (replies_on f setup turns v) in
+            let u = count_append m (in_turn (told_by (request_in f) setup) t s) (requests_on f setup turns v) in
+            omega (arith, p, q, r, u)
+            );
+        answered = λ a there.
+            elim (Contains-append_cases (in_turn (at_the f.to.0 (told_by answer_in setup)) t s) (answers_at f.to.0 setup turns v) a there) [
+              | inl now ↦ elim (first.answered a now) [
+                | inl m ↦ inl (subst (λ (ms : List Message). Contains ms a) (sym all) (Contains-append_left (map said (messages_from b (all_read f first.steps))) (map said (messages_from (begun_after b (all_read f first.steps)) (all_read f rest.steps))) a m))
+                | inr o ↦ inr (record { flow = o.flow; other = o.other; made = (let l = o.made in let e = count_append a.number (made_in f t s o.flow) (calls_made f turns v o.flow) in omega (arith, l, e)) })
+              ]
+              | inr later ↦ elim (rest.answered a later) [
+                | inl m ↦ inl (subst (λ (ms : List Message). Contains ms a) (sym all) (Contains-append_right (map said (messages_from b (all_read f first.steps))) (map said (messages_from (begun_after b (all_read f first.steps)) (all_read f rest.steps))) a m))
+                | inr o ↦ inr (record { flow = o.flow; other = o.other; made = (let l = o.made in let e = count_append a.number (made_in f t s o.flow) (calls_made f turns v o.flow) in omega (arith, l, e)) })
+              ]
+            ];
+        here = λ k from. ap (λ (ms : List Message). ms ++ calls_on k setup turns v) (first.here k from) ∙ ap (λ (ms : List Message). made_in f t s k ++ ms) (rest.here k from);
+      }

@@ -1,0 +1,96 @@
+-- A network of services: nodes that make calls and reply to requests, each over its endpoint of a network.
+use Rattle.std.specs.Prelude.{ℕ, ◌==◌, drop, List, [], ◌∷◌, cond, length, option_map, Option, Some, None, if◌then◌else◌}
+use Rattle.dt_units.specs.declared.endpoints.Flow.{Flow}
+use Rattle.dt_world_model.specs.declared.links.Route.{Route}
+use Rattle.dt_world_model.specs.Setup.{Setup}
+use Rattle.dt_world_model.specs.Tables.{look}
+use Rattle.dt_endpoint.specs.declared.answers.Arrived.{Arrived}
+use Rattle.dt_endpoint.specs.Calls.{arrive_event, arrive_refusal}
+use Rattle.dt_endpoint.specs.Endpoints.{EndpointValue, with_refused}
+use Rattle.dt_network.specs.Network.{Network, new_network, opened_with}
+use Rattle.dt_network.specs.Steps.{Calls, Pass, PullFrame, network_after}
+use Rattle.dt_service_model.specs.declared.happenings.Happening.{Happening}
+use Rattle.dt_service_model.specs.declared.names.Token.{Token}
+use Rattle.dt_service_model.specs.declared.ports.Kind.{Kind}
+use Rattle.dt_service_model.specs.declared.ports.Most.{Most}
+use Rattle.dt_service_model.specs.Asked.{call, forget, is_closed, raised, reply, tick, with_kind}
+use Rattle.dt_service_model.specs.Ends.{close, next}
+use Rattle.dt_service_model.specs.Halves.{Halves, new_halves}
+use Rattle.dt_service_model.specs.Turns.{Node, turn, with_halves}
+
+-- WHAT A PROGRAM ASKS of its node, and that it dies and its node opens again: with the moment of that, its routes, its limits and its life
+pub data Deed : Type 0 where
+  GivesKind : (port : ℕ) → (kind : Kind) → Deed
+  MakesCall : (now : ℕ) → (flow : Flow) → (payload : List ℕ) → (patience : ℕ) → Deed
+  GivesReply : (now : ℕ) → (token : Token) → (payload : List ℕ) → Deed
+  Forgets : (now : ℕ) → (token : Token) → Deed
+  Ticks : (now : ℕ) → Deed
+  Arrives : (now link : ℕ) → (datagram : List ℕ) → (waited : ℕ) → Deed
+  Raises : (life : ℕ) → Deed
+  TakesHappening : Deed
+  PullsFrame : Deed
+  Closes : Deed
+  OpensAgain : (again : Option ℕ) → (routes : List Route) → (most : Most) → (life : ℕ) → Deed
+
+-- A DATAGRAM COMES. One that the endpoint refuses is counted there, and is no turn
+abbrev pub comes_to : Option Arrived → (now link : ℕ) → List ℕ → (waited : ℕ) → Node → Node
+comes_to None now link datagram waited x = turn now (arrive_event link datagram waited) x
+comes_to (Some refusal) now link datagram waited x = record x { endpoint = with_refused x.endpoint }
+
+abbrev pub after_datagram : (now link : ℕ) → List ℕ → (waited : ℕ) → Node → Node
+after_datagram now link datagram waited x = if is_closed x then x else comes_to (arrive_refusal link datagram waited x.endpoint) now link datagram waited x
+
+-- what the definitions of a node make of it
+abbrev pub node_after : Setup → (node : ℕ) → Deed → Node → Node
+node_after setup n (GivesKind port kind) x = with_halves (with_kind port kind) x
+node_after setup n (MakesCall now f payload patience) x = (call now f payload patience x).1
+node_after setup n (GivesReply now token payload) x = (reply now token payload x).1
+node_after setup n (Forgets now token) x = (forget now token x).1
+node_after setup n (Ticks now) x = (tick now x).1
+node_after setup n (Arrives now link datagram waited) x = after_datagram now link datagram waited x
+node_after setup n (Raises life) x = with_halves (raised life) x
+node_after setup n TakesHappening x = with_halves (λ h. (next h).1) x
+node_after setup n PullsFrame x = record x { endpoint = record (x.endpoint) { frames = drop 1 x.endpoint.frames } }
+node_after setup n Closes x = with_halves close x
+node_after setup n (OpensAgain again routes most life) x = record { endpoint = opened_with setup n again routes; halves = new_halves most life }
+
+-- THE NETWORK, and what each node has beside its endpoint
+pub record Services : Type 0 where
+  pub network : Network
+  pub halves : ℕ → Halves
+
+abbrev pub node_with : ℕ → Services → EndpointValue → Node
+node_with n s e = record { endpoint = e; halves = s.halves n }
+
+abbrev pub node_at : ℕ → Services → Option Node
+node_at n s = option_map (node_with n s) (look ◌==◌ n s.network.endpoints)
+
+-- Each node of a setup has opened for the first time, with its limits and its first life
+abbrev pub new_services : Setup → (most : ℕ → Most) → (life : ℕ → ℕ) → Services
+new_services setup most life = record { network = new_network setup; halves = λ n. new_halves (most n) (life n) }
+
+-- A TURN: so many milliseconds pass, or a program does something at its node
+pub data Turn : Type 0 where
+  Passes : (by : ℕ) → Turn
+  Does : (node : ℕ) → (deed : Deed) → Turn
+
+-- a node becomes another. Its endpoint is then as calls of it leave it
+abbrev pub with_node : ℕ → Services → Node → Services
+with_node n s x = record { network = network_after (Calls n PullFrame x.endpoint) s.network; halves = λ m. cond (n == m) x.halves (s.halves m) }
+
+abbrev pub node_does : Setup → ℕ → Deed → Services → Option Node → Services
+node_does setup n deed s None = s
+node_does setup n deed s (Some x) = with_node n s (node_after setup n deed x)
+
+abbrev pub services_after : Setup → Turn → Services → Services
+services_after setup (Passes by) s = record { network = network_after (Pass by) s.network; halves = s.halves }
+services_after setup (Does n deed) s = node_does setup n deed s (node_at n s)
+
+-- the network after all of them
+abbrev pub services_by : Setup → List Turn → Services → Services
+services_by setup [] s = s
+services_by setup (t ∷ turns) s = services_by setup turns (services_after setup t s)
+
+-- WHAT A TURN TELLS its program: the happenings that are appended in it
+abbrev pub told_between : Node → Node → List Happening
+told_between x y = drop (length x.halves.happenings) y.halves.happenings

@@ -1,0 +1,18 @@
+//! Laws of whole messages, and of request and reply between nodes. Each law is the contract of a public
+//! function with an empty body.
+#![tactic(auto)]
+
+mod messages;
+mod requests;
+mod worked;
+
+pub use messages::{
+    messages_sent_whole_are_those_that_were_sent, whole_messages_come_once_and_in_order,
+};
+pub use requests::{
+    answers_are_what_the_service_gave, names_are_called_handed_out_and_replied_to_once,
+    requests_are_calls_once_and_in_their_order,
+};
+pub use worked::{
+    call_is_answered, call_that_is_handed_out_keeps_the_duties, client_starts_again,
+};

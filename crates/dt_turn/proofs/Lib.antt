@@ -1,0 +1,5 @@
+mod Overheard
+mod Shelved
+mod Coming
+mod Turning
+pub mod Readying

@@ -1,0 +1,20 @@
+use Rattle.std.proofs.Common.{◌≤◌, length, ℕ}
+use Rattle.dt_shelf.specs.Shelves.{IsShelfUpTo}
+use Rattle.dt_station.proofs.Playing.{Leads}
+use Rattle.dt_turn.specs.Shelving.{fetch, fetch_turns}
+use Rattle.dt_turn.proofs.arriving.fetch.Given as goal
+
+-- what is left to fetch leads to the end of all; so many turns are enough
+abbrev pub invariant-fetching : goal.invariant-fetching
+invariant-fetching g l =
+    let v = g.V.Visitor in
+    record {
+      most : ℕ;
+      enough : length l.shelf.held ≤ most;
+      leads : Leads v.tells (v.tags l.now) v.hands v.fails (fetch l.flow l.number l.now l.fn.shelf) l.fn.visitor (fetch_turns most l.flow l.number l.now l.shelf) l.visitor;
+      past : IsShelfUpTo l.now l.shelf;
+      fewer : length l.shelf.held ≤ length l.fn.shelf.held;
+    }
+
+abbrev pub decreases-fetching : goal.decreases-fetching
+decreases-fetching g l = length l.shelf.held

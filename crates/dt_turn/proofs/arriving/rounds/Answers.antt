@@ -1,0 +1,52 @@
+use Rattle.std.proofs.Common.{length, suc}
+use Rattle.std.proofs.lemmas.Result.{err_from_is_err_and}
+use Rattle.dt_turn.specs.Codes.{came_seen}
+use Rattle.dt_turn.specs.Shelving.{first_round, rounds}
+use Rattle.dt_turn.proofs.Readying.{goes_then}
+use Rattle.dt_turn.proofs.Shelved.{rounds_done, rounds_go, rounds_stop}
+use Rattle.dt_turn.proofs.arriving.rounds.Goals as goal
+
+pub returns-in_err-next-clause-ends : goal.returns-in_err-next-clause-ends
+returns-in_err-next-clause-ends g c =
+    let v = g.V.Visitor in
+    let i = c.rounds.invariant in
+    let st = c.args.dock.now.station in
+    let now = c.args.now in
+    let whole = rounds (suc (length c.args.shelf.now.held)) st.rules now (first_round (came_seen c.args.first) st.state c.args.shelf.now) in
+    let p = err_from_is_err_and c.from_residual.result c.from_residual.ensures.1 in
+    rw (p.1) (rounds_stop v.tells (v.tags now) v.hands v.fails whole c.args.visitor.now c.rounds.visitor st.rules c.rounds.dock.station.rules now i.most (came_seen c.rounds.came) c.rounds.dock.station.state c.rounds.shelf i.on.rules i.enough i.leads c.round.new.visitor c.in_err-next.ensures.ends)
+
+pub rounds-preserved : goal.rounds-preserved
+rounds-preserved g c =
+    let v = g.V.Visitor in
+    let i = c.rounds.invariant in
+    let st = c.args.dock.now.station in
+    let now = c.args.now in
+    let whole = rounds (suc (length c.args.shelf.now.held)) st.rules now (first_round (came_seen c.args.first) st.state c.args.shelf.now) in
+    let next = c.in-Some.next in
+    let ends = rw c.in-Some.is at c.in_ok-next.ensures.ends in
+    let fewer = rw c.in-Some.is at c.in_ok-next.ensures.fewer in
+    let on = c.in_ok-next.ensures.on in
+    let step = rounds_go v.tells (v.tags now) v.hands v.fails whole c.args.visitor.now c.rounds.visitor st.rules c.rounds.dock.station.rules now i.most (came_seen c.rounds.came) c.rounds.dock.station.state c.rounds.shelf i.on.rules i.enough i.leads c.round.new.visitor (came_seen next) c.round.new.dock.station.state c.round.new.shelf fewer.1 ends in
+    record {
+      most = step.0;
+      enough = step.1;
+      leads = step.2;
+      gram = fewer.0;
+      past = c.round.ensures.past;
+      go = record { unspent = on.unspent; past = on.past; moment = c.requires.go.moment };
+      on = goes_then now st c.rounds.dock.station c.round.new.dock.station i.on on;
+    }
+
+pub returns-clause-ends : goal.returns-clause-ends
+returns-clause-ends g c =
+    let v = g.V.Visitor in
+    let i = c.rounds.invariant in
+    let st = c.args.dock.now.station in
+    let now = c.args.now in
+    let whole = rounds (suc (length c.args.shelf.now.held)) st.rules now (first_round (came_seen c.args.first) st.state c.args.shelf.now) in
+    let ends = rw c.in_default.is at c.in_ok-next.ensures.ends in
+    rounds_done v.tells (v.tags now) v.hands v.fails whole c.args.visitor.now c.rounds.visitor st.rules c.rounds.dock.station.rules now i.most (came_seen c.rounds.came) c.rounds.dock.station.state c.rounds.shelf i.on.rules i.enough i.leads c.round.new.visitor c.round.new.dock.station.state c.round.new.shelf ends
+
+pub returns-clause-on : goal.returns-clause-on
+returns-clause-on g c = goes_then c.args.now c.args.dock.now.station c.rounds.dock.station c.round.new.dock.station c.rounds.invariant.on c.in_ok-next.ensures.on

@@ -1,0 +1,88 @@
+//! A node between two turns.
+ghost use Rattle.std.specs.Prelude.{◌≡◌, IfOk, IfSome, option_map};
+ghost use Rattle.dt_shelf.specs.Shelves.{IsShelfUpTo, empty_shelf};
+ghost use Rattle.dt_script.specs.Codes.{orders_seen};
+ghost use Rattle.dt_turn.specs.Codes.{IsReady, node_seen};
+ghost use Rattle.dt_turn.specs.Nodes.{first_node, restart_of};
+
+use dt_items::NoMemory;
+use dt_layout::Frame;
+use dt_script::Orders;
+use dt_shelf::Shelf;
+use dt_station::Station;
+use std::alloc::Global;
+use std::mem::size_of;
+
+/// How many octets a read takes at most.
+const MOST_READ: usize = 65_536;
+
+/// A station, and the frame in which packets are handed to it, which is the station's to change.
+#[derive(Drop)]
+pub struct Dock {
+    pub station: Station<Frame>,
+    pub frame: Box<Frame>,
+}
+
+/// A node between two turns.
+#[derive(Drop)]
+pub struct Node {
+    pub dock: Dock,
+    /// How many commands were done.
+    pub next: usize,
+    /// Room for what a read takes.
+    pub buf: Vec<u8>,
+    /// Where packets are kept that came too early, if its script asks for that.
+    pub shelf: Option<Shelf>,
+}
+
+// It holds neither packets nor tables in place.
+const _: () = prove!(size_of::<Node>() <= 512);
+
+impl Node {
+    /// The node before its first turn. Takes the room for what may wait on its links
+    /// and on its shelf, and for a read.
+    pub fn new(alloc: Global, orders: &Orders) -> Result<Node, NoMemory>
+        ensures first { IfOk result (λ node. node_seen orders.now node ≡ first_node (orders_seen orders.now)) }
+        ensures ready { IfOk result (λ node. IsReady orders.now 0 node) }
+    {
+        let setup = &orders.setup;
+        let again = restart(setup.again);
+        let mut buf = Vec::new(alloc);
+        buf.resize(MOST_READ, 0)?;
+        let shelf = new_shelf(alloc, setup.shelf)?;
+        let station = Station::new(
+            alloc,
+            &setup.rules,
+            setup.me,
+            again,
+            &setup.outs,
+            &setup.ins,
+            &setup.routes,
+        )?;
+        let frame = Box::new(alloc, Frame::new())?;
+        Ok(Node {
+            dock: Dock { station, frame },
+            next: 0,
+            buf,
+            shelf,
+        })
+    }
+}
+
+/// The moment at which a node that begins again is restarted.
+fn restart(again: bool) -> Option<u64>
+    ensures { result ≡ restart_of again }
+{
+    if again { Some(0) } else { None }
+}
+
+/// An empty shelf, where one is asked for.
+fn new_shelf(alloc: Global, room: Option<u32>) -> Result<Option<Shelf>, NoMemory>
+    ensures empty { IfOk result (λ shelf. shelf ≡ option_map empty_shelf room) }
+    ensures past { IfOk result (λ shelf. IfSome shelf (IsShelfUpTo 0)) }
+{
+    match room {
+        Some(room) => Ok(Some(Shelf::with_room(alloc, room)?)),
+        None => Ok(None),
+    }
+}
