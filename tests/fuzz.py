@@ -33,7 +33,7 @@ import subprocess
 import sys
 import tempfile
 import time
-from typing import Callable, NamedTuple, Sequence, TypeVar
+from typing import Callable, NamedTuple, Sequence
 
 import audit
 from grammar import Wrong, log_of_node, log_of_world, told_of_calls, verdict_of
@@ -65,9 +65,6 @@ READINGS = b"trace\n@ 0\n@ 4294967296\n"
 NUMBERS = [0, 1, 2, 3, 9, 64, 65, 99, 255, 256, 1000, 6200, 65_535, 65_536, 65_537, 86_400_000, 2**31, 2**32 - 1, 2**32, 2**62, 2**64 - 1, 2**64]
 
 
-Ended = TypeVar("Ended")
-
-
 class Ran(NamedTuple):
     """A run of the program."""
 
@@ -84,11 +81,15 @@ class Program:
 
     def run(self, word: str, text: bytes) -> Ran:
         """A run. Raises `Wrong` where it takes too long."""
-        with subprocess.Popen([self.path, word], stdin=subprocess.PIPE, stdout=subprocess.PIPE, stderr=subprocess.PIPE) as child:
-            # its input is told to the first wait alone
-            once = [text]
-            out, err = in_time(child, word, lambda: child.communicate(once.pop() if once else None, timeout=LOOK))
-        return Ran(child.returncode, out, err)
+        # files, since a wait that is broken off and made again wouldn't go on with writing to a pipe
+        with tempfile.TemporaryFile() as given, tempfile.TemporaryFile() as out, tempfile.TemporaryFile() as err:
+            given.write(text)
+            given.seek(0)
+            child = subprocess.Popen([self.path, word], stdin=given, stdout=out, stderr=err)
+            status = in_time(child, word)
+            for it in (out, err):
+                it.seek(0)
+            return Ran(status, out.read(), err.read())
 
     def ask(self, word: str, text: bytes) -> Ran:
         """A run, and once more: `Wrong` where they differ, or the status isn't one of the word's."""
@@ -102,12 +103,12 @@ class Program:
         return first
 
 
-def in_time(child: "subprocess.Popen[bytes]", word: str, waits: Callable[[], Ended]) -> Ended:
-    """What a wait for the end of a run gives, which is made again and again. Raises `Wrong` where the run takes too long."""
+def in_time(child: "subprocess.Popen[bytes]", word: str) -> int:
+    """Waits for the end of a run, and gives its status. Raises `Wrong` where it takes too long."""
     begun = time.monotonic()
     while True:
         try:
-            return waits()
+            return child.wait(LOOK)
         except subprocess.TimeoutExpired:
             seconds = processor_of(child.pid)
             if seconds <= MOST_SECONDS and time.monotonic() - begun <= MOST_WALL:
@@ -245,7 +246,7 @@ def sent(program: Program, datagrams: list[bytes]) -> tuple[bytes, bytes, int]:
             time.sleep(0.01)
         for it in datagrams:
             peer.sendto(it, (HOST, port))
-        status = in_time(node, "trace", lambda: node.wait(LOOK))
+        status = in_time(node, "trace")
         out.seek(0)
         return text.encode(), out.read(), status
 

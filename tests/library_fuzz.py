@@ -159,8 +159,9 @@ def by_coverage(program: pathlib.Path, single: pathlib.Path, minutes: float, see
     corpus, found = folder / "corpus", folder / "found"
     corpus.mkdir()
     found.mkdir()
-    words = [program, corpus, f"-max_total_time={max(int(minutes * 60), 1)}", f"-seed={seed}", f"-max_len={MOST}", "-len_control=0", "-timeout=600",
-             "-rss_limit_mb=3000", "-print_final_stats=1", "-verbosity=1", f"-artifact_prefix={found}/"]
+    # a busy machine lets an input wait: what is slow by the clock alone is no fault
+    words = [program, corpus, f"-max_total_time={max(int(minutes * 60), 1)}", f"-seed={seed}", f"-max_len={MOST}", "-len_control=0", "-timeout=3600",
+             "-report_slow_units=3600", "-rss_limit_mb=3000", "-print_final_stats=1", "-verbosity=1", f"-artifact_prefix={found}/"]
     begun, before = time.monotonic(), os.times()
     ran = run(words)
     seconds, after = time.monotonic() - begun, os.times()

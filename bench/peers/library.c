@@ -205,11 +205,16 @@ static size_t message_of(dt_node *node, const struct dt_flow *flow, uint64_t at,
     return octets;
 }
 
-static void give(struct end *it, uint64_t at, struct dt_flow flow, const unsigned char *octets, size_t len) {
+/* Hands a message in. Whether there was room for it: what was sent before may not be acknowledged yet. */
+static int takes(struct end *it, uint64_t at, struct dt_flow flow, const unsigned char *octets, size_t len) {
     happens(it, at);
     struct dt_sent sent = dt_send(it->node, at, &flow, octets, len, true, true);
     must(sent.status, "a message");
-    if (sent.status != DT_DONE) fail("a message isn't taken");
+    return sent.status == DT_DONE;
+}
+
+static void give(struct end *it, uint64_t at, struct dt_flow flow, const unsigned char *octets, size_t len) {
+    if (!takes(it, at, flow, octets, len)) fail("a message isn't taken");
 }
 
 /* takes what the node told, answers each message with ANSWER octets where it serves, and tells how many came */
@@ -258,11 +263,11 @@ static void serve(const char *address, int port) {
 static int exchange(struct end *it, uint32_t me, uint16_t port, uint32_t octets, double until) {
     unsigned char *sent = request(octets);
     struct dt_flow flow = {me, SERVER, port, PORT};
-    give(it, clock_ms(CLOCK_BOOTTIME), flow, sent, HEAD + (size_t)octets);
+    int taken = 0, answered = 0;
+    while (!(taken = takes(it, clock_ms(CLOCK_BOOTTIME), flow, sent, HEAD + (size_t)octets)) && now() < until) turn(it, 0);
     free(sent);
-    while (now() < until)
-        if (turn(it, 0) > 0) return 1;
-    return 0;
+    while (taken && !answered && now() < until) answered = turn(it, 0) > 0;
+    return answered;
 }
 
 static void ask_flows(struct end *it, uint32_t me, const struct question *asked, double until) {
