@@ -15,6 +15,8 @@ these fails, and with 77 where there is no library:
   log that the library told. It is left out where there is no program (./build).
 - asynchronous: in a loop of asyncio a service answers four clients' messages over such a link, a sender waits for room
   while its messages aren't read, and who waits when it is closed is told.
+- services: a service of two ports answers 30 calls over such a link, each once; a call that nobody replies to is unsure;
+  100 calls at once in a loop of asyncio are answered, and one that waits when it is closed is unsure.
 - examples: examples/echo.py asks itself, and examples/echo.c, which is compiled first, at the ports that they name; and
   tools/dtcat.py asks examples/counter.py and examples/counter.c.
 - rust: the tests of bindings/rust, where there is cargo, and its example is asked.
@@ -46,6 +48,7 @@ if not os.path.exists(os.environ["DELTAT_LIBRARY"]):
 sys.path.insert(0, str(TOP / "bindings" / "python"))
 import deltat  # noqa: E402
 import deltat_record  # noqa: E402
+import deltat_service  # noqa: E402
 
 PARAMS = deltat.Params(mpl=1000, r=3000, a=200, rto=100, probe=800, seg=500, cap=65536, rcap=65536, window=65536)
 CHARGE = 90
@@ -377,6 +380,85 @@ def asynchronous() -> bool:
     return asyncio.run(asynchronously())
 
 
+def service_of(number: int, ports: dict[int, deltat_service.Kind]) -> deltat_service.Service:
+    service = deltat_service.Service(number, 1, PARAMS, [deltat.Link(1, CHARGE)], {3 - number: 1})
+    for port, kind in ports.items():
+        service.port(port, kind)
+    return service
+
+
+def unsure(cause: deltat_service.Cause, call: object, *words: object) -> bool:
+    """Whether a call is unsure for this cause."""
+    try:
+        call(*words)
+    except deltat_service.Unsure as why:
+        return why.cause is cause
+    return False
+
+
+def serve_calls(link: Between, served: list[bytes]) -> None:
+    """A service of two ports: one answers with the octets reversed, the other with nothing."""
+    service = service_of(2, {20: deltat_service.Kind.SERVICE, 21: deltat_service.Kind.SERVICE})
+    with deltat.Udp(service, (HOST, link.nodes[1]), {1: (HOST, link.port(2))}) as udp:
+        calls = deltat_service.Calls(udp)
+
+        @calls.on(20)
+        def backwards(request: deltat_service.Request) -> bytes:
+            served.append(request.payload)
+            return request.payload[::-1]
+
+        @calls.on(21)
+        def silent(request: deltat_service.Request) -> None:
+            served.append(request.payload)
+
+        calls.run(3)
+
+
+def calls_in_turn(link: Between, payloads: list[bytes]) -> bool:
+    client = service_of(1, {10: deltat_service.Kind.CALLER})
+    with deltat.Udp(client, (HOST, link.nodes[0]), {2: (HOST, link.port(1))}) as udp:
+        calls = deltat_service.Calls(udp)
+        answers = [calls.call(deltat.Flow(1, 10, 2, 20), it, 10.0) for it in payloads]
+        right = unsure(deltat_service.Cause.PATIENCE, calls.call, deltat.Flow(1, 10, 2, 21), b"silent", 1.5)
+        right = refused(deltat.BadParameter, calls.call, deltat.Flow(1, 11, 2, 20), b"from a plain port") and right
+        return right and answers == [it[::-1] for it in payloads]
+
+
+async def calls_at_once(link: Between, payloads: list[bytes]) -> bool:
+    kinds = {1: {port: deltat_service.Kind.CALLER for port in range(10, 14)}, 2: {20: deltat_service.Kind.SERVICE}}
+    ends = {it: deltat.AsyncUdp(service_of(it, kinds[it]), (HOST, link.nodes[it - 1]), {3 - it: (HOST, link.port(it))}) for it in (1, 2)}
+    client, server = deltat_service.AsyncCalls(ends[1]), deltat_service.AsyncCalls(ends[2])
+
+    @server.on(20)
+    async def backwards(request: deltat_service.Request) -> bytes:
+        await asyncio.sleep(0.01)
+        return request.payload[::-1]
+
+    serving = asyncio.create_task(server.run())
+    answers = await asyncio.gather(*(client.call(deltat.Flow(1, 10 + it % 4, 2, 20), octets, 20.0) for it, octets in enumerate(payloads)))
+    serving.cancel()
+    waiting = asyncio.create_task(client.call(deltat.Flow(1, 10, 2, 21), b"nobody", 30.0))
+    await asyncio.sleep(0.1)
+    for end in ends.values():
+        end.close()
+    told, = await asyncio.gather(waiting, return_exceptions=True)
+    return answers == [it[::-1] for it in payloads] and isinstance(told, deltat_service.Unsure) and told.cause is deltat_service.Cause.CLOSED
+
+
+def services() -> bool:
+    chance = random.Random(11)
+    payloads = [b"%d " % it + bytes(it * 37 % 2000) for it in range(100)]
+    with Between(lambda number, octets: chance.choices([0, 1, 2], [10, 75, 15])[0]) as link:
+        served: list[bytes] = []
+        serving = threading.Thread(target=serve_calls, args=(link, served))
+        serving.start()
+        right = calls_in_turn(link, payloads[:30])
+        serving.join()
+        right = served == [*payloads[:30], b"silent"] and right
+    with Between(lambda number, octets: chance.choices([0, 1, 2], [10, 75, 15])[0]) as link:
+        return asyncio.run(calls_at_once(link, payloads)) and right
+
+
 class Failing(deltat.Udp):
     """A socket that doesn't take one datagram of ten."""
 
@@ -500,7 +582,7 @@ def rust() -> bool:
 
 def main() -> int:
     words = sys.argv[2:] if named else sys.argv[1:]
-    tests = {"refusals": refusals, "whole": whole, "simulated": simulated, "processes": processes, "asynchronous": asynchronous, "recorded": recorded, "examples": examples, "rust": rust}
+    tests = {"refusals": refusals, "whole": whole, "simulated": simulated, "processes": processes, "asynchronous": asynchronous, "recorded": recorded, "services": services, "examples": examples, "rust": rust}
     failed = 0
     for name in words or tests:
         begun = time.monotonic()

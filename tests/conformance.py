@@ -130,7 +130,7 @@ def chosen(path: str) -> bool:
     """What is left out: by name where the name says it, and each of them where all three are."""
     del path
     by_need = {need: {it.name.rsplit("/", 1)[-1] for it in run.cases() if need in it.needs()} for need in run.NEEDS}
-    relays = {"10-relay-expired", "10-relay-last-millisecond", "through-a-relay", "relay-expires-and-restarts", "mixed-2", "relayed", "relay-is-full"}
+    relays = {"relay-expired", "relay-last-millisecond", "through-a-relay", "relay-expires-and-restarts", "mixed-2", "relayed", "relay-is-full"}
     named = {it.name.rsplit("/", 1)[-1] for it in run.cases() if "refused-" in it.name and it.kind in ("schedule", "trace", "calls")}
     status, lines = runner("--list", "--without", "relay", "--without", "shelf", "--without", "refusals")
     left = {line.split()[1].rsplit("/", 1)[-1] for line in lines}

@@ -443,7 +443,7 @@ def finds(program: Program, kind: Kind, text: bytes) -> bool:
 
 def blind(path: str, all_kinds: dict[str, Kind]) -> list[str]:
     """The checks that find no fault with what is spoilt, or one with what isn't."""
-    names = ("/01-short-exchange", "/17-node", "/calls-answered", "/audit-breaks-skip")
+    names = ("/short-exchange", "/node", "/calls-answered", "/audit-breaks-skip")
     texts = {it.kind: it.given() for it in run.cases() if it.name.endswith(names)}
     texts["log"] = texts.pop("audit")
     hello = asking.wire.packet(asking.wire.Flow(1, 10, 2, 20), 999, asking.wire.DATA, 0, 7, 0, b"hello").hex().encode()

@@ -6,10 +6,11 @@ leaves in crates/dt_c/out, which it builds where there is none. The header is co
 clang, languages C99, C11 and C++17, all with -Wall -Wextra -Werror; each program runs bare, and those of C99 also under
 valgrind and with the address and undefined-behaviour sanitizers, where the machine has them:
 
-- layout.c: sizes and places of fields, by the compiler alone: crates/dt_c/src/rows.rt proves the same sizes.
+- layout.c: sizes and places of fields, by the compiler alone: crates/dt_c/src/rows.rt and service_rows.rt prove the same sizes.
 - exchange.c: two nodes, a message that comes whole, and each refusal.
 - messages.c: whole messages: with gaps, in parts, too long, for a buffer that is too small, of many flows.
 - each_failure.c: each request for memory fails in turn.
+- services.c: calls and replies, each of their answers, and each request for memory fails in turn.
 - strangers.c: N random datagrams (1,000,000), after which the node takes as much memory as before, and some thousand
   flows from one peer; a million flows at a guard that lets a thousand in; and 200,000 that come and go, each with half a
   message for an inbox. In C99 alone.
@@ -56,7 +57,7 @@ class Program(NamedTuple):
     has_heap: bool
 
 
-PROGRAMS = (Program("layout.c", False), Program("exchange.c", False), Program("messages.c", False), Program("each_failure.c", True))
+PROGRAMS = (Program("layout.c", False), Program("exchange.c", False), Program("messages.c", False), Program("each_failure.c", True), Program("services.c", True))
 # what valgrind and the sanitizers see of the random datagrams, and the flows of one peer that are opened
 FEW_DATAGRAMS, FLOWS = 20_000, 5_000
 

@@ -2,8 +2,8 @@
 """Memory that is refused, outside the gate: the built program runs a row again and again, and the first
 call for memory is refused, then the second, and so on, until a run makes no more calls than that. Each run
 in which one was refused ends with status 4, with a first part of the log, and says so on standard error.
-`tests/memory.py [PROGRAM [ROW ..]]`, where a ROW is 01-short-exchange, 12-quiet-time,
-17-node or make-5; without one all four are run. Ends with 1 where a run ends otherwise.
+`tests/memory.py [PROGRAM [ROW ..]]`, where a ROW is short-exchange, quiet-time,
+node or make-5; without one all four are run. Ends with 1 where a run ends otherwise.
 
 One call may be refused and the run be served all the same: the words are collected into a vector that asks
 for room for all of them first, and where that is refused for room for one. So one run may have status 0
@@ -83,9 +83,9 @@ def node_row():
 
 
 ROWS = {
-    "01-short-exchange": lambda: Row(["replay"], (DATA / "01-short-exchange.in").read_bytes()),
-    "12-quiet-time": lambda: Row(["replay"], (DATA / "12-quiet-time.in").read_bytes()),
-    "17-node": node_row,
+    "short-exchange": lambda: Row(["replay"], (DATA / "short-exchange.in").read_bytes()),
+    "quiet-time": lambda: Row(["replay"], (DATA / "quiet-time.in").read_bytes()),
+    "node": node_row,
     "make-5": lambda: Row(["make", "5"]),
 }
 

@@ -5,7 +5,7 @@ is written and the status compared with those that stand beside it. Ends with 1 
 into a file that may have n octets, for each n below the length of the log. Then the status is 8, and the
 file has the first n octets.
 
-In tests/all: PROGRAM 01-short-exchange, 180 s."""
+In tests/all: PROGRAM short-exchange, 180 s."""
 import resource
 import signal
 import subprocess

@@ -93,7 +93,7 @@ def cut(path, run):
 
 
 def rows(path, run):
-    for name in ("17-node-give-fails", "node-closing"):
+    for name in ("node-give-fails", "node-closing"):
         row = (DATA / f"{name}.in").read_bytes()
         behind = row.index(b"\ntrace\n") + 7
         text, trace = row[: behind - 6].decode(), row[behind:]

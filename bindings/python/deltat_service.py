@@ -413,22 +413,30 @@ class Calls:
         self._functions: dict[int, Callable[[Request], bytes | None]] = {}
 
     def call(self, flow: Flow, payload: bytes, patience: float = 5.0) -> bytes:
-        """The answer to a call, within `patience` seconds. Unsure, Declined or BadParameter."""
+        """The answer to a call, within `patience` seconds. Unsure, Declined or BadParameter; NoMemory or Spent where it wasn't
+        made."""
         at = deltat.now()
         try:
             number = self.node.call(flow, payload, _patience(patience), at)
         finally:
             self.udp.flush(at)
         while number not in self._ends:
-            self._poll(None)
+            try:
+                self._poll(None)
+            except (NoMemory, Spent):
+                self._take()
+                self._ends.setdefault(number, Doubtful(number, Cause.CLOSED))
         return _answer(self._ends.pop(number))
 
     def requests(self, seconds: float | None = None) -> Iterator[Request]:
         """The requests that come, for so long at most after the last one (None: without end)."""
         while True:
-            self._poll(seconds)
-            if not self._requests and seconds is not None:
-                return
+            end = None if seconds is None else time.monotonic() + seconds
+            while not self._requests:
+                left = None if end is None else end - time.monotonic()
+                if left is not None and left <= 0:
+                    return
+                self._poll(left)
             while self._requests:
                 yield self._requests.popleft()
 
@@ -510,13 +518,16 @@ class AsyncCalls:
         self._tasks: set[asyncio.Task[None]] = set()
 
     async def call(self, flow: Flow, payload: bytes, patience: float = 5.0) -> bytes:
-        """The answer to a call, within `patience` seconds. Unsure, Declined, BadParameter, NoMemory or Spent. Where the wait
-        is cancelled the call goes on, and its end is dropped."""
+        """The answer to a call, within `patience` seconds. Unsure, Declined or BadParameter; NoMemory or Spent where it wasn't
+        made. Where the wait is cancelled the call goes on, and its end is dropped."""
         number = self._does(lambda at: self.node.call(flow, payload, _patience(patience), at))
         end = self._ends[number] = asyncio.get_running_loop().create_future()
         try:
             while not end.done():
                 await self._step()
+        except (NoMemory, Spent):
+            self._take()
+            return _answer(end.result() if end.done() else Doubtful(number, Cause.CLOSED))
         finally:
             del self._ends[number]
         return _answer(end.result())

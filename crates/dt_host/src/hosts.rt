@@ -61,9 +61,8 @@ impl Model for Host {
 }
 
 impl Host {
-    /// The host of a node that starts for the first time: no records, and it isn't silent. It takes the
-    /// room of its agendas, and what later calls take is taken of `alloc` too. `NoMemory` where there is
-    /// none.
+    /// The host of a node that starts for the first time: no records, and it isn't silent. It takes no
+    /// memory, and what later calls take is taken of `alloc`.
     pub fn first(alloc: Global, rules: &Rules, me: NodeId) -> Result<Host, NoMemory>
         ensures { IfOk result (λ host. host ≡ record { rules = rules.now; latest = 0; state = first_host me.0 }) }
     {
@@ -76,8 +75,8 @@ impl Host {
     }
 
     /// The host of a node that starts again at `now`: no records, and it is silent until `quiet` after
-    /// now, by when the packets and records of its former lives are gone. It takes the room of its
-    /// agendas; `NoMemory` where there is none.
+    /// now, by when the packets and records of its former lives are gone. It takes no memory, as that of
+    /// a first start.
     pub fn restarted(alloc: Global, rules: &Rules, me: NodeId, now: u64) -> Result<Host, NoMemory>
         requires moment { now ≤ most_moment }
         ensures { IfOk result (λ host. host ≡ record { rules = rules.now; latest = now; state = restarted_host rules.now me.0 now }) }
@@ -147,9 +146,8 @@ impl Host {
     /// only on the first. They are written to the buffer's front, and its rest stays. None comes exactly
     /// where the flow has nothing unread, and then nothing changes.
     ///
-    /// A host that is silent lets read. A receiver without a record from which all is read goes, and the
-    /// receivers made after it move up by one place: that is the cost beside that of the octets. It
-    /// takes no memory.
+    /// A host that is silent lets read. A receiver without a record from which all is read goes. The
+    /// cost is that of the octets. It takes no memory.
     pub fn read<L: Ledger>(
         &mut self,
         flow: &Flow,
@@ -268,8 +266,7 @@ impl Host {
     /// It takes no memory. Of the records it looks at the senders that hold a segment whose resend was
     /// missed: it was to go out again before now, and may do so no more. Beside these it looks at the
     /// record that acts, 4 times at most. Its further cost grows with the number of records as its
-    /// logarithm does, but where a sender that is released or a receiver that is idle goes: the records
-    /// made after it move up by one place in their table.
+    /// logarithm does, also where a sender that is released or a receiver that is idle goes.
     pub fn next<L: Ledger>(
         &mut self,
         now: u64,

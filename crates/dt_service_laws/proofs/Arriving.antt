@@ -9,7 +9,7 @@ use Rattle.dt_world_model.proofs.Tables.{flow_is, nat_is}
 use Rattle.dt_world_model.specs.Host.{one_if}
 use Rattle.dt_world_model.specs.Setup.{Setup}
 use Rattle.dt_world_model.specs.Tables.{look, same_flow}
-use Rattle.dt_calls_laws.specs.Wholes.{AreSome}
+use Rattle.dt_calls_laws.specs.Wholes.{AreSome, items_of_all}
 use Rattle.dt_calls_model.specs.Messages.{reversed}
 use Rattle.dt_endpoint.specs.Endpoints.{EndpointValue}
 use Rattle.dt_network.specs.Duties.{KeepsDuties}
@@ -21,13 +21,13 @@ use Rattle.dt_service_model.specs.declared.names.CallNumber.{CallNumber}
 use Rattle.dt_service_model.specs.declared.ports.Kind.{Kind}
 use Rattle.dt_service_model.specs.declared.ports.Most.{Most}
 use Rattle.dt_service_model.specs.Names.{same_number}
-use Rattle.dt_service_laws.specs.Histories.{Message, answers_at, at_node, call_by, calls_on, count_of, in_turn, in_turns, lives_at, replies_on, reply_by, requests_on}
+use Rattle.dt_service_laws.specs.Histories.{Message, answers_at, at_node, call_by, calls_on, count_of, in_turn, in_turns, lives_at, replies_on, reply_by, requests_on, spelled}
 use Rattle.dt_service_laws.specs.Orders.{AreSomeOf, none, skips, takes}
 use Rattle.dt_service_laws.specs.Premises.{Differ, IsLife, IsServed, KeepsFrom, KeepsKind, KeepsKinds, KeepsTurn, KeepsTurns}
 use Rattle.dt_service_laws.specs.Services.{Deed, Does, Passes, Services, Turn, new_services, node_after, node_does, node_with, services_after}
+use Rattle.dt_service_laws.specs.Tie.{TakesCallsAlone}
 use Rattle.dt_service_laws.specs.Wholes.{messages_in}
 use Rattle.dt_service_laws.proofs.Answering.{contains_first, contains_more, contains_parts, number_is, number_self, some_contains}
-use Rattle.dt_service_laws.proofs.Asked.{spelled}
 use Rattle.dt_service_laws.proofs.Numbering.{all_made, numbers_once, two_flows}
 use Rattle.dt_service_laws.proofs.Elsewhere.{IsLawful}
 use Rattle.dt_service_laws.proofs.Moves.{Tracks}
@@ -83,6 +83,21 @@ from_mapped g (m ∷ ms) a there =
 map_twice : (ms : List Message) → map said (map spelled ms) ≡ map (λ (x : Message). said (spelled x)) ms
 map_twice [] = refl
 map_twice (m ∷ ms) = ap (λ (xs : List Message). said (spelled m) ∷ xs) (map_twice ms)
+
+-- what is read of messages that were sent is what they say, and what is said of replies is a reply
+read_said : (read taken : List (List ℕ)) (ms : List Message) → AreSomeOf read taken → taken ≡ map spelled ms → AreSomeOf (map said read) (map said (map spelled ms))
+read_said read taken ms some is = subst (λ (l : List (List ℕ)). AreSomeOf (map said read) (map said l)) is (mapped said some)
+
+given_back : (replies requests calls : List Message) (a : Message) → Contains (map said (map spelled replies)) a → AreFit calls → ((m : CallNumber) → count_of m replies ≤ count_of m requests) → ((m : CallNumber) → count_of m requests ≤ count_of m calls) → Contains replies a
+given_back replies requests calls a given fit few fewer =
+    let from = from_mapped (λ (x : Message). said (spelled x)) replies a (subst (λ (ms : List Message). Contains ms a) (map_twice replies) given) in
+    let once = counts_some replies from.0 from.1 in
+    let l = few from.0.number in
+    let m = fewer from.0.number in
+    let call = counted_some from.0.number calls (omega (arith, once, l, m)) in
+    let fits = fit_at calls call.0 fit call.1 in
+    let same : from.0 ≡ a = sym (said_again from.0 (subst (λ (k : CallNumber). k.life < 2 ^ 32) call.2 fits.0) (subst (λ (k : CallNumber). k.count < 2 ^ 32) call.2 fits.1)) ∙ from.2 in
+    subst (λ (x : Message). Contains replies x) same from.1
 
 pub spelled_some : (ms : List Message) → AreSome (map spelled ms)
 spelled_some [] = tt
@@ -168,6 +183,13 @@ module _ (setup : Setup) (Good : Network → Type 0) (law : IsLawful setup Good)
         let c = calls_alone f served turns None (λ g m. 0) start new unspent (λ k. new_sound kinds k (most k) (life k) (lives k)) (inl refl) no_waits agree keeps in
         subst (λ (ms : List Message). AreSomeOf (requests_on f setup turns start) ms) (ap (λ (ms : List Message). map said (map spelled ms)) c.0 ∙ fit_said (calls_on f setup turns start) c.1) (sent_come f turns keeps)
 
+    -- a caller's flow takes its calls alone
+    pub calls_taken : (f : Flow) → IsServed kinds f → (turns : List Turn) → KeepsKinds kinds turns → KeepsTurns setup turns start → TakesCallsAlone setup f turns start
+    calls_taken f served turns agree keeps =
+        let r = ran setup Good law f turns None (λ g m. 0) start new unspent (inl refl) no_waits keeps in
+        let c = calls_alone f served turns None (λ g m. 0) start new unspent (λ k. new_sound kinds k (most k) (life k) (lives k)) (inl refl) no_waits agree keeps in
+        record { steps = r.steps; are = r.are; keep = r.keep; taken = λ taken t. r.takes taken t ∙ ap (λ (ms : List Message). items_of_all (map spelled ms)) c.0 }
+
     -- how often a name stands among calls, requests and replies
     pub requests_few : (f : Flow) → IsServed kinds f → (turns : List Turn) → KeepsKinds kinds turns → KeepsTurns setup turns start → (m : CallNumber) → count_of m (requests_on f setup turns start) ≤ count_of m (calls_on f setup turns start)
     requests_few f served turns agree keeps m = fewer_of m (requests_come f served turns agree keeps)
@@ -211,17 +233,8 @@ module _ (setup : Setup) (Good : Network → Type 0) (law : IsLawful setup Good)
               let sent = in_turns (λ n. sent_on (reversed f)) setup turns start in
               let replies = replies_on f setup turns start in
               let taken : messages_in t.0 ≡ map spelled replies = ap messages_in (r.takes t.0 t.1) ∙ read_back (map spelled sent) (spelled_some sent) ∙ ap (map spelled) c.2 in
-              let some : AreSomeOf (map said (messages_in (all_read (reversed f) r.steps))) (map said (map spelled replies)) = subst (λ (ms : List (List ℕ)). AreSomeOf (map said (messages_in (all_read (reversed f) r.steps))) (map said ms)) taken (mapped said (in_order (all_read (reversed f) r.steps) t.0 t.2)) in
-              let given = some_contains a some read in
-              let from = from_mapped (λ (x : Message). said (spelled x)) replies a (subst (λ (ms : List Message). Contains ms a) (map_twice replies) given) in
-              let once : 0 < count_of from.0.number replies = counts_some replies from.0 from.1 in
-              let few = replies_few f turns keeps from.0.number in
-              let fewer = requests_few f served turns agree keeps from.0.number in
-              let call = counted_some from.0.number (calls_on f setup turns start) (omega (arith, once, few, fewer)) in
-              let fits = fit_at (calls_on f setup turns start) call.0 c.1 call.1 in
-              let number : call.0.number ≡ from.0.number = call.2 in
-              let same : from.0 ≡ a = sym (said_again from.0 (subst (λ (k : CallNumber). k.life < 2 ^ 32) number fits.0) (subst (λ (k : CallNumber). k.count < 2 ^ 32) number fits.1)) ∙ from.2 in
-              subst (λ (x : Message). Contains replies x) same from.1
+              let some = read_said (messages_in (all_read (reversed f) r.steps)) (messages_in t.0) replies (in_order (all_read (reversed f) r.steps) t.0 t.2) taken in
+              given_back replies (requests_on f setup turns start) (calls_on f setup turns start) a (some_contains a some read) c.1 (replies_few f turns keeps) (requests_few f served turns agree keeps)
           | inr o ↦
               let e = ap (count_of a.number) (calls_few_at f turns keeps) in
               let two = two_flows setup f.from.0 a.number f o.flow o.other turns start in

@@ -39,7 +39,7 @@ use Rattle.dt_service_model.specs.Asked.{call, call_refusals, forget, forget_ref
 use Rattle.dt_service_model.specs.Halves.{Halves}
 use Rattle.dt_service_model.specs.Names.{number_of}
 use Rattle.dt_service_model.specs.Turns.{Node, happens, turn, turn_end, with_halves}
-use Rattle.dt_service_laws.specs.Histories.{Message, made_as, replied_as}
+use Rattle.dt_service_laws.specs.Histories.{Message, made_as, replied_as, spelled}
 use Rattle.dt_service_laws.specs.Premises.{ReadsFlows}
 use Rattle.dt_service_laws.specs.Services.{after_datagram, comes_to}
 use Rattle.dt_service_laws.proofs.Deeds.{Comes, IsBetween, comes_by_end, comes_by_event, comes_by_step, comes_nowhere, nothing_between}
@@ -83,10 +83,6 @@ not_false false h = absurd cc
 pub not_true : (b : Bool) → not b ≡ true → b ≡ false
 not_true true h = absurd cc
 not_true false h = refl
-
--- a message as its octets
-abbrev pub spelled : Message → List ℕ
-spelled m = message_of (number_of m.number) m.carried
 
 -- A MESSAGE IS SENT WHOLE
 abbrev pub posted : Option Refusal → List ℕ → List Item

@@ -13,7 +13,6 @@ use Rattle.dt_world_model.specs.Tables.{look, same_flow}
 use Rattle.dt_world_model.specs.WorldStep.{first_refusal}
 use Rattle.dt_calls_model.specs.Messages.{message_of, reversed}
 use Rattle.dt_endpoint.specs.declared.answers.Arrived.{Arrived}
-use Rattle.dt_endpoint.specs.declared.answers.Arrived.TheVariants as arrived
 use Rattle.dt_endpoint.specs.declared.answers.Ticked.{Ticked}
 use Rattle.dt_endpoint.specs.declared.answers.Ticked.TheVariants as ticked
 use Rattle.dt_endpoint.specs.Calls.{arrive_event, arrive_refusal, send_answer}

@@ -16,7 +16,6 @@ use Rattle.dt_world_model.specs.WorldStep.{first_refusal}
 use Rattle.dt_calls_laws.proofs.SideBySide.{number_back}
 use Rattle.dt_calls_model.specs.Messages.{message_of, reversed}
 use Rattle.dt_endpoint.specs.declared.answers.Arrived.{Arrived}
-use Rattle.dt_endpoint.specs.declared.answers.Arrived.TheVariants as arrived
 use Rattle.dt_endpoint.specs.declared.answers.Ticked.{Ticked}
 use Rattle.dt_endpoint.specs.declared.answers.Ticked.TheVariants as ticked
 use Rattle.dt_endpoint.specs.Calls.{arrive_event, arrive_refusal, send_answer}
@@ -39,10 +38,10 @@ use Rattle.dt_service_model.specs.Ends.{next_call, next_in}
 use Rattle.dt_service_model.specs.Halves.{Halves, is_caller, kind_in, new_halves}
 use Rattle.dt_service_model.specs.Names.{call_number, number_of, same_number, same_token}
 use Rattle.dt_service_model.specs.Turns.{Node, happens, turn, turn_end, with_halves}
-use Rattle.dt_service_laws.specs.Histories.{Message, call_by, made_as, replied_as, reply_by}
+use Rattle.dt_service_laws.specs.Histories.{Message, call_by, made_as, replied_as, reply_by, spelled}
 use Rattle.dt_service_laws.specs.Premises.{IsLife, IsServed, KeepsDeed, KeepsKind}
 use Rattle.dt_service_laws.specs.Services.{Arrives, Closes, Deed, Forgets, GivesKind, GivesReply, MakesCall, OpensAgain, PullsFrame, Raises, TakesHappening, Ticks, node_after, comes_to}
-use Rattle.dt_service_laws.proofs.Asked.{all_clear, first_none, not_false, spelled}
+use Rattle.dt_service_laws.proofs.Asked.{all_clear, first_none, not_false}
 use Rattle.dt_service_laws.proofs.Answering.{same_reversed}
 use Rattle.dt_service_laws.proofs.Keeping.{IsOfService, Keeps, end_keeps, happens_keeps, keeps_quietly, turn_keeps}
 use Rattle.dt_service_laws.proofs.Quiet.{close_quiet, forgotten_quiet}

@@ -18,7 +18,7 @@ use Rattle.dt_endpoint.specs.Endpoints.{EndpointValue}
 use Rattle.dt_network.specs.Duties.{KeepsDuties}
 use Rattle.dt_network.specs.Network.{Network}
 use Rattle.dt_network.specs.Octets.{all_read}
-use Rattle.dt_network.specs.Steps.{AreSteps, Calls, DoesFrom, OpenAgain, Pass, PullFrame, Step, network_after, network_by}
+use Rattle.dt_network.specs.Steps.{AreSteps, Calls, DoesFrom, OpenAgain, Pass, PullFrame, Step, network_by}
 use Rattle.dt_network.specs.Duties.{KeepsFrom as CallKeeps}
 use Rattle.dt_service_model.specs.declared.happenings.Happening.{Happening}
 use Rattle.dt_service_model.specs.declared.names.CallNumber.{CallNumber}
@@ -28,19 +28,19 @@ use Rattle.dt_service_model.specs.Asked.{is_life_in_use, raised, with_kind, with
 use Rattle.dt_service_model.specs.Ends.{close, next, next_call, next_in}
 use Rattle.dt_service_model.specs.Halves.{Halves, kind_in}
 use Rattle.dt_service_model.specs.Turns.{Node}
-use Rattle.dt_service_laws.specs.Histories.{Message, answer_in, answers_at, at_node, at_the, call_by, calls_on, count_of, each_of, in_turn, in_turns, replies_on, reply_by, request_in, requests_on, told_by}
+use Rattle.dt_service_laws.specs.Histories.{Message, answer_in, answers_at, at_node, at_the, call_by, calls_on, count_of, in_turn, in_turns, replies_on, reply_by, request_in, requests_on, told_by, spelled}
 use Rattle.dt_service_laws.specs.Orders.{AreSomeOf, none}
 use Rattle.dt_service_laws.specs.Premises.{KeepsDeed, KeepsFrom, KeepsTurn, KeepsTurns}
-use Rattle.dt_service_laws.specs.Services.{Arrives, Closes, Deed, Does, Forgets, GivesKind, GivesReply, MakesCall, OpensAgain, Passes, PullsFrame, Raises, Services, TakesHappening, Ticks, Turn, node_after, node_does, node_with, services_after, told_between, with_node}
+use Rattle.dt_service_laws.specs.Services.{Arrives, Closes, Deed, Does, Forgets, GivesKind, GivesReply, MakesCall, OpensAgain, Passes, PullsFrame, Raises, Services, TakesHappening, Ticks, Turn, node_after, node_does, node_with, services_after, with_node}
 use Rattle.dt_service_laws.specs.Wholes.{begun_after, messages_from}
-use Rattle.dt_service_laws.proofs.Answering.{IsOther, count_append, not_in_none}
-use Rattle.dt_service_laws.proofs.Asked.{alike, arrive_comes, call_comes, forget_comes, reply_comes, spelled, tick_comes}
+use Rattle.dt_service_laws.proofs.Answering.{IsOther, count_append}
+use Rattle.dt_service_laws.proofs.Asked.{alike, arrive_comes, call_comes, forget_comes, reply_comes, tick_comes}
 use Rattle.dt_service_laws.proofs.Deeds.{Comes, comes_by_step, comes_quietly}
 use Rattle.dt_service_laws.proofs.Elsewhere.{IsLawful}
 use Rattle.dt_service_laws.proofs.Moves.{AreKeptFrom, IsKeptFrom, Tracks, open_count}
 use Rattle.dt_service_laws.proofs.Orders.{both}
 use Rattle.dt_service_laws.proofs.Pieces.{messages_append}
-use Rattle.dt_service_laws.proofs.Quiet.{close_quiet, kept_itself}
+use Rattle.dt_service_laws.proofs.Quiet.{close_quiet}
 use Rattle.dt_service_laws.proofs.Middle.{AreOf, mid_opens, mid_waits}
 use Rattle.dt_service_laws.proofs.Sent.{mid_by, sent_on}
 use Rattle.dt_service_laws.proofs.Sound.{call_is, reply_is}

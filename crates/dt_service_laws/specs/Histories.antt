@@ -4,6 +4,7 @@ use Rattle.dt_units.specs.declared.endpoints.Flow.{Flow}
 use Rattle.dt_world_model.specs.Host.{one_if}
 use Rattle.dt_world_model.specs.Setup.{Setup}
 use Rattle.dt_world_model.specs.Tables.{same_flow, total}
+use Rattle.dt_calls_model.specs.Messages.{message_of}
 use Rattle.dt_service_model.specs.declared.answers.Made.{Made}
 use Rattle.dt_service_model.specs.declared.answers.Made.TheVariants as made
 use Rattle.dt_service_model.specs.declared.answers.Replied.{Replied}
@@ -13,7 +14,7 @@ use Rattle.dt_service_model.specs.declared.happenings.Happening.TheVariants.{Ans
 use Rattle.dt_service_model.specs.declared.names.CallNumber.{CallNumber}
 use Rattle.dt_service_model.specs.declared.names.Token.{Token}
 use Rattle.dt_service_model.specs.Asked.{call, is_life_in_use, reply}
-use Rattle.dt_service_model.specs.Names.{same_number}
+use Rattle.dt_service_model.specs.Names.{number_of, same_number}
 use Rattle.dt_service_model.specs.Turns.{Node}
 use Rattle.dt_service_laws.specs.Services.{Arrives, Closes, Deed, Does, Forgets, GivesKind, GivesReply, MakesCall, OpensAgain, Passes, PullsFrame, Raises, Services, TakesHappening, Ticks, Turn, node_after, node_at, services_after, told_between}
 
@@ -21,6 +22,10 @@ use Rattle.dt_service_laws.specs.Services.{Arrives, Closes, Deed, Does, Forgets,
 pub record Message : Type 0 where
   pub number : CallNumber
   pub carried : List ℕ
+
+-- its octets
+abbrev pub spelled : Message → List ℕ
+spelled m = message_of (number_of m.number) m.carried
 
 -- THE CALLS of a flow: a call is made where it is answered with its number
 abbrev pub made_as : Made → List ℕ → List Message

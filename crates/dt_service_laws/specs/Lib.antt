@@ -5,3 +5,4 @@ pub mod Services
 pub mod Histories
 pub mod Premises
 pub mod Worked
+pub mod Tie

@@ -1,10 +1,8 @@
 -- Two worked networks of services: a call that is answered, and one whose client starts again while its service is slow.
-use Rattle.std.specs.Prelude.{ℕ, zero, suc, ◌==◌, List, [], ◌∷◌, ◌++◌, get_or, unwrap_or, option_map, Option, Some, None}
+use Rattle.std.specs.Prelude.{ℕ, zero, suc, ◌==◌, List, [], ◌∷◌, ◌++◌, unwrap_or, option_map, Some}
 use Rattle.dt_world_model.specs.Setup.{Setup, routes_of}
 use Rattle.dt_world_model.specs.Tables.{look}
 use Rattle.dt_world_model.specs.Worked.{main_flow, standard}
-use Rattle.dt_network.specs.Network.{new_network}
-use Rattle.dt_service_model.specs.declared.names.CallNumber.{CallNumber}
 use Rattle.dt_service_model.specs.declared.ports.Kind.{Kind}
 use Rattle.dt_service_model.specs.declared.ports.Kind.TheVariants.{Caller, Service}
 use Rattle.dt_service_model.specs.Names.{number_with, token_with}

@@ -1,5 +1,5 @@
 //! Laws of whole messages, and of request and reply between nodes. Each law is the contract of a public
-//! function with an empty body.
+//! function whose body names the laws of networks that it stands on, and does nothing.
 #![tactic(auto)]
 
 mod messages;
@@ -11,8 +11,6 @@ pub use messages::{
 };
 pub use requests::{
     answers_are_what_the_service_gave, names_are_called_handed_out_and_replied_to_once,
-    requests_are_calls_once_and_in_their_order,
+    requests_are_calls_once_and_in_their_order, services_take_calls_that_are_made_and_nothing_else,
 };
-pub use worked::{
-    call_is_answered, call_that_is_handed_out_keeps_the_duties, client_starts_again,
-};
+pub use worked::{call_is_answered, call_that_is_handed_out_keeps_the_duties, client_starts_again};

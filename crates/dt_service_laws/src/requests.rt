@@ -10,8 +10,20 @@ ghost use Rattle.dt_service_laws.specs.Histories.{Message, answers_at, calls_on,
 ghost use Rattle.dt_service_laws.specs.Orders.{AreSomeOf};
 ghost use Rattle.dt_service_laws.specs.Premises.{Differ, IsLife, IsServed, KeepsKinds, KeepsTurns};
 ghost use Rattle.dt_service_laws.specs.Services.{Turn, new_services};
+ghost use Rattle.dt_service_laws.specs.Tie.{TakesCallsAlone};
 
 use dt_network::{network_is_a_world, what_is_read_is_what_was_sent};
+
+/// A NETWORK OF SERVICES IS ONE OF ENDPOINTS. Whatever is done at its nodes comes to calls of their
+/// endpoints that keep the duties; and a flow from a caller to a service takes the messages of the calls
+/// that are made on it, whole and side by side, and nothing else. So of a call that is declined or refused
+/// no octet is taken.
+pub fn services_take_calls_that_are_made_and_nothing_else()
+    ensures { (setup : Setup) (most : ℕ → Most) (life : ℕ → ℕ) (kinds : ℕ → ℕ → Kind) (turns : List Turn) (f : Flow) → IsWithinLimits setup.params → ((n : ℕ) → IsLife (life n)) → KeepsKinds kinds turns → IsServed kinds f → KeepsTurns setup turns (new_services setup most life) → TakesCallsAlone setup f turns (new_services setup most life) }
+{
+    network_is_a_world();
+    what_is_read_is_what_was_sent();
+}
 
 /// REQUESTS ARE CALLS, EACH ONCE AND IN THEIR ORDER. Whatever programs ask of their nodes, and however
 /// often these die and open again: the requests of a flow from a caller to a service that are handed out

@@ -1,4 +1,4 @@
-use Rattle.std.proofs.Common.{refl, arith, get_or, [], ◌∷◌}
+use Rattle.std.proofs.Common.{refl, arith, get_or, []}
 use Rattle.std.proofs.lemmas.List.Elements.{All-cons, All-nil}
 use Rattle.dt_layout.specs.Spelling.{gram_spelling, packet_spelling}
 use Rattle.dt_layout.specs.Reading.{gram_fault, gram_in, packet_fault, packet_in}
