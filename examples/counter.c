@@ -103,7 +103,7 @@ int main(int count, char **words) {
     for (empty_at = now();;) {
         struct dt_moment wake = dt_wake(node);
         uint64_t at = now();
-        poll(&(struct pollfd){wire, POLLIN, 0}, 1, !wake.some ? -1 : wake.at < at ? 0 : wake.at - at > 1000 ? 1000 : (int)(wake.at - at));
+        poll(&(struct pollfd){wire, POLLIN, 0}, 1, !wake.some ? -1 : wake.at <= at ? 1 : wake.at - at > 1000 ? 1000 : (int)(wake.at - at));
         receive(wire, node);
         stop_on(dt_tick(node, at = now()));
         for (struct dt_report it; (it = dt_next_report(node)).status == DT_DONE;)

@@ -117,7 +117,7 @@ int main(int count, char **words) {
         struct dt_moment wake = dt_wake(node);
         int64_t wait = wake.some ? (int64_t)(wake.at - now()) : -1;
         struct pollfd it = {.fd = wire, .events = POLLIN};
-        poll(&it, 1, wake.some ? (int)(wait < 0 ? 0 : wait > 1000 ? 1000 : wait) : -1);
+        poll(&it, 1, wake.some ? (int)(wait < 1 ? 1 : wait > 1000 ? 1000 : wait) : -1);
         receive(wire, node);
         uint64_t at = now();
         stop_on(dt_tick(node, at), "a tick");

@@ -204,7 +204,7 @@ static void wait_for(int line, dt_node *node) {
     struct dt_moment wake = dt_wake(node);
     uint64_t at = now();
     struct pollfd its[] = {{line, POLLIN, 0}, {STDIN_FILENO, POLLIN, 0}};
-    int wait = !wake.some || wake.at > at + 100 ? 100 : wake.at <= at ? 0 : (int)(wake.at - at);
+    int wait = !wake.some || wake.at > at + 100 ? 100 : wake.at <= at ? 1 : (int)(wake.at - at);
     poll(its, given.whole || given.ended ? 1 : 2, wait);
     if (!given.whole && its[1].revents) take_line();
 }

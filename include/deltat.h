@@ -260,7 +260,8 @@ struct dt_out dt_next_frame(dt_node *n, uint8_t *buf, size_t room);
 struct dt_report dt_next_report(dt_node *n);
 
 /* The least moment at which something is due: dt_tick then. None (`some` is false) where there is no such moment, the
- * node is spent or the handle holds none. Nothing changes. */
+ * node is spent or the handle holds none. Nothing changes. Behind a dt_tick it is past only of a node that was called so
+ * late that a segment isn't sent again any more; nothing is due then, so let a loop wait for 1 ms at least. */
 struct dt_moment dt_wake(dt_node *n);
 
 /* SERVICES: request and reply between nodes. A service is a node of its own kind, in a handle of its own kind, with the

@@ -713,7 +713,8 @@ class Udp:
         """Waits for a datagram, for `timeout` seconds at most (None: as long as it takes) and no longer than to the
         node's wake; handles all that came and is due, and returns the messages that are whole now."""
         wake = self.node.wake
-        wait = None if wake is None else max(wake - now(), 0) / 1000
+        # (a node that was called late may tell a moment that is past, at which nothing is due)
+        wait = None if wake is None else max(wake - now(), 1) / 1000
         if timeout is not None:
             wait = timeout if wait is None else min(wait, timeout)
         select.select([self.socket], [], [], wait)
@@ -820,7 +821,7 @@ class AsyncUdp:
         if self._timer:
             self._timer.cancel()
         wake = self.node.wake
-        self._timer = None if wake is None else self._loop.call_later(max(wake - now(), 0) / 1000, self._turn)
+        self._timer = None if wake is None else self._loop.call_later(max(wake - now(), 1) / 1000, self._turn)
 
     async def _wait(self, seconds: float | None = None) -> None:
         """Waits until something changed, or so long."""
