@@ -1,10 +1,9 @@
 //! What is asked of a service, before it closes where there is no memory.
 ghost use Rattle.std.specs.Prelude.{◌≡◌, ◌<◌, ◌^◌, Bool, false, IfOk, OnErr, OnOk};
 ghost use Rattle.dt_service_model.specs.declared.answers.Forgot.TheVariants as forgot;
-ghost use Rattle.dt_service_model.specs.Asked.{call, forget, forgotten_unless, made_of, next_number, replied_of, reply, tick, with_call_unless};
+ghost use Rattle.dt_service_model.specs.Asked.{arrive, call, forget, forgotten_unless, made_of, next_number, replied_of, reply, tick, with_call_unless};
 ghost use Rattle.dt_service_model.specs.Halves.{Halves as HalvesValue};
 ghost use Rattle.dt_service_model.specs.Turns.{hears, turn_end, with_halves};
-ghost use Rattle.dt_service.specs.Calls.{arrives};
 ghost use Rattle.dt_service.specs.Nodes.{GoesOn, Is, node_in};
 
 use crate::parts::Parts;
@@ -69,7 +68,7 @@ impl Parts {
         datagram: &[u8],
         waited: u32,
     ) -> Result<Arrived, NoMemory>
-        ensures done { IfOk result (λ answer. Is answer (node_in self.new) (arrives now link datagram.now waited (node_in self.old))) }
+        ensures done { IfOk result (λ answer. Is answer (node_in self.new) (arrive now link datagram.now waited (node_in self.old))) }
         ensures part { OnErr result (GoesOn false (node_in self.old) (node_in self.new)) }
     {
         if self.is_closed() {

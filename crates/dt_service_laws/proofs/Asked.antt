@@ -35,13 +35,12 @@ use Rattle.dt_service_model.specs.declared.answers.Forgot.TheVariants as forgot
 use Rattle.dt_service_model.specs.declared.answers.Made.{Made}
 use Rattle.dt_service_model.specs.declared.answers.Replied.{Replied}
 use Rattle.dt_service_model.specs.declared.names.Token.{Token}
-use Rattle.dt_service_model.specs.Asked.{call, call_refusals, forget, forget_refusals, forgotten, forgotten_unless, goes_out, is_closed, is_one_too_many, made_by, made_of, message_event, next_number, replied_by, replied_of, reply, reply_refusals, tick, unless, with_call_unless}
+use Rattle.dt_service_model.specs.Asked.{arrive, call, call_refusals, forget, forget_refusals, forgotten, forgotten_unless, goes_out, is_closed, is_one_too_many, made_by, made_of, message_event, next_number, or_counted, replied_by, replied_of, reply, reply_refusals, tick, unless, with_call_unless}
 use Rattle.dt_service_model.specs.Halves.{Halves}
 use Rattle.dt_service_model.specs.Names.{number_of}
 use Rattle.dt_service_model.specs.Turns.{Node, happens, turn, turn_end, with_halves}
 use Rattle.dt_service_laws.specs.Histories.{Message, made_as, replied_as, spelled}
 use Rattle.dt_service_laws.specs.Premises.{ReadsFlows}
-use Rattle.dt_service_laws.specs.Services.{after_datagram, comes_to}
 use Rattle.dt_service_laws.proofs.Deeds.{Comes, IsBetween, comes_by_end, comes_by_event, comes_by_step, comes_nowhere, nothing_between}
 use Rattle.dt_service_laws.proofs.Elsewhere.{IsLawful}
 use Rattle.dt_service_laws.proofs.Ending.{time_later}
@@ -281,7 +280,7 @@ module _ (setup : Setup) (n : ℕ) (m : Network) (x : Node) (there : IsAt n m x.
   }
 
   arrive_goes : (now link : ℕ) (datagram : List ℕ) (waited : ℕ) → KeepsCall setup m n (CallArrive now link datagram waited arrived.Done) x.endpoint → ReadsFlows (happens now (arrive_event link datagram waited) x) → (c : Bool) → (o : Option Arrived) → arrive_refusal link datagram waited x.endpoint ≡ o
-      → Comes setup n x (cond c x.halves (mid_of o x.halves (happens now (arrive_event link datagram waited) x).halves)) (cond c x (comes_to o now link datagram waited x)) m (λ g. [])
+      → Comes setup n x (cond c x.halves (mid_of o x.halves (happens now (arrive_event link datagram waited) x).halves)) (cond {A = Arrived × Node} c (arrived.Spent, x) (or_counted o x (arrived.Done, turn now (arrive_event link datagram waited) x))).1 m (λ g. [])
   arrive_goes now link datagram waited keeps flows true o is = comes_nowhere setup n x m there unspent
   arrive_goes now link datagram waited keeps flows false (Some a) is =
       let y : Node = record x { endpoint = with_refused x.endpoint } in
@@ -303,5 +302,5 @@ module _ (setup : Setup) (n : ℕ) (m : Network) (x : Node) (there : IsAt n m x.
       (λ g. refl) (λ g taken t. t) (nothing_between setup n (happens now event x).halves) flows
 
   pub arrive_comes : (now link : ℕ) (datagram : List ℕ) (waited : ℕ) → KeepsCall setup m n (CallArrive now link datagram waited arrived.Done) x.endpoint → ReadsFlows (happens now (arrive_event link datagram waited) x)
-      → Comes setup n x (cond (is_closed x) x.halves (mid_of (arrive_refusal link datagram waited x.endpoint) x.halves (happens now (arrive_event link datagram waited) x).halves)) (after_datagram now link datagram waited x) m (λ g. [])
+      → Comes setup n x (cond (is_closed x) x.halves (mid_of (arrive_refusal link datagram waited x.endpoint) x.halves (happens now (arrive_event link datagram waited) x).halves)) (arrive now link datagram waited x).1 m (λ g. [])
   arrive_comes now link datagram waited keeps flows = arrive_goes now link datagram waited keeps flows (is_closed x) (arrive_refusal link datagram waited x.endpoint) refl

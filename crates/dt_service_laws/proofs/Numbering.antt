@@ -13,6 +13,7 @@ use Rattle.dt_world_model.specs.Tables.{look, same_flow}
 use Rattle.dt_world_model.specs.WorldStep.{first_refusal}
 use Rattle.dt_calls_model.specs.Messages.{message_of, reversed}
 use Rattle.dt_endpoint.specs.declared.answers.Arrived.{Arrived}
+use Rattle.dt_endpoint.specs.declared.answers.Arrived.TheVariants as arrived
 use Rattle.dt_endpoint.specs.declared.answers.Ticked.{Ticked}
 use Rattle.dt_endpoint.specs.declared.answers.Ticked.TheVariants as ticked
 use Rattle.dt_endpoint.specs.Calls.{arrive_event, arrive_refusal, send_answer}
@@ -26,14 +27,14 @@ use Rattle.dt_service_model.specs.declared.happenings.Happening.{Happening}
 use Rattle.dt_service_model.specs.declared.names.CallNumber.{CallNumber}
 use Rattle.dt_service_model.specs.declared.names.Token.{Token}
 use Rattle.dt_service_model.specs.declared.ports.Kind.{Kind}
-use Rattle.dt_service_model.specs.Asked.{call, call_refusals, forget_refusals, forgotten, forgotten_unless, is_closed, is_life_in_use, made_by, made_of, message_event, next_number, replied_by, reply_refusals, unless, with_call_unless, with_port}
+use Rattle.dt_service_model.specs.Asked.{call, call_refusals, forget_refusals, forgotten, forgotten_unless, is_closed, is_life_in_use, made_by, made_of, message_event, next_number, or_counted, replied_by, reply_refusals, unless, with_call_unless, with_port}
 use Rattle.dt_service_model.specs.Ends.{next_call, next_in}
 use Rattle.dt_service_model.specs.Halves.{Halves, kind_in}
 use Rattle.dt_service_model.specs.Names.{number_of, same_number}
 use Rattle.dt_service_model.specs.Turns.{Node, happens, turn, turn_end, with_halves}
 use Rattle.dt_service_laws.specs.Histories.{Message, at_node, at_the, call_by, count_of, in_turn, in_turns, life_by, lives_at, made_as}
 use Rattle.dt_service_laws.specs.Premises.{Differ, IsNotIn}
-use Rattle.dt_service_laws.specs.Services.{Arrives, Closes, Deed, Does, Forgets, GivesKind, GivesReply, MakesCall, OpensAgain, Passes, PullsFrame, Raises, Services, TakesHappening, Ticks, Turn, node_after, node_does, node_with, services_after, comes_to}
+use Rattle.dt_service_laws.specs.Services.{Arrives, Closes, Deed, Does, Forgets, GivesKind, GivesReply, MakesCall, OpensAgain, Passes, PullsFrame, Raises, Services, TakesHappening, Ticks, Turn, node_after, node_does, node_with, services_after}
 use Rattle.dt_service_laws.proofs.Answering.{count_append, number_is}
 use Rattle.dt_service_laws.proofs.Asked.{first_none}
 use Rattle.dt_service_laws.proofs.Keeping.{Keeps, end_keeps, happens_keeps, keeps_quietly, keeps_then, turn_keeps}
@@ -111,7 +112,7 @@ tick_stays : (b : Bool) (now : ℕ) (x : Node) → Stays x.halves (cond {A = Tic
 tick_stays true now x = record { life = refl; count = refl }
 tick_stays false now x = stays_kept x.halves _ (turn_keeps now Tick x)
 
-arrive_stays : (c : Bool) (o : Option Arrived) (now link : ℕ) (datagram : List ℕ) (waited : ℕ) (x : Node) → Stays x.halves (cond c x (comes_to o now link datagram waited x)).halves
+arrive_stays : (c : Bool) (o : Option Arrived) (now link : ℕ) (datagram : List ℕ) (waited : ℕ) (x : Node) → Stays x.halves (cond {A = Arrived × Node} c (arrived.Spent, x) (or_counted o x (arrived.Done, turn now (arrive_event link datagram waited) x))).1.halves
 arrive_stays true o now link datagram waited x = record { life = refl; count = refl }
 arrive_stays false (Some a) now link datagram waited x = record { life = refl; count = refl }
 arrive_stays false None now link datagram waited x = stays_kept x.halves (turn now (arrive_event link datagram waited) x).halves (turn_keeps now (arrive_event link datagram waited) x)

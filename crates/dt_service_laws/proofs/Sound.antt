@@ -16,6 +16,7 @@ use Rattle.dt_world_model.specs.WorldStep.{first_refusal}
 use Rattle.dt_calls_laws.proofs.SideBySide.{number_back}
 use Rattle.dt_calls_model.specs.Messages.{message_of, reversed}
 use Rattle.dt_endpoint.specs.declared.answers.Arrived.{Arrived}
+use Rattle.dt_endpoint.specs.declared.answers.Arrived.TheVariants as arrived
 use Rattle.dt_endpoint.specs.declared.answers.Ticked.{Ticked}
 use Rattle.dt_endpoint.specs.declared.answers.Ticked.TheVariants as ticked
 use Rattle.dt_endpoint.specs.Calls.{arrive_event, arrive_refusal, send_answer}
@@ -33,14 +34,14 @@ use Rattle.dt_service_model.specs.declared.ports.Kind.{Kind}
 use Rattle.dt_service_model.specs.declared.ports.Kind.TheVariants.{Caller, Service}
 use Rattle.dt_service_model.specs.declared.ports.Most.{Most}
 use Rattle.dt_service_model.specs.declared.ports.Port.{Port}
-use Rattle.dt_service_model.specs.Asked.{call, call_refusals, forget_refusals, forgotten, forgotten_unless, is_closed, is_life_in_use, made_by, made_of, message_event, next_number, replied_by, reply, reply_refusals, unless, with_call_unless, with_port}
+use Rattle.dt_service_model.specs.Asked.{call, call_refusals, forget_refusals, forgotten, forgotten_unless, is_closed, is_life_in_use, made_by, made_of, message_event, next_number, or_counted, replied_by, reply, reply_refusals, unless, with_call_unless, with_port}
 use Rattle.dt_service_model.specs.Ends.{next_call, next_in}
 use Rattle.dt_service_model.specs.Halves.{Halves, is_caller, kind_in, new_halves}
 use Rattle.dt_service_model.specs.Names.{call_number, number_of, same_number, same_token}
 use Rattle.dt_service_model.specs.Turns.{Node, happens, turn, turn_end, with_halves}
 use Rattle.dt_service_laws.specs.Histories.{Message, call_by, made_as, replied_as, reply_by, spelled}
 use Rattle.dt_service_laws.specs.Premises.{IsLife, IsServed, KeepsDeed, KeepsKind}
-use Rattle.dt_service_laws.specs.Services.{Arrives, Closes, Deed, Forgets, GivesKind, GivesReply, MakesCall, OpensAgain, PullsFrame, Raises, TakesHappening, Ticks, node_after, comes_to}
+use Rattle.dt_service_laws.specs.Services.{Arrives, Closes, Deed, Forgets, GivesKind, GivesReply, MakesCall, OpensAgain, PullsFrame, Raises, TakesHappening, Ticks, node_after}
 use Rattle.dt_service_laws.proofs.Asked.{all_clear, first_none, not_false}
 use Rattle.dt_service_laws.proofs.Answering.{same_reversed}
 use Rattle.dt_service_laws.proofs.Keeping.{IsOfService, Keeps, end_keeps, happens_keeps, keeps_quietly, turn_keeps}
@@ -101,7 +102,7 @@ module _ (kinds : (node port : ℕ) → Kind) (n : ℕ) where
   tick_sound true now x s = s
   tick_sound false now x s = sound_keeps x.halves (turn now Tick x).halves (turn_keeps now Tick x) s
 
-  arrive_sound : (c : Bool) (o : Option Arrived) (now link : ℕ) (datagram : List ℕ) (waited : ℕ) (x : Node) → IsSound x.halves → IsSound (cond c x (comes_to o now link datagram waited x)).halves
+  arrive_sound : (c : Bool) (o : Option Arrived) (now link : ℕ) (datagram : List ℕ) (waited : ℕ) (x : Node) → IsSound x.halves → IsSound (cond {A = Arrived × Node} c (arrived.Spent, x) (or_counted o x (arrived.Done, turn now (arrive_event link datagram waited) x))).1.halves
   arrive_sound true o now link datagram waited x s = s
   arrive_sound false (Some a) now link datagram waited x s = s
   arrive_sound false None now link datagram waited x s = sound_keeps x.halves (turn now (arrive_event link datagram waited) x).halves (turn_keeps now (arrive_event link datagram waited) x) s

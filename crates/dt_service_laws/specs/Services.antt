@@ -4,19 +4,17 @@ use Rattle.dt_units.specs.declared.endpoints.Flow.{Flow}
 use Rattle.dt_world_model.specs.declared.links.Route.{Route}
 use Rattle.dt_world_model.specs.Setup.{Setup}
 use Rattle.dt_world_model.specs.Tables.{look}
-use Rattle.dt_endpoint.specs.declared.answers.Arrived.{Arrived}
-use Rattle.dt_endpoint.specs.Calls.{arrive_event, arrive_refusal}
-use Rattle.dt_endpoint.specs.Endpoints.{EndpointValue, with_refused}
+use Rattle.dt_endpoint.specs.Endpoints.{EndpointValue}
 use Rattle.dt_network.specs.Network.{Network, new_network, opened_with}
 use Rattle.dt_network.specs.Steps.{Calls, Pass, PullFrame, network_after}
 use Rattle.dt_service_model.specs.declared.happenings.Happening.{Happening}
 use Rattle.dt_service_model.specs.declared.names.Token.{Token}
 use Rattle.dt_service_model.specs.declared.ports.Kind.{Kind}
 use Rattle.dt_service_model.specs.declared.ports.Most.{Most}
-use Rattle.dt_service_model.specs.Asked.{call, forget, is_closed, raised, reply, tick, with_kind}
+use Rattle.dt_service_model.specs.Asked.{arrive, call, forget, raised, reply, tick, with_kind}
 use Rattle.dt_service_model.specs.Ends.{close, next}
 use Rattle.dt_service_model.specs.Halves.{Halves, new_halves}
-use Rattle.dt_service_model.specs.Turns.{Node, turn, with_halves}
+use Rattle.dt_service_model.specs.Turns.{Node, with_halves}
 
 -- WHAT A PROGRAM ASKS of its node, and that it dies and its node opens again: with the moment of that, its routes, its limits and its life
 pub data Deed : Type 0 where
@@ -32,14 +30,6 @@ pub data Deed : Type 0 where
   Closes : Deed
   OpensAgain : (again : Option ℕ) → (routes : List Route) → (most : Most) → (life : ℕ) → Deed
 
--- A DATAGRAM COMES. One that the endpoint refuses is counted there, and is no turn
-abbrev pub comes_to : Option Arrived → (now link : ℕ) → List ℕ → (waited : ℕ) → Node → Node
-comes_to None now link datagram waited x = turn now (arrive_event link datagram waited) x
-comes_to (Some refusal) now link datagram waited x = record x { endpoint = with_refused x.endpoint }
-
-abbrev pub after_datagram : (now link : ℕ) → List ℕ → (waited : ℕ) → Node → Node
-after_datagram now link datagram waited x = if is_closed x then x else comes_to (arrive_refusal link datagram waited x.endpoint) now link datagram waited x
-
 -- what the definitions of a node make of it
 abbrev pub node_after : Setup → (node : ℕ) → Deed → Node → Node
 node_after setup n (GivesKind port kind) x = with_halves (with_kind port kind) x
@@ -47,7 +37,7 @@ node_after setup n (MakesCall now f payload patience) x = (call now f payload pa
 node_after setup n (GivesReply now token payload) x = (reply now token payload x).1
 node_after setup n (Forgets now token) x = (forget now token x).1
 node_after setup n (Ticks now) x = (tick now x).1
-node_after setup n (Arrives now link datagram waited) x = after_datagram now link datagram waited x
+node_after setup n (Arrives now link datagram waited) x = (arrive now link datagram waited x).1
 node_after setup n (Raises life) x = with_halves (raised life) x
 node_after setup n TakesHappening x = with_halves (λ h. (next h).1) x
 node_after setup n PullsFrame x = record x { endpoint = record (x.endpoint) { frames = drop 1 x.endpoint.frames } }

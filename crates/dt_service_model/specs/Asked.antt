@@ -13,7 +13,7 @@ use Rattle.dt_endpoint.specs.declared.answers.Arrived.TheVariants as arrived
 use Rattle.dt_endpoint.specs.declared.answers.Ticked.{Ticked}
 use Rattle.dt_endpoint.specs.declared.answers.Ticked.TheVariants as ticked
 use Rattle.dt_endpoint.specs.Calls.{arrive_event, arrive_refusal, send_answer}
-use Rattle.dt_endpoint.specs.Endpoints.{moment_of}
+use Rattle.dt_endpoint.specs.Endpoints.{moment_of, with_refused}
 use Rattle.dt_service_model.specs.declared.answers.Declined.TheVariants as declined
 use Rattle.dt_service_model.specs.declared.answers.Forgot.{Forgot}
 use Rattle.dt_service_model.specs.declared.answers.Forgot.TheVariants as forgot
@@ -140,11 +140,15 @@ forget now token n = unless (first_refusal (forget_refusals n token)) n (forgot.
 abbrev pub tick : (now : ℕ) → Node → Ticked × Node
 tick now n = if is_closed n then (ticked.Spent, n) else (ticked.Done, turn now Tick n)
 
-abbrev pub arrive_refused : (link : ℕ) → List ℕ → (waited : ℕ) → Node → Option Arrived
-arrive_refused link octets waited n = if is_closed n then Some arrived.Spent else arrive_refusal link octets waited n.endpoint
+-- One that the endpoint refuses is counted there, and is no turn
+abbrev pub or_counted : Option Arrived → Node → Arrived × Node → Arrived × Node
+or_counted None n done = done
+or_counted (Some refusal) n done = (refusal, record n { endpoint = with_refused n.endpoint })
 
 abbrev pub arrive : (now link : ℕ) → List ℕ → (waited : ℕ) → Node → Arrived × Node
-arrive now link octets waited n = unless (arrive_refused link octets waited n) n (arrived.Done, turn now (arrive_event link octets waited) n)
+arrive now link octets waited n =
+    if is_closed n then (arrived.Spent, n)
+    else or_counted (arrive_refusal link octets waited n.endpoint) n (arrived.Done, turn now (arrive_event link octets waited) n)
 
 -- A LIFE IS RAISED, unless it is that of the node, or of a call that waits
 abbrev pub is_life_in_use : ℕ → Halves → Bool
