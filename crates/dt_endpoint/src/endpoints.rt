@@ -94,13 +94,6 @@ impl Endpoint {
         })
     }
 
-    /// The moment of an event.
-    fn moment(&self, now: u64) -> u64
-        ensures { result ≡ moment_of now self.now }
-    {
-        self.latest.max(now.min(MOST_MOMENT))
-    }
-
     /// One event that brings no packet. What is heard of it is answered, and a piece that is read stands at
     /// the head of the buffer.
     fn event(&mut self, now: u64, event: LocalEvent<'_>, buf: &mut [u8]) -> Result<Heard, NoMemory>
@@ -112,7 +105,7 @@ impl Endpoint {
         ensures piece { let piece = piece_in (script_of now (local_seen (length buf.old) event.entry) self.old) [] in
             OnOk result (length piece ≤ length buf.old → take (length piece) buf.new ≡ piece) }
     {
-        let now = self.moment(now);
+        let now = self.moment_at(now);
         self.latest = now;
         self.asked += octets_in(&event);
         let done = happen(&mut self.station, &mut self.collector, now, event, buf);
@@ -134,7 +127,7 @@ impl Endpoint {
         requires life { waited < life_of datagram.now }
         ensures { ArriveDoes result now (arrive_event link datagram.now waited) self.old self.new }
     {
-        let now = self.moment(now);
+        let now = self.moment_at(now);
         fill(&mut *self.slot, datagram);
         self.slot.lower(waited);
         self.latest = now;
