@@ -12,7 +12,8 @@ It refuses, each with page and line:
 - a table of docs/clauses.md that differs from the public functions and their clauses;
 - a word of a line that is written or read and that docs/formats.md doesn't name;
 - a count of the files that have a row for each written or read line, where the sources have other files;
-- a file of a crate that says nothing of itself, so that docs/files.py would list it without a word.
+- a file of a crate that says nothing of itself, so that docs/files.py would list it without a word;
+- a must-fail edit whose text doesn't stand once in its file: `rt ci` counts it for nothing, and passes.
 
 Usage: docs/check.py            compares
        docs/check.py write      writes the "stands on" column, the files that a new line costs, and docs/clauses.md anew
@@ -515,6 +516,31 @@ def check_files() -> Iterator[Complaint]:
                 yield Complaint(path, 1, "nothing says what the file has")
 
 
+def check_edits() -> Iterator[Complaint]:
+    """Each pair of an edit applies to what the earlier ones made."""
+    for edit in sorted((TOP / "crates").glob("*/must-fail/*.edit")):
+        path, made = edit, {}
+        olds = 0
+        for number, line in enumerate(edit.read_text().splitlines(), 1):
+            key, _, words = line.partition(": ")
+            match key:
+                case "file":
+                    path = edit.parent.parent / words
+                    if not path.is_file():
+                        yield Complaint(edit, number, f"there is no {words}")
+                        break
+                    made.setdefault(path, path.read_text())
+                case "old":
+                    old, olds = words, olds + 1
+                    if path not in made or (count := made[path].count(old)) != 1:
+                        yield Complaint(edit, number, f"the text stands {count if path in made else 0} times in {path.name}")
+                        break
+                case "new":
+                    made[path] = made[path].replace(old, words)
+        if not olds:
+            yield Complaint(edit, 1, "it changes nothing")
+
+
 def complaints() -> Iterator[Complaint]:
     for page in PAGES:
         yield from check_links(page)
@@ -527,6 +553,7 @@ def complaints() -> Iterator[Complaint]:
     yield from check_formats()
     yield from check_costs()
     yield from check_files()
+    yield from check_edits()
 
 
 def main(words: list[str]) -> int:

@@ -34,6 +34,7 @@ SPOILT = [
     ("a link that leads to no heading", "docs/formats.md", "(#the-schedules-of-make)", "(#the-schedule-of-make)"),
     ("a name that nothing has", "docs/protocol.md", "\n", "\nThe function `" + "_".join(["nobody", "wrote", "this"]) + "` does it.\n"),
     ("a file that says nothing of itself", "crates/dt_relay/proofs/Links.antt", "-- Out links by", "use Out links by"),
+    ("an edit that can't be applied", "crates/dt_endpoint/must-fail/clock_that_goes_back_is_followed.edit", "(MOST_MOMENT))", "(MOST_MOMENTS))"),
 ]
 
 
