@@ -455,24 +455,34 @@ class Sum(NamedTuple):
     variant: str
     type: str
     path: str
-    # the definition that says its values without loans, where it has another name
-    seen: str = ""
 
 
 SUMS = (
-    Sum("a line that is written", "Report", "dt_reports/src/reports.rt", "Told"),
+    Sum("a line that is written", "Report", "dt_reports/src/reports.rt"),
     Sum("a line of the setup of a world", "SetupLine", "dt_text/src/lines.rt"),
-    Sum("a line of a world behind `go`", "WorldLine", "dt_text/src/lines.rt"),
-    Sum("a line of a user of a node", "UserLine", "dt_text/src/lines.rt", "UserSaid"),
+    Sum("a line of a world after `go`", "WorldLine", "dt_text/src/lines.rt"),
+    Sum("a line of a user of a node", "UserLine", "dt_text/src/lines.rt"),
     Sum("a line that sets up a script's node", "NodeLine", "dt_text/src/lines.rt"),
-    Sum("a kind of lines behind `go`", "RunLine", "dt_text/src/lines.rt", "RunSaid"),
-    Sum("a kind of lines of a script alone", "ScriptLine", "dt_text/src/lines.rt", "ScriptSaid"),
-    Sum("a kind of lines", "Line", "dt_text/src/lines.rt", "Said"),
+    Sum("a kind of lines after `go`", "RunLine", "dt_text/src/lines.rt"),
+    Sum("a kind of lines of a script alone", "ScriptLine", "dt_text/src/lines.rt"),
+    Sum("a kind of lines", "Line", "dt_text/src/lines.rt"),
 )
 
 
+def has_row_for_each(path: Path, it: Sum, variants: set[str]) -> bool:
+    """Whether a file declares the sum, or names each of its variants as one of it. A definition may name what a variant
+    that lends says (`send_said`) in its place, and code may leave the type to a macro's rows (`Report::$name`)."""
+    text = text_of(path)
+    words = set(re.findall(r"\w+", text))
+    if path.suffix == ".rt":
+        each = all(re.search(rf"\b{it.type}::{variant}\b", text) for variant in variants)
+        return path == TOP / "crates" / it.path or each or (f"{it.type}::$" in text and variants <= words)
+    imported = re.search(rf"\b{it.type}\.TheVariants\b", text)
+    return bool(imported) and all(variant in words or f"{variant.lower()}_said" in words for variant in variants)
+
+
 def files_with_all_of(it: Sum) -> list[str]:
-    """The files outside the crates of tests that name a type and every variant of it, lowest crate first."""
+    """The files outside the crates of tests that have a row for each variant of a type, lowest crate first."""
     body = re.search(rf"pub enum {it.type}(?:<[^>]*>)? \{{(.*?)\n\}}", text_of(TOP / "crates" / it.path), re.S)
     assert body, f"{it.path} declares no {it.type}"
     variants = set(re.findall(r"(?m)^    ([A-Z]\w*)", body[1]))
@@ -480,8 +490,7 @@ def files_with_all_of(it: Sum) -> list[str]:
     found = []
     for path in sources("src", "specs", "proofs"):
         crate = path.relative_to(TOP / "crates").parts[0]
-        words = set(re.findall(r"\w+", text_of(path)))
-        if not crate.endswith("_rows") and variants <= words and words & {it.type, it.seen}:
+        if not crate.endswith("_rows") and has_row_for_each(path, it, variants):
             found.append((order.index(crate), path.relative_to(TOP / "crates").as_posix()))
     return [path for _, path in sorted(found)]
 

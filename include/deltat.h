@@ -135,7 +135,7 @@ enum dt_kind { /* what a report tells, and its fields; the others are 0. Those w
     DT_ACCEPTED = 12,    /* data was accepted, and can be read: `number`, `count` octets, `run`: what stood before it
                             isn't known */
     DT_DROPPED = 13,     /* a packet was dropped: `number` */
-    DT_CLOSING = 14,     /* no more data of a run follows: `number` behind its last octet */
+    DT_CLOSING = 14,     /* no more data of a run follows: `number` after its last octet */
     DT_SETTLED = 15,     /* an acknowledgement was used: `count` octets came, `window` */
     DT_IGNORED = 16,     /* an acknowledgement changed nothing: `number`, `window` */
     DT_MET_QUIET = 17,   /* a packet met quiet time, until `moment`; no flow */
@@ -184,7 +184,7 @@ uint64_t dt_quiet(const struct dt_params *p);
 struct dt_fingerprint dt_fingerprint(const struct dt_params *p);
 
 /* EVENTS. Each is one event of the node's definition at `now`, and all that is due then is done; its frames wait for
- * dt_next_frame, behind those that wait already. */
+ * dt_next_frame, after those that wait already. */
 
 /* What is due is done. DONE NO_MEMORY CLOSED SPENT */
 uint8_t dt_tick(dt_node *n, uint64_t now);
@@ -260,7 +260,7 @@ struct dt_out dt_next_frame(dt_node *n, uint8_t *buf, size_t room);
 struct dt_report dt_next_report(dt_node *n);
 
 /* The least moment at which something is due: dt_tick then. None (`some` is false) where there is no such moment, the
- * node is spent or the handle holds none. Nothing changes. Behind a dt_tick it is past only of a node that was called so
+ * node is spent or the handle holds none. Nothing changes. After a dt_tick it is past only of a node that was called so
  * late that a segment isn't sent again any more; nothing is due then, so let a loop wait for 1 ms at least. */
 struct dt_moment dt_wake(dt_node *n);
 
@@ -333,20 +333,21 @@ uint8_t dt_port(dt_service *s, uint16_t port, uint8_t kind);
 
 /* A call: a request with this payload goes on a flow from a caller's port, and its end comes by dt_next_event, at the latest
  * in the first turn `patience` ms or more after `now`. DONE: it has `number`. QUIET: silent until `until`, and FULL: `free`
- * octets fit; then nothing of it was taken, and what else was due is done. CLOSED MANY NUMBERS SPENT; REFUSED: `unfit`.
+ * octets are free, eight of which the number takes; then nothing of it was taken, and what else was due is done. CLOSED MANY NUMBERS SPENT; REFUSED: `unfit`.
  * NO_MEMORY: the service is closed, as by dt_service_stop; its request may have been taken, and then its end is told too. */
 struct dt_made dt_call(dt_service *s, uint64_t now, const struct dt_flow *f, const uint8_t *payload, size_t len, uint32_t patience);
 
-/* The reply to a request, once. DONE: the node has it, and the token is open no more; FULL: `free` octets fit, what else was
- * due is done, and the reply may be tried again. CLOSED GONE SPENT; REFUSED: `unfit`. NO_MEMORY: as dt_call. */
+/* The reply to a request, once. DONE: the node has it, and the token is open no more; FULL: `free` octets are free,
+ * as in dt_call, what else was due is done, and the reply may be tried again. CLOSED GONE SPENT; REFUSED: `unfit`. NO_MEMORY: as dt_call. */
 struct dt_replied dt_reply(dt_service *s, uint64_t now, const struct dt_token *t, const uint8_t *payload, size_t len);
 
 /* A request has no reply: its token is open no more, and there is room for another. DONE CLOSED GONE NO_MEMORY */
 uint8_t dt_forget(dt_service *s, uint64_t now, const struct dt_token *t);
 
-/* What happened, in its order and each once: `len` octets at the head of the buffer, the rest of which is as it was. It is no
- * turn. Behind NO_MEMORY and dt_service_stop it hands out what was told, and then that each call that waited is UNSURE,
- * WAS_CLOSED. DONE CLOSED; NOTHING: nothing was told; ROOM: `len` octets are wanted, and it goes on waiting. */
+/* What happened, in its order and each once: `len` octets at the head of the buffer, the rest of which is as it was; a flow is
+ * told of a request alone. It is no turn. After NO_MEMORY and dt_service_stop it hands out what was told, and then that each
+ * call that waited is UNSURE, WAS_CLOSED. DONE CLOSED; NOTHING: nothing was told; ROOM: `len` octets are wanted, and it goes
+ * on waiting. */
 struct dt_event dt_next_event(dt_service *s, uint8_t *buf, size_t room);
 
 /* From now on calls have numbers of this life, from 0 on; what waits goes on waiting by its own number. DONE CLOSED; HELD: it

@@ -1,8 +1,10 @@
 #!/usr/bin/env python3
-"""Any octets as calls of libdeltat: tests/library/fuzz.c, with the address and undefined-behaviour sanitizers.
+"""Any octets as calls of libdeltat, with the address and undefined-behaviour sanitizers: of plain nodes by
+tests/library/fuzz.c, and of services by fuzz_service.c.
 
-`tests/library_fuzz.py [ARCHIVE] [--minutes M | --seconds S] [--seed N] [--keep FOLDER] [--input FILE] [--plain]`. The
-head of fuzz.c tells what an input is and where it is a fault.
+`tests/library_fuzz.py [ARCHIVE] [--only nodes|services] [--minutes M | --seconds S] [--seed N] [--keep FOLDER]
+[--input FILE] [--plain]`; an --input wants an --only. The heads of both files tell what an input is and where it is a
+fault. Each of the two has the time that is given.
 
 With --minutes libFuzzer draws the inputs: those that reach other code of the library, or make something happen behind
 something else for the first time, are kept and drawn from again. For that the library's code is compiled once more: rattle
@@ -13,9 +15,9 @@ linked as it is, which is faster, and only what happens is counted.
 
 With --seconds the archive is linked as it is by gcc or clang, and inputs are drawn by chance. Ends with 1 where an input
 fails, which is kept, cut down to the records that it takes, in a folder that is named; with 77 where there is no compiler
-or no archive. Before all that, the checks of fuzz.c have to find fault with a library whose answers are spoilt.
+or no archive. Before all that, the checks have to find fault with a library whose answers are spoilt.
 
-In tests/all: --seconds 20, 900 s."""
+In tests/all: --seconds 20, 1800 s."""
 import argparse
 import os
 import pathlib
@@ -26,6 +28,7 @@ import sys
 import tempfile
 import time
 from collections.abc import Sequence
+from typing import NamedTuple
 
 from lib import TOP, skip
 
@@ -38,10 +41,23 @@ ARCHIVE = TOP / "crates" / "dt_c" / "out" / "libdt_c.a"
 FLAGS = ("-std=gnu11", "-Wall", "-Wextra", "-Werror", "-O1", "-g", f"-I{TOP / 'include'}")
 SANITIZED = "address,undefined"
 TARGET = "x86_64-unknown-linux-gnu"
+COMPILER = next((it for it in ("clang", "gcc") if shutil.which(it)), None)
 # octets of the head of an input, and of a record, as fuzz.c has them, and of the longest input
 HEAD, RECORD, MOST = 24, 4, 24 + 4 * 300
-# how a library is spoilt (spoil.c), and the inputs that are tried until one is a fault
-SPOILS, ENOUGH = 11, 1_500
+# the inputs that are tried until one is a fault of a spoilt library
+ENOUGH = 4_000
+
+
+class Source(NamedTuple):
+    """What is tried: a program, and a library that is spoilt in so many ways for it."""
+
+    name: str
+    program: str
+    spoil: str
+    spoils: int
+
+
+SOURCES = [Source("nodes", "fuzz.c", "spoil.c", 11), Source("services", "fuzz_service.c", "spoil_service.c", 11)]
 
 
 def run(words: Sequence[str | pathlib.Path], **more: object) -> "subprocess.CompletedProcess[str]":
@@ -87,18 +103,18 @@ def instrumented(folder: pathlib.Path) -> pathlib.Path:
     return built([*clang, text, "-c", "-O1", "-fPIC", *counters], folder / "library.o")
 
 
-def alone(archive: pathlib.Path, folder: pathlib.Path, compiler: str, *more: str | pathlib.Path) -> pathlib.Path:
+def alone(source: Source, archive: pathlib.Path, folder: pathlib.Path, compiler: str, *more: str | pathlib.Path) -> pathlib.Path:
     """The program with a main of its own, over an archive or what is linked in its place."""
     words = [compiler, *FLAGS, "-DALONE", f"-fsanitize={SANITIZED}", "-fno-sanitize-recover=all"]
-    return built([*words, HERE / "fuzz.c", *more, archive], folder / f"alone{len(list(folder.glob('alone*')))}")
+    return built([*words, HERE / source.program, *more, archive], folder / f"alone{len(list(folder.glob('alone*')))}")
 
 
-def blind(archive: pathlib.Path, folder: pathlib.Path, compiler: str) -> list[int]:
+def blind(source: Source, archive: pathlib.Path, folder: pathlib.Path, compiler: str) -> list[int]:
     """The ways to spoil the library that no input of some thousand shows."""
-    names = re.findall(r"__wrap_(\w+)\(", (HERE / "spoil.c").read_text())
+    names = re.findall(r"__wrap_(\w+)\(", (HERE / source.spoil).read_text())
     wraps = [f"-Wl,--wrap={it}" for it in sorted(set(names))]
-    program = alone(archive, folder, compiler, HERE / "spoil.c", *wraps)
-    found = [run([program, "--count", str(ENOUGH)], env={**os.environ, "SPOIL": str(it)}) for it in range(SPOILS + 1)]
+    program = alone(source, archive, folder, compiler, HERE / source.spoil, *wraps)
+    found = [run([program, "--count", str(ENOUGH)], env={**os.environ, "SPOIL": str(it)}) for it in range(source.spoils + 1)]
     if found[0].returncode:
         sys.exit(f"a library that isn't spoilt fails:\n{found[0].stderr}")
     return [it for it, ran in enumerate(found) if it > 0 and ran.returncode == 0]
@@ -127,19 +143,19 @@ def smaller(program: pathlib.Path, octets: bytes, folder: pathlib.Path) -> bytes
     return octets
 
 
-def keep(program: pathlib.Path, octets: bytes, said: str, folder: pathlib.Path, kept: pathlib.Path | None) -> None:
+def keep(source: Source, program: pathlib.Path, octets: bytes, said: str, folder: pathlib.Path, kept: pathlib.Path | None) -> None:
     """Keeps an input that fails, and tells what it said."""
     kept = kept or pathlib.Path(tempfile.mkdtemp(prefix="deltat-library-fuzz-"))
     kept.mkdir(parents=True, exist_ok=True)
     octets = smaller(program, octets, folder)
     number = len(list(kept.glob("*.in"))) + 1
     (kept / f"{number:03}.in").write_bytes(octets)
-    (kept / f"{number:03}.why").write_text(f"{run([program, kept / f'{number:03}.in']).stderr or said}\n\ntests/library_fuzz.py --input {kept / f'{number:03}.in'}\n")
+    (kept / f"{number:03}.why").write_text(f"{run([program, kept / f'{number:03}.in']).stderr or said}\n\ntests/library_fuzz.py --only {source.name} --input {kept / f'{number:03}.in'}\n")
     print("\n".join(said.strip().splitlines()[:12]))
     print(f"an input of {(len(octets) - HEAD) // RECORD} records fails: {kept / f'{number:03}.in'}")
 
 
-def by_chance(program: pathlib.Path, seconds: float, seed: int, folder: pathlib.Path, kept: pathlib.Path | None) -> int:
+def by_chance(source: Source, program: pathlib.Path, seconds: float, seed: int, folder: pathlib.Path, kept: pathlib.Path | None) -> int:
     """Tries inputs, some thousand at a time, for so many seconds."""
     begun, tried, each = time.monotonic(), 0, 2_000
     while time.monotonic() - begun < seconds:
@@ -147,16 +163,16 @@ def by_chance(program: pathlib.Path, seconds: float, seed: int, folder: pathlib.
         if ran.returncode:
             # once more, since only then the input is written before it is tried
             run([program, "--count", str(each), "--seed", str(seed + tried // each), "--keep", folder / "last"])
-            keep(program, (folder / "last").read_bytes(), ran.stderr, folder, kept)
+            keep(source, program, (folder / "last").read_bytes(), ran.stderr, folder, kept)
             return 1
         tried += each
-    print(f"{tried} inputs hold, in {time.monotonic() - begun:.0f} s; seed {seed}")
+    print(f"{source.name}: {tried} inputs hold, in {time.monotonic() - begun:.0f} s; seed {seed}")
     return 0
 
 
-def by_coverage(program: pathlib.Path, single: pathlib.Path, minutes: float, seed: int, folder: pathlib.Path, kept: pathlib.Path | None) -> int:
+def by_coverage(source: Source, program: pathlib.Path, single: pathlib.Path, minutes: float, seed: int, folder: pathlib.Path, kept: pathlib.Path | None) -> int:
     """Has libFuzzer draw inputs for so many minutes, and tells how many it tried."""
-    corpus, found = folder / "corpus", folder / "found"
+    corpus, found = folder / f"corpus-{source.name}", folder / f"found-{source.name}"
     corpus.mkdir()
     found.mkdir()
     # a busy machine lets an input wait: what is slow by the clock alone is no fault
@@ -170,16 +186,17 @@ def by_coverage(program: pathlib.Path, single: pathlib.Path, minutes: float, see
     reached = re.findall(r"cov: (\d+) ft: (\d+) corp: (\d+)", ran.stderr)
     branches = re.search(r"\((\d+) inline 8-bit counters\)", ran.stderr)
     cov, features, kept_count = reached[-1] if reached else ("0", "0", "0")
-    print(f"{figures.get('number_of_executed_units', '?')} inputs in {seconds:.0f} s, {processor:.0f} s of processor; {cov} branches reached"
+    print(f"{source.name}: {figures.get('number_of_executed_units', '?')} inputs in {seconds:.0f} s, {processor:.0f} s of processor; {cov} branches reached"
           f"{f' of {branches[1]}' if branches else ''}, {features} features, {kept_count} inputs kept; at most {figures.get('peak_rss_mb', '?')} MB; seed {seed}")
     artifacts = sorted(found.iterdir())
     if ran.returncode == 0 and not artifacts:
         return 0
-    said = ran.stderr[ran.stderr.find("fuzz.c:"):] if "fuzz.c:" in ran.stderr else ran.stderr[-4000:]
+    fault = re.search(r"(?m)^fuzz\w*\.[ch]:\d+: at record", ran.stderr)
+    said = ran.stderr[fault.start():] if fault else ran.stderr[-4000:]
     if not artifacts:
         print(said)
     for it in artifacts:
-        keep(single, it.read_bytes(), said, folder, kept)
+        keep(source, single, it.read_bytes(), said, folder, kept)
     return 1
 
 
@@ -190,9 +207,24 @@ def positive(word: str) -> float:
     return value
 
 
+def tried(source: Source, code: pathlib.Path | None, folder: pathlib.Path, given: argparse.Namespace) -> int:
+    """Tries inputs of a source as the words say, over the archive or, by libFuzzer, over `code`."""
+    compiler = COMPILER or ""
+    if given.input or code is None:
+        shipped = alone(source, library.archive(given.archive), folder, compiler)
+        if not given.input:
+            return by_chance(source, shipped, given.seconds, given.seed, folder, given.keep)
+        ran = run([shipped, given.input])
+        print(ran.stdout.strip() if ran.returncode == 0 else ran.stderr)
+        return ran.returncode
+    program = built(["clang", *FLAGS, f"-fsanitize=fuzzer,{SANITIZED}", "-fno-sanitize-recover=all", HERE / source.program, code], folder / f"fuzz-{source.name}")
+    return by_coverage(source, program, alone(source, code, folder, "clang"), given.minutes, given.seed, folder, given.keep)
+
+
 def main() -> int:
     reads = argparse.ArgumentParser(description=__doc__, formatter_class=argparse.RawDescriptionHelpFormatter)
     reads.add_argument("archive", nargs="?", type=pathlib.Path, help="the archive (crates/dt_c/out/libdt_c.a)")
+    reads.add_argument("--only", choices=[it.name for it in SOURCES], help="try these alone")
     reads.add_argument("--seconds", type=positive, default=20, help="inputs by chance, for so long (%(default)s)")
     reads.add_argument("--minutes", type=positive, metavar="M", help="inputs that libFuzzer draws, for so long")
     reads.add_argument("--seed", type=int, default=1, help="what the inputs are drawn from (%(default)s)")
@@ -200,26 +232,23 @@ def main() -> int:
     reads.add_argument("--input", type=pathlib.Path, metavar="FILE", help="try this input alone")
     reads.add_argument("--plain", action="store_true", help="link the archive as it is")
     given = reads.parse_args()
-    compiler = next((it for it in ("clang", "gcc") if shutil.which(it)), None)
-    if compiler is None:
+    if given.input and not given.only:
+        reads.error("--input wants --only")
+    if COMPILER is None:
         skip("there is no compiler of C")
+    sources = [it for it in SOURCES if given.only in (None, it.name)]
     with tempfile.TemporaryDirectory(prefix="deltat-library-fuzz-") as name:
         folder = pathlib.Path(name)
         archive = library.archive(given.archive)
-        shipped = alone(archive, folder, compiler)
-        if given.input:
-            ran = run([shipped, given.input])
-            print(ran.stdout.strip() if ran.returncode == 0 else ran.stderr)
-            return ran.returncode
-        unseen = blind(archive, folder, compiler)
-        if unseen:
-            print(f"no fault found with a library that is spoilt in the way {', '.join(map(str, unseen))} of spoil.c")
-            return 1
-        if not given.minutes:
-            return by_chance(shipped, given.seconds, given.seed, folder, given.keep)
-        code = archive if given.plain else instrumented(folder)
-        program = built(["clang", *FLAGS, f"-fsanitize=fuzzer,{SANITIZED}", "-fno-sanitize-recover=all", HERE / "fuzz.c", code], folder / "fuzz")
-        return by_coverage(program, alone(code, folder, "clang"), given.minutes, given.seed, folder, given.keep)
+        for it in [] if given.input else sources:
+            unseen = blind(it, archive, folder, COMPILER)
+            if unseen:
+                print(f"no fault found with a library that is spoilt in the way {', '.join(map(str, unseen))} of {it.spoil}")
+                return 1
+        code = None
+        if given.minutes and not given.input:
+            code = archive if given.plain else instrumented(folder)
+        return max([tried(it, code, folder, given) for it in sources])
 
 
 if __name__ == "__main__":

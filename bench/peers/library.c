@@ -25,6 +25,8 @@ struct end {
     struct sockaddr_in peers[CLIENTS]; /* of the server, where its clients are; of a client, where the server is */
     uint64_t empty_at, now, ticked, events;
     uint64_t left_at; /* the moment of the first event since frames were put on the wire, or 0 */
+    int given_up;     /* octets that were sent were given up: they may have come or not */
+    unsigned char asked[NUMBER]; /* of a client, the number of the request that waits for its answer */
 };
 
 /* a message that is read */
@@ -192,16 +194,20 @@ static int receive(struct end *it) {
 }
 
 /* Reads what is unread of a flow, to the end of a message at most. How many octets, and whether one ended; they are as
-   long as they are sent, so no part of one waits for another flow's. */
-static size_t message_of(dt_node *node, const struct dt_flow *flow, uint64_t at, int *ended) {
+   long as they are sent, so no part of one waits for another flow's. A request is noted as served, and its number kept for
+   its answer; of an answer that isn't the one that is waited for no end is told. */
+static size_t message_of(struct end *it, const struct dt_flow *flow, uint64_t at, int serves, int *ended) {
+    static unsigned char number[NUMBER];
     struct dt_piece piece;
     size_t octets = 0;
     *ended = 0;
-    while (!*ended && (piece = dt_read(node, at, flow, octets_read, sizeof octets_read)).status == DT_DONE) {
-        if (piece.begin && piece.len >= HEAD + NUMBER) served(octets_read + HEAD);
+    while (!*ended && (piece = dt_read(it->node, at, flow, octets_read, sizeof octets_read)).status == DT_DONE) {
+        if (piece.begin && serves && piece.len >= HEAD + NUMBER) served(memcpy(it->asked, octets_read + HEAD, NUMBER));
+        if (piece.begin && !serves && piece.len >= NUMBER) memcpy(number, octets_read, NUMBER);
         octets += piece.len;
         *ended = piece.end;
     }
+    if (*ended && !serves && memcmp(number, it->asked, NUMBER) != 0) *ended = 0;
     return octets;
 }
 
@@ -219,20 +225,22 @@ static void give(struct end *it, uint64_t at, struct dt_flow flow, const unsigne
 
 /* takes what the node told, answers each message with ANSWER octets where it serves, and tells how many came */
 static int messages(struct end *it, uint64_t at, int serves) {
-    static const unsigned char answer[ANSWER];
+    static unsigned char answer[ANSWER];
     struct dt_report report;
     struct dt_flow last = {0, 0, 0, 0};
     size_t ahead = 0; /* octets of the last flow that were read before it was told that they came */
     int count = 0, ended;
     while ((report = dt_next_report(it->node)).status == DT_DONE) {
+        if (report.kind == DT_UNCERTAIN) it->given_up = 1;
         if (report.kind != DT_ACCEPTED) continue;
         if (memcmp(&last, &report.flow, sizeof last) != 0) last = report.flow, ahead = 0;
-        if (ahead < report.count) ahead += message_of(it->node, &report.flow, at, &ended);
+        if (ahead < report.count) ahead += message_of(it, &report.flow, at, serves, &ended);
         else ended = 0;
         ahead -= ahead < report.count ? ahead : report.count;
         if (!ended) continue;
         count++;
         struct dt_flow back = {report.flow.to, report.flow.from, report.flow.to_port, report.flow.from_port};
+        memcpy(answer, it->asked, NUMBER);
         if (serves) give(it, at, back, answer, ANSWER);
     }
     return count;
@@ -259,20 +267,31 @@ static void serve(const char *address, int port) {
     for (;;) turn(&it, 1);
 }
 
-/* One request on a flow of its own port, and its answer. */
+/* One request on a flow of its own port, and its answer. Where octets of it were given up, or its answer doesn't come while
+   its server may still send it, it isn't known whether it was served, and it is made once more, as a call of its own. */
 static int exchange(struct end *it, uint32_t me, uint16_t port, uint32_t octets, double until) {
-    unsigned char *sent = request(octets);
     struct dt_flow flow = {me, SERVER, port, PORT};
+    double patience = 0.001 * (2 * 12 * setting("RTO_MS", 40)), asked_at = 0;
     int taken = 0, answered = 0;
-    while (!(taken = takes(it, clock_ms(CLOCK_BOOTTIME), flow, sent, HEAD + (size_t)octets)) && now() < until) turn(it, 0);
-    free(sent);
-    while (taken && !answered && now() < until) answered = turn(it, 0) > 0;
+    while (!answered && now() < until) {
+        if (taken && (it->given_up || now() - asked_at > patience)) taken = 0;
+        if (!taken) {
+            unsigned char *sent = request(octets);
+            memcpy(it->asked, sent + HEAD, NUMBER);
+            it->given_up = 0;
+            asked_at = now();
+            taken = takes(it, clock_ms(CLOCK_BOOTTIME), flow, sent, HEAD + (size_t)octets);
+            free(sent);
+        }
+        answered = turn(it, 0) > 0;
+    }
     return answered;
 }
 
 static void ask_flows(struct end *it, uint32_t me, const struct question *asked, double until) {
     unsigned char *sent = request(asked->octets);
     double begun = now(), last = begun;
+    memcpy(it->asked, sent + HEAD, NUMBER);
     int answered = 0;
     for (int i = 0; i < asked->count; i++) {
         give(it, clock_ms(CLOCK_BOOTTIME), (struct dt_flow){me, SERVER, (uint16_t)(100 + i), PORT}, sent, HEAD + (size_t)asked->octets);
@@ -307,7 +326,7 @@ static int serve_memory(struct end *it, uint64_t at, int serves) {
     while ((report = dt_next_report(it->node)).status == DT_DONE) {
         if (report.kind != DT_ACCEPTED) continue;
         it->events++;
-        message_of(it->node, &report.flow, at, &ended);
+        message_of(it, &report.flow, at, serves, &ended);
         if (!ended) continue;
         count++;
         struct dt_flow back = {report.flow.to, report.flow.from, report.flow.to_port, report.flow.from_port};

@@ -98,8 +98,8 @@ Happening = Request | Answered | Doubtful
 
 
 class Declined(DeltatError):
-    """Nothing of the call was taken. `why` is `quiet` (until `until`, in ms), `full` (`free` octets are free), `many`
-    (too many calls wait), or `numbers` (the life has no more: raise it)."""
+    """Nothing of the call was taken. `why` is `quiet` (until `until`, in ms), `full` (`free` octets are free, eight of which
+    a number takes), `many` (too many calls wait), or `numbers` (the life has no more: raise it)."""
 
     def __init__(self, why: str, until: int = 0, free: int = 0) -> None:
         super().__init__(why)

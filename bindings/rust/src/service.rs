@@ -44,7 +44,7 @@ pub struct Token {
 pub enum Declined {
     /// The node is silent after its start, until this moment.
     Quiet { until: u64 },
-    /// So many octets fit.
+    /// So many octets are free, eight of which the call's number takes.
     Full { free: u32 },
     /// As many calls as may be wait, or have ends that weren't taken.
     Many,
@@ -59,7 +59,7 @@ pub enum Declined {
 pub enum Unreplied {
     /// The token isn't open: it had its reply, was forgotten, or is of a former life.
     Gone,
-    /// So many octets fit. It may be tried again.
+    /// So many octets are free, eight of which the number takes. It may be tried again.
     Full { free: u32 },
     Error(Error),
 }

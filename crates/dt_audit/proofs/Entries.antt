@@ -78,7 +78,7 @@ module _ (f : Flow) (change : Change) (book : Book Notes) (lives : List (ℕ × 
   there_changed n after r new found h e =
       changed n after r new (ap (λ (o : Option Notes). unwrap_or o no_notes) (sym (flow_looked f es) ∙ sym found)) h (e ∙ flow_written f after n es (sym found))
 
-  -- it isn't there, and comes behind all others; a line with a flaw changes nothing
+  -- it isn't there, and comes after all others; a line with a flaw changes nothing
   absent : None ≡ lookup (equal_flows f) es → kept by_notes es f ≡ no_notes
   absent none = ap (λ (o : Option Notes). unwrap_or o no_notes) (sym (flow_looked f es) ∙ sym none)
 

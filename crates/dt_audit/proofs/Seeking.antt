@@ -57,7 +57,7 @@ sought least place (suc i) (g ∷ gs) d h le passed first =
     behind true c = refl
     behind false c = refl
 
--- a gap behind all others
+-- a gap after all others
 rise_append : (least from to : ℕ) (gaps : List Gap) → Rise least gaps → gaps_end least gaps ≤ from → from < to → Rise least (gaps ++ (record { from = from; to = to }) ∷ [])
 rise_append least from to [] h le lt = (le, lt, tt)
 rise_append least from to (g ∷ gs) h le lt = (h.0, h.1, rise_append g.to from to gs h.2 le lt)

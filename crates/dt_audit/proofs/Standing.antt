@@ -179,7 +179,7 @@ send_lives life (suc count) (row ∷ rows) =
       | inr n ↦ rw n (ap (λ ls. row.life ∷ ls) (send_lives life (suc count) rows))
     ]
 
--- the edge behind those that are sent
+-- the edge after those that are sent
 edge_after : (life from count edge : ℕ) (rows : List Taken) → Region (is_unsent_in life) from rows → from + count ≤ length rows
     → behind_last edge (take count (places_where (is_unsent_in life) 0 rows)) ≡ (if count == 0 then edge else from + count)
 edge_after life from zero edge rows h le = refl

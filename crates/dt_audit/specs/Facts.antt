@@ -29,7 +29,7 @@ run_read text = if bytes_eq text (codes "run") then Ok true else (if bytes_eq te
 abbrev pub counted : ℕ → List (List ℕ) → Result (Unit {0}) LineFault
 counted count line = if length line == count then Ok tt else Err faults.Count
 
--- THE LINES THAT TELL A FACT: their words behind the moment, the node and the name
+-- THE LINES THAT TELL A FACT: their words after the moment, the node and the name
 abbrev pub took_said : List (List ℕ) → Result Fact LineFault
 took_said line = do
   _ ← counted 5 line

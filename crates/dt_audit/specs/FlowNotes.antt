@@ -38,7 +38,7 @@ abbrev pub Rise : ℕ → List Gap → Type 0
 Rise least [] = Unit {0}
 Rise least (gap ∷ gaps) = (least ≤ gap.from) × (gap.from < gap.to) × Rise gap.to gaps
 
--- and the place behind the last one
+-- and the place after the last one
 abbrev pub gaps_end : ℕ → List Gap → ℕ
 gaps_end least [] = least
 gaps_end least (gap ∷ gaps) = gaps_end gap.to gaps

@@ -50,7 +50,7 @@ open_places life l = places_where (is_open_in life) 0 l.taken
 abbrev pub unsent_places : ℕ → FlowLog → List ℕ
 unsent_places life l = places_where (is_unsent_in life) 0 l.taken
 
--- the place behind the last of these, or the one before where there is none
+-- the place after the last of these, or the one before where there is none
 abbrev pub behind_last : ℕ → List ℕ → ℕ
 behind_last before [] = before
 behind_last before (place ∷ places) = behind_last (suc place) places

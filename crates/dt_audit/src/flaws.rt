@@ -1,8 +1,8 @@
 ghost use Rattle.std.specs.Prelude.{◌≡◌};
-ghost use Rattle.dt_log.specs.FaultWords.{line_fault_text};
 ghost use Rattle.dt_log.specs.Words.{spaced};
 ghost use Rattle.dt_audit.specs.Flaws.{flaw_words};
 
+use dt_log::line_fault_text;
 use dt_reports::LineFault;
 
 /// What a log can break.
@@ -29,26 +29,12 @@ pub enum Flaw {
     Breaks(Promise),
 }
 
-/// The text of a line's fault.
-fn text_of(fault: LineFault) -> &'static str
-    ensures { result.now ≡ line_fault_text fault }
-{
-    match fault {
-        LineFault::Word => "word",
-        LineFault::Count => "count",
-        LineFault::Number => "number",
-        LineFault::Flow => "flow",
-        LineFault::Hex => "hex",
-        LineFault::Order => "order",
-    }
-}
-
 /// The text of a flaw.
 pub fn flaw_text(flaw: Flaw) -> &'static str
     ensures { result.now ≡ spaced (flaw_words flaw) }
 {
     match flaw {
-        Flaw::Line(fault) => text_of(fault),
+        Flaw::Line(fault) => line_fault_text(fault),
         Flaw::Stray => "stray",
         Flaw::Breaks(Promise::InOrder) => "breaks S1",
         Flaw::Breaks(Promise::SkipsReported) => "breaks S3",

@@ -21,7 +21,7 @@ pub fn is_among(gaps: &[Gap], place: u64) -> bool
     passed < gaps.len() && gaps[passed].from <= place
 }
 
-/// The places from one on up to another are a gap behind all others, where there are any. `NoMemory`
+/// The places from one on up to another are a gap after all others, where there are any. `NoMemory`
 /// leaves the gaps as they were.
 #[tactic(auto, using(crate::proofs::Seeking::gap_added))]
 pub fn remember(gaps: &mut Vec<Gap>, from: u64, to: u64) -> Result<(), NoMemory>

@@ -20,7 +20,7 @@ fn took(words: &Words<'_>) -> Result<Fact, LineFault>
     Ok(Fact::Took { flow, count })
 }
 
-/// `FLOW NUMBER LENGTH` behind the name, in a line of seven words.
+/// `FLOW NUMBER LENGTH` after the name, in a line of seven words.
 fn stretch(words: &Words<'_>) -> Result<(Flow, u32, u32), LineFault>
     ensures { result ≡ stretch_said words.now }
 {
@@ -122,7 +122,7 @@ fn named(words: &Words<'_>) -> Result<Fact, LineFault>
     }
 }
 
-/// What a line of a log says of octets and of lives, without the line feed behind it. A line tells a
+/// What a line of a log says of octets and of lives, without the line feed after it. A line tells a
 /// fact where its first word is a moment, which is a number of 64 bits, its second word is the number
 /// of a node, and its third word is `took`, `sent`, `settled`, `uncertain`, `accepted` or
 /// `restarted`; every other line is [`Fact::Other`]. A line that tells a fact and isn't written as

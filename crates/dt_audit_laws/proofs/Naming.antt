@@ -27,7 +27,7 @@ named p run offset log numbered le near =
     let place : log.edge - (log.edge - run.base - offset) ≡ run.base + offset = omega arith in
     ap (place_back log.edge) back ∙ rw within (ap (λ n. Some n) place)
 
--- the edge behind the places that are sent
+-- the edge after the places that are sent
 all_behind : (life at count before : ℕ) (rows : List Taken) → AllUnsent life rows → suc count ≤ length rows → behind_last before (take (suc count) (places_where (is_unsent_in life) at (map shown rows))) ≡ at + suc count
 all_behind life at count before [] h le = absurd (omega arith)
 all_behind life at zero before (row ∷ rows) h le =

@@ -18,7 +18,7 @@ pub record FollowsFlow (p : Params) (s : FlowState) (log : FlowLog) : Type 0 whe
   pub shows : Shows (flow_ledger s) log
   -- its numbers are those of the present run
   pub numbered : IsNumbered p s.run log
-  -- its edge is behind all places that were sent, and behind one that was
+  -- its edge is after all places that were sent, and after one that was
   pub above : (place : ℕ) → is_sent s.taken place ≡ true → place < log.edge
   pub last : 0 < log.edge → is_sent s.taken (log.edge - 1) ≡ true
   -- octets of the present life that weren't sent are open and come last

@@ -1,5 +1,5 @@
 //! Logs and their verdicts. In a text of logs, `%` stands between a log and what the audit writes, and
-//! `|` behind it.
+//! `|` after it.
 use dt_audit::{AuditOutcome, audit};
 use dt_edges::MemSink;
 use dt_items::NoMemory;
@@ -114,7 +114,7 @@ fn ends(alloc: Global, log: &[u8], outcome: AuditOutcome, verdict: &str) -> Resu
     Ok(is && out.as_slice() == verdict.as_bytes())
 }
 
-/// Each log ends so, with the line behind it.
+/// Each log ends so, with the line after it.
 fn end(rt: &impl Abort, alloc: Global, logs: &str, outcome: AuditOutcome) -> Result<(), NoMemory> {
     for row in logs.split('|') {
         let (log, verdict) = row.split_once('%').unwrap_or((row, ""));

@@ -1,2 +1,6 @@
+pub mod Exports
 pub mod Fronts
-pub mod Steps
+pub mod Lending
+pub mod Making
+pub mod Parameters
+pub mod Passing

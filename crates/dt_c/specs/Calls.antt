@@ -1,6 +1,7 @@
 -- The calls of the library. Each answers that the handle holds no node and changes nothing, or is the call of its endpoint.
 use Rattle.std.specs.Prelude.{◌≡◌, ◌⊎◌, ℕ, nat_le, Bool, true, false, List, [], ◌∷◌, ◌++◌, if◌then◌else◌, drop, length, Option, Some, None, IsNone, IsSome}
 use Rattle.dt_units.specs.Limits.{IsWithinLimits, first_out_of_range, value_of}
+use Rattle.dt_units.specs.declared.parameters.Params.{Params}
 use Rattle.dt_units.specs.Times.{quiet_time}
 use Rattle.dt_reports.specs.Told.{Told}
 use Rattle.dt_endpoint.specs.declared.answers.Arrived.{Arrived}
@@ -39,7 +40,7 @@ use Rattle.dt_c.specs.declared.rows.SentRow.{SentRow}
 use Rattle.dt_c.specs.declared.rows.TotalsRow.{TotalsRow}
 use Rattle.dt_c.specs.declared.rows.StartRow.{StartRow}
 use Rattle.dt_c.specs.declared.slots.Slot.{Slot}
-use Rattle.dt_c.specs.Rows.{came_as, came_row, closed, counts_row, done, flow_of, kept_out, held, kept_out_row, message_row, moment_row, no_counts_row, no_frame, no_memory, no_message, no_piece, no_report, no_totals_row, nothing, opened_row, params_of, piece_row, refused, report_row, room, route, routed_status, sent_as, sent_row, started, ticked_status, totals_row}
+use Rattle.dt_c.specs.Rows.{came_as, came_row, closed, counts_row, done, flow_of, frame_row, kept_out, held, kept_out_row, message_row, moment_row, no_counts_row, no_frame, no_memory, no_message, no_piece, no_report, no_totals_row, nothing, opened_row, params_of, piece_row, refused, report_row, room, route, routed_status, sent_as, sent_row, started, ticked_status, totals_row}
 
 -- Between two contents of a handle: where a part isn't there it stays so, and one that is there goes on.
 abbrev pub PartGoesOn : {A : Type 0} → Option A → Option A → Type 0 → (A → A → Type 0) → Type 0
@@ -73,9 +74,6 @@ abbrev pub Reading : PieceRow → (now : ℕ) → FlowRow → (size : ℕ) → L
 Reading row now flow size buf s t = GoesOn s t (row ≡ no_piece closed) (λ e f. (answer : Piece) × (row ≡ piece_row answer) × Reads answer now (flow_of flow) size buf e f)
 
 -- THE NEXT FRAME: the first of those that wait, where the buffer has room for it. Else it goes on waiting, and its size is told.
-abbrev pub frame_row : OutFrameValue → (status : ℕ) → OutRow
-frame_row frame status = record { len = length frame.octets; to = frame.to; link = frame.link; status = status }
-
 abbrev pub fits : OutFrameValue → List ℕ → Bool
 fits frame buf = nat_le (length frame.octets) (length buf)
 
@@ -126,6 +124,13 @@ Opens opens.Done p start links routes s t = IsNone s.endpoint × IsWithinLimits 
 Opens opens.NoMemory p start links routes s t = IsNone s.endpoint × IsWithinLimits (params_of p) × (t ≡ s)
 Opens opens.Held p start links routes s t = IsSome s.endpoint × (t ≡ s)
 Opens (opens.Refused fault) p start links routes s t = IsNone s.endpoint × (first_out_of_range (params_of p) ≡ Some fault.field) × (fault.value ≡ value_of (params_of p) fault.field) × (t ≡ s)
+
+-- what stands in the way of an opening: a node that is there already, or a parameter out of its range
+abbrev pub StandsInTheWay : Opened → (is_held : Bool) → Params → Type 0
+StandsInTheWay opens.Done is_held p = ⊥
+StandsInTheWay opens.NoMemory is_held p = ⊥
+StandsInTheWay opens.Held is_held p = is_held ≡ true
+StandsInTheWay (opens.Refused fault) is_held p = (is_held ≡ false) × (first_out_of_range p ≡ Some fault.field) × (fault.value ≡ value_of p fault.field)
 
 abbrev pub Opening : OpenedRow → ParamsRow → StartRow → List LinkRow → List RouteRow → Slot → Slot → Type 0
 Opening row p start links routes s t = (answer : Opened) × (row ≡ opened_row answer) × Opens answer p start links routes s t

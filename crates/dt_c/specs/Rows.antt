@@ -1,5 +1,5 @@
 -- What arguments mean, and what each answer is in C: a row each.
-use Rattle.std.specs.Prelude.{ℕ, min, Bool, true, false, List, map, if◌then◌else◌, Option, Some, None}
+use Rattle.std.specs.Prelude.{ℕ, min, Bool, true, false, List, length, map, if◌then◌else◌, Option, Some, None}
 use Rattle.dt_units.specs.declared.endpoints.Flow.{Flow}
 use Rattle.dt_units.specs.declared.parameters.Field.{Field}
 use Rattle.dt_units.specs.declared.parameters.Field.TheVariants.{Mpl, R, A, Rto, Probe, Seg, Cap, Rcap, Window, RunLimit}
@@ -25,6 +25,7 @@ use Rattle.dt_endpoint.specs.declared.answers.Sent.{Sent}
 use Rattle.dt_endpoint.specs.declared.answers.Sent.TheVariants as sent
 use Rattle.dt_endpoint.specs.declared.answers.Piece.{Piece}
 use Rattle.dt_endpoint.specs.declared.answers.Piece.TheVariants as piece
+use Rattle.dt_endpoint.specs.Acts.{OutFrameValue}
 use Rattle.dt_endpoint.specs.Endpoints.{EndpointValue, opened}
 use Rattle.dt_endpoint.specs.Guards.{GuardValue}
 use Rattle.dt_c.specs.declared.rows.CameRow.{CameRow}
@@ -191,6 +192,10 @@ piece_row piece.Spent = no_piece spent
 piece_row piece.BadFlow = no_piece refused
 piece_row piece.NoRoom = no_piece room
 
+-- a frame that is handed out, or its size
+abbrev pub frame_row : OutFrameValue → (status : ℕ) → OutRow
+frame_row frame status = record { len = length frame.octets; to = frame.to; link = frame.link; status = status }
+
 -- an answer where no frame is handed out
 abbrev pub no_frame : ℕ → OutRow
 no_frame status = record { len = 0; to = 0; link = 0; status = status }
@@ -303,19 +308,20 @@ message_row handed.More too_long = no_message more too_long
 message_row handed.NoMemory too_long = no_message no_memory too_long
 message_row handed.Spent too_long = no_message spent too_long
 
--- WHAT A NODE COUNTED
-abbrev pub no_counts_row : (status : ℕ) → CountsRow
-no_counts_row status = record { came = 0; refused = 0; left = 0; taken = 0; settled = 0; uncertain = 0; accepted = 0; read = 0; status = status }
-
-abbrev pub counts_row : Counts → CountsRow
-counts_row c =
-    let o = c.octets in
-    record { came = c.came; refused = c.refused; left = c.left; taken = o.taken; settled = o.settled; uncertain = o.uncertain; accepted = o.accepted; read = o.read; status = done }
-
--- WHAT WAS TOLD OF A FLOW: nothing of one that isn't followed
+-- WHAT WAS TOLD OF OCTETS: of a flow that isn't followed, nothing
 abbrev pub no_totals_row : (status : ℕ) → TotalsRow
 no_totals_row status = record { taken = 0; settled = 0; uncertain = 0; accepted = 0; read = 0; status = status }
 
+abbrev pub told_row : Octets → TotalsRow
+told_row o = record { taken = o.taken; settled = o.settled; uncertain = o.uncertain; accepted = o.accepted; read = o.read; status = done }
+
 abbrev pub totals_row : Option Octets → TotalsRow
 totals_row None = no_totals_row nothing
-totals_row (Some o) = record { taken = o.taken; settled = o.settled; uncertain = o.uncertain; accepted = o.accepted; read = o.read; status = done }
+totals_row (Some o) = told_row o
+
+-- WHAT A NODE COUNTED
+abbrev pub no_counts_row : (status : ℕ) → CountsRow
+no_counts_row status = record { came = 0; refused = 0; left = 0; told = no_totals_row status }
+
+abbrev pub counts_row : Counts → CountsRow
+counts_row c = record { came = c.came; refused = c.refused; left = c.left; told = told_row c.octets }

@@ -1,14 +1,15 @@
 //! The calls, on what a handle holds.
-ghost use Rattle.std.specs.Prelude.{◌≡◌, ◌↔◌, IfOk, IsSome, length, map};
-ghost use Rattle.dt_c.specs.Calls.{AddingRoute, Arriving, Counting, FingerprintIs, Following, Guarding, HandsOut, Hearing, KeptOut, MakesInbox, NextFrame, NextReport, Opening, Opens, QuietIs, Reading, Sending, TakesReport, Taking, Ticking, Totalling, Waking};
+ghost use Rattle.std.specs.Prelude.{◌≡◌, IfErr, IfOk, false, length, map};
+ghost use Rattle.dt_units.specs.Limits.{IsWithinLimits};
+ghost use Rattle.dt_c.specs.Calls.{AddingRoute, Arriving, Counting, FingerprintIs, Following, Guarding, HandsOut, Hearing, KeptOut, MakesInbox, NextFrame, NextReport, Opening, Opens, QuietIs, Reading, Sending, TakesReport, Taking, Ticking, Totalling, Waking, IsSet, chosen, StandsInTheWay};
 ghost use Rattle.dt_c.specs.Handle.{empty};
-ghost use Rattle.dt_c.specs.Rows.{in_link, out_link, route, started};
+ghost use Rattle.dt_c.specs.Rows.{in_link, out_link, params_of, route, started};
 
 use crate::rows::{
     CLOSED, CameRow, CountsRow, DONE, FingerprintRow, FlowRow, HELD, KEPT_OUT, KeptOutRow, LinkRow,
     MessageRow, MomentRow, NO_MEMORY, NOTHING, Opened, OpenedRow, OutRow, ParamsRow, PieceRow,
-    REFUSED, ROOM, ReportRow, RouteRow, SentRow, StartRow, TotalsRow, came_as, came_row,
-    counts_row, kept_out_row, message_row, moment_row, no_counts_row, no_frame, no_message,
+    REFUSED, ReportRow, RouteRow, SentRow, StartRow, TotalsRow, came_as, came_row, counts_row,
+    frame_row, kept_out_row, message_row, moment_row, no_counts_row, no_frame, no_message,
     no_piece, no_report, no_totals_row, opened_row, piece_row, report_row, routed_status, sent_as,
     sent_row, ticked_status, totals_row,
 };
@@ -57,16 +58,23 @@ pub fn arrive_in(slot: &mut Slot, now: u64, link: u16, datagram: &[u8], waited: 
     }
 }
 
+/// From now on these ports are open, or all, and so many flows may have a receiver.
+pub fn set_guard(guard: &mut Guard, alloc: Global, ports: &[u16], all: bool, most: u32) -> u8
+    ensures { IsSet result (chosen all ports.now) most guard.old guard.new }
+{
+    let ports = if all { None } else { Some(ports) };
+    match guard.limit(alloc, ports, most) {
+        Ok(()) => DONE,
+        Err(NoMemory) => NO_MEMORY,
+    }
+}
+
 pub fn guard_in(slot: &mut Slot, alloc: Global, ports: &[u16], all: bool, most: u32) -> u8
     ensures { Guarding result ports.now all most slot.old slot.new }
 {
-    if slot.endpoint.is_none() {
-        return CLOSED;
-    }
-    let ports = if all { None } else { Some(ports) };
-    match slot.guard.limit(alloc, ports, most) {
-        Ok(()) => DONE,
-        Err(NoMemory) => NO_MEMORY,
+    match &slot.endpoint {
+        Some(_) => set_guard(&mut slot.guard, alloc, ports, all, most),
+        None => CLOSED,
     }
 }
 
@@ -185,16 +193,9 @@ fn hand_out(endpoint: &mut Endpoint, buf: &mut [u8]) -> OutRow
     let Some(frame) = endpoint.first_frame() else {
         return no_frame(NOTHING);
     };
-    let octets = frame.octets();
-    let mut row = OutRow {
-        len: octets.len(),
-        to: frame.to(),
-        link: frame.link(),
-        status: ROOM,
-    };
+    let row = frame_row(frame, buf.len());
     if row.len <= buf.len() {
-        buf[..row.len].copy_from_slice(octets);
-        row.status = DONE;
+        buf[..row.len].copy_from_slice(frame.octets());
         let _ = endpoint.next_frame();
     }
     row
@@ -238,7 +239,7 @@ pub fn wake_in(slot: &mut Slot) -> MomentRow
 }
 
 /// The links on which packets leave.
-pub fn outs_of(alloc: Global, links: &[LinkRow]) -> Result<Vec<OutLink>, NoMemory>
+fn outs_of(alloc: Global, links: &[LinkRow]) -> Result<Vec<OutLink>, NoMemory>
     ensures { IfOk result (λ v. v.items ≡ map out_link links.now) }
 {
     Ok(
@@ -253,7 +254,7 @@ pub fn outs_of(alloc: Global, links: &[LinkRow]) -> Result<Vec<OutLink>, NoMemor
 }
 
 /// The links on which packets come.
-pub fn ins_of(alloc: Global, links: &[LinkRow]) -> Result<Vec<InLink>, NoMemory>
+fn ins_of(alloc: Global, links: &[LinkRow]) -> Result<Vec<InLink>, NoMemory>
     ensures { IfOk result (λ v. v.items ≡ map in_link links.now) }
 {
     Ok(
@@ -267,51 +268,91 @@ pub fn ins_of(alloc: Global, links: &[LinkRow]) -> Result<Vec<InLink>, NoMemory>
     )
 }
 
-pub fn routes_of(alloc: Global, routes: &[RouteRow]) -> Result<Vec<Route>, NoMemory>
+fn routes_of(alloc: Global, routes: &[RouteRow]) -> Result<Vec<Route>, NoMemory>
     ensures { IfOk result (λ v. v.items ≡ map route routes.now) }
 {
     Ok(routes.iter().map(|row| row.route()).collect(alloc)?)
+}
+
+/// What is about a node, as C gives it: the parameters of all, its links and its routes.
+#[derive(Clone, Copy)]
+pub struct Surroundings<'a> {
+    pub params: &'a ParamsRow,
+    pub links: &'a [LinkRow],
+    pub routes: &'a [RouteRow],
+}
+
+impl<'a> Surroundings<'a> {
+    pub fn of(params: &'a ParamsRow, links: &'a [LinkRow], routes: &'a [RouteRow]) -> Self
+        ensures { result ≡ record { params = params.entry; links = links.entry; routes = routes.entry } }
+    {
+        Surroundings {
+            params,
+            links,
+            routes,
+        }
+    }
+
+    /// The parameters within their limits, unless the handle holds a node already.
+    pub fn rules(&self, held: bool) -> Result<Rules, Opened>
+        ensures within { IfOk result (λ rules. (held ≡ false) × (rules ≡ params_of self.now.params.now) × IsWithinLimits (params_of self.now.params.now)) }
+        ensures otherwise { IfErr result (λ answer. StandsInTheWay answer held (params_of self.now.params.now)) }
+    {
+        if held {
+            return Err(Opened::Held);
+        }
+        match self.params.params().check() {
+            Ok(rules) => Ok(rules),
+            Err(fault) => Err(Opened::Refused { fault }),
+        }
+    }
+
+    /// The links and routes, in memory of their own.
+    pub fn wires(&self, alloc: Global) -> Result<Wires, NoMemory>
+        ensures { IfOk result (λ w. (w.outs.items ≡ map out_link self.now.links.now) × (w.ins.items ≡ map in_link self.now.links.now) × (w.routes.items ≡ map route self.now.routes.now)) }
+    {
+        Ok(Wires {
+            outs: outs_of(alloc, self.links)?,
+            ins: ins_of(alloc, self.links)?,
+            routes: routes_of(alloc, self.routes)?,
+        })
+    }
+}
+
+/// The links and routes of a node.
+#[derive(Drop)]
+pub struct Wires {
+    pub outs: Vec<OutLink>,
+    pub ins: Vec<InLink>,
+    pub routes: Vec<Route>,
 }
 
 fn new_endpoint(
     alloc: Global,
     rules: &Rules,
     start: &StartRow,
-    links: &[LinkRow],
-    routes: &[RouteRow],
+    around: &Surroundings<'_>,
 ) -> Result<Endpoint, NoMemory>
-    ensures { IfOk result (λ e. e ≡ started rules.now start.now links.now routes.now) }
+    ensures { IfOk result (λ e. e ≡ started rules.now start.now around.now.links.now around.now.routes.now) }
 {
     let again = if start.again { Some(start.at) } else { None };
-    let outs = outs_of(alloc, links)?;
-    let ins = ins_of(alloc, links)?;
-    let routes = routes_of(alloc, routes)?;
+    let wires = around.wires(alloc)?;
     let links = Links {
-        outs: &outs,
-        ins: &ins,
-        routes: &routes,
+        outs: &wires.outs,
+        ins: &wires.ins,
+        routes: &wires.routes,
     };
     Endpoint::open(alloc, rules, NodeId(start.me), again, &links)
 }
 
-fn opens(
-    slot: &mut Slot,
-    alloc: Global,
-    params: &ParamsRow,
-    start: &StartRow,
-    links: &[LinkRow],
-    routes: &[RouteRow],
-) -> Opened
-    ensures { Opens result params.now start.now links.now routes.now slot.old slot.new }
+fn opens(slot: &mut Slot, alloc: Global, start: &StartRow, around: &Surroundings<'_>) -> Opened
+    ensures { Opens result around.now.params.now start.now around.now.links.now around.now.routes.now slot.old slot.new }
 {
-    if slot.endpoint.is_some() {
-        return Opened::Held;
-    }
-    let rules = match params.params().check() {
+    let rules = match around.rules(slot.endpoint.is_some()) {
         Ok(rules) => rules,
-        Err(fault) => return Opened::Refused { fault },
+        Err(answer) => return answer,
     };
-    match new_endpoint(alloc, &rules, start, links, routes) {
+    match new_endpoint(alloc, &rules, start, around) {
         Ok(endpoint) => {
             slot.endpoint = Some(endpoint);
             Opened::Done
@@ -330,7 +371,8 @@ pub fn open_in(
 ) -> OpenedRow
     ensures { Opening result params.now start.now links.now routes.now slot.old slot.new }
 {
-    opened_row(opens(slot, alloc, params, start, links, routes))
+    let around = Surroundings::of(params, links, routes);
+    opened_row(opens(slot, alloc, start, &around))
 }
 
 /// How long a node is silent after it starts again, or 0 where a parameter is out of its range.

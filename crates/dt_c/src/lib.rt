@@ -327,18 +327,6 @@ pub extern "C" fn dt_fingerprint(params: &ParamsRow) -> FingerprintRow
     fingerprint_in(params)
 }
 
-/// How many octets a handle of a service takes.
-#[unsafe(no_mangle)]
-pub extern "C" fn dt_service_size() -> usize {
-    std::mem::size_of::<ServiceSlot>()
-}
-
-/// To how many octets it is aligned.
-#[unsafe(no_mangle)]
-pub extern "C" fn dt_service_align() -> usize {
-    std::mem::align_of::<ServiceSlot>()
-}
-
 /// Makes a handle with no service of fresh memory.
 #[unsafe(no_mangle)]
 pub unsafe extern "C" fn dt_service_init(service: *mut ServiceHandle)
@@ -356,6 +344,18 @@ pub unsafe extern "C" fn dt_service_close(service: *mut ServiceHandle)
     ensures* { sem 𝓛 (points_to service_row service empty_service) }
 {
     close_service_in(unsafe { &mut *(service as *mut ServiceSlot) })
+}
+
+/// How many octets a handle of a service takes.
+#[unsafe(no_mangle)]
+pub extern "C" fn dt_service_size() -> usize {
+    std::mem::size_of::<ServiceSlot>()
+}
+
+/// To how many octets it is aligned.
+#[unsafe(no_mangle)]
+pub extern "C" fn dt_service_align() -> usize {
+    std::mem::align_of::<ServiceSlot>()
 }
 
 /// A service starts, in a handle that holds none.
@@ -464,16 +464,6 @@ pub unsafe extern "C" fn dt_raise(service: *mut ServiceHandle, life: u32) -> u8
     raise_in(unsafe { &mut *(service as *mut ServiceSlot) }, life)
 }
 
-/// How many messages were dropped, by cause.
-#[unsafe(no_mangle)]
-pub unsafe extern "C" fn dt_call_counts(service: *mut ServiceHandle) -> CallCountsRow
-    ghost g: { ServiceSlot }
-    requires* { sem 𝓛 (points_to service_row service g) }
-    ensures* { ∃ₛ (λ h. sem 𝓛 (points_to service_row service h) ∗ ⌜ CallCounting result g h ⌝) }
-{
-    call_counts_in(unsafe { &mut *(service as *mut ServiceSlot) })
-}
-
 /// Each call that waits is unsure, and no turn is done any more.
 #[unsafe(no_mangle)]
 pub unsafe extern "C" fn dt_service_stop(service: *mut ServiceHandle) -> u8
@@ -482,16 +472,6 @@ pub unsafe extern "C" fn dt_service_stop(service: *mut ServiceHandle) -> u8
     ensures* { ∃ₛ (λ h. sem 𝓛 (points_to service_row service h) ∗ ⌜ Stopping result g h ⌝) }
 {
     stop_in(unsafe { &mut *(service as *mut ServiceSlot) })
-}
-
-/// What is due at `now` is done, and calls whose patience is over end.
-#[unsafe(no_mangle)]
-pub unsafe extern "C" fn dt_service_tick(service: *mut ServiceHandle, now: u64) -> u8
-    ghost g: { ServiceSlot }
-    requires* { sem 𝓛 (points_to service_row service g) }
-    ensures* { ∃ₛ (λ h. sem 𝓛 (points_to service_row service h) ∗ ⌜ ServiceTicking result now g h ⌝) }
-{
-    tick_service_in(unsafe { &mut *(service as *mut ServiceSlot) }, now)
 }
 
 /// A datagram came on a link, and waited so many milliseconds until this call.
@@ -516,37 +496,14 @@ pub unsafe extern "C" fn dt_service_arrive(
     )
 }
 
-/// The first frame that waits, where the buffer has room for it.
+/// What is due at `now` is done, and calls whose patience is over end.
 #[unsafe(no_mangle)]
-pub unsafe extern "C" fn dt_service_next_frame(
-    service: *mut ServiceHandle,
-    buf: &mut [u8],
-) -> OutRow
+pub unsafe extern "C" fn dt_service_tick(service: *mut ServiceHandle, now: u64) -> u8
     ghost g: { ServiceSlot }
     requires* { sem 𝓛 (points_to service_row service g) }
-    ensures* { ∃ₛ (λ h. sem 𝓛 (points_to service_row service h) ∗ ⌜ ServiceNextFrame result buf.old buf.new g h ⌝) }
+    ensures* { ∃ₛ (λ h. sem 𝓛 (points_to service_row service h) ∗ ⌜ ServiceTicking result now g h ⌝) }
 {
-    next_service_frame_in(unsafe { &mut *(service as *mut ServiceSlot) }, buf)
-}
-
-/// The moment of the next tick that does something, or none.
-#[unsafe(no_mangle)]
-pub unsafe extern "C" fn dt_service_wake(service: *mut ServiceHandle) -> MomentRow
-    ghost g: { ServiceSlot }
-    requires* { sem 𝓛 (points_to service_row service g) }
-    ensures* { ∃ₛ (λ h. sem 𝓛 (points_to service_row service h) ∗ ⌜ ServiceWaking result g h ⌝) }
-{
-    wake_service_in(unsafe { &mut *(service as *mut ServiceSlot) })
-}
-
-/// From now on packets to the route's node leave on its link.
-#[unsafe(no_mangle)]
-pub unsafe extern "C" fn dt_service_add_route(service: *mut ServiceHandle, route: &RouteRow) -> u8
-    ghost g: { ServiceSlot }
-    requires* { sem 𝓛 (points_to service_row service g) }
-    ensures* { ∃ₛ (λ h. sem 𝓛 (points_to service_row service h) ∗ ⌜ ServiceAddingRoute result route.now g h ⌝) }
-{
-    add_service_route_in(unsafe { &mut *(service as *mut ServiceSlot) }, route)
+    tick_service_in(unsafe { &mut *(service as *mut ServiceSlot) }, now)
 }
 
 /// From now on the service receives at these ports, or at all, and of so many flows at most.
@@ -571,14 +528,37 @@ pub unsafe extern "C" fn dt_service_guard(
     )
 }
 
-/// How many datagrams the guard kept out.
+/// The first frame that waits, where the buffer has room for it.
 #[unsafe(no_mangle)]
-pub unsafe extern "C" fn dt_service_kept_out(service: *mut ServiceHandle) -> KeptOutRow
+pub unsafe extern "C" fn dt_service_next_frame(
+    service: *mut ServiceHandle,
+    buf: &mut [u8],
+) -> OutRow
     ghost g: { ServiceSlot }
     requires* { sem 𝓛 (points_to service_row service g) }
-    ensures* { ∃ₛ (λ h. sem 𝓛 (points_to service_row service h) ∗ ⌜ ServiceKeptOut result g h ⌝) }
+    ensures* { ∃ₛ (λ h. sem 𝓛 (points_to service_row service h) ∗ ⌜ ServiceNextFrame result buf.old buf.new g h ⌝) }
 {
-    service_kept_out_in(unsafe { &mut *(service as *mut ServiceSlot) })
+    next_service_frame_in(unsafe { &mut *(service as *mut ServiceSlot) }, buf)
+}
+
+/// From now on packets to the route's node leave on its link.
+#[unsafe(no_mangle)]
+pub unsafe extern "C" fn dt_service_add_route(service: *mut ServiceHandle, route: &RouteRow) -> u8
+    ghost g: { ServiceSlot }
+    requires* { sem 𝓛 (points_to service_row service g) }
+    ensures* { ∃ₛ (λ h. sem 𝓛 (points_to service_row service h) ∗ ⌜ ServiceAddingRoute result route.now g h ⌝) }
+{
+    add_service_route_in(unsafe { &mut *(service as *mut ServiceSlot) }, route)
+}
+
+/// The moment of the next tick that does something, or none.
+#[unsafe(no_mangle)]
+pub unsafe extern "C" fn dt_service_wake(service: *mut ServiceHandle) -> MomentRow
+    ghost g: { ServiceSlot }
+    requires* { sem 𝓛 (points_to service_row service g) }
+    ensures* { ∃ₛ (λ h. sem 𝓛 (points_to service_row service h) ∗ ⌜ ServiceWaking result g h ⌝) }
+{
+    wake_service_in(unsafe { &mut *(service as *mut ServiceSlot) })
 }
 
 /// What the endpoint counted since it was opened.
@@ -589,4 +569,24 @@ pub unsafe extern "C" fn dt_service_counts(service: *mut ServiceHandle) -> Count
     ensures* { ∃ₛ (λ h. sem 𝓛 (points_to service_row service h) ∗ ⌜ ServiceCounting result g h ⌝) }
 {
     service_counts_in(unsafe { &mut *(service as *mut ServiceSlot) })
+}
+
+/// How many messages were dropped, by cause.
+#[unsafe(no_mangle)]
+pub unsafe extern "C" fn dt_call_counts(service: *mut ServiceHandle) -> CallCountsRow
+    ghost g: { ServiceSlot }
+    requires* { sem 𝓛 (points_to service_row service g) }
+    ensures* { ∃ₛ (λ h. sem 𝓛 (points_to service_row service h) ∗ ⌜ CallCounting result g h ⌝) }
+{
+    call_counts_in(unsafe { &mut *(service as *mut ServiceSlot) })
+}
+
+/// How many datagrams the guard kept out.
+#[unsafe(no_mangle)]
+pub unsafe extern "C" fn dt_service_kept_out(service: *mut ServiceHandle) -> KeptOutRow
+    ghost g: { ServiceSlot }
+    requires* { sem 𝓛 (points_to service_row service g) }
+    ensures* { ∃ₛ (λ h. sem 𝓛 (points_to service_row service h) ∗ ⌜ ServiceKeptOut result g h ⌝) }
+{
+    service_kept_out_in(unsafe { &mut *(service as *mut ServiceSlot) })
 }

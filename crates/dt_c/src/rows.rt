@@ -1,9 +1,9 @@
 //! Arguments and answers as they lie in C.
-ghost use Rattle.std.specs.Prelude.{◌≡◌};
+ghost use Rattle.std.specs.Prelude.{◌≡◌, if◌then◌else◌, length, nat_le};
 ghost use Rattle.dt_reports.specs.Told.{told};
-ghost use Rattle.dt_c.specs.Rows.{about, about_none, came_as, came_row, capped, counts_row, elsewhere, faulty, fault_row, field_number, flow_of, flow_row, kept_out_row, marked, message_row, moment_row, no_counts_row, no_flow, no_frame, no_message, no_piece, no_report, no_totals_row, numbered, opened_row, params_of, piece_row, released, report_row, route, routed_status, sent_as, sent_row, ticked_status, totals_row, until_moment};
+ghost use Rattle.dt_c.specs.Rows.{about, about_none, came_as, came_row, capped, counts_row, done, elsewhere, faulty, fault_row, field_number, flow_of, flow_row, frame_row, kept_out_row, marked, message_row, moment_row, no_counts_row, no_flow, no_frame, no_message, no_piece, no_report, no_totals_row, numbered, opened_row, params_of, piece_row, released, report_row, room, route, routed_status, sent_as, sent_row, ticked_status, told_row, totals_row, until_moment};
 
-use dt_endpoint::{Arrived, Counts, Guard, Octets, Piece, Route, Routed, Sent, Ticked};
+use dt_endpoint::{Arrived, Counts, Guard, Octets, OutFrame, Piece, Route, Routed, Sent, Ticked};
 use dt_inbox::Handed;
 use dt_layout::LayoutFault;
 use dt_reports::{Refusal, Report};
@@ -143,15 +143,11 @@ pub struct CountsRow {
     pub came: u64,
     pub refused: u64,
     pub left: u64,
-    pub taken: u64,
-    pub settled: u64,
-    pub uncertain: u64,
-    pub accepted: u64,
-    pub read: u64,
-    pub status: u8,
+    /// Of all flows.
+    pub told: TotalsRow,
 }
 
-/// What was told of the octets of a flow since it is followed.
+/// What was told of octets: of a flow since it is followed, or of all.
 #[repr(C)]
 #[derive(Clone, Copy)]
 pub struct TotalsRow {
@@ -415,17 +411,11 @@ pub fn kept_out_row(guard: &Guard) -> KeptOutRow
 pub fn counts_row(counts: Counts) -> CountsRow
     ensures { result ≡ counts_row counts }
 {
-    let octets = counts.octets;
     CountsRow {
         came: counts.came,
         refused: counts.refused,
         left: counts.left,
-        taken: octets.taken,
-        settled: octets.settled,
-        uncertain: octets.uncertain,
-        accepted: octets.accepted,
-        read: octets.read,
-        status: DONE,
+        told: told_row(counts.octets),
     }
 }
 
@@ -437,12 +427,20 @@ pub fn no_counts_row(status: u8) -> CountsRow
         came: 0,
         refused: 0,
         left: 0,
-        taken: 0,
-        settled: 0,
-        uncertain: 0,
-        accepted: 0,
-        read: 0,
-        status,
+        told: no_totals_row(status),
+    }
+}
+
+fn told_row(octets: Octets) -> TotalsRow
+    ensures { result ≡ told_row octets }
+{
+    TotalsRow {
+        taken: octets.taken,
+        settled: octets.settled,
+        uncertain: octets.uncertain,
+        accepted: octets.accepted,
+        read: octets.read,
+        status: DONE,
     }
 }
 
@@ -453,14 +451,7 @@ pub fn totals_row(totals: Option<Octets>) -> TotalsRow
     let Some(octets) = totals else {
         return no_totals_row(NOTHING);
     };
-    TotalsRow {
-        taken: octets.taken,
-        settled: octets.settled,
-        uncertain: octets.uncertain,
-        accepted: octets.accepted,
-        read: octets.read,
-        status: DONE,
-    }
+    told_row(octets)
 }
 
 /// An answer where there is nothing that was told.
@@ -612,6 +603,19 @@ pub fn no_frame(status: u8) -> OutRow
     }
 }
 
+/// A frame that goes out where there is room for so many octets, or else its size.
+pub fn frame_row(frame: &OutFrame, free: usize) -> OutRow
+    ensures { result ≡ frame_row frame.now (if nat_le (length frame.now.octets) free then done else room) }
+{
+    let len = frame.octets().len();
+    OutRow {
+        len,
+        to: frame.to(),
+        link: frame.link(),
+        status: if len <= free { DONE } else { ROOM },
+    }
+}
+
 pub fn moment_row(moment: Option<u64>) -> MomentRow
     ensures { result ≡ moment_row moment }
 {
@@ -655,7 +659,8 @@ pub fn opened_row(answer: Opened) -> OpenedRow
     }
 }
 
-fn flow_row(flow: Flow) -> FlowRow
+/// A flow in C.
+pub fn flow_row(flow: Flow) -> FlowRow
     ensures { result ≡ flow_row flow }
 {
     FlowRow {

@@ -6,11 +6,11 @@ ghost use Rattle.dt_service_model.specs.Ends.{next};
 ghost use Rattle.dt_c.specs.Serving.{CallCounting, Calling, Forgetting, GetsKind, HandsFrame, NextEvent, Porting, Raises, Raising, Replying, ServiceAddingRoute, ServiceArriving, ServiceCounting, ServiceGuarding, ServiceKeptOut, ServiceNextFrame, ServiceOpening, ServiceOpens, ServiceTicking, ServiceWaking, Stopping, TakesEvent, empty_service, service_started};
 ghost use Rattle.dt_c.specs.ServiceRows.{kind_of};
 
-use crate::calls::{ins_of, outs_of, routes_of};
+use crate::calls::{Surroundings, set_guard};
 use crate::rows::{
     CLOSED, CameRow, CountsRow, DONE, FlowRow, HELD, KEPT_OUT, KeptOutRow, LinkRow, MomentRow,
-    NO_MEMORY, NOTHING, Opened, OpenedRow, OutRow, ParamsRow, REFUSED, ROOM, RouteRow, came_as,
-    came_row, counts_row, kept_out_row, moment_row, no_counts_row, no_frame, opened_row,
+    NO_MEMORY, NOTHING, Opened, OpenedRow, OutRow, ParamsRow, REFUSED, RouteRow, came_as, came_row,
+    counts_row, frame_row, kept_out_row, moment_row, no_counts_row, no_frame, opened_row,
     routed_status, ticked_status,
 };
 use crate::service_rows::{
@@ -46,18 +46,15 @@ fn new_service(
     alloc: Global,
     rules: &Rules,
     start: &ServiceStartRow,
-    links: &[LinkRow],
-    routes: &[RouteRow],
+    around: &Surroundings<'_>,
 ) -> Result<Service, NoMemory>
-    ensures { IfOk result (λ s. s ≡ service_started rules.now start.now links.now routes.now) }
+    ensures { IfOk result (λ s. s ≡ service_started rules.now start.now around.now.links.now around.now.routes.now) }
 {
-    let outs = outs_of(alloc, links)?;
-    let ins = ins_of(alloc, links)?;
-    let routes = routes_of(alloc, routes)?;
+    let wires = around.wires(alloc)?;
     let links = Links {
-        outs: &outs,
-        ins: &ins,
-        routes: &routes,
+        outs: &wires.outs,
+        ins: &wires.ins,
+        routes: &wires.routes,
     };
     Service::open(alloc, rules, &start.start(), &links)
 }
@@ -65,27 +62,20 @@ fn new_service(
 fn opens_service(
     slot: &mut ServiceSlot,
     alloc: Global,
-    params: &ParamsRow,
     start: &ServiceStartRow,
-    links: &[LinkRow],
-    routes: &[RouteRow],
+    around: &Surroundings<'_>,
 ) -> Opened
-    ensures { ServiceOpens result params.now start.now links.now routes.now slot.old slot.new }
+    ensures { ServiceOpens result around.now.params.now start.now around.now.links.now around.now.routes.now slot.old slot.new }
 {
-    if slot.service.is_some() {
-        return Opened::Held;
-    }
-    let rules = match params.params().check() {
+    let rules = match around.rules(slot.service.is_some()) {
         Ok(rules) => rules,
-        Err(fault) => return Opened::Refused { fault },
+        Err(answer) => return answer,
     };
-    match new_service(alloc, &rules, start, links, routes) {
-        Ok(service) => {
-            slot.service = Some(service);
-            Opened::Done
-        }
-        Err(NoMemory) => Opened::NoMemory,
-    }
+    let Ok(service) = new_service(alloc, &rules, start, around) else {
+        return Opened::NoMemory;
+    };
+    slot.service = Some(service);
+    Opened::Done
 }
 
 pub fn open_service_in(
@@ -98,7 +88,8 @@ pub fn open_service_in(
 ) -> OpenedRow
     ensures { ServiceOpening result params.now start.now links.now routes.now slot.old slot.new }
 {
-    opened_row(opens_service(slot, alloc, params, start, links, routes))
+    let around = Surroundings::of(params, links, routes);
+    opened_row(opens_service(slot, alloc, start, &around))
 }
 
 fn give_kind(service: &mut Service, port: u16, kind: Option<Kind>) -> u8
@@ -249,16 +240,9 @@ fn hand_frame(service: &mut Service, buf: &mut [u8]) -> OutRow
     let Some(frame) = service.endpoint().first_frame() else {
         return no_frame(NOTHING);
     };
-    let octets = frame.octets();
-    let mut row = OutRow {
-        len: octets.len(),
-        to: frame.to(),
-        link: frame.link(),
-        status: ROOM,
-    };
+    let row = frame_row(frame, buf.len());
     if row.len <= buf.len() {
-        buf[..row.len].copy_from_slice(octets);
-        row.status = DONE;
+        buf[..row.len].copy_from_slice(frame.octets());
         let _ = service.next_frame();
     }
     row
@@ -300,13 +284,9 @@ pub fn guard_service_in(
 ) -> u8
     ensures { ServiceGuarding result ports.now all most slot.old slot.new }
 {
-    if slot.service.is_none() {
-        return CLOSED;
-    }
-    let ports = if all { None } else { Some(ports) };
-    match slot.guard.limit(alloc, ports, most) {
-        Ok(()) => DONE,
-        Err(NoMemory) => NO_MEMORY,
+    match &slot.service {
+        Some(_) => set_guard(&mut slot.guard, alloc, ports, all, most),
+        None => CLOSED,
     }
 }
 

@@ -1,15 +1,14 @@
 //! Arguments and answers of services as they lie in C.
 ghost use Rattle.std.specs.Prelude.{◌≡◌};
 ghost use Rattle.dt_service_model.specs.Names.{call_number, number_of};
-ghost use Rattle.dt_c.specs.Rows.{flow_row};
 ghost use Rattle.dt_c.specs.ServiceRows.{call_counts_row, cause_number, declined_row, event_row, event_with, event_without_room, forgot_status, kind_of, made_as, made_row, made_with, no_call_counts, no_event, replied_as, replied_row, replied_with, start_of, token_of, unfit_number, unfit_status};
 
-use crate::rows::{CLOSED, DONE, FULL, FlowRow, NO_MEMORY, QUIET, REFUSED, ROOM, SPENT};
+use crate::rows::{CLOSED, DONE, FULL, FlowRow, NO_MEMORY, QUIET, REFUSED, ROOM, SPENT, flow_row};
 use dt_service::Start;
 use dt_service_model::{
     CallNumber, Cause, Counts, Declined, Forgot, Happening, Kind, Made, Most, Replied, Token, Unfit,
 };
-use dt_units::{Flow, NodeId};
+use dt_units::NodeId;
 use std::mem::size_of;
 
 /// As many calls as may wait, or have ends that weren't taken.
@@ -154,17 +153,6 @@ fn in_one(number: CallNumber) -> u64
     ensures { result ≡ number_of number }
 {
     u64::from(number.life) * 4_294_967_296 + u64::from(number.count)
-}
-
-fn flow_row(flow: Flow) -> FlowRow
-    ensures { result ≡ flow_row flow }
-{
-    FlowRow {
-        from: flow.from.0,
-        to: flow.to.0,
-        from_port: flow.from_port,
-        to_port: flow.to_port,
-    }
 }
 
 /// The kind of a port by its number, if there is one.

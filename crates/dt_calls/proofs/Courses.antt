@@ -1,4 +1,4 @@
--- Parts of a step are put together: what each tells goes behind what was told before, whatever that was.
+-- Parts of a step are put together: what each tells goes after what was told before, whatever that was.
 use Rattle.std.specs.Prelude.{◌&&◌}
 use Rattle.std.proofs.Common.{ℕ, zero, suc, ◌≡◌, Bool, true, false, if◌then◌else◌, List, [], ◌∷◌, ◌++◌, fold, length, map, Option, Some, None, refl, ap, sym, subst, ◌∙◌, append_assoc, append-nil}
 use Rattle.dt_units.specs.declared.endpoints.Flow.{Flow}
@@ -87,7 +87,7 @@ module _ (answer : List ℕ → List ℕ) where
   pub adds_finish : Adds (finish answer)
   adds_finish = adds_then (read_all answer) doubt_all adds_all (λ told c. refl)
 
--- LINES one behind the other
+-- LINES one after the other
 module _ {L : Type 0} (tells : L → CallEntry → L → Type 0) where
   pub tells_then : (xs ys : List CallEntry) (l m n : L) → TellsCalls tells xs l m → TellsCalls tells ys m n → TellsCalls tells (xs ++ ys) l n
   tells_then [] ys l m n e more = subst (λ (k : L). TellsCalls tells ys k n) (sym e) more

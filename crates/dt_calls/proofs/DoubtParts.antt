@@ -13,12 +13,21 @@ use Rattle.dt_calls_model.specs.CallTold as told
 use Rattle.dt_calls_model.specs.CallTold.{CallEntry}
 use Rattle.dt_calls.specs.declared.world_calls.Parts.{Parts}
 use Rattle.dt_calls.specs.Waiting.{Covers}
-use Rattle.dt_calls.proofs.DoubtWaiting.{DoubtsTo, looked_sure, looked_unsure}
+use Rattle.dt_calls.proofs.DoubtWaiting.{DoubtsTo, call_is_there, drop_at, looked_sure, looked_unsure}
 use Rattle.dt_calls.proofs.Waiting.{covers_set}
 
 -- one item, read twice
 pub same_read : (xs : List Call) (i : ℕ) (x y : Call) → i < length xs → x ≡ get_or xs i x → y ≡ get_or xs i y → x ≡ y
 same_read xs i x y h e f = e ∙ get_or_default xs i x y h ∙ sym f
+
+-- THE DOUBTS HAVE COME to the number that is looked at, which is that of a call
+module _ {H L : Type 0} (tells : L → CallEntry → L → Type 0) (fn loop : Parts H) (l m : L) (i k : ℕ) (less : i < length fn.waiting.items) (same : loop ≡ record fn { calls = loop.calls }) (number : k ≡ get_or loop.waiting.items i k)
+    (on : DoubtsTo tells fn.world.state fn.calls.items l (drop i fn.waiting.items) loop.calls.items m) where
+  pub to_number : DoubtsTo tells fn.world.state fn.calls.items l (k ∷ drop (i + 1) fn.waiting.items) loop.calls.items m
+  to_number = subst (λ (ns : List ℕ). DoubtsTo tells fn.world.state fn.calls.items l ns loop.calls.items m) (drop_at i fn.waiting.items k less (subst (λ (p : Parts H). k ≡ get_or p.waiting.items i k) same number)) on
+
+  pub is_there : k < length loop.calls.items
+  is_there = call_is_there tells fn.world.state fn.calls.items l loop.calls.items m k (drop (i + 1) fn.waiting.items) to_number
 
 pub record Next {H L : Type 0} (tells : L → CallEntry → L → Type 0) (fn : Parts H) (l : L) (ks : List ℕ) (after : Parts H) (n : L) : Type 0 where
   pub to : DoubtsTo tells fn.world.state fn.calls.items l ks after.calls.items n

@@ -11,7 +11,7 @@ use Rattle.dt_calls.specs.Courses.{HasGoneOn}
 use Rattle.dt_calls.specs.Telling.{TellsCalls}
 use Rattle.dt_calls.proofs.Courses.{tells_then}
 
--- the item behind others
+-- the item after others
 get_behind : (xs ys : List Call) (y d : Call) → get_or (xs ++ y ∷ ys) (length xs) d ≡ y
 get_behind [] ys y d = refl
 get_behind (x ∷ xs) ys y d = get_behind xs ys y d

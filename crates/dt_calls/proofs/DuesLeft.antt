@@ -1,4 +1,4 @@
--- What is known of the flows with a call behind an event: which of them may have something to read.
+-- What is known of the flows with a call after an event: which of them may have something to read.
 use Rattle.std.proofs.Common.{ℕ, ◌≡◌, Bool, true, false, if◌then◌else◌, List, [], ◌∷◌, map, Option, Some, None, refl, ap, sym, subst, ◌∙◌, inl, inr}
 use Rattle.std.specs.Prelude.{◌||◌, is_some}
 use Rattle.std.proofs.lemmas.Bool.{cases_Bool}

@@ -3,10 +3,10 @@ use Rattle.std.proofs.Common.{ℕ, zero, suc, ◌+◌, ◌≡◌, ◌==◌, ◌<
 use Rattle.std.specs.Prelude.{◌&&◌, IfOk, MatchOption, is_some, option_map, slice_get, slice_index_or, unwrap_or}
 use Rattle.std.specs.Map.{lookup, set_value}
 use Rattle.std.proofs.lemmas.Bool.{cases_Bool}
-use Rattle.std.proofs.lemmas.Bool.Decides.{nat_tests}
 use Rattle.indexmap.specs.IndexMap.{insert_entry, set_value_at}
 use Rattle.dt_units.specs.declared.endpoints.Flow.{Flow}
 use Rattle.dt_world_model.specs.Tables.{has_key, look, same_flow, write}
+use Rattle.dt_world_model.proofs.Maps.{equal_flows, flow_inserted, flow_looked, flow_written}
 use Rattle.dt_world_model.proofs.Tables.{flow_is, flow_self, look_write}
 use Rattle.dt_calls_model.specs.Calls as model
 use Rattle.dt_calls_model.specs.Calls.{none_begun, with_flow}
@@ -18,28 +18,31 @@ use Rattle.dt_calls.specs.declared.flow_sides.FlowSides.{FlowSides}
 use Rattle.dt_calls.specs.Flows.{begun_in, begun_of, flows_seen, no_entry, with_sides_in}
 use Rattle.dt_calls.specs.Parts.{keys_in}
 
--- the equality of flows as it is derived
-abbrev pub equal_flows : Flow → Flow → Bool
-equal_flows f g = (f.from.0 == g.from.0) && ((f.from_port == g.from_port) && ((f.to.0 == g.to.0) && (f.to_port == g.to_port)))
+-- WHAT IS SEEN of the sides of flows is a table like theirs, value by value
+look_seen : (f : Flow) (es : List (Flow × FlowSides)) → look same_flow f (flows_seen es) ≡ option_map begun_of (look same_flow f es)
+look_seen f [] = refl
+look_seen f (e ∷ es) = elim (cases_Bool (same_flow e.0 f)) [ inl y ↦ rw y refl | inr n ↦ rw n (look_seen f es) ]
 
-either_way : (m n : ℕ) → (m == n) ≡ (n == m)
-either_way m n = grind (arith, nat_tests)
-
-regrouped : (a b c d : Bool) → (a && (b && (c && d))) ≡ (((a && b) && c) && d)
-regrouped true true c d = refl
-regrouped true false c d = refl
-regrouped false b c d = refl
-
-pub flows_agree : (f g : Flow) → equal_flows f g ≡ same_flow g f
-flows_agree f g = rw (either_way f.from.0 g.from.0, either_way f.from_port g.from_port, either_way f.to.0 g.to.0, either_way f.to_port g.to_port) (regrouped (g.from.0 == f.from.0) (g.from_port == f.from_port) (g.to.0 == f.to.0) (g.to_port == f.to_port))
-
-pub look_found : (f : Flow) (es : List (Flow × FlowSides)) → look same_flow f (flows_seen es) ≡ option_map begun_of (lookup (equal_flows f) es)
-look_found f [] = refl
-look_found f (e ∷ es) =
+write_seen : (f : Flow) (a : FlowSides) (es : List (Flow × FlowSides)) → flows_seen (write same_flow f a es) ≡ write same_flow f (begun_of a) (flows_seen es)
+write_seen f a [] = refl
+write_seen f a (e ∷ es) =
     elim (cases_Bool (same_flow e.0 f)) [
-      | inl y ↦ let t : equal_flows f e.0 ≡ true = flows_agree f e.0 ∙ y in rw (y, t) refl
-      | inr n ↦ let t : equal_flows f e.0 ≡ false = flows_agree f e.0 ∙ n in rw (n, t) (look_found f es)
+      | inl y ↦ rw y refl
+      | inr n ↦ rw n (ap (λ (r : List (Flow × model.Begun)). (e.0, begun_of e.1) ∷ r) (write_seen f a es))
     ]
+
+-- a flow that isn't there comes after all others
+write_last : (f : Flow) (b : model.Begun) (es : List (Flow × model.Begun)) → has_key same_flow f es ≡ false → write same_flow f b es ≡ es ++ (f, b) ∷ []
+write_last f b [] h = refl
+write_last f b (e ∷ es) h =
+    elim (cases_Bool (same_flow e.0 f)) [
+      | inl y ↦ absurd (let found : true ≡ false = rw y at h in cc)
+      | inr n ↦ let rest : has_key same_flow f es ≡ false = rw n at h in rw n (ap (λ (r : List (Flow × model.Begun)). e ∷ r) (write_last f b es rest))
+    ]
+
+-- THE MAP finds and writes what the table has
+look_found : (f : Flow) (es : List (Flow × FlowSides)) → look same_flow f (flows_seen es) ≡ option_map begun_of (lookup (equal_flows f) es)
+look_found f es = look_seen f es ∙ ap (option_map begun_of) (sym (flow_looked f es))
 
 some_mapped : (o : Option FlowSides) → is_some (option_map begun_of o) ≡ is_some o
 some_mapped None = refl
@@ -51,28 +54,11 @@ key_found f es = ap is_some (look_found f es) ∙ some_mapped (lookup (equal_flo
 pub begun_found : (f : Flow) (s : FlowSides) (es : List (Flow × FlowSides)) → lookup (equal_flows f) es ≡ Some s → begun_in f (flows_seen es) ≡ begun_of s
 begun_found f s es h = ap (λ (o : Option model.Begun). unwrap_or o none_begun) (look_found f es ∙ ap (option_map begun_of) h)
 
-pub written : (f : Flow) (a b : FlowSides) (es : List (Flow × FlowSides)) → lookup (equal_flows f) es ≡ Some b → flows_seen (set_value (equal_flows f) es a) ≡ write same_flow f (begun_of a) (flows_seen es)
-written f a b [] h = absurd cc
-written f a b (e ∷ es) h =
-    elim (cases_Bool (same_flow e.0 f)) [
-      | inl y ↦ let t : equal_flows f e.0 ≡ true = flows_agree f e.0 ∙ y in rw (y, t) (ap (λ (g : Flow). (g, begun_of a) ∷ flows_seen es) (flow_is e.0 f y))
-      | inr n ↦
-          let t : equal_flows f e.0 ≡ false = flows_agree f e.0 ∙ n in
-          let found : lookup (equal_flows f) es ≡ Some b = rw t at h in
-          rw (n, t) (ap (λ (r : List (Flow × model.Begun)). (e.0, begun_of e.1) ∷ r) (written f a b es found))
-    ]
+written : (f : Flow) (a b : FlowSides) (es : List (Flow × FlowSides)) → lookup (equal_flows f) es ≡ Some b → flows_seen (set_value (equal_flows f) es a) ≡ write same_flow f (begun_of a) (flows_seen es)
+written f a b es h = ap flows_seen (flow_written f a b es h) ∙ write_seen f a es
 
--- a flow that isn't there comes behind all others
 inserted : (f : Flow) (a : FlowSides) (es : List (Flow × FlowSides)) → has_key same_flow f (flows_seen es) ≡ false → flows_seen (insert_entry equal_flows es f a) ≡ flows_seen es ++ (f, begun_of a) ∷ []
-inserted f a [] h = refl
-inserted f a (e ∷ es) h =
-    elim (cases_Bool (same_flow e.0 f)) [
-      | inl y ↦ absurd (let found : true ≡ false = rw y at h in cc)
-      | inr n ↦
-          let t : equal_flows f e.0 ≡ false = flows_agree f e.0 ∙ n in
-          let rest : has_key same_flow f (flows_seen es) ≡ false = rw n at h in
-          rw t (ap (λ (r : List (Flow × model.Begun)). (e.0, begun_of e.1) ∷ r) (inserted f a es rest))
-    ]
+inserted f a es h = ap flows_seen (flow_inserted f (insert_entry equal_flows) (λ b. refl) (λ b e rest. refl) a es) ∙ write_seen f a es ∙ write_last f (begun_of a) (flows_seen es) h
 
 pub flow_there : (f : Flow) (es : List (Flow × FlowSides)) → has_key same_flow f (flows_seen es) ≡ true → flows_seen es ≡ with_flow f (flows_seen es)
 flow_there f es h = rw h refl

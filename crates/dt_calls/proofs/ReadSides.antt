@@ -1,5 +1,5 @@
--- What the code has behind a read of a side, and behind the message that it makes whole.
-use Rattle.std.proofs.Common.{ℕ, ◌≡◌, true, false, List, Option, Some, None, Result, Err, refl, ap, sym, subst, ◌∙◌}
+-- What the code has after a read of a side, and after the message that it makes whole.
+use Rattle.std.proofs.Common.{ℕ, ◌≡◌, ◌<◌, ◌≤◌, ◌^◌, true, false, List, length, Option, Some, None, Result, Err, refl, ap, sym, subst, ◌∙◌}
 use Rattle.std.specs.Prelude.{MatchOption, is_some}
 use Rattle.dt_units.specs.declared.endpoints.Flow.{Flow}
 use Rattle.dt_units.specs.Flows.{IsFlow}
@@ -7,11 +7,14 @@ use Rattle.dt_world_model.specs.Tables.{has_key, same_flow}
 use Rattle.dt_world_model.specs.World.{World}
 use Rattle.dt_world_model.specs.WorldStep.{Reads}
 use Rattle.dt_world.specs.Worlds.{WorldValue}
+use Rattle.dt_calls_laws.specs.Told.{IsOn}
 use Rattle.dt_calls_model.specs.declared.calls.Call.{Call}
-use Rattle.dt_calls_model.specs.Calls.{Begun, Calls, Side, flow_read}
+use Rattle.dt_calls_model.specs.CallFacts.{CourseFacts}
+use Rattle.dt_calls_model.specs.Calls.{Begun, Calls, Server, Side, flow_read}
 use Rattle.dt_calls_model.specs.CallTold.{CallEntry}
 use Rattle.dt_calls_model.specs.Heard.{piece_in}
-use Rattle.dt_calls_model.specs.Messages.{Piece}
+use Rattle.dt_calls_model.specs.Messages.{Piece, carried_in}
+use Rattle.dt_calls_model.specs.Promises.{AreServedOnce}
 use Rattle.dt_calls_model.specs.Reads.{Course, happens, most_read, read_side, take_whole}
 use Rattle.dt_calls.specs.declared.world_calls.Parts.{Parts}
 use Rattle.dt_calls.specs.Courses.{GoesOn, HasGoneOn, HasStopped, from_calls}
@@ -19,13 +22,14 @@ use Rattle.dt_calls.specs.Flows.{flows_seen}
 use Rattle.dt_calls.specs.Happening.{HasHappened}
 use Rattle.dt_calls.specs.Hearing.{HeardValue}
 use Rattle.dt_calls.specs.Waiting.{Covers}
-use Rattle.dt_calls.specs.Parts.{AreShort, HasJoined, IsKeptWorld, calls_seen, keys_in}
+use Rattle.dt_calls.specs.Parts.{AreShort, HasJoined, IsKeptWorld, IsWhole, calls_seen, keys_in}
+use Rattle.dt_calls.proofs.CoursesOn.{piece_on, starts_on}
 use Rattle.dt_calls.proofs.FlowTables.{key_written, keys_seen, keys_written}
 use Rattle.dt_calls.proofs.Hearings.{piece_heard}
-use Rattle.dt_calls.proofs.Requests.{whole_short}
+use Rattle.dt_calls.proofs.Requests.{request_short, whole_short}
 use Rattle.dt_calls.proofs.Waiting.{whole_covers}
 use Rattle.dt_calls.proofs.Worlds.{happens_keeps}
-use Rattle.dt_calls.proofs.Readings.{ReadsOn, ends_here, has_joined, has_read, made_whole, piece_read}
+use Rattle.dt_calls.proofs.Readings.{ReadsOn, begins, ends_here, falls, has_joined, has_read, left_unread, made_whole, piece_read, reads_on, still_kept, stops_at_message}
 
 -- a result that is an error stopped
 pub stopped_with : {L U E : Type 0} (tells : L → CallEntry → L → Type 0) (does : Course → Course) (c : Calls) (l m : L) (after : Calls) (r : Result U E) (e : E) → r ≡ Err e → HasStopped tells does c l m → GoesOn tells does c l m r after
@@ -34,6 +38,14 @@ stopped_with tells does c l m after r e is stop = subst (λ r. GoesOn tells does
 pub piece_lost : {A : Type 0} (P : A → Type 0) (r : Option A) (p : Option Piece) → MatchOption r (p ≡ None) P → is_some r ≡ false → p ≡ None
 piece_lost P None p h e = h
 piece_lost P (Some a) p h e = absurd cc
+
+-- what the taking of a message leaves beside the calls and the world
+pub record StaysSo {H : Type 0} (after next : Parts H) : Type 0 where
+  pub unspent : next.world.spent ≡ false
+  pub heard : next.heard.failed ≡ false
+  pub waiting : next.waiting ≡ after.waiting
+  pub flows : next.flows ≡ after.flows
+  pub handler : next.handler ≡ after.handler
 
 module _ {L : Type 0} (tells : L → CallEntry → L → Type 0) (answer : List ℕ → List ℕ) (side : Side) (f : Flow) where
   -- the read of the code is that of the definitions
@@ -53,73 +65,156 @@ module _ {L : Type 0} (tells : L → CallEntry → L → Type 0) (answer : List 
         heard = here.whole;
       }
 
-  pub world_read : (w new : WorldValue) (t : HeardValue) → IsFlow (flow_read side f) → IsKeptWorld w.state → IsRead w new t → IsKeptWorld new.state
+  world_read : (w new : WorldValue) (t : HeardValue) → IsFlow (flow_read side f) → IsKeptWorld w.state → IsRead w new t → IsKeptWorld new.state
   world_read w new t flow kept read = subst IsKeptWorld (sym read.world) (happens_keeps (Reads (flow_read side f) most_read) w.state flow kept)
 
-  module _ (c : Calls) (l : L) (d : Calls) (m : L) (on : ReadsOn tells answer side f c l d m) (w new : WorldValue) (t : HeardValue) (at : w.state ≡ d.world) (read : IsRead w new t) where
-    now_is : new.state ≡ (happens (Reads (flow_read side f) most_read) d.world).1
-    now_is = read.world ∙ ap (λ (v : World). (happens (Reads (flow_read side f) most_read) v).1) at
+  module _ {H : Type 0} (first : Parts H) (l0 : L) where
+    -- BETWEEN TWO READS: what the parts that were given have become, and the lines.
+    pub record IsReading (p : Parts H) (l : L) : Type 0 where
+      pub on : ReadsOn tells answer side f (calls_seen first) l0 (calls_seen p) l
+      pub keys : keys_in p.flows.entries ≡ keys_in first.flows.entries
+      pub there : has_key same_flow f (flows_seen p.flows.entries) ≡ true
+      pub whole : IsWhole p
+      pub handler : p.handler ≡ first.handler
+      pub course : IsOn answer (from_calls (calls_seen p))
 
-    pub piece_is : t.piece ≡ piece_read tells answer side f d
-    piece_is = read.piece ∙ ap (λ (v : World). piece_in (happens (Reads (flow_read side f) most_read) v).0) at
+    pub reading_begins : has_key same_flow f (flows_seen first.flows.entries) ≡ true → IsWhole first → CourseFacts answer (calls_seen first) → length first.calls.items ≤ 2 ^ 64 → IsReading first l0
+    reading_begins there whole course few = record {
+      on = begins tells answer side f (calls_seen first) l0;
+      keys = refl;
+      there = there;
+      whole = whole;
+      handler = refl;
+      course = starts_on answer (calls_seen first) course few;
+    }
 
-    pub read_seen : (record { world = new.state; calls = d.calls; flows = d.flows }) ≡ has_read tells answer side f d
-    read_seen = ap (λ (v : World). let x : Calls = record { world = v; calls = d.calls; flows = d.flows } in x) now_is
+  -- ONE READ, from the parts p to the world and to what was heard of it
+  pub record OneRead (H : Type 0) : Type 0 where
+    pub first : Parts H
+    pub l0 : L
+    pub p : Parts H
+    pub l : L
+    pub is : IsReading first l0 p l
+    pub new : WorldValue
+    pub t : HeardValue
+    pub flow : IsFlow (flow_read side f)
+    pub read : IsRead p.world new t
 
-    pub ends_seen : t.piece ≡ None → HasGoneOn tells (λ (r : Course). read_side answer side r f) c l m (record { world = new.state; calls = d.calls; flows = d.flows })
-    ends_seen none = subst (λ (x : Calls). HasGoneOn tells (λ (r : Course). read_side answer side r f) c l m x) (sym read_seen) (ends_here tells answer side f c l d m on (sym piece_is ∙ none))
+  abbrev pub one_read : {H : Type 0} (first : Parts H) (l0 : L) (p : Parts H) (l : L) → IsReading first l0 p l → (g : Flow) (new : WorldValue) (t : HeardValue) → g ≡ flow_read side f → IsFlow g → HasHappened (Reads g 65536) p.world p.heard new t → OneRead H
+  one_read first l0 p l is g new t same range has =
+      record { first = first; l0 = l0; p = p; l = l; is = is; new = new; t = t; flow = subst IsFlow same range; read = is_read g p.world new p.heard t same has }
 
-  -- the piece is joined
-  module _ {H : Type 0} (p after : Parts H) (whole : Option (List ℕ)) (j : HasJoined side f p whole after) (d : Calls) (seen : calls_seen p ≡ has_read tells answer side f d) where
-    pub joined_seen : calls_seen after ≡ has_joined tells answer side f j.piece (has_read tells answer side f d)
+-- What it leaves
+module _ {L H : Type 0} {tells : L → CallEntry → L → Type 0} {answer : List ℕ → List ℕ} {side : Side} {f : Flow} (o : OneRead tells answer side f H) where
+  abbrev d : Calls
+  d = calls_seen o.p
+
+  abbrev pub with_read : Parts H
+  with_read = record o.p { world = o.new; heard = o.t }
+
+  abbrev Reading : Course → Course
+  Reading r = read_side answer side r f
+
+  abbrev read_calls : Calls
+  read_calls = has_read tells answer side f d
+
+  seen : calls_seen with_read ≡ read_calls
+  seen = ap (λ (v : World). let x : Calls = record { world = v; calls = d.calls; flows = d.flows } in x) o.read.world
+
+  pub whole_read : IsWhole with_read
+  whole_read = record { unspent = o.read.unspent; heard = o.read.heard; world = world_read tells answer side f o.p.world o.new o.t o.flow o.is.whole.world o.read; waiting = o.is.whole.waiting; requests = o.is.whole.requests }
+
+  -- nothing was there
+  pub reading_ends : o.t.piece ≡ None → HasGoneOn tells Reading (calls_seen o.first) o.l0 o.l (calls_seen with_read)
+  reading_ends none = subst (λ (x : Calls). HasGoneOn tells Reading (calls_seen o.first) o.l0 o.l x) (sym seen) (ends_here tells answer side f (calls_seen o.first) o.l0 d o.l o.is.on (sym o.read.piece ∙ none))
+
+  -- THE PIECE IS JOINED
+  module _ (after : Parts H) (whole : Option (List ℕ)) (j : HasJoined side f with_read whole after) where
+    piece_is : piece_read tells answer side f d ≡ Some j.piece
+    piece_is = sym o.read.piece ∙ j.heard
+
+    -- what the definitions have then, and the message that is whole to them
+    abbrev now_joined : Calls
+    now_joined = has_joined tells answer side f j.piece read_calls
+
+    abbrev now_whole : Option (List ℕ)
+    now_whole = made_whole tells answer side f j.piece read_calls
+
+    joined_seen : calls_seen after ≡ now_joined
     joined_seen =
         ap (λ (x : Parts H). let y : Calls = record { world = x.world.state; calls = x.calls.items; flows = flows_seen after.flows.entries } in y) j.same
-        ∙ ap (λ (fs : List (Flow × Begun)). let y : Calls = record { world = p.world.state; calls = p.calls.items; flows = fs } in y) j.flows
+        ∙ ap (λ (fs : List (Flow × Begun)). let y : Calls = record { world = o.new.state; calls = o.p.calls.items; flows = fs } in y) j.flows
         ∙ ap (has_joined tells answer side f j.piece) seen
 
-    pub keys_joined : has_key same_flow f (flows_seen p.flows.entries) ≡ true → keys_in after.flows.entries ≡ keys_in p.flows.entries
-    keys_joined there = sym (keys_seen after.flows.entries) ∙ ap keys_in j.flows ∙ keys_written f _ (flows_seen p.flows.entries) there ∙ keys_seen p.flows.entries
-
-    pub there_joined : has_key same_flow f (flows_seen after.flows.entries) ≡ true
-    there_joined = ap (has_key same_flow f) j.flows ∙ key_written f _ (flows_seen p.flows.entries)
-
-    pub whole_seen : whole ≡ made_whole tells answer side f j.piece (has_read tells answer side f d)
+    whole_seen : whole ≡ now_whole
     whole_seen = j.whole_is ∙ ap (made_whole tells answer side f j.piece) seen
 
-    -- and the message is taken
-    pub gone_seen : (message : List ℕ) (m n : L) (e : Calls) → whole ≡ Some message → HasGoneOn tells (take_whole answer side f (Some message)) (calls_seen after) m n e
-        → HasGoneOn tells (take_whole answer side f (made_whole tells answer side f j.piece (has_read tells answer side f d))) (has_joined tells answer side f j.piece (has_read tells answer side f d)) m n e
-    gone_seen message m n e is gone =
-        subst (λ (o : Option (List ℕ)). HasGoneOn tells (take_whole answer side f o) (has_joined tells answer side f j.piece (has_read tells answer side f d)) m n e) (sym is ∙ whole_seen)
-        (subst (λ (x : Calls). HasGoneOn tells (take_whole answer side f (Some message)) x m n e) joined_seen gone)
+    pub still_served_once : AreServedOnce (calls_seen after)
+    still_served_once = subst (λ (x : Parts H). AreServedOnce (calls_seen x)) (sym j.same) o.is.course.facts.once
 
-    pub stop_seen : (message : List ℕ) (m n : L) → whole ≡ Some message → HasStopped tells (take_whole answer side f (Some message)) (calls_seen after) m n
-        → HasStopped tells (take_whole answer side f (made_whole tells answer side f j.piece (has_read tells answer side f d))) (has_joined tells answer side f j.piece (has_read tells answer side f d)) m n
-    stop_seen message m n is stop =
-        subst (λ (o : Option (List ℕ)). HasStopped tells (take_whole answer side f o) (has_joined tells answer side f j.piece (has_read tells answer side f d)) m n) (sym is ∙ whole_seen)
-        (subst (λ (x : Calls). HasStopped tells (take_whole answer side f (Some message)) x m n) joined_seen stop)
+    pub message_is_short : (message : List ℕ) → whole ≡ Some message → side ≡ Server → length (carried_in message) ≤ 65528
+    message_is_short message some server = request_short answer d f j.piece message o.is.course.facts o.is.whole.requests o.is.there side piece_is (sym j.whole_is ∙ some) server
 
-    -- or none became whole
-    pub none_seen : (m : L) → whole ≡ None → HasGoneOn tells (take_whole answer side f (made_whole tells answer side f j.piece (has_read tells answer side f d))) (has_joined tells answer side f j.piece (has_read tells answer side f d)) m m (calls_seen after)
-    none_seen m is =
-        subst (λ (o : Option (List ℕ)). HasGoneOn tells (take_whole answer side f o) (has_joined tells answer side f j.piece (has_read tells answer side f d)) m m (calls_seen after)) (sym is ∙ whole_seen)
-        (record { lines = refl; calls = joined_seen })
+    -- what holds of the message that is taken by the handler that the parts have then, which is the one that they began with
+    pub taken_by : (answers : H → List ℕ → List ℕ) → answers o.first.handler ≡ answer → (P : (List ℕ → List ℕ) → Option (List ℕ) → Type 0) (message : List ℕ) → whole ≡ Some message → P (answers after.handler) (Some message) → P answer whole
+    taken_by answers begun P message some holds =
+        let same : answers after.handler ≡ answer = ap answers (ap (λ (x : Parts H). x.handler) j.same ∙ o.is.handler) ∙ begun in
+        subst (λ (w : Option (List ℕ)). P answer w) (sym some) (subst (λ (a : List ℕ → List ℕ). P a (Some message)) same holds)
 
-    -- the numbers of calls that wait stay
-    pub still_covers : Covers 0 p.waiting.items p.calls.items → (m n : L) (next : Parts H) → next.waiting ≡ after.waiting
-        → HasGoneOn tells (take_whole answer side f (made_whole tells answer side f j.piece (has_read tells answer side f d))) (has_joined tells answer side f j.piece (has_read tells answer side f d)) m n (calls_seen next) → Covers 0 next.waiting.items next.calls.items
-    still_covers h m n next same gone =
-        let e = has_joined tells answer side f j.piece (has_read tells answer side f d) in
-        let whole_is = made_whole tells answer side f j.piece (has_read tells answer side f d) in
-        let here : Covers 0 p.waiting.items e.calls = subst (λ (cs : List Call). Covers 0 p.waiting.items cs) (ap (λ (x : Calls). x.calls) seen) h in
-        let there : Covers 0 p.waiting.items next.calls.items = subst (λ (cs : List Call). Covers 0 p.waiting.items cs) (ap (λ (x : Calls). x.calls) (sym gone.calls)) (whole_covers answer p.waiting.items side f whole_is (from_calls e) here) in
-        let kept : next.waiting.items ≡ p.waiting.items = ap (λ v. v.items) same ∙ ap (λ x. x.waiting.items) j.same in
-        subst (λ (ks : List ℕ). Covers 0 ks next.calls.items) (sym kept) there
+    -- THE MESSAGE IS TAKEN, if there is one: it stopped
+    pub reading_stops : (n : L) → HasStopped tells (take_whole answer side f whole) (calls_seen after) o.l n → HasStopped tells Reading (calls_seen o.first) o.l0 n
+    reading_stops n stop =
+        stops_at_message tells answer side f (calls_seen o.first) o.l0 d o.l j.piece piece_is o.is.on n
+        (subst (λ (w : Option (List ℕ)). HasStopped tells (take_whole answer side f w) now_joined o.l n) whole_seen
+        (subst (λ (x : Calls). HasStopped tells (take_whole answer side f whole) x o.l n) joined_seen stop))
 
-    -- and the requests
-    pub still_short : AreShort p.calls.items → (m n : L) (next : Parts H)
-        → HasGoneOn tells (take_whole answer side f (made_whole tells answer side f j.piece (has_read tells answer side f d))) (has_joined tells answer side f j.piece (has_read tells answer side f d)) m n (calls_seen next) → AreShort next.calls.items
-    still_short h m n next gone =
-        let e = has_joined tells answer side f j.piece (has_read tells answer side f d) in
-        let here : AreShort e.calls = subst AreShort (ap (λ (x : Calls). x.calls) seen) h in
-        subst AreShort (ap (λ (x : Calls). x.calls) (sym gone.calls)) (whole_short answer side f (made_whole tells answer side f j.piece (has_read tells answer side f d)) (from_calls e) here)
+    -- or it was done
+    module _ (n : L) (next : Parts H) (gone : HasGoneOn tells (take_whole answer side f whole) (calls_seen after) o.l n (calls_seen next)) where
+      taken : HasGoneOn tells (take_whole answer side f now_whole) now_joined o.l n (calls_seen next)
+      taken =
+          subst (λ (w : Option (List ℕ)). HasGoneOn tells (take_whole answer side f w) now_joined o.l n (calls_seen next)) whole_seen
+          (subst (λ (x : Calls). HasGoneOn tells (take_whole answer side f whole) x o.l n (calls_seen next)) joined_seen gone)
+
+      calls_then : next.calls.items ≡ (take_whole answer side f now_whole (from_calls now_joined)).calls.calls
+      calls_then = ap (λ (x : Calls). x.calls) taken.calls
+
+      calls_before : o.p.calls.items ≡ now_joined.calls
+      calls_before = ap (λ (x : Calls). x.calls) seen
+
+      still_covers : next.waiting ≡ after.waiting → Covers 0 next.waiting.items next.calls.items
+      still_covers same =
+          let before : Covers 0 o.p.waiting.items now_joined.calls = subst (λ (cs : List Call). Covers 0 o.p.waiting.items cs) calls_before o.is.whole.waiting in
+          let there = whole_covers answer o.p.waiting.items side f now_whole (from_calls now_joined) before in
+          let kept : next.waiting.items ≡ o.p.waiting.items = ap (λ v. v.items) same ∙ ap (λ (x : Parts H). x.waiting.items) j.same in
+          subst (λ (ks : List ℕ). Covers 0 ks next.calls.items) (sym kept) (subst (λ (cs : List Call). Covers 0 o.p.waiting.items cs) (sym calls_then) there)
+
+      still_short : AreShort next.calls.items
+      still_short =
+          let before : AreShort now_joined.calls = subst AreShort calls_before o.is.whole.requests in
+          subst AreShort (sym calls_then) (whole_short answer side f now_whole (from_calls now_joined) before)
+
+      pub reading_falls : left_unread tells answer side f (calls_seen next) < left_unread tells answer side f d
+      reading_falls = falls tells answer side f (calls_seen o.first) o.l0 d o.l j.piece piece_is o.flow o.is.whole.world n (calls_seen next) taken
+
+      pub reading_goes : StaysSo after next → IsReading tells answer side f o.first o.l0 next n
+      reading_goes same = record {
+        on = reads_on tells answer side f (calls_seen o.first) o.l0 d o.l j.piece piece_is o.flow o.is.whole.world o.is.on n (calls_seen next) taken;
+        keys = ap (λ fs. keys_in fs.entries) same.flows ∙ sym (keys_seen after.flows.entries) ∙ ap keys_in j.flows ∙ keys_written f _ (flows_seen o.p.flows.entries) o.is.there ∙ keys_seen o.p.flows.entries ∙ o.is.keys;
+        there = ap (λ fs. has_key same_flow f (flows_seen fs.entries)) same.flows ∙ ap (has_key same_flow f) j.flows ∙ key_written f _ (flows_seen o.p.flows.entries);
+        whole = record {
+          unspent = same.unspent;
+          heard = same.heard;
+          world = still_kept tells answer side f (calls_seen o.first) o.l0 d o.l j.piece piece_is o.flow o.is.whole.world n (calls_seen next) taken;
+          waiting = still_covers same.waiting;
+          requests = still_short;
+        };
+        handler = same.handler ∙ ap (λ (x : Parts H). x.handler) j.same ∙ o.is.handler;
+        course = piece_on answer tells side d (calls_seen next) o.l n o.is.course f o.is.there j.piece piece_is taken;
+      }
+
+    -- none became whole
+    pub none_taken : whole ≡ None → HasGoneOn tells (take_whole answer side f whole) (calls_seen after) o.l o.l (calls_seen after)
+    none_taken none = subst (λ (w : Option (List ℕ)). HasGoneOn tells (take_whole answer side f w) (calls_seen after) o.l o.l (calls_seen after)) (sym none) (record { lines = refl; calls = refl })
+
+    pub none_stays : StaysSo after after
+    none_stays = record { unspent = ap (λ (x : Parts H). x.world.spent) j.same ∙ o.read.unspent; heard = ap (λ (x : Parts H). x.heard.failed) j.same ∙ o.read.heard; waiting = refl; flows = refl; handler = refl }

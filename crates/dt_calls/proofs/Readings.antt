@@ -83,7 +83,7 @@ module _ {L : Type 0} (tells : L → CallEntry → L → Type 0) (answer : List 
       abbrev taken : Course
       taken = take_whole answer side f whole (from_calls joined)
 
-      -- the rest is read behind the message
+      -- the rest is read after the message
       behind_message : (most : ℕ) (so_far : List CallEntry) → read_side answer side (from_calls c) f ≡ behind so_far (read_times answer (suc most) side f (from_calls d))
           → read_side answer side (from_calls c) f ≡ behind (so_far ++ taken.told) (read_times answer most side f (from_calls taken.calls))
       behind_message most so_far goes =

@@ -1,4 +1,4 @@
--- What a step of calls answers, by what its event did and what was read behind it.
+-- What a step of calls answers, by what its event did and what was read after it.
 use Rattle.std.proofs.Common.{ℕ, ◌≡◌, false, List, [], Option, None, Result, Err, refl, ap, sym, subst, ◌∙◌}
 use Rattle.dt_units.specs.declared.endpoints.Flow.{Flow}
 use Rattle.dt_reports.specs.Entries.{Entry}

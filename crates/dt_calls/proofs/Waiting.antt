@@ -33,21 +33,15 @@ covers_set n (k ∷ ks) (x ∷ xs) (suc i) new only (inl h) = inl (h.0, covers_s
 covers_set n (k ∷ ks) (x ∷ xs) (suc i) new only (inr h) = inr (h.0, covers_set (suc n) (k ∷ ks) xs i new only h.1)
 
 -- A CALL IS ADDED with its number
+number : (m : ℕ) (cs : List Call) → suc m + length cs ≡ m + suc (length cs)
+number m cs = omega arith
+
 covers_push : (n : ℕ) (ks : List ℕ) (calls : List Call) (call : Call) → Covers n ks calls → Covers n (ks ++ (n + length calls) ∷ []) (calls ++ call ∷ [])
 covers_push n [] [] call h = inl (let e : n + 0 ≡ n = omega arith in e, tt)
 covers_push n (k ∷ ks) [] call h = absurd h
 covers_push n [] (x ∷ xs) call h = inr (h.0, subst (λ (m : ℕ). Covers (suc n) (m ∷ []) (xs ++ call ∷ [])) (number n xs) (covers_push (suc n) [] xs call h.1))
-  where
-    number : (m : ℕ) (cs : List Call) → suc m + length cs ≡ m + suc (length cs)
-    number m cs = omega arith
 covers_push n (k ∷ ks) (x ∷ xs) call (inl h) = inl (h.0, subst (λ (m : ℕ). Covers (suc n) (ks ++ m ∷ []) (xs ++ call ∷ [])) (number n xs) (covers_push (suc n) ks xs call h.1))
-  where
-    number : (m : ℕ) (cs : List Call) → suc m + length cs ≡ m + suc (length cs)
-    number m cs = omega arith
 covers_push n (k ∷ ks) (x ∷ xs) call (inr h) = inr (h.0, subst (λ (m : ℕ). Covers (suc n) (k ∷ (ks ++ m ∷ [])) (xs ++ call ∷ [])) (number n xs) (covers_push (suc n) (k ∷ ks) xs call h.1))
-  where
-    number : (m : ℕ) (cs : List Call) → suc m + length cs ≡ m + suc (length cs)
-    number m cs = omega arith
 
 pub covers_added : (ks : List ℕ) (calls : List Call) (call : Call) → Covers 0 ks calls → Covers 0 (ks ++ length calls ∷ []) (calls ++ call ∷ [])
 covers_added ks calls call h = subst (λ (n : ℕ). Covers 0 (ks ++ n ∷ []) (calls ++ call ∷ [])) (let e : 0 + length calls ≡ length calls = omega arith in e) (covers_push 0 ks calls call h)

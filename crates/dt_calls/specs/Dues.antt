@@ -1,4 +1,4 @@
--- Which sides must be read behind an event, by what was heard of it; and what is known of the others.
+-- Which sides must be read after an event, by what was heard of it; and what is known of the others.
 use Rattle.std.specs.Prelude.{◌≡◌, ◌⊎◌, Bool, true, false, ◌||◌, if◌then◌else◌, is_some, List, Option, Some, None}
 use Rattle.dt_units.specs.declared.endpoints.Flow.{Flow}
 use Rattle.dt_world_model.specs.Tables.{has_key, same_flow}

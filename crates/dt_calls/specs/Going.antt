@@ -14,7 +14,7 @@ use Rattle.dt_calls.specs.Dues.{IsDue}
 use Rattle.dt_calls.specs.Flows.{flows_seen}
 use Rattle.dt_calls.specs.Parts.{IsWhole, calls_seen}
 
--- a call that is made goes behind what was told before
+-- a call that is made goes after what was told before
 abbrev pub then_made : Course → Course → Course
 then_made c made = record { told = c.told ++ made.told; calls = made.calls }
 

@@ -7,11 +7,11 @@ ghost use Rattle.dt_calls.specs.Parts.{calls_seen};
 ghost use Rattle.dt_calls.specs.Waiting.{Covers, waiting_from};
 
 use crate::call_lines::{CallLine, CallLines};
-use crate::messages::reversed;
 use crate::totals::is_waiting;
 use crate::world_calls::Parts;
 use dt_calls_model::{Call, CallState, Posted};
 use dt_flow_model::{Fate, Taken};
+use dt_messages::reversed;
 use dt_units::Flow;
 use dt_world::World;
 

@@ -1,4 +1,4 @@
-//! Which sides must be read behind an event.
+//! Which sides must be read after an event.
 ghost use Rattle.std.specs.Prelude.{◌≡◌};
 ghost use Rattle.dt_world.specs.Worlds.{event_of};
 ghost use Rattle.dt_calls.specs.Dues.{due_after, due_behind};
@@ -6,7 +6,7 @@ ghost use Rattle.dt_calls.specs.Flows.{flows_seen};
 
 use crate::flows::Flows;
 use crate::hearing::Heard;
-use crate::messages::reversed;
+use dt_messages::reversed;
 use dt_units::Flow;
 use dt_world::Event;
 
@@ -20,7 +20,7 @@ pub enum Due {
     All,
 }
 
-/// What must be read behind an event: all where time has passed, and else what it gave.
+/// What must be read after an event: all where time has passed, and else what it gave.
 pub fn due_behind(event: &Event<'_>, flows: &Flows, heard: &Heard) -> Due
     ensures { result ≡ due_behind (event_of event.now) (flows_seen flows.now.entries) heard.now }
 {
@@ -31,7 +31,7 @@ pub fn due_behind(event: &Event<'_>, flows: &Flows, heard: &Heard) -> Due
     }
 }
 
-/// What must be read behind an event in which no time passed: both sides of the flow of which it
+/// What must be read after an event in which no time passed: both sides of the flow of which it
 /// accepted data, if that goes on the way of requests or of replies.
 fn due_after(flows: &Flows, heard: &Heard) -> Due
     ensures { result ≡ due_after (flows_seen flows.now.entries) heard.now }

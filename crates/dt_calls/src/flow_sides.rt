@@ -8,9 +8,8 @@ ghost use Rattle.dt_calls.specs.Flows.{begun_of};
 ghost use Rattle.dt_messages.specs.Joining.{piece_with};
 ghost use Rattle.dt_calls.specs.Sides.{side_seen};
 
-use crate::messages::reversed;
 use dt_items::NoMemory;
-use dt_messages::{Joiner, Marks};
+use dt_messages::{Joiner, Marks, reversed};
 use dt_units::{Flow, NodeId};
 use std::alloc::Global;
 use std::marker::Model;

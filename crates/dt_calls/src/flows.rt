@@ -15,7 +15,6 @@ use dt_messages::Marks;
 use dt_units::{Flow, NodeId};
 use dt_world::Event;
 use indexmap::IndexMap;
-use std::alloc::Global;
 
 /// The flows with a call, in the order of first calls, each with what its sides have begun to read.
 pub type Flows = IndexMap<Flow, FlowSides>;
@@ -37,7 +36,6 @@ pub fn join(
     flows: &mut Flows,
     flow: &Flow,
     side: Side,
-    alloc: Global,
     marks: Marks,
     octets: &[u8],
 ) -> Result<Option<Vec<u8>>, NoMemory>
@@ -47,6 +45,7 @@ pub fn join(
     ensures begun { let before = begun_in flow.now (flows_seen flows.old.entries) in
         IfOk result (λ _. flows_seen flows.new.entries ≡ with_sides_in flow.now (with_begun (side_seen side) (begun_with (begun_at (side_seen side) before) (piece_with marks octets.now)) before) (flows_seen flows.old.entries)) }
 {
+    let alloc = *flows.allocator();
     match flows.get_mut(flow) {
         Some(sides) => sides.join(side, alloc, marks, octets),
         None => unreachable!(),

@@ -11,7 +11,6 @@ mod flow_sides;
 mod flows;
 mod handlers;
 mod hearing;
-mod messages;
 mod reading;
 mod totals;
 mod world_calls;

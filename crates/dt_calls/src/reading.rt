@@ -24,11 +24,11 @@ use crate::flow_sides::Side;
 use crate::flows;
 use crate::handlers::Handler;
 use crate::hearing::Heard;
-use crate::messages::{read_message, reversed, write_message};
 use crate::totals::is_waiting;
 use crate::world_calls::Parts;
 use dt_calls_model::{Call, CallState, Posted};
 use dt_items::NoMemory;
+use dt_messages::{read_message, reversed, write_message};
 use dt_reports::StepFault;
 use dt_units::Flow;
 use dt_world::{Event, World};
@@ -196,7 +196,7 @@ fn join<H>(parts: &mut Parts<H>, flow: &Flow, side: Side) -> Result<Option<Vec<u
     let Some((marks, octets)) = parts.heard.piece() else {
         unreachable!();
     };
-    flows::join(&mut parts.flows, flow, side, parts.alloc, marks, octets)
+    flows::join(&mut parts.flows, flow, side, marks, octets)
 }
 
 /// A whole message of a call of the flow is taken. What a request carries is no longer than a handler takes.

@@ -31,11 +31,11 @@ use crate::dues::{Due, due_behind};
 use crate::flows::{Flows, add_flow, drop_begun};
 use crate::handlers::Handler;
 use crate::hearing::Heard;
-use crate::messages::{reversed, write_message};
 use crate::reading::{post, read_due};
 use crate::totals::{CallTotals, totals_of};
 use dt_calls_model::{Call, CallState, Posted};
 use dt_items::NoMemory;
+use dt_messages::{reversed, write_message};
 use dt_reports::StepFault;
 use dt_units::Flow;
 use dt_world::{Event, World};
@@ -46,7 +46,6 @@ use std::marker::Model;
 /// What the calls of a world are made of.
 #[derive(Drop)]
 pub struct Parts<H> {
-    pub alloc: Global,
     pub world: World,
     pub handler: H,
     /// By their numbers.
@@ -90,7 +89,6 @@ impl<H: Handler> Calls<H> {
     {
         Ok(Calls {
             parts: Parts {
-                alloc,
                 world,
                 handler,
                 calls: Vec::new(alloc),
@@ -379,7 +377,7 @@ fn state_of(request: Posted) -> CallState
     }
 }
 
-/// An event of the world. Answers what must be read behind it.
+/// An event of the world. Answers what must be read after it.
 fn go_on<H>(parts: &mut Parts<H>, event: &Event<'_>) -> Result<Due, StepFault>
     requires whole { IsWhole parts.old }
     requires rest { IsDue due.Nothing parts.old.world.state (flows_seen parts.old.flows.entries) }

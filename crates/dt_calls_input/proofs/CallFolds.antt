@@ -17,8 +17,10 @@ use Rattle.dt_text.specs.declared.stages.Stage.{Stage}
 use Rattle.dt_text.specs.InputLines.{lines_of}
 use Rattle.dt_text.specs.Hexadecimal.{octets_of_hex}
 use Rattle.dt_text.specs.Lines.{line_of}
-use Rattle.dt_text.specs.Said as said
-use Rattle.dt_text.specs.Said.{RunSaid, Said}
+use Rattle.dt_text.specs.declared.lines.Line.TheVariants as said
+use Rattle.dt_text.specs.declared.lines.RunLine.{RunLine}
+use Rattle.dt_text.specs.declared.lines.RunLine.TheVariants as runs
+use Rattle.dt_text.specs.Said.{Said}
 use Rattle.dt_text.specs.Spelling.{IsLine}
 use Rattle.dt_text.specs.Stages.{stage_after}
 use Rattle.dt_fold.specs.Folds.{Folded, Turned, closed, fold_from, fold_on, refused}
@@ -74,7 +76,7 @@ params_turn : (payloads : Payloads) (p : Params) (field : Option Field) → firs
 params_turn payloads p None h none = tells_nothing payloads (Prepares _) (within_limits p h, none)
 params_turn payloads p (Some field) h none = tt
 
--- parameters that come behind `go` are refused
+-- parameters that come after `go` are refused
 params_at : (payloads : Payloads) (scene : Scene Calls) (p : Params) (stage : Stage) → stage_after forms.Calls (stage_of scene) (said.Params p) ≡ Some stage → IsScene payloads scene → Turns payloads (by_params p (first_out_of_range p))
 params_at payloads Empty p stage is h = params_turn payloads p (first_out_of_range p) refl h
 params_at payloads (Prepares setup) p stage is h = params_turn payloads p (first_out_of_range p) refl h.1
@@ -102,7 +104,7 @@ go_turn payloads Empty h = tt
 go_turn payloads (Prepares setup) h = tells_nothing payloads (Runs (new_calls (new_world setup))) (record { facts = new_calls_facts reverse setup h.0; own = none_made payloads setup h.1 })
 go_turn payloads (Runs c) h = tt
 
--- WHAT HAPPENS behind `go`
+-- WHAT HAPPENS after `go`
 outcome_turn : (payloads : Payloads) (c : Calls) (e : CallEvent) (o : Outcome) → AreMadeWith payloads c → Comes reverse c (payloads_in e) o → Turns (payloads ++ payloads_in e) (by_run (by_calls o))
 outcome_turn payloads c e (Faulty fault) own h = tt
 outcome_turn payloads c e (Stepped entries after) own h =
@@ -112,12 +114,12 @@ outcome_turn payloads c e (Stepped entries after) own h =
 event_turn : (payloads : Payloads) (c : Calls) (e : CallEvent) → length payloads < 2 ^ 64 → MayCome e → IsOfLines payloads c → Turns (payloads ++ payloads_in e) (by_run (by_calls (call_step reverse c e)))
 event_turn payloads c e few may h = let many = h.own.count in outcome_turn payloads c e (call_step reverse c e) h.own (step_comes reverse c e h.facts (omega (arith, few, many)) may)
 
-line_turn : (payloads : Payloads) (c : Calls) (line : RunSaid) → length payloads < 2 ^ 64 → IsLineOf simulates_calls line → IsOfLines payloads c → Turns (payloads ++ called_behind line) (by_run (does c line))
-line_turn payloads c (said.World line) few is h = event_turn payloads c (Happens (event_by line)) few (is_quiet line) h
-line_turn payloads c (said.User line) few is h = tt
-line_turn payloads c (said.Call f hex) few is h = event_turn payloads c (Makes f (octets_of_hex hex)) few is.1.0 h
+line_turn : (payloads : Payloads) (c : Calls) (line : RunLine) → length payloads < 2 ^ 64 → IsLineOf simulates_calls line → IsOfLines payloads c → Turns (payloads ++ called_behind line) (by_run (does c line))
+line_turn payloads c (runs.World line) few is h = event_turn payloads c (Happens (event_by line)) few (is_quiet line) h
+line_turn payloads c (runs.User line) few is h = tt
+line_turn payloads c (runs.Call f hex) few is h = event_turn payloads c (Makes f (octets_of_hex hex.now)) few is.1.0 h
 
-happens_turn : (payloads : Payloads) (scene : Scene Calls) (line : RunSaid) → length payloads < 2 ^ 64 → IsLineOf simulates_calls line → IsScene payloads scene → Turns (payloads ++ called_behind line) (happens simulates_calls scene line)
+happens_turn : (payloads : Payloads) (scene : Scene Calls) (line : RunLine) → length payloads < 2 ^ 64 → IsLineOf simulates_calls line → IsScene payloads scene → Turns (payloads ++ called_behind line) (happens simulates_calls scene line)
 happens_turn payloads Empty line few is h = tt
 happens_turn payloads (Prepares setup) line few is h = tt
 happens_turn payloads (Runs c) line few is h = line_turn payloads c line few is h
@@ -144,7 +146,7 @@ module _ (payloads : Payloads) (scene : Scene Calls) (few : length payloads < 2 
   read_turn octets (Err fault) e = tt
   read_turn octets (Ok line) e = allowed_turn line (stage_after forms.Calls (stage_of scene) line) refl (read_line forms.Calls octets line e)
 
--- ALL LINES: what they tell, and the calls that they make. Where a line is refused, those behind it make none.
+-- ALL LINES: what they tell, and the calls that they make. Where a line is refused, those after it make none.
 record HasRead (payloads : Payloads) (f : Folded (Scene Calls)) : Type 0 where
   told : List CallEntry
   last : Last
@@ -196,8 +198,8 @@ read_on payloads called more number scene rest (Ok turned) h t on =
 read_on payloads called more number scene rest (Err fault) h t on = breaks_off payloads (called ++ more) number scene fault h
 
 -- a line makes one call at most
-one_behind : (line : RunSaid) → length (called_behind line) ≤ 1
-one_behind (said.Call f hex) = omega arith
+one_behind : (line : RunLine) → length (called_behind line) ≤ 1
+one_behind (runs.Call f hex) = omega arith
 one_behind _ = omega arith
 
 one_called : (line : Said) → length (called_by line) ≤ 1

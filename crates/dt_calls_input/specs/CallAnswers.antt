@@ -6,8 +6,10 @@ use Rattle.dt_text.specs.declared.lines.Form.TheVariants as forms
 use Rattle.dt_text.specs.Hexadecimal.{octets_of_hex}
 use Rattle.dt_text.specs.InputLines.{lines_of}
 use Rattle.dt_text.specs.Lines.{line_of}
-use Rattle.dt_text.specs.Said as said
-use Rattle.dt_text.specs.Said.{RunSaid, Said}
+use Rattle.dt_text.specs.declared.lines.Line.TheVariants as said
+use Rattle.dt_text.specs.declared.lines.RunLine.{RunLine}
+use Rattle.dt_text.specs.declared.lines.RunLine.TheVariants as runs
+use Rattle.dt_text.specs.Said.{Said}
 use Rattle.dt_fold.specs.Folds.{refusal}
 use Rattle.dt_calls_model.specs.Calls.{Calls}
 use Rattle.dt_calls_model.specs.CallStep.{CallEvent, Stepped, call_step}
@@ -18,10 +20,10 @@ use Rattle.dt_calls_input.specs.CallInputs.{calls_text, last_text}
 use Rattle.dt_calls_input.specs.CallTexts.{entries_text}
 
 -- the octets of a `call` line; other lines have none
-abbrev pub called_behind : RunSaid → List (List ℕ)
-called_behind (said.World line) = []
-called_behind (said.User line) = []
-called_behind (said.Call flow hex) = octets_of_hex hex ∷ []
+abbrev pub called_behind : RunLine → List (List ℕ)
+called_behind (runs.World line) = []
+called_behind (runs.User line) = []
+called_behind (runs.Call flow hex) = octets_of_hex hex.now ∷ []
 
 abbrev pub called_by : Said → List (List ℕ)
 called_by said.Blank = []

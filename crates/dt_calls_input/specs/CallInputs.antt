@@ -6,8 +6,8 @@ use Rattle.dt_reports.specs.declared.reports.Report.TheVariants as reports
 use Rattle.dt_reports.specs.Entries.{Entry}
 use Rattle.dt_log.specs.Logs.{entry_text}
 use Rattle.dt_text.specs.declared.lines.Form.TheVariants as forms
-use Rattle.dt_text.specs.Said as said
-use Rattle.dt_text.specs.Said.{RunSaid}
+use Rattle.dt_text.specs.declared.lines.RunLine.{RunLine}
+use Rattle.dt_text.specs.declared.lines.RunLine.TheVariants as runs
 use Rattle.dt_text.specs.Hexadecimal.{octets_of_hex}
 use Rattle.dt_text.specs.InputLines.{lines_of}
 use Rattle.dt_fold.specs.Folds.{Folded, Turned, fold_from, fold_input}
@@ -22,13 +22,13 @@ abbrev pub by_calls : Outcome → Result (Turned Calls) Fault
 by_calls (Stepped told after) = Ok (record { text = entries_text told; state = after })
 by_calls (Faulty fault) = Err (faults.Step fault)
 
--- WHAT A LINE DOES behind `go`. A call is answered with its payload in reversed order. What the lines of the setup do is in `Scenes` of dt_scenario
-abbrev pub does : Calls → RunSaid → Result (Turned Calls) Fault
-does c (said.World line) = by_calls (call_step reverse c (Happens (event_by line)))
-does c (said.User line) = misplaced
-does c (said.Call flow hex) = by_calls (call_step reverse c (Makes flow (octets_of_hex hex)))
+-- WHAT A LINE DOES after `go`. A call is answered with its payload in reversed order. What the lines of the setup do is in `Scenes` of dt_scenario
+abbrev pub does : Calls → RunLine → Result (Turned Calls) Fault
+does c (runs.World line) = by_calls (call_step reverse c (Happens (event_by line)))
+does c (runs.User line) = misplaced
+does c (runs.Call flow hex) = by_calls (call_step reverse c (Makes flow (octets_of_hex hex.now)))
 
--- behind the last line: the totals of the calls and the end
+-- after the last line: the totals of the calls and the end
 abbrev pub end_entry : Calls → Entry
 end_entry c = record { moment = c.world.now; node = None; told = reports.End }
 

@@ -1,4 +1,4 @@
-//! What the lines of an input of calls do behind `go`.
+//! What the lines of an input of calls do after `go`.
 ghost use Rattle.std.specs.Prelude.{◌≡◌, IfOk};
 ghost use Rattle.dt_edges.specs.Sinks.{Puts};
 ghost use Rattle.dt_world_model.specs.Setup.{new_world};

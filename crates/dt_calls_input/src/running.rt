@@ -14,7 +14,7 @@ use std::alloc::Global;
 
 /// Reads an input of at most 16,777,216 octets: its lines set up a world, calls are made in it and
 /// answered with their payloads in reversed order, and what is told of them is written on `out`,
-/// behind a buffer. The input isn't copied.
+/// after a buffer. The input isn't copied.
 ///
 /// - `Done`: no line is refused, and `out` has all that is told, the totals and the end.
 /// - `Refused`: a line is refused. `out` has what is told up to it, and then its fault.

@@ -11,7 +11,7 @@ length_marked [] begin end = refl
 length_marked (x ∷ []) begin end = refl
 length_marked (x ∷ y ∷ rest) begin end = ap suc (length_marked (y ∷ rest) false end)
 
--- behind the first item of a message none begins one
+-- after the first item of a message none begins one
 none_begins : (m : List ℕ) (end : Bool) (q : ℕ) (rest : List Item) → q < length m → begins_with (drop q (marked m false end false ++ rest)) ≡ false
 none_begins [] end q rest h = absurd (omega arith)
 none_begins (x ∷ []) end zero rest h = refl

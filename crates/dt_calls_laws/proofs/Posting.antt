@@ -1,4 +1,4 @@
--- A message is handed in: it stands behind all that its flow took, or the host refused it.
+-- A message is handed in: it stands after all that its flow took, or the host refused it.
 use Rattle.std.proofs.Common.{ℕ, ◌≡◌, ◌≢◌, ◌==◌, Bool, true, false, List, ◌++◌, length, Some, None, refl, ap, sym, subst}
 use Rattle.std.specs.Prelude.{not}
 use Rattle.dt_items.specs.Unread.{marked}
@@ -25,7 +25,7 @@ use Rattle.dt_calls_laws.proofs.PieceRead.{Goes, clear_of_two, happens_goes, hap
 use Rattle.dt_calls_laws.proofs.Quiet.{send_quiet}
 use Rattle.dt_calls_laws.proofs.Sendings.{send_leaves}
 
--- all flows took what they had taken; or the octets stand behind what this one took
+-- all flows took what they had taken; or the octets stand after what this one took
 pub record NoneTaken (w after : World) : Type 0 where
   pub items : (k : Flow) → items_taken after k ≡ items_taken w k
 

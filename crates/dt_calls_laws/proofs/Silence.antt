@@ -90,7 +90,7 @@ silent_append : (xs ys : List Entry) → AreSilent xs → AreSilent ys → AreSi
 silent_append [] ys h k = k
 silent_append (x ∷ xs) ys h k = (h.0, silent_append xs ys h.1 k)
 
--- the lines of a play are told behind those before it
+-- the lines of a play are told after those before it
 pub record Adds (d after : Noted) : Type 0 where
   pub lines : List Entry
   pub silent : AreSilent lines

@@ -25,7 +25,7 @@ record Tail (life : ℕ) (rows : List Given) : Type 0 where
   pub items : given_in life rows ≡ map given_item_of (drop from rows)
   pub lives : (k : ℕ) → from ≤ k → k < length rows → (given_at rows k).life ≡ life
 
--- behind a row of the last life all are of it
+-- after a row of the last life all are of it
 all_of : (life : ℕ) (rows : List Given) → NeverFall life life (lives_given rows) → given_in life rows ≡ map given_item_of rows
 all_of life [] h = refl
 all_of life (g ∷ gs) h =

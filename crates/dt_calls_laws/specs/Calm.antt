@@ -29,7 +29,7 @@ rows_given w g = (ledger_of w.ledgers g).given
 abbrev pub count_gone : World → Flow → ℕ
 count_gone w g = length (rows_given w g) - length (view w g).unread
 
--- WHAT IS GIVEN is unread behind what was.
+-- WHAT IS GIVEN is unread after what was.
 pub record GivesUnread (w after : World) (g : Flow) : Type 0 where
   pub more : List Given
   pub given : rows_given after g ≡ rows_given w g ++ more

@@ -1,4 +1,4 @@
--- What a send leaves: its octets behind all that its flow took before, or nothing where it was refused.
+-- What a send leaves: its octets after all that its flow took before, or nothing where it was refused.
 use Rattle.std.specs.Prelude.{ℕ, ◌≡◌, Bool, true, false, List, ◌++◌, map}
 use Rattle.dt_items.specs.Unread.{marked}
 use Rattle.dt_units.specs.declared.endpoints.Flow.{Flow}

@@ -7,7 +7,7 @@ use Rattle.dt_world_model.specs.World.{World, placed, view}
 use Rattle.dt_calls_model.specs.Messages.{Piece}
 use Rattle.dt_calls_laws.specs.Calm.{count_gone, rows_given}
 
--- They are the rows behind those that are gone, with their marks, and of the reader's present life.
+-- They are the rows after those that are gone, with their marks, and of the reader's present life.
 pub record UnreadIsTheEnd (w : World) (f : Flow) : Type 0 where
   pub items : (view w f).unread ≡ map given_item_of (drop (count_gone w f) (rows_given w f))
   pub lives : (k : ℕ) → count_gone w f ≤ k → k < length (rows_given w f) → (given_at (rows_given w f) k).life ≡ (placed w f.to.0).life

@@ -16,14 +16,14 @@ ghost use Rattle.dt_calls_laws.specs.Joins.{Joins};
 ghost use Rattle.dt_calls_laws.specs.ReadTold.{piece_of};
 ghost use Rattle.dt_calls_laws.specs.Unread.{UnreadIsTheEnd};
 
-/// What is unread of a flow are the last of its given rows: those behind the rows that are gone. They
+/// What is unread of a flow are the last of its given rows: those after the rows that are gone. They
 /// are all of the reader's present life.
 #[tactic(auto, using(crate::proofs::UnreadEnd::unread_end))]
 pub fn unread_is_the_end_of_what_was_given()
     ensures { (w : World) (f : Flow) → WorldFacts w → UnreadIsTheEnd w f }
 {}
 
-/// What an event gives that is no send, no read and no restart of the flow's reader is unread behind what
+/// What an event gives that is no send, no read and no restart of the flow's reader is unread after what
 /// was; a restart of the reader leaves nothing unread.
 pub fn what_is_given_is_unread()
     ensures given { (w : World) → IsWithinLimits w.params → WorldFacts w → (e : WorldEvent) (g : Flow) → CanHappen e → first_refusal (refusals w e) ≡ None → IsNoSendOrRead e → IsNoRestartOf g.to.0 e → GivesUnread w (after_event w e).1 g }

@@ -97,7 +97,7 @@ pub fn read_keeps_all_octets()
     ensures { (w : World) (f g : Flow) (most : ℕ) (at : Placed) → look ◌==◌ f.to.0 w.stations ≡ Some at → KeepsOctets (ledger_of w.ledgers g) (ledger_of (after_event w (Reads f most)).1.ledgers g) }
 {}
 
-/// A send of the world whose lines tell no refusal takes its octets, with its marks, behind all that its
+/// A send of the world whose lines tell no refusal takes its octets, with its marks, after all that its
 /// flow took before; one that is refused takes none. Nothing else is taken, and nothing given.
 pub fn send_takes_its_octets_or_is_refused()
     ensures { (w : World) (f : Flow) (octets : List ℕ) (begin end : Bool) (at : Placed) → look ◌==◌ f.from.0 w.stations ≡ Some at → let r = after_event w (Sends f octets begin end) in SendLeaves (tells_refusal r.0) f octets begin end w.ledgers r.1.ledgers }

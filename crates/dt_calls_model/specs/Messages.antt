@@ -28,11 +28,11 @@ pub record Piece : Type 0 where
   pub end : Bool
   pub octets : List ℕ
 
--- A MESSAGE IS WHOLE from a begin mark to the next end mark, where no octet but its first has a run mark. What was read of one that isn't whole yet waits for the next piece. A begin mark begins a message anew, and behind a run mark the octets before it are no part of any.
+-- A MESSAGE IS WHOLE from a begin mark to the next end mark, where no octet but its first has a run mark. What was read of one that isn't whole yet waits for the next piece. A begin mark begins a message anew, and after a run mark the octets before it are no part of any.
 abbrev pub joined : Option (List ℕ) → Piece → Option (List ℕ)
 joined begun p = if p.begin then Some p.octets else (if p.run then None else option_map (λ before. before ++ p.octets) begun)
 
--- the message that a piece makes whole, and what waits behind it
+-- the message that a piece makes whole, and what waits after it
 abbrev pub whole_with : Option (List ℕ) → Piece → Option (List ℕ)
 whole_with begun p = if p.end then joined begun p else None
 

@@ -27,7 +27,7 @@ say line c = record c { told = c.told ++ (record { moment = c.calls.world.now; t
 abbrev pub happens : WorldEvent → World → List Entry × World
 happens e w = run (e ∷ []) w
 
--- A MESSAGE IS HANDED IN, with begin and end. Its octets stand behind all that the flow took before.
+-- A MESSAGE IS HANDED IN, with begin and end. Its octets stand after all that the flow took before.
 abbrev pub posted_in : ℕ → ℕ → List Entry → Posted
 posted_in place count lines = if tells_refusal lines then Refused else Taken place count
 

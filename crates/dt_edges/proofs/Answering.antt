@@ -34,7 +34,7 @@ entry_of : (octets : List ℕ) (entry : Option (Option Span)) → option_and_the
 entry_of octets None = refl
 entry_of octets (Some e) = refl
 
--- the entry behind those that were used, seen as a datagram
+-- the entry after those that were used, seen as a datagram
 entry_seen : (octets : List ℕ) (entries : List (Option Span)) (used : ℕ) → entry_at (map (option_map (datagram_at octets)) entries) used ≡ option_map (datagram_at octets) (option_and_then (λ entry. entry) (slice_get entries used))
 entry_seen octets entries used =
     ap (option_and_then (λ entry. entry)) (slice_get-map (option_map (datagram_at octets)) entries used) ∙ entry_of octets (slice_get entries used)

@@ -1,4 +1,4 @@
--- Datagrams among others, when more octets come behind them.
+-- Datagrams among others, when more octets come after them.
 use Rattle.std.proofs.Common.{◌≡◌, ℕ, ◌+◌, ◌-◌, ◌≤◌, List, [], ◌∷◌, ◌++◌, length, map, take, drop, slice_range, Option, Some, None, refl, ap, ◌∙◌, arith, zero-add, length-drop, take_all}
 use Rattle.std.proofs.lemmas.List.{take-append-le, drop-append-le}
 use Rattle.std.proofs.Math.Seq.{drop-append_seam}
@@ -29,7 +29,7 @@ range_last octets more =
     ap (take (length octets + length more - length octets)) (drop-append_seam octets more)
     ∙ take_all (length octets + length more - length octets) more (omega arith)
 
--- all of the datagrams stay the same, when more octets come behind them
+-- all of the datagrams stay the same, when more octets come after them
 pub datagrams_same : (octets more : List ℕ) (spans : List Span) → All (IsWithin (length octets)) spans → map (datagram_at (octets ++ more)) spans ≡ map (datagram_at octets) spans
 datagrams_same octets more [] w = refl
 datagrams_same octets more (s ∷ ss) w =
@@ -61,7 +61,7 @@ pub datagram_last : (link : ℕ) (octets more now : List ℕ) (start end : ℕ) 
 datagram_last link octets more now start end s e n =
     rw (s, e, n) (ap (λ (xs : List ℕ). (let d : Datagram = record { link = link; octets = xs } in d)) (range_last octets more))
 
--- one more datagram behind the others
+-- one more datagram after the others
 pub datagrams_more : (link : ℕ) (octets more now : List ℕ) (spans : List Span) (start end : ℕ) → start ≡ length octets → end ≡ length octets + length more → now ≡ octets ++ more → All (IsWithin (length octets)) spans
     → map (datagram_at now) (spans ++ (record { link = link; start = start; end = end }) ∷ []) ≡ map (datagram_at octets) spans ++ (record { link = link; octets = more }) ∷ []
 datagrams_more link octets more now spans start end s e n w =
@@ -73,12 +73,12 @@ datagrams_more link octets more now spans start end s e n w =
 pub octets_in_more : (ds : List Datagram) (d : Datagram) → octets_in (ds ++ d ∷ []) ≡ octets_in ds + length d.octets
 octets_in_more ds d = sum_by-append (λ (x : Datagram). length x.octets) ds (d ∷ []) ∙ ap (λ n. octets_in ds + n) (zero-add (length d.octets))
 
--- one more place behind the others
+-- one more place after the others
 pub within_more : (spans : List Span) (last : Span) (n m : ℕ) → n ≤ m → All (IsWithin n) spans → IsWithin m last → All (IsWithin m) (spans ++ last ∷ [])
 within_more spans last n m le w l =
     All-append (IsWithin m) spans (last ∷ []) (λ k d h. record { ordered = (w k d h).ordered; within = omega (arith, (w k d h).within) }) (All-cons (IsWithin m) last [] l (All-nil (IsWithin m)))
 
--- one more entry behind the others, whose octets came last
+-- one more entry after the others, whose octets came last
 pub entries_with : (link : ℕ) (octets more now : List ℕ) (entries : List (Option Span)) (start end : ℕ) → start ≡ length octets → end ≡ length octets + length more → now ≡ octets ++ more → All (IsEntry (length octets)) entries
     → map (option_map (datagram_at now)) (entries ++ Some (record { link = link; start = start; end = end }) ∷ []) ≡ map (option_map (datagram_at octets)) entries ++ Some (record { link = link; octets = more }) ∷ []
 entries_with link octets more now entries start end s e n w =

@@ -15,11 +15,11 @@ pub record SinkSight : Type 0 where
   -- which sink it is: the names of the loans that it passes its octets on through
   pub identity : List GName
 
--- Octets that are told stay, and others may stand behind them.
+-- Octets that are told stay, and others may stand after them.
 abbrev pub Grows : Option (List ℕ) → Option (List ℕ) → Type 0
 Grows before after = (part : List ℕ) × Appends before after part
 
--- The sink took these octets: they stand behind those that it held, where it told them. What had reached
+-- The sink took these octets: they stand after those that it held, where it told them. What had reached
 -- its end stays there, and nothing else changed.
 pub record Takes (octets : List ℕ) (before after : SinkSight) : Type 0 where
   pub held : Appends before.held after.held octets

@@ -15,7 +15,7 @@ pub trait Source {
     /// Hands over the next octets that are left, at most as many as the buffer holds, and says how
     /// many; they stand first in the buffer. `Ok(0)` is the end of input. An `Err` comes only where
     /// the count of faults rose in this call, and loses nothing that was left. What stands in the
-    /// buffer behind the octets that were handed over, or at an `Err`, is open.
+    /// buffer after the octets that were handed over, or at an `Err`, is open.
     fn take(&mut self, buf: &mut [u8]) -> Result<usize, Failed>
         requires { 0 < length buf.old }
         ensures within { IfOk result (λ n. n ≤ length buf.old) }

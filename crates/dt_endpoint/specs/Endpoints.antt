@@ -87,7 +87,7 @@ wake_unless false wake = wake
 abbrev pub endpoint_wake : EndpointValue → Option ℕ
 endpoint_wake e = wake_unless e.spent (station_wake e.rules e.state)
 
--- one route more, behind the others
+-- one route more, after the others
 abbrev pub with_route : Route → EndpointValue → EndpointValue
 with_route route e = record e { state = station_with e.state.host (ways.with_route route e.state.relay) }
 

@@ -255,7 +255,7 @@ impl Endpoint {
 
     /// Unread octets of a flow from another node to this one are read, at most as many as the buffer
     /// holds. They are of one message, and none between them is lost: where octets before them are, or may
-    /// be, the piece has a run mark. Behind them the buffer may have been written to.
+    /// be, the piece has a run mark. After them the buffer may have been written to.
     pub fn read(&mut self, now: u64, flow: Flow, buf: &mut [u8]) -> Piece
         ensures { Reads result now flow (length buf.old) buf.new self.old self.new }
     {

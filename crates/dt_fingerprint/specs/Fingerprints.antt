@@ -5,7 +5,7 @@ use Rattle.byteorder.specs.Endian.{big_number}
 use Rattle.sha2.specs.Sha256.{sha256}
 use Rattle.dt_units.specs.declared.parameters.Params.{Params}
 
--- octets with numbers behind them, each written as four, the greatest first
+-- octets with numbers after them, each written as four, the greatest first
 unfoldable pub with_numbers : List ℕ → List ℕ → List ℕ
 with_numbers octets [] = octets
 with_numbers octets (n ∷ numbers) = with_numbers (octets ++ to_be_bytes w32 n) numbers

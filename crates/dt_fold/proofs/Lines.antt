@@ -71,7 +71,7 @@ module _ {K S : Type 0} (sight : K → SinkSight) (turns : Turns S) where
       within (Ok u) h = stops_more stop u.text (fold_from turns (suc number) u.state lines).text (sight old) (sight new) h
       within (Err fault) h = stops_more stop [] (refusal number fault) (sight old) (sight new) h
 
-  -- behind the last line: the end is logged, the input is refused, or it stops
+  -- after the last line: the end is logged, the input is refused, or it stops
   end_logged : {all : Folded S} {start : SinkSight} (number : ℕ) (state : S) (old new : K) (r : Result (List ℕ) Fault) → GoesOn all (closed number state r) start (sight old) → Closes sight r (Ok None) old new
       → (all.accepted ≡ true) × (all.state ≡ state) × Takes all.text start (sight new)
   end_logged number state old new (Err fault) g t = absurd t

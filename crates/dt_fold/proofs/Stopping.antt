@@ -17,7 +17,7 @@ pub stops_more : (stop : Stop) (xs ys : List ℕ) (a b : SinkSight) → StopsIn 
 stops_more stops.NoMemory xs ys a b h = (min h.0 (length xs), takes_as (take h.0 xs) (take (min h.0 (length xs)) (xs ++ ys)) a b (first_of xs ys h.0) h.1)
 stops_more stops.WriteFault xs ys a b h = takes_part_first xs ys a b h
 
--- It stops behind what was put before.
+-- It stops after what was put before.
 pub stops_after : (stop : Stop) (xs ys : List ℕ) (a b c : SinkSight) → Takes xs a b → StopsIn ys stop b c → StopsIn (xs ++ ys) stop a c
 stops_after stops.NoMemory xs ys a b c t h = (length xs + h.0, takes_as (xs ++ take h.0 ys) (take (length xs + h.0) (xs ++ ys)) a c (sym (take-append-add xs ys h.0)) (takes_then xs (take h.0 ys) a b c t h.1))
 stops_after stops.WriteFault xs ys a b c t h = takes_part_then xs ys a b c t h

@@ -11,7 +11,7 @@ pub record Turned (S : Type 0) : Type 0 where
   pub text : List ℕ
   pub state : S
 
--- What the lines of an input do: what a line turns a state into, or why it is refused; and what is logged behind the last line, or which fault it is that the input ends there.
+-- What the lines of an input do: what a line turns a state into, or why it is refused; and what is logged after the last line, or which fault it is that the input ends there.
 pub record Turns (S : Type 0) : Type 0 where
   pub turn : S → List ℕ → Result (Turned S) Fault
   pub close : S → Result (List ℕ) Fault
@@ -32,7 +32,7 @@ refusal number fault = entry_text (refusal_entry number fault)
 abbrev pub refused : {S : Type 0} → ℕ → S → Fault → Folded S
 refused number state fault = record { text = refusal number fault; state = state; accepted = false }
 
--- behind the last line: the number is that of the line that doesn't come
+-- after the last line: the number is that of the line that doesn't come
 abbrev pub closed : {S : Type 0} → ℕ → S → Result (List ℕ) Fault → Folded S
 closed number state (Ok text) = record { text = text; state = state; accepted = true }
 closed number state (Err fault) = refused number state fault

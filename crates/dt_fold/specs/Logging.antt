@@ -29,12 +29,12 @@ TurnsTo sight turn (Ok None) before after old new = IsOkAnd turn (λ t. (t.state
 TurnsTo sight turn (Ok (Some fault)) before after old new = (turn ≡ Err fault) × (after ≡ before) × (sight new ≡ sight old)
 TurnsTo sight turn (Err stop) before after old new = StopsIn (text_by turn) stop (sight old) (sight new)
 
--- what is logged behind the last line
+-- what is logged after the last line
 abbrev pub text_behind : Result (List ℕ) Fault → List ℕ
 text_behind (Ok text) = text
 text_behind (Err fault) = []
 
--- An input that ends here is closed, and what stands behind it is logged; or it is refused for its fault.
+-- An input that ends here is closed, and what stands after it is logged; or it is refused for its fault.
 abbrev pub Closes : {K : Type 0} → (K → SinkSight) → Result (List ℕ) Fault → Result (Option Fault) Stop → K → K → Type 0
 Closes sight close (Ok None) old new = IsOkAnd close (λ text. Takes text (sight old) (sight new))
 Closes sight close (Ok (Some fault)) old new = (close ≡ Err fault) × (sight new ≡ sight old)

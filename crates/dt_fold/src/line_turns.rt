@@ -19,7 +19,7 @@ pub trait LineTurns {
     fn turn<K: Sink>(&mut self, line: &[u8], out: &mut K) -> Result<Option<Fault>, Stop>
         ensures { TurnsTo K.sight (turns.turn (state self.old) line.now) result (state self.old) (state self.new) out.old out.new };
 
-    /// Logs what stands behind the last line, or says which fault it is that the input ends here.
+    /// Logs what stands after the last line, or says which fault it is that the input ends here.
     fn close<K: Sink>(&self, out: &mut K) -> Result<Option<Fault>, Stop>
         ensures { Closes K.sight (turns.close (state self.now)) result out.old out.new };
 }

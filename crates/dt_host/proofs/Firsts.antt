@@ -71,18 +71,12 @@ module _ {A B N : Type 0} (seen : A → B) (P : B → N → Type 0) where
       first_note None e = absurd (none_some m (sym (ap (option_and_then noted) e) ∙ first.there))
       first_note (Some n) e = (n, e, sym (ap (option_and_then noted) e) ∙ first.there)
 
-      pub note_at_first : (n : N) × (slice_get ns index ≡ Some n) × (noted n ≡ Some m)
-      note_at_first = first_note (slice_get ns index) refl
-
       -- the entry of the first
       pub first_entry : (e : Flow × A) × (slice_get es index ≡ Some e) × (n : N) × P (seen e.1) n × (noted n ≡ Some m)
       first_entry =
           let n = first_note (slice_get ns index) refl in
           let e = entry_there es ns all index n.0 n.1 in
           (e.0, e.1, n.0, e.2, n.2)
-
-      pub stands_there : slice_get es index ≡ None → ⊥
-      stands_there none = none_some first_entry.0 (sym none ∙ first_entry.1)
 
 -- SENDERS
 pub send_later : (p : Params) (now : ℕ) (kind : SendKind) (s : SenderValue) (n : SendNote) → IsSendNoted p now s.state n → (m : ℕ) → sender_moment p now kind s ≡ Some m → (v : ℕ) × (send_moment n.moments kind ≡ Some v) × (v ≤ m)
@@ -102,6 +96,3 @@ send_exact p now Meet s n other is m e = sym (ap (λ (k : SendMoments). k.meet) 
 
 pub recv_exact : (p : Params) (kind : RecvKind) (r : ReceiverValue) (n : RecvMoments) → IsRecvNoted p r.state n → recv_moment n kind ≡ receiver_moment p kind r
 recv_exact p kind r n is = ap (λ (k : RecvMoments). recv_moment k kind) is
-
-pub recv_later : (p : Params) (kind : RecvKind) (r : ReceiverValue) (n : RecvMoments) → IsRecvNoted p r.state n → (m : ℕ) → receiver_moment p kind r ≡ Some m → (v : ℕ) × (recv_moment n kind ≡ Some v) × (v ≤ m)
-recv_later p kind r n is m e = (m, recv_exact p kind r n is ∙ e, omega arith)

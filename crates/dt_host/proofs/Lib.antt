@@ -1,11 +1,13 @@
 pub mod Somes
 pub mod Standing
 pub mod Slots
+pub mod Agendas
+pub mod Tables
+pub mod Closing
 pub mod SendSides
 pub mod RecvSides
 pub mod Arrivals
 pub mod Entries
-pub mod Flows
 pub mod HostParts
 pub mod NextTurns
 pub mod RecvTurns

@@ -1,42 +1,48 @@
 -- The receivers of a host after a change of one.
-use Rattle.std.proofs.Common.{ℕ, suc, ◌≡◌, ◌≢◌, ◌+◌, ◌<◌, ◌≤◌, List, [], ◌∷◌, ◌++◌, length, length-append, length-take, set, take, Option, Some, None, inl, inr, refl, sym, ap, subst, ◌∙◌, arith}
-use Rattle.std.specs.Prelude.{slice_index_or}
+use Rattle.std.proofs.Common.{ℕ, Bool, ◌≡◌, ◌≢◌, ◌<◌, ◌≤◌, ◌++◌, List, [], ◌∷◌, length, set, Option, Some, None, refl, sym, ap, subst, ◌∙◌, arith}
+use Rattle.std.specs.Prelude.{Err, drop, IfSome, Result, slice_index_or, unwrap_or}
 use Rattle.std.specs.Map.{lookup, remove_entry, set_value}
-use Rattle.std.proofs.lemmas.Bool.{cases_eq, cases_lt}
-use Rattle.std.proofs.lemmas.List.{get_or-take, get_or_past, length-set}
 use Rattle.dt_units.specs.declared.endpoints.Flow.{Flow}
 use Rattle.dt_units.specs.declared.parameters.Params.{Params}
-use Rattle.dt_recv.specs.Receivers.{ReceiverValue}
-use Rattle.dt_world_model.specs.Tables.{look, same_flow}
-use Rattle.dt_host.specs.Agendas.{HasRecvRoom, RecvTables, no_recv_note, recv_note}
-use Rattle.dt_host.specs.Hosts.{AreReceiveEntries, IsReceiveEntry, receiver_in, receivers_of}
-use Rattle.dt_host.specs.Notes.{AreNoted, IsRecvNoted, recv_noted}
-use Rattle.dt_host.specs.Places.{IsNotedAt, StandOnce, equal_flows, place_in, present, slot}
-use Rattle.dt_host.specs.Sides.{IsRecvKept, IsRecvSide, RecvSideValue}
-use Rattle.dt_timers.specs.Deadlines.{HasNoMoment, IsFirst}
-use Rattle.dt_world_model.specs.Tables.{Distinct, earliest}
-use Rattle.dt_host.specs.Soonest.{IsQuiet, IsSoonest, receiver_moment}
-use Rattle.dt_host.specs.declared.dues.DueKind.TheVariants as due
-use Rattle.dt_flow_model.specs.declared.moments.RecvMoments.{RecvMoments}
+use Rattle.indexmap.specs.IndexMap.{insert_entry}
+use Rattle.dt_items.specs.declared.item.Item.{Item}
+use Rattle.dt_flow_model.specs.declared.arrivals.Action.TheVariants.{Make}
+use Rattle.dt_items.specs.declared.piece.Piece.{Piece}
+use Rattle.dt_items.specs.Unread.{first_piece, octets_of, piece_told}
+use Rattle.dt_flow_model.specs.declared.acts.RecvAct.{RecvAct}
 use Rattle.dt_flow_model.specs.declared.acts.RecvKind.{RecvKind}
 use Rattle.dt_flow_model.specs.declared.acts.RecvKind.TheVariants.{Release, Ack}
-use Rattle.dt_flow_model.specs.ReceiveRecord.{ReceiveRecord, Receiver, recv_moment, recv_wake_of}
+use Rattle.dt_flow_model.specs.declared.moments.RecvMoments.{RecvMoments}
+use Rattle.dt_flow_model.specs.ReceiveRecord.{ReceiveRecord, Receiver, action_on, after_data, after_read, answer_to_data, after_recv_act, recv_due_of, recv_moment, recv_told_of, recv_wake_of}
 use Rattle.dt_flow_model.specs.SendActs.{earlier}
-use Rattle.dt_host.specs.Agendas.{IsFirstIn, recv_moment_at}
+use Rattle.dt_flow_model.specs.declared.arrivals.Arrived.{Arrived}
+use Rattle.dt_flow_model.specs.Frames.{recv_frame, reply_frame}
+use Rattle.dt_layout.specs.Carried.{IsGram}
+use Rattle.dt_recv.specs.Receivers.{ReceiverValue}
+use Rattle.dt_timers.specs.Deadlines.{HasNoMoment, IsFirst}
+use Rattle.dt_world_model.specs.Host.{Host, host_with_receiver, no_receiver, read_octets}
+use Rattle.dt_world_model.specs.Tables.{earliest, look, same_flow}
+use Rattle.dt_host.specs.declared.dues.DueKind.TheVariants as due
+use Rattle.dt_host.specs.Agendas.{HasRoom, IsFirstIn, Note, Tables, moment_of_kind, no_note, note_at, note_of_recv, recv_kinds, recv_note_in, recv_place}
+use Rattle.dt_items.specs.declared.memory.NoMemory.{NoMemory}
+use Rattle.dt_host.specs.Answers.{IsDataTaken, or_stays}
 use Rattle.dt_host.specs.Dues.{HasRecvDue}
-use Rattle.dt_host.proofs.Firsts.{quiet_first, quiet_none, recv_exact, recv_later, soonest_of}
-use Rattle.dt_host.proofs.RecvTurns.{IsIdle, IsKept, busy_stays, receiver_of}
+use Rattle.dt_host.specs.Hosts.{AreReceiveEntries, IsReceiveEntry, receiver_in, receivers_of}
+use Rattle.dt_host.specs.Notes.{AreNoted, IsRecvNoted, recv_noted}
+use Rattle.dt_host.specs.Places.{equal_flows, present, slot}
+use Rattle.dt_host.specs.Sides.{IsRecvKept, IsRecvSide, RecvSideValue}
+use Rattle.dt_host.specs.Soonest.{IsQuiet, IsSoonest, receiver_moment}
+use Rattle.dt_host.specs.Tables.{IsPlaced, Slots, rows}
+use Rattle.dt_host.proofs.Firsts.{quiet_first, quiet_none, recv_exact, soonest_of}
+use Rattle.dt_host.proofs.RecvTurns.{IsIdle, IsKept, acted, answered, busy_stays, due_is, entry_is, gone as goes_idle, kept_made, look_none, made, made_with, nothing, read_from, read_moved, read_none, read_some, receiver_found, receiver_of, recv_told, stands_is, stayed, stepped, taken_is, unread_same, value_is, with_receivers}
 use Rattle.dt_host.proofs.Rows.{earliest_of_both, none_earliest, some_earliest}
-use Rattle.dt_host.proofs.Somes.{some_none}
-use Rattle.indexmap.specs.IndexMap.{insert_entry}
-use Rattle.dt_host.proofs.Standing.{place_same, moved_to, one_empty, present_same, slot_here, slot_there, slot_within}
-use Rattle.dt_host.proofs.Slots.{as_many_owners, owner_at, owners, absent, added, distinct, owner, entry_there, first_in, none_in, noted_at, rank, read_any, stands_first}
-use Rattle.dt_host.proofs.Slots.{all_entries, are_noted, entries_left, entries_set, its_found, its_note, its_within, kept_left, kept_on, kept_same, kept_set, never_none, not_found, notes_in, once_here, place_is}
+use Rattle.dt_host.proofs.Slots.{all_entries, are_noted, entry_there, none_in, notes_in, rank}
+use Rattle.dt_host.proofs.Tables.{Read, Written, first_kept, first_noted, first_slot, found_there, gone, row_of, rows_kept, rows_more, table_left, table_same, table_set, written}
 
 abbrev pub Places : Type 0
-Places = List (Option (Flow × ReceiverValue))
+Places = Slots ReceiverValue
 
--- the senders as their callers see them
+-- the receivers as their callers see them
 abbrev pub seen : Params → ℕ → Places → RecvSideValue
 seen p latest os = record { rules = p; latest = latest; entries = present os }
 
@@ -44,325 +50,102 @@ seen p latest os = record { rules = p; latest = latest; entries = present os }
 abbrev pub HasDueIn : Flow → RecvSideValue → Type 0
 HasDueIn f v = (r : Receiver) × (y : ReceiveRecord) × (kind : RecvKind) × (moment : ℕ) × HasRecvDue v.rules v.latest (look same_flow f (receivers_of v.entries)) r y kind moment
 
-room_within : (count i : ℕ) (t : RecvTables) → HasRecvRoom count t → i < count → HasRecvRoom (suc i) t
-room_within count i t room less =
-    let a = room.release in
-    let b = room.ack in
-    record { release = omega arith; ack = omega arith }
+-- a kind's moment, by its place in a note
+kind_is : (kind : RecvKind) (n : Note) → recv_moment (recv_note_in n) kind ≡ slot n (recv_place kind)
+kind_is Release n = refl
+kind_is Ack n = refl
 
-module _ (p : Params) (latest : ℕ) (flows : List (Option Flow)) (os : Places) (t : RecvTables) (side : IsRecvSide p latest flows os t) where
-  abbrev Kept : Flow → ReceiverValue → RecvMoments → Type 0
+pub no_moment : (kind : RecvKind) → slot (no_note recv_kinds) (recv_place kind) ≡ None
+no_moment Release = refl
+no_moment Ack = refl
+
+pub place_less : (kind : RecvKind) → recv_place kind < recv_kinds
+place_less Release = omega arith
+place_less Ack = omega arith
+
+-- a receiver is noted as it stands
+now_noted : (p : Params) (f : Flow) (u : ReceiverValue) (n : Note) → IsReceiveEntry p f u → n ≡ note_of_recv (recv_noted u.rules u.state) → IsRecvKept p f u n
+now_noted p f u n entry e = record { entry = entry; noted = ap recv_note_in e ∙ same (recv_noted u.rules u.state) ∙ ap (λ (q : Params). recv_noted q u.state) entry.rules }
+  where
+    same : (m : RecvMoments) → recv_note_in (note_of_recv m) ≡ m
+    same m = refl
+
+module _ (p : Params) (latest : ℕ) (flows : List (Option Flow)) (os : Places) (t : Tables) (side : IsRecvSide p latest flows os t) where
+  abbrev Kept : Flow → ReceiverValue → Note → Type 0
   Kept = IsRecvKept p
 
+  abbrev NotedAs : Receiver → Note → Type 0
+  NotedAs r n = IsRecvNoted p r (recv_note_in n)
+
   pub all_recv : AreReceiveEntries p (present os)
-  all_recv = all_entries Kept no_recv_note (IsReceiveEntry p) (λ f s n is. is.entry) os (recv_note t) side.kept.noted
+  all_recv = all_entries Kept (no_note recv_kinds) (IsReceiveEntry p) (λ f s n is. is.entry) os (note_at t) side.table.kept.noted
 
-  pub are_recv_noted : AreNoted (IsRecvNoted p) (receivers_of (present os)) (notes_in os (recv_note t))
-  are_recv_noted = are_noted Kept no_recv_note receiver_in (IsRecvNoted p) (λ f s n is. is.noted) os (recv_note t) side.kept.noted
+  are_noted_as : AreNoted NotedAs (receivers_of (present os)) (notes_in os (note_at t))
+  are_noted_as = are_noted Kept (no_note recv_kinds) receiver_in NotedAs (λ f s n is. is.noted) os (note_at t) side.table.kept.noted
 
-  -- as many flows have a place as stand
-  pub as_many_recv : length (present flows) ≡ length (present os)
-  as_many_recv = ap (λ (l : List Flow). length l) (present_same flows (owners os) (λ i. side.kept.named i ∙ sym (owner_at os i))) ∙ as_many_owners os
+  -- A RECEIVER THAT IS READ
+  module _ (f : Flow) (i : ℕ) (at : Read flows os f i) (u : ReceiverValue) where
+    -- nothing changed
+    pub same_side : u ≡ at.value → IsRecvSide p latest flows (Written os i at.owner u) t
+    same_side same = record { reached = side.reached; table = table_same Kept recv_kinds flows os t side.table f i at u same }
 
-  pub distinct_recv : StandOnce flows → Distinct same_flow (receivers_of (present os))
-  distinct_recv once = distinct receiver_in os (once_here Kept no_recv_note flows os (recv_note t) side.kept once)
+    -- it stands, with its note
+    pub side_set : IsReceiveEntry p f u → (new : Tables) (n : Note) → (length n ≡ length t → note_at new i ≡ n) → n ≡ note_of_recv (recv_noted u.rules u.state) → ((j : ℕ) → j ≢ i → note_at new j ≡ note_at t j) → ((count : ℕ) → HasRoom count t → HasRoom count new) → IsRecvSide p latest flows (Written os i at.owner u) new
+    side_set entry new n given here others room = record { reached = side.reached; table = table_set Kept recv_kinds flows os t side.table f i at u new (now_noted p f u (note_at new i) entry (given (ap (λ (m : Note). length m) here ∙ sym side.table.counted) ∙ here)) others room }
 
-  pub none_there : (f : Flow) → None ≡ place_in f flows → lookup (equal_flows f) (present os) ≡ None
-  none_there f e = not_found f os (sym (place_is Kept no_recv_note flows os (recv_note t) side.kept f) ∙ sym e)
+    -- it goes, with its note
+    pub side_left : (more : List (Option Flow)) (ps : Places) (new : Tables) → IsPlaced (length t) more ps new → ps ≡ set (Written os i at.owner u) i None → ((j : ℕ) → j ≢ i → note_at new j ≡ note_at t j) → IsRecvSide p latest more ps new
+    side_left more ps new after e others = record { reached = side.reached; table = table_left Kept recv_kinds flows os t side.table f i at u more ps new after e others }
 
-  module _ (once : StandOnce flows) (f : Flow) (i : ℕ) (at : Some i ≡ place_in f flows) where
-    pub place_within : i < length os
-    place_within = its_within Kept no_recv_note flows os (recv_note t) side.kept once f i at
+  -- A RECEIVER IS ADDED, or none is
+  module _ (more : List (Option Flow)) (ps : Places) (new : Tables) (after : IsPlaced (length t) more ps new) where
+    pub side_kept : rows ps (note_at new) ≡ rows os (note_at t) → IsRecvSide p latest more ps new
+    side_kept e = record { reached = side.reached; table = rows_kept Kept recv_kinds flows os t side.table more ps new after e }
 
-    pub place_room : HasRecvRoom (suc i) t
-    place_room = room_within (length os) i t side.room place_within
-
-    module _ (r : Option (Flow × ReceiverValue)) (v : r ≡ slice_index_or os i r) where
-      pub never_empty : r ≡ None → ⊥
-      never_empty = never_none Kept no_recv_note flows os (recv_note t) side.kept once f i at r v
-
-      module _ (g : Flow) (s : ReceiverValue) (is : r ≡ Some (g, s)) where
-        pub found_there : lookup (equal_flows f) (present os) ≡ Some s
-        found_there = its_found Kept no_recv_note flows os (recv_note t) side.kept once f i at r v g s is
-
-        module _ (u : ReceiverValue) where
-          pub written : present (set os i (Some (g, u))) ≡ set_value (equal_flows f) (present os) u
-          written = entries_set Kept no_recv_note flows os (recv_note t) side.kept once f i at r v g s is u
-
-          pub gone : present (set (set os i (Some (g, u))) i None) ≡ remove_entry (equal_flows f) (set_value (equal_flows f) (present os) u)
-          gone = entries_left Kept no_recv_note flows os (recv_note t) side.kept once f i at r v g s is u
-
-          -- nothing changed
-          pub same_side : u ≡ s → IsRecvSide p latest flows (set os i (Some (g, u))) t
-          same_side same =
-              let long = length-set os i (Some (g, u)) in
-              record {
-                reached = side.reached;
-                long = (let l = side.long in omega arith);
-                room = subst (λ (n : ℕ). HasRecvRoom n t) (sym long) side.room;
-                kept = kept_on Kept no_recv_note flows os (recv_note t) side.kept once f i at r v g s is u (recv_note t) (subst (λ (w : ReceiverValue). Kept f w (recv_note t i)) (sym same) (its_note Kept no_recv_note flows os (recv_note t) side.kept once f i at r v g s is)) (λ j apart. refl);
-              }
-
-          -- it stands, with its note
-          pub side_set : IsReceiveEntry p f u → (new : RecvTables) → recv_note new i ≡ recv_noted u.rules u.state → ((j : ℕ) → j ≢ i → recv_note new j ≡ recv_note t j) → ((count : ℕ) → HasRecvRoom count t → HasRecvRoom count new) → IsRecvSide p latest flows (set os i (Some (g, u))) new
-          side_set entry new here others room =
-              let long = length-set os i (Some (g, u)) in
-              record {
-                reached = side.reached;
-                long = (let l = side.long in omega arith);
-                room = subst (λ (n : ℕ). HasRecvRoom n new) (sym long) (room (length os) side.room);
-                kept = kept_on Kept no_recv_note flows os (recv_note t) side.kept once f i at r v g s is u (recv_note new) (record { entry = entry; noted = here ∙ ap (λ (q : Params). recv_noted q u.state) entry.rules }) others;
-              }
-
-          -- it goes, with its note
-          pub side_left : (more : List (Option Flow)) → more ≡ set flows i None → (new : RecvTables) → recv_note new i ≡ no_recv_note → ((j : ℕ) → j ≢ i → recv_note new j ≡ recv_note t j) → ((count : ℕ) → HasRecvRoom count t → HasRecvRoom count new) → IsRecvSide p latest more (set (set os i (Some (g, u))) i None) new
-          side_left more e new here others room =
-              let one = length-set os i (Some (g, u)) in
-              let two = length-set (set os i (Some (g, u))) i None in
-              let fewer = ap (λ (fs : List (Option Flow)). length fs) e ∙ length-set flows i None in
-              let inside = place_within in
-              record {
-                reached = side.reached;
-                long = (let l = side.long in omega arith);
-                room = subst (λ (n : ℕ). HasRecvRoom n new) (sym (two ∙ one)) (room (length os) side.room);
-                kept = kept_left Kept no_recv_note flows os (recv_note t) side.kept once f i at r v g s is u more (recv_note new) e (let l = side.long in omega arith) here others;
-              }
+    pub side_more : (f : Flow) (u : ReceiverValue) (n : Note) → rows ps (note_at new) ≡ rows os (note_at t) ++ row_of (f, u) n ∷ [] → IsReceiveEntry p f u → n ≡ note_of_recv (recv_noted u.rules u.state) → IsRecvSide p latest more ps new
+    side_more f u n e entry is = record { reached = side.reached; table = rows_more Kept recv_kinds flows os t side.table more ps new after f u n e (now_noted p f u n entry is) }
 
   -- THE FIRST of a kind, by places, is the first of the notes
   module _ (kind : RecvKind) where
-    abbrev Noted : RecvMoments → Option ℕ
-    Noted n = recv_moment n kind
+    abbrev Moment : Note → Option ℕ
+    Moment n = slot n (recv_place kind)
 
-    none_noted : (k : RecvKind) → recv_moment no_recv_note k ≡ None
-    none_noted Release = refl
-    none_noted Ack = refl
+    exact : (s : ReceiverValue) (n : Note) → NotedAs s.state n → Moment n ≡ receiver_moment p kind s
+    exact s n is = sym (kind_is kind n) ∙ recv_exact p kind s (recv_note_in n) is
 
-    pub quiet_all : HasNoMoment (recv_moment_at t kind) → IsQuiet (receiver_moment p kind) latest (present os)
-    quiet_all none = quiet_none receiver_in (IsRecvNoted p) Noted (receiver_moment p kind) (recv_later p kind) latest (present os) (notes_in os (recv_note t)) are_recv_noted (none_in Noted os (recv_note t) none)
+    later : (s : ReceiverValue) (n : Note) → NotedAs s.state n → (m : ℕ) → receiver_moment p kind s ≡ Some m → (v : ℕ) × (Moment n ≡ Some v) × (v ≤ m)
+    later s n is m e = (m, exact s n is ∙ e, omega arith)
 
-    earliest_noted : (es : List (Flow × ReceiverValue)) (ns : List RecvMoments) → AreNoted (IsRecvNoted p) (receivers_of es) ns → earliest Noted ns ≡ earliest (λ (e : Flow × ReceiverValue). receiver_moment p kind e.1) es
+    pub quiet_all : HasNoMoment (moment_of_kind t (recv_place kind)) → IsQuiet (receiver_moment p kind) latest (present os)
+    quiet_all none = quiet_none receiver_in NotedAs Moment (receiver_moment p kind) later latest (present os) (notes_in os (note_at t)) are_noted_as (none_in Moment os (note_at t) none)
+
+    earliest_noted : (es : List (Flow × ReceiverValue)) (ns : List Note) → AreNoted NotedAs (receivers_of es) ns → earliest Moment ns ≡ earliest (λ (e : Flow × ReceiverValue). receiver_moment p kind e.1) es
     earliest_noted [] [] all = refl
     earliest_noted [] (n ∷ ns) all = absurd all
     earliest_noted (e ∷ es) [] all = absurd all
-    earliest_noted (e ∷ es) (n ∷ ns) all = ap (λ (o : Option ℕ). earlier o (earliest Noted ns)) (recv_exact p kind e.1 n all.0) ∙ ap (earlier (receiver_moment p kind e.1)) (earliest_noted es ns all.1)
+    earliest_noted (e ∷ es) (n ∷ ns) all = ap (λ (o : Option ℕ). earlier o (earliest Moment ns)) (exact e.1 n all.0) ∙ ap (earlier (receiver_moment p kind e.1)) (earliest_noted es ns all.1)
 
-    pub wake_none : HasNoMoment (recv_moment_at t kind) → earliest (λ (e : Flow × ReceiverValue). receiver_moment p kind e.1) (present os) ≡ None
-    wake_none none = sym (earliest_noted (present os) (notes_in os (recv_note t)) are_recv_noted) ∙ none_earliest Noted (notes_in os (recv_note t)) (none_in Noted os (recv_note t) none)
+    pub wake_none : HasNoMoment (moment_of_kind t (recv_place kind)) → earliest (λ (e : Flow × ReceiverValue). receiver_moment p kind e.1) (present os) ≡ None
+    wake_none none = sym (earliest_noted (present os) (notes_in os (note_at t)) are_noted_as) ∙ none_earliest Moment (notes_in os (note_at t)) (none_in Moment os (note_at t) none)
 
-    module _ (m i : ℕ) (first : IsFirst (recv_moment_at t kind) m i) where
-      pub first_taken : (e : Flow × ReceiverValue) × (slot os i ≡ Some e)
-      first_taken = stands_first Kept no_recv_note Noted (slot os i) (recv_note t i) m (none_noted kind) (side.kept.noted i) first.there
-
-      pub first_within : i < length os
-      first_within = slot_within os i first_taken.0 first_taken.1
-
-      first_noted : IsFirstIn Noted (notes_in os (recv_note t)) m (rank os i)
-      first_noted = first_in Noted os (recv_note t) m i first_taken.0 first_taken.1 first
+    module _ (m i : ℕ) (first : IsFirst (moment_of_kind t (recv_place kind)) m i) where
+      abbrev Here : IsFirstIn Moment (notes_in os (note_at t)) m (rank os i)
+      Here = first_noted Kept recv_kinds flows os t side.table (recv_place kind) (no_moment kind) m i first
 
       pub wake_some : earliest (λ (e : Flow × ReceiverValue). receiver_moment p kind e.1) (present os) ≡ Some m
-      wake_some = sym (earliest_noted (present os) (notes_in os (recv_note t)) are_recv_noted) ∙ some_earliest Noted (notes_in os (recv_note t)) m (rank os i) first_noted
+      wake_some = sym (earliest_noted (present os) (notes_in os (note_at t)) are_noted_as) ∙ some_earliest Moment (notes_in os (note_at t)) m (rank os i) Here
 
       pub quiet_yet : latest < m → IsQuiet (receiver_moment p kind) latest (present os)
-      quiet_yet less = quiet_first receiver_in (IsRecvNoted p) Noted (receiver_moment p kind) (recv_later p kind) latest (present os) (notes_in os (recv_note t)) are_recv_noted m (rank os i) first_noted less
+      quiet_yet less = quiet_first receiver_in NotedAs Moment (receiver_moment p kind) later latest (present os) (notes_in os (note_at t)) are_noted_as m (rank os i) Here less
 
       -- as it is read from its place
-      module _ (r : Option (Flow × ReceiverValue)) (v : r ≡ slice_index_or os i r) where
-        first_read : r ≡ Some first_taken.0
-        first_read = v ∙ read_any os i r first_taken.0 first_taken.1
-
-        pub first_stands : r ≡ None → ⊥
-        first_stands e = some_none first_taken.0 (sym first_read ∙ e)
-
-        module _ (g : Flow) (s : ReceiverValue) (is : r ≡ Some (g, s)) where
-          first_slot : slot os i ≡ Some (g, s)
-          first_slot = first_taken.1 ∙ sym first_read ∙ is
-
-          first_kept : IsRecvKept p g s (recv_note t i)
-          first_kept = noted_at Kept no_recv_note os (recv_note t) side.kept.noted i (g, s) first_slot
-
-          pub soonest_here : m ≤ latest → IsSoonest (receiver_moment p kind) latest (present os) (due.Recv kind) (record { kind = due.Recv kind; moment = m; flow = g })
-          soonest_here come =
-              soonest_of receiver_in (IsRecvNoted p) Noted (receiver_moment p kind) (recv_later p kind) latest (present os) (notes_in os (recv_note t)) are_recv_noted m (rank os i) first_noted (due.Recv kind) g s come (entry_there os i (g, s) first_slot)
-              (sym (recv_exact p kind s (recv_note t i) first_kept.noted) ∙ first.there)
-
-  -- THE RECEIVERS CLOSE UP: one moves to a place before it
-  module _ (once : StandOnce flows) (from to : ℕ) (le : to ≤ from) (gap : (k : ℕ) → to ≤ k → k < from → slot os k ≡ None) (f : Flow) (s : ReceiverValue) (here : slot os from ≡ Some (f, s)) (o : Option (Flow × ReceiverValue)) (gone : o ≡ None) where
-    pub from_within : from < length os
-    from_within = slot_within os from (f, s) here
-
-    pub from_place : place_in f flows ≡ Some from
-    from_place = once from f (side.kept.named from ∙ ap owner here)
-
-    pub to_within : to < length flows
-    to_within = let w = from_within in let l = side.long in omega arith
-
-    pub to_empty : to ≢ from → slot flows to ≡ None
-    to_empty apart = side.kept.named to ∙ ap owner (gap to (omega arith) (omega arith))
-
-    pub room_at : (i : ℕ) → i ≤ from → HasRecvRoom (suc i) t
-    room_at i less = room_within (length os) i t side.room (let w = from_within in omega arith)
-
-    abbrev Moved : Places
-    Moved = set (set os from o) to (Some (f, s))
-
-    pub moved_long : length Moved ≡ length os
-    moved_long = length-set (set os from o) to (Some (f, s)) ∙ length-set os from o
-
-    pub moved_present : present Moved ≡ present os
-    moved_present = ap (λ (q : Option (Flow × ReceiverValue)). present (set (set os from q) to (Some (f, s)))) gone ∙ moved_to os from to (f, s) le here gap
-
-    at_to : slot Moved to ≡ Some (f, s)
-    at_to = slot_here (set os from o) to (Some (f, s)) (let n = length-set os from o in let w = from_within in omega arith)
-
-    at_from : to ≢ from → slot Moved from ≡ None
-    at_from apart = slot_there (set os from o) to from (Some (f, s)) (λ e. apart (sym e)) ∙ slot_here os from o from_within ∙ gone
-
-    at_other : (i : ℕ) → i ≢ from → i ≢ to → slot Moved i ≡ slot os i
-    at_other i a b = slot_there (set os from o) to i (Some (f, s)) b ∙ slot_there os from i o a
-
-    pub moved_gap : (k : ℕ) → to + 1 ≤ k → k < from + 1 → slot Moved k ≡ None
-    moved_gap k low high =
-        elim (cases_eq k from) [
-          | inl same ↦ subst (λ (n : ℕ). slot Moved n ≡ None) (sym same) (at_from (λ e. omega arith))
-          | inr apart ↦ at_other k apart (λ e. omega arith) ∙ gap k (omega arith) (omega arith)
-        ]
-
-    module _ (more : List (Option Flow)) (e : more ≡ set (set flows from None) to (Some f)) (new : RecvTables) (note_from : to ≢ from → recv_note new from ≡ no_recv_note) (note_to : recv_note new to ≡ recv_note t from)
-        (others : (i : ℕ) → i ≢ from → i ≢ to → recv_note new i ≡ recv_note t i) (room : (count : ℕ) → HasRecvRoom count t → HasRecvRoom count new) where
-      named : (i : ℕ) → slot more i ≡ owner (slot Moved i)
-      named i =
-          ap (λ (fs : List (Option Flow)). slot fs i) e
-          ∙ elim (cases_eq i to) [
-            | inl same ↦
-                subst (λ (n : ℕ). slot (set (set flows from None) to (Some f)) n ≡ owner (slot Moved n)) (sym same)
-                (slot_here (set flows from None) to (Some f) (let n = length-set flows from None in let w = to_within in omega arith) ∙ ap owner (sym at_to))
-            | inr apart ↦ slot_there (set flows from None) to i (Some f) apart ∙ beside i apart
-          ]
-        where
-          beside : (i : ℕ) → i ≢ to → slot (set flows from None) i ≡ owner (slot Moved i)
-          beside i apart =
-              elim (cases_eq i from) [
-                | inl same ↦
-                    subst (λ (n : ℕ). slot (set flows from None) n ≡ owner (slot Moved n)) (sym same)
-                    (slot_here flows from None (let w = from_within in let l = side.long in omega arith) ∙ ap owner (sym (at_from (λ e. apart (same ∙ sym e)))))
-                | inr off ↦ slot_there flows from i None off ∙ side.kept.named i ∙ ap owner (sym (at_other i off apart))
-              ]
-
-      abbrev Holds : ℕ → Type 0
-      Holds i = IsNotedAt Kept no_recv_note (slot Moved i) (recv_note new i)
-
-      noted : (i : ℕ) → Holds i
-      noted i =
-          elim (cases_eq i to) [
-            | inl same ↦
-                subst Holds (sym same)
-                (subst (λ (q : Option (Flow × ReceiverValue)). IsNotedAt Kept no_recv_note q (recv_note new to)) (here ∙ sym at_to) (subst (IsNotedAt Kept no_recv_note (slot os from)) (sym note_to) (side.kept.noted from)))
-            | inr apart ↦ beside i apart
-          ]
-        where
-          beside : (i : ℕ) → i ≢ to → Holds i
-          beside i apart =
-              elim (cases_eq i from) [
-                | inl same ↦
-                    let off : to ≢ from = λ e. apart (same ∙ sym e) in
-                    subst Holds (sym same) (subst (λ (q : Option (Flow × ReceiverValue)). IsNotedAt Kept no_recv_note q (recv_note new from)) (sym (at_from off)) (note_from off))
-                | inr off ↦
-                    subst (λ (q : Option (Flow × ReceiverValue)). IsNotedAt Kept no_recv_note q (recv_note new i)) (sym (at_other i off apart))
-                    (subst (IsNotedAt Kept no_recv_note (slot os i)) (sym (others i off apart)) (side.kept.noted i))
-              ]
-
-      pub moved_side : IsRecvSide p latest more Moved new
-      moved_side =
-          let long = moved_long in
-          let fewer = ap (λ (fs : List (Option Flow)). length fs) e ∙ length-set (set flows from None) to (Some f) ∙ length-set flows from None in
-          record {
-            reached = side.reached;
-            long = (let l = side.long in omega arith);
-            room = subst (λ (n : ℕ). HasRecvRoom n new) (sym long) (room (length os) side.room);
-            kept = record { named = named; noted = noted };
-          }
-
-  -- places behind all that stand go
-  module _ (to : ℕ) (rest : (k : ℕ) → to ≤ k → slot os k ≡ None) where
-    each_cut : (i : ℕ) → slot (take to os) i ≡ slot os i
-    each_cut i =
-        elim (cases_lt i to) [
-          | inl less ↦ get_or-take to os i None less
-          | inr past ↦ get_or_past (take to os) i None (let n = length-take to os in omega arith) ∙ sym (rest i past)
-        ]
-
-    pub cut_present : present (take to os) ≡ present os
-    cut_present = present_same (take to os) os each_cut
-
-    pub cut_side : IsRecvSide p latest flows (take to os) t
-    cut_side =
-        let n = length-take to os in
-        record {
-          reached = side.reached;
-          long = (let l = side.long in omega arith);
-          room = shorter (length (take to os)) (length os) (omega arith) side.room;
-          kept = kept_same Kept no_recv_note flows os (recv_note t) side.kept flows (take to os) (recv_note t) (λ i. refl) each_cut (λ i. refl);
-        }
-      where
-        shorter : (few many : ℕ) → few ≤ many → HasRecvRoom many t → HasRecvRoom few t
-        shorter few many le room =
-            let a = room.release in
-            let b = room.ack in
-            record { release = omega arith; ack = omega arith }
-
-  -- A RECEIVER IS ADDED behind all others
-  pub none_place : (f : Flow) → lookup (equal_flows f) (present os) ≡ None → place_in f flows ≡ None
-  none_place f h = place_is Kept no_recv_note flows os (recv_note t) side.kept f ∙ absent f os h
-
-  module _ (i : ℕ) (at : i ≡ length os) (ps : Places) (pushed : ps ≡ os ++ None ∷ []) (wide : List (Option Flow)) (same : (j : ℕ) → slot wide j ≡ slot flows j) (long : length flows ≤ length wide) (within : i < length wide)
-      (roomy : RecvTables) (notes : (j : ℕ) → recv_note roomy j ≡ recv_note t j) (room : HasRecvRoom (suc i) roomy) where
-    pushed_long : length ps ≡ i + 1
-    pushed_long = let n = ap (λ (l : Places). length l) pushed ∙ length-append os (None ∷ []) in omega arith
-
-    still : (j : ℕ) → slot ps j ≡ slot os j
-    still j = ap (λ (l : Places). slot l j) pushed ∙ one_empty os j
-
-    pub pushed_present : present ps ≡ present os
-    pushed_present = present_same ps os still
-
-    pub pushed_side : IsRecvSide p latest wide ps roomy
-    pushed_side = record {
-      reached = side.reached;
-      long = (let n = pushed_long in omega arith);
-      room = (let n = pushed_long in let whole : suc i ≡ length ps = omega arith in subst (λ (k : ℕ). HasRecvRoom k roomy) whole room);
-      kept = kept_same Kept no_recv_note flows os (recv_note t) side.kept wide ps (recv_note roomy) same still notes;
-    }
-
-    module _ (f : Flow) (none : lookup (equal_flows f) (present os) ≡ None) where
-      pub still_none : place_in f wide ≡ None
-      still_none = place_same f wide flows same ∙ none_place f none
-
-      rest_none : (j : ℕ) → i ≤ j → slot ps j ≡ None
-      rest_none j le = still j ∙ get_or_past os j None (omega arith)
-
-      pub last_empty : slot wide i ≡ None
-      last_empty = same i ∙ side.kept.named i ∙ ap owner (get_or_past os i None (omega arith))
-
-      module _ (u : ReceiverValue) where
-        pub added_present : present (set ps i (Some (f, u))) ≡ insert_entry equal_flows (present os) f u
-        added_present =
-            let behind : lookup (equal_flows f) (present ps) ≡ None = ap (λ (l : List (Flow × ReceiverValue)). lookup (equal_flows f) l) pushed_present ∙ none in
-            added f u ps i (let n = pushed_long in omega arith) rest_none behind ∙ ap (λ (l : List (Flow × ReceiverValue)). insert_entry equal_flows l f u) pushed_present
-
-        pub added_side : IsReceiveEntry p f u → (more : List (Option Flow)) → more ≡ set wide i (Some f) → (new : RecvTables) → recv_note new i ≡ recv_noted u.rules u.state → ((j : ℕ) → j ≢ i → recv_note new j ≡ recv_note roomy j) → ((count : ℕ) → HasRecvRoom count roomy → HasRecvRoom count new) → IsRecvSide p latest more (set ps i (Some (f, u))) new
-        added_side entry more e new here others wider =
-            let n = length-set ps i (Some (f, u)) in
-            let m = ap (λ (fs : List (Option Flow)). length fs) e ∙ length-set wide i (Some f) in
-            let ready = pushed_side in
-            record {
-              reached = side.reached;
-              long = (let l = ready.long in omega arith);
-              room = subst (λ (k : ℕ). HasRecvRoom k new) (sym n) (wider (length ps) ready.room);
-              kept = kept_set Kept no_recv_note wide ps (recv_note roomy) ready.kept more i (Some (f, u)) (recv_note new) (let k = pushed_long in omega arith) (ap (λ (fs : List (Option Flow)). slot fs i) e ∙ slot_here wide i (Some f) within) (λ j apart. ap (λ (fs : List (Option Flow)). slot fs j) e ∙ slot_there wide i j (Some f) apart) (is_kept entry here) others;
-            }
-          where
-            is_kept : IsReceiveEntry p f u → recv_note new i ≡ recv_noted u.rules u.state → Kept f u (recv_note new i)
-            is_kept entry here = record { entry = entry; noted = here ∙ ap (λ (q : Params). recv_noted q u.state) entry.rules }
+      module _ (r : Option (Flow × ReceiverValue)) (v : r ≡ slice_index_or os i r) (g : Flow) (s : ReceiverValue) (is : r ≡ Some (g, s)) where
+        pub soonest_here : m ≤ latest → IsSoonest (receiver_moment p kind) latest (present os) (due.Recv kind) (record { kind = due.Recv kind; moment = m; flow = g })
+        soonest_here come =
+            let kept = first_kept Kept recv_kinds flows os t side.table (recv_place kind) (no_moment kind) m i first r v g s is in
+            let there = first_slot Kept recv_kinds flows os t side.table (recv_place kind) (no_moment kind) m i first r v g s is in
+            soonest_of receiver_in NotedAs Moment (receiver_moment p kind) later latest (present os) (notes_in os (note_at t)) are_noted_as m (rank os i) Here (due.Recv kind) g s come (entry_there os i (g, s) there)
+            (sym (exact s (note_at t i) kept.noted) ∙ first.there)
 
 -- A receiver after a step by which it stays, and after one by which it might become idle
 pub stepped_entry : (p : Params) (f : Flow) (s : ReceiverValue) → IsReceiveEntry p f s → (step : Params → Receiver → Receiver) → ((r : Receiver) → IsKept r → IsKept (step p r)) → (u : ReceiverValue) → u ≡ record s { state = step s.rules s.state } → IsReceiveEntry p f u
@@ -376,6 +159,176 @@ stepped_entry p f s entry step keeps u e =
 
 pub busy_entry : (p : Params) (f : Flow) (r : Receiver) (u : ReceiverValue) → u ≡ receiver_of p f r → (IsIdle u → ⊥) → IsReceiveEntry p f u
 busy_entry p f r u e busy = record { rules = ap (λ (w : ReceiverValue). w.rules) e; flow = ap (λ (w : ReceiverValue). w.flow) e; stays = busy_stays u.state busy }
+
+-- WHAT A CALL LEAVES, by the receivers before it and after it
+pub record ActDone (p : Params) (latest : ℕ) (f : Flow) (es es' : List (Flow × ReceiverValue)) (act : RecvAct) (old new : List ℕ) : Type 0 where
+  pub told : (r : Receiver) (y : ReceiveRecord) (kind : RecvKind) (moment : ℕ) → HasRecvDue p latest (look same_flow f (receivers_of es)) r y kind moment → act ≡ recv_told_of p r.unread y kind
+  pub frame : new ≡ unwrap_or (recv_frame p f act) old
+  pub gram : IfSome (recv_frame p f act) (λ octets. IsGram octets)
+  pub after : (r : Receiver) (y : ReceiveRecord) (kind : RecvKind) (moment : ℕ) → HasRecvDue p latest (look same_flow f (receivers_of es)) r y kind moment → (host : Host) → with_receivers host (receivers_of es') ≡ host_with_receiver (with_receivers host (receivers_of es)) f (after_recv_act p r kind)
+
+pub record ReadDone (p : Params) (latest : ℕ) (f : Flow) (es es' : List (Flow × ReceiverValue)) (piece : Option Piece) (old new : List ℕ) : Type 0 where
+  pub told : (host : Host) → piece ≡ piece_told (read_octets p latest f (length old) (with_receivers host (receivers_of es))).0
+  pub octets : (host : Host) → new ≡ octets_of (read_octets p latest f (length old) (with_receivers host (receivers_of es))).0 ++ drop (length (read_octets p latest f (length old) (with_receivers host (receivers_of es))).0) old
+  pub after : (host : Host) → with_receivers host (receivers_of es') ≡ (read_octets p latest f (length old) (with_receivers host (receivers_of es))).1
+
+-- A RECEIVER THAT IS READ, and what it does then
+module _ {p : Params} {latest : ℕ} {flows : List (Option Flow)} {os : Places} {t : Tables} (side : IsRecvSide p latest flows os t) {f : Flow} {i : ℕ} (at : Read flows os f i) where
+  pub found : lookup (equal_flows f) (present os) ≡ Some at.value
+  found = found_there (IsRecvKept p) recv_kinds flows os t side.table f i at
+
+  pub all_here : AreReceiveEntries p (present os)
+  all_here = all_recv p latest flows os t side
+
+  pub value_here : at.value ≡ receiver_of p f at.value.state
+  value_here = value_is f (present os) at.value found p all_here
+
+  pub answer_here : {B : Type 0} (answer : Params → Receiver → B) → answer at.value.rules at.value.state ≡ answer p (receiver_found f (present os))
+  answer_here answer = answered f (present os) at.value found p all_here answer
+
+  pub written_here : (u : ReceiverValue) → present (Written os i at.owner u) ≡ set_value (equal_flows f) (present os) u
+  written_here u = written (IsRecvKept p) recv_kinds flows os t side.table f i at u
+
+  pub gone_here : (u : ReceiverValue) (ps : Places) → ps ≡ set (Written os i at.owner u) i None → present ps ≡ remove_entry (equal_flows f) (set_value (equal_flows f) (present os) u)
+  gone_here u ps e = ap (λ (qs : Places). present qs) e ∙ gone (IsRecvKept p) recv_kinds flows os t side.table f i at u
+
+  -- a reply is of its flow
+  module _ (answer : Arrived) where
+    pub reply_here : (old new : List ℕ) → new ≡ unwrap_or (reply_frame at.value.rules at.value.flow answer) old → new ≡ unwrap_or (reply_frame p f answer) old
+    reply_here old new e = e ∙ ap (λ (w : ReceiverValue). unwrap_or (reply_frame w.rules w.flow answer) old) value_here
+
+    pub gram_here : IfSome (reply_frame at.value.rules at.value.flow answer) (λ octets. IsGram octets) → IfSome (reply_frame p f answer) (λ octets. IsGram octets)
+    gram_here h = subst (λ (w : ReceiverValue). IfSome (reply_frame w.rules w.flow answer) (λ octets. IsGram octets)) value_here h
+
+  -- a step by which it stays
+  module _ (step : Params → Receiver → Receiver) (keeps : (r : Receiver) → IsKept r → IsKept (step p r)) (u : ReceiverValue) (e : u ≡ record at.value { state = step at.value.rules at.value.state }) where
+    pub step_entry : IsReceiveEntry p f u
+    step_entry = stepped_entry p f at.value (entry_is f (present os) at.value found p all_here) step keeps u e
+
+    pub step_after : (host : Host) → with_receivers host (receivers_of (present (Written os i at.owner u))) ≡ host_with_receiver (with_receivers host (receivers_of (present os))) f (step p (receiver_found f (present os)))
+    step_after host = stepped f (present os) at.value found p all_here step keeps u e (present (Written os i at.owner u)) (written_here u) host
+
+  -- a read
+  module _ (most : ℕ) where
+    pub taken_here : (host : Host) → (read_octets p latest f most (with_receivers host (receivers_of (present os)))).0 ≡ first_piece most at.value.state.unread
+    taken_here host = taken_is f (present os) at.value found p all_here latest most host
+
+    module _ (u : ReceiverValue) (e : u ≡ record at.value { state = after_read at.value.rules latest (length (first_piece most at.value.state.unread)) at.value.state }) where
+      read_is : u ≡ receiver_of p f (read_from f (present os) at.value found p all_here latest most at.value.state)
+      read_is = read_moved f (present os) at.value found p all_here latest most u e
+
+      pub read_entry : (IsIdle u → ⊥) → IsReceiveEntry p f u
+      read_entry busy = busy_entry p f (read_from f (present os) at.value found p all_here latest most at.value.state) u read_is busy
+
+      module _ (x : Piece) (told : Some x ≡ piece_told (first_piece most at.value.state.unread)) (host : Host) where
+        pub read_goes : IsIdle u → (ps : Places) → ps ≡ set (Written os i at.owner u) i None → with_receivers host (receivers_of (present ps)) ≡ (read_octets p latest f most (with_receivers host (receivers_of (present os)))).1
+        read_goes idle ps e = goes_idle f (present os) at.value found p all_here u (read_from f (present os) at.value found p all_here latest most at.value.state) read_is (present ps) idle (gone_here u ps e) host ∙ read_some f (present os) at.value found p all_here latest most x told host
+
+        pub read_stays : (IsIdle u → ⊥) → with_receivers host (receivers_of (present (Written os i at.owner u))) ≡ (read_octets p latest f most (with_receivers host (receivers_of (present os)))).1
+        read_stays busy = stayed f (present os) at.value found p all_here u (read_from f (present os) at.value found p all_here latest most at.value.state) read_is (present (Written os i at.owner u)) busy (written_here u) host ∙ read_some f (present os) at.value found p all_here latest most x told host
+
+      -- of nothing
+      module _ (empty : at.value.state.unread ≡ []) where
+        pub unread_here : u ≡ at.value
+        unread_here = unread_same f (present os) at.value found p all_here latest most empty u e (present (Written os i at.owner u)) (written_here u)
+
+        pub none_read : (host : Host) → with_receivers host (receivers_of (present (Written os i at.owner u))) ≡ (read_octets p latest f most (with_receivers host (receivers_of (present os)))).1
+        none_read host = read_none f (present os) at.value found p all_here latest most empty u e (present (Written os i at.owner u)) (written_here u) host
+
+  -- an act that is due
+  module _ (r : Receiver) (y : ReceiveRecord) (kind : RecvKind) (moment : ℕ) (has : HasRecvDue p latest (look same_flow f (receivers_of (present os))) r y kind moment) where
+    pub due_here : recv_due_of at.value.rules latest at.value.state.standing ≡ Some (kind, moment)
+    due_here = due_is f (present os) at.value found p all_here latest r y kind moment has
+
+    pub stands_here : at.value.state.standing ≡ Some y
+    stands_here = stands_is f (present os) at.value found p all_here latest r y kind moment has
+
+    pub told_here : (told : RecvAct) → told ≡ recv_told_of at.value.rules at.value.state.unread y kind → told ≡ recv_told_of p r.unread y kind
+    told_here told e = recv_told f (present os) at.value found p all_here latest r y kind moment has told e
+
+    module _ (u : ReceiverValue) (e : u ≡ record at.value { state = after_recv_act at.value.rules at.value.state kind }) where
+      act_is : u ≡ receiver_of p f (after_recv_act p r kind)
+      act_is = acted f (present os) at.value found p all_here latest r y kind moment has u e
+
+      pub act_entry : (IsIdle u → ⊥) → IsReceiveEntry p f u
+      act_entry busy = busy_entry p f (after_recv_act p r kind) u act_is busy
+
+      pub act_goes : IsIdle u → (ps : Places) → ps ≡ set (Written os i at.owner u) i None → (host : Host) → with_receivers host (receivers_of (present ps)) ≡ host_with_receiver (with_receivers host (receivers_of (present os))) f (after_recv_act p r kind)
+      act_goes idle ps e host = goes_idle f (present os) at.value found p all_here u (after_recv_act p r kind) act_is (present ps) idle (gone_here u ps e) host
+
+      pub act_stays : (IsIdle u → ⊥) → (host : Host) → with_receivers host (receivers_of (present (Written os i at.owner u))) ≡ host_with_receiver (with_receivers host (receivers_of (present os))) f (after_recv_act p r kind)
+      act_stays busy host = stayed f (present os) at.value found p all_here u (after_recv_act p r kind) act_is (present (Written os i at.owner u)) busy (written_here u) host
+
+  -- what goes out is of its flow
+  module _ (act : RecvAct) where
+    pub frame_here : (old new : List ℕ) → new ≡ unwrap_or (recv_frame at.value.rules at.value.flow act) old → new ≡ unwrap_or (recv_frame p f act) old
+    frame_here old new e = e ∙ ap (λ (w : ReceiverValue). unwrap_or (recv_frame w.rules w.flow act) old) value_here
+
+    pub out_here : IfSome (recv_frame at.value.rules at.value.flow act) (λ octets. IsGram octets) → IfSome (recv_frame p f act) (λ octets. IsGram octets)
+    out_here h = subst (λ (w : ReceiverValue). IfSome (recv_frame w.rules w.flow act) (λ octets. IsGram octets)) value_here h
+
+  -- all that an act leaves
+  module _ (act : RecvAct) (old new : List ℕ) (u : ReceiverValue)
+      (told : (kind : RecvKind) (moment : ℕ) (y : ReceiveRecord) → recv_due_of at.value.rules latest at.value.state.standing ≡ Some (kind, moment) → at.value.state.standing ≡ Some y → act ≡ recv_told_of at.value.rules at.value.state.unread y kind)
+      (frame : new ≡ unwrap_or (recv_frame at.value.rules at.value.flow act) old) (gram : IfSome (recv_frame at.value.rules at.value.flow act) (λ octets. IsGram octets))
+      (moved : (kind : RecvKind) (moment : ℕ) → recv_due_of at.value.rules latest at.value.state.standing ≡ Some (kind, moment) → u ≡ record at.value { state = after_recv_act at.value.rules at.value.state kind }) where
+    act_told : (r : Receiver) (y : ReceiveRecord) (kind : RecvKind) (moment : ℕ) → HasRecvDue p latest (look same_flow f (receivers_of (present os))) r y kind moment → act ≡ recv_told_of p r.unread y kind
+    act_told r y kind moment due = told_here r y kind moment due act (told kind moment y (due_here r y kind moment due) (stands_here r y kind moment due))
+
+    pub act_gone : IsIdle u → (ps : Places) → ps ≡ set (Written os i at.owner u) i None → ActDone p latest f (present os) (present ps) act old new
+    act_gone idle ps e = record {
+      told = act_told;
+      frame = frame_here act old new frame;
+      gram = out_here act gram;
+      after = λ r y kind moment due host. act_goes r y kind moment due u (moved kind moment (due_here r y kind moment due)) idle ps e host;
+    }
+
+    pub act_stayed : (IsIdle u → ⊥) → ActDone p latest f (present os) (present (Written os i at.owner u)) act old new
+    act_stayed busy = record {
+      told = act_told;
+      frame = frame_here act old new frame;
+      gram = out_here act gram;
+      after = λ r y kind moment due host. act_stays r y kind moment due u (moved kind moment (due_here r y kind moment due)) busy host;
+    }
+
+  -- all that a read leaves
+  module _ (x : Piece) (old new : List ℕ) (u : ReceiverValue) (told : Some x ≡ piece_told (first_piece (length old) at.value.state.unread))
+      (octets : new ≡ octets_of (first_piece (length old) at.value.state.unread) ++ drop (length (first_piece (length old) at.value.state.unread)) old)
+      (moved : u ≡ record at.value { state = after_read at.value.rules latest (length (first_piece (length old) at.value.state.unread)) at.value.state }) where
+    read_told : (host : Host) → Some x ≡ piece_told (read_octets p latest f (length old) (with_receivers host (receivers_of (present os)))).0
+    read_told host = told ∙ ap piece_told (sym (taken_here (length old) host))
+
+    read_wrote : (host : Host) → new ≡ octets_of (read_octets p latest f (length old) (with_receivers host (receivers_of (present os)))).0 ++ drop (length (read_octets p latest f (length old) (with_receivers host (receivers_of (present os)))).0) old
+    read_wrote host = octets ∙ ap (λ (items : List Item). octets_of items ++ drop (length items) old) (sym (taken_here (length old) host))
+
+    pub read_gone : IsIdle u → (ps : Places) → ps ≡ set (Written os i at.owner u) i None → ReadDone p latest f (present os) (present ps) (Some x) old new
+    read_gone idle ps e = record { told = read_told; octets = read_wrote; after = λ host. read_goes (length old) u moved x told host idle ps e }
+
+    pub read_stayed : (IsIdle u → ⊥) → ReadDone p latest f (present os) (present (Written os i at.owner u)) (Some x) old new
+    read_stayed busy = record { told = read_told; octets = read_wrote; after = λ host. read_stays (length old) u moved x told host busy }
+
+-- where there was no memory the receivers are as they were
+pub data_kept : (p : Params) (latest : ℕ) (f : Flow) (drf : Bool) (number : ℕ) (items : List Item) (es es' : List (Flow × ReceiverValue)) → es' ≡ es → (r : Result Arrived NoMemory) (why : NoMemory) → r ≡ Err why → IsDataTaken p latest f drf number items es es' r
+data_kept p latest f drf number items es es' e r why is = λ host.
+    subst (λ (q : Result Arrived NoMemory). with_receivers host (receivers_of es') ≡ or_stays q (host_with_receiver (with_receivers host (receivers_of es)) f (after_data p latest (receiver_found f es) drf number items)) (with_receivers host (receivers_of es))) (sym is)
+    (ap (λ (l : List (Flow × ReceiverValue)). with_receivers host (receivers_of l)) e)
+
+-- A RECEIVER IS MADE with a data packet
+module _ (p : Params) (latest : ℕ) (es : List (Flow × ReceiverValue)) (all : AreReceiveEntries p es) (f : Flow) (absent : lookup (equal_flows f) es ≡ None) (drf : Bool) (number : ℕ) (items : List Item) (makes : action_on p no_receiver drf number items ≡ Make)
+    (s u : ReceiverValue) (fresh : s ≡ receiver_of p f no_receiver) (e : u ≡ record s { state = after_data s.rules latest s.state drf number items }) where
+  made_is : u ≡ receiver_of p f (after_data p latest no_receiver drf number items)
+  made_is = made_with p f latest drf number items s u fresh e
+
+  pub made_entry : IsReceiveEntry p f u
+  made_entry = subst (λ (w : ReceiverValue). IsReceiveEntry p f w) (sym made_is) (record { rules = refl; flow = refl; stays = kept_made p latest drf number items makes })
+
+  pub made_answer : (answer : Arrived) → answer ≡ answer_to_data s.rules s.state drf number items → answer ≡ answer_to_data p (receiver_found f es) drf number items
+  made_answer answer is =
+      is ∙ ap (λ (w : ReceiverValue). answer_to_data w.rules w.state drf number items) fresh
+      ∙ ap (λ (r : Receiver). answer_to_data p r drf number items) (sym (nothing f es (look_none f es absent)))
+
+  pub made_after : (after : List (Flow × ReceiverValue)) → after ≡ insert_entry equal_flows es f u → (host : Host) → with_receivers host (receivers_of after) ≡ host_with_receiver (with_receivers host (receivers_of es)) f (after_data p latest (receiver_found f es) drf number items)
+  made_after after w host = made f es (look_none f es absent) p all u (λ (r : Receiver). after_data p latest r drf number items) made_is (kept_made p latest drf number items makes) after w host
 
 -- A receiver is to be woken for either act.
 pub either_wake : (p : Params) (es : List (Flow × ReceiverValue)) → earlier (earliest (λ (e : Flow × ReceiverValue). receiver_moment p Release e.1) es) (earliest (λ (e : Flow × ReceiverValue). receiver_moment p Ack e.1) es) ≡ earliest (λ (e : Flow × Receiver). recv_wake_of p e.1.standing) (receivers_of es)

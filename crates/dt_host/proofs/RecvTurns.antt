@@ -15,6 +15,7 @@ use Rattle.dt_flow_model.specs.declared.acts.RecvAct.{RecvAct}
 use Rattle.dt_flow_model.specs.declared.acts.RecvKind.{RecvKind}
 use Rattle.dt_flow_model.specs.declared.arrivals.Action.{Action}
 use Rattle.dt_flow_model.specs.declared.arrivals.Action.TheVariants.{Drop, Make, TellNumber, TellExpected, Accept, Skip, Close}
+use Rattle.dt_flow_model.specs.declared.arrivals.Arrived.{Arrived}
 use Rattle.dt_flow_model.specs.declared.arrivals.Arrived.TheVariants.{Dropped, Replied}
 use Rattle.dt_flow_model.specs.ReceiveRecord.{ReceiveRecord, Receiver, action_on, after_action, action_without, after_data, after_meet, after_read, after_recv_act, answer_to, answer_to_data, answer_to_meet, free_of, opens_window, record_read, recv_due_of, recv_told_of, standing_told, worth_telling}
 use Rattle.dt_recv.specs.Receivers.{ReceiverValue}
@@ -26,7 +27,7 @@ use Rattle.dt_host.specs.Dues.{HasRecvDue}
 use Rattle.dt_host.specs.Hosts.{AreReceiveEntries, IsReceiveEntry, receiver_in, receivers_of}
 use Rattle.dt_host.proofs.Entries.{all_found, all_inserted, all_removed, all_written, inserted, look_found, removed, removed_written, written}
 use Rattle.dt_host.specs.Places.{equal_flows}
-use Rattle.dt_host.proofs.Flows.{flows_agree}
+use Rattle.dt_world_model.proofs.Maps.{flows_agree}
 
 -- the receiver of an entry, by its parts
 abbrev pub receiver_of : Params → Flow → Receiver → ReceiverValue
@@ -197,6 +198,32 @@ module _ (f : Flow) (es : List (Flow × ReceiverValue)) (none : look same_flow f
         let entry : IsReceiveEntry p f t = subst (λ (u : ReceiverValue). IsReceiveEntry p f u) (sym e) (record { rules = refl; flow = refl; stays = kept }) in
         subst (λ (l : List (Flow × ReceiverValue)). AreReceiveEntries p l) (sym w) (all_inserted equal_flows same_flow flows_agree flow_is ReceiverValue (IsReceiveEntry p) f t es all entry)
 
+-- A DATA PACKET of a flow without a receiver
+pub looked_without : (p : Params) (drf : Bool) (number : ℕ) (octets : List ℕ) (begin end : Bool) (q : Params) (a : Action) → q ≡ p → a ≡ action_without drf (nat_le (length octets) q.rcap) → a ≡ action_on p no_receiver drf number (marked octets begin end false)
+looked_without p drf number octets begin end q a same is = looked_up p drf number octets begin end q.rcap a (ap (λ (r : Params). r.rcap) same) is
+
+module _ (f : Flow) (es : List (Flow × ReceiverValue)) (absent : lookup (equal_flows f) es ≡ None) where
+  -- what is answered, and the host as it was
+  abbrev pub IsAnsweredAlone : Params → ℕ → Bool → ℕ → List Item → Arrived → Host → Type 0
+  IsAnsweredAlone p now drf number items answer host =
+      (answer ≡ answer_to_data p (receiver_found f es) drf number items)
+      × (with_receivers host (receivers_of es) ≡ host_with_receiver (with_receivers host (receivers_of es)) f (after_data p now (receiver_found f es) drf number items))
+
+  pub made_without : (p : Params) (drf : Bool) (number : ℕ) (items : List Item) → action_on p no_receiver drf number items ≡ Make → (look same_flow f (receivers_of es) ≡ None) × (action_on p (receiver_found f es) drf number items ≡ Make)
+  made_without p drf number items is = (look_none f es absent, ap (λ (r : Receiver). action_on p r drf number items) (nothing f es (look_none f es absent)) ∙ is)
+
+  module _ (p : Params) (now : ℕ) (drf : Bool) (number : ℕ) (items : List Item) where
+    alone : (answer : Arrived) → answer ≡ answer_to_data p no_receiver drf number items → after_data p now no_receiver drf number items ≡ no_receiver → (host : Host) → IsAnsweredAlone p now drf number items answer host
+    alone answer is same host =
+        let none = look_none f es absent in
+        (is ∙ ap (λ (r : Receiver). answer_to_data p r drf number items) (sym (nothing f es none)), unchanged f es none (λ (r : Receiver). after_data p now r drf number items) same host)
+
+    pub told_alone : action_on p no_receiver drf number items ≡ TellNumber → (host : Host) → IsAnsweredAlone p now drf number items (Replied number p.rcap) host
+    told_alone is = alone (Replied number p.rcap) (told_without p now drf number items is) (stays_without p now drf number items is)
+
+    pub dropped_alone : action_on p no_receiver drf number items ≡ Drop → (host : Host) → IsAnsweredAlone p now drf number items Dropped host
+    dropped_alone is = alone Dropped (dropped_without p now drf number items is) (ignores_without p now drf number items is)
+
 -- A FLOW WITH A RECEIVER
 module _ (f : Flow) (es : List (Flow × ReceiverValue)) (v : ReceiverValue) (found : lookup (equal_flows f) es ≡ Some v) where
   pub look_is : look same_flow f (receivers_of es) ≡ Some v.state
@@ -253,12 +280,6 @@ module _ (f : Flow) (es : List (Flow × ReceiverValue)) (v : ReceiverValue) (fou
       pub stayed : (IsIdle t → ⊥) → after ≡ set_value (equal_flows f) es t → (host : Host) → with_receivers host (receivers_of after) ≡ host_with_receiver (with_receivers host (receivers_of es)) f r
       stayed busy w host = ap (λ (rs : List (Flow × Receiver)). with_receivers host rs) (ap receivers_of w ∙ stays t r e (busy_kept busy))
 
-      pub all_gone : after ≡ remove_entry (equal_flows f) (set_value (equal_flows f) es t) → AreReceiveEntries p after
-      all_gone w = subst (λ (l : List (Flow × ReceiverValue)). AreReceiveEntries p l) (sym w) (all_left t)
-
-      pub all_stayed : (IsIdle t → ⊥) → after ≡ set_value (equal_flows f) es t → AreReceiveEntries p after
-      all_stayed busy w = subst (λ (l : List (Flow × ReceiverValue)). AreReceiveEntries p l) (sym w) (all_stay t r e (busy_kept busy))
-
     -- a read
     module _ (now most : ℕ) where
       pub taken_is : (host : Host) → (read_octets p now f most (with_receivers host (receivers_of es))).0 ≡ first_piece most v.state.unread
@@ -297,9 +318,6 @@ module _ (f : Flow) (es : List (Flow × ReceiverValue)) (v : ReceiverValue) (fou
             ap (λ (l : List (Flow × ReceiverValue)). with_receivers host (receivers_of l)) table_same
             ∙ ap (λ (items : List Item). (read_piece p now f items before).1) (sym (ap (λ (r : Receiver). first_piece most r.unread) found_is ∙ none_left))
 
-        pub all_read : AreReceiveEntries p after
-        all_read = subst (λ (l : List (Flow × ReceiverValue)). AreReceiveEntries p l) (sym table_same) all
-
     -- a step of a receiver that stays
     module _ (step : Params → Receiver → Receiver) (keeps : (r : Receiver) → IsKept r → IsKept (step p r)) (t : ReceiverValue) (e : t ≡ record v { state = step v.rules v.state }) (after : List (Flow × ReceiverValue)) (w : after ≡ set_value (equal_flows f) es t) where
       kept : IsKept (step p v.state)
@@ -309,9 +327,6 @@ module _ (f : Flow) (es : List (Flow × ReceiverValue)) (v : ReceiverValue) (fou
       stepped host =
           ap (λ (rs : List (Flow × Receiver)). with_receivers host rs) (ap receivers_of w ∙ stays t (step p v.state) (moved step t e) kept)
           ∙ ap (λ (r : Receiver). host_with_receiver (with_receivers host (receivers_of es)) f (step p r)) (sym found_is)
-
-      pub all_stepped : AreReceiveEntries p after
-      all_stepped = subst (λ (l : List (Flow × ReceiverValue)). AreReceiveEntries p l) (sym w) (all_stay t (step p v.state) (moved step t e) kept)
 
     -- what it answers
     pub answered : {A : Type 0} (answer : Params → Receiver → A) → answer v.rules v.state ≡ answer p (receiver_found f es)

@@ -18,7 +18,7 @@ use Rattle.dt_host.specs.Dues.{HasDue}
 use Rattle.dt_host.specs.Hosts.{AreSendEntries, IsSendEntry, send_record, send_records}
 use Rattle.dt_host.proofs.Entries.{all_found, all_removed, all_written, look_found, removed, removed_written, written}
 use Rattle.dt_host.specs.Places.{equal_flows}
-use Rattle.dt_host.proofs.Flows.{flows_agree}
+use Rattle.dt_world_model.proofs.Maps.{flows_agree}
 
 -- the sender of an entry, by its parts
 abbrev pub sender_of : Params → Flow → SendRecord → SenderValue

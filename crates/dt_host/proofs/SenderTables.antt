@@ -14,6 +14,7 @@ use Rattle.dt_units.specs.declared.endpoints.Flow.{Flow}
 use Rattle.dt_flow_model.specs.declared.faults.PutFault.{PutFault}
 use Rattle.dt_flow_model.specs.declared.faults.PutFault.TheVariants as put_fault
 use Rattle.dt_flow_model.specs.declared.arrivals.Arrived.TheVariants.{Acked, Dropped}
+use Rattle.dt_flow_model.specs.Numbering.{number_of}
 use Rattle.dt_flow_model.specs.Acting.{record_for}
 use Rattle.dt_flow_model.specs.SendRecord.{SendRecord, after_put, fits, new_record, on_ack, put, put_fault as fault_of_put, room_of}
 use Rattle.dt_send.specs.Senders.{SenderValue}
@@ -24,9 +25,9 @@ use Rattle.dt_host.specs.Answers.{IsAnswerTo, or_stays, send_fault_of}
 use Rattle.dt_host.specs.declared.faults.SendFault.{SendFault}
 use Rattle.dt_host.specs.declared.faults.SendFault.TheVariants as fault
 use Rattle.dt_host.specs.Hosts.{AreSendEntries, IsSendEntry, send_record, send_records}
-use Rattle.dt_host.proofs.Entries.{all_found, all_inserted, all_written, inserted, look_found, written}
+use Rattle.dt_host.proofs.Entries.{all_found, all_inserted, inserted, look_found, written}
 use Rattle.dt_host.specs.Places.{equal_flows}
-use Rattle.dt_host.proofs.Flows.{flows_agree}
+use Rattle.dt_world_model.proofs.Maps.{flows_agree}
 
 -- a host with these senders
 abbrev pub with_senders : Host → List (Flow × SenderValue) → Host
@@ -118,6 +119,9 @@ module _ (p : Params) (f : Flow) (es : List (Flow × SenderValue)) (all : AreSen
   pub none_is : lookup (equal_flows f) es ≡ None → look same_flow f (send_records es) ≡ None
   none_is gone = look_found equal_flows same_flow flows_agree flow_is SenderValue SendRecord send_record f es ∙ ap (option_map send_record) gone
 
+  pub no_number : (count : SendRecord → ℕ) → lookup (equal_flows f) es ≡ None → None ≡ option_map (λ (x : SendRecord). number_of p (count x)) (look same_flow f (send_records es))
+  no_number count gone = sym (ap (option_map (λ (x : SendRecord). number_of p (count x))) (none_is gone))
+
   module _ (s : SenderValue) (found : lookup (equal_flows f) es ≡ Some s) where
     pub entry_is : IsSendEntry p f s
     entry_is = all_found equal_flows same_flow flows_agree flow_is SenderValue (IsSendEntry p) f s es all found
@@ -128,9 +132,11 @@ module _ (p : Params) (f : Flow) (es : List (Flow × SenderValue)) (all : AreSen
     pub here_is : (now : ℕ) → record_here p now f es ≡ s.state
     here_is now = ap (record_for p now) look_is
 
+    -- a number that its record tells
+    pub number_here : (count : SendRecord → ℕ) (n : ℕ) → n ≡ number_of s.rules (count s.state) → Some n ≡ option_map (λ (x : SendRecord). number_of p (count x)) (look same_flow f (send_records es))
+    number_here count n e = ap (λ (m : ℕ). Some m) (e ∙ ap (λ (q : Params). number_of q (count s.state)) entry_is.rules) ∙ sym (ap (option_map (λ (x : SendRecord). number_of p (count x))) look_is)
+
     -- a sender that only its record changes
-    pub all_kept : (t : SenderValue) → t.rules ≡ s.rules → t.flow ≡ s.flow → AreSendEntries p (set_value (equal_flows f) es t)
-    all_kept t rules flow = all_written equal_flows same_flow flows_agree flow_is SenderValue (IsSendEntry p) f t es all (record { rules = rules ∙ entry_is.rules; flow = flow ∙ entry_is.flow })
 
     pub records_kept : (t : SenderValue) → send_records (set_value (equal_flows f) es t) ≡ write same_flow f t.state (send_records es)
     records_kept t = written equal_flows same_flow flows_agree flow_is SenderValue SendRecord send_record f t s es found

@@ -5,7 +5,6 @@ use Rattle.std.specs.Option.{option_and_then}
 use Rattle.std.specs.Map.{lookup, remove_entry, set_value}
 use Rattle.std.proofs.lemmas.Bool.{cases_Bool, cases_eq, cases_lt}
 use Rattle.std.proofs.lemmas.List.{get_or_past}
-use Rattle.indexmap.specs.IndexMap.{insert_entry}
 use Rattle.dt_units.specs.declared.endpoints.Flow.{Flow}
 use Rattle.dt_world_model.specs.Tables.{AllEntries, Distinct, Lacks, same_flow}
 use Rattle.dt_world_model.proofs.Tables.{flow_is, flow_self}
@@ -13,11 +12,12 @@ use Rattle.dt_timers.specs.Deadlines.{HasNoMoment, IsFirst}
 use Rattle.dt_host.specs.Agendas.{HasNone, IsFirstIn, moment_in}
 use Rattle.dt_host.specs.Hosts.{records_by}
 use Rattle.dt_host.specs.Notes.{AreNoted}
-use Rattle.dt_host.specs.Places.{AreKept, IsNotedAt, StandOnce, equal_flows, is_of, place_in, present, slot}
+use Rattle.dt_host.specs.Places.{StandOnce, equal_flows, is_of, place_in, present, slot}
+use Rattle.dt_host.specs.Tables.{AreKept, IsNotedAt}
 use Rattle.dt_host.proofs.Entries.{removed_written}
-use Rattle.dt_host.proofs.Flows.{flows_agree}
+use Rattle.dt_world_model.proofs.Maps.{flows_agree}
 use Rattle.dt_host.proofs.Somes.{none_some, same_some, some_none}
-use Rattle.dt_host.proofs.Standing.{later_some, place_same, present_same, slot_here, slot_there, slot_within}
+use Rattle.dt_host.proofs.Standing.{later_none, later_some, place_same, slot_here, slot_there, slot_within}
 
 later : (f : Flow) (o : Option Flow) (os : List (Option Flow)) (i : ℕ) → is_of f o ≡ false → place_in f (o ∷ os) ≡ Some i → (j : ℕ) × (place_in f os ≡ Some j) × (i ≡ suc j)
 later f o os i n h = later_some (place_in f os) i (sym (ap (λ (b : Bool). if b then Some 0 else option_map suc (place_in f os)) n) ∙ h)
@@ -103,22 +103,14 @@ module _ {A : Type 0} where
 
     pub not_found : (os : List (Option (Flow × A))) → place_in f (owners os) ≡ None → lookup (equal_flows f) (present os) ≡ None
     not_found [] h = refl
-    not_found (None ∷ os) h = not_found os (none_later (place_in f (owners os)) h)
-      where
-        none_later : (o : Option ℕ) → option_map suc o ≡ None → o ≡ None
-        none_later None e = refl
-        none_later (Some j) e = absurd (some_none (suc j) e)
+    not_found (None ∷ os) h = not_found os (later_none (place_in f (owners os)) h)
     not_found (Some e ∷ os) h =
         elim (cases_Bool (same_flow e.0 f)) [
           | inl y ↦ absurd (some_none 0 (sym (ap (λ (b : Bool). if b then Some 0 else option_map suc (place_in f (owners os))) y) ∙ h))
           | inr n ↦
               ap (λ (b : Bool). cond b (Some e.1) (lookup (equal_flows f) (present os))) (skipped f e n)
-              ∙ not_found os (none_later (place_in f (owners os)) (sym (ap (λ (b : Bool). if b then Some 0 else option_map suc (place_in f (owners os))) n) ∙ h))
+              ∙ not_found os (later_none (place_in f (owners os)) (sym (ap (λ (b : Bool). if b then Some 0 else option_map suc (place_in f (owners os))) n) ∙ h))
         ]
-      where
-        none_later : (o : Option ℕ) → option_map suc o ≡ None → o ≡ None
-        none_later None e = refl
-        none_later (Some j) e = absurd (some_none (suc j) e)
 
     pub absent : (os : List (Option (Flow × A))) → lookup (equal_flows f) (present os) ≡ None → place_in f (owners os) ≡ None
     absent os h = by (place_in f (owners os)) refl
@@ -158,23 +150,6 @@ module _ {A : Type 0} where
               let j = later f (Some e.0) (owners os) i n h in
               subst (λ (k : ℕ). present (set (Some e ∷ os) k None) ≡ remove_entry (equal_flows f) (e ∷ present os)) (sym j.2)
               (ap (λ (l : List (Flow × A)). e ∷ l) (went os j.0 j.1) ∙ sym (ap (λ (b : Bool). cond b (present os) (e ∷ remove_entry (equal_flows f) (present os))) (skipped f e n)))
-        ]
-
-    -- one that is made stands behind all others
-    pub added : (a : A) (os : List (Option (Flow × A))) (i : ℕ) → i < length os → ((j : ℕ) → i ≤ j → slot os j ≡ None) → lookup (equal_flows f) (present os) ≡ None → present (set os i (Some (f, a))) ≡ insert_entry equal_flows (present os) f a
-    added a [] i within rest none = absurd (omega arith)
-    added a (o ∷ os) zero within rest none =
-        let nothing : present (o ∷ os) ≡ [] = present_same (o ∷ os) [] (λ j. rest j (omega arith)) in
-        let behind : present os ≡ [] = present_same os [] (λ j. rest (suc j) (omega arith)) in
-        ap (λ (l : List (Flow × A)). let d : Flow × A = (f, a) in d ∷ l) behind ∙ sym (ap (λ (l : List (Flow × A)). insert_entry equal_flows l f a) nothing)
-    added a (None ∷ os) (suc i) within rest none = added a os i (omega arith) (λ j le. rest (suc j) (omega arith)) none
-    added a (Some e ∷ os) (suc i) within rest none =
-        elim (cases_Bool (equal_flows f e.0)) [
-          | inl y ↦ absurd (some_none e.1 (sym (ap (λ (b : Bool). cond b (Some e.1) (lookup (equal_flows f) (present os))) y) ∙ none))
-          | inr n ↦
-              let behind : lookup (equal_flows f) (present os) ≡ None = sym (ap (λ (b : Bool). cond b (Some e.1) (lookup (equal_flows f) (present os))) n) ∙ none in
-              ap (λ (l : List (Flow × A)). e ∷ l) (added a os i (omega arith) (λ j le. rest (suc j) (omega arith)) behind)
-              ∙ sym (ap (λ (b : Bool). if b then (e.0, a) ∷ present os else e ∷ insert_entry equal_flows (present os) f a) n)
         ]
 
   -- EACH FLOW HAS ONE
@@ -374,8 +349,3 @@ module _ {A : Type 0} where
                 where
                   at_flow : Some g ≡ slot flows i
                   at_flow = ap (λ (h : Flow). Some h) its_flow ∙ sym (kept.named i ∙ ap owner its_slot.1)
-
-              pub kept_left : (b : A) (more : List (Option Flow)) (new : ℕ → N) → more ≡ set flows i None → i < length flows → new i ≡ nothing → ((j : ℕ) → j ≢ i → new j ≡ note j) → AreKept P nothing more (set (set os i (Some (g, b))) i None) new
-              kept_left b more new e within none others =
-                  subst (λ (ps : List (Option (Flow × A))). AreKept P nothing more ps new) (sym (set_again os i (Some (g, b)) None))
-                  (kept_set more i None new its_within (ap (λ (fs : List (Option Flow)). slot fs i) e ∙ slot_here flows i None within) (λ j apart. ap (λ (fs : List (Option Flow)). slot fs j) e ∙ slot_there flows i j None apart) none others)

@@ -3,14 +3,13 @@ use Rattle.std.proofs.Common.{ℕ, zero, suc, ◌≡◌, ◌+◌, ◌≤◌, Boo
 use Rattle.std.specs.Prelude.{nat_eq, slice_get}
 use Rattle.std.specs.Option.{option_eq}
 use Rattle.std.proofs.lemmas.Bool.{cases_Bool, eq-eqb, eqb-true, false≢true}
-use Rattle.std.proofs.lemmas.Option.{get_or_from_slice_get}
 use Rattle.dt_units.specs.declared.parameters.Params.{Params}
 use Rattle.dt_units.specs.declared.endpoints.Flow.{Flow}
 use Rattle.dt_flow_model.specs.declared.moments.SendMoments.{SendMoments}
 use Rattle.dt_flow_model.specs.SendRecord.{SendRecord}
 use Rattle.dt_flow_model.specs.SendActs.{resends_from}
 use Rattle.dt_world_model.specs.Host.{one_if}
-use Rattle.dt_host.specs.Agendas.{SendNote, no_send_note, note_at, with_resend}
+use Rattle.dt_host.specs.Agendas.{SendNote, with_resend}
 use Rattle.dt_host.specs.Notes.{AreNoted, IsSendNoted}
 use Rattle.dt_host.specs.Soonest.{has_missed, missed_senders}
 use Rattle.dt_host.proofs.Somes.{none_some, same_some}
@@ -102,9 +101,6 @@ module _ (p : Params) (now : ℕ) where
       let was_one : stale_one d.1 m ≡ 1 = apart_differs m.moments.resend (resends_from p now d.1.outstanding) (λ f. apart (ap (λ (k : SendNote). k.moments.resend) (sym own) ∙ f ∙ ap (λ (c : Flow × SendRecord). resends_from p now c.1.outstanding) same)) in
       omega arith
   one_less (d ∷ rs) (m ∷ ns) (suc i) e n at note apart = let r = one_less rs ns i e n at note apart in omega arith
-
-  pub at_note : (ns : List SendNote) (i : ℕ) (n : SendNote) → slice_get ns i ≡ Some n → note_at ns i ≡ n
-  at_note ns i n e = get_or_from_slice_get ns i n no_send_note e
 
 -- a moment that was compared
 pub compared_same : (o : Option ℕ) (m : ℕ) → true ≡ option_eq nat_eq o (Some m) → o ≡ Some m

@@ -8,7 +8,7 @@ use Rattle.dt_units.specs.declared.endpoints.Flow.{Flow}
 use Rattle.dt_world_model.specs.Tables.{same_flow}
 use Rattle.dt_world_model.proofs.Tables.{flow_is, flow_self}
 use Rattle.dt_host.specs.Places.{AreIndexed, StandOnce, equal_flows, is_of, place_in, present, slot}
-use Rattle.dt_host.proofs.Flows.{flows_agree}
+use Rattle.dt_world_model.proofs.Maps.{flows_agree}
 use Rattle.dt_host.proofs.Somes.{none_some, same_some, some_none}
 
 -- A PLACE IS WRITTEN
@@ -107,7 +107,7 @@ pub later_some : (o : Option ℕ) (i : ℕ) → option_map suc o ≡ Some i → 
 later_some None i e = absurd (none_some i e)
 later_some (Some j) i e = (j, refl, cc)
 
-later_none : (o : Option ℕ) → option_map suc o ≡ None → o ≡ None
+pub later_none : (o : Option ℕ) → option_map suc o ≡ None → o ≡ None
 later_none None e = refl
 later_none (Some j) e = absurd (some_none (suc j) e)
 

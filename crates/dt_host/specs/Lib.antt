@@ -3,6 +3,7 @@ pub mod Dues
 pub mod Hosts
 pub mod Sides
 pub mod Places
+pub mod Tables
 pub mod Agendas
 pub mod Notes
 pub mod Soonest

@@ -36,14 +36,3 @@ pub record AreIndexed (index : List (Flow × ℕ)) (flows : List (Option Flow)) 
   pub found : (f : Flow) → lookup (equal_flows f) index ≡ place_in f flows
   pub once : StandOnce flows
   pub counted : length index ≡ length (present flows)
-
--- WHAT IS NOTED of what stands in each place: of an empty one nothing
-module _ {A N : Type 0} (P : Flow → A → N → Type 0) (nothing : N) where
-  abbrev pub IsNotedAt : Option (Flow × A) → N → Type 0
-  IsNotedAt None n = n ≡ nothing
-  IsNotedAt (Some e) n = P e.0 e.1 n
-
-  -- The places of flows are those of their records, and each has its note.
-  pub record AreKept (flows : List (Option Flow)) (slots : List (Option (Flow × A))) (note : ℕ → N) : Type 0 where
-    pub named : (i : ℕ) → slot flows i ≡ option_map (λ e. e.0) (slot slots i)
-    pub noted : (i : ℕ) → IsNotedAt (slot slots i) (note i)

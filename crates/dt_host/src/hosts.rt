@@ -20,11 +20,11 @@ use crate::dues::{DueAct, DueKind, lesser};
 use crate::faults::SendFault;
 use crate::octets::Octets;
 use crate::recv_side::RecvSide;
-use crate::segment::Segment;
 use crate::send_side::SendSide;
 use dt_flow_model::{Arrived, RecvKind, SendKind};
 use dt_items::{NoMemory, Piece};
 use dt_layout::{Frame, Packet};
+use dt_recv::Segment;
 use dt_units::{Flow, NodeId, Rules, Steps};
 use std::alloc::Global;
 use std::marker::Model;
@@ -42,12 +42,12 @@ pub struct Host {
     me: NodeId,
     /// It is silent before this moment.
     until: u64,
-    senders: SendSide,
-    receivers: RecvSide,
+    senders: Box<SendSide>,
+    receivers: Box<RecvSide>,
 }
 
-// It is moved by value where a station is made.
-const _: () = prove!(size_of::<Host>() <= 832);
+// It is moved by value where a station is made, so its two sides aren't in place.
+const _: () = prove!(size_of::<Host>() <= 512);
 
 impl Model for Host {
     ghost use Rattle.std.specs.Prelude.{◌≡◌};
@@ -55,28 +55,28 @@ impl Model for Host {
 
     ghost Value = { HostValue };
 
-    ghost view = { λ h. record { rules = h.senders.rules; latest = h.senders.latest; state = record { me = h.me.0; until = h.until; senders = send_records h.senders.entries; receivers = receivers_of h.receivers.entries } } };
+    ghost view = { λ h. record { rules = h.senders.value.rules; latest = h.senders.value.latest; state = record { me = h.me.0; until = h.until; senders = send_records h.senders.value.entries; receivers = receivers_of h.receivers.value.entries } } };
 
-    ghost invariant = { λ h. (h.receivers.rules ≡ h.senders.rules) × (h.receivers.latest ≡ h.senders.latest) };
+    ghost invariant = { λ h. (h.receivers.value.rules ≡ h.senders.value.rules) × (h.receivers.value.latest ≡ h.senders.value.latest) };
 }
 
 impl Host {
-    /// The host of a node that starts for the first time: no records, and it isn't silent. It takes no
-    /// memory, and what later calls take is taken of `alloc`.
+    /// The host of a node that starts for the first time: no records, and it isn't silent. It takes the
+    /// memory for two tables without records, and what later calls take is taken of `alloc` too.
     pub fn first(alloc: Global, rules: &Rules, me: NodeId) -> Result<Host, NoMemory>
         ensures { IfOk result (λ host. host ≡ record { rules = rules.now; latest = 0; state = first_host me.0 }) }
     {
         Ok(Host {
             me,
             until: 0,
-            senders: SendSide::new(alloc, rules, 0),
-            receivers: RecvSide::new(alloc, rules, 0),
+            senders: Box::new(alloc, SendSide::new(alloc, rules, 0)?)?,
+            receivers: Box::new(alloc, RecvSide::new(alloc, rules, 0)?)?,
         })
     }
 
     /// The host of a node that starts again at `now`: no records, and it is silent until `quiet` after
-    /// now, by when the packets and records of its former lives are gone. It takes no memory, as that of
-    /// a first start.
+    /// now, by when the packets and records of its former lives are gone. It takes the memory that a first
+    /// start takes.
     pub fn restarted(alloc: Global, rules: &Rules, me: NodeId, now: u64) -> Result<Host, NoMemory>
         requires moment { now ≤ most_moment }
         ensures { IfOk result (λ host. host ≡ record { rules = rules.now; latest = now; state = restarted_host rules.now me.0 now }) }
@@ -84,8 +84,8 @@ impl Host {
         Ok(Host {
             me,
             until: now + rules.times().quiet,
-            senders: SendSide::new(alloc, rules, now),
-            receivers: RecvSide::new(alloc, rules, now),
+            senders: Box::new(alloc, SendSide::new(alloc, rules, now)?)?,
+            receivers: Box::new(alloc, RecvSide::new(alloc, rules, now)?)?,
         })
     }
 
@@ -232,13 +232,13 @@ impl Host {
                     end,
                     octets,
                 };
-                self.receivers.take(&flow, &segment, reply, steps)
+                self.receivers.on_data(&flow, &segment, reply, steps)
             }
             Packet::Ack { number, window, .. } => {
-                Ok(self.senders.acknowledge(&flow, number, window, steps))
+                Ok(self.senders.on_ack(&flow, number, window, steps))
             }
-            Packet::Meet { number, .. } => Ok(self.receivers.meet(&flow, number, reply, steps)),
-            Packet::Close { number, .. } => Ok(self.receivers.close(&flow, number, steps)),
+            Packet::Meet { number, .. } => Ok(self.receivers.on_meet(&flow, number, reply, steps)),
+            Packet::Close { number, .. } => Ok(self.receivers.on_close(&flow, number, steps)),
         }
     }
 
@@ -300,28 +300,30 @@ impl Host {
         ensures looks { steps.new ≤ steps.old + missed_senders self.old.rules self.old.latest self.old.state.senders + 1 }
         ensures none { result ≡ None → steps.new ≤ steps.old + missed_senders self.old.rules self.old.latest self.old.state.senders }
     {
+        let senders = &mut *self.senders;
+        let receivers = &*self.receivers;
         // With their counts the sides tell that each flow has one record.
-        let _senders = self.senders.count();
-        let _receivers = self.receivers.count();
-        if let Some(due) = self.senders.due(SendKind::GiveUp) {
+        let _senders = senders.count();
+        let _receivers = receivers.count();
+        if let Some(due) = senders.due(SendKind::GiveUp) {
             return Some(due);
         }
-        if let Some(due) = self.senders.due(SendKind::Release) {
+        if let Some(due) = senders.due(SendKind::Release) {
             return Some(due);
         }
-        if let Some(due) = self.receivers.due(RecvKind::Release) {
+        if let Some(due) = receivers.due(RecvKind::Release) {
             return Some(due);
         }
-        if let Some(due) = self.receivers.due(RecvKind::Ack) {
+        if let Some(due) = receivers.due(RecvKind::Ack) {
             return Some(due);
         }
-        if let Some(due) = self.senders.resend_due(steps) {
+        if let Some(due) = senders.resend_due(steps) {
             return Some(due);
         }
-        if let Some(due) = self.senders.due(SendKind::Send) {
+        if let Some(due) = senders.due(SendKind::Send) {
             return Some(due);
         }
-        self.senders.due(SendKind::Meet)
+        senders.due(SendKind::Meet)
     }
 
     /// Does the act that comes next at the latest moment.
@@ -352,11 +354,13 @@ impl Host {
     fn soonest<L: Ledger>(&self, now: u64, steps: &mut Steps<L>) -> Option<DueAct>
         ensures { IsNext self.now.rules now self.now.state result }
     {
+        let senders = &*self.senders;
+        let receivers = &*self.receivers;
         // With their counts the sides tell that each flow has one record.
-        let _senders = self.senders.count();
-        let _receivers = self.receivers.count();
-        let best = self.senders.soonest(now, None, steps);
-        self.receivers.soonest(now, best, steps)
+        let _senders = senders.count();
+        let _receivers = receivers.count();
+        let best = senders.soonest(now, None, steps);
+        receivers.soonest(now, best, steps)
     }
 
     /// The least moment at which an act of any record is due, or none where there is no record that has

@@ -2,17 +2,16 @@
 #![tactic(auto)]
 
 mod acts;
+mod agenda;
 mod dues;
 mod faults;
 mod hosts;
 mod laws;
 mod octets;
 mod places;
-mod recv_agenda;
 mod recv_side;
-mod segment;
-mod send_agenda;
 mod send_side;
+mod table;
 
 pub use acts::{Act, Done};
 pub use dt_flow_model::{Arrived, Cut, RecvAct, SendAct};

@@ -1,7 +1,6 @@
-ghost use Rattle.std.specs.Prelude.{ℕ, suc, ◌≡◌, ◌≢◌, ◌+◌, ◌<◌, ◌≤◌, ◌++◌, [], drop, false, length, IfErr, IfOk, IfSome, OnErr, OnOk, Some, None, unwrap_or};
+ghost use Rattle.std.specs.Prelude.{ℕ, ◌≡◌, ◌+◌, ◌<◌, ◌≤◌, ◌++◌, [], drop, false, length, IfErr, IfOk, IfSome, Some, None, unwrap_or};
 ghost use Rattle.std.specs.Option.{option_copied};
 ghost use Rattle.std.specs.Map.{lookup};
-ghost use Rattle.indexmap.specs.IndexMap.{insert_entry};
 ghost use Rattle.dt_items.specs.Unread.{marked, octets_of, piece_told};
 ghost use Rattle.dt_layout.specs.Carried.{IsGram};
 ghost use Rattle.dt_flow_model.specs.declared.acts.RecvKind.{RecvKind};
@@ -12,41 +11,38 @@ ghost use Rattle.dt_flow_model.specs.Keeping.{most_moment};
 ghost use Rattle.dt_flow_model.specs.ReceiveRecord.{ReceiveRecord, Receiver as ReceiverState, action_on, after_data, after_meet, after_recv_act, answer_to_close, answer_to_data, answer_to_meet, recv_told_of, recv_wake_of};
 ghost use Rattle.dt_world_model.specs.Host.{Host, host_with_receiver, read_octets, receiver_at};
 ghost use Rattle.dt_world_model.specs.Tables.{Distinct, earliest, look, same_flow};
-ghost use Rattle.dt_host.specs.Agendas.{HasRecvRoom, recv_note};
+ghost use Rattle.dt_host.specs.Agendas.{note_of_recv, recv_place};
 ghost use Rattle.dt_host.specs.Answers.{IsDataAnswer, IsDataTaken, replied};
 ghost use Rattle.dt_host.specs.declared.dues.DueKind.TheVariants as due;
 ghost use Rattle.dt_host.specs.Dues.{HasRecvDue, soonest_recv};
-ghost use Rattle.dt_host.specs.Hosts.{AreReceiveEntries, IsReceiveEntry, receivers_of};
+ghost use Rattle.dt_host.specs.Hosts.{AreReceiveEntries, receivers_of};
 ghost use Rattle.dt_host.specs.Notes.{recv_noted};
 ghost use Rattle.dt_host.specs.Places.{equal_flows};
 ghost use Rattle.dt_host.specs.Soonest.{IsQuiet, IsSoonest, receiver_moment};
 
 use crate::dues::{DueAct, DueKind, lesser};
-use crate::places::Places;
-use crate::recv_agenda::RecvAgenda;
-use crate::segment::Segment;
+use crate::table::Table;
 use dt_flow_model::{Action, Arrived, RecvAct, RecvKind};
 use dt_items::{NoMemory, Piece};
 use dt_layout::{Frame, Packet, write_frame};
-use dt_recv::{Receiver, action};
+use dt_recv::{Receiver, Segment, action};
 use dt_units::{Flow, Rules, Steps};
 use std::alloc::Global;
 use std::marker::Model;
 use std::sync::ledger::Ledger;
 
-/// The receivers of a host, each in its place, and what is noted of when each may act. None of them is
-/// idle. A contract sees the parameters, the latest moment, and the receivers with their flows in the
-/// order of their making, which their places keep as those of a [`SendSide`] do.
-///
-/// [`SendSide`]: crate::send_side::SendSide
+/// How many moments are noted of a receiver: those of its acts, in the order of their kinds. It is to be
+/// woken when an act of any kind is due.
+const KINDS: usize = 2;
+
+/// The receivers of a host, and what is noted of when each may act. None of them is idle. A contract sees
+/// the parameters, the latest moment, and the receivers with their flows in the order of their making.
 #[derive(Drop)]
 pub struct RecvSide {
     rules: Rules,
     /// The greatest moment that it was given.
     latest: u64,
-    places: Places,
-    slots: Vec<Option<(Flow, Receiver)>>,
-    agenda: RecvAgenda,
+    table: Table<Receiver>,
 }
 
 impl Model for RecvSide {
@@ -55,24 +51,22 @@ impl Model for RecvSide {
 
     ghost Value = { RecvSideValue };
 
-    ghost view = { λ s. record { rules = s.rules; latest = s.latest; entries = present s.slots.items } };
+    ghost view = { λ s. record { rules = s.rules; latest = s.latest; entries = present s.table.slots.items } };
 
-    ghost invariant = { λ s. IsRecvSide s.rules s.latest s.places s.slots.items s.agenda };
+    ghost invariant = { λ s. IsRecvSide s.rules s.latest s.table.places s.table.slots.items s.table.agenda };
 }
 
 impl RecvSide {
-    /// No receivers. It takes no memory; what later calls take is taken of `alloc`.
-    pub fn new(alloc: Global, rules: &Rules, latest: u64) -> RecvSide
+    /// No receivers. What later calls take is taken of `alloc`.
+    pub fn new(alloc: Global, rules: &Rules, latest: u64) -> Result<RecvSide, NoMemory>
         requires { latest ≤ most_moment }
-        ensures { result ≡ record { rules = rules.now; latest = latest; entries = [] } }
+        ensures { IfOk result (λ side. side ≡ record { rules = rules.now; latest = latest; entries = [] }) }
     {
-        RecvSide {
+        Ok(RecvSide {
             rules: *rules,
             latest,
-            places: Places::new(alloc),
-            slots: Vec::new(alloc),
-            agenda: RecvAgenda::new(alloc),
-        }
+            table: Table::new(alloc, KINDS)?,
+        })
     }
 
     /// Now becomes the latest moment.
@@ -88,11 +82,7 @@ impl RecvSide {
     pub fn receiver(&self, flow: &Flow) -> Option<&Receiver>
         ensures value { option_copied result ≡ lookup (equal_flows flow.now) self.now.entries }
     {
-        let place = self.places.find(flow)?;
-        match &self.slots[place] {
-            Some((_, receiver)) => Some(receiver),
-            None => unreachable!(),
-        }
+        self.table.find(flow)
     }
 
     /// How many flows have a receiver.
@@ -101,7 +91,7 @@ impl RecvSide {
         ensures entries { AreReceiveEntries self.now.rules self.now.entries }
         ensures distinct { Distinct same_flow (receivers_of self.now.entries) }
     {
-        self.places.count()
+        self.table.places.count()
     }
 
     /// The act that comes first at now: the best so far, or one of these receivers. Each is looked at.
@@ -114,7 +104,7 @@ impl RecvSide {
         ensures { result ≡ soonest_recv now best self.now.entries }
     {
         let mut best = best;
-        for slot in self.slots.iter() {
+        for slot in self.table.slots.iter() {
             if let Some((flow, receiver)) = slot
                 && let Some((kind, moment)) = receiver.due(now, steps)
             {
@@ -131,7 +121,7 @@ impl RecvSide {
 
     /// A data packet goes to the flow's receiver. Without one it is made where the table of cases says
     /// so, and else replied to or dropped.
-    pub fn take<L: Ledger>(
+    pub fn on_data<L: Ledger>(
         &mut self,
         flow: &Flow,
         segment: &Segment<'_>,
@@ -152,12 +142,13 @@ impl RecvSide {
             IfErr result (λ _. (look same_flow flow.now (receivers_of self.old.entries) ≡ None) × (action_on self.old.rules (receiver_at before flow.now) segment.now.drf segment.now.number items ≡ Make)) }
         ensures looks { steps.new ≤ steps.old + 2 }
     {
-        if let Some(place) = self.places.find(flow) {
-            let Some((_, receiver)) = &mut self.slots[place] else {
+        if let Some(place) = self.table.place(flow) {
+            let Some((_, receiver)) = &mut self.table.slots[place] else {
                 unreachable!();
             };
             let arrived = hand_over(receiver, segment, self.latest, reply, steps);
-            note(&mut self.agenda, place, receiver, steps);
+            let note = note_of(receiver, steps);
+            self.table.agenda.note(place, &note);
             return Ok(arrived);
         }
         let count = segment.octets.len() as u32;
@@ -191,63 +182,15 @@ impl RecvSide {
         ensures same { self.new ≡ record self.old { entries = self.new.entries } }
         ensures looks { steps.new ≤ steps.old + 2 }
     {
-        let mut receiver = Receiver::new(*self.slots.allocator(), &self.rules, *flow)?;
+        let mut receiver = Receiver::new(*self.table.slots.allocator(), &self.rules, *flow)?;
         let arrived = hand_over(&mut receiver, segment, self.latest, reply, steps);
-        self.add(flow, receiver, steps)?;
+        let note = note_of(&receiver, steps);
+        self.table.add(flow, receiver, &note)?;
         Ok(arrived)
     }
 
-    /// A receiver that was made stands behind all others. `NoMemory` leaves them as they were.
-    fn add<L: Ledger>(
-        &mut self,
-        flow: &Flow,
-        receiver: Receiver,
-        steps: &mut Steps<L>,
-    ) -> Result<(), NoMemory>
-        requires none { lookup (equal_flows flow.now) self.old.entries ≡ None }
-        requires entry { IsReceiveEntry self.old.rules flow.now receiver }
-        ensures ok { OnOk result (self.new ≡ record self.old { entries = insert_entry equal_flows self.old.entries flow.now receiver }) }
-        ensures err { OnErr result (self.new ≡ self.old) }
-        ensures looks { steps.new ≤ steps.old + 1 }
-    {
-        self.close_up();
-        let place = self.slots.len();
-        self.agenda.hold(place)?;
-        self.places.hold(place)?;
-        self.slots.push(None)?;
-        self.places.take(place, flow)?;
-        note(&mut self.agenda, place, &receiver, steps);
-        self.slots[place] = Some((*flow, receiver));
-        Ok(())
-    }
-
-    /// Where no place is left behind the receivers and half of the places are empty or more, the
-    /// receivers close up. The cost is that of all places, and it is paid once for as many receivers
-    /// that are made.
-    fn close_up(&mut self)
-        ensures { self.new ≡ self.old }
-    {
-        let count = self.slots.len();
-        if count < self.agenda.room() || self.places.count() > count / 2 {
-            return;
-        }
-        let mut to = 0;
-        for from in 0..count {
-            let Some((flow, receiver)) = self.slots[from].take() else {
-                continue;
-            };
-            // With its count it tells that each flow stands once.
-            let _count = self.places.count();
-            self.places.shift(&flow, from, to);
-            self.agenda.shift(from, to);
-            self.slots[to] = Some((flow, receiver));
-            to += 1;
-        }
-        self.slots.truncate(to);
-    }
-
     /// A rendezvous packet goes to the flow's receiver. Without one it is replied to with its own number.
-    pub fn meet<L: Ledger>(
+    pub fn on_meet<L: Ledger>(
         &mut self,
         flow: &Flow,
         number: u32,
@@ -262,19 +205,20 @@ impl RecvSide {
         ensures same { self.new ≡ record self.old { entries = self.new.entries } }
         ensures looks { steps.new ≤ steps.old + 2 }
     {
-        let Some(place) = self.places.find(flow) else {
+        let Some(place) = self.table.place(flow) else {
             return reply_without(&self.rules, flow, number, reply);
         };
-        let Some((_, receiver)) = &mut self.slots[place] else {
+        let Some((_, receiver)) = &mut self.table.slots[place] else {
             unreachable!();
         };
         let arrived = receiver.on_meet(number, self.latest, reply, steps);
-        note(&mut self.agenda, place, receiver, steps);
+        let note = note_of(receiver, steps);
+        self.table.agenda.note(place, &note);
         arrived
     }
 
     /// A closing packet is told or dropped.
-    pub fn close<L: Ledger>(&self, flow: &Flow, number: u32, steps: &mut Steps<L>) -> Arrived
+    pub fn on_close<L: Ledger>(&self, flow: &Flow, number: u32, steps: &mut Steps<L>) -> Arrived
         ensures answer { (host : Host) → result ≡ answer_to_close (receiver_at (record host { receivers = receivers_of self.now.entries }) flow.now) number }
         ensures looks { steps.new ≤ steps.old + 1 }
     {
@@ -301,18 +245,17 @@ impl RecvSide {
         ensures same { self.new ≡ record self.old { entries = self.new.entries } }
         ensures looks { steps.new ≤ steps.old + 2 }
     {
-        let place = self.places.find(flow)?;
-        let Some((_, receiver)) = &mut self.slots[place] else {
+        let place = self.table.place(flow)?;
+        let Some((_, receiver)) = &mut self.table.slots[place] else {
             unreachable!();
         };
         let piece = receiver.read(buf, self.latest, steps)?;
         let idle = receiver.is_idle();
         if idle {
-            self.slots[place] = None;
-            self.places.leave(place, flow);
-            self.agenda.forget(place);
+            self.table.remove(place, flow);
         } else {
-            note(&mut self.agenda, place, receiver, steps);
+            let note = note_of(receiver, steps);
+            self.table.agenda.note(place, &note);
         }
         Some(piece)
     }
@@ -335,20 +278,19 @@ impl RecvSide {
         ensures same { self.new ≡ record self.old { entries = self.new.entries } }
         ensures looks { steps.new ≤ steps.old + 2 }
     {
-        let Some(place) = self.places.find(flow) else {
+        let Some(place) = self.table.place(flow) else {
             unreachable!();
         };
-        let Some((_, receiver)) = &mut self.slots[place] else {
+        let Some((_, receiver)) = &mut self.table.slots[place] else {
             unreachable!();
         };
         let act = receiver.act(self.latest, frame, steps);
         let idle = receiver.is_idle();
         if idle {
-            self.slots[place] = None;
-            self.places.leave(place, flow);
-            self.agenda.forget(place);
+            self.table.remove(place, flow);
         } else {
-            note(&mut self.agenda, place, receiver, steps);
+            let note = note_of(receiver, steps);
+            self.table.agenda.note(place, &note);
         }
         act
     }
@@ -358,11 +300,11 @@ impl RecvSide {
         ensures quiet { result ≡ None → IsQuiet (receiver_moment self.now.rules kind) self.now.latest self.now.entries }
         ensures found { IfSome result (λ d. IsSoonest (receiver_moment self.now.rules kind) self.now.latest self.now.entries (due.Recv kind) d) }
     {
-        let (moment, place) = self.agenda.first(kind)?;
+        let (moment, place) = self.table.agenda.first(place_of(kind))?;
         if moment > self.latest {
             return None;
         }
-        let Some((flow, _)) = &self.slots[place] else {
+        let Some((flow, _)) = &self.table.slots[place] else {
             unreachable!();
         };
         Some(DueAct {
@@ -386,21 +328,28 @@ impl RecvSide {
     fn soonest_of(&self, kind: RecvKind) -> Option<u64>
         ensures { result ≡ earliest (λ e. receiver_moment self.now.rules kind e.1) self.now.entries }
     {
-        let (moment, _) = self.agenda.first(kind)?;
+        let (moment, _) = self.table.agenda.first(place_of(kind))?;
         Some(moment)
     }
 }
 
-/// Notes the moments of the receiver in a place.
-fn note<L: Ledger>(agenda: &mut RecvAgenda, place: usize, receiver: &Receiver, steps: &mut Steps<L>)
-    requires { HasRecvRoom (suc place) agenda.old }
-    ensures here { recv_note agenda.new place ≡ recv_noted receiver.now.rules receiver.now.state }
-    ensures others { (i : ℕ) → i ≢ place → recv_note agenda.new i ≡ recv_note agenda.old i }
-    ensures room { (count : ℕ) → HasRecvRoom count agenda.old → HasRecvRoom count agenda.new }
+/// Where the moment of a kind of acts stands in a note.
+fn place_of(kind: RecvKind) -> usize
+    ensures { result ≡ recv_place kind }
+{
+    match kind {
+        RecvKind::Release => 0,
+        RecvKind::Ack => 1,
+    }
+}
+
+/// What is noted of a receiver.
+fn note_of<L: Ledger>(receiver: &Receiver, steps: &mut Steps<L>) -> [Option<u64>; KINDS]
+    ensures note { result ≡ note_of_recv (recv_noted receiver.now.rules receiver.now.state) }
     ensures looks { steps.new ≡ steps.old + 1 }
 {
     let moments = receiver.moments(steps);
-    agenda.note(place, moments);
+    [moments.release, moments.ack]
 }
 
 /// A data packet goes to its receiver.

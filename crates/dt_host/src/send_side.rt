@@ -1,7 +1,6 @@
-ghost use Rattle.std.specs.Prelude.{ℕ, suc, ◌≡◌, ◌≢◌, ◌+◌, ◌<◌, ◌≤◌, [], false, length, IfErr, IfOk, IfSome, OnErr, OnOk, Some, None, unwrap_or};
+ghost use Rattle.std.specs.Prelude.{ℕ, ◌≡◌, ◌+◌, ◌<◌, ◌≤◌, [], false, length, IfErr, IfOk, IfSome, Some, None, unwrap_or};
 ghost use Rattle.std.specs.Option.{option_and_then, option_copied};
 ghost use Rattle.std.specs.Map.{lookup};
-ghost use Rattle.indexmap.specs.IndexMap.{insert_entry};
 ghost use Rattle.dt_items.specs.Unread.{marked};
 ghost use Rattle.dt_layout.specs.Carried.{IsGram};
 ghost use Rattle.dt_flow_model.specs.declared.acts.SendKind.TheVariants.{Resend};
@@ -12,12 +11,12 @@ ghost use Rattle.dt_flow_model.specs.SendRecord.{SendRecord, on_ack};
 ghost use Rattle.dt_flow_model.specs.SendActs.{Act, record_after, told_of, wake_of};
 ghost use Rattle.dt_world_model.specs.Host.{Host, ack_answer, sender_at};
 ghost use Rattle.dt_world_model.specs.Tables.{Distinct, earliest, look, same_flow, write_or_erase};
-ghost use Rattle.dt_host.specs.Agendas.{HasSendRoom, send_note};
+ghost use Rattle.dt_host.specs.Agendas.{note_of_send, send_place};
 ghost use Rattle.dt_host.specs.Answers.{IsSent};
 ghost use Rattle.dt_host.specs.declared.dues.DueKind.TheVariants as due;
 ghost use Rattle.dt_host.specs.declared.faults.SendFault.TheVariants as send_fault;
 ghost use Rattle.dt_host.specs.Dues.{HasDue, soonest_send};
-ghost use Rattle.dt_host.specs.Hosts.{AreSendEntries, IsSendEntry, send_records};
+ghost use Rattle.dt_host.specs.Hosts.{AreSendEntries, send_records};
 ghost use Rattle.dt_host.specs.Notes.{send_noted};
 ghost use Rattle.dt_host.specs.Places.{equal_flows};
 ghost use Rattle.dt_host.specs.Soonest.{IsQuiet, IsSoonest, missed_senders, sender_moment};
@@ -25,8 +24,7 @@ ghost use Rattle.dt_host.specs.Soonest.{IsQuiet, IsSoonest, missed_senders, send
 use crate::dues::{DueAct, DueKind};
 use crate::faults::SendFault;
 use crate::octets::Octets;
-use crate::places::Places;
-use crate::send_agenda::SendAgenda;
+use crate::table::Table;
 use dt_flow_model::{Arrived, SendAct, SendKind};
 use dt_items::NoMemory;
 use dt_layout::Frame;
@@ -36,20 +34,24 @@ use std::alloc::Global;
 use std::marker::Model;
 use std::sync::ledger::Ledger;
 
-/// The senders of a host, each in its place, and what is noted of when each may act. A contract sees the
-/// parameters, the latest moment, and the senders with their flows in the order of their making.
-///
-/// A sender that is made stands behind all others, and one that goes leaves its place empty, so that the
-/// order of the places is that of making. Where a place is wanted, there is none, and half of them are
-/// empty or more, the senders close up.
+/// How many moments are noted of a sender: those of its acts, in the order of their kinds, and when to
+/// wake it.
+const KINDS: usize = 6;
+
+/// Where the moment of a resend stands in a note.
+const RESEND: usize = 2;
+
+/// Where the moment to wake a sender stands in its note.
+const WAKE: usize = 5;
+
+/// The senders of a host, and what is noted of when each may act. A contract sees the parameters, the
+/// latest moment, and the senders with their flows in the order of their making.
 #[derive(Drop)]
 pub struct SendSide {
     rules: Rules,
     /// The greatest moment that it was given.
     latest: u64,
-    places: Places,
-    slots: Vec<Option<(Flow, Sender)>>,
-    agenda: SendAgenda,
+    table: Table<Sender>,
 }
 
 impl Model for SendSide {
@@ -58,24 +60,22 @@ impl Model for SendSide {
 
     ghost Value = { SendSideValue };
 
-    ghost view = { λ s. record { rules = s.rules; latest = s.latest; entries = present s.slots.items } };
+    ghost view = { λ s. record { rules = s.rules; latest = s.latest; entries = present s.table.slots.items } };
 
-    ghost invariant = { λ s. IsSendSide s.rules s.latest s.places s.slots.items s.agenda };
+    ghost invariant = { λ s. IsSendSide s.rules s.latest s.table.places s.table.slots.items s.table.agenda };
 }
 
 impl SendSide {
-    /// No senders. It takes no memory; what later calls take is taken of `alloc`.
-    pub fn new(alloc: Global, rules: &Rules, latest: u64) -> SendSide
+    /// No senders. What later calls take is taken of `alloc`.
+    pub fn new(alloc: Global, rules: &Rules, latest: u64) -> Result<SendSide, NoMemory>
         requires { latest ≤ most_moment }
-        ensures { result ≡ record { rules = rules.now; latest = latest; entries = [] } }
+        ensures { IfOk result (λ side. side ≡ record { rules = rules.now; latest = latest; entries = [] }) }
     {
-        SendSide {
+        Ok(SendSide {
             rules: *rules,
             latest,
-            places: Places::new(alloc),
-            slots: Vec::new(alloc),
-            agenda: SendAgenda::new(alloc),
-        }
+            table: Table::new(alloc, KINDS)?,
+        })
     }
 
     /// Now becomes the latest moment.
@@ -100,7 +100,7 @@ impl SendSide {
         ensures entries { AreSendEntries self.now.rules self.now.entries }
         ensures distinct { Distinct same_flow (send_records self.now.entries) }
     {
-        self.places.count()
+        self.table.places.count()
     }
 
     /// The flow's sender.
@@ -108,11 +108,7 @@ impl SendSide {
         ensures value { option_copied result ≡ lookup (equal_flows flow.now) self.now.entries }
         ensures entries { AreSendEntries self.now.rules self.now.entries }
     {
-        let place = self.places.find(flow)?;
-        match &self.slots[place] {
-            Some((_, sender)) => Some(sender),
-            None => unreachable!(),
-        }
+        self.table.find(flow)
     }
 
     /// The act that comes first at now: the best so far, or one of these senders. Each is looked at.
@@ -125,7 +121,7 @@ impl SendSide {
         ensures { result ≡ soonest_send now best self.now.entries }
     {
         let mut best = best;
-        for slot in self.slots.iter() {
+        for slot in self.table.slots.iter() {
             if let Some((flow, sender)) = slot
                 && let Some((kind, moment)) = sender.due(now, steps)
             {
@@ -155,14 +151,15 @@ impl SendSide {
         ensures memory { IfErr result (λ fault. fault ≡ send_fault.NoMemory → look same_flow flow.now (send_records self.old.entries) ≡ None) }
         ensures looks { steps.new ≤ steps.old + 3 }
     {
-        let Some(place) = self.places.find(flow) else {
+        let Some(place) = self.table.place(flow) else {
             return self.make(flow, asked, steps);
         };
-        let Some((_, sender)) = &mut self.slots[place] else {
+        let Some((_, sender)) = &mut self.table.slots[place] else {
             unreachable!();
         };
         let put = sender.put(asked.octets, asked.begin, asked.end, steps);
-        note(&mut self.agenda, place, sender, self.latest, steps);
+        let note = note_of(sender, self.latest, steps);
+        self.table.agenda.note(place, &note);
         put?;
         Ok(())
     }
@@ -186,62 +183,20 @@ impl SendSide {
         if asked.octets.len() > free as usize {
             return Err(SendFault::Full { free });
         }
-        let mut sender = Sender::new(*self.slots.allocator(), &self.rules, *flow, self.latest)?;
+        let mut sender = Sender::new(
+            *self.table.slots.allocator(),
+            &self.rules,
+            *flow,
+            self.latest,
+        )?;
         sender.put(asked.octets, asked.begin, asked.end, steps)?;
-        self.add(flow, sender, steps)?;
+        let note = note_of(&sender, self.latest, steps);
+        self.table.add(flow, sender, &note)?;
         Ok(())
-    }
-
-    /// A sender that was made stands behind all others. `NoMemory` leaves them as they were.
-    fn add<L: Ledger>(
-        &mut self,
-        flow: &Flow,
-        sender: Sender,
-        steps: &mut Steps<L>,
-    ) -> Result<(), NoMemory>
-        requires none { lookup (equal_flows flow.now) self.old.entries ≡ None }
-        requires entry { IsSendEntry self.old.rules flow.now sender }
-        ensures ok { OnOk result (self.new ≡ record self.old { entries = insert_entry equal_flows self.old.entries flow.now sender }) }
-        ensures err { OnErr result (self.new ≡ self.old) }
-        ensures looks { steps.new ≤ steps.old + 2 }
-    {
-        self.close_up();
-        let place = self.slots.len();
-        self.agenda.hold(place)?;
-        self.places.hold(place)?;
-        self.slots.push(None)?;
-        self.places.take(place, flow)?;
-        note(&mut self.agenda, place, &sender, self.latest, steps);
-        self.slots[place] = Some((*flow, sender));
-        Ok(())
-    }
-
-    /// Where no place is left behind the senders and half of the places are empty or more, the senders
-    /// close up. The cost is that of all places, and it is paid once for as many senders that are made.
-    fn close_up(&mut self)
-        ensures { self.new ≡ self.old }
-    {
-        let count = self.slots.len();
-        if count < self.agenda.room() || self.places.count() > count / 2 {
-            return;
-        }
-        let mut to = 0;
-        for from in 0..count {
-            let Some((flow, sender)) = self.slots[from].take() else {
-                continue;
-            };
-            // With its count it tells that each flow stands once.
-            let _count = self.places.count();
-            self.places.shift(&flow, from, to);
-            self.agenda.shift(from, to);
-            self.slots[to] = Some((flow, sender));
-            to += 1;
-        }
-        self.slots.truncate(to);
     }
 
     /// An acknowledgement goes to the flow's sender.
-    pub fn acknowledge<L: Ledger>(
+    pub fn on_ack<L: Ledger>(
         &mut self,
         flow: &Flow,
         number: u32,
@@ -255,14 +210,15 @@ impl SendSide {
         ensures same { self.new ≡ record self.old { entries = self.new.entries } }
         ensures looks { steps.new ≤ steps.old + 3 }
     {
-        let Some(place) = self.places.find(flow) else {
+        let Some(place) = self.table.place(flow) else {
             return Arrived::Dropped;
         };
-        let Some((_, sender)) = &mut self.slots[place] else {
+        let Some((_, sender)) = &mut self.table.slots[place] else {
             unreachable!();
         };
         let acked = sender.on_ack(number, window, steps);
-        note(&mut self.agenda, place, sender, self.latest, steps);
+        let note = note_of(sender, self.latest, steps);
+        self.table.agenda.note(place, &note);
         let Some(count) = acked else {
             return Arrived::Dropped;
         };
@@ -288,19 +244,18 @@ impl SendSide {
         ensures same { self.new ≡ record self.old { entries = self.new.entries } }
         ensures looks { steps.new ≤ steps.old + 3 }
     {
-        let Some(place) = self.places.find(flow) else {
+        let Some(place) = self.table.place(flow) else {
             unreachable!();
         };
-        let Some((_, sender)) = &mut self.slots[place] else {
+        let Some((_, sender)) = &mut self.table.slots[place] else {
             unreachable!();
         };
         let act = sender.act(self.latest, frame, steps);
         if let SendAct::Released = act {
-            self.slots[place] = None;
-            self.places.leave(place, flow);
-            self.agenda.forget(place);
+            self.table.remove(place, flow);
         } else {
-            note(&mut self.agenda, place, sender, self.latest, steps);
+            let note = note_of(sender, self.latest, steps);
+            self.table.agenda.note(place, &note);
         }
         act
     }
@@ -311,11 +266,11 @@ impl SendSide {
         ensures quiet { result ≡ None → IsQuiet (sender_moment self.now.rules self.now.latest kind) self.now.latest self.now.entries }
         ensures found { IfSome result (λ d. IsSoonest (sender_moment self.now.rules self.now.latest kind) self.now.latest self.now.entries (due.Send kind) d) }
     {
-        let (moment, place) = self.agenda.first(kind)?;
+        let (moment, place) = self.table.agenda.first(place_of(kind))?;
         if moment > self.latest {
             return None;
         }
-        let Some((flow, _)) = &self.slots[place] else {
+        let Some((flow, _)) = &self.table.slots[place] else {
             unreachable!();
         };
         Some(DueAct {
@@ -335,11 +290,11 @@ impl SendSide {
         ensures looks { steps.new ≤ steps.old + missed_senders self.old.rules self.old.latest (send_records self.old.entries) + 1 }
         ensures none { result ≡ None → steps.new ≤ steps.old + missed_senders self.old.rules self.old.latest (send_records self.old.entries) }
     {
-        while let Some((moment, place)) = self.agenda.first(SendKind::Resend) {
+        while let Some((moment, place)) = self.table.agenda.first(RESEND) {
             if moment > self.latest {
                 return None;
             }
-            let Some((flow, sender)) = &self.slots[place] else {
+            let Some((flow, sender)) = &self.table.slots[place] else {
                 unreachable!();
             };
             let resend = sender.moments(self.latest, steps).resend;
@@ -350,7 +305,7 @@ impl SendSide {
                     flow: *flow,
                 });
             }
-            self.agenda.note_resend(place, resend);
+            self.table.agenda.note_one(place, RESEND, resend);
         }
         None
     }
@@ -359,26 +314,37 @@ impl SendSide {
     pub fn wake(&self) -> Option<u64>
         ensures { result ≡ earliest (λ e. wake_of self.now.rules e.1) (send_records self.now.entries) }
     {
-        let (moment, _) = self.agenda.wake()?;
+        let (moment, _) = self.table.agenda.first(WAKE)?;
         Some(moment)
     }
 }
 
-/// Notes the moments of the sender in a place, as they stand at now.
-fn note<L: Ledger>(
-    agenda: &mut SendAgenda,
-    place: usize,
-    sender: &Sender,
-    now: u64,
-    steps: &mut Steps<L>,
-)
-    requires { HasSendRoom (suc place) agenda.old }
-    ensures here { send_note agenda.new place ≡ send_noted sender.now.rules now sender.now.state }
-    ensures others { (i : ℕ) → i ≢ place → send_note agenda.new i ≡ send_note agenda.old i }
-    ensures room { (count : ℕ) → HasSendRoom count agenda.old → HasSendRoom count agenda.new }
+/// Where the moment of a kind of acts stands in a note.
+fn place_of(kind: SendKind) -> usize
+    ensures { result ≡ send_place kind }
+{
+    match kind {
+        SendKind::GiveUp => 0,
+        SendKind::Release => 1,
+        SendKind::Resend => RESEND,
+        SendKind::Send => 3,
+        SendKind::Meet => 4,
+    }
+}
+
+/// What is noted of a sender, as it stands at now.
+fn note_of<L: Ledger>(sender: &Sender, now: u64, steps: &mut Steps<L>) -> [Option<u64>; KINDS]
+    ensures note { result ≡ note_of_send (send_noted sender.now.rules now sender.now.state) }
     ensures looks { steps.new ≡ steps.old + 2 }
 {
     let moments = sender.moments(now, steps);
     let wake = sender.wake(steps);
-    agenda.note(place, moments, wake);
+    [
+        moments.give_up,
+        moments.release,
+        moments.resend,
+        moments.send,
+        moments.meet,
+        wake,
+    ]
 }

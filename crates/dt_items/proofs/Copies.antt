@@ -5,7 +5,7 @@ use Rattle.dt_items.specs.declared.item.Item.{Item}
 use Rattle.dt_items.specs.Unread.{octets_of}
 use Rattle.dt_items.proofs.Marks.{blank}
 
--- the items behind the first slice stand in the second
+-- the items after the first slice stand in the second
 pub behind_front : (front back : List Item) (from : ℕ) → length front ≤ from → drop from (front ++ back) ≡ drop (from - length front) back
 behind_front [] back from h = let e : from - 0 ≡ from = omega arith in sym (ap (λ k. drop k back) e)
 behind_front (x ∷ front) back zero h = absurd (omega arith)
@@ -13,7 +13,7 @@ behind_front (x ∷ front) back (suc from) h =
     let e : suc from - suc (length front) ≡ from - length front = omega arith in
     behind_front front back from (omega arith) ∙ sym (ap (λ k. drop k back) e)
 
--- one octet more is written behind those of the items before it
+-- one octet more is written after those of the items before it
 pub written_more : (items : List Item) (was room : List ℕ) (i : ℕ) → i < length items → length items ≤ length was → room ≡ octets_of (take i items) ++ drop i was
     → set room i (get_or items i blank).octet ≡ octets_of (take (i + 1) items) ++ drop (i + 1) was
 written_more items was room i p q h =
@@ -32,11 +32,11 @@ take_both (x ∷ front) back (suc count) =
     let e : suc count - suc (length front) ≡ count - length front = omega arith in
     ap (λ r. x ∷ r) (take_both front back count) ∙ sym (ap (λ k. x ∷ (take count front ++ take k back)) e)
 
--- what is left of a count behind the first slice fits into the second
+-- what is left of a count after the first slice fits into the second
 pub rest_fits : (front back : List Item) (count first : ℕ) → first ≡ min count (length front) → count ≤ length front + length back → count - first ≤ length back
 rest_fits front back count first f p = omega (arith, f)
 
--- the octets of the first slice are written, and behind them those of the second: the room's rest stays
+-- the octets of the first slice are written, and after them those of the second: the room's rest stays
 pub copied : (front back : List Item) (was one part : List ℕ) (count first size : ℕ) → first ≡ min count (length front) → count ≤ length front + length back → count ≤ length was
     → one ≡ octets_of (take first front) ++ drop (length (take first front)) was → size ≡ length one - first
     → part ≡ octets_of (take (count - first) back) ++ drop (length (take (count - first) back)) (take size (drop first one))

@@ -27,7 +27,7 @@ count_fits (item ∷ items) =
       | false ↦ omega arith
     ]
 
--- a mark stands among the first items: those behind them don't count
+-- a mark stands among the first items: those after them don't count
 stops_in : (front back : List Item) → unmarked_count front < length front → unmarked_count (front ++ back) ≡ unmarked_count front
 stops_in [] back h = absurd (omega arith)
 stops_in (item ∷ front) back h =
@@ -36,7 +36,7 @@ stops_in (item ∷ front) back h =
       | false ↦ λ p. refl
     ] h
 
--- none does: those behind them count too
+-- none does: those after them count too
 goes_past : (front back : List Item) → length front ≤ unmarked_count front → unmarked_count (front ++ back) ≡ unmarked_count front + unmarked_count back
 goes_past [] back h = omega arith
 goes_past (item ∷ front) back h =

@@ -6,7 +6,7 @@ use Rattle.dt_items.specs.Unread.{goes_on, following}
 use Rattle.dt_items.specs.Unmarked.{is_unmarked, unmarked_count}
 use Rattle.dt_items.proofs.Longest.{all_off, from_all_off}
 
--- nothing goes on behind an end mark
+-- nothing goes on after an end mark
 pub ended : (n : ℕ) (before : Item) (items : List Item) → before.end ≡ true → following n before items ≡ []
 ended n before [] h = refl
 ended zero before (item ∷ items) h = refl

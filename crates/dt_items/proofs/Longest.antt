@@ -53,7 +53,7 @@ runs first [] h i d p = absurd (omega arith)
 runs first (item ∷ items) h zero d p = (all_off first.end item.begin item.run h.0).2
 runs first (item ∷ items) h (suc i) d p = runs item items h.1 i d (omega arith)
 
--- a fact of every item behind the first
+-- a fact of every item after the first
 behind : (P : Item → Type 0) (first : Item) (items : List Item) → ((i : ℕ) (d : Item) → i < length items → P (get_or items i d)) → (i : ℕ) (d : Item) → 0 < i → i < length (first ∷ items) → P (get_or (first ∷ items) i d)
 behind P first items h zero d p q = absurd (omega arith)
 behind P first items h (suc i) d p q = h i d (omega arith)

@@ -34,7 +34,7 @@ first_piece-fits n [] = omega arith
 first_piece-fits zero (item ∷ items) = omega arith
 first_piece-fits (suc n) (item ∷ items) = omega (arith, following_fits n item items)
 
--- what a read of a buffer of m octets and one more does, where the first item and those behind it that
+-- what a read of a buffer of m octets and one more does, where the first item and those after it that
 -- go on its piece are written to its front
 pub takes : (m : ℕ) (first : Item) (rest : List Item) (was : List ℕ) (more : ℕ) (last : Item) (buf : List ℕ) → more ≡ length (following m first rest) → last ≡ last_item first (take more rest)
     → buf ≡ first.octet ∷ (octets_of (take more rest) ++ drop (suc more) was)

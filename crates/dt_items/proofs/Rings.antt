@@ -12,7 +12,7 @@ keep_all n items h =
     let e : length items - n ≡ 0 = omega arith in
     ap (λ k. drop k items) e
 
--- one more of these items, where the ones before it stand behind what was there
+-- one more of these items, where the ones before it stand after what was there
 pub pushed : (now was : Buffer Item) (items : List Item) (i : ℕ) (item : Item) → i < length items → length was.items + length items ≤ was.capacity → item ≡ get_or items i blank
     → now ≡ buffer (was.items ++ take i items) was.capacity
     → buffer (keep_last now.capacity (now.items ++ item ∷ [])) now.capacity ≡ buffer (was.items ++ take (i + 1) items) was.capacity
@@ -32,7 +32,7 @@ take_sum n m xs = sym (
     ∙ take-append-drop n (take (n + m) xs)
     )
 
--- so many more octets without marks, where the ones before them stand behind what was there
+-- so many more octets without marks, where the ones before them stand after what was there
 pub appended : (now was : Buffer Item) (octets : List ℕ) (done count : ℕ) (items : List Item) → done + count ≤ length octets → length was.items + length octets ≤ was.capacity → items ≡ unmarked (take count (drop done octets))
     → now ≡ buffer (was.items ++ unmarked (take done octets)) was.capacity
     → buffer (keep_last now.capacity (now.items ++ items)) now.capacity ≡ buffer (was.items ++ unmarked (take (done + count) octets)) was.capacity
@@ -48,7 +48,7 @@ appended now was octets done count items p q e h =
     let n = ap length all in
     ap (λ b. buffer b now.capacity) (keep_all now.capacity (now.items ++ items) (omega arith)) ∙ ap (λ r. buffer r now.capacity) all ∙ ap (λ k. buffer (was.items ++ unmarked (take (done + count) octets)) k) room
 
--- the octets between the first and the last stand behind the first
+-- the octets between the first and the last stand after the first
 pub appended_middle : (now first was : Buffer Item) (octets : List ℕ) (last : ℕ) (begin end run : Bool) → suc last ≡ length octets → 0 < last
     → first ≡ buffer (was.items ++ take 1 (marked octets begin end run)) was.capacity
     → now ≡ buffer (first.items ++ unmarked (take (last - 1) (drop 1 octets))) first.capacity

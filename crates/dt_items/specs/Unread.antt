@@ -69,7 +69,7 @@ pub record IsLongestPiece (n : ℕ) (items piece : List Item) : Type 0 where
   pub one : IsOnePiece piece
   pub longest : (k : ℕ) → k ≤ n → IsOnePiece (take k items) → length (take k items) ≤ length piece
 
--- A read of at most n octets: it tells the piece and leaves the items behind it, and the octets of the
+-- A read of at most n octets: it tells the piece and leaves the items after it, and the octets of the
 -- piece stand first in the buffer, whose rest stays.
 pub record TakesPiece (n : ℕ) (items : List Item) (was : List ℕ) (piece : Piece) (rest : List Item) (buf : List ℕ) : Type 0 where
   pub told : piece_told (first_piece n items) ≡ Some piece

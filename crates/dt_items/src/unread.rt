@@ -53,7 +53,7 @@ fn following_len(before: &Item, items: &HeapCircularBuffer<Item>, most: usize) -
     }
 }
 
-/// The last of the first item and of so many behind it.
+/// The last of the first item and of so many after it.
 fn last_of(first: &Item, items: &HeapCircularBuffer<Item>, more: usize) -> Item
     requires { more ≤ length items.now.items }
     ensures { result ≡ last_item first.now (take more items.now.items) }
@@ -65,7 +65,7 @@ fn last_of(first: &Item, items: &HeapCircularBuffer<Item>, more: usize) -> Item
     }
 }
 
-/// Copies the octets of the first item, and of those behind it that go on its piece, as many as fit, to
+/// Copies the octets of the first item, and of those after it that go on its piece, as many as fit, to
 /// the front of the buffer, and tells the piece.
 fn copy_piece(first: &Item, items: &HeapCircularBuffer<Item>, buf: &mut [u8]) -> Piece
     requires { 0 < length buf.old }

@@ -52,7 +52,7 @@ module _ (change : FlowLedger → FlowLedger) (f : Flow) (old : List (Flow × Fl
     pub there_err : OnErr r (after ≡ l) → OnErr r (new ≡ old)
     there_err h = on_err_weaker r (λ e. unchanged f old new l after there e (on_some loan b is wrote)) h
 
-  -- it isn't, and comes behind all others with what the call makes of an empty ledger
+  -- it isn't, and comes after all others with what the call makes of an empty ledger
   pub absent_ok : (first after : FlowLedger) (inside new : List (Flow × FlowLedger)) → None ≡ look same_flow f old → first ≡ record { taken = []; given = []; reads = [] } → after ≡ change first → inside ≡ old → new ≡ insert_entry equal_flows inside f after
       → new ≡ write same_flow f (change (ledger_in old f)) old
   absent_ok first after inside new none is made same e =

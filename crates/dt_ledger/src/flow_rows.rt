@@ -1,12 +1,15 @@
 ghost use Rattle.std.specs.Prelude.{◌≡◌, ◌+◌, ◌^◌, ◌<◌, ◌≤◌, ◌↔◌, [], ◌++◌, false, length, IfSome, IsNone, OnErr, OnOk, slice_get, Some};
 ghost use Rattle.dt_items.specs.Unread.{marked};
 ghost use Rattle.dt_flow_model.specs.Keeping.{most_moment};
-ghost use Rattle.dt_flow_model.specs.Ledger.{HasNoEntry, first_unsent, given_rows, note_first, note_read, settle, take_rows, top};
+ghost use Rattle.dt_flow_model.specs.Ledger.{HasNoEntry, first_unsent, note_first, note_read, settle, take_rows, top};
 ghost use Rattle.dt_world_model.specs.Ledgers.{totals_of};
+ghost use Rattle.dt_ledger.specs.Gives.{rows_given};
 ghost use Rattle.dt_ledger.specs.Reads.{read_of_all};
 ghost use Rattle.dt_ledger.specs.Rows.{settle_at};
 
-use crate::gives::{Give, GivenRows};
+use crate::given_octets::GivenOctets;
+use crate::gives::GivenRows;
+use crate::moments::Instant;
 use crate::read_counts::ReadCounts;
 use crate::taken_rows::TakenRows;
 use dt_flow_model::{Fate, Taken};
@@ -49,7 +52,7 @@ impl FlowRows {
         }
     }
 
-    /// Octets are taken in a life of the sending station: a row each, behind all others, with no fate
+    /// Octets are taken in a life of the sending station: a row each, after all others, with no fate
     /// and no first moment. The first begins a message and the last ends one, where that is asked for.
     /// `NoMemory` leaves the ledger as it was. The cost is that of the octets.
     pub fn take(&mut self, life: u32, octets: &[u8], begin: bool, end: bool) -> Result<(), NoMemory>
@@ -66,6 +69,7 @@ impl FlowRows {
         requires moment { at ≤ most_moment }
         ensures { self.new ≡ record self.old { taken = note_first at place count self.old.taken } }
     {
+        let at = Instant { milliseconds: at };
         self.taken.note_first(place, count, at);
     }
 
@@ -96,37 +100,17 @@ impl FlowRows {
         ensures place { result ≡ first_unsent life self.old.taken }
         ensures noted { self.new ≡ record self.old { taken = note_first at (first_unsent life self.old.taken) count self.old.taken } }
     {
+        let at = Instant { milliseconds: at };
         self.taken.note_next(life, count, at)
     }
 
-    /// Octets are given to the receiver at `at`, in a life of its station: a row each, behind all
-    /// others, with the places from `place` on. The first begins a message and the last ends one, and
-    /// the first has a run mark, where that is asked for. `NoMemory` leaves the ledger as it was. The cost
-    /// is that of the octets.
-    pub fn give(
-        &mut self,
-        place: u64,
-        octets: &[u8],
-        begin: bool,
-        end: bool,
-        run: bool,
-        life: u32,
-        at: u64,
-    ) -> Result<(), NoMemory>
-        requires below { place + length octets.now < 2 ^ 62 }
-        ensures ok { OnOk result (self.new ≡ record self.old { given = self.old.given ++ given_rows life at run place (marked octets.now begin end false) }) }
+    /// Octets are given to the receiver: a row each, after all others. `NoMemory` leaves the ledger as it
+    /// was. The cost is that of the octets.
+    pub fn give(&mut self, given: &GivenOctets<'_>) -> Result<(), NoMemory>
+        ensures ok { OnOk result (self.new ≡ record self.old { given = self.old.given ++ rows_given given.entry.now }) }
         ensures err { OnErr result (self.new ≡ self.old) }
     {
-        let give = Give {
-            place,
-            at,
-            count: octets.len() as u64,
-            life,
-            run,
-            begin,
-            end,
-        };
-        self.given.give(&give, octets)
+        self.given.give(given)
     }
 
     /// So many octets more were read in a life of the receiving station. `NoMemory` comes only at the

@@ -1,7 +1,8 @@
 ghost use Rattle.std.specs.Prelude.{◌≡◌, ◌+◌, ◌^◌, ◌<◌, ◌↔◌, [], ◌++◌, length, IfSome, IsNone, OnErr, OnOk};
 ghost use Rattle.dt_flow_model.specs.Ledger.{top};
-ghost use Rattle.dt_ledger.specs.Gives.{rows_of};
+ghost use Rattle.dt_ledger.specs.Gives.{rows_given};
 
+use crate::given_octets::GivenOctets;
 use dt_items::NoMemory;
 use std::alloc::Global;
 use std::marker::Model;
@@ -78,18 +79,24 @@ impl GivenRows {
     }
 
     /// Octets are given: a row each. `NoMemory` leaves the rows as they were.
-    pub fn give(&mut self, give: &Give, octets: &[u8]) -> Result<(), NoMemory>
-        requires all { give.now.count ≡ length octets.now }
-        requires below { give.now.place + length octets.now < 2 ^ 62 }
-        ensures ok { OnOk result (self.new ≡ self.old ++ rows_of give.now octets.now) }
+    pub fn give(&mut self, given: &GivenOctets<'_>) -> Result<(), NoMemory>
+        ensures ok { OnOk result (self.new ≡ self.old ++ rows_given given.entry.now) }
         ensures err { OnErr result (self.new ≡ self.old) }
     {
-        if octets.is_empty() {
+        if given.octets.is_empty() {
             return Ok(());
         }
         self.gives.reserve(1)?;
-        self.octets.extend_from_slice(octets)?;
-        self.gives.push_reserved(*give);
+        self.octets.extend_from_slice(given.octets)?;
+        self.gives.push_reserved(Give {
+            place: given.place,
+            at: given.at,
+            count: given.octets.len() as u64,
+            life: given.life,
+            run: given.run,
+            begin: given.begin,
+            end: given.end,
+        });
         Ok(())
     }
 }

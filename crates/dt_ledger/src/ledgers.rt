@@ -11,6 +11,7 @@ ghost use Rattle.dt_ledger.specs.Reads.{read_of_all};
 ghost use Rattle.dt_ledger.specs.Rows.{settle_at};
 
 use crate::flow_rows::FlowRows;
+use crate::given_octets::GivenOctets;
 use dt_flow_model::{Fate, Taken};
 use dt_items::NoMemory;
 use dt_reports::Totals;
@@ -69,7 +70,7 @@ impl Ledger {
         self.flows.get_mut(flow)
     }
 
-    /// Octets are taken. A flow that isn't there comes behind all others. `NoMemory` leaves the ledger
+    /// Octets are taken. A flow that isn't there comes after all others. `NoMemory` leaves the ledger
     /// as it was.
     pub fn take(
         &mut self,
@@ -92,7 +93,7 @@ impl Ledger {
         Ok(())
     }
 
-    /// The flow is there afterwards: one that isn't comes behind all others, with nothing in its ledger.
+    /// The flow is there afterwards: one that isn't comes after all others, with nothing in its ledger.
     /// `NoMemory` comes only where it wasn't there, and leaves the ledger as it was.
     pub fn begin(&mut self, flow: &Flow) -> Result<(), NoMemory>
         ensures ok { OnOk result (self.new ≡ write same_flow flow.now (ledger_in self.old flow.now) self.old) }
@@ -135,7 +136,7 @@ impl Ledger {
     }
 
     /// Octets are given to the receiver of the flow, with the places from `place` on. A flow that isn't
-    /// there comes behind all others. `NoMemory` leaves the ledger as it was.
+    /// there comes after all others. `NoMemory` leaves the ledger as it was.
     pub fn give(
         &mut self,
         flow: &Flow,
@@ -152,17 +153,26 @@ impl Ledger {
             OnOk result (self.new ≡ write same_flow flow.now (record before { given = before.given ++ rows }) self.old) }
         ensures err { OnErr result (self.new ≡ self.old) }
     {
+        let given = GivenOctets {
+            octets,
+            begin,
+            end,
+            run,
+            place,
+            life,
+            at,
+        };
         if let Some(rows) = self.rows_mut(flow) {
-            return rows.give(place, octets, begin, end, run, life, at);
+            return rows.give(&given);
         }
         let mut rows = FlowRows::new(self.alloc);
-        rows.give(place, octets, begin, end, run, life, at)?;
+        rows.give(&given)?;
         self.flows.insert(*flow, rows)?;
         Ok(())
     }
 
     /// So many octets more of the flow were read in a life of the receiving station. A flow that isn't
-    /// there comes behind all others. `NoMemory` comes only at the first read of a life, and leaves the
+    /// there comes after all others. `NoMemory` comes only at the first read of a life, and leaves the
     /// ledger as it was.
     pub fn note_read(&mut self, flow: &Flow, life: u32, count: u64) -> Result<(), NoMemory>
         requires below { read_of_all (ledger_in self.old flow.now).reads + count < 2 ^ 62 }

@@ -4,6 +4,7 @@
 
 mod fate_counts;
 mod flow_rows;
+mod given_octets;
 mod gives;
 mod ledgers;
 mod moments;
@@ -15,4 +16,5 @@ mod taken_rows;
 pub use dt_flow_model::{Fate, Given, ReadCount, Taken};
 pub use dt_reports::Totals;
 pub use flow_rows::FlowRows;
+pub use given_octets::GivenOctets;
 pub use ledgers::Ledger;

@@ -6,6 +6,13 @@ use std::marker::Model;
 /// What stands where there is no moment. Moments are at most 2^62.
 const NO_MOMENT: u64 = u64::MAX;
 
+/// A moment in milliseconds: 0 to 2^62.
+#[derive(Clone, Copy)]
+pub struct Instant {
+    pub milliseconds: u64,
+    ghost within: { milliseconds ≤ most_moment },
+}
+
 /// A moment in milliseconds, or none, in eight octets.
 #[derive(Drop)]
 pub struct Moment {
@@ -32,12 +39,11 @@ impl Moment {
     }
 
     /// This moment.
-    pub fn at(moment: u64) -> Moment
-        requires { moment ≤ most_moment }
-        ensures { result ≡ Some moment }
+    pub fn at(moment: Instant) -> Moment
+        ensures { result ≡ Some moment.milliseconds }
     {
         Moment {
-            milliseconds: moment,
+            milliseconds: moment.milliseconds,
         }
     }
 

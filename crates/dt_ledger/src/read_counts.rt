@@ -1,16 +1,22 @@
-ghost use Rattle.std.specs.Prelude.{◌≡◌, ◌+◌, ◌^◌, ◌<◌, [], OnErr, OnOk};
+ghost use Rattle.std.specs.Prelude.{◌≡◌, ◌+◌, ◌^◌, ◌<◌, [], ◌∷◌, OnErr, OnOk};
 ghost use Rattle.dt_flow_model.specs.Ledger.{HasNoEntry, note_read};
 ghost use Rattle.dt_ledger.specs.Reads.{read_of_all, reads_in};
 
+use dt_flow_model::ReadCount;
 use dt_items::NoMemory;
 use indexmap::IndexMap;
 use std::alloc::Global;
 use std::marker::Model;
 
 /// How many octets were read in each life of the receiving station, in the order of the first reads.
+///
+/// The count of the first of these lives stands in place, so that no memory is taken for a station that
+/// doesn't start again.
 #[derive(Drop)]
 pub struct ReadCounts {
-    by_life: IndexMap<u32, u64>,
+    first: Option<ReadCount>,
+    /// Of the other lives.
+    later: IndexMap<u32, u64>,
     /// Over all lives.
     all: u64,
 }
@@ -18,13 +24,13 @@ pub struct ReadCounts {
 impl Model for ReadCounts {
     ghost use Rattle.std.specs.Prelude.{◌≡◌, List};
     ghost use Rattle.dt_flow_model.specs.declared.rows.ReadCount.{ReadCount};
-    ghost use Rattle.dt_ledger.specs.Reads.{read_of_all, reads_in};
+    ghost use Rattle.dt_ledger.specs.Reads.{AreReads, all_reads, reads_in};
 
     ghost Value = { List ReadCount };
 
-    ghost view = { λ r. reads_in r.by_life.entries };
+    ghost view = { λ r. all_reads r.first (reads_in r.later.entries) };
 
-    ghost invariant = { λ r. r.all ≡ read_of_all (reads_in r.by_life.entries) };
+    ghost invariant = { λ r. AreReads r.first (reads_in r.later.entries) r.all };
 }
 
 /// So many more octets were read in a life.
@@ -42,13 +48,33 @@ fn add(by_life: &mut IndexMap<u32, u64>, life: u32, count: u64) -> Result<(), No
     Ok(())
 }
 
+/// So many more octets were read in a life: in the first one or in another.
+fn add_in(
+    first: &mut ReadCount,
+    later: &mut IndexMap<u32, u64>,
+    life: u32,
+    count: u64,
+) -> Result<(), NoMemory>
+    requires { read_of_all (first.old ∷ reads_in later.old.entries) + count < 2 ^ 62 }
+    ensures ok { OnOk result (first.new ∷ reads_in later.new.entries ≡ note_read life count (first.old ∷ reads_in later.old.entries)) }
+    ensures err { OnErr result (first.new ∷ reads_in later.new.entries ≡ first.old ∷ reads_in later.old.entries) }
+    ensures memory { OnErr result (HasNoEntry life (first.old ∷ reads_in later.old.entries)) }
+{
+    if first.life == life {
+        first.count += count;
+        return Ok(());
+    }
+    add(later, life, count)
+}
+
 impl ReadCounts {
     /// Nothing was read.
     pub fn new(alloc: Global) -> ReadCounts
         ensures { result ≡ [] }
     {
         ReadCounts {
-            by_life: IndexMap::new(alloc),
+            first: None,
+            later: IndexMap::new(alloc),
             all: 0,
         }
     }
@@ -68,7 +94,12 @@ impl ReadCounts {
         ensures err { OnErr result (self.new ≡ self.old) }
         ensures memory { OnErr result (HasNoEntry life self.old) }
     {
-        add(&mut self.by_life, life, count)?;
+        let Some(first) = &mut self.first else {
+            self.first = Some(ReadCount { life, count });
+            self.all = count;
+            return Ok(());
+        };
+        add_in(first, &mut self.later, life, count)?;
         self.all += count;
         Ok(())
     }

@@ -1,9 +1,8 @@
-ghost use Rattle.std.specs.Prelude.{◌≡◌, ◌+◌, ◌<◌, ◌≤◌, ◌==◌, ◌&&◌, false, length, None, Some, slice_index};
-ghost use Rattle.dt_flow_model.specs.Keeping.{most_moment};
+ghost use Rattle.std.specs.Prelude.{◌≡◌, ◌+◌, ◌<◌, ◌==◌, ◌&&◌, false, length, None, Some, slice_index};
 ghost use Rattle.dt_flow_model.specs.Ledger.{is_open, is_open_in, is_unsent, open_row};
 ghost use Rattle.dt_ledger.specs.Rows.{with_fate};
 
-use crate::moments::Moment;
+use crate::moments::{Instant, Moment};
 use dt_flow_model::{Fate, Taken};
 use std::marker::Model;
 use std::mem::size_of;
@@ -101,9 +100,8 @@ impl TakenRow {
     }
 
     /// The octet has this first moment from now on.
-    pub fn note_first(&mut self, at: u64)
-        requires { at ≤ most_moment }
-        ensures { self.new ≡ record self.old { first = Some at } }
+    pub fn note_first(&mut self, at: Instant)
+        ensures { self.new ≡ record self.old { first = Some at.milliseconds } }
     {
         self.first = Moment::at(at);
     }

@@ -1,10 +1,10 @@
 ghost use Rattle.std.specs.Prelude.{◌≡◌, ◌+◌, ◌<◌, ◌≤◌, ◌++◌, [], false, length, min, map, None, OnErr, OnOk, slice_get, Some, vec_capacity, vec_len};
 ghost use Rattle.dt_items.specs.Unread.{marked};
-ghost use Rattle.dt_flow_model.specs.Keeping.{most_moment};
 ghost use Rattle.dt_flow_model.specs.Ledger.{first_unsent, is_open, is_open_in, note_first, open_row, settle, take_rows};
 ghost use Rattle.dt_ledger.specs.Rows.{IsPassed, NoneBelow, fates_in, settle_at, waits_in};
 
 use crate::fate_counts::FateCounts;
+use crate::moments::Instant;
 use crate::progress::{Passed, Progress};
 use crate::taken_row::{TakenRow, is_open};
 use dt_flow_model::{Fate, Taken};
@@ -43,10 +43,9 @@ fn append(rows: &mut Vec<TakenRow>, life: u32, octets: &[u8], begin: bool, end: 
 }
 
 /// So many rows from a place on get their first moment.
-fn note_first_at(rows: &mut [TakenRow], place: usize, count: u32, at: u64)
-    requires there { place + count ≤ length rows.old }
-    requires moment { at ≤ most_moment }
-    ensures { rows.new ≡ note_first at place count rows.old }
+fn note_first_at(rows: &mut [TakenRow], place: usize, count: u32, at: Instant)
+    requires { place + count ≤ length rows.old }
+    ensures { rows.new ≡ note_first at.milliseconds place count rows.old }
 {
     for i in place..place + count as usize {
         let row = &mut rows[i];
@@ -179,10 +178,9 @@ impl TakenRows {
     }
 
     /// So many rows from a place on get their first moment.
-    pub fn note_first(&mut self, place: u64, count: u32, at: u64)
-        requires there { place + count ≤ length self.old }
-        requires moment { at ≤ most_moment }
-        ensures { self.new ≡ note_first at place count self.old }
+    pub fn note_first(&mut self, place: u64, count: u32, at: Instant)
+        requires { place + count ≤ length self.old }
+        ensures { self.new ≡ note_first at.milliseconds place count self.old }
     {
         note_first_at(&mut self.rows, place as usize, count, at);
     }
@@ -217,10 +215,9 @@ impl TakenRows {
 
     /// The rows of a life that wait for their first transmission get their first moment: so many rows
     /// from the leftmost on. The answer is its place.
-    pub fn note_next(&mut self, life: u32, count: u32, at: u64) -> u64
-        requires { at ≤ most_moment }
+    pub fn note_next(&mut self, life: u32, count: u32, at: Instant) -> u64
         ensures place { result ≡ first_unsent life self.old }
-        ensures noted { self.new ≡ note_first at (first_unsent life self.old) count self.old }
+        ensures noted { self.new ≡ note_first at.milliseconds (first_unsent life self.old) count self.old }
     {
         let place = first_waiting(&self.rows, self.progress.sent.of(life));
         let there = (self.rows.len() - place).min(count as usize);

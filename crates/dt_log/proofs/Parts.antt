@@ -60,12 +60,12 @@ pub text_around : {X : Type 0} (f : X → List ℕ) (xs : List X) (i : ℕ) (d :
 text_around f xs i d h =
     ap (flat_map f) (sym (take-append-drop i xs)) ∙ flat_map-append f (take i xs) (drop i xs) ∙ ap (λ ys. flat_map f (take i xs) ++ flat_map f ys) (drop-cons xs i d h)
 
--- words with one space between two of them: the first, and then the rest behind spaces
+-- words with one space between two of them: the first, and then the rest after spaces
 spaced_first : (word : Text) (more : List Text) → spaced (word ∷ more) ≡ word ++ flat_map after_space more
 spaced_first word [] = sym (append-nil word)
 spaced_first word (next ∷ more) = ap (λ t. word ++ 32 ∷ t) (spaced_first next more)
 
--- the words of the code behind spaces are their texts behind spaces
+-- the words of the code after spaces are their texts after spaces
 texts_behind : (words : List Word) → flat_map after_space (map word_text words) ≡ after_spaces words
 texts_behind words = flat_map-map after_space word_text words
 

@@ -16,6 +16,6 @@ word_text (Line n) = decimal n ++ codes ":"
 abbrev pub after_space : texts.Text → texts.Text
 after_space text = 32 ∷ text
 
--- words, each behind a space
+-- words, each after a space
 abbrev pub after_spaces : List Word → texts.Text
 after_spaces words = flat_map (λ word. after_space (word_text word)) words

@@ -31,8 +31,8 @@ fn name_of(field: Field) -> &'static str
     }
 }
 
-/// The text of a line's fault.
-fn text_of(fault: LineFault) -> &'static str
+/// The text of a line's fault: one word.
+pub fn line_fault_text(fault: LineFault) -> &'static str
     ensures { result.now ≡ line_fault_text fault }
 {
     match fault {
@@ -120,7 +120,7 @@ pub(crate) fn put_fault<K: Sink>(line: u64, fault: Fault, out: &mut K) -> Result
     ensures { Puts K.sight (row_text (at_line line (fault_words fault))) result out.old out.new }
 {
     match fault {
-        Fault::Line(fault) => put_refused_line(line, &[Word::Text(text_of(fault))], out),
+        Fault::Line(fault) => put_refused_line(line, &[Word::Text(line_fault_text(fault))], out),
         Fault::Param(fault) => put_refused_line(
             line,
             &[

@@ -9,7 +9,7 @@ use itoa::write_digits;
 /// How many octets a flow takes at most: two nodes of 10 digits, two ports of 5, and three marks.
 pub(crate) const FLOW_ROOM: usize = 33;
 
-/// Writes a number and a mark behind it, so that the mark is the last octet before `end`, and says
+/// Writes a number and a mark after it, so that the mark is the last octet before `end`, and says
 /// where the number starts.
 fn write_before(n: u64, mark: u8, text: &mut [u8], end: usize) -> usize
     requires room { length (decimal n) < end }

@@ -6,7 +6,7 @@ ghost use Rattle.dt_reports.specs.Entries.{Entry};
 ghost use Rattle.dt_log.specs.Words.{spaced};
 ghost use Rattle.dt_log.specs.Logs.{entry_words, log_text};
 
-/// A log that is cut at its line feeds gives the lines back, with nothing behind the last line feed,
+/// A log that is cut at its line feeds gives the lines back, with nothing after the last line feed,
 /// and a line that is cut at its spaces gives its words back.
 pub fn logs_are_cut_into_their_words()
     ensures lines { (entries : List Entry) → slice_split (λ octet. octet == 10) (log_text entries) ≡ map (λ entry. spaced (entry_words entry)) entries ++ [] ∷ [] }

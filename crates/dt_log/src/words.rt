@@ -110,7 +110,7 @@ fn put_spaced_word<K: Sink>(word: &Word<'_>, out: &mut K) -> Result<(), Failed>
     }
 }
 
-/// Puts the words, each behind a space.
+/// Puts the words, each after a space.
 fn put_words<K: Sink>(words: &[Word<'_>], out: &mut K) -> Result<(), Failed>
     ensures { Puts K.sight (after_spaces words.now) result out.old out.new }
 {
@@ -120,7 +120,7 @@ fn put_words<K: Sink>(words: &[Word<'_>], out: &mut K) -> Result<(), Failed>
     Ok(())
 }
 
-/// Puts the words, each behind a space, and a line feed.
+/// Puts the words, each after a space, and a line feed.
 #[tactic(auto, using(dt_edges::proofs::Puts::two_parts))]
 fn put_ended<K: Sink>(words: &[Word<'_>], out: &mut K) -> Result<(), Failed>
     ensures { Puts K.sight (after_spaces words.now ++ codes "\n") result out.old out.new }
@@ -129,7 +129,7 @@ fn put_ended<K: Sink>(words: &[Word<'_>], out: &mut K) -> Result<(), Failed>
     put_all(b"\n", out)
 }
 
-/// Puts some words and more words, each behind a space, and a line feed.
+/// Puts some words and more words, each after a space, and a line feed.
 #[tactic(auto, using(dt_edges::proofs::Puts::two_parts))]
 fn put_behind<K: Sink>(some: &[Word<'_>], more: &[Word<'_>], out: &mut K) -> Result<(), Failed>
     ensures { Puts K.sight (after_spaces some.now ++ (after_spaces more.now ++ codes "\n")) result out.old out.new }
@@ -138,7 +138,7 @@ fn put_behind<K: Sink>(some: &[Word<'_>], more: &[Word<'_>], out: &mut K) -> Res
     put_ended(more, out)
 }
 
-/// Puts a line: a first word, some words behind it and more words, with one space between two of
+/// Puts a line: a first word, some words after it and more words, with one space between two of
 /// them, and a line feed.
 pub fn put_row<K: Sink>(
     first: Word<'_>,

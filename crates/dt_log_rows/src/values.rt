@@ -11,7 +11,7 @@ const FLOW: Flow = Flow {
     to_port: 1,
 };
 
-/// Whether numbers, a flow and octets are put one behind the other.
+/// Whether numbers, a flow and octets are put one after the other.
 fn are_put(sink: &mut MemSink) -> Result<(), Failed> {
     put_number(0, sink)?;
     put_number(18_446_744_073_709_551_615, sink)?;

@@ -1,4 +1,4 @@
--- Datagrams that stand one behind the other, when more come behind them.
+-- Datagrams that stand one after the other, when more come after them.
 use Rattle.std.proofs.Common.{◌≡◌, ℕ, ◌+◌, ◌-◌, ◌≤◌, List, [], ◌∷◌, ◌++◌, length, map, take, drop, slice_range, refl, ap, ◌∙◌, arith, zero, suc, length-drop, take_all}
 use Rattle.std.proofs.lemmas.List.{take-append-le, drop-append-le, map-append}
 use Rattle.std.proofs.Math.Seq.{drop-append_seam}
@@ -23,7 +23,7 @@ waiting_same : (octets more : List ℕ) (p : Place) → IsPlace (length octets) 
 waiting_same octets more p w =
     ap (λ (xs : List ℕ). (let d : Waiting = record { link = p.link; octets = xs; empty = p.empty } in d)) (range_same octets more p.start p.end w.ordered w.within)
 
--- all stay the same, when more octets come behind theirs
+-- all stay the same, when more octets come after theirs
 all_same : (octets more : List ℕ) (ps : List Place) → All (IsPlace (length octets)) ps → map (waiting_at (octets ++ more)) ps ≡ map (waiting_at octets) ps
 all_same octets more [] w = refl
 all_same octets more (p ∷ ps) w =
@@ -31,7 +31,7 @@ all_same octets more (p ∷ ps) w =
     let tail = all_same octets more ps (All-tail (IsPlace (length octets)) p ps w) in
     cc
 
--- one more behind the others, whose octets came last
+-- one more after the others, whose octets came last
 pub one_more : (link empty : ℕ) (octets more now : List ℕ) (ps : List Place) (start end : ℕ) → start ≡ length octets → end ≡ length octets + length more → now ≡ octets ++ more → All (IsPlace (length octets)) ps
     → map (waiting_at now) (ps ++ (record { link = link; start = start; end = end; empty = empty }) ∷ []) ≡ map (waiting_at octets) ps ++ (record { link = link; octets = more; empty = empty }) ∷ []
 one_more link empty octets more now ps start end s e n w =
@@ -41,12 +41,12 @@ one_more link empty octets more now ps start end s e n w =
     rw (s, e, n) (ap (λ (xs : List ℕ). (let d : Waiting = record { link = link; octets = xs; empty = empty } in d)) (range_last octets more)) in
     map-append (waiting_at now) ps (last ∷ []) ∙ ap (λ ds. ds ++ waiting_at now last ∷ []) old ∙ ap (λ (d : Waiting). map (waiting_at octets) ps ++ d ∷ []) new
 
--- one more place behind the others
+-- one more place after the others
 pub places_more : (ps : List Place) (last : Place) (n m : ℕ) → n ≤ m → All (IsPlace n) ps → IsPlace m last → All (IsPlace m) (ps ++ last ∷ [])
 places_more ps last n m le w l =
     All-append (IsPlace m) ps (last ∷ []) (λ k d h. record { link = (w k d h).link; ordered = (w k d h).ordered; within = omega (arith, (w k d h).within) }) (All-cons (IsPlace m) last [] l (All-nil (IsPlace m)))
 
--- the same of the places behind the first so many
+-- the same of the places after the first so many
 pub places_behind : (n k : ℕ) (ps : List Place) → All (IsPlace n) ps → All (IsPlace n) (drop k ps)
 places_behind n zero ps w = w
 places_behind n (suc k) [] w = w

@@ -34,7 +34,7 @@ nothing = record { waiting = []; places = 0; octets = 0 }
 abbrev pub has_room : ℕ → Backlogged → Bool
 has_room octets b = nat_lt b.places 512 && nat_le (b.octets + octets) 262144
 
--- one more waits behind the others
+-- one more waits after the others
 abbrev pub kept : Waiting → Backlogged → Backlogged
 kept w b = record { waiting = b.waiting ++ w ∷ []; places = b.places + 1; octets = b.octets + length w.octets }
 

@@ -1,16 +1,13 @@
 -- What contracts see of a wire over a socket.
-use Rattle.std.specs.Prelude.{ℕ, Option}
+use Rattle.std.specs.Prelude.{Option, None}
 use Rattle.dt_edges.specs.Wires.{Opening}
+use Rattle.dt_machine.specs.declared.counts.Counts.{Counts}
 
 pub record UdpWireSeen : Type 0 where
   -- the last open that answered Ok
   pub opening : Option Opening
-  -- how many takes and gives were called
-  pub takes : ℕ
-  pub gives : ℕ
-  -- how many opens and takes failed, and how many gives
-  pub take_faults : ℕ
-  pub give_faults : ℕ
-  -- how many opens were called, and how long the last take was to wait, in ms
-  pub opens : ℕ
-  pub last_wait : Option ℕ
+  pub counts : Counts
+
+-- nothing was called
+abbrev pub uncalled : Counts
+uncalled = record { opens = 0; last_wait = None; takes = 0; take_faults = 0; gives = 0; give_faults = 0 }

@@ -33,7 +33,7 @@ pub struct Arrival {
 }
 
 /// Datagrams that wait, the first of which is handed over first: at most 512, with at most 262,144
-/// octets. They are packed one behind the other, and the room is free again when all were handed over.
+/// octets. They are packed one after the other, and the room is free again when all were handed over.
 #[derive(Drop)]
 pub struct Backlog {
     octets: Vec<u8>,
@@ -92,7 +92,7 @@ impl Backlog {
         self.places.len() < MOST_PLACES && octets <= MOST_OCTETS - self.octets.len()
     }
 
-    /// Lets a datagram wait behind the others, if there is room, and says whether there was. Its socket
+    /// Lets a datagram wait after the others, if there is room, and says whether there was. Its socket
     /// was last found empty at the moment `empty`, in nanoseconds.
     pub fn keep(&mut self, link: u16, octets: &[u8], empty: u64) -> bool
         requires { link ≤ 255 }

@@ -4,6 +4,7 @@
 #![tactic(auto)]
 
 mod backlogs;
+mod counts;
 mod hastes;
 mod intakes;
 mod machine_clock;

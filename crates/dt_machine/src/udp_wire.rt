@@ -1,6 +1,8 @@
 ghost use Rattle.std.specs.Prelude.{ℕ, ◌≡◌, ◌≤◌, None, Some, false, length, All, IfOk, IfSome};
 ghost use Rattle.dt_machine.specs.Waits.{may_have_waited};
+ghost use Rattle.dt_machine.specs.Wires.{uncalled};
 
+use crate::counts::Counts;
 use crate::intakes::Intake;
 use crate::moments::Moments;
 use crate::peers::address_of;
@@ -28,19 +30,14 @@ pub struct UdpWire<'a, R> {
     intake: Intake,
     local: Option<Address>,
     peers: Vec<Peer>,
-    takes: u64,
-    gives: u64,
-    take_faults: u64,
-    give_faults: u64,
-    opens: u64,
-    last_wait: Option<u32>,
+    counts: Counts,
 }
 
 impl<'a, R: Net + time::Clock> UdpWire<'a, R> {
     /// A wire that isn't open. Takes memory at once for 256 peers, and for 262,144 octets and 512
     /// datagrams that wait.
     pub fn new(alloc: Global, rt: &'a R, moments: &'a Moments) -> Result<Self, NoMemory>
-        ensures { IfOk result (λ wire. wire ≡ record { opening = None; takes = 0; gives = 0; take_faults = 0; give_faults = 0; opens = 0; last_wait = None }) }
+        ensures { IfOk result (λ wire. wire ≡ record { opening = None; counts = uncalled }) }
     {
         Ok(UdpWire {
             rt,
@@ -49,12 +46,14 @@ impl<'a, R: Net + time::Clock> UdpWire<'a, R> {
             intake: Intake::new(alloc)?,
             local: None,
             peers: Vec::with_capacity(alloc, PEERS)?,
-            takes: 0,
-            gives: 0,
-            take_faults: 0,
-            give_faults: 0,
-            opens: 0,
-            last_wait: None,
+            counts: Counts {
+                opens: 0,
+                last_wait: None,
+                takes: 0,
+                take_faults: 0,
+                gives: 0,
+                give_faults: 0,
+            },
         })
     }
 }
@@ -112,12 +111,7 @@ impl<'a, R> Model for UdpWire<'a, R> {
 
     ghost view = { λ w. record {
       opening = option_map (λ local. record { local = local; peers = w.peers.items }) w.local;
-      takes = w.takes;
-      gives = w.gives;
-      take_faults = w.take_faults;
-      give_faults = w.give_faults;
-      opens = w.opens;
-      last_wait = w.last_wait;
+      counts = w.counts;
     } };
 
     ghost invariant = { λ w. record {
@@ -136,29 +130,29 @@ impl<'a, R: Net + time::Clock> Wire for UdpWire<'a, R> {
       given = None;
       opening = Some w.opening;
       plan = None;
-      takes = as_count w.takes;
-      gives = as_count w.gives;
+      takes = as_count w.counts.takes;
+      gives = as_count w.counts.gives;
       used = 0;
-      take_faults = as_count w.take_faults;
-      give_faults = as_count w.give_faults;
-      opens = as_count w.opens;
-      last_wait = w.last_wait;
+      take_faults = as_count w.counts.take_faults;
+      give_faults = as_count w.counts.give_faults;
+      opens = as_count w.counts.opens;
+      last_wait = w.counts.last_wait;
     } };
 
     ghost bounded = { λ w. record {
-      takes = min-le_right w.takes last_count;
-      gives = min-le_right w.gives last_count;
-      take_faults = min-le_right w.take_faults last_count;
-      give_faults = min-le_right w.give_faults last_count;
-      opens = min-le_right w.opens last_count;
+      takes = min-le_right w.counts.takes last_count;
+      gives = min-le_right w.counts.gives last_count;
+      take_faults = min-le_right w.counts.take_faults last_count;
+      give_faults = min-le_right w.counts.give_faults last_count;
+      opens = min-le_right w.counts.opens last_count;
     } };
 
     /// Binds the address. Fails where the machine refuses it, or where a link isn't 0 to 255; the
     /// wire then stays as it was.
     fn open(&mut self, local: Address, peers: &[Peer]) -> Result<(), Failed> {
-        self.opens = self.opens.saturating_add(1);
+        self.counts.opens = self.counts.opens.saturating_add(1);
         let Some(socket) = bound(self.rt, local, peers) else {
-            self.take_faults = self.take_faults.saturating_add(1);
+            self.counts.take_faults = self.counts.take_faults.saturating_add(1);
             return Err(Failed);
         };
         self.intake.begin(socket.now());
@@ -175,8 +169,8 @@ impl<'a, R: Net + time::Clock> Wire for UdpWire<'a, R> {
     /// that may have waited in this machine longer than 20 ms. Fails where the wire isn't open, or the
     /// machine's call fails.
     fn take(&mut self, wait_ms: u32, buf: &mut [u8]) -> Result<Option<(u16, usize)>, Failed> {
-        self.last_wait = Some(wait_ms);
-        self.takes = self.takes.saturating_add(1);
+        self.counts.last_wait = Some(wait_ms);
+        self.counts.takes = self.counts.takes.saturating_add(1);
         let taken = match &self.socket {
             Some(socket) => self.intake.take(socket, &self.peers, wait_ms, buf).ok(),
             None => None,
@@ -188,7 +182,7 @@ impl<'a, R: Net + time::Clock> Wire for UdpWire<'a, R> {
             }
             Some(None) => Ok(None),
             None => {
-                self.take_faults = self.take_faults.saturating_add(1);
+                self.counts.take_faults = self.counts.take_faults.saturating_add(1);
                 Err(Failed)
             }
         }
@@ -197,7 +191,7 @@ impl<'a, R: Net + time::Clock> Wire for UdpWire<'a, R> {
     /// Sends a datagram. Fails where the wire isn't open, the link has no peer, the machine's call fails,
     /// or the last reading of the clock is longer past than 20 ms.
     fn give(&mut self, link: u16, octets: &[u8]) -> Result<(), Failed> {
-        self.gives = self.gives.saturating_add(1);
+        self.counts.gives = self.counts.gives.saturating_add(1);
         let sent = match (&self.socket, address_of(&self.peers, link)) {
             (Some(socket), Some(address)) => send_soon(socket, self.moments, address, octets),
             _ => false,
@@ -205,7 +199,7 @@ impl<'a, R: Net + time::Clock> Wire for UdpWire<'a, R> {
         if sent {
             return Ok(());
         }
-        self.give_faults = self.give_faults.saturating_add(1);
+        self.counts.give_faults = self.counts.give_faults.saturating_add(1);
         Err(Failed)
     }
 }

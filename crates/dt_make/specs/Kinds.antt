@@ -16,7 +16,7 @@ copies_of Lost = 3
 copies_of Twice = 3
 
 -- The lines between the message's sending and its reading, where c copies were put before the round: copy c is
--- the message, and those behind it are what is sent again and the acknowledgements.
+-- the message, and those after it are what is sent again and the acknowledgements.
 abbrev pub lines_of : Kind → ℕ → List Line
 lines_of Plain c = Pass 10 ∷ Arrive c ∷ Pass 10 ∷ Arrive (c + 1) ∷ []
 lines_of Lost c = Lose c ∷ Pass 500 ∷ Tick 1 ∷ Pass 10 ∷ Arrive (c + 1) ∷ Pass 10 ∷ Arrive (c + 2) ∷ []

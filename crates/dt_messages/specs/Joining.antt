@@ -45,7 +45,7 @@ joined_within longest begun p = within longest (joined begun p)
 abbrev pub outgrows : Option ℕ → Option (List ℕ) → Piece → Bool
 outgrows longest begun p = is_some (joined begun p) && not (is_some (joined_within longest begun p))
 
--- the message that a piece makes whole, and what waits behind it
+-- the message that a piece makes whole, and what waits after it
 abbrev pub whole_within : Option ℕ → Option (List ℕ) → Piece → Option (List ℕ)
 whole_within longest begun p = if p.end then joined_within longest begun p else None
 
@@ -56,7 +56,7 @@ begun_within longest begun p = if p.end then None else joined_within longest beg
 abbrev pub counted_up : ℕ → ℕ
 counted_up n = min (n + 1) (2 ^ 64 - 1)
 
--- A PIECE GOES ON IT: the message that it makes whole, and the joiner behind it. A gap is told once, with the next whole message.
+-- A PIECE GOES ON IT: the message that it makes whole, and the joiner after it. A gap is told once, with the next whole message.
 abbrev pub message_with : JoinerValue → Piece → Option MessageValue
 message_with j p = option_map (λ octets. record { octets = octets; gap = j.gap || p.run }) (whole_within j.longest j.begun p)
 

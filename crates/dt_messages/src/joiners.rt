@@ -32,7 +32,7 @@ impl Model for Message {
 /// Puts messages together from the pieces that are read of one flow.
 ///
 /// A message is whole from a begin mark to the next end mark, where no octet but its first has a run
-/// mark. A begin mark begins one anew, and behind a run mark the octets before it are no part of any. One
+/// mark. A begin mark begins one anew, and after a run mark the octets before it are no part of any. One
 /// that is longer than the longest is dropped and counted once it has outgrown that.
 #[derive(Drop)]
 pub struct Joiner {

@@ -19,7 +19,7 @@ const ANY_LENGTH: [Row; 16] = [
     (b"b", b"th", None, 0),
     (b"", b"re", None, 0),
     (b"e", b"e", Some((b"three", false)), 0),
-    // behind a run mark the octets before it are no part of any, and those after it have no begin
+    // after a run mark the octets before it are no part of any, and those after it have no begin
     (b"b", b"lo", None, 0),
     (b"r", b"st", None, 0),
     (b"e", b"!", None, 0),

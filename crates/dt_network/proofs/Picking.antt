@@ -63,7 +63,7 @@ pass joined zero taken read h = read_so h
 pass joined (suc n) [] read h = read_so h
 pass joined (suc n) (x ∷ taken) read h = leaves (pass false n taken read h)
 
--- the place behind a row
+-- the place after a row
 abbrev pub place_behind : Option Given → ℕ
 place_behind None = 0
 place_behind (Some row) = suc row.place

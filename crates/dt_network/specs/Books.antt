@@ -73,7 +73,7 @@ abbrev pub AllFound : List Step → Type 0
 AllFound [] = Unit {0}
 AllFound (s ∷ steps) = FoundIn s × AllFound steps
 
--- SOME ROWS WERE READ of those that are gone, in their order; one that wasn't is of a life of the reader before this one. `joined` tells that the row before them was read: a row without a run mark is read directly behind the one before it
+-- SOME ROWS WERE READ of those that are gone, in their order; one that wasn't is of a life of the reader before this one. `joined` tells that the row before them was read: a row without a run mark is read directly after the one before it
 pub data Chosen (life : ℕ) : (joined : Bool) → List Given → List Item → Type 0 where
   none : {joined : Bool} → Chosen life joined [] []
   picked : {joined : Bool} {row : Given} {rows : List Given} {items : List Item} → (row.run ≡ false → joined ≡ true) → Chosen life true rows items → Chosen life joined (row ∷ rows) (given_item_of row ∷ items)

@@ -56,7 +56,7 @@ abbrev pub all_read : Flow → List Step → List Item
 all_read f [] = []
 all_read f (s ∷ steps) = read_in_step f s ++ all_read f steps
 
--- WHAT IS READ IS WHAT WAS SENT, with some of it left out: each octet at most once, in order, with the marks of its message. An octet without a run mark stands directly behind the one that was read before it; `joined` tells that nothing was left out since that one
+-- WHAT IS READ IS WHAT WAS SENT, with some of it left out: each octet at most once, in order, with the marks of its message. An octet without a run mark stands directly after the one that was read before it; `joined` tells that nothing was left out since that one
 pub data IsReadOf : (joined : Bool) → List Item → List Item → Type 0 where
   nothing : {joined : Bool} {taken : List Item} → IsReadOf joined [] taken
   reads : {joined : Bool} {item x : Item} {read taken : List Item} → (item.run ≡ false → joined ≡ true) → plain item ≡ x → IsReadOf true read taken → IsReadOf joined (item ∷ read) (x ∷ taken)

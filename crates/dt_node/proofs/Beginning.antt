@@ -18,7 +18,7 @@ use Rattle.dt_node.specs.Logging.{Notes, noted_text}
 use Rattle.dt_node.specs.Serving.{AppendsPart}
 use Rattle.dt_node.proofs.Doing.{acts_unlost, gave_none, gave_some, some_more_given}
 
--- a first part behind a whole
+-- a first part after a whole
 pub part_then : (xs ys zs : List ℕ) (a m c : Option (List ℕ)) → xs ++ ys ≡ zs → Appends a m xs → AppendsPart ys m c → AppendsPart zs a c
 part_then xs ys zs a m c e h (count, k) =
     (length xs + count, subst (Appends a c) (sym (take-append-add xs ys count) ∙ ap (take (length xs + count)) e) (Appends-trans a m c xs (take count ys) h k))
@@ -33,7 +33,7 @@ noted_fails T sight forms.Log input fault old new h = absurd h
 noted_fails T sight forms.Trace input fault old new h = h
 
 module _ {A : Type 0} (form : Form) (me now : ℕ) (first : List ℕ) (script : Script (Unit {0}) A) (answer : A) (gives : ℕ) (wire : WireSight) (a b : SinkSight) where
-  -- a turn behind it
+  -- a turn after it
   pub begun : (result : Result _ Stop) (t : Scene) → Takes first a b → TurnEnds result form me now [] script answer (scene gives wire b) t → TurnEnds result form me now first script answer (scene gives wire a) t
   begun (Ok stopped) t h (deeds, acts, wrote, answers) =
       (deeds, acts, record { gives = wrote.gives; held = Appends-trans a.held b.held t.held first (deeds_text form gives me deeds) h.held wrote.held; faults = wrote.faults ∙ h.faults; wire = wrote.wire }, answers)

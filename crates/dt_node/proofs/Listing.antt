@@ -29,12 +29,12 @@ abbrev pub ListComes : Orders → List ℕ → (reading : ℕ) → List (Option 
 ListComes o rs reading ts ds inputs watch came node =
     (more : List ℕ) (further : List (Option Datagram)) (after : List Deed) → inputs_in o (rs ++ reading ∷ more) (ts ++ further) (ds ++ after) ≡ inputs ++ inputs_from o watch came node reading more further (counted 0 (fates ds)) after
 
--- the same behind a turn
+-- the same after a turn
 abbrev pub ListCame : Orders → List ℕ → List (Option Datagram) → List Deed → List Input → Watch → Option Node → Type 0
 ListCame o rs ts ds inputs watch answer =
     (more : List ℕ) (further : List (Option Datagram)) (after : List Deed) → inputs_in o (rs ++ more) (ts ++ further) (ds ++ after) ≡ inputs ++ take_then answer further (λ t n us. listed_of o watch more t n us (counted 0 (fates ds)) after)
 
--- and behind its take
+-- and after its take
 abbrev pub ListTook : Orders → List ℕ → List (Option Datagram) → List Deed → List Input → Watch → Option Datagram → Node → Type 0
 ListTook o rs ts ds inputs watch t node =
     (more : List ℕ) (further : List (Option Datagram)) (after : List Deed) → inputs_in o (rs ++ more) (ts ++ further) (ds ++ after) ≡ inputs ++ listed_of o watch more t node further (counted 0 (fates ds)) after
@@ -43,7 +43,7 @@ pub list_first : (o : Orders) (r : ℕ) → ListComes o [] r [] [] [] (first_wat
 unfolding inputs_in
 list_first o r more further after = refl
 
--- a turn, whose deeds are these, stands in front of those behind it
+-- a turn, whose deeds are these, stands in front of those after it
 own_deeds : (o : Orders) (watch : Watch) (came : Option Datagram) (node : Node) (r : ℕ) (ts : List (Option Datagram)) (gives : ℕ) (own after : List Deed) (next : Option Datagram → Node → List (Option Datagram) → ℕ → List Deed → List Input) → length (acts_of (moment watch) (turn o (moment watch) came node)) ≡ length own
     → turn_inputs o watch came node r ts gives (own ++ after) next ≡ Reading r ∷ (failed_gives gives own ++ take_then (answer_of (turn o (moment watch) came node)) ts (λ t n us. next t n us (counted gives (fates own)) after))
 own_deeds o watch came node r ts gives own after next e =

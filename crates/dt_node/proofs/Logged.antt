@@ -1,5 +1,5 @@
 -- A script that is played before a log.
-use Rattle.std.proofs.Common.{◌≡◌, inl, inr, ℕ, Bool, true, false, List, [], ◌∷◌, ◌++◌, map, take, Option, Result, Ok, Err, refl, sym, ap, subst, ◌∙◌}
+use Rattle.std.proofs.Common.{◌≡◌, ◌<◌, inl, inr, ℕ, Bool, true, false, List, [], ◌∷◌, ◌++◌, map, take, Option, Result, Ok, Err, refl, sym, ap, subst, ◌∙◌}
 use Rattle.std.proofs.lemmas.Bool.{cases_Bool, false≢true}
 use Rattle.std.proofs.lemmas.List.{map-append}
 use Rattle.dt_reports.specs.Told.{Told}
@@ -11,9 +11,12 @@ use Rattle.dt_fold.specs.declared.stops.Stop.{Stop}
 use Rattle.dt_fold.specs.declared.stops.Stop.TheVariants as stops
 use Rattle.std.specs.Prelude.{IfOk, OnErr, OnOk}
 use Rattle.dt_items.specs.declared.memory.NoMemory.{NoMemory}
+use Rattle.dt_script.specs.declared.orders.Orders.{Orders}
+use Rattle.dt_turn.specs.declared.nodes.Node as coded
 use Rattle.dt_turn.specs.Codes as codes
+use Rattle.dt_turn.specs.Codes.{IsReady}
 use Rattle.dt_turn.specs.Nodes.{Node}
-use Rattle.dt_node.specs.TurnScripts.{ended_by, turned}
+use Rattle.dt_node.specs.TurnScripts.{Leaves, ended_by, turned}
 use Rattle.dt_node.specs.Acts.{Act, Tells, Hands, Deed, Says, Gives, act_of, acts_of, answer_of}
 use Rattle.dt_node.specs.Logging.{Fixed, LogSight, LogTells, LogHands, HandsIf, TellsIf, log_tells, log_tags, log_hands, log_fails, wants_memory}
 use Rattle.dt_node.specs.Deeds.{deeds_text, Did, DidSome, FaultsBy, TurnEnds, WroteSome, scene, stop_by, unlost}
@@ -194,18 +197,19 @@ module _ {V : Type 0} (view : V → LogSight) where
       (k.deeds, k.acts, record { gives = k.did.gives; held = k.did.out.held; faults = k.did.out.faults; wire = k.did.wire }, k.answers ∙ same_answer stopped node)
   turn_ends false (Err fault) script v w node h f g = turn_stops stops.NoMemory false script v w h f g refl
 
--- what is true of a turn that ended well is true of it before a log
-pub on_ended : (P : Type 0) (failed : Bool) (done : Result Bool NoMemory) → OnOk done P → OnOk (ended_by failed done) P
-on_ended P true done h = tt
-on_ended P false (Ok stopped) h = h
-on_ended P false (Err fault) h = tt
+-- WHAT A TURN LEAVES OF ITS NODE
+module _ (o : Orders) (now : ℕ) where
+  -- where a line couldn't be written
+  pub leaves_fault : (node : coded.Node) → Leaves o now (Err stops.WriteFault) node
+  leaves_fault node = record { ready = tt; going = tt; memory = λ e. absurd (false≢true e) }
 
-pub if_ended : (P : Bool → Type 0) (failed : Bool) (done : Result Bool NoMemory) → IfOk done P → IfOk (ended_by failed done) P
-if_ended P true done h = tt
-if_ended P false (Ok stopped) h = h
-if_ended P false (Err fault) h = tt
+  -- by what the turn itself leaves
+  pub leaves_ended : (failed : Bool) (done : Result Bool NoMemory) (node : coded.Node) → OnOk done (IsReady o now node) → IfOk done (λ stopped. stopped ≡ false → now < o.stop) → OnErr done (node.dock.station.spent ≡ true) → Leaves o now (ended_by failed done) node
+  leaves_ended true done node ready going memory = leaves_fault node
+  leaves_ended false (Ok stopped) node ready going memory = record { ready = ready; going = going; memory = λ e. absurd (false≢true e) }
+  leaves_ended false (Err fault) node ready going memory = record { ready = tt; going = tt; memory = λ e. memory }
 
-pub wanted_memory : (P : Type 0) (failed : Bool) (done : Result Bool NoMemory) → OnErr done P → wants_memory (ended_by failed done) ≡ true → P
-wanted_memory P true done h e = absurd (false≢true e)
-wanted_memory P false (Ok stopped) h e = absurd (false≢true e)
-wanted_memory P false (Err fault) h e = h
+  -- after its lines were put, or not
+  pub leaves_put : (turn result : Result Bool Stop) (node : coded.Node) → IfOk result (λ stopped. turn ≡ Ok stopped) → (wants_memory result ≡ true → wants_memory turn ≡ true) → Leaves o now turn node → Leaves o now result node
+  leaves_put turn (Ok stopped) node same wants h = subst (λ (r : Result Bool Stop). Leaves o now r node) same h
+  leaves_put turn (Err stop) node same wants h = record { ready = tt; going = tt; memory = λ e. h.memory (wants e) }

@@ -280,7 +280,7 @@ unfolding node_run
 node_in_order o [] takes = tt
 node_in_order o (r ∷ rs) takes = run_in_order o (first_watch r) None (first_node o) rs takes None
 
--- AN UNSENT LINE stands in the place of a frame, and so behind the `put` line of its link
+-- AN UNSENT LINE stands in the place of a frame, and so after the `put` line of its link
 unsent_told : (told : Told) (link : ℕ) → is_unsent told ≡ false → told ≡ Unsent link → ⊥
 unsent_told told link quiet e = false≢true (sym quiet ∙ ap is_unsent e)
 

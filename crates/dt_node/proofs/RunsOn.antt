@@ -26,7 +26,7 @@ behind_behind a b r = ap (λ (xs : List Act). let run : Run = record { acts = xs
 abbrev pub Comes : Orders → List ℕ → List (Option Datagram) → List Act → Watch → Option Datagram → Node → Type 0
 Comes o rs ts acts watch came node = (more : List ℕ) (further : List (Option Datagram)) → node_run o (rs ++ more) (ts ++ further) ≡ behind acts (run_from o watch came node more further)
 
--- The same behind a turn.
+-- The same after a turn.
 abbrev pub Came : Orders → List ℕ → List (Option Datagram) → List Act → Watch → Option Node → Type 0
 Came o rs ts acts watch answer = (more : List ℕ) (further : List (Option Datagram)) → node_run o (rs ++ more) (ts ++ further) ≡ behind acts (after_turn watch answer more further (next_of o watch more))
 

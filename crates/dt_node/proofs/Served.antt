@@ -36,6 +36,10 @@ pub some_both : {A : Type 0} (o : Option A) (P Q R : A → Type 0) → ((x : A) 
 some_both None P Q R f h k = tt
 some_both (Some x) P Q R f h k = f x h k
 
+pub some_any : {A : Type 0} (o : Option A) (P : A → Type 0) → ((x : A) → P x) → IfSome o P
+some_any None P f = tt
+some_any (Some x) P f = f x
+
 abbrev pub scene_of : ℕ → Edges → Scene
 scene_of gives n = record { gives = gives; wire = n.wire; held = n.held; faults = n.faults }
 

@@ -37,11 +37,11 @@ pauses_from_is o watch came node (r ∷ rs) ts = refl
 abbrev pub PausesCome : Orders → List ℕ → List (Option Datagram) → Watch → Option Datagram → Node → List Pause → Type 0
 PausesCome o rs ts watch came node ps = (more : List ℕ) (further : List (Option Datagram)) → node_pauses o (rs ++ more) (ts ++ further) ≡ ps ++ pauses_from o watch came node more further
 
--- the same behind a turn
+-- the same after a turn
 abbrev pub PausesCame : Orders → List ℕ → List (Option Datagram) → Watch → Option Node → List Pause → Type 0
 PausesCame o rs ts watch answer ps = (more : List ℕ) (further : List (Option Datagram)) → node_pauses o (rs ++ more) (ts ++ further) ≡ ps ++ pauses_then o watch answer further (pauses_of o watch more)
 
--- and behind its take
+-- and after its take
 abbrev pub PausesTook : Orders → List ℕ → List (Option Datagram) → Watch → Option Datagram → Node → List Pause → Type 0
 PausesTook o rs ts watch t node ps = (more : List ℕ) (further : List (Option Datagram)) → node_pauses o (rs ++ more) (ts ++ further) ≡ ps ++ pauses_of o watch more t node further
 

@@ -1,4 +1,4 @@
--- How the lines of a node stand: no act tells an `unsent` line, and each frame stands directly behind the `put` line of its link.
+-- How the lines of a node stand: no act tells an `unsent` line, and each frame stands directly after the `put` line of its link.
 use Rattle.std.specs.Prelude.{◌≡◌, ◌==◌, ℕ, Bool, true, false, not, List, [], ◌∷◌, codes, filter, Option, Some, None}
 use Rattle.std.specs.List.{join_with_byte, slice_index_or, slice_split}
 use Rattle.std.specs.Str.{bytes_eq}
@@ -30,7 +30,7 @@ Orderly before (Tell told s) = (is_unsent told ≡ false) × Orderly (link_put t
 Orderly before (Ask host octets s) = Orderly before (s tt)
 Orderly before (Hand link parcel s) = (before ≡ Some link) × Orderly None s
 
--- THE LINES OF A LOG, among them `unsent` lines. Each of these stands directly behind the `put` line of its link; `before` is as above
+-- THE LINES OF A LOG, among them `unsent` lines. Each of these stands directly after the `put` line of its link; `before` is as above
 abbrev pub UnsentInOrder : Option ℕ → List Entry → Type 0
 UnsentInOrder before [] = Unit {0}
 UnsentInOrder before (e ∷ es) = ((link : ℕ) → e.told ≡ Unsent link → before ≡ Some link) × UnsentInOrder (link_put e.told) es

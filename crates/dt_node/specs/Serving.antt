@@ -69,7 +69,7 @@ IsWhole Refused = ⊥
 IsWhole NoMemory = ⊥
 IsWhole WriteFault = ⊥
 
--- a first part of the text stands behind what the sink held, where it tells that
+-- a first part of the text stands after what the sink held, where it tells that
 abbrev pub AppendsPart : List ℕ → Option (List ℕ) → Option (List ℕ) → Type 0
 AppendsPart text before after = (count : ℕ) × Appends before after (take count text)
 
@@ -183,7 +183,7 @@ pub record IsTrace (o : Orders) (outcome : NodeOutcome) (readings : List ℕ) (t
   pub traced : Traced o readings takes deeds failing unopened text
   pub read : length (fates deeds) < 2 ^ 64 → trace_of text ≡ Ok (recorded readings takes deeds failing unopened)
 
--- The log: the lines of the run, and behind the `put` line of each frame that was lost its `unsent` line. Or the trace.
+-- The log: the lines of the run, and after the `put` line of each frame that was lost its `unsent` line. Or the trace.
 abbrev pub Written : Form → Orders → NodeOutcome → List ℕ → List (Option Datagram) → List Deed → List ℕ → Type 0
 Written forms.Log o outcome readings takes deeds text = text ≡ log_text (log_lines o.setup.me deeds)
 Written forms.Trace o outcome readings takes deeds text = IsTrace o outcome readings takes deeds text
@@ -204,7 +204,7 @@ pub record Serves (form : Form) (o : Orders) (outcome : NodeOutcome) (before aft
   pub text : List ℕ
   pub written : Written form o outcome readings takes deeds text
   pub log : Logs outcome text before.held after.held
-  -- in a log each `unsent` line stands directly behind the `put` line of its link
+  -- in a log each `unsent` line stands directly after the `put` line of its link
   pub unsent : UnsentInOrder None (log_lines o.setup.me deeds)
   -- without the lines whose third word is `unsent` the text is the node's
   pub apart : without_unsent_lines (log_text (log_lines o.setup.me deeds)) ≡ log_text (node_lines o.setup.me (node_run o readings takes).acts)

@@ -14,7 +14,7 @@ use Rattle.dt_turn.specs.Turns.{turn}
 abbrev pub failed_gives : ℕ → List Deed → List Input
 failed_gives gives deeds = map FailedGive (lost_numbers gives (fates deeds))
 
--- What stands behind a turn: nothing, where it met the stop or no take answered behind it; else what its take found, and then the next turn.
+-- What stands after a turn: nothing, where it met the stop or no take answered after it; else what its take found, and then the next turn.
 abbrev pub take_then : Option Node → List (Option Datagram) → (Option Datagram → Node → List (Option Datagram) → List Input) → List Input
 take_then None takes next = []
 take_then (Some node) [] next = []

@@ -1,16 +1,18 @@
 -- What a turn of the code plays, and how it ends before a log.
-use Rattle.std.specs.Prelude.{Bool, true, false, Option, Result, Ok, Err}
+use Rattle.std.specs.Prelude.{◌≡◌, ◌<◌, ℕ, Bool, true, false, Option, Result, Ok, Err, IfOk, OnOk}
 use Rattle.dt_items.specs.declared.memory.NoMemory.{NoMemory}
 use Rattle.dt_fold.specs.declared.stops.Stop.{Stop}
 use Rattle.dt_fold.specs.declared.stops.Stop.TheVariants as stops
 use Rattle.dt_world_model.specs.Script.{Script}
+use Rattle.dt_script.specs.declared.orders.Orders.{Orders}
 use Rattle.dt_script.specs.Codes.{orders_seen}
 use Rattle.dt_turn.specs.declared.nodes.Node.{Node}
-use Rattle.dt_turn.specs.Codes.{arrived, node_seen}
+use Rattle.dt_turn.specs.Codes.{IsReady, arrived, node_seen}
 use Rattle.dt_turn.specs.Codes as codes
 use Rattle.dt_turn.specs.Nodes as model
 use Rattle.dt_turn.specs.Turns.{turn}
 use Rattle.dt_node.specs.declared.running.Turn.{Turn}
+use Rattle.dt_node.specs.Logging.{wants_memory}
 
 abbrev pub turn_script : Turn → Node → Script (Unit {0}) (Option model.Node)
 turn_script t node = turn (orders_seen t.orders.now) t.moment (arrived t.came) (node_seen t.orders.now node)
@@ -24,3 +26,9 @@ ended_by false (Err fault) = Err stops.NoMemory
 -- what it answers: nothing where it met the stop
 abbrev pub turned : Result Bool Stop → model.Node → Option model.Node
 turned result node = codes.turned {E = Stop} result node
+
+-- what a turn at a moment leaves of its node: one that can take the next turn, before the stop where the run goes on; and where memory was wanted, one that is used no more
+pub record Leaves (o : Orders) (now : ℕ) (result : Result Bool Stop) (node : Node) : Type 0 where
+  pub ready : OnOk result (IsReady o now node)
+  pub going : IfOk result (λ stopped. stopped ≡ false → now < o.stop)
+  pub memory : wants_memory result ≡ true → node.dock.station.spent ≡ true

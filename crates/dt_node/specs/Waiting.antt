@@ -12,7 +12,7 @@ use Rattle.dt_node.specs.Acts.{answer_of}
 use Rattle.dt_node.specs.Runs.{first_watch, moment, next_moment, next_watch, wait_until, wakes_by}
 use Rattle.dt_turn.specs.Turns.{turn}
 
--- How it stands when a take is called: the turn's moment, the station's wake behind the turn, and the moment of the next command or of the stop.
+-- How it stands when a take is called: the turn's moment, the station's wake after the turn, and the moment of the next command or of the stop.
 pub record Pause : Type 0 where
   pub now : ℕ
   pub wake : Option ℕ
@@ -37,7 +37,7 @@ pub record IsShort (p : Pause) (wait : ℕ) : Type 0 where
 abbrev pub pause_of : Orders → Watch → Node → Pause
 pause_of o watch node = record { now = moment watch; wake = station_wake o.setup.params node.station; next = next_moment o.stop node.commands }
 
--- those behind a turn: none, where it met the stop; else that of its take, and those behind the take where it answered
+-- those after a turn: none, where it met the stop; else that of its take, and those after the take where it answered
 abbrev pub pauses_then : Orders → Watch → Option Node → List (Option Datagram) → (Option Datagram → Node → List (Option Datagram) → List Pause) → List Pause
 pauses_then o watch None takes next = []
 pauses_then o watch (Some node) [] next = pause_of o watch node ∷ []

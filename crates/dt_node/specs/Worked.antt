@@ -2,7 +2,8 @@
 use Rattle.std.specs.Prelude.{ℕ, ◌/◌, ◌%◌, Bool, true, false, List, [], ◌∷◌, Some, None}
 use Rattle.dt_edges.specs.Wires.{Datagram}
 use Rattle.dt_world_model.specs.Worked.{main_flow, standard}
-use Rattle.dt_script.specs.Orders.{Orders, Sends}
+use Rattle.dt_text.specs.Tasks.{Sends}
+use Rattle.dt_script.specs.Orders.{Orders}
 
 -- node 1 of two, for the first time or again: it sends five octets to node 2 at 0, and stops at 100
 abbrev pub exchange : Bool → Orders

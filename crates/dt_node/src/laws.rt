@@ -7,7 +7,7 @@ ghost use Rattle.dt_script.specs.Orders.{Orders};
 ghost use Rattle.dt_node.specs.Runs.{node_run};
 ghost use Rattle.dt_node.specs.Waiting.{IsShort, Pause, wait_in};
 
-/// A run tells no `unsent` line of its own, and each frame stands directly behind the `put` line of
+/// A run tells no `unsent` line of its own, and each frame stands directly after the `put` line of
 /// its link. So in a log, where an `unsent` line stands in the place of a frame that was lost, each
 /// `unsent` line follows the `put` line of its link directly.
 pub fn lines_stand_in_order()

@@ -16,7 +16,7 @@ ghost use Rattle.dt_node.specs.Deeds.{TurnEnds, scene};
 ghost use Rattle.dt_node.specs.Logging.{NotesFault, noted_text, wants_memory};
 ghost use Rattle.dt_node.specs.Runs.{next_moment, wait_until, wakes_by};
 ghost use Rattle.dt_node.specs.Serving.{Serves, edges, most_taken};
-ghost use Rattle.dt_node.specs.TurnScripts.{ended_by, turn_script};
+ghost use Rattle.dt_node.specs.TurnScripts.{Leaves, ended_by, turn_script};
 
 use crate::logs::Log;
 use crate::outcomes::NodeOutcome;
@@ -77,9 +77,7 @@ fn turn_by<W: Wire, K: Sink>(
     ensures same_out { log.new.out.ghost_name ≡ log.old.out.ghost_name }
     ensures same_sink { (K.sight log.new.out.now).identity ≡ (K.sight log.old.out.now).identity }
     ensures reached { Grows (K.sight log.old.out.now).reached (K.sight log.new.out.now).reached }
-    ensures ready { OnOk result (IsReady turn.entry.orders.now turn.entry.moment node.new) }
-    ensures going { IfOk result (λ stopped. stopped ≡ false → turn.entry.moment < turn.entry.orders.now.stop) }
-    ensures memory { wants_memory result ≡ true → node.new.dock.station.spent ≡ true }
+    ensures leaves { Leaves turn.entry.orders.now turn.entry.moment result node.new }
 {
     let done = dt_turn::turn(turn.orders, node, turn.moment, turn.came, log);
     ended(done, log.failed)
@@ -98,9 +96,7 @@ fn turn_logged<W: Wire, K: Sink>(
     ensures same_form { writer.new.form ≡ writer.old.form }
     ensures same_sink { (K.sight out.new).identity ≡ (K.sight out.old).identity }
     ensures reached { Grows (K.sight out.old).reached (K.sight out.new).reached }
-    ensures ready { OnOk result (IsReady turn.entry.orders.now turn.entry.moment node.new) }
-    ensures going { IfOk result (λ stopped. stopped ≡ false → turn.entry.moment < turn.entry.orders.now.stop) }
-    ensures memory { wants_memory result ≡ true → node.new.dock.station.spent ≡ true }
+    ensures leaves { Leaves turn.entry.orders.now turn.entry.moment result node.new }
 {
     let mut log = Log {
         wire,
@@ -128,9 +124,7 @@ fn turn_onto<W: Wire, K: Sink>(
     ensures same_form { writer.new.form ≡ writer.old.form }
     ensures same_sink { (K.sight out.new).identity ≡ (K.sight out.old).identity }
     ensures reached { Grows (K.sight out.old).reached (K.sight out.new).reached }
-    ensures ready { OnOk result (IsReady turn.entry.orders.now turn.entry.moment node.new) }
-    ensures going { IfOk result (λ stopped. stopped ≡ false → turn.entry.moment < turn.entry.orders.now.stop) }
-    ensures memory { wants_memory result ≡ true → node.new.dock.station.spent ≡ true }
+    ensures leaves { Leaves turn.entry.orders.now turn.entry.moment result node.new }
 {
     writer.note(&Input::Reading(turn.reading), out)?;
     turn_logged(node, turn, wire, out, writer)
@@ -147,9 +141,7 @@ fn turn_into<W: Wire, K: Sink>(
     ensures ends { TurnEnds result run.old.recorder.writer.form turn.entry.orders.now.setup.me.0 turn.entry.moment (noted_text run.old.recorder.writer.form (Reading turn.entry.reading)) (turn_script turn.entry run.old.node) (turned result (node_seen turn.entry.orders.now run.new.node)) (scene run.old.recorder.writer.gives (W.sight wire.old) (with_waiting (K.sight out.old) run.old.recorder.buffer)) (scene run.new.recorder.writer.gives (W.sight wire.new) (with_waiting (K.sight out.new) run.new.recorder.buffer)) }
     ensures same_form { run.new.recorder.writer.form ≡ run.old.recorder.writer.form }
     ensures reached { Grows (K.sight out.old).held (K.sight out.new).held }
-    ensures ready { OnOk result (IsReady turn.entry.orders.now turn.entry.moment run.new.node) }
-    ensures going { IfOk result (λ stopped. stopped ≡ false → turn.entry.moment < turn.entry.orders.now.stop) }
-    ensures memory { wants_memory result ≡ true → run.new.node.dock.station.spent ≡ true }
+    ensures leaves { Leaves turn.entry.orders.now turn.entry.moment result run.new.node }
 {
     let buffer = &mut run.recorder.buffer;
     let mut gathered = Buffered { out, buffer };
@@ -191,9 +183,7 @@ fn turn_at<W: Wire, K: Sink>(
     requires empty { run.old.recorder.buffer ≡ [] }
     ensures ends { TurnEnds result run.old.recorder.writer.form turn.entry.orders.now.setup.me.0 turn.entry.moment (noted_text run.old.recorder.writer.form (Reading turn.entry.reading)) (turn_script turn.entry run.old.node) (turned result (node_seen turn.entry.orders.now run.new.node)) (scene run.old.recorder.writer.gives (W.sight wire.old) (K.sight out.old)) (scene run.new.recorder.writer.gives (W.sight wire.new) (K.sight out.new)) }
     ensures same_form { run.new.recorder.writer.form ≡ run.old.recorder.writer.form }
-    ensures ready { OnOk result (IsReady turn.entry.orders.now turn.entry.moment run.new.node) }
-    ensures going { IfOk result (λ stopped. stopped ≡ false → turn.entry.moment < turn.entry.orders.now.stop) }
-    ensures memory { wants_memory result ≡ true → run.new.node.dock.station.spent ≡ true }
+    ensures leaves { Leaves turn.entry.orders.now turn.entry.moment result run.new.node }
     ensures empty { OnOk result (run.new.recorder.buffer ≡ []) }
 {
     let turned = turn_into(run, turn, wire, out);

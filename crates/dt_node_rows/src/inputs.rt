@@ -66,7 +66,7 @@ at 100 stop
 ";
 
 /// Scripts that are refused: one that ends too early, a route on no link, a flow of other nodes, two
-/// shelves, a command behind the stop, and a line with too few words.
+/// shelves, a command after the stop, and a line with too few words.
 const UNFINISHED: &str = "params 1000 3000 200 500 800 100 4096 4096 512 2147483648
 me 1 first
 ";
@@ -137,7 +137,7 @@ const DATA: &[u8] =
 const ACK: &[u8] =
     b"\x01\x01\x00\x0e\x00\x00\x03\xe7\x00\x00\x00\x02\x00\x00\x00\x01\x02\x00\x00\x14\x00\x0a\x00\x00\x00\x05\x00\x00\x0f\xfb";
 
-/// A closing packet of node 1, behind five octets.
+/// A closing packet of node 1, after five octets.
 const CLOSE: &[u8] =
     b"\x02\x01\x00\x0e\x00\x00\x03\xe7\x00\x00\x00\x01\x00\x00\x00\x02\x04\x00\x00\x0a\x00\x14\x00\x00\x00\x05\x00\x00\x00\x00";
 

@@ -15,7 +15,7 @@ hears|1000 1010 1020 1100|data,close,-||done||10 2 accepted 1:10>2:20 0 5 run;10
 first|1000 1040 1100|fifteen,-||done||0 1 took 1:10>2:20 5;0 1 sent 1:10>2:20 0 5 dbe;0 1 put 1 999;40 1 bad short 15;end 100;";
 
 /// The wire doesn't open; the first take fails, the second, the third; the clock stands still; a frame is
-/// lost, which is told behind its line; scripts are refused before anything is called.
+/// lost, which is told after its line; scripts are refused before anything is called.
 pub const FAILURES: &str = "first|1000 1040 1100|ack,-|open|wire||
 first|1000 1040 1100|ack,-|take 1|wire||0 1 took 1:10>2:20 5;0 1 sent 1:10>2:20 0 5 dbe;0 1 put 1 999;
 first|1000 1040 1100|ack,-|take 2|wire||0 1 took 1:10>2:20 5;0 1 sent 1:10>2:20 0 5 dbe;0 1 put 1 999;40 1 settled 1:10>2:20 5 4091;

@@ -1,6 +1,6 @@
 ghost use Rattle.std.specs.Prelude.{◌<◌, length};
 
-use dt_ledger::{Fate, FlowRows, Ledger, Totals};
+use dt_ledger::{Fate, FlowRows, GivenOctets, Ledger, Totals};
 use dt_units::{Flow, NodeId};
 use std::process::Abort;
 
@@ -40,9 +40,16 @@ fn goes_out(rows: &mut FlowRows, count: u32, at: u32, place: u64) -> bool {
 fn is_given(rows: &mut FlowRows, place: u32, octets: &[u8], marks: &[u8], at: u64) -> bool
     requires { length octets.now < 100 }
 {
-    let (begin, end, run) = (has(marks, b'b'), has(marks, b'e'), has(marks, b'r'));
-    rows.give(u64::from(place), octets, begin, end, run, 0, at)
-        .is_ok()
+    let given = GivenOctets {
+        octets,
+        begin: has(marks, b'b'),
+        end: has(marks, b'e'),
+        run: has(marks, b'r'),
+        place: u64::from(place),
+        life: 0,
+        at,
+    };
+    rows.give(&given).is_ok()
 }
 
 fn is_done(rt: &impl Abort, rows: &mut FlowRows, step: &Step) -> bool {

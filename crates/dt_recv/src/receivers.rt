@@ -14,6 +14,7 @@ use crate::acknowledgements::Acknowledgement;
 use crate::cases::{action, closing};
 use crate::records;
 use crate::records::Record;
+use crate::segment::Segment;
 use circular_buffer::HeapCircularBuffer;
 use dt_flow_model::{Action, Arrived, RecvAct, RecvKind, RecvMoments};
 use dt_items::{Item, NoMemory, Piece, Queue};
@@ -137,12 +138,19 @@ impl Receiver {
         ensures looks { steps.new ≡ steps.old + 1 }
     {
         steps.tick();
+        let segment = Segment {
+            number,
+            drf,
+            begin,
+            end,
+            octets,
+        };
         match self.action_on(drf, number, octets) {
             Action::Drop => Arrived::Dropped,
-            Action::Make | Action::Skip => self.accept(number, true, begin, end, octets, now),
+            Action::Make | Action::Skip => self.accept(&segment, true, now),
             Action::TellNumber => self.reply_number(number, reply),
             Action::TellExpected => self.reply_expected(number, reply),
-            Action::Accept => self.accept(number, false, begin, end, octets, now),
+            Action::Accept => self.accept(&segment, false, now),
             Action::Close => Arrived::Closing { number },
         }
     }
@@ -294,35 +302,23 @@ impl Receiver {
         )
     }
 
-    /// Accepts octets that fit into the queue, at `now`, as a new run or following the ones before.
-    fn accept(
-        &mut self,
-        number: u32,
-        run: bool,
-        begin: bool,
-        end: bool,
-        octets: &[u8],
-        now: u64,
-    ) -> Arrived
-        requires some { 0 < length octets.now }
-        requires few { length octets.now ≤ 8192 }
-        requires fits { length octets.now ≤ free_of self.old.rules self.old.state.unread }
+    /// Accepts the octets of a segment that fit into the queue, at `now`, as a new run or following the ones before.
+    fn accept(&mut self, segment: &Segment<'_>, run: bool, now: u64) -> Arrived
+        requires some { 0 < length segment.now.octets.now }
+        requires few { length segment.now.octets.now ≤ 8192 }
+        requires fits { length segment.now.octets.now ≤ free_of self.old.rules self.old.state.unread }
         requires moment { now ≤ 2 ^ 62 }
-        ensures after { let items = marked octets.now begin end false in
-            self.new ≡ record self.old { state = receiver_accepted self.old.rules now self.old.state.unread self.old.state.standing number items run } }
-        ensures answer { result ≡ Accepted run (length octets.now) }
+        ensures after { let items = marked segment.now.octets.now segment.now.begin segment.now.end false in
+            self.new ≡ record self.old { state = receiver_accepted self.old.rules now self.old.state.unread self.old.state.standing segment.now.number items run } }
+        ensures answer { result ≡ Accepted run (length segment.now.octets.now) }
     {
-        let count = octets.len() as u32;
-        self.queue.push_all(octets, begin, end, run);
-        self.standing = Some(records::accepted(
-            self.standing,
-            &self.rules,
-            now,
-            number,
-            count,
-            end,
-        ));
-        Arrived::Accepted { run, count }
+        self.queue
+            .push_all(segment.octets, segment.begin, segment.end, run);
+        self.standing = Some(records::accepted(self.standing, &self.rules, now, segment));
+        Arrived::Accepted {
+            run,
+            count: segment.octets.len() as u32,
+        }
     }
 
     /// What is told with this number: the free room of the queue beside it.

@@ -1,6 +1,6 @@
 //! What becomes of a receive record. Moments are readings of the receiving station's clock, in
 //! milliseconds.
-ghost use Rattle.std.specs.Prelude.{◌≡◌, ◌≤◌, ◌+◌, ◌^◌, Some};
+ghost use Rattle.std.specs.Prelude.{◌≡◌, ◌≤◌, ◌+◌, ◌^◌, Some, length};
 ghost use Rattle.dt_units.specs.Numbers.{number_after};
 ghost use Rattle.dt_flow_model.specs.SendActs.{earlier};
 ghost use Rattle.dt_units.specs.Times.{receive_time};
@@ -8,6 +8,7 @@ ghost use Rattle.dt_flow_model.specs.ReceiveRecord.{due_in, expected_of, owed_af
 ghost use Rattle.dt_recv.specs.Receivers.{IsTouched};
 ghost use Rattle.dt_recv.specs.Records.{receive_record_of, standing_of};
 
+use crate::segment::Segment;
 use dt_flow_model::{RecvKind, RecvMoments};
 use dt_units::{Rules, later};
 
@@ -43,22 +44,14 @@ pub fn expected(standing: Option<Record>) -> Option<u32>
     Some(standing?.expected)
 }
 
-/// The record after octets were accepted at `now`: so many from this number on, in which a message ends
-/// or doesn't.
-pub fn accepted(
-    standing: Option<Record>,
-    rules: &Rules,
-    now: u64,
-    number: u32,
-    count: u32,
-    message_ends: bool,
-) -> Record
+/// The record after the octets of a segment were accepted at `now`.
+pub fn accepted(standing: Option<Record>, rules: &Rules, now: u64, segment: &Segment<'_>) -> Record
     requires moment { now ≤ 2 ^ 62 }
-    requires few { count ≤ 65536 }
+    requires few { length segment.now.octets.now ≤ 8192 }
     ensures { receive_record_of result ≡ record {
-      expected = number_after number count;
+      expected = number_after segment.now.number (length segment.now.octets.now);
       touched = now;
-      due = owed_after rules.now now (due_in (standing_of standing)) message_ends;
+      due = owed_after rules.now now (due_in (standing_of standing)) segment.now.end;
       told = told_in rules.now (standing_of standing);
     } }
 {
@@ -67,9 +60,9 @@ pub fn accepted(
         Some(record) => (record.due, record.told),
     };
     Record {
-        expected: later(number, count),
+        expected: later(segment.number, segment.octets.len() as u32),
         touched: now,
-        due: owed_after(rules, now, due, message_ends),
+        due: owed_after(rules, now, due, segment.end),
         told,
     }
 }

@@ -1,4 +1,4 @@
--- What is known of the first that waits, and of those behind it.
+-- What is known of the first that waits, and of those after it.
 use Rattle.std.proofs.Common.{◌≡◌, ℕ, ◌≤◌, All, List, [], ◌∷◌, map, Some, slice_get, subst, arith}
 use Rattle.dt_world_model.specs.Relay.{Waiting as WaitingParcel}
 use Rattle.dt_relay.specs.declared.queues.Waiting.{Waiting}

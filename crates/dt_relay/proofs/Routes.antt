@@ -1,4 +1,4 @@
--- One route more, behind the others.
+-- One route more, after the others.
 use Rattle.std.proofs.Common.{◌≡◌, ◌≢◌, ◌∙◌, ℕ, suc, ◌+◌, ◌==◌, ◌++◌, List, [], ◌∷◌, Bool, true, false, cond, Option, Some, None, inl, inr, length, refl, sym, subst, ap, arith, nat_eq}
 use Rattle.std.proofs.lemmas.Bool.{cases_Bool}
 use Rattle.std.proofs.lemmas.Bool.Decides.{nat_tests}

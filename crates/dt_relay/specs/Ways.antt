@@ -25,6 +25,6 @@ StaysUnlessQueued (Queued link) old new = Unit {0}
 StaysUnlessQueued (NoRoute to) old new = new ≡ old
 StaysUnlessQueued (Full link) old new = new ≡ old
 
--- one route more, behind the others
+-- one route more, after the others
 abbrev pub with_route : {T : Type 0} → Route → Relay T → Relay T
 with_route route relay = record relay { routes = relay.routes ++ route ∷ [] }

@@ -5,10 +5,12 @@ mod carrying;
 mod passages;
 mod places;
 mod queues;
+mod readings;
 mod relays;
 
 pub use carrying::Carry;
 pub use dt_world_model::{Entered, InLink, OutLink, Route};
 pub use passages::Passage;
 pub use queues::Left;
+pub use readings::Reading;
 pub use relays::{Relay, earlier};

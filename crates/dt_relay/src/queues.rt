@@ -1,12 +1,12 @@
-ghost use Rattle.std.specs.Prelude.{◌≡◌, ◌≤◌, IfOk, IfSome, is_some};
+ghost use Rattle.std.specs.Prelude.{◌≡◌, IfOk, IfSome, is_some};
 ghost use Rattle.dt_layout.specs.Carried.{IsGram};
-ghost use Rattle.dt_flow_model.specs.Keeping.{most_moment};
 ghost use Rattle.dt_world_model.specs.Relay.{IsOutUpTo, empty_out, leave, may_leave_from, out_wake, push};
 ghost use Rattle.dt_relay.specs.Carrying.{IfOut, left_seen, parcel_seen};
 ghost use Rattle.dt_relay.specs.Passages.{HasLife, passage_on, passed_on};
 
 use crate::carrying::Carry;
 use crate::passages::Passage;
+use crate::readings::Reading;
 use circular_buffer::HeapCircularBuffer;
 use dt_items::NoMemory;
 use dt_world_model::Entered;
@@ -88,23 +88,22 @@ impl<P: Carry> Queue<P> {
     }
 
     /// Takes the first that waits, unless the link keeps its pace.
-    pub(crate) fn leave(&mut self, now: u64) -> Option<Left<P>>
-        requires past { IsOutUpTo now self.old }
-        requires moment { now ≤ most_moment }
-        ensures left { left_seen P.octets P.label result ≡ (leave now self.old).0 }
-        ensures queue { self.new ≡ (leave now self.old).1 }
+    pub(crate) fn leave(&mut self, now: Reading) -> Option<Left<P>>
+        requires { IsOutUpTo now.ms self.old }
+        ensures left { left_seen P.octets P.label result ≡ (leave now.ms self.old).0 }
+        ensures queue { self.new ≡ (leave now.ms self.old).1 }
         ensures gram { IfOut result (λ packet. IsGram (P.octets packet)) }
     {
-        if now < self.may_leave_from() {
+        if now.ms < self.may_leave_from() {
             return None;
         }
         let Waiting { mut packet, since } = self.ring.pop_front()?;
-        let charge = now - since + 1;
+        let charge = now.ms - since + 1;
         if u64::from(packet.life()) <= charge {
             return Some(Left::Expired);
         }
         packet.lower(charge as u32);
-        self.last = Some(now);
+        self.last = Some(now.ms);
         Some(Left::Out(packet))
     }
 
@@ -117,24 +116,23 @@ impl<P: Carry> Queue<P> {
 
     /// Lets a packet of this life go straight on, where nothing waits and the link doesn't keep its pace.
     /// Only a packet that leaves changes the queue.
-    pub(crate) fn pass(&mut self, life: u32, now: u64) -> Passage
-        requires moment { now ≤ most_moment }
-        ensures passage { result ≡ passage_on life now self.old }
+    pub(crate) fn pass(&mut self, life: u32, now: Reading) -> Passage
+        ensures passage { result ≡ passage_on life now.ms self.old }
         ensures life { HasLife life result }
-        ensures queue { self.new ≡ passed_on result now self.old }
+        ensures queue { self.new ≡ passed_on result now.ms self.old }
     {
         let link = self.link;
         let waiting = self.ring.len();
         if waiting >= MOST_ON_LINK {
             return Passage::Full { link };
         }
-        if waiting > 0 || now < self.may_leave_from() {
+        if waiting > 0 || now.ms < self.may_leave_from() {
             return Passage::Waits { link };
         }
         if life <= 1 {
             return Passage::Expired { link };
         }
-        self.last = Some(now);
+        self.last = Some(now.ms);
         Passage::Leaves { link }
     }
 

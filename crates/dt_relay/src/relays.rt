@@ -13,6 +13,7 @@ use crate::carrying::Carry;
 use crate::passages::Passage;
 use crate::places::{Places, place_in, places_in};
 use crate::queues::{Left, Queue};
+use crate::readings::Reading;
 use dt_items::NoMemory;
 use dt_layout::Frame;
 use dt_world_model::{Entered, InLink, OutLink, Route};
@@ -172,7 +173,7 @@ impl<P: Carry> Relay<P> {
                 None => Passage::NoRoute { to },
                 Some(i) => {
                     let queue = &mut self.outs[i];
-                    queue.pass(life, now)
+                    queue.pass(life, Reading { ms: now })
                 }
             },
         }
@@ -196,10 +197,7 @@ impl<P: Carry> Relay<P> {
     {
         match self.place(link) {
             None => None,
-            Some(i) => {
-                let queue = &mut self.outs[i];
-                queue.leave(now)
-            }
+            Some(place) => self.leave_at(place, now),
         }
     }
 
@@ -236,7 +234,7 @@ impl<P: Carry> Relay<P> {
             None => None,
             Some(i) => {
                 let queue = &mut self.outs[i];
-                queue.leave(now)
+                queue.leave(Reading { ms: now })
             }
         }
     }

@@ -59,7 +59,7 @@ module _ (w : World) where
   told_is : (moment : ℕ) (told : Told) (flow : Flow) (totals : Totals) → moment ≡ w.now → told ≡ totals_told flow totals → by_world moment told ≡ by_world w.now (totals_told flow totals)
   told_is moment told flow totals m t = ap (λ (n : ℕ). by_world n told) m ∙ ap (λ (r : Told). by_world w.now r) t
 
-  -- the line of a flow is put behind those before it
+  -- the line of a flow is put after those before it
   pub flow_put : (i moment : ℕ) (told : Told) (flow : Flow) (totals : Totals) (a b c : SinkSight) → moment ≡ w.now → told ≡ totals_told flow totals → i < length rows → option_map (λ (e : Flow × FlowLedger). e.0) (slice_get rows i) ≡ Some flow → option_map (λ (e : Flow × FlowLedger). totals_of e.1) (slice_get rows i) ≡ Some totals
       → Takes (log_text (take i (last_lines w))) a b → Takes (entry_text (by_world moment told)) b c → Takes (log_text (take (i + 1) (last_lines w))) a c
   flow_put i moment told flow totals a b c m r h f t before one =
@@ -73,7 +73,7 @@ module _ (w : World) where
       puts_failed_between sight (log_text (last_lines w)) (log_text (take i (last_lines w))) (entry_text (get_or (last_lines w) i (end_line w))) (log_text (drop (suc i) (last_lines w))) r old between new
       (text_around entry_text (last_lines w) i (end_line w) (omega (arith, h, lines_length))) before (subst (λ (x : Entry). TakesPart (entry_text x) (sight between) (sight new)) (told_is moment told flow totals m e ∙ sym (flow_at_is i flow totals h f t)) part) is
 
-  -- the end is put behind all flows
+  -- the end is put after all flows
   pub end_put : {K T E : Type 0} (sight : K → SinkSight) (n moment : ℕ) (r : Result T E) (old between new : K) → moment ≡ w.now → n ≡ length rows → Takes (log_text (take n (last_lines w))) (sight old) (sight between) → Puts sight (entry_text (by_world moment report.End)) r between new → Puts sight (log_text (last_lines w)) r old new
   end_put sight n moment r old between new m e before put =
       let flows = map (flow_line w) rows in

@@ -4,13 +4,14 @@ use Rattle.std.proofs.lemmas.List.Elements.{All-nil, All-cons}
 use Rattle.dt_units.specs.Limits.{IsWithinLimits}
 use Rattle.dt_reports.specs.declared.faults.StepFault.{StepFault}
 use Rattle.dt_text.specs.InputLines.{lines_of}
-use Rattle.dt_text.specs.Hexadecimal.{octets_of_hex}
-use Rattle.dt_text.specs.Said as said
-use Rattle.dt_text.specs.Said.{RunSaid}
+use Rattle.dt_text.specs.declared.lines.RunLine.{RunLine}
+use Rattle.dt_text.specs.declared.lines.RunLine.TheVariants as runs
+use Rattle.dt_text.specs.Tasks.{IsTask, Reads, Sends, Task, task_of}
+use Rattle.dt_text.proofs.TaskLaws.{user_task}
 use Rattle.dt_world_model.specs.Setup.{Setup, new_world}
 use Rattle.dt_world_model.specs.World.{World}
 use Rattle.dt_world_model.specs.WorldFacts.{CanHappen, SafeWorld, WorldFacts}
-use Rattle.dt_world_model.specs.WorldStep.{Reads, Sends, WorldEvent, after_event, first_refusal, refusals, step_unless}
+use Rattle.dt_world_model.specs.WorldStep.{WorldEvent, after_event, first_refusal, refusals, step_unless}
 use Rattle.dt_world_laws.proofs.Promise.{facts_are_safe}
 use Rattle.dt_world_laws.proofs.Running.{run_goes}
 use Rattle.dt_world_laws.proofs.Starts.{new_world_facts}
@@ -18,7 +19,7 @@ use Rattle.dt_scenario.specs.Parts.{IsLineOf}
 use Rattle.dt_scenario.specs.Scenes.{event_by}
 use Rattle.dt_scenario.proofs.Happenings.{can_happen}
 use Rattle.dt_scenario.proofs.Keeping.{IfTurned, facts_after}
-use Rattle.dt_replay.specs.Schedules.{by_step, does, replayed, simulates_world, world_after_lines, world_of}
+use Rattle.dt_replay.specs.Schedules.{by_step, does, event_of_task, replayed, simulates_world, world_after_lines, world_of}
 
 -- The parameters are within their limits, and the world has its facts, after any number of lines.
 abbrev HasFacts : ℕ → World → Type 0
@@ -40,12 +41,15 @@ step_kept count w e None h facts can =
 event_kept : (count : ℕ) (w : World) (e : WorldEvent) → HasFacts count w → CanHappen e → IfTurned (HasFacts (suc count)) (by_step (step_unless (first_refusal (refusals w e)) (after_event w e)))
 event_kept count w e h can = step_kept count w e (first_refusal (refusals w e)) refl h can
 
--- the flow of a line has its numbers in their ranges
-line_kept : (count : ℕ) (w : World) (line : RunSaid) → IsLineOf simulates_world line → HasFacts count w → IfTurned (HasFacts (suc count)) (does w line)
-line_kept count w (said.World line) is h = event_kept count w (event_by line) h (can_happen line)
-line_kept count w (said.User (said.Send f begin end hex)) is h = event_kept count w (Sends f (octets_of_hex hex) begin end) h is.1.0
-line_kept count w (said.User (said.Read f max)) is h = event_kept count w (Reads f max) h is.1.0
-line_kept count w (said.Call f hex) is h = tt
+-- the flow of a task has its numbers in their ranges
+pub task_can : (task : Task) → IsTask task → CanHappen (event_of_task task)
+task_can (Sends flow begin end octets) h = h.0
+task_can (Reads flow most) h = h.0
+
+line_kept : (count : ℕ) (w : World) (line : RunLine) → IsLineOf simulates_world line → HasFacts count w → IfTurned (HasFacts (suc count)) (does w line)
+line_kept count w (runs.World line) is h = event_kept count w (event_by line) h (can_happen line)
+line_kept count w (runs.User line) is h = event_kept count w (event_of_task (task_of line)) h (task_can (task_of line) (user_task line is))
+line_kept count w (runs.Call f hex) is h = tt
 
 -- a world with its facts is safe
 safe_if : (count : ℕ) (o : Option World) → IfSome o (λ w. HasFacts count w) → IfSome o (λ w. SafeWorld w)

@@ -44,12 +44,8 @@ module _ {K : Type 0} (sight : K → SinkSight) where
 
     pub step_turns : (r : Result (Unit {0}) StepFault) → Answers writes r w e s t new → Says (stepped r t.failed)
     step_turns (Ok done) h = done_says sight entry_text Told (λ s t e. e) (λ x xs s t told. told) (by_step (world_step w.state e)) w.state new.state s t fine h.told (ap by_step h.step) h.lines
-    step_turns (Err fault.BadFlow) h = refused_turns fault.BadFlow refl h
-    step_turns (Err (fault.NoStation n)) h = refused_turns (fault.NoStation n) refl h
-    step_turns (Err (fault.NoCopy n)) h = refused_turns (fault.NoCopy n) refl h
-    step_turns (Err (fault.Lost n)) h = refused_turns (fault.Lost n) refl h
-    step_turns (Err (fault.TooLate held charge)) h = refused_turns (fault.TooLate held charge) refl h
     step_turns (Err fault.NoMemory) h = spent_turns h
+    step_turns (Err other) h = refused_turns other refl h
 
     told_same : (entries : List Entry) → Told entries s t → t.out.ghost_name ≡ s.out.ghost_name
     told_same entries lines = same_name sight entry_text Told (λ s t e. e) (λ x xs s t told. told) entries s t lines
@@ -60,9 +56,5 @@ module _ {K : Type 0} (sight : K → SinkSight) where
     -- and the sink is the same
     pub step_same : (r : Result (Unit {0}) StepFault) → Answers writes r w e s t new → t.out.ghost_name ≡ s.out.ghost_name
     step_same (Ok done) h = told_same h.told h.lines
-    step_same (Err fault.BadFlow) h = refused_same h.lines
-    step_same (Err (fault.NoStation n)) h = refused_same h.lines
-    step_same (Err (fault.NoCopy n)) h = refused_same h.lines
-    step_same (Err (fault.Lost n)) h = refused_same h.lines
-    step_same (Err (fault.TooLate held charge)) h = refused_same h.lines
     step_same (Err fault.NoMemory) h = told_same h.noted.lines h.lines
+    step_same (Err other) h = refused_same h.lines

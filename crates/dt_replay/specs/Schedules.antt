@@ -4,10 +4,11 @@ use Rattle.dt_reports.specs.declared.faults.Fault.{Fault}
 use Rattle.dt_reports.specs.declared.faults.Fault.TheVariants as faults
 use Rattle.dt_log.specs.Logs.{log_text}
 use Rattle.dt_text.specs.declared.lines.Form.TheVariants.{Schedule}
-use Rattle.dt_text.specs.Said as said
-use Rattle.dt_text.specs.Said.{RunSaid, UserSaid}
-use Rattle.dt_text.specs.Hexadecimal.{octets_of_hex}
+use Rattle.dt_text.specs.declared.lines.RunLine.{RunLine}
+use Rattle.dt_text.specs.declared.lines.RunLine.TheVariants as runs
 use Rattle.dt_text.specs.InputLines.{lines_of}
+use Rattle.dt_text.specs.Tasks.{Task, task_of}
+use Rattle.dt_text.specs.Tasks as tasks
 use Rattle.dt_fold.specs.Folds.{Folded, Turned, fold_from, fold_input}
 use Rattle.dt_world_model.specs.World.{World, last_lines}
 use Rattle.dt_world_model.specs.WorldStep.{Outcome, Reads, Refused, Sends, Stepped, WorldEvent, world_step}
@@ -18,18 +19,18 @@ abbrev pub by_step : Outcome → Result (Turned World) Fault
 by_step (Stepped told after) = Ok (record { text = log_text told; state = after })
 by_step (Refused fault) = Err (faults.Step fault)
 
--- what a user of a node makes happen, one row a line
-abbrev pub event_of_user : UserSaid → WorldEvent
-event_of_user (said.Send flow begin end hex) = Sends flow (octets_of_hex hex) begin end
-event_of_user (said.Read flow max) = Reads flow max
+-- what a user of a node makes happen
+abbrev pub event_of_task : Task → WorldEvent
+event_of_task (tasks.Sends flow begin end octets) = Sends flow octets begin end
+event_of_task (tasks.Reads flow most) = Reads flow most
 
--- WHAT A LINE DOES behind `go`. What the lines of the setup do is in `Scenes` of dt_scenario
-abbrev pub does : World → RunSaid → Result (Turned World) Fault
-does w (said.World line) = by_step (world_step w (event_by line))
-does w (said.User line) = by_step (world_step w (event_of_user line))
-does w (said.Call flow hex) = misplaced
+-- WHAT A LINE DOES after `go`. What the lines of the setup do is in `Scenes` of dt_scenario
+abbrev pub does : World → RunLine → Result (Turned World) Fault
+does w (runs.World line) = by_step (world_step w (event_by line))
+does w (runs.User line) = by_step (world_step w (event_of_task (task_of line)))
+does w (runs.Call flow hex) = misplaced
 
--- A SCHEDULE simulates the world of its setup. Behind the last line: the totals of the flows and the end
+-- A SCHEDULE simulates the world of its setup. After the last line: the totals of the flows and the end
 abbrev pub simulates_world : Simulates World
 simulates_world = record { form = Schedule; starts = λ w. w; does = does; close = λ w. log_text (last_lines w) }
 

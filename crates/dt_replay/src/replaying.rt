@@ -11,7 +11,7 @@ use dt_scenario::Scenario;
 use std::alloc::Global;
 
 /// Replays a schedule of at most 16,777,216 octets: its lines set up a world and make things happen in
-/// it, and its log is written on `out`, behind a buffer. The input isn't copied.
+/// it, and its log is written on `out`, after a buffer. The input isn't copied.
 ///
 /// - `Done`: no line is refused, and `out` has the whole log.
 /// - `Refused`: a line is refused. `out` has the log up to it, and then its fault.

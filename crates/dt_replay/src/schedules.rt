@@ -1,9 +1,11 @@
-//! What the lines of a schedule do behind `go`.
+//! What the lines of a schedule do after `go`.
 ghost use Rattle.dt_fold.specs.Logging.{TurnsTo};
-ghost use Rattle.dt_text.specs.Said.{User, user_said};
+ghost use Rattle.dt_text.specs.Said.{user_said};
+ghost use Rattle.dt_text.specs.Tasks.{task_of};
+ghost use Rattle.dt_text.specs.declared.lines.RunLine.TheVariants.{User};
 ghost use Rattle.dt_world_model.specs.WorldStep.{world_step};
 ghost use Rattle.dt_scenario.specs.Parts.{IsLineOf};
-ghost use Rattle.dt_replay.specs.Schedules.{by_step, event_of_user, simulates_world};
+ghost use Rattle.dt_replay.specs.Schedules.{by_step, event_of_task, simulates_world};
 
 use crate::running::{close_world, step};
 use dt_edges::{Failed, Sink};
@@ -11,7 +13,7 @@ use dt_fold::Stop;
 use dt_items::NoMemory;
 use dt_reports::Fault;
 use dt_scenario::{MISPLACED, Scenario, Simulation, world_event};
-use dt_text::{Form, RunLine, UserLine, decode_hex};
+use dt_text::{Form, RunLine, Task, UserLine};
 use dt_world::{Event, Setup, World};
 use std::alloc::Global;
 use std::mem::size_of;
@@ -20,8 +22,8 @@ use std::mem::size_of;
 #[derive(Drop)]
 pub struct ScheduledWorld {
     world: World,
-    /// Room for the octets of a send.
-    octets: Vec<u8>,
+    /// From where the octets of a send are taken.
+    alloc: Global,
 }
 
 // It is moved when it begins.
@@ -43,10 +45,7 @@ impl Simulation for ScheduledWorld {
 
     fn start(alloc: Global, setup: &Setup) -> Result<Self, NoMemory> {
         let world = World::new(alloc, setup)?;
-        Ok(ScheduledWorld {
-            world,
-            octets: Vec::new(alloc),
-        })
+        Ok(ScheduledWorld { world, alloc })
     }
 
     fn happen<K: Sink>(&mut self, line: &RunLine<'_>, out: &mut K) -> Result<Option<Fault>, Stop> {
@@ -64,28 +63,27 @@ impl Simulation for ScheduledWorld {
 
 impl ScheduledWorld {
     /// The user of a node does something.
+    #[tactic(auto, using(dt_text::proofs::TaskLaws::user_pairs))]
     fn use_node<K: Sink>(&mut self, line: &UserLine<'_>, out: &mut K) -> Result<Option<Fault>, Stop>
         requires { IsLineOf simulates_world (User (user_said line.now)) }
-        ensures { TurnsTo K.sight (by_step (world_step self.old.world.state (event_of_user (user_said line.now)))) result self.old.world.state self.new.world.state out.old out.new }
+        ensures { TurnsTo K.sight (by_step (world_step self.old.world.state (event_of_task (task_of (user_said line.now))))) result self.old.world.state self.new.world.state out.old out.new }
     {
-        match *line {
-            UserLine::Send {
+        match Task::of(line, self.alloc)? {
+            Task::Send {
                 flow,
                 begin,
                 end,
-                hex,
+                octets,
             } => {
-                decode_hex(hex, &mut self.octets)?;
-                let octets = &self.octets;
                 let event = Event::Send {
                     flow,
-                    octets,
+                    octets: &octets,
                     begin,
                     end,
                 };
                 step(&mut self.world, &event, out)
             }
-            UserLine::Read { flow, max } => step(&mut self.world, &Event::Read { flow, max }, out),
+            Task::Read { flow, max } => step(&mut self.world, &Event::Read { flow, max }, out),
         }
     }
 }

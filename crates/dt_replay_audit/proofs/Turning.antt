@@ -16,9 +16,12 @@ use Rattle.dt_reports.specs.declared.faults.SetupFault.{SetupFault}
 use Rattle.dt_text.specs.declared.lines.Form.TheVariants.{Schedule}
 use Rattle.dt_text.specs.declared.stages.Stage.{Stage}
 use Rattle.dt_text.specs.InputLines.{lines_of}
-use Rattle.dt_text.specs.Hexadecimal.{octets_of_hex}
-use Rattle.dt_text.specs.Said as said
-use Rattle.dt_text.specs.Said.{RunSaid, Said}
+use Rattle.dt_text.specs.declared.lines.Line.TheVariants as said
+use Rattle.dt_text.specs.declared.lines.RunLine.{RunLine}
+use Rattle.dt_text.specs.declared.lines.RunLine.TheVariants as runs
+use Rattle.dt_text.specs.Said.{Said}
+use Rattle.dt_text.specs.Tasks.{Reads, Sends, Task, task_of}
+use Rattle.dt_text.proofs.TaskLaws.{user_task}
 use Rattle.dt_text.specs.declared.lines.SetupLine.{SetupLine}
 use Rattle.dt_text.specs.declared.lines.SetupLine.TheVariants as setups
 use Rattle.dt_text.specs.declared.lines.WorldLine.{WorldLine}
@@ -31,11 +34,12 @@ use Rattle.dt_world_model.specs.Setup.{AddLink, AddRoute, AddStation, Setup, Set
 use Rattle.dt_world_model.specs.Tables.{AllEntries}
 use Rattle.dt_world_model.specs.World.{World, last_lines}
 use Rattle.dt_world_model.specs.WorldFacts.{CanHappen}
-use Rattle.dt_world_model.specs.WorldStep.{Outcome, Reads, Refused, Sends, Stepped, WorldEvent, first_refusal, world_step}
+use Rattle.dt_world_model.specs.WorldStep.{Outcome, Refused, Stepped, WorldEvent, first_refusal, world_step}
 use Rattle.dt_scenario.specs.Scenes.{Empty, Prepares, Runs, Scene, adds, call_of, event_by, by_params, by_run, by_setup, close, done_by, done_if, goes, happens, scenario_turns, stage_of, turn, turn_read}
 use Rattle.dt_scenario.proofs.Happenings.{can_happen}
 use Rattle.dt_scenario.proofs.Keeping.{read_line}
-use Rattle.dt_replay.specs.Schedules.{by_step, does, replay_text, replayed, simulates_world}
+use Rattle.dt_replay.proofs.Scenes.{task_can}
+use Rattle.dt_replay.specs.Schedules.{by_step, does, event_of_task, replay_text, replayed, simulates_world}
 use Rattle.dt_audit.specs.declared.facts.Fact.{Fact}
 use Rattle.dt_audit.specs.Audits.{has_flaw}
 use Rattle.dt_audit.specs.Books.{Book, begun}
@@ -121,7 +125,7 @@ step_turn count book w e (Stepped lines after) is small can short h =
     let one = step_passes count w book e lines after small can short h is in
     record { told = lines; logs = refl; next = one.next; passes = one.passes; written = one.written; logged = one.logged }
 
-happens_turn : (count : ℕ) (book : Book FlowLog) (scene : Scene World) (line : RunSaid) → ((w : World) → IsLogged count w book → TurnPasses (suc count) book (by_run (does w line))) → IsSceneLogged count scene book → TurnPasses (suc count) book (happens simulates_world scene line)
+happens_turn : (count : ℕ) (book : Book FlowLog) (scene : Scene World) (line : RunLine) → ((w : World) → IsLogged count w book → TurnPasses (suc count) book (by_run (does w line))) → IsSceneLogged count scene book → TurnPasses (suc count) book (happens simulates_world scene line)
 happens_turn count book Empty line on h = tt
 happens_turn count book (Prepares setup) line on h = tt
 happens_turn count book (Runs w) line on h = on w h
@@ -134,15 +138,18 @@ call_small : (line : SetupLine) → IsLine Schedule (said.Setup line) → IsCall
 call_small (setups.Station n ahead) is = omega (arith, is.1.0.1)
 call_small line is = search refl
 
-world_short : (line : WorldLine) → IsLine Schedule (said.Run (said.World line)) → IsShort (event_by line)
+world_short : (line : WorldLine) → IsLine Schedule (said.Run (runs.World line)) → IsShort (event_by line)
 world_short (worlds.Pass by) is = omega (arith, is.1.0.1)
 world_short line is = search refl
 
-run_passes : (count : ℕ) (book : Book FlowLog) (line : RunSaid) → suc count < 2 ^ 32 → IsLine Schedule (said.Run line) → (w : World) → IsLogged count w book → TurnPasses (suc count) book (by_run (does w line))
-run_passes count book (said.World line) small is w h = event_turn count book (event_by line) small (can_happen line) (world_short line is) w h
-run_passes count book (said.User (said.Send f begin end hex)) small is w h = event_turn count book (Sends f (octets_of_hex hex) begin end) small is.1.0 tt w h
-run_passes count book (said.User (said.Read f max)) small is w h = event_turn count book (Reads f max) small is.1.0 tt w h
-run_passes count book (said.Call f hex) small is w h = tt
+task_short : (task : Task) → IsShort (event_of_task task)
+task_short (Sends flow begin end octets) = tt
+task_short (Reads flow most) = tt
+
+run_passes : (count : ℕ) (book : Book FlowLog) (line : RunLine) → suc count < 2 ^ 32 → IsLine Schedule (said.Run line) → (w : World) → IsLogged count w book → TurnPasses (suc count) book (by_run (does w line))
+run_passes count book (runs.World line) small is w h = event_turn count book (event_by line) small (can_happen line) (world_short line is) w h
+run_passes count book (runs.User line) small is w h = event_turn count book (event_of_task (task_of line)) small (task_can (task_of line) (user_task line is)) (task_short (task_of line)) w h
+run_passes count book (runs.Call f hex) small is w h = tt
 
 -- A LINE: what it does where it is allowed. `params` is allowed before a world alone
 done_passes : (count : ℕ) (book : Book FlowLog) (scene : Scene World) (line : Said) (stage : Stage) → stage_after Schedule (stage_of scene) line ≡ Some stage → suc count < 2 ^ 32 → IsLine Schedule line → IsSceneLogged count scene book → TurnPasses (suc count) book (done_by simulates_world scene line)

@@ -7,7 +7,7 @@ use Rattle.dt_node.specs.Deeds.{FatesFrom, lost_numbers}
 
 -- THE NUMBERS of the gives that failed tell which of them did
 
--- the numbers behind a place are greater
+-- the numbers after a place are greater
 later_unplanned : (calls k : ℕ) (gone : List Bool) → calls + length gone ≤ last_count → k ≤ calls → is_planned (lost_numbers calls gone) k ≡ false
 later_unplanned calls k [] few less = refl
 later_unplanned calls k (true ∷ gone) few less =

@@ -18,7 +18,7 @@ use Rattle.dt_retrace.specs.Parts.{cut_lines, is_mark, text_of, with_line}
 use Rattle.dt_retrace.specs.Repeating.{joined}
 use Rattle.dt_retrace.proofs.Cutting.{not_mark}
 
--- THE LINES of an input are those of its text, whatever stands behind it
+-- THE LINES of an input are those of its text, whatever stands after it
 line_first : (b : Bool) (x : ℕ) (lines : List (List ℕ)) (rest : List ℕ) → (x == 10) ≡ b → lines_of (text_of lines ++ rest) ≡ lines ++ lines_of rest
     → lines_of (text_of (if b then [] ∷ lines else in_front x lines) ++ rest) ≡ (if b then [] ∷ lines else in_front x lines) ++ lines_of rest
 line_first true x lines rest e h = ap (λ (ls : List (List ℕ)). [] ∷ ls) h

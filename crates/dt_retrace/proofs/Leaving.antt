@@ -1,4 +1,4 @@
--- A run that has ended leaves over what comes behind.
+-- A run that has ended leaves over what comes after.
 use Rattle.std.proofs.Common.{◌≡◌, ◌⊎◌, inl, inr, if◌then◌else◌, ℕ, ◌+◌, ◌<◌, ◌==◌, Bool, true, false, List, [], ◌∷◌, ◌++◌, length, Option, Some, None, refl, subst, ◌∙◌, arith}
 use Rattle.dt_edges.specs.Wires.{Datagram}
 use Rattle.dt_node.specs.declared.watch.Watch.{Watch}

@@ -62,7 +62,7 @@ module _ (o : Orders) (f : ℕ → ℕ) (g : ℕ → Option Datagram) where
   by_rest zero n m n' m' e less least h never = (omega (arith, e, less, least), omega (arith, e, less, least))
   by_rest (suc k) n m n' m' e less least h never = absurd (never (leaves n m n' m' less least (omega (arith, e)) h))
 
-  -- a run that goes on behind one that has ended is that one
+  -- a run that goes on after one that has ended is that one
   no_longer : (n m n' m' : ℕ) → n ≤ n' → m ≤ m' → HasEnded (run n m).ending → ((run n' m').ending ≡ LeftOver → ⊥) → (n' ≡ n) × (m' ≡ m)
   no_longer n m n' m' less least h never = by_rest ((n' - n) + (m' - m)) n m n' m' refl less least h never
 
@@ -87,7 +87,7 @@ module _ (o : Orders) (f : ℕ → ℕ) (g : ℕ → Option Datagram) where
   abbrev pub IsAsFar : NodeOutcome → NodeOutcome → (n m n' m' : ℕ) → Type 0
   IsAsFar outcome again n m n' m' = (again ≡ outcome) × (n' ≡ n) × (m' ≡ m)
 
-  -- behind a run that met its stop
+  -- after a run that met its stop
   after_done : (again : NodeOutcome) (p : Plan) (n m n' m' : ℕ) → (run n m).ending ≡ Stopped → m + 1 ≡ n → p.failing_takes ≡ [] → p.open_fails ≡ false
       → IsWhole again → EndsAs again (run n' m').ending → CountsTakes again n' m' → FailsAs again p n' m' → IsAsFar Done again n m n' m'
   after_done Done p n m n' m' ends counts none opens whole h k fails = let same = same_length n m n' m' (omega (arith, counts)) (omega (arith, counts)) (omega (arith, k)) (omega (arith, k)) (inl ends) (inl h) in (refl, same.0, same.1)
@@ -97,7 +97,7 @@ module _ (o : Orders) (f : ℕ → ℕ) (g : ℕ → Option Datagram) where
   after_done NoMemory p n m n' m' ends counts none opens whole h k fails = absurd whole
   after_done WriteFault p n m n' m' ends counts none opens whole h k fails = absurd whole
 
-  -- behind a run whose clock stood still
+  -- after a run whose clock stood still
   after_still : (again : NodeOutcome) (p : Plan) (n m n' m' : ℕ) → (run n m).ending ≡ StoodStill → m ≡ n → p.failing_takes ≡ [] → p.open_fails ≡ false
       → IsWhole again → EndsAs again (run n' m').ending → CountsTakes again n' m' → FailsAs again p n' m' → IsAsFar ClockStill again n m n' m'
   after_still ClockStill p n m n' m' ends counts none opens whole h k fails = let same = same_length n m n' m' (omega (arith, counts)) (omega (arith, counts)) (omega (arith, k)) (omega (arith, k)) (inr ends) (inr h) in (refl, same.0, same.1)
@@ -107,7 +107,7 @@ module _ (o : Orders) (f : ℕ → ℕ) (g : ℕ → Option Datagram) where
   after_still NoMemory p n m n' m' ends counts none opens whole h k fails = absurd whole
   after_still WriteFault p n m n' m' ends counts none opens whole h k fails = absurd whole
 
-  -- behind a run whose wire wasn't opened
+  -- after a run whose wire wasn't opened
   no_takes : (n m : ℕ) → n ≡ 0 → CountsTakes WireFault n m → m ≡ 0
   no_takes n m none (inl h) = h.1
   no_takes n m none (inr h) = absurd (omega (arith, none, h))
@@ -125,7 +125,7 @@ module _ (o : Orders) (f : ℕ → ℕ) (g : ℕ → Option Datagram) where
   after_unopened NoMemory p n m n' m' none nothing opens whole k fails = absurd whole
   after_unopened WriteFault p n m n' m' none nothing opens whole k fails = absurd whole
 
-  -- behind a run one of whose takes failed
+  -- after a run one of whose takes failed
   one_more : (n m : ℕ) → 0 < n → CountsTakes WireFault n m → m + 1 ≡ n
   one_more n m some (inl h) = absurd (omega (arith, some, h.0))
   one_more n m some (inr h) = h

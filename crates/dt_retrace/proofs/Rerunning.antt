@@ -1,4 +1,4 @@
--- A trace is read behind a script.
+-- A trace is read after a script.
 use Rattle.std.proofs.Common.{◌≡◌, inl, ℕ, suc, ◌+◌, ◌^◌, ◌<◌, ◌≤◌, ◌==◌, Bool, true, false, if◌then◌else◌, List, [], ◌∷◌, length, Option, Result, Ok, Err, sym, ap, subst, ◌∙◌, arith}
 use Rattle.dt_reports.specs.declared.faults.LineFault.{LineFault}
 use Rattle.dt_reports.specs.declared.faults.LineFault.TheVariants.{Order}

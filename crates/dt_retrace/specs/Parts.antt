@@ -1,4 +1,4 @@
--- An input is cut at its first line `trace`: a script stands before it, and a trace behind it.
+-- An input is cut at its first line `trace`: a script stands before it, and a trace after it.
 use Rattle.std.specs.Prelude.{◌≡◌, ℕ, ◌+◌, ◌<◌, ◌≤◌, ◌^◌, Bool, List, [], ◌∷◌, ◌++◌, codes, flat_map, length, Option, Some, None, Result, Ok, Err, if◌then◌else◌}
 use Rattle.std.specs.Option.{option_map}
 use Rattle.std.specs.Str.{bytes_eq}
@@ -12,7 +12,7 @@ is_mark line = bytes_eq line (codes "trace")
 abbrev pub with_line : List ℕ → List (List ℕ) × List (List ℕ) → List (List ℕ) × List (List ℕ)
 with_line line parts = (line ∷ parts.0, parts.1)
 
--- the lines before the first that is `trace`, and those behind it, if one is
+-- the lines before the first that is `trace`, and those after it, if one is
 abbrev pub cut_lines : List (List ℕ) → Option (List (List ℕ) × List (List ℕ))
 cut_lines [] = None
 cut_lines (line ∷ lines) = if is_mark line then Some ([], lines) else option_map (with_line line) (cut_lines lines)

@@ -42,7 +42,7 @@ pub record Reruns (script : List ℕ) (t : Recorded) (outcome : NodeOutcome) (be
 abbrev pub Wants : NodeOutcome → SinkSight → SinkSight → Type 0
 Wants outcome before after = (outcome ≡ NoMemory) × (after ≡ before)
 
--- by what the trace behind so many lines says
+-- by what the trace after so many lines says
 abbrev pub RerunsBy : (mark : ℕ) → (script : List ℕ) → Result Recorded (ℕ × LineFault) → NodeOutcome → SinkSight → SinkSight → Type 0
 RerunsBy mark script (Ok t) outcome before after = Reruns script t outcome before after
 RerunsBy mark script (Err (line, fault)) outcome before after = RefusesWith outcome (refused_text (mark + line) fault) before after
@@ -52,6 +52,6 @@ abbrev pub RetracesBy : (lines : ℕ) → Option (List (List ℕ) × List (List 
 RetracesBy lines None outcome before after = RefusesWith outcome (refused_text (lines + 1) Order) before after
 RetracesBy lines (Some (script, trace)) outcome before after = RerunsBy (length script + 1) (text_of script) (read_from 1 nothing trace) outcome before after
 
--- An input without a line `trace` is refused behind its last line; then the trace's lines are tested, and then the script's. Memory may be wanted with any.
+-- An input without a line `trace` is refused after its last line; then the trace's lines are tested, and then the script's. Memory may be wanted with any.
 abbrev pub Retraces : List ℕ → NodeOutcome → SinkSight → SinkSight → Type 0
 Retraces octets outcome before after = RetracesBy (length (lines_of octets)) (cut_lines (lines_of octets)) outcome before after ⊎ Wants outcome before after

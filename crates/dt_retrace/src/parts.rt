@@ -13,7 +13,7 @@ pub struct Parts<'a> {
     pub script: &'a [u8],
     /// The number of that line, counted from 1.
     pub mark: u64,
-    /// What stands behind it.
+    /// What stands after it.
     pub trace: &'a [u8],
 }
 

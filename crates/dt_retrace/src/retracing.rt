@@ -49,7 +49,7 @@ fn rerun<K: Sink>(
 /// 16,777,216 octets, and serves the script over the wire and the clock of the trace. It writes the log
 /// on `out`.
 ///
-/// - `Refused`: there is no line `trace`, and the fault is `Order` behind the last line; or a line of
+/// - `Refused`: there is no line `trace`, and the fault is `Order` after the last line; or a line of
 ///   the trace is refused, or one of the script, in this order. The number of the line is that in the
 ///   input. `out` has the fault line.
 /// - The other answers are those of [`serve`] over that wire and clock. So `WireFault` comes only where

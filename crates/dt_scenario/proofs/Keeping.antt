@@ -10,8 +10,9 @@ use Rattle.dt_reports.specs.declared.faults.SetupFault.{SetupFault}
 use Rattle.dt_text.specs.declared.lines.Form.{Form}
 use Rattle.dt_text.specs.declared.lines.Form.TheVariants.{Schedule, Script, Calls}
 use Rattle.dt_text.specs.declared.stages.Stage.{Stage}
-use Rattle.dt_text.specs.Said as said
-use Rattle.dt_text.specs.Said.{RunSaid, Said}
+use Rattle.dt_text.specs.declared.lines.Line.TheVariants as said
+use Rattle.dt_text.specs.declared.lines.RunLine.{RunLine}
+use Rattle.dt_text.specs.Said.{Said}
 use Rattle.dt_text.specs.Lines.{line_of}
 use Rattle.dt_text.specs.Spelling.{IsLine}
 use Rattle.dt_text.specs.Stages.{stage_after}
@@ -40,7 +41,7 @@ IfTurned P (Err fault) = Unit {0}
 module _ {S : Type 0} (sim : Simulates S) (Facts : ℕ → S → Type 0)
     (later : (count more : ℕ) (s : S) → count ≤ more → Facts count s → Facts more s)
     (starts : (count : ℕ) (setup : Setup) → IsWithinLimits setup.params → Facts count (sim.starts (new_world setup)))
-    (does : (count : ℕ) (s : S) (line : RunSaid) → IsLineOf sim line → Facts count s → IfTurned (Facts (suc count)) (sim.does s line)) where
+    (does : (count : ℕ) (s : S) (line : RunLine) → IsLineOf sim line → Facts count s → IfTurned (Facts (suc count)) (sim.does s line)) where
   -- After so many lines: the parameters are within their limits, and the simulation has its facts.
   abbrev IsScene : ℕ → Scene S → Type 0
   IsScene count Empty = Unit {0}
@@ -82,7 +83,7 @@ module _ {S : Type 0} (sim : Simulates S) (Facts : ℕ → S → Type 0)
   run_kept count (Ok turned) h = h
   run_kept count (Err fault) h = tt
 
-  happens_kept : (count : ℕ) (scene : Scene S) (line : RunSaid) → IsLineOf sim line → IsScene count scene → IsKept (suc count) (happens sim scene line)
+  happens_kept : (count : ℕ) (scene : Scene S) (line : RunLine) → IsLineOf sim line → IsScene count scene → IsKept (suc count) (happens sim scene line)
   happens_kept count Empty line is h = tt
   happens_kept count (Prepares setup) line is h = tt
   happens_kept count (Runs s) line is h = run_kept (suc count) (sim.does s line) (does count s line is h)

@@ -7,7 +7,8 @@ use Rattle.dt_reports.specs.declared.faults.SetupFault.{SetupFault}
 use Rattle.dt_reports.specs.declared.faults.SetupFault.TheVariants as setup_fault
 use Rattle.dt_reports.specs.declared.faults.StepFault.{StepFault}
 use Rattle.dt_reports.specs.declared.faults.StepFault.TheVariants as step_fault
-use Rattle.dt_text.specs.Said.{Run, RunSaid}
+use Rattle.dt_text.specs.declared.lines.Line.TheVariants.{Run}
+use Rattle.dt_text.specs.declared.lines.RunLine.{RunLine}
 use Rattle.dt_text.specs.Spelling.{IsLine}
 use Rattle.dt_fold.specs.declared.stops.Stop.{Stop}
 use Rattle.dt_fold.specs.declared.stops.Stop.TheVariants as stop
@@ -28,7 +29,7 @@ abbrev pub scene_in : {P S : Type 0} → (P → S) → Scenario P → Scene S
 scene_in state s = scene_of state s.part
 
 -- the line is one of the simulation's form
-abbrev pub IsLineOf : {S : Type 0} → Simulates S → RunSaid → Type 0
+abbrev pub IsLineOf : {S : Type 0} → Simulates S → RunLine → Type 0
 IsLineOf sim line = IsLine sim.form (Run line)
 
 -- what a step says of its line, unless a put failed

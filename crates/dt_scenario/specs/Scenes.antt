@@ -11,12 +11,13 @@ use Rattle.dt_reports.specs.declared.faults.SetupFault.{SetupFault}
 use Rattle.dt_text.specs.declared.lines.Form.{Form}
 use Rattle.dt_text.specs.declared.stages.Stage.{Stage}
 use Rattle.dt_text.specs.declared.stages.Stage.TheVariants as stages
+use Rattle.dt_text.specs.declared.lines.Line.TheVariants as said
+use Rattle.dt_text.specs.declared.lines.RunLine.{RunLine}
 use Rattle.dt_text.specs.declared.lines.SetupLine.{SetupLine}
 use Rattle.dt_text.specs.declared.lines.SetupLine.TheVariants as setups
 use Rattle.dt_text.specs.declared.lines.WorldLine.{WorldLine}
 use Rattle.dt_text.specs.declared.lines.WorldLine.TheVariants as worlds
-use Rattle.dt_text.specs.Said as said
-use Rattle.dt_text.specs.Said.{RunSaid, Said}
+use Rattle.dt_text.specs.Said.{Said}
 use Rattle.dt_text.specs.Lines.{line_of}
 use Rattle.dt_text.specs.Stages.{stage_after}
 use Rattle.dt_fold.specs.Folds.{Turned, Turns}
@@ -33,11 +34,11 @@ pub data Scene (S : Type 0) : Type 0 where
   -- the simulation over the world of the setup, in which things happen
   Runs : S → Scene S
 
--- A SIMULATION: the form of its lines, how it starts over a world that has made no step, what a line makes happen in it, and what is logged behind the last line.
+-- A SIMULATION: the form of its lines, how it starts over a world that has made no step, what a line makes happen in it, and what is logged after the last line.
 pub record Simulates (S : Type 0) : Type 0 where
   pub form : Form
   pub starts : World → S
-  pub does : S → RunSaid → Result (Turned S) Fault
+  pub does : S → RunLine → Result (Turned S) Fault
   pub close : S → List ℕ
 
 abbrev pub stage_of : {S : Type 0} → Scene S → Stage
@@ -80,7 +81,7 @@ abbrev pub by_run : {S : Type 0} → Result (Turned S) Fault → Result (Turned 
 by_run (Ok turned) = Ok (record { text = turned.text; state = Runs turned.state })
 by_run (Err fault) = Err fault
 
-abbrev pub happens : {S : Type 0} → Simulates S → Scene S → RunSaid → Result (Turned (Scene S)) Fault
+abbrev pub happens : {S : Type 0} → Simulates S → Scene S → RunLine → Result (Turned (Scene S)) Fault
 happens sim Empty line = misplaced
 happens sim (Prepares setup) line = misplaced
 happens sim (Runs s) line = by_run (sim.does s line)
@@ -120,7 +121,7 @@ turn_read sim scene (Ok line) = done_if sim (stage_after sim.form (stage_of scen
 abbrev pub turn : {S : Type 0} → Simulates S → Scene S → List ℕ → Result (Turned (Scene S)) Fault
 turn sim scene line = turn_read sim scene (line_of sim.form line)
 
--- behind the last line: what the simulation logs there. Before `go` it is missing
+-- after the last line: what the simulation logs there. Before `go` it is missing
 abbrev pub close : {S : Type 0} → Simulates S → Scene S → Result (List ℕ) Fault
 close sim Empty = Err (faults.Line Order)
 close sim (Prepares setup) = Err (faults.Line Order)

@@ -29,7 +29,7 @@ impl<'a, K: Sink> Lines for Log<'a, K> {
 }
 
 /// What a step says of its line. Where a put failed that is what is answered, also where memory was
-/// wanted behind it.
+/// wanted after it.
 pub fn stepped(answer: Result<(), StepFault>, failed: bool) -> Result<Option<Fault>, Stop>
     ensures { result ≡ stepped answer failed }
 {

@@ -14,7 +14,7 @@ use dt_text::{Line, follows, read_line};
 use std::alloc::Global;
 
 /// An input that is read line by line: its first lines set up a world, `go` starts a simulation over
-/// it, and the lines behind it make things happen there.
+/// it, and the lines after it make things happen there.
 #[derive(Drop)]
 pub struct Scenario<S: Simulation> {
     alloc: Global,

@@ -31,13 +31,13 @@ pub trait Simulation: Drop {
     fn start(alloc: Global, setup: &Setup) -> Result<Self, NoMemory>
         ensures { IfOk result (λ started. state started ≡ simulates.starts (new_world setup.now)) };
 
-    /// Does what a line behind `go` says, and logs its text; or says why it is refused, and changes
+    /// Does what a line after `go` says, and logs its text; or says why it is refused, and changes
     /// and logs nothing then.
     fn happen<K: Sink>(&mut self, line: &RunLine<'_>, out: &mut K) -> Result<Option<Fault>, Stop>
         requires { IsLineOf simulates (run_said line.now) }
         ensures { TurnsTo K.sight (simulates.does (state self.old) (run_said line.now)) result (state self.old) (state self.new) out.old out.new };
 
-    /// Logs what stands behind the last line.
+    /// Logs what stands after the last line.
     fn close<K: Sink>(&self, out: &mut K) -> Result<(), Failed>
         ensures { Puts K.sight (simulates.close (state self.now)) result out.old out.new };
 }

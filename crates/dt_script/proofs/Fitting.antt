@@ -15,22 +15,24 @@ use Rattle.dt_reports.specs.declared.faults.LineFault.{LineFault}
 use Rattle.dt_reports.specs.declared.faults.SetupFault.{SetupFault}
 use Rattle.dt_text.specs.declared.lines.Form.TheVariants.{Script}
 use Rattle.dt_text.specs.declared.stages.Stage.{Stage}
-use Rattle.dt_text.specs.Hexadecimal.{octets_of_hex, are_pairs}
 use Rattle.dt_text.specs.InputLines.{in_front, lines_of}
 use Rattle.dt_text.specs.Lines.{line_of}
-use Rattle.dt_text.specs.Said as said
-use Rattle.dt_text.specs.Said.{Said, ScriptSaid, UserSaid}
+use Rattle.dt_text.specs.declared.lines.Line.TheVariants as said
 use Rattle.dt_text.specs.declared.lines.NodeLine.{NodeLine}
 use Rattle.dt_text.specs.declared.lines.NodeLine.TheVariants as nodes
+use Rattle.dt_text.specs.declared.lines.ScriptLine.{ScriptLine}
+use Rattle.dt_text.specs.declared.lines.ScriptLine.TheVariants as scripts
+use Rattle.dt_text.specs.Said.{Said}
 use Rattle.dt_text.specs.Spelling.{IsLine, IsSpelling}
 use Rattle.dt_text.specs.Stages.{stage_after}
-use Rattle.dt_text.specs.WordKinds.{IsHex}
+use Rattle.dt_text.specs.Tasks.{IsTask, Reads, Sends, Task, task_of}
 use Rattle.dt_text.proofs.LineLaws.{line-only}
+use Rattle.dt_text.proofs.TaskLaws.{at_task}
 use Rattle.dt_fold.specs.Folds.{Folded, Turned, closed, fold_from, fold_on}
 use Rattle.dt_world_model.specs.declared.links.InLink.{InLink}
 use Rattle.dt_script.specs.Codes.{IsCommandOf, IsGood, IsGoodSetup, IsTaskOf, SameLinks, most_commands}
-use Rattle.dt_script.specs.Drafts.{Collects, Complete, Draft, Empty, Named, Prepares, Ruled, by_command, by_local, by_me, by_node, by_params, by_peer, by_route, by_script, by_shelf, by_user, closed_with, done_by, done_if, has_link, in_commands, in_setup, orders_in, read_script, route_fault, route_unless, shelf_unless, script_turns, stage_of, to_draft, turn_line, turn_read}
-use Rattle.dt_script.specs.Orders.{Command, Orders, Reads, Sends, Setup, Task}
+use Rattle.dt_script.specs.Drafts.{Collects, Complete, Draft, Empty, Named, Prepares, Ruled, by_command, by_local, by_me, by_node, by_params, by_peer, by_route, by_script, by_shelf, closed_with, done_by, done_if, ends_of, has_link, in_commands, in_setup, orders_in, read_script, route_fault, route_unless, shelf_unless, script_turns, stage_of, to_draft, turn_line, turn_read}
+use Rattle.dt_script.specs.Orders.{Command, Orders, Setup}
 
 -- PEERS
 
@@ -56,18 +58,6 @@ same_differs [] is link h n k d l = absurd (omega arith)
 same_differs (p ∷ ps) [] link h n k d l = absurd h
 same_differs (p ∷ ps) (i ∷ is) link h n zero d l = λ e. other i.link link (first_false (i.link == link) (has_link link is) n) (sym h.0 ∙ e)
 same_differs (p ∷ ps) (i ∷ is) link h n (suc k) d l = same_differs ps is link h.1 (rest_false (i.link == link) (has_link link is) n) k d (omega arith)
-
--- OCTETS IN HEXADECIMAL DIGITS
-
-octets_some : (hex : List ℕ) → 0 < length hex → IsTrue (are_pairs hex) → 0 < length (octets_of_hex hex)
-octets_some [] h p = absurd (omega arith)
-octets_some (a ∷ []) h p = absurd cc
-octets_some (a ∷ b ∷ more) h p = omega arith
-
-octets_few : (hex : List ℕ) → 2 * length (octets_of_hex hex) ≤ length hex
-octets_few [] = omega arith
-octets_few (a ∷ []) = omega arith
-octets_few (a ∷ b ∷ more) = omega (arith, octets_few more)
 
 -- WHAT IS KNOWN OF A DRAFT, of which so many lines were read
 
@@ -162,29 +152,33 @@ in_commands_kept lines (Prepares s) does h on = tt
 in_commands_kept lines (Collects s cs last) does h on = on s cs h
 in_commands_kept lines (Complete o) does h on = tt
 
-command_kept : (lines at here there : ℕ) (task : Task) (s : Setup) (cs : List Command) → Commands lines s cs → (here ≡ s.me → there ≢ s.me → IsTaskOf s.me task) → IsKept (lines + 1) (by_command at here there task s cs)
-command_kept lines at here there task s cs h is =
-    elim (cases_Bool (here == s.me)) [
+-- a task is the node's where its flow begins or ends there, and the other end is another node
+task_is : (me : ℕ) (task : Task) → IsTask task → (ends_of task).0 ≡ me → (ends_of task).1 ≢ me → IsTaskOf me task
+task_is me (Sends flow begin end octets) h here there = (here, there, h.1, h.2)
+task_is me (Reads flow most) h here there = (here, there, h.1, h.2)
+
+command_kept : (lines at : ℕ) (task : Task) (s : Setup) (cs : List Command) → IsTask task → Commands lines s cs → IsKept (lines + 1) (by_command at task s cs)
+command_kept lines at task s cs is h =
+    elim (cases_Bool ((ends_of task).0 == s.me)) [
       | inr n ↦ rw n tt
       | inl y ↦
-          elim (cases_Bool (there == s.me)) [
+          elim (cases_Bool ((ends_of task).1 == s.me)) [
             | inl z ↦ rw (y, z) tt
             | inr n ↦
                 let c : Command = record { at = at; task = task } in
                 let more : length (cs ++ c ∷ []) ≡ length cs + 1 = length-append cs (c ∷ []) in
-                rw (y, n) ((h.0, All-append (IsCommandOf s.me) cs (c ∷ []) h.1 (All-cons (IsCommandOf s.me) c [] (is (eqb-true here s.me y) (other there s.me n)) (All-nil (IsCommandOf s.me))), omega (arith, more, h.2)), refl)
+                let own = task_is s.me task is (eqb-true (ends_of task).0 s.me y) (other (ends_of task).1 s.me n) in
+                rw (y, n) ((h.0, All-append (IsCommandOf s.me) cs (c ∷ []) h.1 (All-cons (IsCommandOf s.me) c [] own (All-nil (IsCommandOf s.me))), omega (arith, more, h.2)), refl)
           ]
     ]
 
--- what is known of a command's words
-abbrev HasUse : UserSaid → Type 0
-HasUse (said.Send flow begin end hex) = IsHex 65536 hex
-HasUse (said.Read flow max) = (1 ≤ max) × (max ≤ 65536)
-
-abbrev HasWordsAlone : ScriptSaid → Type 0
-HasWordsAlone (said.Node line) = Unit {0}
-HasWordsAlone (said.At at does) = HasUse does
-HasWordsAlone (said.Stop at) = at < 2 ^ 32
+-- what is known of the words of a line after `go`
+abbrev HasWordsAlone : ScriptLine → Type 0
+HasWordsAlone (scripts.Me n again) = Unit {0}
+HasWordsAlone (scripts.Local address) = Unit {0}
+HasWordsAlone (scripts.Node line) = Unit {0}
+HasWordsAlone (scripts.At at does) = IsTask (task_of does)
+HasWordsAlone (scripts.Stop at) = at < 2 ^ 32
 
 abbrev HasWords : Said → Type 0
 HasWords said.Blank = Unit {0}
@@ -194,11 +188,12 @@ HasWords (said.Setup line) = Unit {0}
 HasWords (said.Run line) = Unit {0}
 HasWords (said.Script line) = HasWordsAlone line
 
-words_alone : (line : ScriptSaid) → IsLine Script (said.Script line) → HasWordsAlone line
-words_alone (said.Node line) h = tt
-words_alone (said.At at (said.Send flow begin end hex)) h = h.1.1.1.1.0
-words_alone (said.At at (said.Read flow max)) h = h.1.1.1.0
-words_alone (said.Stop at) h = omega (arith, h.1.0.1)
+words_alone : (line : ScriptLine) → IsLine Script (said.Script line) → HasWordsAlone line
+words_alone (scripts.Me n again) h = tt
+words_alone (scripts.Local address) h = tt
+words_alone (scripts.Node line) h = tt
+words_alone (scripts.At at does) h = at_task at does h
+words_alone (scripts.Stop at) h = omega (arith, h.1.0.1)
 
 line_words : (line : Said) → IsLine Script line → HasWords line
 line_words said.Blank h = tt
@@ -212,26 +207,17 @@ read_words : (line : Said) (octets : List ℕ) → (line ≡ said.Blank) ⊎ (Is
 read_words line octets (inl blank) = subst HasWords (sym blank) tt
 read_words line octets (inr read) = line_words line read.0
 
-node_kept : (lines : ℕ) (draft : Draft) (line : NodeLine) → IsFit lines draft → IsKept (lines + 1) (by_node draft line)
-node_kept lines draft (nodes.Me n again) h = me_kept (lines + 1) draft n again (fit_in lines 1 draft h)
-node_kept lines draft (nodes.Local address) h = local_kept (lines + 1) draft address (fit_in lines 1 draft h)
-node_kept lines draft (nodes.Peer link address charge pace) h = in_setup_kept lines draft (by_peer link address charge pace) h (λ s k. peer_kept (lines + 1) link address charge pace s k)
-node_kept lines draft (nodes.Route to link) h = in_setup_kept lines draft (by_route to link) h (λ s k. route_kept (lines + 1) to link s (route_fault to link s) k)
-node_kept lines draft (nodes.Shelf room) h = in_setup_kept lines draft (by_shelf room) h (λ s k. shelf_kept (lines + 1) room s s.shelf k)
+-- A line that changes neither parameters nor peers keeps what is known of a setup.
+node_kept : (lines : ℕ) (line : NodeLine) (s : Setup) → IsGoodSetup s → IsKept lines (by_node line s)
+node_kept lines (nodes.Peer link address charge pace) s h = peer_kept lines link address charge pace s h
+node_kept lines line s h = search (route_kept, shelf_kept)
 
-user_kept : (lines : ℕ) (draft : Draft) (at : ℕ) (does : UserSaid) → IsFit lines draft → HasUse does → IsKept (lines + 1) (by_user draft at does)
-user_kept lines draft at (said.Send f begin end hex) h words =
-    let task = Sends f begin end (octets_of_hex hex) in
-    in_commands_kept lines draft (by_command at f.from.0 f.to.0 task) h
-    (λ s cs k. command_kept lines at f.from.0 f.to.0 task s cs k (λ here there. (here, there, octets_some hex words.some words.pairs, omega (arith, octets_few hex, words.within))))
-user_kept lines draft at (said.Read f max) h words =
-    in_commands_kept lines draft (by_command at f.to.0 f.from.0 (Reads f max)) h
-    (λ s cs k. command_kept lines at f.to.0 f.from.0 (Reads f max) s cs k (λ here there. (here, there, words.0, words.1)))
-
-script_kept : (lines : ℕ) (draft : Draft) (line : ScriptSaid) → IsFit lines draft → HasWordsAlone line → IsKept (lines + 1) (by_script draft line)
-script_kept lines draft (said.Node line) h words = node_kept lines draft line h
-script_kept lines draft (said.At at does) h words = user_kept lines draft at does h words
-script_kept lines draft (said.Stop at) h words =
+script_kept : (lines : ℕ) (draft : Draft) (line : ScriptLine) → IsFit lines draft → HasWordsAlone line → IsKept (lines + 1) (by_script draft line)
+script_kept lines draft (scripts.Me n again) h words = me_kept (lines + 1) draft n again (fit_in lines 1 draft h)
+script_kept lines draft (scripts.Local address) h words = local_kept (lines + 1) draft address (fit_in lines 1 draft h)
+script_kept lines draft (scripts.Node line) h words = in_setup_kept lines draft (by_node line) h (λ s k. node_kept (lines + 1) line s k)
+script_kept lines draft (scripts.At at does) h words = in_commands_kept lines draft (by_command at (task_of does)) h (λ s cs k. command_kept lines at (task_of does) s cs words k)
+script_kept lines draft (scripts.Stop at) h words =
     in_commands_kept lines draft (λ s cs. to_draft (Complete (record { setup = s; commands = cs; stop = at }))) h (λ s cs k. (((k.0, k.1, omega (arith, k.2)), words), refl))
 
 done_kept : (lines : ℕ) (draft : Draft) (line : Said) → IsFit lines draft → HasWords line → IsKept (lines + 1) (done_by draft line)

@@ -4,10 +4,9 @@ use Rattle.dt_units.specs.Limits.{IsWithinLimits}
 use Rattle.dt_edges.specs.declared.addresses.Peer.{Peer}
 use Rattle.dt_items.specs.declared.memory.NoMemory.{NoMemory}
 use Rattle.dt_reports.specs.declared.faults.Fault.{Fault}
+use Rattle.dt_text.specs.Tasks.{Task, Sends, Reads, most_octets, task_seen}
 use Rattle.dt_fold.specs.Folds.{Turned}
 use Rattle.dt_world_model.specs.declared.links.InLink.{InLink}
-use Rattle.dt_script.specs.declared.orders.Task.{Task}
-use Rattle.dt_script.specs.declared.orders.Task.TheVariants as tasks
 use Rattle.dt_script.specs.declared.orders.Command.{Command}
 use Rattle.dt_script.specs.declared.orders.NodeSetup.{NodeSetup}
 use Rattle.dt_script.specs.declared.orders.Orders.{Orders}
@@ -15,13 +14,8 @@ use Rattle.dt_script.specs.declared.drafts.Part.{Part}
 use Rattle.dt_script.specs.declared.drafts.Part.TheVariants as part
 use Rattle.dt_script.specs.Drafts.{Draft, Empty, Ruled, Named, Prepares, Collects, Complete}
 use Rattle.dt_script.specs.Orders as model
-use Rattle.dt_script.specs.Orders.{Sends, Reads}
 
 -- ORDERS
-
-abbrev pub task_seen : Task → model.Task
-task_seen (tasks.Send flow begin end octets) = Sends flow begin end octets.items
-task_seen (tasks.Read flow max) = Reads flow max
 
 abbrev pub command_seen : Command → model.Command
 command_seen c = record { at = c.at; task = task_seen c.task }
@@ -60,14 +54,11 @@ LeadsTo turn (Err fault) before after = Unit {0}
 
 -- ORDERS THAT A NODE CAN CARRY OUT
 
--- the most octets of one send, of one read, and the most commands of a script
-abbrev pub most_octets : ℕ
-most_octets = 65536
-
+-- the most commands of a script
 abbrev pub most_commands : ℕ
 most_commands = 16777216
 
-abbrev pub IsTaskOf : ℕ → model.Task → Type 0
+abbrev pub IsTaskOf : ℕ → Task → Type 0
 IsTaskOf me (Sends flow begin end octets) = (flow.from.0 ≡ me) × (flow.to.0 ≢ me) × (0 < length octets) × (length octets ≤ most_octets)
 IsTaskOf me (Reads flow most) = (flow.to.0 ≡ me) × (flow.from.0 ≢ me) × (0 < most) × (most ≤ most_octets)
 

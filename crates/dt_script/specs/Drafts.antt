@@ -15,17 +15,19 @@ use Rattle.dt_reports.specs.declared.faults.StepFault.TheVariants.{BadFlow}
 use Rattle.dt_text.specs.declared.lines.Form.TheVariants.{Script}
 use Rattle.dt_text.specs.declared.stages.Stage.{Stage}
 use Rattle.dt_text.specs.declared.stages.Stage.TheVariants as stages
-use Rattle.dt_text.specs.Hexadecimal.{octets_of_hex}
-use Rattle.dt_text.specs.Lines.{line_of}
-use Rattle.dt_text.specs.Said as said
-use Rattle.dt_text.specs.Said.{Said, ScriptSaid, UserSaid}
+use Rattle.dt_text.specs.declared.lines.Line.TheVariants as said
 use Rattle.dt_text.specs.declared.lines.NodeLine.{NodeLine}
 use Rattle.dt_text.specs.declared.lines.NodeLine.TheVariants as nodes
+use Rattle.dt_text.specs.declared.lines.ScriptLine.{ScriptLine}
+use Rattle.dt_text.specs.declared.lines.ScriptLine.TheVariants as scripts
+use Rattle.dt_text.specs.Lines.{line_of}
+use Rattle.dt_text.specs.Said.{Said}
 use Rattle.dt_text.specs.Stages.{stage_after}
+use Rattle.dt_text.specs.Tasks.{Task, Sends, Reads, task_of}
 use Rattle.dt_fold.specs.Folds.{Folded, Turned, Turns, fold_input}
 use Rattle.dt_world_model.specs.declared.links.InLink.{InLink}
 use Rattle.dt_world_model.specs.declared.links.Route.{Route}
-use Rattle.dt_script.specs.Orders.{Command, Orders, Reads, Sends, Setup, Task}
+use Rattle.dt_script.specs.Orders.{Command, Orders, Setup}
 
 -- what the lines so far have led to
 pub data Draft : Type 0 where
@@ -137,31 +139,32 @@ shelf_unless room s (Some other) = Err (faults.Setup (Twice room))
 abbrev pub by_shelf : (room : ℕ) → Setup → Result (Turned Draft) Fault
 by_shelf room s = shelf_unless room s s.shelf
 
+-- the node that does a task, and the other end of its flow
+abbrev pub ends_of : Task → ℕ × ℕ
+ends_of (Sends flow begin end octets) = (flow.from.0, flow.to.0)
+ends_of (Reads flow most) = (flow.to.0, flow.from.0)
+
 -- what is sent goes from this node to another, and what is read came to it from another
-abbrev pub by_command : (at here there : ℕ) → Task → Setup → List Command → Result (Turned Draft) Fault
-by_command at here there task s cs =
-    if not (here == s.me) || (there == s.me) then Err (faults.Step BadFlow) else
+abbrev pub by_command : (at : ℕ) → Task → Setup → List Command → Result (Turned Draft) Fault
+by_command at task s cs =
+    if not ((ends_of task).0 == s.me) || ((ends_of task).1 == s.me) then Err (faults.Step BadFlow) else
     to_draft (Collects s (cs ++ (record { at = at; task = task }) ∷ []) at)
 
--- WHAT A LINE DOES where it is allowed, one row a line
+-- WHAT A LINE DOES where it is allowed
 
--- before `go`: the node is set up
-abbrev pub by_node : Draft → NodeLine → Result (Turned Draft) Fault
-by_node draft (nodes.Me n again) = by_me draft n again
-by_node draft (nodes.Local address) = by_local draft address
-by_node draft (nodes.Peer link address charge pace) = in_setup draft (by_peer link address charge pace)
-by_node draft (nodes.Route to link) = in_setup draft (by_route to link)
-by_node draft (nodes.Shelf room) = in_setup draft (by_shelf room)
+-- before `go` a line sets up the node, one row a line
+abbrev pub by_node : NodeLine → Setup → Result (Turned Draft) Fault
+by_node (nodes.Peer link address charge pace) s = by_peer link address charge pace s
+by_node (nodes.Route to link) s = by_route to link s
+by_node (nodes.Shelf room) s = by_shelf room s
 
--- behind it: what the node's user does at a moment, and the stop
-abbrev pub by_user : Draft → ℕ → UserSaid → Result (Turned Draft) Fault
-by_user draft at (said.Send f begin end hex) = in_commands draft (by_command at f.from.0 f.to.0 (Sends f begin end (octets_of_hex hex)))
-by_user draft at (said.Read f max) = in_commands draft (by_command at f.to.0 f.from.0 (Reads f max))
-
-abbrev pub by_script : Draft → ScriptSaid → Result (Turned Draft) Fault
-by_script draft (said.Node line) = by_node draft line
-by_script draft (said.At at does) = by_user draft at does
-by_script draft (said.Stop at) = in_commands draft (λ s cs. to_draft (Complete (record { setup = s; commands = cs; stop = at })))
+-- after it: what the node's user does at a moment, and the stop
+abbrev pub by_script : Draft → ScriptLine → Result (Turned Draft) Fault
+by_script draft (scripts.Me n again) = by_me draft n again
+by_script draft (scripts.Local address) = by_local draft address
+by_script draft (scripts.Node line) = in_setup draft (by_node line)
+by_script draft (scripts.At at does) = in_commands draft (by_command at (task_of does))
+by_script draft (scripts.Stop at) = in_commands draft (λ s cs. to_draft (Complete (record { setup = s; commands = cs; stop = at })))
 
 abbrev pub done_by : Draft → Said → Result (Turned Draft) Fault
 done_by draft said.Blank = to_draft draft
@@ -183,7 +186,7 @@ turn_read draft (Ok line) = done_if (stage_after Script (stage_of draft) line) d
 abbrev pub turn_line : Draft → List ℕ → Result (Turned Draft) Fault
 turn_line draft line = turn_read draft (line_of Script line)
 
--- behind the last line: the stop must have been read
+-- after the last line: the stop must have been read
 abbrev pub orders_in : Draft → Option Orders
 orders_in Empty = None
 orders_in (Ruled p) = None

@@ -1,10 +1,10 @@
 -- What a script says that isn't refused: the node, what it is to do and when, and when it stops.
 use Rattle.std.specs.Prelude.{ℕ, Bool, List, Option}
 use Rattle.dt_units.specs.declared.parameters.Params.{Params}
-use Rattle.dt_units.specs.declared.endpoints.Flow.{Flow}
 use Rattle.dt_edges.specs.declared.addresses.Address.{Address}
 use Rattle.dt_edges.specs.declared.addresses.Peer.{Peer}
 use Rattle.dt_edges.specs.Wires.{Opening}
+use Rattle.dt_text.specs.Tasks.{Task}
 use Rattle.dt_world_model.specs.declared.links.InLink.{InLink}
 use Rattle.dt_world_model.specs.declared.links.OutLink.{OutLink}
 use Rattle.dt_world_model.specs.declared.links.Route.{Route}
@@ -24,12 +24,7 @@ pub record Setup : Type 0 where
   -- how many packets its shelf holds at most, where it has one
   pub shelf : Option ℕ
 
--- what is to be done
-pub data Task : Type 0 where
-  Sends : (flow : Flow) → (begin end : Bool) → (octets : List ℕ) → Task
-  Reads : (flow : Flow) → (most : ℕ) → Task
-
--- and from which moment on
+-- what is to be done, and from which moment on
 pub record Command : Type 0 where
   pub at : ℕ
   pub task : Task

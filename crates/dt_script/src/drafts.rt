@@ -1,21 +1,22 @@
 //! A script, read line by line.
 ghost use Rattle.std.specs.Prelude.{◌≡◌, ◌++◌, ◌∷◌, [], Ok, IfOk, IsTrue, option_map};
 ghost use Rattle.dt_units.specs.Limits.{first_out_of_range};
-ghost use Rattle.dt_text.specs.Hexadecimal.{are_pairs, octets_of_hex};
-ghost use Rattle.dt_text.specs.Said.{At, Script, said, user_said};
+ghost use Rattle.dt_text.specs.Said.{said, user_said};
 ghost use Rattle.dt_text.specs.Spelling.{IsLine};
+ghost use Rattle.dt_text.specs.Tasks.{task_of, task_seen};
 ghost use Rattle.dt_text.specs.declared.lines.Form.TheVariants.{Script as OfScript};
-ghost use Rattle.dt_script.specs.Codes.{LeadsTo, draft_seen, orders_seen, setup_seen, task_seen};
-ghost use Rattle.dt_script.specs.Orders.{Sends};
-ghost use Rattle.dt_script.specs.Drafts.{Collects, Complete, Empty, by_command, by_local, by_me, by_node, by_params, by_peer, by_route, by_shelf, by_user, done_by, has_link, has_route, in_commands, in_setup, orders_in, route_fault, stage_of, to_draft};
+ghost use Rattle.dt_text.specs.declared.lines.Line.TheVariants.{Script};
+ghost use Rattle.dt_text.specs.declared.lines.ScriptLine.TheVariants.{At};
+ghost use Rattle.dt_script.specs.Codes.{LeadsTo, draft_seen, orders_seen, setup_seen};
+ghost use Rattle.dt_script.specs.Drafts.{Collects, Complete, Empty, by_command, by_local, by_me, by_node, by_params, by_peer, by_route, by_shelf, done_by, ends_of, has_link, has_route, in_commands, in_setup, orders_in, route_fault, stage_of, to_draft};
 
-use crate::orders::{Command, NodeSetup, Orders, Task};
+use crate::orders::{Command, NodeSetup, Orders};
 use dt_edges::{Address, Peer, Sink};
 use dt_fold::{LineTurns, Stop};
 use dt_items::NoMemory;
 use dt_reports::{Fault, LineFault, SetupFault, StepFault};
-use dt_text::{Form, Line, NodeLine, ScriptLine, Stage, UserLine, decode_hex, follows, read_line};
-use dt_units::{Flow, NodeId, Params, Rules};
+use dt_text::{Form, Line, NodeLine, ScriptLine, Stage, Task, UserLine, follows, read_line};
+use dt_units::{NodeId, Params, Rules};
 use dt_world_model::{InLink, OutLink, Route};
 use std::alloc::Global;
 use std::marker::Model;
@@ -96,7 +97,9 @@ impl Draft {
             Line::Blank => Ok(None),
             Line::Params(params) => Ok(add_params(part, params)),
             Line::Go => Ok(begin(part, self.alloc)),
-            Line::Script(ScriptLine::Node(line)) => add_node(part, *line, self.alloc),
+            Line::Script(ScriptLine::Me { n, again }) => Ok(add_me(part, NodeId(*n), *again)),
+            Line::Script(ScriptLine::Local(address)) => Ok(add_local(part, *address, self.alloc)),
+            Line::Script(ScriptLine::Node(line)) => add_node(part, *line),
             Line::Script(ScriptLine::At { at, does }) => add_use(part, *at, does, self.alloc),
             Line::Script(ScriptLine::Stop { at }) => Ok(stop(part, *at)),
             Line::Setup(_) | Line::Run(_) => Ok(Some(MISPLACED)),
@@ -148,12 +151,10 @@ impl Part {
 }
 
 /// The node is set up by a line.
-fn add_node(part: &mut Part, line: NodeLine, alloc: Global) -> Result<Option<Fault>, NoMemory>
-    ensures { LeadsTo (by_node (draft_seen part.old) line) result (draft_seen part.old) (draft_seen part.new) }
+fn add_node(part: &mut Part, line: NodeLine) -> Result<Option<Fault>, NoMemory>
+    ensures { LeadsTo (in_setup (draft_seen part.old) (by_node line)) result (draft_seen part.old) (draft_seen part.new) }
 {
     match line {
-        NodeLine::Me { n, again } => Ok(add_me(part, NodeId(n), again)),
-        NodeLine::Local(address) => Ok(add_local(part, address, alloc)),
         NodeLine::Peer {
             link,
             address,
@@ -166,6 +167,7 @@ fn add_node(part: &mut Part, line: NodeLine, alloc: Global) -> Result<Option<Fau
 }
 
 /// What the user of the node does at a moment, in ms.
+#[tactic(auto, using(dt_text::proofs::TaskLaws::at_pairs))]
 fn add_use(
     part: &mut Part,
     at: u32,
@@ -173,22 +175,10 @@ fn add_use(
     alloc: Global,
 ) -> Result<Option<Fault>, NoMemory>
     requires { IsLine OfScript (Script (At at (user_said does.now))) }
-    ensures { LeadsTo (by_user (draft_seen part.old) at (user_said does.now)) result (draft_seen part.old) (draft_seen part.new) }
+    ensures { LeadsTo (in_commands (draft_seen part.old) (by_command at (task_of (user_said does.now)))) result (draft_seen part.old) (draft_seen part.new) }
 {
-    match *does {
-        UserLine::Send {
-            flow,
-            begin,
-            end,
-            hex,
-        } => {
-            let task = send_task(alloc, flow, begin, end, hex)?;
-            add_command(part, at, flow.from, flow.to, task)
-        }
-        UserLine::Read { flow, max } => {
-            add_command(part, at, flow.to, flow.from, Task::Read { flow, max })
-        }
-    }
+    let task = Task::of(does, alloc)?;
+    add_command(part, at, task)
 }
 
 /// The parameters are checked.
@@ -311,36 +301,19 @@ fn begin(part: &mut Part, alloc: Global) -> Option<Fault>
     }
 }
 
-/// To send the octets that the pairs of hexadecimal digits spell.
-fn send_task(
-    alloc: Global,
-    flow: Flow,
-    begin: bool,
-    end: bool,
-    hex: &[u8],
-) -> Result<Task, NoMemory>
-    requires { IsTrue (are_pairs hex.now) }
-    ensures { IfOk result (λ task. task_seen task ≡ Sends flow begin end (octets_of_hex hex.now)) }
+/// The node that does a task, and the other end of its flow.
+fn ends_of(task: &Task) -> (NodeId, NodeId)
+    ensures { (result.0.0, result.1.0) ≡ ends_of (task_seen task.now) }
 {
-    let mut octets = Vec::new(alloc);
-    decode_hex(hex, &mut octets)?;
-    Ok(Task::Send {
-        flow,
-        begin,
-        end,
-        octets,
-    })
+    match task {
+        Task::Send { flow, .. } => (flow.from, flow.to),
+        Task::Read { flow, .. } => (flow.to, flow.from),
+    }
 }
 
-/// A command from a moment on, in ms. Its flow begins or ends here, and the other end is there.
-fn add_command(
-    part: &mut Part,
-    at: u32,
-    here: NodeId,
-    there: NodeId,
-    task: Task,
-) -> Result<Option<Fault>, NoMemory>
-    ensures { LeadsTo (in_commands (draft_seen part.old) (by_command at here.0 there.0 (task_seen task))) result (draft_seen part.old) (draft_seen part.new) }
+/// A command from a moment on, in ms.
+fn add_command(part: &mut Part, at: u32, task: Task) -> Result<Option<Fault>, NoMemory>
+    ensures { LeadsTo (in_commands (draft_seen part.old) (by_command at (task_seen task))) result (draft_seen part.old) (draft_seen part.new) }
 {
     match part {
         Part::Collecting {
@@ -348,6 +321,7 @@ fn add_command(
             commands,
             last,
         } => {
+            let (here, there) = ends_of(&task);
             if here != setup.me || there == setup.me {
                 return Ok(Some(Fault::Step(StepFault::BadFlow)));
             }

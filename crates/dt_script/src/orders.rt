@@ -1,25 +1,8 @@
 //! What a script says.
 use dt_edges::{Address, Peer};
-use dt_units::{Flow, NodeId, Rules};
+use dt_text::Task;
+use dt_units::{NodeId, Rules};
 use dt_world_model::{InLink, OutLink, Route};
-
-/// What is to be done.
-#[derive(Drop)]
-pub enum Task {
-    /// Octets are sent, 1 to 65,536. The first begins a message and the last ends one, where that is
-    /// asked for.
-    Send {
-        flow: Flow,
-        begin: bool,
-        end: bool,
-        octets: Vec<u8>,
-    },
-    /// Unread octets are read, at most so many, 1 to 65,536.
-    Read {
-        flow: Flow,
-        max: u32,
-    },
-}
 
 /// What is to be done, and from which moment on, in ms since the first reading.
 #[derive(Drop)]

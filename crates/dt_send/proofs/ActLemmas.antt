@@ -20,7 +20,7 @@ use Rattle.dt_flow_model.specs.Keeping.{IsBy}
 use Rattle.dt_flow_model.proofs.Chains.{all_at, all_swap}
 use Rattle.dt_flow_model.proofs.Chosen.{DueOf, act_is_due, either, resend_may, when_is}
 use Rattle.dt_flow_model.proofs.Records.{act_counts, act_kept}
-use Rattle.dt_send.specs.Rings.{Acts, IsChosen, IsTimedBy, IsWithin}
+use Rattle.dt_send.specs.SendBuffer.{Acts, IsChosen, IsTimedBy, IsWithin}
 
 crossed_by : (p : Params) (now m : ℕ) (x : SendRecord) → now ≤ m → IsBy m x.crossed → IsBy m (crossed_after p now x)
 crossed_by p now m x le h = elim (cases_Bool (is_crossing p (next_of x))) [ inl y ↦ rw y le | inr n ↦ rw n h ]

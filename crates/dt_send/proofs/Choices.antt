@@ -1,23 +1,18 @@
 -- The act that is chosen is of the first kind whose moment has come.
-use Rattle.std.proofs.Common.{ℕ, ◌≡◌, Option, Some, None, sym, ap, ◌∙◌, subst, rules}
-use Rattle.std.specs.Prelude.{IsSome}
+use Rattle.std.proofs.Common.{ℕ, ◌≡◌, Option, Some, None, sym, ap, ◌∙◌}
 use Rattle.dt_units.specs.declared.parameters.Params.{Params}
 use Rattle.dt_flow_model.specs.declared.acts.SendKind.{SendKind}
 use Rattle.dt_flow_model.specs.declared.moments.SendMoments.{SendMoments}
 use Rattle.dt_flow_model.specs.SendRecord.{SendRecord}
 use Rattle.dt_flow_model.specs.SendActs.{due_of, send_moments}
-use Rattle.dt_send.specs.Rings.{IsChosen}
+use Rattle.dt_send.specs.SendBuffer.{IsChosen}
 use Rattle.dt_send.specs.Senders.{first_due}
 use Rattle.dt_send.proofs.ActLemmas.{chosen_due}
 use Rattle.dt_send.proofs.DueLemmas.{due_is}
 
 module _ (p : Params) (now : ℕ) (x : SendRecord) (m : SendMoments) (due : Option (SendKind × ℕ)) (moments : m ≡ send_moments p now x) (first : due ≡ first_due now m) where
-  pub chosen_first : (kind found : SendKind) (moment : ℕ) → due ≡ Some (found, moment) → found ≡ kind → IsChosen p now x kind
-  chosen_first kind found moment e f =
-      chosen_due p now x kind moment (due_is p now x ∙ ap (first_due now) (sym moments) ∙ sym first ∙ e ∙ ap (λ (k : SendKind). Some (k, moment)) f)
+  pub chosen_first : (kind : SendKind) (moment : ℕ) → due ≡ Some (kind, moment) → IsChosen p now x kind
+  chosen_first kind moment e = chosen_due p now x kind moment (due_is p now x ∙ ap (first_due now) (sym moments) ∙ sym first ∙ e)
 
-  pub none_first : due ≡ None → IsSome (due_of p now x) → ⊥
-  none_first e some =
-      let none = due_is p now x ∙ ap (first_due now) (sym moments) ∙ sym first ∙ e in
-      let no : IsSome {T = SendKind × ℕ} None = subst (λ (o : Option (SendKind × ℕ)). IsSome o) none some in
-      search rules
+  pub none_first : due ≡ None → due_of p now x ≡ None
+  none_first e = due_is p now x ∙ ap (first_due now) (sym moments) ∙ sym first ∙ e

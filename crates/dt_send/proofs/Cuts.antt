@@ -66,7 +66,7 @@ ends_all most items i le s = omega (arith, s, ap (cut_length (most - i) (i == 0)
 pub below_most : (most i : ℕ) (begins : Bool) → i ≤ most → ((i == most) || begins) ≡ false → i + 1 ≤ most
 below_most most i begins le h = let differs = eqb-false i most (left_false (i == most) begins h) in omega arith
 
--- items without marks go into a segment behind its first item, as many as there is room for
+-- items without marks go into a segment after its first item, as many as there is room for
 over : (m : ℕ) (items : List Item) → cut_length m false items ≡ unmarked_count (take m items) + cut_length (m - unmarked_count (take m items)) false (drop (unmarked_count (take m items)) items)
 over zero items = refl
 over (suc m) [] = let e : suc m - 0 ≡ suc m = omega arith in omega (arith, ap (λ k. cut_length k false []) e)

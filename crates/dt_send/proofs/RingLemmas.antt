@@ -4,13 +4,13 @@ use Rattle.std.specs.List.{slice_get}
 use Rattle.std.proofs.lemmas.List.{length-drop}
 use Rattle.dt_units.specs.declared.parameters.Params.{Params}
 use Rattle.dt_flow_model.specs.SendRecord.{held_of}
-use Rattle.dt_send.specs.declared.stretches.Stretch.{Stretch}
-use Rattle.dt_send.specs.declared.rings.Rings.{Rings}
-use Rattle.dt_send.specs.Stretches.{segment_of, octets_in}
-use Rattle.dt_send.specs.Rings.{AreRings, record_of}
+use Rattle.dt_send.specs.declared.sent_segments.SentSegment.{SentSegment}
+use Rattle.dt_send.specs.declared.send_buffer.SendBuffer.{SendBuffer}
+use Rattle.dt_send.specs.SentSegments.{segment_of, octets_in}
+use Rattle.dt_send.specs.SendBuffer.{IsSendBuffer, record_of}
 use Rattle.dt_send.proofs.StretchLemmas.{fact-at, items_in-segments, next-segments, offset-at, segment-get, within-at}
 
-module _ (p : Params) (k : Rings) (r : AreRings p k) where
+module _ (p : Params) (k : SendBuffer) (r : IsSendBuffer p k) where
   -- how many octets are outstanding
   pub next_is : k.next ≡ k.left + octets_in k.stretches.items
   next_is = r.next ∙ next-segments k.left k.stretches.items k.items.items r.lie r.within.kept.chain
@@ -32,14 +32,14 @@ module _ (p : Params) (k : Rings) (r : AreRings p k) where
   edge_bounded = r.within.kept.edge
 
   -- a segment, by the place of its stretch
-  pub found : (i : ℕ) (s : Stretch) → slice_get k.stretches.items i ≡ Some s → slice_get (record_of k).outstanding i ≡ Some (segment_of s (drop (octets_in (take i k.stretches.items)) k.items.items))
+  pub found : (i : ℕ) (s : SentSegment) → slice_get k.stretches.items i ≡ Some s → slice_get (record_of k).outstanding i ≡ Some (segment_of s (drop (octets_in (take i k.stretches.items)) k.items.items))
   found i s h = segment-get k.stretches.items k.items.items i s h
 
-  pub found_offset : (i : ℕ) (s : Stretch) → slice_get k.stretches.items i ≡ Some s → s.offset ≡ k.left + octets_in (take i k.stretches.items)
+  pub found_offset : (i : ℕ) (s : SentSegment) → slice_get k.stretches.items i ≡ Some s → s.offset ≡ k.left + octets_in (take i k.stretches.items)
   found_offset i s h = offset-at k.left k.stretches.items k.items.items i s r.lie r.within.kept.chain h
 
-  pub found_within : (i : ℕ) (s : Stretch) → slice_get k.stretches.items i ≡ Some s → octets_in (take i k.stretches.items) + s.length ≤ octets_in k.stretches.items
+  pub found_within : (i : ℕ) (s : SentSegment) → slice_get k.stretches.items i ≡ Some s → octets_in (take i k.stretches.items) + s.length ≤ octets_in k.stretches.items
   found_within i s h = within-at k.stretches.items i s h
 
-  pub found_timed : (i : ℕ) (s : Stretch) → slice_get k.stretches.items i ≡ Some s → (s.first ≤ 2 ^ 62) × (s.last ≤ 2 ^ 62)
+  pub found_timed : (i : ℕ) (s : SentSegment) → slice_get k.stretches.items i ≡ Some s → (s.first ≤ 2 ^ 62) × (s.last ≤ 2 ^ 62)
   found_timed i s h = fact-at (λ g. (g.first ≤ 2 ^ 62) × (g.last ≤ 2 ^ 62)) (record_of k).outstanding i (segment_of s (drop (octets_in (take i k.stretches.items)) k.items.items)) r.within.timed.segments (found i s h)

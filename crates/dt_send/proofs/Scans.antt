@@ -10,7 +10,7 @@ use Rattle.dt_units.specs.declared.parameters.Params.{Params}
 use Rattle.dt_flow_model.specs.Numbering.{number_of}
 use Rattle.dt_flow_model.specs.SendRecord.{Segment, acknowledged, before_all, end_of}
 use Rattle.dt_flow_model.specs.SendActs.{Act, better, give_up, meet, release, renew, resend, send}
-use Rattle.dt_send.specs.Stretches.{IsPlaceOf, earlier_place}
+use Rattle.dt_send.specs.SentSegments.{IsPlaceOf, earlier_place}
 use Rattle.dt_send.proofs.StretchLemmas.{drop_at}
 
 not_later : (m n : ℕ) → nat_le m n ≡ true → nat_lt n m ≡ false

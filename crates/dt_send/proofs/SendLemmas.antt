@@ -19,20 +19,20 @@ use Rattle.dt_flow_model.specs.Keeping.{IsSegment}
 use Rattle.dt_flow_model.proofs.Chains.{next_append}
 use Rattle.dt_flow_model.proofs.Chosen.{cut_count, cut_within}
 use Rattle.dt_flow_model.proofs.Records.{cut_segment}
-use Rattle.dt_send.specs.declared.stretches.Stretch.{Stretch}
-use Rattle.dt_send.specs.declared.rings.Rings.{Rings}
-use Rattle.dt_send.specs.Stretches.{IsPlaceOf, segment_of, segments_of, octets_in}
-use Rattle.dt_send.specs.Rings.{Acts, AreRings, IsChosen, IsWithin, record_of}
+use Rattle.dt_send.specs.declared.sent_segments.SentSegment.{SentSegment}
+use Rattle.dt_send.specs.declared.send_buffer.SendBuffer.{SendBuffer}
+use Rattle.dt_send.specs.SentSegments.{IsPlaceOf, segment_of, segments_of, octets_in}
+use Rattle.dt_send.specs.SendBuffer.{Acts, IsSendBuffer, IsChosen, IsWithin, record_of}
 use Rattle.dt_send.proofs.ActLemmas.{act_within, acts_by, resend_chosen, resends_chosen, sends_chosen}
 use Rattle.dt_send.proofs.RingLemmas.{found, found_offset, found_within, next_is, waits}
 use Rattle.dt_send.proofs.StretchLemmas.{fact-at, octets_in-again, octets_in-append, segments-again, segments-append, segments-length, split_at}
 
 -- A CUT
-module _ (p : Params) (now : ℕ) (le : now ≤ 2 ^ 62) (k : Rings) (r : AreRings p k) (c : IsChosen p now (record_of k) kind.Send) (n : ℕ) (is : n ≡ cut_size p (record_of k)) where
+module _ (p : Params) (now : ℕ) (le : now ≤ 2 ^ 62) (k : SendBuffer) (r : IsSendBuffer p k) (c : IsChosen p now (record_of k) kind.Send) (n : ℕ) (is : n ≡ cut_size p (record_of k)) where
   cut_shape : (c.act ≡ send (cut_of p (record_of k)) (rest_of p (record_of k))) × (0 < length (cut_of p (record_of k))) × (length (record_of k).outstanding < 64)
   cut_shape = sends_chosen p now (record_of k) c
 
-  stretch : Stretch
+  stretch : SentSegment
   stretch = record { offset = k.next; length = n; first = now; last = now }
 
   -- the stretch of the cut is the cut
@@ -55,7 +55,7 @@ module _ (p : Params) (now : ℕ) (le : now ≤ 2 ^ 62) (k : Rings) (r : AreRing
   pub few : length k.stretches.items < k.stretches.capacity
   few = omega (arith, r.places, segments-length k.stretches.items k.items.items, (cut_shape).2)
 
-  ss-after : List Stretch
+  ss-after : List SentSegment
   ss-after = k.stretches.items ++ (record { offset = k.next; length = n; first = now; last = now }) ∷ []
 
   segments_after : segments_of (k.stretches.items ++ (record { offset = k.next; length = n; first = now; last = now }) ∷ []) k.items.items ≡ (record_of k).outstanding ++ (record { offset = next_of (record_of k); items = cut_of p (record_of k); first = now; last = now }) ∷ []
@@ -121,7 +121,7 @@ module _ (p : Params) (now : ℕ) (le : now ≤ 2 ^ 62) (k : Rings) (r : AreRing
       let count : length (cut_of p x) ≡ n = cut_count p x ∙ sym is in
       next_append x.left x.outstanding ((record { offset = next_of x; items = cut_of p x; first = now; last = now }) ∷ []) ∙ omega (arith, count, r.next)
 
-  pub sent_rings : AreRings p (record k {
+  pub sent_rings : IsSendBuffer p (record k {
     touched = now;
     crossed = (if is_crossing p k.next then Some now else k.crossed);
     next = k.next + n;
@@ -173,7 +173,7 @@ no_place p now x c h =
     let f : IsPlaceOf 0 (Some (resend w.0 w.1 w.2)) None = subst (λ o. IsPlaceOf 0 o None) e h in
     absurd cc
 
-module _ (p : Params) (now : ℕ) (le : now ≤ 2 ^ 62) (k : Rings) (r : AreRings p k) (c : IsChosen p now (record_of k) kind.Resend) (place last : ℕ) (at : IsPlaceOf 0 (resending p now (record_of k).outstanding) (Some (place, last))) where
+module _ (p : Params) (now : ℕ) (le : now ≤ 2 ^ 62) (k : SendBuffer) (r : IsSendBuffer p k) (c : IsChosen p now (record_of k) kind.Resend) (place last : ℕ) (at : IsPlaceOf 0 (resending p now (record_of k).outstanding) (Some (place, last))) where
   w : (before : List Segment) × (g : Segment) × (after : List Segment) × (c.act ≡ resend before g after) × ((record_of k).outstanding ≡ before ++ g ∷ after)
   w = resends_chosen p now (record_of k) c
 
@@ -188,7 +188,7 @@ module _ (p : Params) (now : ℕ) (le : now ≤ 2 ^ 62) (k : Rings) (r : AreRing
       let n : length (record_of k).outstanding ≡ length (w).0 + suc (length (w).2) = ap (λ (l : List Segment). length l) (w).4 ∙ length-append (w).0 ((w).1 ∷ (w).2) in
       omega (arith, place_is, segments-length k.stretches.items k.items.items, n)
 
-  module _ (s : Stretch) (is : slice_get k.stretches.items place ≡ Some s) where
+  module _ (s : SentSegment) (is : slice_get k.stretches.items place ≡ Some s) where
     -- the segment at the place
     g-at : Segment
     g-at = segment_of s (drop (octets_in (take place k.stretches.items)) k.items.items)
@@ -244,7 +244,7 @@ module _ (p : Params) (now : ℕ) (le : now ≤ 2 ^ 62) (k : Rings) (r : AreRing
         ∙ sym (next_append x.left (take place x.outstanding) (g ∷ drop (place + 1) x.outstanding))
         ∙ ap (λ (l : List Segment). next_from x.left l) (sym (split_at x.outstanding place g (found p k r place s is)))
 
-    pub again_rings : AreRings p (record k { touched = now; stretches = buffer (set k.stretches.items place (record s { last = now })) k.stretches.capacity })
+    pub again_rings : IsSendBuffer p (record k { touched = now; stretches = buffer (set k.stretches.items place (record s { last = now })) k.stretches.capacity })
     again_rings = record {
       limits = r.limits;
       within = subst (λ (x : SendRecord). IsWithin p x) (sym again_is) (act_within p now (record_of k) c.act _ r.limits le r.within c.chosen after_again);

@@ -13,10 +13,10 @@ use Rattle.std.proofs.lemmas.List.{drop-drop, take-append-drop}
 use Rattle.circular_buffer.specs.Buffer.{buffer}
 use Rattle.dt_items.specs.declared.item.Item.{Item}
 use Rattle.dt_units.specs.declared.parameters.Params.{Params}
-use Rattle.dt_send.specs.declared.stretches.Stretch.{Stretch}
-use Rattle.dt_send.specs.declared.rings.Rings.{Rings}
-use Rattle.dt_send.specs.Stretches.{segments_of, octets_in}
-use Rattle.dt_send.specs.Rings.{Acts, AreRings, record_of}
+use Rattle.dt_send.specs.declared.sent_segments.SentSegment.{SentSegment}
+use Rattle.dt_send.specs.declared.send_buffer.SendBuffer.{SendBuffer}
+use Rattle.dt_send.specs.SentSegments.{segments_of, octets_in}
+use Rattle.dt_send.specs.SendBuffer.{Acts, IsSendBuffer, record_of}
 use Rattle.dt_send.specs.Senders.{SenderValue, first_due}
 use Rattle.dt_flow_model.specs.Keeping.{taken_by}
 use Rattle.dt_flow_model.proofs.Chosen.{act_is_due}
@@ -25,7 +25,7 @@ use Rattle.dt_send.proofs.DueLemmas.{due_is}
 use Rattle.dt_send.specs.Items.{outstanding_items}
 
 -- the outstanding and then the waiting items are all
-all_items : (ss : List Stretch) (items : List Item) → outstanding_items (segments_of ss items) ++ drop (octets_in ss) items ≡ items
+all_items : (ss : List SentSegment) (items : List Item) → outstanding_items (segments_of ss items) ++ drop (octets_in ss) items ≡ items
 all_items [] items = refl
 all_items (s ∷ ss) items =
     append_assoc (take s.length items) (outstanding_items (segments_of ss (drop s.length items))) (drop (s.length + octets_in ss) items)
@@ -33,7 +33,7 @@ all_items (s ∷ ss) items =
     ∙ ap (λ l. take s.length items ++ l) (all_items ss (drop s.length items))
     ∙ take-append-drop s.length items
 
-pub ring_is : (p : Params) (k : Rings) → AreRings p k → k.items ≡ buffer (outstanding_items (record_of k).outstanding ++ (record_of k).waiting) p.cap
+pub ring_is : (p : Params) (k : SendBuffer) → IsSendBuffer p k → k.items ≡ buffer (outstanding_items (record_of k).outstanding ++ (record_of k).waiting) p.cap
 ring_is p k r = ap (λ n. buffer k.items.items n) r.room ∙ ap (λ l. buffer l p.cap) (sym (all_items k.stretches.items k.items.items))
 
 abbrev pub seen : Params → Flow → SendRecord → SenderValue

@@ -18,10 +18,10 @@ use Rattle.dt_flow_model.specs.SendActs.{give_up, record_after, renew}
 use Rattle.dt_flow_model.specs.Keeping.{HasNoRun, taken_by}
 use Rattle.dt_flow_model.proofs.Chains.{all_drop, chain_front, next_append}
 use Rattle.dt_flow_model.proofs.Records.{acked_counts, acked_kept, put_counts, put_kept}
-use Rattle.dt_send.specs.declared.stretches.Stretch.{Stretch}
-use Rattle.dt_send.specs.declared.rings.Rings.{Rings}
-use Rattle.dt_send.specs.Stretches.{segment_of, segments_of, octets_in}
-use Rattle.dt_send.specs.Rings.{Acts, AreRings, IsChosen, IsEndAt, IsWithin, record_of}
+use Rattle.dt_send.specs.declared.sent_segments.SentSegment.{SentSegment}
+use Rattle.dt_send.specs.declared.send_buffer.SendBuffer.{SendBuffer}
+use Rattle.dt_send.specs.SentSegments.{segment_of, segments_of, octets_in}
+use Rattle.dt_send.specs.SendBuffer.{Acts, IsSendBuffer, IsChosen, IsEndAt, IsWithin, record_of}
 use Rattle.dt_send.proofs.StretchLemmas.{items_in-segments, next-segments, no_segments, octets-take-more, octets_in-parts, segments-drop, segments-length, segments-more, segments-take, waiting-drop, drop_at}
 use Rattle.dt_send.proofs.RingLemmas.{found, found_offset, waits}
 use Rattle.dt_send.proofs.ActLemmas.{act_within, acts_by, gives_up_chosen, releases_chosen}
@@ -39,7 +39,7 @@ put_within p x items h plain fits counted = record {
   timed = record { touched = h.timed.touched; crossed = h.timed.crossed; segments = h.timed.segments };
 }
 
-module _ (p : Params) (k : Rings) (r : AreRings p k) (added : List Item) (ring : Buffer Item) (e : ring ≡ buffer (k.items.items ++ added) k.items.capacity) where
+module _ (p : Params) (k : SendBuffer) (r : IsSendBuffer p k) (added : List Item) (ring : Buffer Item) (e : ring ≡ buffer (k.items.items ++ added) k.items.capacity) where
   pub put_is : record_of (record k { items = ring }) ≡ put added (record_of k)
   put_is =
       let ss = k.stretches.items in
@@ -49,7 +49,7 @@ module _ (p : Params) (k : Rings) (r : AreRings p k) (added : List Item) (ring :
       let ws : drop (octets_in ss) ring.items ≡ drop (octets_in ss) k.items.items ++ added = ap (λ l. drop (octets_in ss) l) is ∙ drop-append-le (octets_in ss) k.items.items added r.lie in
       ap (λ (l : List Segment). record x { outstanding = l; waiting = drop (octets_in ss) ring.items }) gs ∙ ap (λ (l : List Item). record x { waiting = l }) ws
 
-  pub put_rings : All HasNoRun added → held_of (record_of k) + length added ≤ p.cap → taken_by (record_of k) + length added < 2 ^ 62 → AreRings p (record k { items = ring })
+  pub put_rings : All HasNoRun added → held_of (record_of k) + length added ≤ p.cap → taken_by (record_of k) + length added < 2 ^ 62 → IsSendBuffer p (record k { items = ring })
   put_rings plain fits counted = record {
     limits = r.limits;
     within = subst (λ (x : SendRecord). IsWithin p x) (sym put_is) (put_within p (record_of k) added r.within plain fits counted);
@@ -60,11 +60,11 @@ module _ (p : Params) (k : Rings) (r : AreRings p k) (added : List Item) (ring :
   }
 
 -- THE FIRST SEGMENTS GO
-module _ (p : Params) (k : Rings) (r : AreRings p k) (n end : ℕ) (h : IsEndAt k n end) where
+module _ (p : Params) (k : SendBuffer) (r : IsSendBuffer p k) (n end : ℕ) (h : IsEndAt k n end) where
   gone_is : end - k.left ≡ octets_in (take n k.stretches.items)
   gone_is = omega (arith, h.end_is)
 
-  rest_of_rings : Rings
+  rest_of_rings : SendBuffer
   rest_of_rings =
       record k {
         left = end;
@@ -108,7 +108,7 @@ module _ (p : Params) (k : Rings) (r : AreRings p k) (n end : ℕ) (h : IsEndAt 
       ∙ ap (λ (gs : List Segment). next_from k.left gs) (take-append-drop n (record_of k).outstanding)
 
   -- the rings are rings again, with another edge of the window
-  pub dropped_rings : (edge : ℕ) → IsWithin p (record (record_of k) { left = end; edge = edge; outstanding = drop n (record_of k).outstanding }) → AreRings p (record k {
+  pub dropped_rings : (edge : ℕ) → IsWithin p (record (record_of k) { left = end; edge = edge; outstanding = drop n (record_of k).outstanding }) → IsSendBuffer p (record k {
     left = end;
     edge = edge;
     stretches = buffer (drop n k.stretches.items) k.stretches.capacity;
@@ -137,7 +137,7 @@ module _ (p : Params) (k : Rings) (r : AreRings p k) (n end : ℕ) (h : IsEndAt 
       } in
       subst (λ (m : ℕ). IsWithin p (record x { left = m; edge = m + w; outstanding = drop n x.outstanding })) front_ends t
 
-  pub acked_rings : (w : ℕ) → w ≤ 65536 → AreRings p (record k {
+  pub acked_rings : (w : ℕ) → w ≤ 65536 → IsSendBuffer p (record k {
     left = end;
     edge = end + w;
     stretches = buffer (drop n k.stretches.items) k.stretches.capacity;
@@ -170,7 +170,7 @@ renewed p now x c some after e f frame =
       | inr a ↦ acts_by p f now x c.act Renewed after frame frame c.chosen (rw (a.0) refl) (rw (a.0) refl) (rw (a.0) e)
     ]
 
-module _ (p : Params) (now : ℕ) (k : Rings) (r : AreRings p k) (c : IsChosen p now (record_of k) kind.Release) where
+module _ (p : Params) (now : ℕ) (k : SendBuffer) (r : IsSendBuffer p k) (c : IsChosen p now (record_of k) kind.Release) where
   nothing_out : k.stretches.items ≡ []
   nothing_out = no_segments k.stretches.items k.items.items (releases_chosen p now (record_of k) c).0
 
@@ -180,7 +180,7 @@ module _ (p : Params) (now : ℕ) (k : Rings) (r : AreRings p k) (c : IsChosen p
   pub begins_anew : record_of (record k { left = 0; edge = p.window; touched = now; crossed = None; next = 0 }) ≡ new_record p now (record_of k).waiting
   begins_anew = ap (λ (gs : List Segment). record (new_record p now (record_of k).waiting) { outstanding = gs }) (releases_chosen p now (record_of k) c).0
 
-  pub anew_rings : now ≤ 2 ^ 62 → 0 < length k.items.items → AreRings p (record k { left = 0; edge = p.window; touched = now; crossed = None; next = 0 })
+  pub anew_rings : now ≤ 2 ^ 62 → 0 < length k.items.items → IsSendBuffer p (record k { left = 0; edge = p.window; touched = now; crossed = None; next = 0 })
   anew_rings le some =
       let x = record_of k in
       let act : c.act ≡ renew = elim (releases_chosen p now x c).1 [
@@ -197,20 +197,20 @@ module _ (p : Params) (now : ℕ) (k : Rings) (r : AreRings p k) (c : IsChosen p
       }
 
 -- GIVING UP
-no_stretch : Stretch
+no_stretch : SentSegment
 no_stretch = record { offset = 0; length = 0; first = 0; last = 0 }
 
-module _ (p : Params) (now : ℕ) (le : now ≤ 2 ^ 62) (k : Rings) (r : AreRings p k) (c : IsChosen p now (record_of k) kind.GiveUp) where
+module _ (p : Params) (now : ℕ) (le : now ≤ 2 ^ 62) (k : SendBuffer) (r : IsSendBuffer p k) (c : IsChosen p now (record_of k) kind.GiveUp) where
   pub some_out : 0 < length k.stretches.items
   some_out =
       let g = gives_up_chosen p now (record_of k) c in
       omega (arith, segments-length k.stretches.items k.items.items, ap (λ (gs : List Segment). length gs) g.3)
 
   -- the stretch of the leftmost segment
-  pub leftmost_there : (s : Stretch) × (slice_get k.stretches.items 0 ≡ Some s)
+  pub leftmost_there : (s : SentSegment) × (slice_get k.stretches.items 0 ≡ Some s)
   leftmost_there = (get_or k.stretches.items 0 no_stretch, slice_get-get_or k.stretches.items 0 no_stretch some_out)
 
-  module _ (s : Stretch) (is : slice_get k.stretches.items 0 ≡ Some s) where
+  module _ (s : SentSegment) (is : slice_get k.stretches.items 0 ≡ Some s) where
     pub first_ends : IsEndAt k 1 (s.offset + s.length)
     first_ends = record { there = omega (arith, some_out); end_is = let m = octets-take-more k.stretches.items 0 s is in omega (arith, found_offset p k r 0 s is) }
 
@@ -232,7 +232,7 @@ module _ (p : Params) (now : ℕ) (le : now ≤ 2 ^ 62) (k : Rings) (r : AreRing
     gives_after : record (record_of k) { left = s.offset + s.length; outstanding = drop 1 (record_of k).outstanding } ≡ unwrap_or (record_after p now (record_of k) c.act) (record_of k)
     gives_after = rw given_up (ap (λ (m : ℕ). record (record_of k) { left = s.offset + m; outstanding = drop 1 (record_of k).outstanding }) (sym lies))
 
-    pub gives_rings : AreRings p (record k {
+    pub gives_rings : IsSendBuffer p (record k {
       left = s.offset + s.length;
       stretches = buffer (drop 1 k.stretches.items) k.stretches.capacity;
       items = buffer (drop (s.offset + s.length - k.left) k.items.items) k.items.capacity;

@@ -1,4 +1,4 @@
-pub mod Stretches
-pub mod Rings
+pub mod SentSegments
+pub mod SendBuffer
 pub mod Senders
 pub mod Items

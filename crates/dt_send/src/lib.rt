@@ -3,10 +3,11 @@
 
 mod dues;
 mod numbering;
+mod occasions;
 mod octets;
-mod rings;
+mod send_buffer;
 mod senders;
-mod stretches;
+mod sent_segments;
 
 pub use dt_flow_model::{Cut, PutFault, SendAct, SendKind, SendMoments};
 pub use senders::Sender;

@@ -6,7 +6,7 @@ use circular_buffer::HeapCircularBuffer;
 use dt_items::{Item, item_in, unmarked_from};
 
 /// Whether the item at this place isn't of the segment: the segment is full, or the item begins a
-/// message behind its first item.
+/// message after its first item.
 fn is_beyond(item: &Item, place: usize, most: usize) -> bool
     ensures { result ≡ (place == most || (item.now.begin && not (place == 0))) }
 {

@@ -13,7 +13,8 @@ ghost use Rattle.dt_send.specs.Items.{outstanding_items};
 
 use crate::dues::{due_first, least};
 use crate::numbering::number_at;
-use crate::rings::Rings;
+use crate::occasions::Occasion;
+use crate::send_buffer::SendBuffer;
 use circular_buffer::HeapCircularBuffer;
 use dt_flow_model::{PutFault, SendAct, SendKind, SendMoments};
 use dt_items::{Item, NoMemory};
@@ -34,7 +35,7 @@ use std::sync::ledger::Ledger;
 pub struct Sender {
     rules: Rules,
     flow: Flow,
-    rings: Rings,
+    buffer: SendBuffer,
     /// Room for the octets of one segment, which are copied here on their way into a frame.
     room: Vec<u8>,
 }
@@ -42,13 +43,13 @@ pub struct Sender {
 impl Model for Sender {
     ghost use Rattle.std.specs.Prelude.{◌≡◌, vec_len};
     ghost use Rattle.dt_send.specs.Senders.{SenderValue};
-    ghost use Rattle.dt_send.specs.Rings.{AreRings, record_of};
+    ghost use Rattle.dt_send.specs.SendBuffer.{IsSendBuffer, record_of};
 
     ghost Value = { SenderValue };
 
-    ghost view = { λ s. record { rules = s.rules; flow = s.flow; state = record_of s.rings } };
+    ghost view = { λ s. record { rules = s.rules; flow = s.flow; state = record_of s.buffer } };
 
-    ghost invariant = { λ s. AreRings s.rules s.rings × (vec_len s.room ≡ s.rules.seg) };
+    ghost invariant = { λ s. IsSendBuffer s.rules s.buffer × (vec_len s.room ≡ s.rules.seg) };
 }
 
 impl Sender {
@@ -58,17 +59,17 @@ impl Sender {
         requires { now ≤ most_moment }
         ensures { IfOk result (λ sender. sender ≡ record { rules = rules.now; flow = flow; state = new_record rules.now now [] }) }
     {
-        let rings = Rings::new(alloc, rules, now)?;
+        let buffer = SendBuffer::new(alloc, rules, now)?;
         let room = vec![in alloc; 0; rules.params().seg as usize]?;
         Ok(Sender {
             rules: *rules,
             flow,
-            rings,
+            buffer,
             room,
         })
     }
 
-    /// Puts octets behind those that wait: the first gets the begin mark and the last the end mark,
+    /// Puts octets after those that wait: the first gets the begin mark and the last the end mark,
     /// where they are asked for. `Full` comes exactly where more than `cap` octets would be held; it
     /// tells how many more are taken, and the record is as it was. The cost is that of the octets, and
     /// no memory is taken.
@@ -91,7 +92,7 @@ impl Sender {
         if octets.len() > free as usize {
             return Err(PutFault::Full { free });
         }
-        self.rings.put(&self.rules, octets, begin, end);
+        self.buffer.put(&self.rules, octets, begin, end);
         Ok(())
     }
 
@@ -111,7 +112,7 @@ impl Sender {
         ensures looks { steps.new ≡ steps.old + 1 }
     {
         steps.tick();
-        self.rings.on_ack(&self.rules, k, w)
+        self.buffer.on_ack(&self.rules, k, w)
     }
 
     /// The first kind of act, in the order of [`SendKind`], that is due at now, with the moment from
@@ -122,7 +123,7 @@ impl Sender {
         ensures looks { steps.new ≡ steps.old + 1 }
     {
         steps.tick();
-        due_first(now, &self.rings.moments(&self.rules, now))
+        due_first(now, &self.buffer.moments(&self.rules, now))
     }
 
     /// Does the act that is due at now; [`Sender::due`] tells whether there is one. `Resent`, `Sent`
@@ -144,8 +145,12 @@ impl Sender {
         ensures looks { steps.new ≡ steps.old + 1 }
     {
         steps.tick();
-        self.rings
-            .act(&self.rules, &self.flow, now, &mut self.room, frame)
+        let occasion = Occasion {
+            rules: &self.rules,
+            flow: &self.flow,
+            at: now,
+        };
+        self.buffer.act(&occasion, &mut self.room, frame)
     }
 
     /// From when on each kind of act is due, as it stands at now, if nothing else is called. The cost
@@ -155,7 +160,7 @@ impl Sender {
         ensures looks { steps.new ≡ steps.old + 1 }
     {
         steps.tick();
-        self.rings.moments(&self.rules, now)
+        self.buffer.moments(&self.rules, now)
     }
 
     /// The least moment at which an act is due, if nothing else is called. None says that none ever
@@ -165,7 +170,7 @@ impl Sender {
         ensures looks { steps.new ≡ steps.old + 1 }
     {
         steps.tick();
-        least(&self.rings.moments(&self.rules, 0))
+        least(&self.buffer.moments(&self.rules, 0))
     }
 
     /// The number of the leftmost octet that is neither acknowledged nor given up. Numbers go round at
@@ -173,28 +178,28 @@ impl Sender {
     pub fn left(&self) -> u32
         ensures { result ≡ number_of self.now.rules self.now.state.left }
     {
-        number_at(&self.rules, self.rings.left)
+        number_at(&self.rules, self.buffer.left)
     }
 
     /// The number of the next octet that goes out.
     pub fn next_number(&self) -> u32
         ensures { result ≡ number_of self.now.rules (next_of self.now.state) }
     {
-        number_at(&self.rules, self.rings.next)
+        number_at(&self.rules, self.buffer.next)
     }
 
     /// The number at which the receiver's window ends: the first that may not go out.
     pub fn edge(&self) -> u32
         ensures { result ≡ number_of self.now.rules self.now.state.edge }
     {
-        number_at(&self.rules, self.rings.edge)
+        number_at(&self.rules, self.buffer.edge)
     }
 
     /// How many octets wait, 0 to 65,536.
     pub fn waiting(&self) -> u32
         ensures { result ≡ length self.now.state.waiting }
     {
-        (self.rings.items.len() - self.rings.sent(&self.rules)) as u32
+        (self.buffer.items.len() - self.buffer.sent(&self.rules)) as u32
     }
 
     /// How many octets are outstanding or wait, at most `cap`.
@@ -202,7 +207,7 @@ impl Sender {
         ensures value { result ≡ held_of self.now.state }
         ensures kept { IsSendRecord self.now.rules self.now.state }
     {
-        self.rings.items.len() as u32
+        self.buffer.items.len() as u32
     }
 
     /// The ring of its items, the outstanding ones first and then those that wait. Its capacity is
@@ -211,6 +216,6 @@ impl Sender {
         ensures { let x = self.now.state in
             result.now ≡ buffer (outstanding_items x.outstanding ++ x.waiting) self.now.rules.cap }
     {
-        &self.rings.items
+        &self.buffer.items
     }
 }

@@ -26,7 +26,7 @@ fn is_gram(head: Option<&[u8]>, body: usize) -> bool {
     head.is_some_and(|head| body <= 255 && head == gram_head(body as u8).as_slice())
 }
 
-/// Whether a body has this head and these octets behind it.
+/// Whether a body has this head and these octets after it.
 fn is_body(body: &[u8], head: &[u8; 14], octets: &[u8]) -> bool {
     body.starts_with(head) && body.get(14..) == Some(octets)
 }

@@ -1,5 +1,5 @@
 -- What an endpoint's call did, by its answer.
-use Rattle.std.proofs.Common.{ℕ, ◌≡◌, ◌≤◌, Bool, true, false, List, [], ◌∷◌, length, take, Option, Some, None, refl, ap, sym, subst, ◌∙◌, arith}
+use Rattle.std.proofs.Common.{ℕ, ◌≡◌, ◌≤◌, inl, inr, Bool, true, false, List, [], ◌∷◌, length, take, Option, Some, None, refl, ap, sym, subst, ◌∙◌, arith}
 use Rattle.std.specs.Prelude.{cond, nat_le}
 use Rattle.std.proofs.lemmas.List.{length-take}
 use Rattle.dt_items.specs.declared.item.Item.{Item}
@@ -24,10 +24,9 @@ use Rattle.dt_endpoint.specs.declared.answers.Sent.TheVariants as sent
 use Rattle.dt_endpoint.specs.declared.answers.Ticked.{Ticked}
 use Rattle.dt_endpoint.specs.declared.answers.Ticked.TheVariants as ticked
 use Rattle.dt_endpoint.specs.Calls.{ArriveDoes, Arrives, ReadDoes, Reads, SendDoes, Sends, TickDoes, Ticks, Unless, arrive_event, arrive_fault, arrive_refusal, has_link, piece_of, read_answer, read_refusals, send_answer, send_refusals, sent_of, tick_refusals}
-use Rattle.dt_endpoint.specs.Endpoints.{EndpointValue, after_event, with_refused}
-use Rattle.dt_service_model.specs.Turns.{piece_at, piece_with}
-use Rattle.dt_service.specs.Nodes.{EndpointGoesOn, piece_found}
-use Rattle.dt_service.proofs.Going.{break_goes, endpoint_same, event_goes}
+use Rattle.dt_endpoint.specs.Endpoints.{Breaks, EndpointValue, after_event, with_refused}
+use Rattle.dt_service_model.specs.Turns.{piece_with}
+use Rattle.dt_service.specs.Nodes.{IsCutOff, piece_found}
 
 -- WHAT IS REFUSED answers as one of its tests says
 abbrev Never : {A : Type 0} → (A → Type 0) → List (Bool × A) → Type 0
@@ -49,10 +48,6 @@ done_unless : {A : Type 0} (P : A → Type 0) (o : Option A) (answer : A) (e f :
 done_unless P None answer e f Done never so h = h
 done_unless P (Some r) answer e f Done never so h = absurd (never r refl (subst P h.0 so))
 
-goes_unless : {A : Type 0} (o : Option A) (answer : A) (base e f : EndpointValue) (Done : Type 0) → EndpointGoesOn e base → (Done → EndpointGoesOn e f) → Unless o answer base f Done → EndpointGoesOn e f
-goes_unless (Some r) answer base e f Done first done h = subst (λ (g : EndpointValue). EndpointGoesOn e g) (sym h.1) first
-goes_unless None answer base e f Done first done h = done h
-
 -- A SEND
 abbrev IsSent : Sent → Type 0
 IsSent sent.Done = Unit {0}
@@ -63,22 +58,6 @@ IsSent sent.Spent = ⊥
 IsSent sent.BadFlow = ⊥
 IsSent sent.Empty = ⊥
 IsSent sent.TooMany = ⊥
-
-send_goes : (answer : Sent) (now : ℕ) (refused : Option Refusal) (event : Event (Unit {0})) (e f : EndpointValue) → SendDoes answer now refused event e f → EndpointGoesOn e f
-send_goes sent.NoMemory now refused event e f h = break_goes now event e f h
-send_goes sent.Done now refused event e f h = event_goes now event e f h.1
-send_goes (sent.Quiet until) now refused event e f h = event_goes now event e f h.1
-send_goes (sent.Full free) now refused event e f h = event_goes now event e f h.1
-send_goes sent.Spent now refused event e f h = event_goes now event e f h.1
-send_goes sent.BadFlow now refused event e f h = event_goes now event e f h.1
-send_goes sent.Empty now refused event e f h = event_goes now event e f h.1
-send_goes sent.TooMany now refused event e f h = event_goes now event e f h.1
-
-pub sends_goes : (answer : Sent) (now : ℕ) (flow : Flow) (octets : List ℕ) (begin end : Bool) (e f : EndpointValue) → Sends answer now flow octets begin end e f → EndpointGoesOn e f
-sends_goes answer now flow octets begin end e f h =
-    let refused = send_answer now flow octets begin end e in
-    let event = Send flow octets begin end in
-    goes_unless (first_refusal (send_refusals flow octets e)) answer e e f (SendDoes answer now refused event e f) (endpoint_same e) (send_goes answer now refused event e f) h
 
 sends_is : (answer : Sent) (now : ℕ) (flow : Flow) (octets : List ℕ) (begin end : Bool) (e f : EndpointValue) → IsSent answer → Sends answer now flow octets begin end e f
     → SendDoes answer now (send_answer now flow octets begin end e) (Send flow octets begin end) e f
@@ -114,6 +93,42 @@ sends_quiet until now flow octets begin end e f h = let s = sends_is (sent.Quiet
 pub sends_full : (free now : ℕ) (flow : Flow) (octets : List ℕ) (begin end : Bool) (e f : EndpointValue) → Sends (sent.Full free) now flow octets begin end e f → SentSo (Some (refusal.Full free)) now flow octets begin end e f
 sends_full free now flow octets begin end e f h = let s = sends_is (sent.Full free) now flow octets begin end e f tt h in record { answer = refused_full free (send_answer now flow octets begin end e) s.0; after = s.1 }
 
+-- one that answered otherwise was cut off
+cut_unless : {A : Type 0} (o : Option A) (answer : A) (now : ℕ) (event : Event (Unit {0})) (e f : EndpointValue) (Done : Type 0) → (Done → IsCutOff now event e f) → Unless o answer e f Done → IsCutOff now event e f
+cut_unless (Some r) answer now event e f Done done h = inl h.1
+cut_unless None answer now event e f Done done h = done h
+
+abbrev pub IsUnsent : Sent → Type 0
+IsUnsent sent.Done = ⊥
+IsUnsent (sent.Quiet until) = ⊥
+IsUnsent (sent.Full free) = ⊥
+IsUnsent sent.NoMemory = Unit {0}
+IsUnsent sent.Spent = Unit {0}
+IsUnsent sent.BadFlow = Unit {0}
+IsUnsent sent.Empty = Unit {0}
+IsUnsent sent.TooMany = Unit {0}
+
+sent_is : (o : Option Refusal) → IsUnsent (sent_of o) → ⊥
+sent_is None h = h
+sent_is (Some (refusal.Quiet until)) h = h
+sent_is (Some (refusal.Full free)) h = h
+
+send_cut : (answer : Sent) (now : ℕ) (refused : Option Refusal) (event : Event (Unit {0})) (e f : EndpointValue) → IsUnsent answer → SendDoes answer now refused event e f → IsCutOff now event e f
+send_cut sent.NoMemory now refused event e f un h = inr h
+send_cut sent.Done now refused event e f un h = absurd un
+send_cut (sent.Quiet until) now refused event e f un h = absurd un
+send_cut (sent.Full free) now refused event e f un h = absurd un
+send_cut sent.Spent now refused event e f un h = absurd (sent_is refused (subst IsUnsent h.0 un))
+send_cut sent.BadFlow now refused event e f un h = absurd (sent_is refused (subst IsUnsent h.0 un))
+send_cut sent.Empty now refused event e f un h = absurd (sent_is refused (subst IsUnsent h.0 un))
+send_cut sent.TooMany now refused event e f un h = absurd (sent_is refused (subst IsUnsent h.0 un))
+
+pub sends_cut : (answer : Sent) (now : ℕ) (flow : Flow) (octets : List ℕ) (begin end : Bool) (e f : EndpointValue) → IsUnsent answer → Sends answer now flow octets begin end e f → IsCutOff now (Send flow octets begin end) e f
+sends_cut answer now flow octets begin end e f un h =
+    let refused = send_answer now flow octets begin end e in
+    let event = Send flow octets begin end in
+    cut_unless (first_refusal (send_refusals flow octets e)) answer now event e f (SendDoes answer now refused event e f) (send_cut answer now refused event e f un) h
+
 -- A READ
 abbrev IsRead : Piece → Type 0
 IsRead (piece.Read len run begin end) = Unit {0}
@@ -122,19 +137,6 @@ IsRead piece.NoMemory = ⊥
 IsRead piece.Spent = ⊥
 IsRead piece.BadFlow = ⊥
 IsRead piece.NoRoom = ⊥
-
-read_goes : (answer : Piece) (now : ℕ) (items : List Item) (event : Event (Unit {0})) (buf : List ℕ) (e f : EndpointValue) → ReadDoes answer now items event buf e f → EndpointGoesOn e f
-read_goes piece.NoMemory now items event buf e f h = break_goes now event e f h
-read_goes (piece.Read len run begin end) now items event buf e f h = event_goes now event e f h.2
-read_goes piece.Nothing now items event buf e f h = event_goes now event e f h.2
-read_goes piece.Spent now items event buf e f h = event_goes now event e f h.2
-read_goes piece.BadFlow now items event buf e f h = event_goes now event e f h.2
-read_goes piece.NoRoom now items event buf e f h = event_goes now event e f h.2
-
-pub reads_goes : (answer : Piece) (now : ℕ) (flow : Flow) (room : ℕ) (buf : List ℕ) (e f : EndpointValue) → Reads answer now flow room buf e f → EndpointGoesOn e f
-reads_goes answer now flow room buf e f h =
-    let items = read_answer now flow room e in
-    goes_unless (first_refusal (read_refusals flow room e)) answer e e f (ReadDoes answer now items (Read flow room) buf e f) (endpoint_same e) (read_goes answer now items (Read flow room) buf e f) h
 
 reads_is : (answer : Piece) (now : ℕ) (flow : Flow) (room : ℕ) (buf : List ℕ) (e f : EndpointValue) → IsRead answer → Reads answer now flow room buf e f
     → ReadDoes answer now (read_answer now flow room e) (Read flow room) buf e f
@@ -186,16 +188,33 @@ reads_some marks len now flow room buf e f h =
       after = s.2;
     }
 
+abbrev pub IsUnread : Piece → Type 0
+IsUnread (piece.Read len run begin end) = ⊥
+IsUnread piece.Nothing = ⊥
+IsUnread piece.NoMemory = Unit {0}
+IsUnread piece.Spent = Unit {0}
+IsUnread piece.BadFlow = Unit {0}
+IsUnread piece.NoRoom = Unit {0}
+
+piece_is : (len : ℕ) (o : Option ItemPiece) → IsUnread (piece_of len o) → ⊥
+piece_is len None h = h
+piece_is len (Some told) h = h
+
+read_cut : (answer : Piece) (now : ℕ) (items : List Item) (event : Event (Unit {0})) (buf : List ℕ) (e f : EndpointValue) → IsUnread answer → ReadDoes answer now items event buf e f → IsCutOff now event e f
+read_cut piece.NoMemory now items event buf e f un h = inr h
+read_cut (piece.Read len run begin end) now items event buf e f un h = absurd un
+read_cut piece.Nothing now items event buf e f un h = absurd un
+read_cut piece.Spent now items event buf e f un h = absurd (piece_is (length (octets_of items)) (piece_told items) (subst IsUnread h.0 un))
+read_cut piece.BadFlow now items event buf e f un h = absurd (piece_is (length (octets_of items)) (piece_told items) (subst IsUnread h.0 un))
+read_cut piece.NoRoom now items event buf e f un h = absurd (piece_is (length (octets_of items)) (piece_told items) (subst IsUnread h.0 un))
+
+pub reads_cut : (answer : Piece) (now : ℕ) (flow : Flow) (room : ℕ) (buf : List ℕ) (e f : EndpointValue) → IsUnread answer → Reads answer now flow room buf e f → IsCutOff now (Read flow room) e f
+reads_cut answer now flow room buf e f un h =
+    let items = read_answer now flow room e in
+    cut_unless (first_refusal (read_refusals flow room e)) answer now (Read flow room) e f (ReadDoes answer now items (Read flow room) buf e f) (read_cut answer now items (Read flow room) buf e f un) h
+
 -- A TICK
-tick_goes : (answer : Ticked) (now : ℕ) (e f : EndpointValue) → TickDoes answer now e f → EndpointGoesOn e f
-tick_goes ticked.NoMemory now e f h = break_goes now Tick e f h
-tick_goes ticked.Done now e f h = event_goes now Tick e f h.1
-tick_goes ticked.Spent now e f h = event_goes now Tick e f h.1
-
-pub ticks_goes : (answer : Ticked) (now : ℕ) (e f : EndpointValue) → Ticks answer now e f → EndpointGoesOn e f
-ticks_goes answer now e f h = goes_unless (first_refusal (tick_refusals e)) answer e e f (TickDoes answer now e f) (endpoint_same e) (tick_goes answer now e f) h
-
-abbrev IsTicked : Ticked → Type 0
+abbrev pub IsTicked : Ticked → Type 0
 IsTicked ticked.Done = Unit {0}
 IsTicked ticked.NoMemory = ⊥
 IsTicked ticked.Spent = ⊥
@@ -204,22 +223,18 @@ pub ticks_done : (now : ℕ) (e f : EndpointValue) → Ticks ticked.Done now e f
 ticks_done now e f h =
     let s = done_unless IsTicked (first_refusal (tick_refusals e)) ticked.Done e f (TickDoes ticked.Done now e f) (λ r. never_first IsTicked (tick_refusals e) r ((λ x. x), tt)) tt h in s.1
 
+tick_cut : (answer : Ticked) (now : ℕ) (e f : EndpointValue) → (IsTicked answer → ⊥) → TickDoes answer now e f → IsCutOff now Tick e f
+tick_cut ticked.NoMemory now e f un h = inr h
+tick_cut ticked.Done now e f un h = absurd (un tt)
+tick_cut ticked.Spent now e f un h = absurd (differ h.0)
+  where
+    differ : ticked.Spent ≡ ticked.Done → ⊥
+    differ k = cc
+
+pub ticks_cut : (answer : Ticked) (now : ℕ) (e f : EndpointValue) → (IsTicked answer → ⊥) → Ticks answer now e f → IsCutOff now Tick e f
+ticks_cut answer now e f un h = cut_unless (first_refusal (tick_refusals e)) answer now Tick e f (TickDoes answer now e f) (tick_cut answer now e f un) h
+
 -- A DATAGRAM
-arrive_goes : (answer : Arrived) (now : ℕ) (event : Event (Unit {0})) (e f : EndpointValue) → ArriveDoes answer now event e f → EndpointGoesOn e f
-arrive_goes arrived.NoMemory now event e f h = break_goes now event e f h
-arrive_goes arrived.Done now event e f h = event_goes now event e f h.1
-arrive_goes arrived.Spent now event e f h = event_goes now event e f h.1
-arrive_goes arrived.NoLink now event e f h = event_goes now event e f h.1
-arrive_goes (arrived.Bad fault) now event e f h = event_goes now event e f h.1
-arrive_goes arrived.Stale now event e f h = event_goes now event e f h.1
-
-refused_goes : (e : EndpointValue) → EndpointGoesOn e (with_refused e)
-refused_goes e = let s = endpoint_same e in record { rules = refl; more = s.more; frames = s.frames }
-
-pub arrives_goes : (answer : Arrived) (now link : ℕ) (octets : List ℕ) (waited : ℕ) (e f : EndpointValue) → Arrives answer now link octets waited e f → EndpointGoesOn e f
-arrives_goes answer now link octets waited e f h =
-    goes_unless (arrive_refusal link octets waited e) answer (with_refused e) e f (ArriveDoes answer now (arrive_event link octets waited) e f) (refused_goes e) (arrive_goes answer now (arrive_event link octets waited) e f) h
-
 -- a refusal is one of four
 abbrev pub IsRefused : Arrived → Type 0
 IsRefused arrived.Done = ⊥
@@ -299,3 +314,17 @@ pub arrives_refused : (answer : Arrived) (now link : ℕ) (octets : List ℕ) (w
 arrives_refused answer now link octets waited e f so h =
     let s = refused_as (arrive_refusal link octets waited e) answer now (arrive_event link octets waited) e f so h in
     record { refused = s.0; after = s.1 }
+
+-- one that found no memory wasn't refused
+pub record CutOff (now link : ℕ) (octets : List ℕ) (waited : ℕ) (e f : EndpointValue) : Type 0 where
+  pub unrefused : arrive_refusal link octets waited e ≡ None
+  pub breaks : Breaks now (arrive_event link octets waited) e f
+
+cut_as : (o : Option Arrived) (now : ℕ) (event : Event (Unit {0})) (e f : EndpointValue) → AllRefused o → Unless o arrived.NoMemory (with_refused e) f (Breaks now event e f) → (o ≡ None) × Breaks now event e f
+cut_as None now event e f all h = (refl, h)
+cut_as (Some r) now event e f all h = absurd (subst IsRefused (sym h.0) all)
+
+pub arrives_cut : (now link : ℕ) (octets : List ℕ) (waited : ℕ) (e f : EndpointValue) → Arrives arrived.NoMemory now link octets waited e f → CutOff now link octets waited e f
+arrives_cut now link octets waited e f h =
+    let s = cut_as (arrive_refusal link octets waited e) now (arrive_event link octets waited) e f (refusals_are link octets waited e) h in
+    record { unrefused = s.0; breaks = s.1 }

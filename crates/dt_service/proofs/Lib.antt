@@ -1,3 +1,3 @@
-pub mod Going
 pub mod Events
 pub mod Steps
+pub mod Stops

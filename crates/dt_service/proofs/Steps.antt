@@ -1,18 +1,16 @@
 -- The steps of a turn, one after another, are the definition's.
-use Rattle.std.proofs.Common.{ℕ, zero, suc, ◌+◌, ◌-◌, ◌≡◌, ◌<◌, ◌≤◌, Bool, true, false, List, [], ◌∷◌, ◌++◌, length, get_or, drop, Option, Some, None, refl, ap, sym, subst, ◌∙◌, arith, add-one}
-use Rattle.std.specs.Prelude.{◌&&◌, ◌||◌, cond, fold, not}
+use Rattle.std.proofs.Common.{ℕ, zero, suc, ◌+◌, ◌-◌, ◌≡◌, ◌<◌, ◌≤◌, Bool, true, false, List, [], ◌∷◌, ◌++◌, length, get_or, drop, Option, refl, ap, sym, subst, ◌∙◌, arith, add-one}
+use Rattle.std.specs.Prelude.{◌&&◌, cond, fold}
 use Rattle.dt_units.specs.declared.endpoints.Flow.{Flow}
 use Rattle.dt_reports.specs.Told.{Told}
-use Rattle.dt_world_model.specs.Station.{Event, Read}
+use Rattle.dt_world_model.specs.Station.{Read}
 use Rattle.dt_calls_model.specs.Messages.{Piece}
 use Rattle.dt_endpoint.specs.Endpoints.{EndpointValue, after_event, moment_of}
 use Rattle.dt_service_model.specs.Ends.{judge}
 use Rattle.dt_service_model.specs.Halves.{Halves, may_read}
 use Rattle.dt_service_model.specs.Hearing.{hear}
-use Rattle.dt_service_model.specs.Turns.{Node, comes_in, done_with, happens, hears, most_read, piece_at, read_if, read_times, reads, sweep, take_read, turn_end, with_halves}
-use Rattle.dt_service_model.specs.Whole.{take_piece}
-use Rattle.dt_service.specs.Nodes.{EndpointGoesOn, GoesOn, HalvesGoOn, node_of}
-use Rattle.dt_service.proofs.Going.{endpoint_same, goes_then, halves_same, hear_goes, judge_goes, sweep_goes}
+use Rattle.dt_service_model.specs.Turns.{Node, comes_in, happens, hears, most_read, piece_at, read_if, read_times, reads, sweep, take_read, turn_end}
+use Rattle.dt_service.specs.Nodes.{node_of}
 
 -- ONE REPORT is heard
 pub hears_step : (e f : EndpointValue) (h k : Halves) (t : Told) → e.reports ≡ (t ∷ []) ++ f.reports → f ≡ record e { reports = drop 1 e.reports } → k ≡ hear h t → hears (node_of f k) ≡ hears (node_of e h)
@@ -32,18 +30,6 @@ hears_end e f h reports rest =
     let same : f ≡ record e { reports = [] } = rest ∙ ap (λ (xs : List Told). record e { reports = drop 1 xs }) none in
     ap (λ (x : EndpointValue). node_of x h) same ∙ ap (λ (xs : List Told). node_of (record e { reports = [] }) (fold hear h xs)) (sym none)
 
--- the endpoint's reports are no frames
-popped_goes : (e f : EndpointValue) → f ≡ record e { reports = drop 1 e.reports } → EndpointGoesOn e f
-popped_goes e f is = subst (λ (x : EndpointValue). EndpointGoesOn e x) (sym is) (let same = endpoint_same e in record { rules = refl; more = same.more; frames = same.frames })
-
-pub popped : (n : Node) (e f : EndpointValue) (h k : Halves) → GoesOn false n (node_of e h) → f ≡ record e { reports = drop 1 e.reports } → k ≡ h → GoesOn false n (node_of f k)
-popped n e f h k part is same =
-    goes_then false n (node_of e h) (node_of f k) part (record { endpoint = popped_goes e f is; halves = subst (λ (x : Halves). HalvesGoOn false h x) (sym same) (halves_same h) })
-
-pub heard_one : (n : Node) (e f : EndpointValue) (h k : Halves) (t : Told) → GoesOn false n (node_of e h) → f ≡ record e { reports = drop 1 e.reports } → k ≡ hear h t → GoesOn false n (node_of f k)
-heard_one n e f h k t part is heard =
-    goes_then false n (node_of e h) (node_of f k) part (record { endpoint = popped_goes e f is; halves = hear_goes t h k heard })
-
 -- ONE READ
 if_false : (b : Bool) (x y : Node) → b ≡ false → cond b x y ≡ y
 if_false false x y h = refl
@@ -61,7 +47,7 @@ nor : (a b : Bool) → b ≡ false → (a && b) ≡ false
 nor false b h = refl
 nor true b h = h
 
-both : (a b : Bool) → a ≡ true → b ≡ true → (a && b) ≡ true
+pub both : (a b : Bool) → a ≡ true → b ≡ true → (a && b) ≡ true
 both true b h k = k
 both false b h k = cc
 

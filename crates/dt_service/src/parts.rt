@@ -1,7 +1,8 @@
 //! The parts of a service, and its turns.
-ghost use Rattle.std.specs.Prelude.{◌≡◌, false, IfOk, OnOk, if◌then◌else◌};
+ghost use Rattle.std.specs.Prelude.{◌≡◌, false, IfOk, OnErr, OnOk, if◌then◌else◌};
+ghost use Rattle.dt_service_model.specs.Stopping.{EndStops, ReadStops};
 ghost use Rattle.dt_service_model.specs.Turns.{Node, comes_in, hears, read_flow, read_if, read_times, reads, turn_end};
-ghost use Rattle.dt_service.specs.Nodes.{GoesOn, node_in};
+ghost use Rattle.dt_service.specs.Nodes.{FlowStops, HearingStops, node_in};
 
 use crate::reading::{ROOM, read_piece};
 use dt_endpoint::Endpoint;
@@ -30,7 +31,7 @@ impl Parts {
     pub fn hear(&mut self) -> Result<(), NoMemory>
         ensures heard { OnOk result (node_in self.new ≡ hears (node_in self.old)) }
         ensures room { self.new.room.value ≡ self.old.room.value }
-        ensures part { GoesOn false (node_in self.old) (node_in self.new) }
+        ensures stops { OnErr result (HearingStops (node_in self.old) (node_in self.new)) }
     {
         while let Some(report) = self.endpoint.next_report() {
             self.halves.hear(&report)?;
@@ -49,7 +50,7 @@ impl Parts {
     /// Reads a flow once, if it may be read, and answers whether more of it may be.
     fn read(&mut self, now: u64, flow: &Flow) -> Result<bool, NoMemory>
         ensures read { IfOk result (λ goes_on. (again : Node → Node) → read_if again now flow.now (node_in self.old) ≡ (if goes_on then again (node_in self.new) else node_in self.new)) }
-        ensures part { GoesOn false (node_in self.old) (node_in self.new) }
+        ensures stops { OnErr result (ReadStops now flow.now (node_in self.old) (node_in self.new)) }
     {
         if !self.comes_in(flow) || !self.halves.may_read(flow) {
             return Ok(false);
@@ -68,7 +69,7 @@ impl Parts {
     /// Reads a flow so many times, or until nothing is there or it may be read no more.
     fn read_times(&mut self, most: u32, now: u64, flow: &Flow) -> Result<(), NoMemory>
         ensures read { OnOk result (node_in self.new ≡ read_times most now flow.now (node_in self.old)) }
-        ensures part { GoesOn false (node_in self.old) (node_in self.new) }
+        ensures stops { OnErr result (FlowStops now flow.now (node_in self.old) (node_in self.new)) }
     {
         for _ in 0..most {
             if !self.read(now, flow)? {
@@ -81,7 +82,7 @@ impl Parts {
     /// Reads a flow until nothing is there or it may be read no more.
     fn read_flow(&mut self, now: u64, flow: &Flow) -> Result<(), NoMemory>
         ensures read { OnOk result (node_in self.new ≡ read_flow now (node_in self.old) flow.now) }
-        ensures part { GoesOn false (node_in self.old) (node_in self.new) }
+        ensures stops { OnErr result (FlowStops now flow.now (node_in self.old) (node_in self.new)) }
     {
         self.read_times(MOST_READS, now, flow)
     }
@@ -89,7 +90,7 @@ impl Parts {
     /// Reads the flows at which something may be unread.
     fn read_all(&mut self, now: u64) -> Result<(), NoMemory>
         ensures read { OnOk result (node_in self.new ≡ reads now (node_in self.old)) }
-        ensures part { GoesOn false (node_in self.old) (node_in self.new) }
+        ensures stops { OnErr result (EndStops now (node_in self.old) (node_in self.new)) }
     {
         let flows = Vec::from_slice(self.alloc, self.halves.unread())?;
         for flow in &flows {
@@ -101,7 +102,7 @@ impl Parts {
     /// The end of a turn: what is unread is read, and then calls are judged.
     pub fn end_turn(&mut self, now: u64) -> Result<(), NoMemory>
         ensures ended { OnOk result (node_in self.new ≡ turn_end now (node_in self.old)) }
-        ensures part { GoesOn false (node_in self.old) (node_in self.new) }
+        ensures stops { OnErr result (EndStops now (node_in self.old) (node_in self.new)) }
     {
         self.read_all(now)?;
         self.halves.sweep(&self.endpoint);

@@ -3,7 +3,7 @@ ghost use Rattle.std.specs.Prelude.{◌≡◌, ◌≤◌, IfOk, OnErr, OnOk, len
 ghost use Rattle.dt_world_model.specs.Station.{Read};
 ghost use Rattle.dt_endpoint.specs.Endpoints.{after_event};
 ghost use Rattle.dt_service_model.specs.Turns.{most_read, piece_at};
-ghost use Rattle.dt_service.specs.Nodes.{EndpointGoesOn, len_found, piece_found};
+ghost use Rattle.dt_service.specs.Nodes.{IsCutOff, len_found, piece_found};
 
 use dt_endpoint::{Endpoint, Piece};
 use dt_items::NoMemory;
@@ -31,7 +31,7 @@ pub fn read_piece(
     ensures found { IfOk result (λ found. piece_found found buf.new ≡ piece_at now flow endpoint.old) }
     ensures within { IfOk result (λ found. len_found found ≤ most_read) }
     ensures after { OnOk result (endpoint.new ≡ after_event now (Read flow most_read) endpoint.old) }
-    ensures part { OnErr result (EndpointGoesOn endpoint.old endpoint.new) }
+    ensures cut { OnErr result (IsCutOff now (Read flow most_read) endpoint.old endpoint.new) }
 {
     match endpoint.read(now, flow, buf) {
         Piece::Read {

@@ -1,10 +1,10 @@
 //! One event of an endpoint, by what it answers.
-ghost use Rattle.std.specs.Prelude.{◌≡◌, true, IfOk, OnErr, OnOk};
+ghost use Rattle.std.specs.Prelude.{◌≡◌, true, IfOk, None, OnErr, OnOk};
 ghost use Rattle.dt_world_model.specs.Station.{Tick};
-ghost use Rattle.dt_endpoint.specs.Calls.{arrive_refusal, send_answer};
-ghost use Rattle.dt_endpoint.specs.Endpoints.{after_event};
+ghost use Rattle.dt_endpoint.specs.Calls.{arrive_event, arrive_refusal, send_answer};
+ghost use Rattle.dt_endpoint.specs.Endpoints.{Breaks, after_event};
 ghost use Rattle.dt_service_model.specs.Asked.{message_event};
-ghost use Rattle.dt_service.specs.Nodes.{EndpointGoesOn, came_to};
+ghost use Rattle.dt_service.specs.Nodes.{IsCutOff, came_to};
 
 use dt_endpoint::{Arrived, Endpoint, Sent, Ticked};
 use dt_items::NoMemory;
@@ -20,7 +20,7 @@ pub fn send_message(
 ) -> Result<Option<Refusal>, NoMemory>
     ensures refused { IfOk result (λ refused. refused ≡ send_answer now flow message.now true true endpoint.old) }
     ensures after { OnOk result (endpoint.new ≡ after_event now (message_event flow message.now) endpoint.old) }
-    ensures part { OnErr result (EndpointGoesOn endpoint.old endpoint.new) }
+    ensures cut { OnErr result (IsCutOff now (message_event flow message.now) endpoint.old endpoint.new) }
 {
     match endpoint.send(now, flow, message, true, true) {
         Sent::Done => Ok(None),
@@ -33,7 +33,7 @@ pub fn send_message(
 /// What is due is done.
 pub fn pass(endpoint: &mut Endpoint, now: u64) -> Result<(), NoMemory>
     ensures after { OnOk result (endpoint.new ≡ after_event now Tick endpoint.old) }
-    ensures part { OnErr result (EndpointGoesOn endpoint.old endpoint.new) }
+    ensures cut { OnErr result (IsCutOff now Tick endpoint.old endpoint.new) }
 {
     match endpoint.tick(now) {
         Ticked::Done => Ok(()),
@@ -51,7 +51,8 @@ pub fn receive(
 ) -> Result<Option<Arrived>, NoMemory>
     ensures refused { IfOk result (λ refused. refused ≡ arrive_refusal link datagram.now waited endpoint.old) }
     ensures after { IfOk result (λ refused. endpoint.new ≡ came_to refused now link datagram.now waited endpoint.old) }
-    ensures part { OnErr result (EndpointGoesOn endpoint.old endpoint.new) }
+    ensures unrefused { OnErr result (arrive_refusal link datagram.now waited endpoint.old ≡ None) }
+    ensures cut { OnErr result (Breaks now (arrive_event link datagram.now waited) endpoint.old endpoint.new) }
 {
     match endpoint.arrive(now, link, datagram, waited) {
         Arrived::Done => Ok(None),

@@ -38,7 +38,7 @@ pub struct Start {
 /// What happens waits until [`Service::next`] takes it.
 ///
 /// After a call that found no memory the node is closed: no turn is done any more. What was told can be
-/// taken, and behind it that each call that waited is unsure.
+/// taken, and after it that each call that waited is unsure.
 #[derive(Drop)]
 pub struct Service {
     parts: Parts,

@@ -3,8 +3,9 @@ ghost use Rattle.std.specs.Prelude.{◌≡◌, ◌<◌, ◌^◌, Bool, false, If
 ghost use Rattle.dt_service_model.specs.declared.answers.Forgot.TheVariants as forgot;
 ghost use Rattle.dt_service_model.specs.Asked.{arrive, call, forget, forgotten_unless, made_of, next_number, replied_of, reply, tick, with_call_unless};
 ghost use Rattle.dt_service_model.specs.Halves.{Halves as HalvesValue};
+ghost use Rattle.dt_service_model.specs.Stopping.{ArriveStops, CallStops, ForgetStops, ReplyStops, TickStops};
 ghost use Rattle.dt_service_model.specs.Turns.{hears, turn_end, with_halves};
-ghost use Rattle.dt_service.specs.Nodes.{GoesOn, Is, node_in};
+ghost use Rattle.dt_service.specs.Nodes.{Is, RestStops, node_in};
 
 use crate::parts::Parts;
 use crate::sending::{pass, receive, send_message};
@@ -41,7 +42,7 @@ impl Parts {
     /// The rest of a turn, after its event.
     fn finish(&mut self, now: u64) -> Result<(), NoMemory>
         ensures ended { OnOk result (node_in self.new ≡ turn_end now (hears (node_in self.old))) }
-        ensures part { GoesOn false (node_in self.old) (node_in self.new) }
+        ensures stops { OnErr result (RestStops now (node_in self.old) (node_in self.new)) }
     {
         self.hear()?;
         self.end_turn(now)
@@ -50,7 +51,7 @@ impl Parts {
     /// A tick.
     pub fn tick(&mut self, now: u64) -> Result<Ticked, NoMemory>
         ensures done { IfOk result (λ answer. Is answer (node_in self.new) (tick now (node_in self.old))) }
-        ensures part { OnErr result (GoesOn false (node_in self.old) (node_in self.new)) }
+        ensures stops { OnErr result (TickStops now (node_in self.old) (node_in self.new)) }
     {
         if self.is_closed() {
             return Ok(Ticked::Spent);
@@ -69,7 +70,7 @@ impl Parts {
         waited: u32,
     ) -> Result<Arrived, NoMemory>
         ensures done { IfOk result (λ answer. Is answer (node_in self.new) (arrive now link datagram.now waited (node_in self.old))) }
-        ensures part { OnErr result (GoesOn false (node_in self.old) (node_in self.new)) }
+        ensures stops { OnErr result (ArriveStops now link datagram.now waited (node_in self.old) (node_in self.new)) }
     {
         if self.is_closed() {
             return Ok(Arrived::Spent);
@@ -91,7 +92,7 @@ impl Parts {
     ) -> Result<(), NoMemory>
         requires { self.old.halves.count < 2 ^ 32 }
         ensures kept { OnOk result (node_in self.new ≡ with_halves (with_call_unless refused flow count deadline) (node_in self.old)) }
-        ensures part { OnErr result (GoesOn false (node_in self.old) (node_in self.new)) }
+        ensures same { OnErr result (node_in self.new ≡ node_in self.old) }
     {
         if refused.is_none() {
             self.halves.add_call(flow, count, deadline)?;
@@ -108,7 +109,7 @@ impl Parts {
         patience: u32,
     ) -> Result<Made, NoMemory>
         ensures done { IfOk result (λ answer. Is answer (node_in self.new) (call now flow payload.now patience (node_in self.old))) }
-        ensures part { OnErr result ((made : Bool) × GoesOn made (node_in self.old) (node_in self.new)) }
+        ensures stops { OnErr result (CallStops now flow payload.now patience (node_in self.old) (node_in self.new)) }
     {
         if let Some(refusal) = self.refuses_call(&flow, payload, patience) {
             return Ok(refusal);
@@ -138,7 +139,7 @@ impl Parts {
     /// A reply.
     pub fn reply(&mut self, now: u64, token: Token, payload: &[u8]) -> Result<Replied, NoMemory>
         ensures done { IfOk result (λ answer. Is answer (node_in self.new) (reply now token payload.now (node_in self.old))) }
-        ensures part { OnErr result (GoesOn false (node_in self.old) (node_in self.new)) }
+        ensures stops { OnErr result (ReplyStops now token payload.now (node_in self.old) (node_in self.new)) }
     {
         if let Some(refusal) = self.refuses_reply(&token, payload) {
             return Ok(refusal);
@@ -155,7 +156,7 @@ impl Parts {
     /// A token is forgotten.
     pub fn forget(&mut self, now: u64, token: &Token) -> Result<Forgot, NoMemory>
         ensures done { IfOk result (λ answer. Is answer (node_in self.new) (forget now token.now (node_in self.old))) }
-        ensures part { OnErr result (GoesOn false (node_in self.old) (node_in self.new)) }
+        ensures stops { OnErr result (ForgetStops now token.now (node_in self.old) (node_in self.new)) }
     {
         if self.is_closed() || !self.halves.is_open(token) {
             return Ok(Forgot::Gone);

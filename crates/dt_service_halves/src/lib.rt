@@ -8,10 +8,11 @@ mod counting;
 mod ends;
 mod halves;
 mod hearing;
-mod messages;
+mod numbers;
 mod whole;
 
 pub use asked::carried;
+pub use dt_messages::reversed;
 pub use ends::earlier;
 pub use halves::Halves;
-pub use messages::{read_message, reversed, write_message};
+pub use numbers::write_message;

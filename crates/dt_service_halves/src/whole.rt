@@ -10,9 +10,9 @@ use crate::begun::{joined, put_begun, take_begun};
 use crate::counting::is_same;
 use crate::halves::Halves;
 use crate::hearing::kind_in;
-use crate::messages::{read_message, reversed};
+use crate::numbers::call_number;
 use dt_items::NoMemory;
-use dt_messages::Marks;
+use dt_messages::{Marks, read_message, reversed};
 use dt_service_model::{Call, CallNumber, Happening, Kind, Payload, Token};
 use dt_units::Flow;
 use std::alloc::Global;
@@ -156,6 +156,7 @@ impl Halves {
             self.counts.short = counted_up(self.counts.short);
             return Ok(());
         };
+        let number = call_number(number);
         let octets = Vec::from_slice(alloc, carried)?;
         let payload = Payload { octets };
         match kind_in(flow.to_port, &self.ports) {

@@ -1,6 +1,6 @@
 -- A node that isn't the end of a flow reads nothing of it, and hands out no request of it.
 use Rattle.std.proofs.Common.{ℕ, ◌≡◌, ◌==◌, Bool, true, false, List, [], ◌∷◌, ◌++◌, length, Some, refl, ap, sym, subst, ◌∙◌, inl, inr, append-nil, append_assoc}
-use Rattle.std.specs.Prelude.{cond, fold, map, not, ◌||◌}
+use Rattle.std.specs.Prelude.{Contains, cond, fold, map, not, ◌||◌}
 use Rattle.std.proofs.lemmas.Bool.{cases_Bool}
 use Rattle.dt_items.specs.declared.item.Item.{Item}
 use Rattle.dt_units.specs.declared.endpoints.Flow.{Flow}
@@ -12,7 +12,7 @@ use Rattle.dt_messages.specs.Joining.{whole_within}
 use Rattle.dt_endpoint.specs.declared.answers.Piece.TheVariants as answer
 use Rattle.dt_endpoint.specs.Endpoints.{EndpointValue}
 use Rattle.dt_network.specs.Duties.{KeepsDuties}
-use Rattle.dt_network.specs.Network.{Network}
+use Rattle.dt_network.specs.Network.{Flight, Network}
 use Rattle.dt_network.specs.Octets.{all_read, items_read, read_if}
 use Rattle.dt_network.specs.Steps.{AreSteps, Call, CallRead, Calls, Step, network_by}
 use Rattle.dt_service_model.specs.declared.happenings.Happening.{Happening}
@@ -23,16 +23,18 @@ use Rattle.dt_service_model.specs.Whole.{begun_of, grown, take_piece}
 use Rattle.dt_service_laws.specs.Histories.{Message, each_of, request_in}
 use Rattle.dt_service_laws.specs.Orders.{AreSomeOf, none}
 use Rattle.dt_service_laws.specs.Wholes.{listed}
+use Rattle.dt_service_laws.proofs.Flows.{IsParcel}
 use Rattle.dt_service_laws.proofs.Moves.{IsLater, MayCall, Moves, calls, changes, pulls, reads, rests}
 use Rattle.dt_service_laws.proofs.Quiet.{all_heard_quiet}
 use Rattle.dt_service_laws.proofs.Runs.{IsAt, heard_calls, no_steps, puts, written_there}
 use Rattle.dt_service_laws.proofs.Telling.{behind_read, each_append, said, unsure_requests, whole_tells}
 use Rattle.std.proofs.lemmas.List.Elements.{Contains-append_left}
 
--- networks that keep to the laws: steps lead on to others, and an endpoint is its node's
+-- networks that keep to the laws: steps lead on to others, an endpoint is its node's, and each frame that left carries a packet
 pub record IsLawful (setup : Setup) (Good : Network → Type 0) : Type 0 where
   pub on : (m : Network) (steps : List Step) → Good m → AreSteps setup steps m → KeepsDuties setup steps m → Good (network_by steps m)
   pub named : (m : Network) (n : ℕ) (e : EndpointValue) → Good m → IsAt n m e → e.spent ≡ false → e.state.host.me ≡ n
+  pub packets : (m : Network) (g : Flight) → Good m → Contains m.left g → IsParcel g.frame.octets
 
 some_of_none : {A : Type 0} {xs : List A} → AreSomeOf xs [] → xs ≡ []
 some_of_none none = refl
@@ -54,15 +56,15 @@ none_then g steps more h k l told same is nothing e = record {
   requests = each_append (request_in g) told e.told ∙ ap (λ (ms : List Message). ms ++ each_of (request_in g) e.told) nothing ∙ e.requests;
 }
 
-module _ (setup : Setup) (Good : Network → Type 0) (law : IsLawful setup Good) (n : ℕ) (base : Network) (g : Flow) (other : (n == g.to.0) ≡ false) where
-  -- the network behind a call and its pulls
-  record Behind (f : EndpointValue) : Type 0 where
-    net : Network
-    later : IsLater base net
-    there : IsAt n net (record f { reports = [] })
-    good : Good net
+module _ (setup : Setup) (Good : Network → Type 0) (law : IsLawful setup Good) (n : ℕ) (base : Network) where
+  -- the network after a call and its pulls
+  pub record Behind (f : EndpointValue) : Type 0 where
+    pub net : Network
+    pub later : IsLater base net
+    pub there : IsAt n net (record f { reports = [] })
+    pub good : Good net
 
-  behind : (m : Network) (x : Node) (call : Call) (f : EndpointValue) → MayCall setup n base call x.endpoint f → IsLater base m → IsAt n m x.endpoint → Good m → Behind f
+  pub behind : (m : Network) (x : Node) (call : Call) (f : EndpointValue) → MayCall setup n base call x.endpoint f → IsLater base m → IsAt n m x.endpoint → Good m → Behind f
   behind m x call f may later there good =
       let steps = Calls n call f ∷ (pulls setup n f f.reports ++ []) in
       let r = heard_calls setup n base x call f (record f { reports = [] }) [] m may later there (λ k on at. no_steps setup n (record f { reports = [] }) k at) in
@@ -73,7 +75,8 @@ module _ (setup : Setup) (Good : Network → Type 0) (law : IsLawful setup Good)
         good = law.on m steps good r.are r.keep;
       }
 
-  not_here : (x : Node) (k : Flow) (m : Network) → Good m → IsAt n m x.endpoint → x.endpoint.spent ≡ false → comes_in x k ≡ true → same_flow k g ≡ false
+module _ (setup : Setup) (Good : Network → Type 0) (law : IsLawful setup Good) (n : ℕ) (base : Network) (g : Flow) (other : (n == g.to.0) ≡ false) where
+  pub not_here : (x : Node) (k : Flow) (m : Network) → Good m → IsAt n m x.endpoint → x.endpoint.spent ≡ false → comes_in x k ≡ true → same_flow k g ≡ false
   not_here x k m good there unspent comes =
       let me = law.named m n x.endpoint good there unspent in
       let to : (k.to.0 == x.endpoint.state.host.me) ≡ true = first_of_both (k.to.0 == x.endpoint.state.host.me) (k.from.0 == x.endpoint.state.host.me) comes in
@@ -102,12 +105,12 @@ module _ (setup : Setup) (Good : Network → Type 0) (law : IsLawful setup Good)
   elsewhere x y steps (changes {x = z} {y = u} {steps = ss} h quiet more) m later there good unspent =
       none_then g ss ss z.halves h u.halves quiet.told refl quiet.happenings (unsure_requests g quiet.told quiet.unsure) (elsewhere (record z { halves = h }) u ss more m later there good unspent)
   elsewhere x y steps (calls {x = z} {y = u} {steps = ss} call f may nothing taken more) m later there good unspent =
-      let b = behind m z call f may later there good in
+      let b = behind setup Good law n base m z call f may later there good in
       let quiet = all_heard_quiet f.reports z.halves in
       none_then g ss (Calls n call f ∷ (pulls setup n f f.reports ++ ss)) z.halves (fold hear z.halves f.reports) u.halves quiet.told (ap (λ (is : List Item). is ++ all_read g (pulls setup n f f.reports ++ ss)) (nothing g) ∙ behind_read setup n g f f.reports ss) quiet.happenings (unsure_requests g quiet.told quiet.unsure)
       (elsewhere (hears (record z { endpoint = f })) u ss more b.net b.later b.there b.good may.unspent)
   elsewhere x y steps (reads {x = z} {y = u} {steps = ss} now k p o os f comes some may more) m later there good unspent =
-      let b = behind m z (CallRead now k most_read p.octets (answer.Read (length p.octets) p.run p.begin p.end)) f may later there good in
+      let b = behind setup Good law n base m z (CallRead now k most_read p.octets (answer.Read (length p.octets) p.run p.begin p.end)) f may later there good in
       let apart = not_here z k m good there unspent comes in
       let heard = fold hear z.halves f.reports in
       let quiet = all_heard_quiet f.reports z.halves in
@@ -116,10 +119,3 @@ module _ (setup : Setup) (Good : Network → Type 0) (law : IsLawful setup Good)
       let same : read_if (same_flow k g) (items_read (answer.Read (length p.octets) p.run p.begin p.end) p.octets) ++ all_read g (pulls setup n f f.reports ++ ss) ≡ all_read g ss =
       ap (λ (t : Bool). read_if t (items_read (answer.Read (length p.octets) p.run p.begin p.end) p.octets) ++ all_read g (pulls setup n f f.reports ++ ss)) apart ∙ behind_read setup n g f f.reports ss in
       none_then g ss _ z.halves heard u.halves quiet.told same quiet.happenings (unsure_requests g quiet.told quiet.unsure) (none_then g ss ss heard (take_piece k p heard) u.halves piece.0 refl piece.1 piece.2 rest)
-
-  -- moves behind a call
-  pub calls_elsewhere : (m : Network) (x : Node) (call : Call) (f : EndpointValue) (z y : Node) (steps : List Step) → MayCall setup n base call x.endpoint f → Moves setup n base (record z { endpoint = record f { reports = [] } }) steps y → IsLater base m → IsAt n m x.endpoint → Good m
-      → IsElsewhere g steps z.halves y.halves
-  calls_elsewhere m x call f z y steps may moves later there good =
-      let b = behind m x call f may later there good in
-      elsewhere (record z { endpoint = record f { reports = [] } }) y steps moves b.net b.later b.there b.good may.unspent

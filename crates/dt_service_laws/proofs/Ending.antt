@@ -29,16 +29,16 @@ use Rattle.dt_service_model.specs.Whole.{take_piece}
 use Rattle.dt_service_laws.proofs.Moves.{IsLater, MayCall, Moves, calls, changes, reads, rests}
 use Rattle.dt_service_laws.proofs.Quiet.{done_quiet, judge_quiet, sweep_quiet}
 
-not_true : (b : Bool) → not b ≡ true → b ≡ false
+pub not_true : (b : Bool) → not b ≡ true → b ≡ false
 not_true true h = absurd cc
 not_true false h = refl
 
-none_refused : (s t : Bool) → s ≡ false → t ≡ false → first_refusal {F = Answer} ((s, answer.Spent) ∷ (t, answer.BadFlow) ∷ (most_read == 0, answer.NoRoom) ∷ []) ≡ None
+pub none_refused : (s t : Bool) → s ≡ false → t ≡ false → first_refusal {F = Answer} ((s, answer.Spent) ∷ (t, answer.BadFlow) ∷ (most_read == 0, answer.NoRoom) ∷ []) ≡ None
 none_refused true t h k = absurd cc
 none_refused false true h k = absurd cc
 none_refused false false h k = refl
 
-none_read : (b : Bool) → items_if b [] ≡ []
+pub none_read : (b : Bool) → items_if b [] ≡ []
 none_read true = refl
 none_read false = refl
 
@@ -69,7 +69,7 @@ module _ (setup : Setup) (n : ℕ) (base : Network) where
 
   module _ (now : ℕ) (time : KeepsTime setup base n now) where
     module _ (f : Flow) (flow : IsFlow f) where
-      may_read_with : (x : Node) (items : List Item) (a : Answer) (buf : List ℕ) → x.endpoint.spent ≡ false → comes_in x f ≡ true → read_answer now f most_read x.endpoint ≡ items
+      pub may_read_with : (x : Node) (items : List Item) (a : Answer) (buf : List ℕ) → x.endpoint.spent ≡ false → comes_in x f ≡ true → read_answer now f most_read x.endpoint ≡ items
           → ReadDoes a now items (Read f most_read) buf x.endpoint (after_event now (Read f most_read) x.endpoint)
           → MayCall setup n base (CallRead now f most_read buf a) x.endpoint (after_event now (Read f most_read) x.endpoint)
       may_read_with x items a buf unspent comes is does = record {
@@ -111,11 +111,11 @@ module _ (setup : Setup) (n : ℕ) (base : Network) where
       by_test again more x unspent true is = by_items again more x unspent (and_parts (comes_in x f) (may_read f x.halves) is).0 (read_answer now f most_read x.endpoint) refl
       by_test again more x unspent false is = goes_nowhere x unspent
 
-      times : (most : ℕ) (x : Node) → x.endpoint.spent ≡ false → Goes x (read_times most now f x)
+      pub times : (most : ℕ) (x : Node) → x.endpoint.spent ≡ false → Goes x (read_times most now f x)
       times zero x unspent = goes_nowhere x unspent
       times (suc most) x unspent = by_test (read_times most now f) (λ y on. times most y on) x unspent (comes_in x f && may_read f x.halves) refl
 
-    flows : (fs : List Flow) → All IsFlow fs → (x : Node) → x.endpoint.spent ≡ false → Goes x (fold (read_flow now) x fs)
+    pub flows : (fs : List Flow) → All IsFlow fs → (x : Node) → x.endpoint.spent ≡ false → Goes x (fold (read_flow now) x fs)
     flows [] all x unspent = goes_nowhere x unspent
     flows (f ∷ fs) all x unspent =
         let first = times f (All-head IsFlow f fs all) most_reads x unspent in

@@ -1,13 +1,13 @@
 -- What the end of a turn keeps of its node: its kinds, its life, its numbers and its calls; and a token that is open then was, or came at a service.
 use Rattle.std.proofs.Common.{ℕ, zero, suc, ◌≡◌, ◌⊎◌, Bool, true, false, List, [], ◌∷◌, ◌++◌, Option, Some, None, refl, sym, subst, ◌∙◌, inl, inr}
-use Rattle.std.specs.Prelude.{All, Contains, cond, fold, ◌&&◌}
+use Rattle.std.specs.Prelude.{All, Contains, cond}
 use Rattle.std.specs.List.{position}
 use Rattle.std.proofs.lemmas.List.Elements.{All-cons, All-contains_itself, All-head, All-nil, All-tail, Contains-push_cases}
 use Rattle.dt_units.specs.declared.endpoints.Flow.{Flow}
 use Rattle.dt_world_model.specs.Station.{Event, Read}
 use Rattle.dt_calls_model.specs.Messages.{Piece, carried_in, has_number, number_in, reversed}
 use Rattle.dt_messages.specs.Joining.{whole_within}
-use Rattle.dt_endpoint.specs.Endpoints.{after_event, moment_of}
+use Rattle.dt_endpoint.specs.Endpoints.{after_event}
 use Rattle.dt_service_model.specs.declared.calls.Call.{Call}
 use Rattle.dt_service_model.specs.declared.happenings.Happening.TheVariants.{Request}
 use Rattle.dt_service_model.specs.declared.names.CallNumber.{CallNumber}
@@ -16,11 +16,12 @@ use Rattle.dt_service_model.specs.declared.ports.Kind.{Kind}
 use Rattle.dt_service_model.specs.declared.ports.Kind.TheVariants.{Caller, Service}
 use Rattle.dt_service_model.specs.declared.ports.Port.{Port}
 use Rattle.dt_service_model.specs.Ends.{judge}
-use Rattle.dt_service_model.specs.Halves.{Halves, counted_up, kind_in, may_read, most_octets}
+use Rattle.dt_service_model.specs.Halves.{Halves, counted_up, kind_in, most_octets}
 use Rattle.dt_service_model.specs.Names.{call_number, token_with}
-use Rattle.dt_service_model.specs.Turns.{Node, comes_in, done_with, happens, most_read, most_reads, piece_at, read_flow, read_times, reads, sweep, take_read, turn, turn_end, with_halves}
+use Rattle.dt_service_model.specs.Turns.{Node, done_with, happens, most_read, sweep, turn, turn_end}
 use Rattle.dt_service_model.specs.Whole.{answered_at, begun_of, grown, is_open, is_waiting_call, take_as, take_piece, take_reply_at, take_whole, without_token}
 use Rattle.dt_service_laws.proofs.Moves.{AreKeptFrom, IsKeptFrom, IsQuiet}
+use Rattle.dt_service_model.proofs.Walking.{IsKept, end_kept}
 use Rattle.dt_service_laws.proofs.Quiet.{all_heard_quiet, done_quiet, filtered_there, judge_quiet, kept_itself, kept_through, sweep_quiet}
 
 -- a token whose flow comes to a service
@@ -29,26 +30,29 @@ IsOfService ports t = kind_in t.flow.to_port ports ≡ Some Service
 
 pub record Keeps (h k : Halves) : Type 0 where
   pub ports : k.ports ≡ h.ports
+  pub closes : h.closed ≡ true → k.closed ≡ true
   pub life : k.life ≡ h.life
   pub count : k.count ≡ h.count
   pub tokens : (t : Token) → Contains k.tokens t → Contains h.tokens t ⊎ IsOfService h.ports t
   pub waits : AreKeptFrom h.calls k.calls
 
 pub keeps_quietly : (h k : Halves) → IsQuiet h k → Keeps h k
-keeps_quietly h k q = record { ports = q.ports; life = q.life; count = q.count; tokens = λ t there. inl (q.tokens t there); waits = q.waits }
+keeps_quietly h k q = record { ports = q.ports; closes = q.closes; life = q.life; count = q.count; tokens = λ t there. inl (q.tokens t there); waits = q.waits }
 
 pub keeps_then : (h k l : Halves) → Keeps h k → Keeps k l → Keeps h l
 keeps_then h k l p q = record {
   ports = q.ports ∙ p.ports;
+  closes = λ c. q.closes (p.closes c);
   life = q.life ∙ p.life;
   count = q.count ∙ p.count;
   tokens = λ t there. elim (q.tokens t there) [ inl was ↦ p.tokens t was | inr of ↦ inr (subst (λ (ports : List Port). IsOfService ports t) p.ports of) ];
   waits = kept_through h.calls k.calls l.calls p.waits q.waits;
 }
 
-pub keeps_same : (h k : Halves) → k.ports ≡ h.ports → k.life ≡ h.life → k.count ≡ h.count → k.tokens ≡ h.tokens → k.calls ≡ h.calls → Keeps h k
-keeps_same h k ports life count tokens calls = record {
+pub keeps_same : (h k : Halves) → k.ports ≡ h.ports → k.closed ≡ h.closed → k.life ≡ h.life → k.count ≡ h.count → k.tokens ≡ h.tokens → k.calls ≡ h.calls → Keeps h k
+keeps_same h k ports closed life count tokens calls = record {
   ports = ports;
+  closes = λ c. closed ∙ c;
   life = life;
   count = count;
   tokens = λ t there. inl (subst (λ (ts : List Token). Contains ts t) tokens there);
@@ -68,14 +72,15 @@ all_answered base (suc place) (call ∷ calls) all =
     All-cons (λ (c : Call). c.waits ≡ true → IsKeptFrom base c) call (answered_at place calls) (λ waits. record { was = call; there = All-head (Contains base) call calls all; waits = waits; number = refl; flow = refl }) (all_answered base place calls (All-tail (Contains base) call calls all))
 
 reply_keeps : (o : Option ℕ) (n : CallNumber) (answer : List ℕ) (h : Halves) → Keeps h (take_reply_at o n answer h)
-reply_keeps None n answer h = keeps_same h _ refl refl refl refl refl
-reply_keeps (Some place) n answer h = record { ports = refl; life = refl; count = refl; tokens = λ t there. inl there; waits = all_answered h.calls place h.calls (All-contains_itself h.calls) }
+reply_keeps None n answer h = keeps_same h _ refl refl refl refl refl refl
+reply_keeps (Some place) n answer h = record { ports = refl; closes = λ c. c; life = refl; count = refl; tokens = λ t there. inl there; waits = all_answered h.calls place h.calls (All-contains_itself h.calls) }
 
 request_keeps : (f : Flow) (n : CallNumber) (payload : List ℕ) (h : Halves) → kind_in f.to_port h.ports ≡ Some Service → (b : Bool) → let token = token_with f n in
     Keeps h (cond b (record h { tokens = without_token token h.tokens; counts = record (h.counts) { reused = counted_up h.counts.reused } }) (record h { tokens = h.tokens ++ token ∷ []; happenings = h.happenings ++ Request token payload ∷ [] }))
-request_keeps f n payload h service true = record { ports = refl; life = refl; count = refl; tokens = λ t there. inl (filtered_there _ h.tokens t there); waits = kept_itself h.calls }
+request_keeps f n payload h service true = record { ports = refl; closes = λ c. c; life = refl; count = refl; tokens = λ t there. inl (filtered_there _ h.tokens t there); waits = kept_itself h.calls }
 request_keeps f n payload h service false = record {
   ports = refl;
+  closes = λ c. c;
   life = refl;
   count = refl;
   tokens = λ t there. elim (Contains-push_cases h.tokens (token_with f n) t there) [ inl was ↦ inl was | inr new ↦ inr (subst (IsOfService h.ports) new service) ];
@@ -83,50 +88,39 @@ request_keeps f n payload h service false = record {
 }
 
 as_keeps : (f : Flow) (n : CallNumber) (carried : List ℕ) (h : Halves) (kind : Option Kind) → kind_in f.to_port h.ports ≡ kind → Keeps h (take_as kind f n carried h)
-as_keeps f n carried h None is = keeps_same h h refl refl refl refl refl
+as_keeps f n carried h None is = keeps_same h h refl refl refl refl refl refl
 as_keeps f n carried h (Some Caller) is = reply_keeps (position (is_waiting_call (reversed f) n) h.calls) n carried h
 as_keeps f n carried h (Some Service) is = request_keeps f n carried h is (is_open (token_with f n) h)
 
 message_keeps : (b : Bool) (f : Flow) (n : CallNumber) (carried : List ℕ) (h : Halves) → Keeps h (cond b (take_as (kind_in f.to_port h.ports) f n carried h) (record h { counts = record (h.counts) { short = counted_up h.counts.short } }))
 message_keeps true f n carried h = as_keeps f n carried h (kind_in f.to_port h.ports) refl
-message_keeps false f n carried h = keeps_same h _ refl refl refl refl refl
+message_keeps false f n carried h = keeps_same h _ refl refl refl refl refl refl
 
 whole_keeps : (f : Flow) (o : Option (List ℕ)) (h : Halves) → Keeps h (take_whole f o h)
-whole_keeps f None h = keeps_same h h refl refl refl refl refl
+whole_keeps f None h = keeps_same h h refl refl refl refl refl refl
 whole_keeps f (Some m) h = message_keeps (has_number m) f (call_number (number_in m)) (carried_in m) h
 
 pub piece_keeps : (f : Flow) (p : Piece) (h : Halves) → Keeps h (take_piece f p h)
 piece_keeps f p h =
     let g = grown f (begun_of f h) p h in
-    keeps_then h g (take_piece f p h) (keeps_same h g refl refl refl refl refl) (whole_keeps f (whole_within (Some most_octets) (begun_of f h) p) g)
+    keeps_then h g (take_piece f p h) (keeps_same h g refl refl refl refl refl refl) (whole_keeps f (whole_within (Some most_octets) (begun_of f h) p) g)
 
 -- AN EVENT, and the end of a turn
 pub happens_keeps : (now : ℕ) (event : Event (Unit {0})) (x : Node) → Keeps x.halves (happens now event x).halves
 happens_keeps now event x = keeps_quietly x.halves _ (all_heard_quiet (after_event now event x.endpoint).reports x.halves)
 
-read_keeps : (again : Node → Node) (f : Flow) (o : Option Piece) (x : Node) → ((y : Node) → Keeps y.halves (again y).halves) → Keeps x.halves (take_read again f o x).halves
-read_keeps again f None x keeps = keeps_quietly x.halves (done_with f x.halves) (done_quiet f x.halves)
-read_keeps again f (Some p) x keeps = keeps_then x.halves (take_piece f p x.halves) _ (piece_keeps f p x.halves) (keeps (with_halves (take_piece f p) x))
-
-node_if : (b : Bool) (one x : Node) → Keeps x.halves one.halves → Keeps x.halves (cond b one x).halves
-node_if true one x keeps = keeps
-node_if false one x keeps = keeps_same x.halves x.halves refl refl refl refl refl
-
-times_keep : (most now : ℕ) (f : Flow) (x : Node) → Keeps x.halves (read_times most now f x).halves
-times_keep zero now f x = keeps_same x.halves x.halves refl refl refl refl refl
-times_keep (suc most) now f x =
-    node_if (comes_in x f && may_read f x.halves) (take_read (read_times most now f) f (piece_at now f x.endpoint) (happens now (Read f most_read) x)) x
-    (keeps_then x.halves (happens now (Read f most_read) x).halves _ (happens_keeps now (Read f most_read) x) (read_keeps (read_times most now f) f (piece_at now f x.endpoint) (happens now (Read f most_read) x) (λ y. times_keep most now f y)))
-
-flows_keep : (now : ℕ) (flows : List Flow) (x : Node) → Keeps x.halves (fold (read_flow now) x flows).halves
-flows_keep now [] x = keeps_same x.halves x.halves refl refl refl refl refl
-flows_keep now (f ∷ flows) x = keeps_then x.halves (read_flow now x f).halves _ (times_keep most_reads now f x) (flows_keep now flows (read_flow now x f))
+pub keeping : (now : ℕ) → IsKept now (λ (x y : Node). Keeps x.halves y.halves)
+keeping now = record {
+  itself = λ x. keeps_same x.halves x.halves refl refl refl refl refl refl;
+  through = λ x y z. keeps_then x.halves y.halves z.halves;
+  hears = λ f x. happens_keeps now (Read f most_read) x;
+  done = λ f x. keeps_quietly x.halves (done_with f x.halves) (done_quiet f x.halves);
+  takes = λ f p x. piece_keeps f p x.halves;
+  swept = λ x. keeps_quietly x.halves (sweep x.endpoint.state.host x.halves) (sweep_quiet x.endpoint.state.host x.halves);
+}
 
 pub end_keeps : (now : ℕ) (x : Node) → Keeps x.halves (turn_end now x).halves
-end_keeps now x =
-    let y = reads now x in
-    let swept = sweep y.endpoint.state.host y.halves in
-    keeps_then x.halves y.halves _ (flows_keep now x.halves.unread x) (keeps_then y.halves swept (judge (moment_of now y.endpoint) swept) (keeps_quietly y.halves swept (sweep_quiet y.endpoint.state.host y.halves)) (keeps_quietly swept _ (judge_quiet (moment_of now y.endpoint) swept)))
+end_keeps now x = end_kept now (λ (u v : Node). Keeps u.halves v.halves) (keeping now) (λ moment u. keeps_quietly u.halves (judge moment u.halves) (judge_quiet moment u.halves)) x
 
 pub turn_keeps : (now : ℕ) (event : Event (Unit {0})) (x : Node) → Keeps x.halves (turn now event x).halves
 turn_keeps now event x = keeps_then x.halves (happens now event x).halves _ (happens_keeps now event x) (end_keeps now (happens now event x))

@@ -1,18 +1,25 @@
 -- Networks that a setup's own comes to by steps: beside each goes a world, as the laws of networks say.
-use Rattle.std.proofs.Common.{ℕ, ◌≡◌, ◌==◌, false, List, [], ◌∷◌, ◌++◌, map, Some, None, refl, ap, sym, subst, ◌∙◌, inl, inr}
+use Rattle.std.proofs.Common.{ℕ, ◌≡◌, ◌⊎◌, ◌==◌, true, false, List, [], ◌∷◌, ◌++◌, map, Some, None, refl, ap, sym, subst, ◌∙◌, inl, inr}
+use Rattle.std.specs.Prelude.{All, Contains}
 use Rattle.std.proofs.lemmas.Bool.{cases_Bool}
+use Rattle.std.proofs.lemmas.List.Elements.{All-contains, All-nil}
+use Rattle.dt_units.specs.Flows.{IsFlow}
 use Rattle.dt_world_model.proofs.Tables.{all_look, nat_is, nat_self}
 use Rattle.dt_world_model.specs.Setup.{Setup, new_world}
 use Rattle.dt_world_model.specs.Station.{Station}
 use Rattle.dt_world_model.specs.Tables.{look}
 use Rattle.dt_world_model.specs.World.{Placed, World, view}
-use Rattle.dt_world_model.specs.WorldFacts.{IsPlaced}
+use Rattle.dt_world_model.specs.WorldFacts.{IsCopy, IsPlaced}
+use Rattle.dt_endpoint.specs.Acts.{OutFrameValue}
 use Rattle.dt_endpoint.specs.Endpoints.{EndpointValue}
-use Rattle.dt_network.specs.Beside.{GoesBeside, IsBeside}
+use Rattle.dt_network.specs.Beside.{GoesBeside, IsBeside, IsUnderWay}
 use Rattle.dt_network.specs.Duties.{KeepsDuties}
-use Rattle.dt_network.specs.Network.{Network, new_network, opened_at}
+use Rattle.dt_network.specs.Network.{Flight, Network, new_network, opened_at}
 use Rattle.dt_network.specs.Steps.{AreSteps, Step, network_after, network_by}
+use Rattle.dt_service_model.specs.declared.ports.Most.{Most}
+use Rattle.dt_service_laws.specs.Services.{new_services, node_with}
 use Rattle.dt_service_laws.proofs.Elsewhere.{IsLawful}
+use Rattle.dt_service_laws.proofs.Flows.{IsParcel, IsReading, TellsFlow}
 use Rattle.dt_service_laws.proofs.Runs.{IsAt, by_append, duties_append, steps_append}
 
 -- a network that a setup's own comes to
@@ -31,19 +38,38 @@ beside_named setup net w beside n e there unspent =
     let s = beside.endpoints n e there in
     ap (λ (st : Station (Unit {0})). st.host.me) (s.state unspent) ∙ (all_look ℕ Placed ◌==◌ nat_self nat_is (IsPlaced w.params w.now (view w)) n s.at w.stations s.there beside.facts.stations).me
 
+-- each frame that left is a copy of a packet of the world
+beside_packet : (setup : Setup) (net : Network) (w : World) → IsBeside setup net w → (g : Flight) → Contains net.left g → IsParcel g.frame.octets
+beside_packet setup net w beside g there =
+    let under = All-contains (IsUnderWay w.copies) net.left g beside.left there in
+    let copy = All-contains (IsCopy w.params w.now (view w)) w.copies under.copy beside.facts.copies under.there in
+    let octets : under.copy.parcel.octets ≡ g.frame.octets = ap (λ (o : OutFrameValue). o.octets) under.frame in
+    subst IsParcel octets (record { gram = copy.packet.gram; carries = copy.packet.carries })
+
 pub new_there : (setup : Setup) → IsReached setup (new_network setup)
 new_there setup = record { steps = []; are = tt; keep = tt; is = refl }
 
-pub new_unspent : (setup : Setup) (k : ℕ) (e : EndpointValue) → IsAt k (new_network setup) e → e.spent ≡ false
-new_unspent setup k e there = first setup.stations there
+-- what holds of each endpoint as it opens
+new_at : (P : EndpointValue → Type 0) (setup : Setup) → ((n : ℕ) → P (opened_at setup n None)) → (k : ℕ) (e : EndpointValue) → IsAt k (new_network setup) e → P e
+new_at P setup opens k e there = first setup.stations there
   where
-    first : (stations : List (ℕ × ℕ)) → look ◌==◌ k (map (λ (s : ℕ × ℕ). let x : ℕ × EndpointValue = (s.0, opened_at setup s.0 None) in x) stations) ≡ Some e → e.spent ≡ false
+    first : (stations : List (ℕ × ℕ)) → look ◌==◌ k (map (λ (s : ℕ × ℕ). let x : ℕ × EndpointValue = (s.0, opened_at setup s.0 None) in x) stations) ≡ Some e → P e
     first [] h = absurd cc
     first (s ∷ stations) h =
         elim (cases_Bool (s.0 == k)) [
-          | inl y ↦ (let one : Some (opened_at setup s.0 None) ≡ Some e = rw y at h in let same : opened_at setup s.0 None ≡ e = cc in subst (λ (x : EndpointValue). x.spent ≡ false) same refl)
+          | inl y ↦ (let one : Some (opened_at setup s.0 None) ≡ Some e = rw y at h in let same : opened_at setup s.0 None ≡ e = cc in subst P same (opens s.0))
           | inr o ↦ (let more : look ◌==◌ k (map (λ (s : ℕ × ℕ). let x : ℕ × EndpointValue = (s.0, opened_at setup s.0 None) in x) stations) ≡ Some e = rw o at h in first stations more)
         ]
+
+-- each node that opened for the first time goes on
+new_unspent : (setup : Setup) (k : ℕ) (e : EndpointValue) → IsAt k (new_network setup) e → e.spent ≡ false
+new_unspent setup = new_at (λ (x : EndpointValue). x.spent ≡ false) setup (λ n. refl)
+
+pub new_on : (setup : Setup) (most : ℕ → Most) (life : ℕ → ℕ) (k : ℕ) (e : EndpointValue) → IsAt k (new_services setup most life).network e → (e.spent ≡ false) ⊎ (((new_services setup most life).halves k).closed ≡ true)
+new_on setup most life k e there = inl (new_unspent setup k e there)
+
+pub new_reading : (setup : Setup) (most : ℕ → Most) (life : ℕ → ℕ) (k : ℕ) (e : EndpointValue) → IsAt k (new_network setup) e → IsReading (node_with k (new_services setup most life) e)
+new_reading setup most life k e there = record { unread = All-nil IsFlow; waiting = new_at (λ (x : EndpointValue). All TellsFlow x.reports) setup (λ n. All-nil TellsFlow) k e there }
 
 module _ (setup : Setup) (world : (steps : List Step) → AreSteps setup steps (new_network setup) → KeepsDuties setup steps (new_network setup) → GoesBeside setup steps (new_network setup) (new_world setup)) where
   pub lawful : IsLawful setup (IsReached setup)
@@ -57,4 +83,7 @@ module _ (setup : Setup) (world : (steps : List Step) → AreSteps setup steps (
     named = λ m n e h there unspent.
         let b = last_beside setup h.steps (new_network setup) (new_world setup) (world h.steps h.are h.keep) in
         beside_named setup (network_by h.steps (new_network setup)) b.0 b.1 n e (subst (λ (net : Network). IsAt n net e) (sym h.is) there) unspent;
+    packets = λ m g h there.
+        let b = last_beside setup h.steps (new_network setup) (new_world setup) (world h.steps h.are h.keep) in
+        beside_packet setup (network_by h.steps (new_network setup)) b.0 b.1 g (subst (λ (net : Network). Contains net.left g) (sym h.is) there);
   }

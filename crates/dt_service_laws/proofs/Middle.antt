@@ -8,12 +8,10 @@ use Rattle.dt_reports.specs.declared.faults.Refusal.TheVariants as refusal
 use Rattle.dt_units.specs.declared.endpoints.Flow.{Flow}
 use Rattle.dt_world_model.proofs.Tables.{flow_is, flow_self}
 use Rattle.dt_world_model.specs.Host.{one_if}
-use Rattle.dt_world_model.specs.Setup.{Setup}
-use Rattle.dt_world_model.specs.Station.{Tick}
 use Rattle.dt_world_model.specs.Tables.{same_flow}
 use Rattle.dt_world_model.specs.WorldStep.{first_refusal}
 use Rattle.dt_calls_model.specs.Messages.{message_of, reversed}
-use Rattle.dt_endpoint.specs.Calls.{arrive_event, arrive_refusal, send_answer}
+use Rattle.dt_endpoint.specs.Calls.{send_answer}
 use Rattle.dt_endpoint.specs.Endpoints.{after_event, moment_of}
 use Rattle.dt_service_model.specs.declared.answers.Made.{Made}
 use Rattle.dt_service_model.specs.declared.answers.Made.TheVariants as made
@@ -23,30 +21,28 @@ use Rattle.dt_service_model.specs.declared.happenings.Happening.{Happening}
 use Rattle.dt_service_model.specs.declared.names.CallNumber.{CallNumber}
 use Rattle.dt_service_model.specs.declared.names.Token.{Token}
 use Rattle.dt_service_model.specs.declared.ports.Kind.{Kind}
-use Rattle.dt_service_model.specs.Asked.{call, call_refusals, forget_refusals, forgotten, forgotten_unless, is_closed, is_life_in_use, made_by, made_of, message_event, new_call, next_number, replied_by, replied_of, reply_refusals, unless, with_call_unless, with_port}
+use Rattle.dt_service_model.specs.Asked.{call, call_refusals, forgotten_unless, made_by, made_of, message_event, new_call, next_number, replied_by, replied_of, reply_refusals, unless, with_call_unless, with_port}
 use Rattle.dt_service_model.specs.Ends.{next_call, next_in}
-use Rattle.dt_service_model.specs.Halves.{Halves, kind_in, new_halves}
+use Rattle.dt_service_model.specs.Halves.{Halves}
 use Rattle.dt_service_model.specs.Names.{number_of, same_number, same_token}
 use Rattle.dt_service_model.specs.Turns.{Node, happens}
 use Rattle.dt_service_model.specs.Whole.{is_open, without_token}
-use Rattle.dt_service_laws.specs.Histories.{Message, call_by, count_of, made_as, replied_as, reply_by}
-use Rattle.dt_service_laws.specs.Services.{Arrives, Closes, Deed, Forgets, GivesKind, GivesReply, MakesCall, OpensAgain, PullsFrame, Raises, TakesHappening, Ticks}
+use Rattle.dt_service_laws.specs.Histories.{Message, asked_as, count_of, made_as, replied_as}
 use Rattle.dt_service_laws.proofs.Answering.{contains_parts, number_is, number_self}
 use Rattle.dt_service_laws.proofs.Asked.{all_clear, called, first_none, mid_of, not_false, replied_mid}
 use Rattle.dt_service_laws.proofs.Keeping.{happens_keeps}
 use Rattle.dt_service_laws.proofs.Moves.{AreKeptFrom, IsKeptFrom, open_count}
-use Rattle.dt_service_laws.proofs.Quiet.{all_heard_quiet, close_quiet, fewer_open, forgotten_quiet, kept_itself}
+use Rattle.dt_service_laws.proofs.Quiet.{all_heard_quiet, fewer_open, kept_itself}
 use Rattle.dt_service_laws.proofs.Sound.{token_there}
-use Rattle.dt_service_laws.proofs.Sent.{mid_by}
 
 -- CALLS THAT WAIT did before, or are of these
 abbrev pub AreOf : (new : Flow → List Message) → List Call → List Call → Type 0
 AreOf new before calls = All (λ (call : Call). call.waits ≡ true → IsKeptFrom before call ⊎ (0 < count_of call.number (new call.flow))) calls
 
-kept_of : (new : Flow → List Message) (before calls : List Call) → AreKeptFrom before calls → AreOf new before calls
+pub kept_of : (new : Flow → List Message) (before calls : List Call) → AreKeptFrom before calls → AreOf new before calls
 kept_of new before calls kept = All-weaker (λ (c : Call). c.waits ≡ true → IsKeptFrom before c) (λ (c : Call). c.waits ≡ true → IsKeptFrom before c ⊎ (0 < count_of c.number (new c.flow))) (λ c k waits. inl (k waits)) calls kept
 
-heard_kept : (now : ℕ) (x : Node) (event : _) → AreKeptFrom x.halves.calls (happens now event x).halves.calls
+pub heard_kept : (now : ℕ) (x : Node) (event : _) → AreKeptFrom x.halves.calls (happens now event x).halves.calls
 heard_kept now x event = (happens_keeps now event x).waits
 
 made_once : (f : Flow) (number : CallNumber) (payload : List ℕ) → 0 < count_of number (cond (same_flow f f) (made_as (made.Call number) payload) [])
@@ -64,7 +60,7 @@ sent_of_call None f count deadline payload x h same kept new is =
     (All-nil (λ (c : Call). c.waits ≡ true → IsKeptFrom x.calls c ⊎ (0 < count_of c.number (new c.flow)))))
 sent_of_call (Some r) f count deadline payload x h same kept new is = kept_of new x.calls h.calls kept
 
-call_of : (now : ℕ) (f : Flow) (payload : List ℕ) (patience : ℕ) (x : Node) (o : Option Made) → first_refusal (call_refusals x f payload patience) ≡ o
+pub call_of : (now : ℕ) (f : Flow) (payload : List ℕ) (patience : ℕ) (x : Node) (o : Option Made) → first_refusal (call_refusals x f payload patience) ≡ o
     → let message = message_of (number_of (next_number x.halves)) payload in
     AreOf (λ g. cond (same_flow f g) (made_as (unless o x (made_by now f message patience x)).0 payload) []) x.halves.calls (mid_of o x.halves (called now f message patience x)).calls
 call_of now f payload patience x (Some a) is = kept_of (λ g. cond (same_flow f g) (made_as a payload) []) x.halves.calls x.halves.calls (kept_itself x.halves.calls)
@@ -75,27 +71,27 @@ call_of now f payload patience x None is =
     ap (λ (k : ℕ). let r : CallNumber = record { life = k; count = (happens now (message_event f message) x).halves.count } in r) keeps.life ∙ ap (λ (k : ℕ). let r : CallNumber = record { life = x.halves.life; count = k } in r) keeps.count in
     sent_of_call (send_answer now f message true true x.endpoint) f (length message) (moment_of now x.endpoint + patience) payload x.halves (happens now (message_event f message) x).halves same keeps.waits _ (λ g. refl)
 
-forgot_kept : (r : Option Refusal) (token : Token) (before : List Call) (h : Halves) → AreKeptFrom before h.calls → AreKeptFrom before (forgotten_unless r token h).calls
+pub forgot_kept : (r : Option Refusal) (token : Token) (before : List Call) (h : Halves) → AreKeptFrom before h.calls → AreKeptFrom before (forgotten_unless r token h).calls
 forgot_kept None token before h kept = kept
 forgot_kept (Some r) token before h kept = kept
 
-reply_of : (now : ℕ) (token : Token) (message : List ℕ) (x : Node) (o : Option Replied) → AreKeptFrom x.halves.calls (mid_of o x.halves (replied_mid now token message x)).calls
+pub reply_of : (now : ℕ) (token : Token) (message : List ℕ) (x : Node) (o : Option Replied) → AreKeptFrom x.halves.calls (mid_of o x.halves (replied_mid now token message x)).calls
 reply_of now token message x (Some a) = kept_itself x.halves.calls
 reply_of now token message x None = forgot_kept (send_answer now (reversed token.flow) message true true x.endpoint) token x.halves.calls _ (heard_kept now x (message_event (reversed token.flow) message))
 
-mid_kept : {A : Type 0} (o : Option A) (x h : Halves) → AreKeptFrom x.calls h.calls → AreKeptFrom x.calls (mid_of o x h).calls
+pub mid_kept : {A : Type 0} (o : Option A) (x h : Halves) → AreKeptFrom x.calls h.calls → AreKeptFrom x.calls (mid_of o x h).calls
 mid_kept (Some a) x h kept = kept_itself x.calls
 mid_kept None x h kept = kept
 
-cond_kept : (b : Bool) (x h : Halves) → AreKeptFrom x.calls h.calls → AreKeptFrom x.calls (cond b x h).calls
+pub cond_kept : (b : Bool) (x h : Halves) → AreKeptFrom x.calls h.calls → AreKeptFrom x.calls (cond b x h).calls
 cond_kept true x h kept = kept_itself x.calls
 cond_kept false x h kept = kept
 
-kind_kept : (port : ℕ) (o : Option Kind) (kind : Kind) (h : Halves) → AreKeptFrom h.calls (with_port port o kind h).calls
+pub kind_kept : (port : ℕ) (o : Option Kind) (kind : Kind) (h : Halves) → AreKeptFrom h.calls (with_port port o kind h).calls
 kind_kept port (Some k) kind h = kept_itself h.calls
 kind_kept port None kind h = kept_itself h.calls
 
-raise_kept : (b : Bool) (life : ℕ) (h : Halves) → AreKeptFrom h.calls (cond b h (record h { life = life; count = 0 })).calls
+pub raise_kept : (b : Bool) (life : ℕ) (h : Halves) → AreKeptFrom h.calls (cond b h (record h { life = life; count = 0 })).calls
 raise_kept true life h = kept_itself h.calls
 raise_kept false life h = kept_itself h.calls
 
@@ -110,24 +106,9 @@ closed_kept : (b : Bool) (h : Halves) → AreKeptFrom h.calls (cond {A = Option 
 closed_kept true h = next_kept h.calls h refl
 closed_kept false h = kept_itself h.calls
 
-taken_kept : (told : List Happening) (h : Halves) → AreKeptFrom h.calls (next_in told h).1.calls
+pub taken_kept : (told : List Happening) (h : Halves) → AreKeptFrom h.calls (next_in told h).1.calls
 taken_kept [] h = closed_kept h.closed h
 taken_kept (x ∷ told) h = kept_itself h.calls
-
--- WHATEVER IS DONE
-module _ (setup : Setup) (n : ℕ) where
-  pub mid_waits : (deed : Deed) (x : Node) → AreOf (λ g. call_by g deed x) x.halves.calls (mid_by setup n deed x).calls
-  mid_waits (MakesCall now f payload patience) x = call_of now f payload patience x (first_refusal (call_refusals x f payload patience)) refl
-  mid_waits (GivesReply now token payload) x = kept_of (λ g. []) x.halves.calls _ (reply_of now token (message_of (number_of token.number) payload) x (first_refusal (reply_refusals x token payload)))
-  mid_waits (Forgets now token) x = kept_of (λ g. []) x.halves.calls _ (mid_kept (first_refusal (forget_refusals x token)) x.halves (forgotten token x.halves) (kept_itself x.halves.calls))
-  mid_waits (Ticks now) x = kept_of (λ g. []) x.halves.calls _ (cond_kept (is_closed x) x.halves (happens now Tick x).halves (heard_kept now x Tick))
-  mid_waits (Arrives now link datagram waited) x = kept_of (λ g. []) x.halves.calls _ (cond_kept (is_closed x) x.halves (mid_of (arrive_refusal link datagram waited x.endpoint) x.halves (happens now (arrive_event link datagram waited) x).halves) (mid_kept (arrive_refusal link datagram waited x.endpoint) x.halves (happens now (arrive_event link datagram waited) x).halves (heard_kept now x (arrive_event link datagram waited))))
-  mid_waits (GivesKind port kind) x = kept_of (λ g. []) x.halves.calls _ (kind_kept port (kind_in port x.halves.ports) kind x.halves)
-  mid_waits (Raises life) x = kept_of (λ g. []) x.halves.calls _ (raise_kept (is_life_in_use life x.halves) life x.halves)
-  mid_waits TakesHappening x = kept_of (λ g. []) x.halves.calls _ (taken_kept x.halves.happenings x.halves)
-  mid_waits PullsFrame x = kept_of (λ g. []) x.halves.calls _ (kept_itself x.halves.calls)
-  mid_waits Closes x = kept_of (λ g. []) x.halves.calls _ (close_quiet x.halves).waits
-  mid_waits (OpensAgain again routes most life) x = All-nil (λ (c : Call). c.waits ≡ true → IsKeptFrom x.halves.calls c ⊎ (0 < count_of c.number []))
 
 -- TOKENS
 token_is : (s t : Token) → same_token s t ≡ true → s ≡ t
@@ -138,10 +119,10 @@ token_is s t h =
 abbrev pub FewerOpen : Halves → Halves → Type 0
 FewerOpen h k = (t : Token) → open_count t k.tokens ≤ open_count t h.tokens
 
-abbrev GoneBy : (Token → List Message) → Halves → Halves → Type 0
+abbrev pub GoneBy : (Token → List Message) → Halves → Halves → Type 0
 GoneBy replies h k = (t : Token) → count_of t.number (replies t) + open_count t k.tokens ≤ open_count t h.tokens
 
-heard_fewer : (now : ℕ) (x : Node) (event : _) → FewerOpen x.halves (happens now event x).halves
+pub heard_fewer : (now : ℕ) (x : Node) (event : _) → FewerOpen x.halves (happens now event x).halves
 heard_fewer now x event = (all_heard_quiet (after_event now event x.endpoint).reports x.halves).opens
 
 none_open : (t token : Token) (tokens : List Token) → same_token token t ≡ true → open_count t (without_token token tokens) ≡ 0
@@ -204,7 +185,7 @@ no_gone : (b : Bool) (n : CallNumber) (ms : List Message) → ms ≡ [] → coun
 no_gone true n ms h = ap (count_of n) h
 no_gone false n ms h = refl
 
-reply_gone : (now : ℕ) (token : Token) (payload : List ℕ) (x : Node) (o : Option Replied) → first_refusal (reply_refusals x token payload) ≡ o
+pub reply_gone : (now : ℕ) (token : Token) (payload : List ℕ) (x : Node) (o : Option Replied) → first_refusal (reply_refusals x token payload) ≡ o
     → let message = message_of (number_of token.number) payload in
     GoneBy (λ t. cond (same_flow token.flow t.flow) (replied_as (unless o x (replied_by now token message x)).0 token payload) []) x.halves (mid_of o x.halves (replied_mid now token message x))
 reply_gone now token payload x (Some a) is = λ t.
@@ -215,29 +196,29 @@ reply_gone now token payload x None is =
     let c = all_clear (reply_refusals x token payload) is in
     reply_done (send_answer now (reversed token.flow) message true true x.endpoint) token payload x.halves (happens now (message_event (reversed token.flow) message) x).halves (not_false _ c.1.1.0) (heard_fewer now x (message_event (reversed token.flow) message))
 
-none_gone : (h k : Halves) → FewerOpen h k → GoneBy (λ t. []) h k
+pub none_gone : (h k : Halves) → FewerOpen h k → GoneBy (λ t. []) h k
 none_gone h k fewer t = let l = fewer t in omega (arith, l)
 
-same_open : (h : Halves) → FewerOpen h h
+pub same_open : (h : Halves) → FewerOpen h h
 same_open h t = omega arith
 
-mid_fewer : {A : Type 0} (o : Option A) (x h : Halves) → FewerOpen x h → FewerOpen x (mid_of o x h)
+pub mid_fewer : {A : Type 0} (o : Option A) (x h : Halves) → FewerOpen x h → FewerOpen x (mid_of o x h)
 mid_fewer (Some a) x h fewer t = omega arith
 mid_fewer None x h fewer t = fewer t
 
-cond_fewer : (b : Bool) (x h : Halves) → FewerOpen x h → FewerOpen x (cond b x h)
+pub cond_fewer : (b : Bool) (x h : Halves) → FewerOpen x h → FewerOpen x (cond b x h)
 cond_fewer true x h fewer t = omega arith
 cond_fewer false x h fewer t = fewer t
 
-call_fewer : (r : Option Refusal) (f : Flow) (count deadline : ℕ) (x h : Halves) → FewerOpen x h → FewerOpen x (with_call_unless r f count deadline h)
+pub call_fewer : (r : Option Refusal) (f : Flow) (count deadline : ℕ) (x h : Halves) → FewerOpen x h → FewerOpen x (with_call_unless r f count deadline h)
 call_fewer None f count deadline x h fewer = fewer
 call_fewer (Some r) f count deadline x h fewer = fewer
 
-kind_fewer : (port : ℕ) (o : Option Kind) (kind : Kind) (h : Halves) → FewerOpen h (with_port port o kind h)
+pub kind_fewer : (port : ℕ) (o : Option Kind) (kind : Kind) (h : Halves) → FewerOpen h (with_port port o kind h)
 kind_fewer port (Some k) kind h = same_open h
 kind_fewer port None kind h = same_open h
 
-raise_fewer : (b : Bool) (life : ℕ) (h : Halves) → FewerOpen h (cond b h (record h { life = life; count = 0 }))
+pub raise_fewer : (b : Bool) (life : ℕ) (h : Halves) → FewerOpen h (cond b h (record h { life = life; count = 0 }))
 raise_fewer true life h = same_open h
 raise_fewer false life h = same_open h
 
@@ -249,23 +230,17 @@ closed_fewer : (b : Bool) (h : Halves) → FewerOpen h (cond {A = Option Happeni
 closed_fewer true h = next_fewer h.calls h
 closed_fewer false h = same_open h
 
-taken_fewer : (told : List Happening) (h : Halves) → FewerOpen h (next_in told h).1
+pub taken_fewer : (told : List Happening) (h : Halves) → FewerOpen h (next_in told h).1
 taken_fewer [] h = closed_fewer h.closed h
 taken_fewer (x ∷ told) h = same_open h
 
-module _ (setup : Setup) (n : ℕ) where
-  pub mid_opens : (deed : Deed) (x : Node) → GoneBy (λ t. reply_by t.flow deed x) x.halves (mid_by setup n deed x)
-  mid_opens (GivesReply now token payload) x = reply_gone now token payload x (first_refusal (reply_refusals x token payload)) refl
-  mid_opens (MakesCall now f payload patience) x =
-      let message = message_of (number_of (next_number x.halves)) payload in
-      none_gone x.halves (mid_by setup n (MakesCall now f payload patience) x) (mid_fewer (first_refusal (call_refusals x f payload patience)) x.halves (called now f message patience x)
-      (call_fewer (send_answer now f message true true x.endpoint) f (length message) (moment_of now x.endpoint + patience) x.halves (happens now (message_event f message) x).halves (heard_fewer now x (message_event f message))))
-  mid_opens (Forgets now token) x = none_gone x.halves (mid_by setup n (Forgets now token) x) (mid_fewer (first_refusal (forget_refusals x token)) x.halves (forgotten token x.halves) (forgotten_quiet token x.halves).opens)
-  mid_opens (Ticks now) x = none_gone x.halves (mid_by setup n (Ticks now) x) (cond_fewer (is_closed x) x.halves (happens now Tick x).halves (heard_fewer now x Tick))
-  mid_opens (Arrives now link datagram waited) x = none_gone x.halves (mid_by setup n (Arrives now link datagram waited) x) (cond_fewer (is_closed x) x.halves (mid_of (arrive_refusal link datagram waited x.endpoint) x.halves (happens now (arrive_event link datagram waited) x).halves) (mid_fewer (arrive_refusal link datagram waited x.endpoint) x.halves (happens now (arrive_event link datagram waited) x).halves (heard_fewer now x (arrive_event link datagram waited))))
-  mid_opens (GivesKind port kind) x = none_gone x.halves (mid_by setup n (GivesKind port kind) x) (kind_fewer port (kind_in port x.halves.ports) kind x.halves)
-  mid_opens (Raises life) x = none_gone x.halves (mid_by setup n (Raises life) x) (raise_fewer (is_life_in_use life x.halves) life x.halves)
-  mid_opens TakesHappening x = none_gone x.halves (mid_by setup n TakesHappening x) (taken_fewer x.halves.happenings x.halves)
-  mid_opens PullsFrame x = none_gone x.halves x.halves (same_open x.halves)
-  mid_opens Closes x = none_gone x.halves (mid_by setup n Closes x) (close_quiet x.halves).opens
-  mid_opens (OpensAgain again routes most life) x = none_gone x.halves (new_halves most life) (λ t. omega arith)
+-- what is asked and finds no memory: its call may be made, and its reply may be taken
+pub asked_of_call : (r : Option Refusal) (f : Flow) (count deadline : ℕ) (payload : List ℕ) (x h : Halves) → next_number h ≡ next_number x → AreKeptFrom x.calls h.calls → AreOf (λ g. cond (same_flow f g) (asked_as {A = Made} None (next_number x) payload) []) x.calls (with_call_unless r f count deadline h).calls
+asked_of_call None f count deadline payload x h same kept = sent_of_call None f count deadline payload x h same kept (λ g. cond (same_flow f g) (asked_as {A = Made} None (next_number x) payload) []) (λ g. refl)
+asked_of_call (Some r) f count deadline payload x h same kept = kept_of (λ g. cond (same_flow f g) (asked_as {A = Made} None (next_number x) payload) []) x.calls h.calls kept
+
+pub asked_gone : (token : Token) (payload : List ℕ) (x h : Halves) → is_open token x ≡ true → h.tokens ≡ [] → GoneBy (λ t. cond (same_flow token.flow t.flow) (asked_as {A = Replied} None token.number payload) []) x h
+asked_gone token payload x h was_open none t =
+    let l = reply_done None token payload x x was_open (same_open x) t in
+    let no = ap (open_count t) none in
+    omega (arith, l, no)

@@ -57,6 +57,7 @@ open_count t tokens = total (λ (s : Token). one_if (same_token t s)) tokens
 -- A QUIET CHANGE: nothing is opened, and nothing is told but that calls are unsure
 pub record IsQuiet (h k : Halves) : Type 0 where
   pub ports : k.ports ≡ h.ports
+  pub closes : h.closed ≡ true → k.closed ≡ true
   pub life : k.life ≡ h.life
   pub count : k.count ≡ h.count
   pub tokens : (t : Token) → Contains k.tokens t → Contains h.tokens t

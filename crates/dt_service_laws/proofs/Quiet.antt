@@ -10,6 +10,7 @@ use Rattle.dt_world_model.specs.Host.{Host}
 use Rattle.dt_world_model.specs.Tables.{same_flow}
 use Rattle.dt_service_model.specs.declared.calls.Call.{Call}
 use Rattle.dt_service_model.specs.declared.calls.Cause.{Cause}
+use Rattle.dt_service_model.specs.declared.counts.Counts.{Counts}
 use Rattle.dt_service_model.specs.declared.happenings.Happening.{Happening}
 use Rattle.dt_service_model.specs.declared.happenings.Happening.TheVariants.{Unsure}
 use Rattle.dt_service_model.specs.declared.names.Token.{Token}
@@ -35,9 +36,10 @@ kept_through xs ys zs first second =
     zs second
 
 -- nothing changes but what no law speaks of
-pub quiet_same : (h k : Halves) → k.ports ≡ h.ports → k.life ≡ h.life → k.count ≡ h.count → k.tokens ≡ h.tokens → k.begun ≡ h.begun → k.calls ≡ h.calls → k.happenings ≡ h.happenings → IsQuiet h k
-quiet_same h k ports life count tokens begun calls happenings = record {
+pub quiet_same : (h k : Halves) → k.ports ≡ h.ports → (h.closed ≡ true → k.closed ≡ true) → k.life ≡ h.life → k.count ≡ h.count → k.tokens ≡ h.tokens → k.begun ≡ h.begun → k.calls ≡ h.calls → k.happenings ≡ h.happenings → IsQuiet h k
+quiet_same h k ports closes life count tokens begun calls happenings = record {
   ports = ports;
+  closes = closes;
   life = life;
   count = count;
   tokens = λ t there. subst (λ (ts : List Token). Contains ts t) tokens there;
@@ -50,11 +52,12 @@ quiet_same h k ports life count tokens begun calls happenings = record {
 }
 
 pub quiet_itself : (h : Halves) → IsQuiet h h
-quiet_itself h = quiet_same h h refl refl refl refl refl refl refl
+quiet_itself h = quiet_same h h refl (λ c. c) refl refl refl refl refl refl
 
 pub quiet_then : (h k l : Halves) → IsQuiet h k → IsQuiet k l → IsQuiet h l
 quiet_then h k l p q = record {
   ports = q.ports ∙ p.ports;
+  closes = λ c. q.closes (p.closes c);
   life = q.life ∙ p.life;
   count = q.count ∙ p.count;
   tokens = λ t there. p.tokens t (q.tokens t there);
@@ -66,20 +69,25 @@ quiet_then h k l p q = record {
   unsure = All-append IsUnsure p.told q.told p.unsure q.unsure;
 }
 
--- calls alone change
-quiet_calls : (h : Halves) (calls : List Call) → AreKeptFrom h.calls calls → IsQuiet h (record h { calls = calls })
-quiet_calls h calls kept = record {
+-- what calls, what was begun and what was told change to
+quiet_to : (h : Halves) (calls : List Call) (begun : List (Flow × List ℕ)) (counts : Counts) (happenings told : List Happening) → AreKeptFrom h.calls calls → ((g : Flow) (b : Option (List ℕ)) → Tracks g b h.begun → Tracks g b begun) → happenings ≡ h.happenings ++ told → All IsUnsure told
+    → IsQuiet h (record h { calls = calls; begun = begun; counts = counts; happenings = happenings })
+quiet_to h calls begun counts happenings told kept tracked more unsure = record {
   ports = refl;
+  closes = λ c. c;
   life = refl;
   count = refl;
   tokens = λ t there. there;
   opens = λ t. omega arith;
-  begun = λ g b tracks. tracks;
+  begun = tracked;
   waits = kept;
-  told = [];
-  happenings = sym (append-nil h.happenings);
-  unsure = All-nil IsUnsure;
+  told = told;
+  happenings = more;
+  unsure = unsure;
 }
+
+quiet_calls : (h : Halves) (calls : List Call) → AreKeptFrom h.calls calls → IsQuiet h (record h { calls = calls })
+quiet_calls h calls kept = quiet_to h calls h.begun h.counts h.happenings [] kept (λ g b tracks. tracks) (sym (append-nil h.happenings)) (All-nil IsUnsure)
 
 -- WHAT IS HEARD
 all_fates : (base : List Call) (given_up : Bool) (f : Flow) (count : ℕ) (calls : List Call) → All (Contains base) calls → AreKeptFrom base (with_fates given_up f count calls)
@@ -93,37 +101,26 @@ all_fates base given_up f count (call ∷ calls) all =
     ]
 
 accepts_quiet : (b : Bool) (f : Flow) (h : Halves) → IsQuiet h (cond b (record h { unread = with_flow f h.unread }) h)
-accepts_quiet true f h = quiet_same h (record h { unread = with_flow f h.unread }) refl refl refl refl refl refl refl
-accepts_quiet false f h = quiet_same h h refl refl refl refl refl refl refl
+accepts_quiet true f h = quiet_same h (record h { unread = with_flow f h.unread }) refl (λ c. c) refl refl refl refl refl refl
+accepts_quiet false f h = quiet_same h h refl (λ c. c) refl refl refl refl refl refl
 
 heard_quiet : (x : Heard) (h : Halves) → IsQuiet h (hear_as x h)
 heard_quiet (Settles f count) h = quiet_calls h (with_fates false f count h.calls) (all_fates h.calls false f count h.calls (All-contains_itself h.calls))
 heard_quiet (GivesUp f count) h = quiet_calls h (with_fates true f count h.calls) (all_fates h.calls true f count h.calls (All-contains_itself h.calls))
 heard_quiet (Accepts f) h = accepts_quiet (is_some (kind_in f.to_port h.ports)) f h
-heard_quiet NoMatter h = quiet_same h h refl refl refl refl refl refl refl
+heard_quiet NoMatter h = quiet_same h h refl (λ c. c) refl refl refl refl refl refl
 
 pub all_heard_quiet : (told : List Told) (h : Halves) → IsQuiet h (fold hear h told)
-all_heard_quiet [] h = quiet_same h h refl refl refl refl refl refl refl
+all_heard_quiet [] h = quiet_same h h refl (λ c. c) refl refl refl refl refl refl
 all_heard_quiet (t ∷ told) h = quiet_then h (hear h t) (fold hear (hear h t) told) (heard_quiet (heard t) h) (all_heard_quiet told (hear h t))
 
 -- A FLOW IS READ NO MORE
 pub done_quiet : (f : Flow) (h : Halves) → IsQuiet h (done_with f h)
-done_quiet f h = quiet_same h (done_with f h) refl refl refl refl refl refl refl
+done_quiet f h = quiet_same h (done_with f h) refl (λ c. c) refl refl refl refl refl refl
 
 -- WHAT WAS BEGUN without a receiver goes
 pub sweep_quiet : (host : Host) (h : Halves) → IsQuiet h (sweep host h)
-sweep_quiet host h = record {
-  ports = refl;
-  life = refl;
-  count = refl;
-  tokens = λ t there. there;
-  opens = λ t. omega arith;
-  begun = λ g b tracks. swept_tracks (has_receiver host) g b h.begun tracks;
-  waits = kept_itself h.calls;
-  told = [];
-  happenings = sym (append-nil h.happenings);
-  unsure = All-nil IsUnsure;
-}
+sweep_quiet host h = quiet_to h h.calls (sweep host h).begun (sweep host h).counts h.happenings [] (kept_itself h.calls) (λ g b tracks. swept_tracks (has_receiver host) g b h.begun tracks) (sym (append-nil h.happenings)) (All-nil IsUnsure)
 
 -- CALLS ARE JUDGED
 unsure_all : (now : ℕ) (calls : List Call) → All IsUnsure (filter_map (unsure_of now) calls)
@@ -147,18 +144,7 @@ all_judged base now (call ∷ calls) all = by_kept (is_kept (judged_call now cal
     by_kept false rest = rest
 
 pub judge_quiet : (now : ℕ) (h : Halves) → IsQuiet h (judge now h)
-judge_quiet now h = record {
-  ports = refl;
-  life = refl;
-  count = refl;
-  tokens = λ t there. there;
-  opens = λ t. omega arith;
-  begun = λ g b tracks. tracks;
-  waits = all_judged h.calls now h.calls (All-contains_itself h.calls);
-  told = filter_map (unsure_of now) h.calls;
-  happenings = refl;
-  unsure = unsure_all now h.calls;
-}
+judge_quiet now h = quiet_to h (judge now h).calls h.begun h.counts (judge now h).happenings (filter_map (unsure_of now) h.calls) (all_judged h.calls now h.calls (All-contains_itself h.calls)) (λ g b tracks. tracks) refl (unsure_all now h.calls)
 
 -- A TOKEN IS OPEN NO MORE
 pub all_filtered : {X : Type 0} (P : X → Type 0) (keep : X → Bool) (xs : List X) → All P xs → All P (filter keep xs)
@@ -176,6 +162,7 @@ fewer_open t keep (s ∷ tokens) = let more = fewer_open t keep tokens in elim (
 quiet_tokens : (h : Halves) (keep : Token → Bool) → IsQuiet h (record h { tokens = filter keep h.tokens })
 quiet_tokens h keep = record {
   ports = refl;
+  closes = λ c. c;
   life = refl;
   count = refl;
   tokens = λ t there. filtered_there keep h.tokens t there;
@@ -194,6 +181,7 @@ forgotten_quiet token h = quiet_tokens h (λ t. not (same_token token t))
 pub close_quiet : (h : Halves) → IsQuiet h (close h)
 close_quiet h = record {
   ports = refl;
+  closes = λ c. refl;
   life = refl;
   count = refl;
   tokens = λ t there. absurd (omega (arith, there.1));

@@ -55,7 +55,7 @@ one_put n call e f frames m there appended =
     ∙ ap (λ (fs : List OutFrameValue). let r : Network = record { now = m.now; endpoints = write ◌==◌ n f m.endpoints; left = m.left ++ puts m.now (drop (length e.frames) fs) } in r) appended
     ∙ ap (λ (fs : List OutFrameValue). put_in n f fs m) (drop-append_seam e.frames frames)
 
-put_more : (n : ℕ) (e f : EndpointValue) (xs ys : List OutFrameValue) (m : Network) → put_in n f ys (put_in n e xs m) ≡ put_in n f (xs ++ ys) m
+pub put_more : (n : ℕ) (e f : EndpointValue) (xs ys : List OutFrameValue) (m : Network) → put_in n f ys (put_in n e xs m) ≡ put_in n f (xs ++ ys) m
 put_more n e f xs ys m =
     ap (λ (es : List (ℕ × EndpointValue)). let r : Network = record { now = m.now; endpoints = es; left = (m.left ++ puts m.now xs) ++ puts m.now ys } in r) (write_again n e f m.endpoints)
     ∙ ap (λ (ls : List Flight). let r : Network = record { now = m.now; endpoints = write ◌==◌ n f m.endpoints; left = ls } in r) (append_assoc m.left (puts m.now xs) (puts m.now ys) ∙ ap (λ (ls : List Flight). m.left ++ ls) (sym (map-append (λ (g : OutFrameValue). record { frame = g; put = m.now }) xs ys)))
@@ -77,7 +77,7 @@ module _ (setup : Setup) (n : ℕ) where
   pub no_steps : (e : EndpointValue) (m : Network) → IsAt n m e → Runs e e [] m
   no_steps e m there = record { are = tt; keep = tt; frames = []; appended = sym (append-nil e.frames); ends = put_nothing n e m there }
 
-  -- one call, and steps behind it
+  -- one call, and steps after it
   pub one_more : (call : Call) (e f g : EndpointValue) (steps : List Step) (m : Network) → IsAt n m e → Does setup n call e f → KeepsFrom setup m n call (Some e) → (frames : List OutFrameValue) → f.frames ≡ e.frames ++ frames
       → Runs f g steps (put_in n f frames m) → Runs e g (Calls n call f ∷ steps) m
   one_more call e f g steps m there does keeps frames appended r =

@@ -39,15 +39,14 @@ use Rattle.dt_service_model.specs.Ends.{next_call, next_in}
 use Rattle.dt_service_model.specs.Halves.{Halves, is_caller, kind_in, new_halves}
 use Rattle.dt_service_model.specs.Names.{call_number, number_of, same_number, same_token}
 use Rattle.dt_service_model.specs.Turns.{Node, happens, turn, turn_end, with_halves}
-use Rattle.dt_service_laws.specs.Histories.{Message, call_by, made_as, replied_as, reply_by, spelled}
+use Rattle.dt_service_laws.specs.Histories.{Message, asked_as, call_asked, call_by, made_as, replied_as, reply_asked, reply_by, spelled}
 use Rattle.dt_service_laws.specs.Premises.{IsLife, IsServed, KeepsDeed, KeepsKind}
-use Rattle.dt_service_laws.specs.Services.{Arrives, Closes, Deed, Forgets, GivesKind, GivesReply, MakesCall, OpensAgain, PullsFrame, Raises, TakesHappening, Ticks, node_after}
-use Rattle.dt_service_laws.proofs.Asked.{all_clear, first_none, not_false}
-use Rattle.dt_service_laws.proofs.Answering.{same_reversed}
+use Rattle.dt_service_laws.specs.Services.{Arrives, Closes, Deed, FindsNoMemory, Forgets, GivesKind, GivesReply, MakesCall, OpensAgain, PullsFrame, Raises, TakesHappening, Ticks, node_after}
+use Rattle.dt_service_laws.proofs.Asked.{all_clear, first_none, goes_on, not_false}
 use Rattle.dt_service_laws.proofs.Keeping.{IsOfService, Keeps, end_keeps, happens_keeps, keeps_quietly, turn_keeps}
 use Rattle.dt_service_laws.proofs.Quiet.{close_quiet, forgotten_quiet}
 use Rattle.dt_service_laws.proofs.Telling.{said}
-use Rattle.dt_service_laws.proofs.Sent.{back_by}
+use Rattle.dt_service_laws.proofs.Leaving.{broken_leaves}
 
 -- a token that is open is there
 pub token_there : (token : Token) (tokens : List Token) → list_any (same_token token) tokens ≡ true → (t : Token) × Contains tokens t × (token.flow ≡ t.flow) × (same_number token.number t.number ≡ true)
@@ -171,41 +170,9 @@ module _ (kinds : (node port : ℕ) → Kind) (n : ℕ) where
   sound_deed setup m x PullsFrame agrees keeps s = s
   sound_deed setup m x Closes agrees keeps s = sound_keeps x.halves _ (keeps_quietly x.halves _ (close_quiet x.halves)) s
   sound_deed setup m x (OpensAgain again routes most life) agrees keeps s = new_sound most life keeps.1
-
-  -- A REPLY goes back to a caller, and never on a caller's flow
-  both_not : (a b : Bool) → not (not a || b) ≡ true → a ≡ true
-  both_not true b h = refl
-  both_not false b h = absurd cc
-
-  reply_apart : (f : Flow) → IsServed kinds f → (x : Node) → IsSound x.halves → x.endpoint.state.host.me ≡ n → (now : ℕ) (token : Token) (payload : List ℕ) → same_flow (reversed token.flow) f ≡ true
-      → (o : Option Replied) → first_refusal (reply_refusals x token payload) ≡ o → replied_as (unless o x (replied_by now token (message_of (number_of token.number) payload) x)).0 token payload ≡ []
-  reply_apart f served x s me now token payload same (Some a) refused = first_none (λ (r : Replied). replied_as r token payload) (reply_refusals x token payload) a (refl, (refl, (refl, (refl, (refl, tt))))) refused
-  reply_apart f served x s me now token payload same None clear =
-      let c = all_clear (reply_refusals x token payload) clear in
-      let open_at = token_there token x.halves.tokens (not_false _ c.1.1.0) in
-      let service : Service ≡ kinds n open_at.0.flow.to_port = s.ports open_at.0.flow.to_port Service (s.tokens open_at.0 open_at.1) in
-      let flow : reversed token.flow ≡ f = flow_is (reversed token.flow) f same in
-      let from : token.flow.to.0 ≡ n = nat_is _ _ (both_not (token.flow.to.0 == x.endpoint.state.host.me) (token.flow.from.0 == x.endpoint.state.host.me) (not_false _ c.1.1.1.0)) ∙ me in
-      let here : kinds n token.flow.to_port ≡ Caller = subst (λ (k : ℕ). kinds k token.flow.to_port ≡ Caller) from (subst (λ (g : Flow). kinds g.from.0 g.from_port ≡ Caller) (sym flow) served.caller) in
-      let no : Service ≡ Caller = service ∙ ap (λ (g : Flow). kinds n g.to_port) (sym open_at.2) ∙ here in
-      absurd cc
-
-  reply_none : (f : Flow) → IsServed kinds f → (x : Node) → IsSound x.halves → x.endpoint.state.host.me ≡ n → (now : ℕ) (token : Token) (payload : List ℕ) → (b : Bool) → same_flow (reversed token.flow) f ≡ b → cond b (replied_as (reply now token payload x).0 token payload) [] ≡ []
-  reply_none f served x s me now token payload true is = reply_apart f served x s me now token payload is (first_refusal (reply_refusals x token payload)) refl
-  reply_none f served x s me now token payload false is = refl
-
-  pub back_none : (f : Flow) → IsServed kinds f → (x : Node) → IsSound x.halves → x.endpoint.state.host.me ≡ n → (deed : Deed) → back_by f deed x ≡ []
-  back_none f served x s me (GivesReply now token payload) = reply_none f served x s me now token payload (same_flow (reversed token.flow) f) refl
-  back_none f served x s me (GivesKind port kind) = refl
-  back_none f served x s me (MakesCall now g payload patience) = refl
-  back_none f served x s me (Forgets now token) = refl
-  back_none f served x s me (Ticks now) = refl
-  back_none f served x s me (Arrives now link datagram waited) = refl
-  back_none f served x s me (Raises life) = refl
-  back_none f served x s me TakesHappening = refl
-  back_none f served x s me PullsFrame = refl
-  back_none f served x s me Closes = refl
-  back_none f served x s me (OpensAgain again routes most life) = refl
+  sound_deed setup m x (FindsNoMemory deed after) agrees keeps s =
+      let l = broken_leaves deed x after keeps.1 in
+      record { ports = λ port kind is. s.ports port kind (subst (λ (ps : List Port). kind_in port ps ≡ Some kind) l.ports is); tokens = λ t at. absurd (subst (λ (ts : List Token). Contains ts t → ⊥) (sym l.tokens) (λ there. omega (arith, there.1)) at); life = subst IsLife (sym l.life) s.life }
 
 -- A CALL goes from its node, and its port is a caller's
 is_a_caller : (o : Option Kind) → is_caller o ≡ true → o ≡ Some Caller
@@ -220,21 +187,44 @@ first_of_both false b h = absurd cc
 pub record IsCall (x : Node) (f : Flow) : Type 0 where
   pub from : f.from.0 ≡ x.endpoint.state.host.me
   pub caller : kind_in f.from_port x.halves.ports ≡ Some Caller
+  pub unspent : x.endpoint.spent ≡ false
+
+is_call : (f : Flow) (payload : List ℕ) (patience : ℕ) (x : Node) → first_refusal (call_refusals x f payload patience) ≡ None → IsCall x f
+is_call f payload patience x clear =
+    let c = all_clear (call_refusals x f payload patience) clear in
+    record {
+      from = nat_is f.from.0 x.endpoint.state.host.me (first_of_both (f.from.0 == x.endpoint.state.host.me) (f.to.0 == x.endpoint.state.host.me) (not_false _ c.1.0));
+      caller = is_a_caller (kind_in f.from_port x.halves.ports) (not_false _ c.1.1.0);
+      unspent = goes_on x.endpoint.spent x.halves.closed c.0;
+    }
 
 made_if : (o : Option Made) (now : ℕ) (f : Flow) (payload : List ℕ) (patience : ℕ) (x : Node) → first_refusal (call_refusals x f payload patience) ≡ o
     → (made_as (unless o x (made_by now f (message_of (number_of (next_number x.halves)) payload) patience x)).0 payload ≡ []) ⊎ IsCall x f
 made_if (Some a) now f payload patience x refused = inl (first_none (λ (r : Made). made_as r payload) (call_refusals x f payload patience) a (refl, (refl, (refl, (refl, (refl, (refl, (refl, (refl, tt)))))))) refused)
-made_if None now f payload patience x clear =
-    let c = all_clear (call_refusals x f payload patience) clear in
-    inr (record {
-      from = nat_is f.from.0 x.endpoint.state.host.me (first_of_both (f.from.0 == x.endpoint.state.host.me) (f.to.0 == x.endpoint.state.host.me) (not_false _ c.1.0));
-      caller = is_a_caller (kind_in f.from_port x.halves.ports) (not_false _ c.1.1.0);
-    })
+made_if None now f payload patience x clear = inr (is_call f payload patience x clear)
+
+asked_if : (o : Option Made) (f : Flow) (payload : List ℕ) (patience : ℕ) (x : Node) → first_refusal (call_refusals x f payload patience) ≡ o → (asked_as o (next_number x.halves) payload ≡ []) ⊎ IsCall x f
+asked_if (Some a) f payload patience x is = inl refl
+asked_if None f payload patience x clear = inr (is_call f payload patience x clear)
 
 call_if : (f g : Flow) (ms : List Message) (x : Node) → (ms ≡ []) ⊎ IsCall x g → (b : Bool) → same_flow g f ≡ b → (cond b ms [] ≡ []) ⊎ IsCall x f
 call_if f g ms x h false is = inl refl
 call_if f g ms x (inl none) true is = inl none
 call_if f g ms x (inr call) true is = inr (subst (IsCall x) (flow_is g f is) call)
+
+asked_is : (f : Flow) (deed : Deed) (x : Node) → (call_asked f deed x ≡ []) ⊎ IsCall x f
+asked_is f (MakesCall now g payload patience) x = call_if f g _ x (asked_if (first_refusal (call_refusals x g payload patience)) g payload patience x refl) (same_flow g f) refl
+asked_is f (GivesKind port kind) x = inl refl
+asked_is f (GivesReply now token payload) x = inl refl
+asked_is f (Forgets now token) x = inl refl
+asked_is f (Ticks now) x = inl refl
+asked_is f (Arrives now link datagram waited) x = inl refl
+asked_is f (Raises life) x = inl refl
+asked_is f TakesHappening x = inl refl
+asked_is f PullsFrame x = inl refl
+asked_is f Closes x = inl refl
+asked_is f (OpensAgain again routes most life) x = inl refl
+asked_is f (FindsNoMemory deed after) x = asked_is f deed x
 
 pub call_is : (f : Flow) (deed : Deed) (x : Node) → (call_by f deed x ≡ []) ⊎ IsCall x f
 call_is f (MakesCall now g payload patience) x = call_if f g _ x (made_if (first_refusal (call_refusals x g payload patience)) now g payload patience x refl) (same_flow g f) refl
@@ -248,44 +238,68 @@ call_is f TakesHappening x = inl refl
 call_is f PullsFrame x = inl refl
 call_is f Closes x = inl refl
 call_is f (OpensAgain again routes most life) x = inl refl
+call_is f (FindsNoMemory deed after) x = asked_is f deed x
+
+-- no port is both
+two_kinds : (kind : Kind) → Caller ≡ kind → kind ≡ Service → ⊥
+two_kinds kind caller service = (let wrong : Caller ≡ Service = caller ∙ service in absurd cc)
 
 -- on the way back to a caller no call is made, and what goes there are the replies
-pub no_call_back : (kinds : (node port : ℕ) → Kind) (n : ℕ) (f : Flow) → IsServed kinds f → (x : Node) → IsSound kinds n x.halves → x.endpoint.state.host.me ≡ n → (deed : Deed) → call_by (reversed f) deed x ≡ []
+pub no_call_back : (kinds : (node port : ℕ) → Kind) (n : ℕ) (f : Flow) → IsServed kinds f → (x : Node) → IsSound kinds n x.halves → (x.endpoint.spent ≡ false → x.endpoint.state.host.me ≡ n) → (deed : Deed) → call_by (reversed f) deed x ≡ []
 no_call_back kinds n f served x s me deed =
     elim (call_is (reversed f) deed x) [
       | inl none ↦ none
-      | inr call ↦
-          let here : f.to.0 ≡ n = call.from ∙ me in
-          let caller : Caller ≡ kinds n f.to_port = s.ports f.to_port Caller call.caller in
-          let service : kinds n f.to_port ≡ Service = subst (λ (k : ℕ). kinds k f.to_port ≡ Service) here served.service in
-          let wrong : Caller ≡ Service = caller ∙ service in
-          absurd cc
+      | inr call ↦ absurd (two_kinds (kinds n f.to_port) (s.ports f.to_port Caller call.caller) (subst (λ (k : ℕ). kinds k f.to_port ≡ Service) (call.from ∙ me call.unspent) served.service))
     ]
 
-pub back_is : (f : Flow) (deed : Deed) (x : Node) → back_by (reversed f) deed x ≡ reply_by f deed x
-back_is f (GivesReply now token payload) x = ap (λ (b : Bool). cond b (replied_as (reply now token payload x).0 token payload) []) (same_reversed token.flow f)
-back_is f (GivesKind port kind) x = refl
-back_is f (MakesCall now g payload patience) x = refl
-back_is f (Forgets now token) x = refl
-back_is f (Ticks now) x = refl
-back_is f (Arrives now link datagram waited) x = refl
-back_is f (Raises life) x = refl
-back_is f TakesHappening x = refl
-back_is f PullsFrame x = refl
-back_is f Closes x = refl
-back_is f (OpensAgain again routes most life) x = refl
+-- A REPLY goes from its node, which isn't closed, to a token that is open there
+pub record GoesBack (f : Flow) (x : Node) : Type 0 where
+  pub from : f.to.0 ≡ x.endpoint.state.host.me
+  pub unspent : x.endpoint.spent ≡ false
+  pub token : Token
+  pub there : Contains x.halves.tokens token
+  pub flow : token.flow ≡ f
 
--- A REPLY goes from its node
-pub reply_is : (f : Flow) (deed : Deed) (x : Node) → (reply_by f deed x ≡ []) ⊎ (f.to.0 ≡ x.endpoint.state.host.me)
-reply_is f (GivesReply now token payload) x = by_flow (same_flow token.flow f) refl (first_refusal (reply_refusals x token payload)) refl
-  where
-    by_flow : (b : Bool) → same_flow token.flow f ≡ b → (o : Option Replied) → first_refusal (reply_refusals x token payload) ≡ o
-        → (cond b (replied_as (unless o x (replied_by now token (message_of (number_of token.number) payload) x)).0 token payload) [] ≡ []) ⊎ (f.to.0 ≡ x.endpoint.state.host.me)
-    by_flow false is o h = inl refl
-    by_flow true is (Some a) h = inl (first_none (λ (r : Replied). replied_as r token payload) (reply_refusals x token payload) a (refl, (refl, (refl, (refl, (refl, tt))))) h)
-    by_flow true is None h =
-        let c = all_clear (reply_refusals x token payload) h in
-        inr (ap (λ (g : Flow). g.to.0) (sym (flow_is token.flow f is)) ∙ nat_is token.flow.to.0 x.endpoint.state.host.me (first_of_both (token.flow.to.0 == x.endpoint.state.host.me) (token.flow.from.0 == x.endpoint.state.host.me) (not_false _ c.1.1.1.0)))
+is_reply : (f : Flow) (token : Token) (payload : List ℕ) (x : Node) → same_flow token.flow f ≡ true → first_refusal (reply_refusals x token payload) ≡ None → GoesBack f x
+is_reply f token payload x is h =
+    let c = all_clear (reply_refusals x token payload) h in
+    let open_at = token_there token x.halves.tokens (not_false _ c.1.1.0) in
+    let same = flow_is token.flow f is in
+    record {
+      from = ap (λ (g : Flow). g.to.0) (sym same) ∙ nat_is token.flow.to.0 x.endpoint.state.host.me (first_of_both (token.flow.to.0 == x.endpoint.state.host.me) (token.flow.from.0 == x.endpoint.state.host.me) (not_false _ c.1.1.1.0));
+      unspent = goes_on x.endpoint.spent x.halves.closed c.0;
+      token = open_at.0;
+      there = open_at.1;
+      flow = sym open_at.2 ∙ same;
+    }
+
+replied_if : (f : Flow) (now : ℕ) (token : Token) (payload : List ℕ) (x : Node) (b : Bool) → same_flow token.flow f ≡ b → (o : Option Replied) → first_refusal (reply_refusals x token payload) ≡ o
+    → (cond b (replied_as (unless o x (replied_by now token (message_of (number_of token.number) payload) x)).0 token payload) [] ≡ []) ⊎ GoesBack f x
+replied_if f now token payload x false is o h = inl refl
+replied_if f now token payload x true is (Some a) h = inl (first_none (λ (r : Replied). replied_as r token payload) (reply_refusals x token payload) a (refl, (refl, (refl, (refl, (refl, tt))))) h)
+replied_if f now token payload x true is None h = inr (is_reply f token payload x is h)
+
+asked_reply_if : (f : Flow) (token : Token) (payload : List ℕ) (x : Node) (b : Bool) → same_flow token.flow f ≡ b → (o : Option Replied) → first_refusal (reply_refusals x token payload) ≡ o → (cond b (asked_as o token.number payload) [] ≡ []) ⊎ GoesBack f x
+asked_reply_if f token payload x false is o h = inl refl
+asked_reply_if f token payload x true is (Some a) h = inl refl
+asked_reply_if f token payload x true is None h = inr (is_reply f token payload x is h)
+
+asked_reply : (f : Flow) (deed : Deed) (x : Node) → (reply_asked f deed x ≡ []) ⊎ GoesBack f x
+asked_reply f (GivesReply now token payload) x = asked_reply_if f token payload x (same_flow token.flow f) refl (first_refusal (reply_refusals x token payload)) refl
+asked_reply f (GivesKind port kind) x = inl refl
+asked_reply f (MakesCall now g payload patience) x = inl refl
+asked_reply f (Forgets now token) x = inl refl
+asked_reply f (Ticks now) x = inl refl
+asked_reply f (Arrives now link datagram waited) x = inl refl
+asked_reply f (Raises life) x = inl refl
+asked_reply f TakesHappening x = inl refl
+asked_reply f PullsFrame x = inl refl
+asked_reply f Closes x = inl refl
+asked_reply f (OpensAgain again routes most life) x = inl refl
+asked_reply f (FindsNoMemory deed after) x = asked_reply f deed x
+
+pub reply_is : (f : Flow) (deed : Deed) (x : Node) → (reply_by f deed x ≡ []) ⊎ GoesBack f x
+reply_is f (GivesReply now token payload) x = replied_if f now token payload x (same_flow token.flow f) refl (first_refusal (reply_refusals x token payload)) refl
 reply_is f (GivesKind port kind) x = inl refl
 reply_is f (MakesCall now g payload patience) x = inl refl
 reply_is f (Forgets now token) x = inl refl
@@ -296,6 +310,17 @@ reply_is f TakesHappening x = inl refl
 reply_is f PullsFrame x = inl refl
 reply_is f Closes x = inl refl
 reply_is f (OpensAgain again routes most life) x = inl refl
+reply_is f (FindsNoMemory deed after) x = asked_reply f deed x
+
+-- so it goes to a caller, and never on a caller's flow
+pub no_reply_there : (kinds : (node port : ℕ) → Kind) (n : ℕ) (f : Flow) → IsServed kinds f → (x : Node) → IsSound kinds n x.halves → (x.endpoint.spent ≡ false → x.endpoint.state.host.me ≡ n) → (deed : Deed) → reply_by (reversed f) deed x ≡ []
+no_reply_there kinds n f served x s me deed =
+    elim (reply_is (reversed f) deed x) [
+      | inl none ↦ none
+      | inr reply ↦
+          let service = s.ports reply.token.flow.to_port Service (s.tokens reply.token reply.there) ∙ ap (λ (g : Flow). kinds n g.to_port) reply.flow in
+          absurd (two_kinds (kinds n f.from_port) (sym (subst (λ (k : ℕ). kinds k f.from_port ≡ Caller) (reply.from ∙ me reply.unspent) served.caller)) (sym service))
+    ]
 
 -- WHAT IS SPELLED is said
 pub number_again : (number : CallNumber) → number.life < 2 ^ 32 → number.count < 2 ^ 32 → call_number (number_of number) ≡ number
@@ -342,6 +367,28 @@ fit_if : (b : Bool) (ms : List Message) → AreFit ms → AreFit (cond b ms [])
 fit_if true ms h = h
 fit_if false ms h = tt
 
+asked_fit : (o : Option Made) (f : Flow) (payload : List ℕ) (patience : ℕ) (x : Node) → IsLife x.halves.life → first_refusal (call_refusals x f payload patience) ≡ o → AreFit (asked_as o (next_number x.halves) payload)
+asked_fit (Some a) f payload patience x life is = tt
+asked_fit None f payload patience x life clear =
+    let c = all_clear (call_refusals x f payload patience) clear in
+    let many : nat_le (2 ^ 32) x.halves.count ≡ false = c.1.1.1.1.1.1.0 in
+    let count : x.halves.count < 2 ^ 32 = grind (arith, nat_tests, many) in
+    (life, count, tt)
+
+asked_fits : (f : Flow) (deed : Deed) (x : Node) → IsLife x.halves.life → AreFit (call_asked f deed x)
+asked_fits f (MakesCall now g payload patience) x life = fit_if (same_flow g f) _ (asked_fit (first_refusal (call_refusals x g payload patience)) g payload patience x life refl)
+asked_fits f (GivesKind port kind) x life = tt
+asked_fits f (GivesReply now token payload) x life = tt
+asked_fits f (Forgets now token) x life = tt
+asked_fits f (Ticks now) x life = tt
+asked_fits f (Arrives now link datagram waited) x life = tt
+asked_fits f (Raises l) x life = tt
+asked_fits f TakesHappening x life = tt
+asked_fits f PullsFrame x life = tt
+asked_fits f Closes x life = tt
+asked_fits f (OpensAgain again routes most l) x life = tt
+asked_fits f (FindsNoMemory deed after) x life = asked_fits f deed x life
+
 pub calls_fit : (f : Flow) (deed : Deed) (x : Node) → IsLife x.halves.life → AreFit (call_by f deed x)
 calls_fit f (MakesCall now g payload patience) x life = fit_if (same_flow g f) _ (call_fits (first_refusal (call_refusals x g payload patience)) now g payload patience x life refl)
 calls_fit f (GivesKind port kind) x life = tt
@@ -354,3 +401,4 @@ calls_fit f TakesHappening x life = tt
 calls_fit f PullsFrame x life = tt
 calls_fit f Closes x life = tt
 calls_fit f (OpensAgain again routes most l) x life = tt
+calls_fit f (FindsNoMemory deed after) x life = asked_fits f deed x life

@@ -161,7 +161,7 @@ module _ (setup : Setup) (n : ℕ) where
   pulls_read_none g e [] = refl
   pulls_read_none g e (r ∷ rs) = pulls_read_none g e rs
 
-  -- what a call reads, and the pulls behind it
+  -- what a call reads, and the pulls after it
   pub behind_read : (g : Flow) (e : EndpointValue) (rs : List Told) (steps : List Step) → all_read g (pulls setup n e rs ++ steps) ≡ all_read g steps
   behind_read g e rs steps = read_append g (pulls setup n e rs) steps ∙ ap (λ (is : List Item). is ++ all_read g steps) (pulls_read_none g e rs)
 

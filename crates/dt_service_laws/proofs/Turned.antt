@@ -4,7 +4,7 @@ use Rattle.std.specs.Prelude.{All, Contains, cond, option_map}
 use Rattle.std.proofs.Math.Seq.{drop-length, drop-nil}
 use Rattle.std.proofs.lemmas.Bool.{cases_Bool}
 use Rattle.std.proofs.lemmas.List.{map-append}
-use Rattle.std.proofs.lemmas.List.Elements.{All-contains, All-weaker, Contains-append_cases, Contains-append_left, Contains-append_right}
+use Rattle.std.proofs.lemmas.List.Elements.{All-contains, All-nil, All-weaker, Contains-append_cases, Contains-append_left, Contains-append_right}
 use Rattle.dt_items.specs.declared.item.Item.{Item}
 use Rattle.dt_items.specs.Unread.{marked}
 use Rattle.dt_units.specs.declared.endpoints.Flow.{Flow}
@@ -12,40 +12,47 @@ use Rattle.dt_world_model.proofs.Tables.{look_write_other, nat_is, nat_self}
 use Rattle.dt_world_model.specs.Setup.{Setup}
 use Rattle.dt_world_model.specs.Tables.{look, same_flow, write}
 use Rattle.dt_calls_laws.specs.Wholes.{items_of_all}
-use Rattle.dt_calls_model.specs.Messages.{reversed}
-use Rattle.dt_service_model.specs.Names.{token_with}
-use Rattle.dt_endpoint.specs.Endpoints.{EndpointValue}
+use Rattle.dt_world_model.specs.Station.{Tick}
+use Rattle.dt_world_model.specs.WorldStep.{first_refusal}
+use Rattle.dt_calls_model.specs.Messages.{message_of, reversed}
+use Rattle.dt_endpoint.specs.Calls.{arrive_event, arrive_refusal, send_answer}
+use Rattle.dt_service_model.specs.Names.{number_of, token_with}
+use Rattle.dt_endpoint.specs.Endpoints.{EndpointValue, moment_of}
 use Rattle.dt_network.specs.Duties.{KeepsDuties}
 use Rattle.dt_network.specs.Network.{Network}
-use Rattle.dt_network.specs.Octets.{all_read}
+use Rattle.dt_network.specs.Octets.{AreTaken, all_read}
 use Rattle.dt_network.specs.Steps.{AreSteps, Calls, DoesFrom, OpenAgain, Pass, PullFrame, Step, network_by}
 use Rattle.dt_network.specs.Duties.{KeepsFrom as CallKeeps}
 use Rattle.dt_service_model.specs.declared.happenings.Happening.{Happening}
 use Rattle.dt_service_model.specs.declared.names.CallNumber.{CallNumber}
+use Rattle.dt_service_model.specs.declared.names.Token.{Token}
 use Rattle.dt_service_model.specs.declared.ports.Kind.{Kind}
 use Rattle.dt_service_model.specs.declared.calls.Call.{Call}
-use Rattle.dt_service_model.specs.Asked.{is_life_in_use, raised, with_kind, with_port}
+use Rattle.dt_service_model.specs.Asked.{call_refusals, forget_refusals, forgotten, is_closed, is_life_in_use, message_event, next_number, raised, reply, reply_refusals, with_kind, with_port}
 use Rattle.dt_service_model.specs.Ends.{close, next, next_call, next_in}
 use Rattle.dt_service_model.specs.Halves.{Halves, kind_in}
-use Rattle.dt_service_model.specs.Turns.{Node}
-use Rattle.dt_service_laws.specs.Histories.{Message, answer_in, answers_at, at_node, at_the, call_by, calls_on, count_of, in_turn, in_turns, replies_on, reply_by, request_in, requests_on, told_by, spelled}
+use Rattle.dt_service_model.specs.Turns.{Node, happens}
+use Rattle.dt_service_laws.specs.Histories.{Message, answer_in, answers_at, at_node, at_the, call_by, calls_on, count_of, in_turn, in_turns, replied_as, replies_on, reply_by, request_in, requests_on, told_by, spelled}
 use Rattle.dt_service_laws.specs.Orders.{AreSomeOf, none}
-use Rattle.dt_service_laws.specs.Premises.{KeepsDeed, KeepsFrom, KeepsTurn, KeepsTurns}
-use Rattle.dt_service_laws.specs.Services.{Arrives, Closes, Deed, Does, Forgets, GivesKind, GivesReply, MakesCall, OpensAgain, Passes, PullsFrame, Raises, Services, TakesHappening, Ticks, Turn, node_after, node_does, node_with, services_after, with_node}
+use Rattle.dt_service_laws.specs.Services.{Arrives, Closes, Deed, Does, FindsNoMemory, Forgets, GivesKind, GivesReply, MakesCall, OpensAgain, Passes, PullsFrame, Raises, Services, TakesHappening, Ticks, Turn, node_after, node_does, node_with, services_after, with_node}
+use Rattle.dt_service_laws.specs.Tie.{AreSentOf, finds_memory, has_memory}
 use Rattle.dt_service_laws.specs.Wholes.{begun_after, messages_from}
-use Rattle.dt_service_laws.proofs.Answering.{IsOther, count_append}
-use Rattle.dt_service_laws.proofs.Asked.{alike, arrive_comes, call_comes, forget_comes, reply_comes, tick_comes}
-use Rattle.dt_service_laws.proofs.Deeds.{Comes, comes_by_step, comes_quietly}
+use Rattle.dt_service_laws.proofs.Answering.{IsOther, count_append, same_reversed}
+use Rattle.dt_service_laws.proofs.Asked.{alike, arrive_comes, called, call_comes, forget_comes, mid_of, replied_mid, reply_comes, tick_comes}
+use Rattle.dt_service_laws.proofs.Broken.{Came, broken_came, posted_nothing}
+use Rattle.dt_service_laws.proofs.Deeds.{IsOn, comes_by_step, comes_quietly}
 use Rattle.dt_service_laws.proofs.Elsewhere.{IsLawful}
 use Rattle.dt_service_laws.proofs.Moves.{AreKeptFrom, IsKeptFrom, Tracks, open_count}
 use Rattle.dt_service_laws.proofs.Orders.{both}
+use Rattle.dt_service_laws.proofs.Owed.{KeepsDeed, KeepsFrom, KeepsTurn, KeepsTurns}
 use Rattle.dt_service_laws.proofs.Pieces.{messages_append}
-use Rattle.dt_service_laws.proofs.Quiet.{close_quiet}
-use Rattle.dt_service_laws.proofs.Middle.{AreOf, mid_opens, mid_waits}
-use Rattle.dt_service_laws.proofs.Sent.{mid_by, sent_on}
+use Rattle.dt_service_laws.proofs.Posting.{IsPosted, posted_none, sent_posted}
+use Rattle.dt_service_laws.proofs.Quiet.{close_quiet, forgotten_quiet, kept_itself}
+use Rattle.dt_service_laws.proofs.Middle.{AreOf, FewerOpen, call_fewer, call_of, cond_fewer, cond_kept, heard_fewer, heard_kept, kept_of, kind_fewer, kind_kept, mid_fewer, mid_kept, none_gone, raise_fewer, raise_kept, reply_gone, reply_of, same_open, taken_fewer, taken_kept}
+use Rattle.dt_service_laws.proofs.Sent.{sent_on}
 use Rattle.dt_service_laws.proofs.Sound.{call_is, reply_is}
 use Rattle.dt_service_laws.proofs.Runs.{IsAt, duties_append, steps_append, written_there}
-use Rattle.dt_service_laws.proofs.Sending.{Takings, takes_append, takes_more, takes_nothing}
+use Rattle.dt_service_laws.proofs.Sending.{taken_parts, takes_more, takes_nothing}
 use Rattle.dt_service_laws.proofs.Telling.{read_append, said}
 
 -- what is beside an endpoint
@@ -76,36 +83,124 @@ taken_first : (told : List Happening) (h : Halves) → h.happenings ≡ told →
 taken_first [] h is = taken_closed h.closed h is
 taken_first (x ∷ xs) h is = record { begun = refl; none = ap (λ (ts : List Happening). drop (length ts) xs) is ∙ rest_dropped x xs }
 
+-- a node that is closed stays so
+on_still : (x : Node) (h : Halves) → IsOn x → (x.halves.closed ≡ true → h.closed ≡ true) → IsOn (record x { halves = h })
+on_still x h (inl unspent) closes = inl unspent
+on_still x h (inr closed) closes = inr (closes closed)
+
+kind_closes : (port : ℕ) (o : Option Kind) (kind : Kind) (h : Halves) → h.closed ≡ true → (with_port port o kind h).closed ≡ true
+kind_closes port None kind h closed = closed
+kind_closes port (Some k) kind h closed = closed
+
+raise_closes : (b : Bool) (life : ℕ) (h : Halves) → h.closed ≡ true → (cond b h (record h { life = life; count = 0 })).closed ≡ true
+raise_closes true life h closed = closed
+raise_closes false life h closed = closed
+
+next_closes : (calls : List Call) (h : Halves) → h.closed ≡ true → (next_call calls h).1.closed ≡ true
+next_closes [] h closed = closed
+next_closes (call ∷ calls) h closed = closed
+
+closed_closes : (b : Bool) (h : Halves) → h.closed ≡ true → (cond {A = Option Happening × Halves} b (next_call h.calls h) (None, h)).1.closed ≡ true
+closed_closes true h closed = next_closes h.calls h closed
+closed_closes false h closed = closed
+
+taken_closes : (told : List Happening) (h : Halves) → h.closed ≡ true → (next_in told h).1.closed ≡ true
+taken_closes [] h closed = closed_closes h.closed h closed
+taken_closes (x ∷ told) h closed = closed
+
 module _ (setup : Setup) (Good : Network → Type 0) (law : IsLawful setup Good) where
-  module _ (n : ℕ) (m : Network) (x : Node) (there : IsAt n m x.endpoint) (unspent : x.endpoint.spent ≡ false) (good : Good m) where
-    pub deed_comes : (deed : Deed) → KeepsDeed setup m n deed x → Comes setup n x (mid_by setup n deed x) (node_after setup n deed x) m (λ g. items_of_all (map spelled (sent_on g deed x)))
-    deed_comes (GivesKind port kind) keeps =
+  module _ (n : ℕ) (m : Network) (x : Node) (there : IsAt n m x.endpoint) (on : IsOn x) (good : Good m) where
+    -- what is done beside the endpoint alone
+    quietly : (deed : Deed) (h : Halves) → ((g : Flow) → sent_on g deed x ≡ []) → h.begun ≡ x.halves.begun → drop (length x.halves.happenings) h.happenings ≡ [] → (x.halves.closed ≡ true → h.closed ≡ true) → ((t : Token) → reply_by t.flow deed x ≡ []) → AreKeptFrom x.halves.calls h.calls → FewerOpen x.halves h
+        → Came setup n deed x (record x { halves = h }) m
+    quietly deed h sent begun told closes replies kept fewer = record {
+      mid = h;
+      of = kept_of (λ g. call_by g deed x) x.halves.calls h.calls kept;
+      gone = λ t. (let l = fewer t in let no = ap (count_of t.number) (replies t) in omega (arith, l, no));
+      reaches = posted_nothing setup n deed x h (record x { halves = h }) m sent (comes_quietly setup n x h m there (on_still x h on closes) (λ g b tracks. subst (λ (es : List (Flow × List ℕ)). Tracks g b es) (sym begun) tracks) told);
+    }
+
+    pub came : (deed : Deed) → KeepsDeed setup m n deed x → Came setup n deed x (node_after setup n deed x) m
+    came (GivesKind port kind) keeps =
         let k = kind_between port (kind_in port x.halves.ports) kind x.halves in
-        comes_quietly setup n x (with_kind port kind x.halves) m there unspent (λ g b tracks. subst (λ (es : List (Flow × List ℕ)). Tracks g b es) (sym k.0) tracks) (ap (drop (length x.halves.happenings)) k.1 ∙ drop-length x.halves.happenings)
-    deed_comes (MakesCall now f payload patience) keeps =
-        alike setup n m x there unspent Good law good _ _ _ _ (λ g. ap (λ (ms : List Message). items_of_all (map spelled ms)) (sym (append-nil _))) (call_comes setup n m x there unspent Good law good now keeps.0 f keeps.1 payload patience keeps.2)
-    deed_comes (GivesReply now token payload) keeps = reply_comes setup n m x there unspent Good law good now keeps.0 token keeps.1 payload keeps.2
-    deed_comes (Forgets now token) keeps = forget_comes setup n m x there unspent Good law good now keeps.0 token keeps.1
-    deed_comes (Ticks now) keeps = tick_comes setup n m x there unspent Good law good now keeps.0 keeps.1
-    deed_comes (Arrives now link datagram waited) keeps = arrive_comes setup n m x there unspent Good law good now link datagram waited keeps.0 keeps.1
-    deed_comes (Raises life) keeps =
-        let k = life_between (is_life_in_use life x.halves) life x.halves in
-        comes_quietly setup n x (raised life x.halves) m there unspent (λ g b tracks. subst (λ (es : List (Flow × List ℕ)). Tracks g b es) (sym k.0) tracks) (ap (drop (length x.halves.happenings)) k.1 ∙ drop-length x.halves.happenings)
-    deed_comes TakesHappening keeps =
+        quietly (GivesKind port kind) (with_kind port kind x.halves) (λ g. refl) k.0 (ap (drop (length x.halves.happenings)) k.1 ∙ drop-length x.halves.happenings) (kind_closes port (kind_in port x.halves.ports) kind x.halves) (λ t. refl) (kind_kept port (kind_in port x.halves.ports) kind x.halves) (kind_fewer port (kind_in port x.halves.ports) kind x.halves)
+    came (MakesCall now f payload patience) keeps =
+        let message = message_of (number_of (next_number x.halves)) payload in
+        let o = first_refusal (call_refusals x f payload patience) in
+        record {
+          mid = mid_of o x.halves (called now f message patience x);
+          of = call_of now f payload patience x o refl;
+          gone = none_gone x.halves (mid_of o x.halves (called now f message patience x)) (mid_fewer o x.halves (called now f message patience x) (call_fewer (send_answer now f message true true x.endpoint) f (length message) (moment_of now x.endpoint + patience) x.halves (happens now (message_event f message) x).halves (heard_fewer now x (message_event f message))));
+          reaches = alike setup n m x there Good law good _ _ _ _ (λ g. ap (λ (ms : List Message). items_of_all (map spelled ms)) (sym (append-nil _))) (call_comes setup n m x there Good law good on now keeps.0.0 f keeps.0.1 payload patience keeps.1);
+        }
+    came (GivesReply now token payload) keeps =
+        let message = message_of (number_of token.number) payload in
+        let o = first_refusal (reply_refusals x token payload) in
+        record {
+          mid = mid_of o x.halves (replied_mid now token message x);
+          of = kept_of (λ g. []) x.halves.calls _ (reply_of now token message x o);
+          gone = reply_gone now token payload x o refl;
+          reaches = alike setup n m x there Good law good _ _ _ _ (λ g. ap (λ (b : Bool). items_of_all (map spelled (cond b (replied_as (reply now token payload x).0 token payload) []))) (same_reversed token.flow (reversed g))) (reply_comes setup n m x there Good law good on now keeps.0.0 token keeps.0.1 payload keeps.1);
+        }
+    came (Forgets now token) keeps =
+        let o = first_refusal (forget_refusals x token) in
+        record {
+          mid = mid_of o x.halves (forgotten token x.halves);
+          of = kept_of (λ g. []) x.halves.calls _ (mid_kept o x.halves (forgotten token x.halves) (kept_itself x.halves.calls));
+          gone = none_gone x.halves (mid_of o x.halves (forgotten token x.halves)) (mid_fewer o x.halves (forgotten token x.halves) (forgotten_quiet token x.halves).opens);
+          reaches = forget_comes setup n m x there Good law good on now keeps.0 token keeps.1;
+        }
+    came (Ticks now) keeps = record {
+      mid = cond (is_closed x) x.halves (happens now Tick x).halves;
+      of = kept_of (λ g. []) x.halves.calls _ (cond_kept (is_closed x) x.halves (happens now Tick x).halves (heard_kept now x Tick));
+      gone = none_gone x.halves (cond (is_closed x) x.halves (happens now Tick x).halves) (cond_fewer (is_closed x) x.halves (happens now Tick x).halves (heard_fewer now x Tick));
+      reaches = tick_comes setup n m x there Good law good on now keeps.0 keeps.1;
+    }
+    came (Arrives now link datagram waited) keeps =
+        let event = arrive_event link datagram waited in
+        let o = arrive_refusal link datagram waited x.endpoint in
+        let between = mid_of o x.halves (happens now event x).halves in
+        record {
+          mid = cond (is_closed x) x.halves between;
+          of = kept_of (λ g. []) x.halves.calls _ (cond_kept (is_closed x) x.halves between (mid_kept o x.halves (happens now event x).halves (heard_kept now x event)));
+          gone = none_gone x.halves (cond (is_closed x) x.halves between) (cond_fewer (is_closed x) x.halves between (mid_fewer o x.halves (happens now event x).halves (heard_fewer now x event)));
+          reaches = arrive_comes setup n m x there Good law good on now link datagram waited keeps.0 keeps.1;
+        }
+    came (Raises life) keeps =
+        let b = is_life_in_use life x.halves in
+        let k = life_between b life x.halves in
+        quietly (Raises life) (raised life x.halves) (λ g. refl) k.0 (ap (drop (length x.halves.happenings)) k.1 ∙ drop-length x.halves.happenings) (raise_closes b life x.halves) (λ t. refl) (raise_kept b life x.halves) (raise_fewer b life x.halves)
+    came TakesHappening keeps =
         let k = taken_first x.halves.happenings x.halves refl in
-        comes_quietly setup n x (next x.halves).1 m there unspent (λ g b tracks. subst (λ (es : List (Flow × List ℕ)). Tracks g b es) (sym k.begun) tracks) k.none
-    deed_comes PullsFrame keeps =
+        quietly TakesHappening (next x.halves).1 (λ g. refl) k.begun k.none (taken_closes x.halves.happenings x.halves) (λ t. refl) (taken_kept x.halves.happenings x.halves) (taken_fewer x.halves.happenings x.halves)
+    came PullsFrame keeps =
         let y = node_after setup n PullsFrame x in
-        comes_by_step setup n x m y (Calls n PullFrame y.endpoint) (subst (DoesFrom setup n PullFrame y.endpoint) (sym there) refl, tt) (subst (CallKeeps setup m n PullFrame) (sym there) tt, tt) refl unspent (λ g. refl) (λ g. takes_more g (Calls n PullFrame y.endpoint) [] [] [] (λ first t. t) (takes_nothing g)) (λ g b tracks. tracks) (drop-length x.halves.happenings)
-    deed_comes Closes keeps = comes_quietly setup n x (close x.halves) m there unspent (λ g b tracks. (close_quiet x.halves).begun g b tracks) (drop-length x.halves.happenings)
-    deed_comes (OpensAgain again routes most life) keeps =
+        record {
+          mid = x.halves;
+          of = kept_of (λ g. []) x.halves.calls _ (kept_itself x.halves.calls);
+          gone = none_gone x.halves x.halves (same_open x.halves);
+          reaches = comes_by_step setup n x m y (Calls n PullFrame y.endpoint) (subst (DoesFrom setup n PullFrame y.endpoint) (sym there) refl, tt) (subst (CallKeeps setup m n PullFrame) (sym there) tt, tt) refl on (λ g. refl) (λ g. takes_more g (Calls n PullFrame y.endpoint) [] [] [] (λ first t. t) (takes_nothing g)) (λ g b tracks. tracks) (drop-length x.halves.happenings);
+        }
+    came Closes keeps = record {
+      mid = close x.halves;
+      of = kept_of (λ g. []) x.halves.calls _ (close_quiet x.halves).waits;
+      gone = none_gone x.halves (close x.halves) (close_quiet x.halves).opens;
+      reaches = comes_quietly setup n x (close x.halves) m there (inr refl) (λ g b tracks. (close_quiet x.halves).begun g b tracks) (drop-length x.halves.happenings);
+    }
+    came (OpensAgain again routes most life) keeps =
         let y = node_after setup n (OpensAgain again routes most life) x in
-        comes_by_step setup n x m y (Calls n (OpenAgain again routes) y.endpoint) (subst (DoesFrom setup n (OpenAgain again routes) y.endpoint) (sym there) refl, tt) (subst (CallKeeps setup m n (OpenAgain again routes)) (sym there) keeps.0, tt) refl refl (λ g. refl)
-        (λ g. takes_more g (Calls n (OpenAgain again routes) y.endpoint) [] [] [] (λ first t. t) (takes_nothing g)) (λ g b tracks. inl refl) (drop-nil (length x.halves.happenings))
+        record {
+          mid = y.halves;
+          of = All-nil (λ (c : Call). c.waits ≡ true → IsKeptFrom x.halves.calls c ⊎ (0 < count_of c.number []));
+          gone = none_gone x.halves y.halves (λ t. omega arith);
+          reaches = comes_by_step setup n x m y (Calls n (OpenAgain again routes) y.endpoint) (subst (DoesFrom setup n (OpenAgain again routes) y.endpoint) (sym there) refl, tt) (subst (CallKeeps setup m n (OpenAgain again routes)) (sym there) keeps.0.0, tt) refl (inl refl) (λ g. refl)
+              (λ g. takes_more g (Calls n (OpenAgain again routes) y.endpoint) [] [] [] (λ first t. t) (takes_nothing g)) (λ g b tracks. inl refl) (drop-nil (length x.halves.happenings));
+        }
+    came (FindsNoMemory deed after) keeps = broken_came setup Good law n m x there good deed after (keeps.0.0, keeps.1) keeps.0.1
 
   -- ONE TURN, for a flow
-  abbrev pub AreUnspent : Services → Type 0
-  AreUnspent s = (k : ℕ) (e : EndpointValue) → IsAt k s.network e → e.spent ≡ false
+  abbrev pub AreOn : Services → Type 0
+  AreOn s = (k : ℕ) (e : EndpointValue) → IsAt k s.network e → (e.spent ≡ false) ⊎ ((s.halves k).closed ≡ true)
 
   -- calls that wait were made before, as often as is said
   abbrev pub Waits : (past : Flow → CallNumber → ℕ) → List Call → Type 0
@@ -120,29 +215,29 @@ module _ (setup : Setup) (Good : Network → Type 0) (law : IsLawful setup Good)
   abbrev pub and_then : (past : Flow → CallNumber → ℕ) → (Flow → List Message) → Flow → CallNumber → ℕ
   and_then past calls g m = past g m + count_of m (calls g)
 
-  pub record Turned (f : Flow) (b : Option (List ℕ)) (past : Flow → CallNumber → ℕ) (s v : Services) (sent requests replies answers : List Message) (all_calls made : Flow → List Message) : Type 0 where
+  pub record Turned (f : Flow) (b : Option (List ℕ)) (past : Flow → CallNumber → ℕ) (s v : Services) (memory : Bool) (sent requests replies answers : List Message) (all_calls made : Flow → List Message) : Type 0 where
     pub steps : List Step
     pub are : AreSteps setup steps s.network
     pub keep : KeepsDuties setup steps s.network
     pub ends : network_by steps s.network ≡ v.network
-    pub takes : Takings f steps (items_of_all (map spelled sent))
+    pub takes : (taken : List Item) → AreTaken f steps taken → IsPosted memory sent taken
     pub some : AreSomeOf requests (map said (messages_from b (all_read f steps)))
     pub begun : Tracks f (begun_after b (all_read f steps)) (v.halves f.to.0).begun
-    pub unspent : AreUnspent v
+    pub on : AreOn v
     pub waits : Waits (and_then past made) (v.halves f.to.0).calls
     pub opens : (m : CallNumber) → count_of m replies + open_count (token_with f m) (v.halves f.to.0).tokens ≤ open_count (token_with f m) (s.halves f.to.0).tokens + count_of m requests
     pub answered : (a : Message) → Contains answers a → Contains (map said (messages_from b (all_read f steps))) a ⊎ OtherCall f (and_then past made) a
     pub here : (k : Flow) → k.from.0 ≡ f.to.0 → all_calls k ≡ made k
 
-  written_unspent : (n : ℕ) (s : Services) (y : Node) → AreUnspent s → y.endpoint.spent ≡ false → AreUnspent (with_node n s y)
-  written_unspent n s y all one k e there =
+  written_on : (n : ℕ) (s : Services) (y : Node) → AreOn s → IsOn y → AreOn (with_node n s y)
+  written_on n s y all one k e there =
       elim (cases_Bool (n == k)) [
         | inl is ↦
             let first : look ◌==◌ k (write ◌==◌ n y.endpoint s.network.endpoints) ≡ Some y.endpoint = subst (λ (j : ℕ). look ◌==◌ j (write ◌==◌ n y.endpoint s.network.endpoints) ≡ Some y.endpoint) (nat_is n k is) (written_there n y.endpoint s.network.endpoints) in
             let two : Some y.endpoint ≡ Some e = sym first ∙ there in
             let same : y.endpoint ≡ e = cc in
-            subst (λ (z : EndpointValue). z.spent ≡ false) same one
-        | inr other ↦ all k e (sym (look_write_other ℕ EndpointValue ◌==◌ nat_self nat_is k n y.endpoint s.network.endpoints other) ∙ there)
+            subst (λ (b : Bool). (e.spent ≡ false) ⊎ ((cond b y.halves (s.halves k)).closed ≡ true)) (sym is) (subst (λ (z : EndpointValue). (z.spent ≡ false) ⊎ (y.halves.closed ≡ true)) same one)
+        | inr other ↦ subst (λ (b : Bool). (e.spent ≡ false) ⊎ ((cond b y.halves (s.halves k)).closed ≡ true)) (sym other) (all k e (sym (look_write_other ℕ EndpointValue ◌==◌ nat_self nat_is k n y.endpoint s.network.endpoints other) ∙ there))
       ]
 
   past_more : (past : Flow → CallNumber → ℕ) (made : Flow → List Message) (calls : List Call) → Waits past calls → Waits (and_then past made) calls
@@ -179,32 +274,33 @@ module _ (setup : Setup) (Good : Network → Type 0) (law : IsLawful setup Good)
   abbrev pub made_in : Flow → Turn → Services → Flow → List Message
   made_in f t s g = in_turn (at_the f.to.0 (λ n. call_by g)) t s
 
-  turned_at : (f : Flow) (b : Option (List ℕ)) (past : Flow → CallNumber → ℕ) (s : Services) → Good s.network → AreUnspent s → Tracks f b (s.halves f.to.0).begun → Waits past (s.halves f.to.0).calls → (n : ℕ) (deed : Deed) (o : Option EndpointValue) → look ◌==◌ n s.network.endpoints ≡ o → KeepsFrom setup s.network n deed (option_map (node_with n s) o)
-      → Turned f b past s (node_does setup n deed s (option_map (node_with n s) o)) (at_node (sent_on f deed) (option_map (node_with n s) o)) (at_node (told_by (request_in f) setup n deed) (option_map (node_with n s) o)) (at_node (reply_by f deed) (option_map (node_with n s) o))
+  turned_at : (f : Flow) (b : Option (List ℕ)) (past : Flow → CallNumber → ℕ) (s : Services) → Good s.network → AreOn s → Tracks f b (s.halves f.to.0).begun → Waits past (s.halves f.to.0).calls → (n : ℕ) (deed : Deed) (o : Option EndpointValue) → look ◌==◌ n s.network.endpoints ≡ o → KeepsFrom setup s.network n deed (option_map (node_with n s) o)
+      → Turned f b past s (node_does setup n deed s (option_map (node_with n s) o)) (finds_memory deed) (at_node (sent_on f deed) (option_map (node_with n s) o)) (at_node (told_by (request_in f) setup n deed) (option_map (node_with n s) o)) (at_node (reply_by f deed) (option_map (node_with n s) o))
       (at_node (at_the f.to.0 (told_by answer_in setup) n deed) (option_map (node_with n s) o)) (λ k. at_node (call_by k deed) (option_map (node_with n s) o)) (λ g. at_node (at_the f.to.0 (λ k. call_by g) n deed) (option_map (node_with n s) o))
-  turned_at f b past s good unspent tracks waits n deed None found keeps =
-      record { steps = []; are = tt; keep = tt; ends = refl; takes = takes_nothing f; some = none; begun = tracks; unspent = unspent; waits = past_more past (λ g. []) _ waits; opens = λ m. omega arith; answered = λ a there. absurd (let lt = there.1 in omega (arith, lt)); here = λ k from. refl }
-  turned_at f b past s good unspent tracks waits n deed (Some e) found keeps =
+  turned_at f b past s good on tracks waits n deed None found keeps =
+      record { steps = []; are = tt; keep = tt; ends = refl; takes = λ taken t. posted_none (finds_memory deed) taken t; some = none; begun = tracks; on = on; waits = past_more past (λ g. []) _ waits; opens = λ m. omega arith; answered = λ a there. absurd (let lt = there.1 in omega (arith, lt)); here = λ k from. refl }
+  turned_at f b past s good on tracks waits n deed (Some e) found keeps =
       let x = node_with n s e in
       let y = node_after setup n deed x in
-      let c = deed_comes n s.network x found (unspent n e found) good deed keeps in
+      let c = came n s.network x found (on n e found) good deed keeps in
       by_test (n == f.to.0) refl c
     where
-      by_test : (t : Bool) → (n == f.to.0) ≡ t → Comes setup n (node_with n s e) (mid_by setup n deed (node_with n s e)) (node_after setup n deed (node_with n s e)) s.network (λ g. items_of_all (map spelled (sent_on g deed (node_with n s e))))
+      by_test : (t : Bool) → (n == f.to.0) ≡ t → Came setup n deed (node_with n s e) (node_after setup n deed (node_with n s e)) s.network
           → let x = node_with n s e in
           let y = node_after setup n deed x in
-          Turned f b past s (with_node n s y) (sent_on f deed x) (told_by (request_in f) setup n deed x) (reply_by f deed x) (cond (n == f.to.0) (told_by answer_in setup n deed x) []) (λ k. call_by k deed x) (λ g. cond (n == f.to.0) (call_by g deed x) [])
-      by_test true is c =
+          Turned f b past s (with_node n s y) (finds_memory deed) (sent_on f deed x) (told_by (request_in f) setup n deed x) (reply_by f deed x) (cond (n == f.to.0) (told_by answer_in setup n deed x) []) (λ k. call_by k deed x) (λ g. cond (n == f.to.0) (call_by g deed x) [])
+      by_test true is came =
           let x = node_with n s e in
           let y = node_after setup n deed x in
+          let c = came.reaches in
           let same : n ≡ f.to.0 = nat_is n f.to.0 is in
           let here : Tracks f b x.halves.begun = subst (λ (k : ℕ). Tracks f b (s.halves k).begun) (sym same) tracks in
           let wait : Waits past x.halves.calls = subst (λ (k : ℕ). Waits past (s.halves k).calls) (sym same) waits in
-          let mid = mid_past past (λ g. call_by g deed x) x.halves.calls (mid_by setup n deed x).calls wait (mid_waits setup n deed x) in
-          let left : Waits (and_then past (λ g. call_by g deed x)) y.halves.calls = kept_past (and_then past (λ g. call_by g deed x)) (mid_by setup n deed x).calls y.halves.calls mid c.waits in
+          let mid = mid_past past (λ g. call_by g deed x) x.halves.calls came.mid.calls wait came.of in
+          let left : Waits (and_then past (λ g. call_by g deed x)) y.halves.calls = kept_past (and_then past (λ g. call_by g deed x)) came.mid.calls y.halves.calls mid c.waits in
           let opens : (m : CallNumber) → count_of m (reply_by f deed x) + open_count (token_with f m) y.halves.tokens ≤ open_count (token_with f m) (s.halves f.to.0).tokens + count_of m (told_by (request_in f) setup n deed x) =
           λ (m : CallNumber).
-          let p = mid_opens setup n deed x (token_with f m) in
+          let p = came.gone (token_with f m) in
           let q = c.opens f b here (token_with f m) in
           let r : open_count (token_with f m) x.halves.tokens ≡ open_count (token_with f m) (s.halves f.to.0).tokens = ap (λ (k : ℕ). open_count (token_with f m) (s.halves k).tokens) same in
           omega (arith, p, q, r) in
@@ -216,21 +312,22 @@ module _ (setup : Setup) (Good : Network → Type 0) (law : IsLawful setup Good)
             takes = c.takes f;
             some = c.requests f b here;
             begun = subst (λ (t : Bool). Tracks f (begun_after b (all_read f c.steps)) (cond t y.halves (s.halves f.to.0)).begun) (sym is) (c.begun f b here);
-            unspent = written_unspent n s y unspent c.unspent;
+            on = written_on n s y on c.on;
             waits = subst (λ (t : Bool). Waits (and_then past (λ g. cond t (call_by g deed x) [])) (cond t y.halves (s.halves f.to.0)).calls) (sym is) left;
             opens = subst (λ (t : Bool). (m : CallNumber) → count_of m (reply_by f deed x) + open_count (token_with f m) (cond t y.halves (s.halves f.to.0)).tokens ≤ open_count (token_with f m) (s.halves f.to.0).tokens + count_of m (told_by (request_in f) setup n deed x)) (sym is) opens;
             answered = subst (λ (t : Bool). (a : Message) → Contains (cond t (told_by answer_in setup n deed x) []) a → Contains (map said (messages_from b (all_read f c.steps))) a ⊎ OtherCall f (and_then past (λ g. cond t (call_by g deed x) [])) a) (sym is)
-                (λ a there. elim (c.answers f b here a there) [ inl m ↦ inl m | inr o ↦ inr (other_past f (and_then past (λ g. call_by g deed x)) (mid_by setup n deed x).calls a mid o) ]);
+                (λ a there. elim (c.answers f b here a there) [ inl m ↦ inl m | inr o ↦ inr (other_past f (and_then past (λ g. call_by g deed x)) came.mid.calls a mid o) ]);
             here = λ k from. ap (λ (t : Bool). cond t (call_by k deed x) []) (sym is);
           }
-      by_test false is c =
+      by_test false is came =
           let x = node_with n s e in
           let y = node_after setup n deed x in
+          let c = came.reaches in
           let no = c.elsewhere f is in
-          let me = law.named s.network n e good found (unspent n e found) in
+          let me = law.named s.network n e good found in
           let no_reply : reply_by f deed x ≡ [] = elim (reply_is f deed x) [
             | inl nothing ↦ nothing
-            | inr from ↦ (let yes : (n == f.to.0) ≡ true = subst (λ (k : ℕ). (n == k) ≡ true) (sym (from ∙ me)) (nat_self n) in absurd cc)
+            | inr from ↦ (let yes : (n == f.to.0) ≡ true = subst (λ (k : ℕ). (n == k) ≡ true) (sym (from.from ∙ me from.unspent)) (nat_self n) in absurd cc)
           ] in
           record {
             steps = c.steps;
@@ -240,7 +337,7 @@ module _ (setup : Setup) (Good : Network → Type 0) (law : IsLawful setup Good)
             takes = c.takes f;
             some = subst (λ (ms : List Message). AreSomeOf ms (map said (messages_from b (all_read f c.steps)))) (sym no.1) none;
             begun = subst (λ (t : Bool). Tracks f (begun_after b (all_read f c.steps)) (cond t y.halves (s.halves f.to.0)).begun) (sym is) (subst (λ (is : List Item). Tracks f (begun_after b is) (s.halves f.to.0).begun) (sym no.0) tracks);
-            unspent = written_unspent n s y unspent c.unspent;
+            on = written_on n s y on c.on;
             waits = subst (λ (t : Bool). Waits (and_then past (λ g. cond t (call_by g deed x) [])) (cond t y.halves (s.halves f.to.0)).calls) (sym is) (past_more past (λ g. []) (s.halves f.to.0).calls waits);
             opens = subst (λ (t : Bool). (m : CallNumber) → count_of m (reply_by f deed x) + open_count (token_with f m) (cond t y.halves (s.halves f.to.0)).tokens ≤ open_count (token_with f m) (s.halves f.to.0).tokens + count_of m (told_by (request_in f) setup n deed x)) (sym is)
                 (λ m. (let z = ap (count_of m) no_reply in omega (arith, z)));
@@ -249,15 +346,15 @@ module _ (setup : Setup) (Good : Network → Type 0) (law : IsLawful setup Good)
             here = λ k from.
                 elim (call_is k deed x) [
                   | inl nothing ↦ nothing ∙ ap (λ (t : Bool). cond t (call_by k deed x) []) (sym is)
-                  | inr call ↦ (let yes : (n == f.to.0) ≡ true = subst (λ (j : ℕ). (n == j) ≡ true) (sym me ∙ sym call.from ∙ from) (nat_self n) in absurd cc)
+                  | inr call ↦ (let yes : (n == f.to.0) ≡ true = subst (λ (j : ℕ). (n == j) ≡ true) (sym (me call.unspent) ∙ sym call.from ∙ from) (nat_self n) in absurd cc)
                 ];
           }
 
-  pub turned : (f : Flow) (b : Option (List ℕ)) (past : Flow → CallNumber → ℕ) (s : Services) → Good s.network → AreUnspent s → Tracks f b (s.halves f.to.0).begun → Waits past (s.halves f.to.0).calls → (t : Turn) → KeepsTurn setup t s
-      → Turned f b past s (services_after setup t s) (in_turn (λ n. sent_on f) t s) (in_turn (told_by (request_in f) setup) t s) (in_turn (λ n. reply_by f) t s) (in_turn (at_the f.to.0 (told_by answer_in setup)) t s) (λ k. in_turn (λ n. call_by k) t s) (made_in f t s)
-  turned f b past s good unspent tracks waits (Passes by) keeps =
-      record { steps = Pass by ∷ []; are = (tt, tt); keep = (tt, tt); ends = refl; takes = takes_more f (Pass by) [] [] [] (λ first t. t) (takes_nothing f); some = none; begun = tracks; unspent = unspent; waits = past_more past (λ g. []) _ waits; opens = λ m. omega arith; answered = λ a there. absurd (let lt = there.1 in omega (arith, lt)); here = λ k from. refl }
-  turned f b past s good unspent tracks waits (Does n deed) keeps = turned_at f b past s good unspent tracks waits n deed (look ◌==◌ n s.network.endpoints) refl keeps
+  pub turned : (f : Flow) (b : Option (List ℕ)) (past : Flow → CallNumber → ℕ) (s : Services) → Good s.network → AreOn s → Tracks f b (s.halves f.to.0).begun → Waits past (s.halves f.to.0).calls → (t : Turn) → KeepsTurn setup t s
+      → Turned f b past s (services_after setup t s) (has_memory t) (in_turn (λ n. sent_on f) t s) (in_turn (told_by (request_in f) setup) t s) (in_turn (λ n. reply_by f) t s) (in_turn (at_the f.to.0 (told_by answer_in setup)) t s) (λ k. in_turn (λ n. call_by k) t s) (made_in f t s)
+  turned f b past s good on tracks waits (Passes by) keeps =
+      record { steps = Pass by ∷ []; are = (tt, tt); keep = (tt, tt); ends = refl; takes = takes_more f (Pass by) [] [] [] (λ first t. t) (takes_nothing f); some = none; begun = tracks; on = on; waits = past_more past (λ g. []) _ waits; opens = λ m. omega arith; answered = λ a there. absurd (let lt = there.1 in omega (arith, lt)); here = λ k from. refl }
+  turned f b past s good on tracks waits (Does n deed) keeps = turned_at f b past s good on tracks waits n deed (look ◌==◌ n s.network.endpoints) refl keeps
 
   -- ALL TURNS
   -- the calls of a flow that are made at the node to which another comes
@@ -268,7 +365,7 @@ module _ (setup : Setup) (Good : Network → Type 0) (law : IsLawful setup Good)
     pub steps : List Step
     pub are : AreSteps setup steps s.network
     pub keep : KeepsDuties setup steps s.network
-    pub takes : Takings f steps (items_of_all (map spelled (in_turns (λ n. sent_on f) setup turns s)))
+    pub takes : (taken : List Item) → AreTaken f steps taken → (sent : List Message) × AreSentOf (λ n. sent_on f) setup turns s sent × (taken ≡ items_of_all (map spelled sent))
     pub some : AreSomeOf (requests_on f setup turns s) (map said (messages_from b (all_read f steps)))
     pub opens : (m : CallNumber) → count_of m (replies_on f setup turns s) ≤ open_count (token_with f m) (s.halves f.to.0).tokens + count_of m (requests_on f setup turns s)
     pub answered : (a : Message) → Contains (answers_at f.to.0 setup turns s) a → Contains (map said (messages_from b (all_read f steps))) a ⊎ OtherCall f (and_then past (calls_made f turns s)) a
@@ -278,22 +375,24 @@ module _ (setup : Setup) (Good : Network → Type 0) (law : IsLawful setup Good)
   items_both [] ys = refl
   items_both (x ∷ xs) ys = ap (λ (is : List Item). marked x true true false ++ is) (items_both xs ys) ∙ sym (append_assoc (marked x true true false) (items_of_all xs) (items_of_all ys))
 
-  pub ran : (f : Flow) (turns : List Turn) (b : Option (List ℕ)) (past : Flow → CallNumber → ℕ) (s : Services) → Good s.network → AreUnspent s → Tracks f b (s.halves f.to.0).begun → Waits past (s.halves f.to.0).calls → KeepsTurns setup turns s → Ran f b past turns s
-  ran f [] b past s good unspent tracks waits keeps = record { steps = []; are = tt; keep = tt; takes = takes_nothing f; some = none; opens = λ m. omega arith; answered = λ a there. absurd (let lt = there.1 in omega (arith, lt)); here = λ k from. refl }
-  ran f (t ∷ turns) b past s good unspent tracks waits keeps =
+  pub ran : (f : Flow) (turns : List Turn) (b : Option (List ℕ)) (past : Flow → CallNumber → ℕ) (s : Services) → Good s.network → AreOn s → Tracks f b (s.halves f.to.0).begun → Waits past (s.halves f.to.0).calls → KeepsTurns setup turns s → Ran f b past turns s
+  ran f [] b past s good on tracks waits keeps = record { steps = []; are = tt; keep = tt; takes = λ taken t. ([], refl, t); some = none; opens = λ m. omega arith; answered = λ a there. absurd (let lt = there.1 in omega (arith, lt)); here = λ k from. refl }
+  ran f (t ∷ turns) b past s good on tracks waits keeps =
       let v = services_after setup t s in
-      let first = turned f b past s good unspent tracks waits t keeps.0 in
+      let first = turned f b past s good on tracks waits t keeps.0 in
       let next_good : Good v.network = subst Good first.ends (law.on s.network first.steps good first.are first.keep) in
-      let rest = ran f turns (begun_after b (all_read f first.steps)) (and_then past (made_in f t s)) v next_good first.unspent first.begun first.waits keeps.1 in
-      let one = in_turn (λ n. sent_on f) t s in
-      let more = in_turns (λ n. sent_on f) setup turns v in
+      let rest = ran f turns (begun_after b (all_read f first.steps)) (and_then past (made_in f t s)) v next_good first.on first.begun first.waits keeps.1 in
       let all : map said (messages_from b (all_read f (first.steps ++ rest.steps))) ≡ map said (messages_from b (all_read f first.steps)) ++ map said (messages_from (begun_after b (all_read f first.steps)) (all_read f rest.steps)) =
       ap (λ (is : List Item). map said (messages_from b is)) (read_append f first.steps rest.steps) ∙ ap (map said) (messages_append b (all_read f first.steps) (all_read f rest.steps)) ∙ map-append said (messages_from b (all_read f first.steps)) (messages_from (begun_after b (all_read f first.steps)) (all_read f rest.steps)) in
       record {
         steps = first.steps ++ rest.steps;
         are = steps_append setup first.steps rest.steps s.network first.are (subst (AreSteps setup rest.steps) (sym first.ends) rest.are);
         keep = duties_append setup first.steps rest.steps s.network first.keep (subst (KeepsDuties setup rest.steps) (sym first.ends) rest.keep);
-        takes = λ taken h. takes_append f first.steps rest.steps _ _ first.takes rest.takes taken h ∙ sym (ap items_of_all (map-append spelled one more) ∙ items_both (map spelled one) (map spelled more));
+        takes = λ taken h.
+            let p = taken_parts f first.steps rest.steps taken h in
+            let one = sent_posted (has_memory t) (in_turn (λ n. sent_on f) t s) p.0 (first.takes p.0 p.2) in
+            let more = rest.takes p.1 p.3 in
+            (one.0 ++ more.0, (one.0, more.0, one.1, more.1, refl), p.4 ∙ ap (λ (is : List Item). is ++ p.1) one.2 ∙ ap (λ (is : List Item). items_of_all (map spelled one.0) ++ is) more.2 ∙ sym (ap items_of_all (map-append spelled one.0 more.0) ∙ items_both (map spelled one.0) (map spelled more.0)));
         some = subst (λ (ms : List Message). AreSomeOf (requests_on f setup (t ∷ turns) s) ms) (sym all) (both first.some rest.some);
         opens = λ m. (
             let p = first.opens m in

@@ -4,6 +4,7 @@ use Rattle.dt_units.specs.declared.endpoints.Flow.{Flow}
 use Rattle.dt_world_model.specs.Host.{one_if}
 use Rattle.dt_world_model.specs.Setup.{Setup}
 use Rattle.dt_world_model.specs.Tables.{same_flow, total}
+use Rattle.dt_world_model.specs.WorldStep.{first_refusal}
 use Rattle.dt_calls_model.specs.Messages.{message_of}
 use Rattle.dt_service_model.specs.declared.answers.Made.{Made}
 use Rattle.dt_service_model.specs.declared.answers.Made.TheVariants as made
@@ -13,10 +14,10 @@ use Rattle.dt_service_model.specs.declared.happenings.Happening.{Happening}
 use Rattle.dt_service_model.specs.declared.happenings.Happening.TheVariants.{Answered, Request, Unsure}
 use Rattle.dt_service_model.specs.declared.names.CallNumber.{CallNumber}
 use Rattle.dt_service_model.specs.declared.names.Token.{Token}
-use Rattle.dt_service_model.specs.Asked.{call, is_life_in_use, reply}
+use Rattle.dt_service_model.specs.Asked.{call, call_refusals, is_life_in_use, next_number, reply, reply_refusals}
 use Rattle.dt_service_model.specs.Names.{number_of, same_number}
 use Rattle.dt_service_model.specs.Turns.{Node}
-use Rattle.dt_service_laws.specs.Services.{Arrives, Closes, Deed, Does, Forgets, GivesKind, GivesReply, MakesCall, OpensAgain, Passes, PullsFrame, Raises, Services, TakesHappening, Ticks, Turn, node_after, node_at, services_after, told_between}
+use Rattle.dt_service_laws.specs.Services.{Arrives, Closes, Deed, Does, FindsNoMemory, Forgets, GivesKind, GivesReply, MakesCall, OpensAgain, Passes, PullsFrame, Raises, Services, TakesHappening, Ticks, Turn, node_after, node_at, services_after, told_between}
 
 -- what a message says: the number of a call, and what it carries
 pub record Message : Type 0 where
@@ -27,12 +28,31 @@ pub record Message : Type 0 where
 abbrev pub spelled : Message → List ℕ
 spelled m = message_of (number_of m.number) m.carried
 
--- THE CALLS of a flow: a call is made where it is answered with its number
+-- what isn't refused
+abbrev pub asked_as : {A : Type 0} → Option A → CallNumber → List ℕ → List Message
+asked_as None number payload = record { number = number; carried = payload } ∷ []
+asked_as (Some refusal) number payload = []
+
+-- THE CALLS of a flow: a call is made where it is answered with its number. One that found no memory may have been made
 abbrev pub made_as : Made → List ℕ → List Message
 made_as (made.Call number) payload = record { number = number; carried = payload } ∷ []
 made_as (made.Declined why) payload = []
 made_as (made.Refused why) payload = []
 made_as made.NoMemory payload = []
+
+abbrev pub call_asked : Flow → Deed → Node → List Message
+call_asked f (MakesCall now g payload patience) x = if same_flow g f then asked_as (first_refusal (call_refusals x g payload patience)) (next_number x.halves) payload else []
+call_asked f (GivesKind port kind) x = []
+call_asked f (GivesReply now token payload) x = []
+call_asked f (Forgets now token) x = []
+call_asked f (Ticks now) x = []
+call_asked f (Arrives now link datagram waited) x = []
+call_asked f (Raises life) x = []
+call_asked f TakesHappening x = []
+call_asked f PullsFrame x = []
+call_asked f Closes x = []
+call_asked f (OpensAgain again routes most life) x = []
+call_asked f (FindsNoMemory deed after) x = call_asked f deed x
 
 abbrev pub call_by : Flow → Deed → Node → List Message
 call_by f (MakesCall now g payload patience) x = if same_flow g f then made_as (call now g payload patience x).0 payload else []
@@ -46,14 +66,29 @@ call_by f TakesHappening x = []
 call_by f PullsFrame x = []
 call_by f Closes x = []
 call_by f (OpensAgain again routes most life) x = []
+call_by f (FindsNoMemory deed after) x = call_asked f deed x
 
--- THE REPLIES to the requests of a flow that its service gave and the node took
+-- THE REPLIES to the requests of a flow that its service gave and the node took. One that found no memory may have been taken
 abbrev pub replied_as : Replied → Token → List ℕ → List Message
 replied_as replied.Done token payload = record { number = token.number; carried = payload } ∷ []
 replied_as replied.Gone token payload = []
 replied_as (replied.Full free) token payload = []
 replied_as (replied.Refused why) token payload = []
 replied_as replied.NoMemory token payload = []
+
+abbrev pub reply_asked : Flow → Deed → Node → List Message
+reply_asked f (GivesReply now token payload) x = if same_flow token.flow f then asked_as (first_refusal (reply_refusals x token payload)) token.number payload else []
+reply_asked f (GivesKind port kind) x = []
+reply_asked f (MakesCall now g payload patience) x = []
+reply_asked f (Forgets now token) x = []
+reply_asked f (Ticks now) x = []
+reply_asked f (Arrives now link datagram waited) x = []
+reply_asked f (Raises life) x = []
+reply_asked f TakesHappening x = []
+reply_asked f PullsFrame x = []
+reply_asked f Closes x = []
+reply_asked f (OpensAgain again routes most life) x = []
+reply_asked f (FindsNoMemory deed after) x = reply_asked f deed x
 
 abbrev pub reply_by : Flow → Deed → Node → List Message
 reply_by f (GivesReply now token payload) x = if same_flow token.flow f then replied_as (reply now token payload x).0 token payload else []
@@ -67,6 +102,7 @@ reply_by f TakesHappening x = []
 reply_by f PullsFrame x = []
 reply_by f Closes x = []
 reply_by f (OpensAgain again routes most life) x = []
+reply_by f (FindsNoMemory deed after) x = reply_asked f deed x
 
 -- THE REQUESTS of a flow that are handed out, and the answers
 abbrev pub request_in : Flow → Happening → List Message
@@ -115,7 +151,7 @@ at_the client some n deed x = if n == client then some n deed x else []
 abbrev pub answers_at : ℕ → Setup → List Turn → Services → List Message
 answers_at client setup turns s = in_turns (at_the client (told_by answer_in setup)) setup turns s
 
--- THE LIVES of a node behind its first one, each as it begins
+-- THE LIVES of a node after its first one, each as it begins
 abbrev pub life_by : Deed → Node → List ℕ
 life_by (Raises life) x = if is_life_in_use life x.halves then [] else life ∷ []
 life_by (OpensAgain again routes most life) x = life ∷ []
@@ -128,6 +164,7 @@ life_by (Arrives now link datagram waited) x = []
 life_by TakesHappening x = []
 life_by PullsFrame x = []
 life_by Closes x = []
+life_by (FindsNoMemory deed after) x = []
 
 abbrev pub lives_at : (node : ℕ) → Setup → List Turn → Services → List ℕ
 lives_at n setup turns s = in_turns (at_the n (λ m. life_by)) setup turns s

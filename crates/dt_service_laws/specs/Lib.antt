@@ -6,3 +6,6 @@ pub mod Histories
 pub mod Premises
 pub mod Worked
 pub mod Tie
+pub mod Fates
+pub mod Causes
+pub mod Outcomes

@@ -1,42 +1,50 @@
 -- What the programs of a network of services owe.
-use Rattle.std.specs.Prelude.{ℕ, ◌^◌, ◌<◌, ◌≡◌, ◌≢◌, All, List, [], ◌∷◌, Option, Some, None}
+use Rattle.std.specs.Prelude.{ℕ, ◌^◌, ◌<◌, ◌≡◌, ◌≢◌, List, [], ◌∷◌, Option, Some, None}
 use Rattle.dt_units.specs.declared.endpoints.Flow.{Flow}
 use Rattle.dt_units.specs.Flows.{IsFlow}
 use Rattle.dt_world_model.specs.Setup.{Setup}
-use Rattle.dt_world_model.specs.Station.{Tick}
-use Rattle.dt_calls_model.specs.Messages.{message_of, reversed}
 use Rattle.dt_endpoint.specs.declared.answers.Arrived.TheVariants as arrived
-use Rattle.dt_endpoint.specs.Calls.{arrive_event}
 use Rattle.dt_network.specs.Duties.{KeepsCall, KeepsTime}
 use Rattle.dt_network.specs.Network.{Network}
 use Rattle.dt_network.specs.Steps.{CallArrive, OpenAgain}
 use Rattle.dt_service_model.specs.declared.ports.Kind.{Kind}
 use Rattle.dt_service_model.specs.declared.ports.Kind.TheVariants.{Caller, Service}
-use Rattle.dt_service_model.specs.Asked.{message_event, next_number}
-use Rattle.dt_service_model.specs.Names.{number_of}
-use Rattle.dt_service_model.specs.Turns.{Node, happens}
-use Rattle.dt_service_laws.specs.Services.{Arrives, Closes, Deed, Does, Forgets, GivesKind, GivesReply, MakesCall, OpensAgain, Passes, PullsFrame, Raises, Services, TakesHappening, Ticks, Turn, node_at, services_after}
-
--- the flows that a node is to read are flows: each flow of the code is one
-abbrev pub ReadsFlows : Node → Type 0
-ReadsFlows x = All IsFlow x.halves.unread
+use Rattle.dt_service_model.specs.Stopping.{ArriveStops, CallStops, Closed, ForgetStops, ReplyStops, TickStops}
+use Rattle.dt_service_model.specs.Turns.{Node}
+use Rattle.dt_service_laws.specs.Services.{Arrives, Closes, Deed, Does, FindsNoMemory, Forgets, GivesKind, GivesReply, MakesCall, OpensAgain, Passes, PullsFrame, Raises, Services, TakesHappening, Ticks, Turn, node_at, services_after}
 
 abbrev pub IsLife : ℕ → Type 0
 IsLife life = life < 2 ^ 32
 
+-- A TURN THAT FOUND NO MEMORY leaves its node as the contract of that call says. Nothing else that is asked is a turn
+abbrev pub BreaksBy : Deed → (x after : Node) → Type 0
+BreaksBy (MakesCall now f payload patience) x after = Closed (CallStops now f payload patience x) after
+BreaksBy (GivesReply now token payload) x after = Closed (ReplyStops now token payload x) after
+BreaksBy (Forgets now token) x after = Closed (ForgetStops now token x) after
+BreaksBy (Ticks now) x after = Closed (TickStops now x) after
+BreaksBy (Arrives now link datagram waited) x after = Closed (ArriveStops now link datagram waited x) after
+BreaksBy (GivesKind port kind) x after = ⊥
+BreaksBy (Raises life) x after = ⊥
+BreaksBy TakesHappening x after = ⊥
+BreaksBy PullsFrame x after = ⊥
+BreaksBy Closes x after = ⊥
+BreaksBy (OpensAgain again routes most life) x after = ⊥
+BreaksBy (FindsNoMemory deed before) x after = ⊥
+
 -- THE DUTIES of the endpoint's callers, at what is done at a node. Each life has 32 bits, and flows are flows
 abbrev pub KeepsDeed : Setup → Network → (node : ℕ) → Deed → Node → Type 0
 KeepsDeed setup net n (GivesKind port kind) x = Unit {0}
-KeepsDeed setup net n (MakesCall now f payload patience) x = KeepsTime setup net n now × IsFlow f × ReadsFlows (happens now (message_event f (message_of (number_of (next_number x.halves)) payload)) x)
-KeepsDeed setup net n (GivesReply now token payload) x = KeepsTime setup net n now × IsFlow token.flow × ReadsFlows (happens now (message_event (reversed token.flow) (message_of (number_of token.number) payload)) x)
-KeepsDeed setup net n (Forgets now token) x = KeepsTime setup net n now × ReadsFlows x
-KeepsDeed setup net n (Ticks now) x = KeepsTime setup net n now × ReadsFlows (happens now Tick x)
-KeepsDeed setup net n (Arrives now link datagram waited) x = KeepsCall setup net n (CallArrive now link datagram waited arrived.Done) x.endpoint × ReadsFlows (happens now (arrive_event link datagram waited) x)
+KeepsDeed setup net n (MakesCall now f payload patience) x = KeepsTime setup net n now × IsFlow f
+KeepsDeed setup net n (GivesReply now token payload) x = KeepsTime setup net n now × IsFlow token.flow
+KeepsDeed setup net n (Forgets now token) x = KeepsTime setup net n now
+KeepsDeed setup net n (Ticks now) x = KeepsTime setup net n now
+KeepsDeed setup net n (Arrives now link datagram waited) x = KeepsCall setup net n (CallArrive now link datagram waited arrived.Done) x.endpoint
 KeepsDeed setup net n (Raises life) x = IsLife life
 KeepsDeed setup net n TakesHappening x = Unit {0}
 KeepsDeed setup net n PullsFrame x = Unit {0}
 KeepsDeed setup net n Closes x = Unit {0}
 KeepsDeed setup net n (OpensAgain again routes most life) x = KeepsCall setup net n (OpenAgain again routes) x.endpoint × IsLife life
+KeepsDeed setup net n (FindsNoMemory deed after) x = KeepsDeed setup net n deed x × BreaksBy deed x after
 
 abbrev pub KeepsFrom : Setup → Network → (node : ℕ) → Deed → Option Node → Type 0
 KeepsFrom setup net n deed None = Unit {0}
@@ -63,6 +71,7 @@ KeepsKind kinds n TakesHappening = Unit {0}
 KeepsKind kinds n PullsFrame = Unit {0}
 KeepsKind kinds n Closes = Unit {0}
 KeepsKind kinds n (OpensAgain again routes most life) = Unit {0}
+KeepsKind kinds n (FindsNoMemory deed after) = Unit {0}
 
 abbrev pub KeepsKinds : (kinds : (node port : ℕ) → Kind) → List Turn → Type 0
 KeepsKinds kinds [] = Unit {0}

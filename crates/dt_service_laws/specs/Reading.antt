@@ -22,44 +22,36 @@ piece_answered answer.Spent buf = None
 piece_answered answer.BadFlow buf = None
 piece_answered answer.NoRoom buf = None
 
--- WHAT A CALL DOES to what was begun of a flow: a read adds its piece, and with the endpoint of its reader it is lost
-pub data Deed : Type 0 where
-  Adds : (piece : Piece) → Deed
-  Loses : Deed
-  Leaves : Deed
+-- WHAT A CALL FINDS of a flow: the piece that it reads of it, if it does, and what was begun of it. With the endpoint of its reader that is lost
+abbrev pub piece_if : Bool → Option Piece → Option Piece
+piece_if true piece = piece
+piece_if false piece = None
 
-abbrev pub deed_with : Bool → Option Piece → Deed
-deed_with false piece = Leaves
-deed_with true None = Leaves
-deed_with true (Some piece) = Adds piece
+abbrev pub found_by : Flow → (node : ℕ) → Call → (begun : Option (List ℕ)) → Option Piece × Option (List ℕ)
+found_by f n (CallRead now flow room buf answer) begun = (piece_if (same_flow flow f) (piece_answered answer buf), begun)
+found_by f n (OpenAgain again routes) begun = (None, if n == f.to.0 then None else begun)
+found_by f n (CallTick now answer) begun = (None, begun)
+found_by f n (CallSend now flow octets begin end answer) begun = (None, begun)
+found_by f n (CallArrive now link datagram waited answer) begun = (None, begun)
+found_by f n PullFrame begun = (None, begun)
+found_by f n PullReport begun = (None, begun)
+found_by f n (AddRoute route answer) begun = (None, begun)
+found_by f n (Follow flow done) begun = (None, begun)
 
-abbrev pub deed_of : Flow → (node : ℕ) → Call → Deed
-deed_of f n (CallRead now flow room buf answer) = deed_with (same_flow flow f) (piece_answered answer buf)
-deed_of f n (OpenAgain again routes) = if n == f.to.0 then Loses else Leaves
-deed_of f n (CallTick now answer) = Leaves
-deed_of f n (CallSend now flow octets begin end answer) = Leaves
-deed_of f n (CallArrive now link datagram waited answer) = Leaves
-deed_of f n PullFrame = Leaves
-deed_of f n PullReport = Leaves
-deed_of f n (AddRoute route answer) = Leaves
-deed_of f n (Follow flow done) = Leaves
-
-abbrev pub deed_in : Flow → Step → Deed
-deed_in f (Pass by) = Leaves
-deed_in f (Calls n call after) = deed_of f n call
+abbrev pub found_in : Flow → Step → (begun : Option (List ℕ)) → Option Piece × Option (List ℕ)
+found_in f (Pass by) begun = (None, begun)
+found_in f (Calls n call after) begun = found_by f n call begun
 
 -- no message is put together that is longer than the longest, if there is one
-abbrev pub whole_by : (longest : Option ℕ) → Deed → (begun : Option (List ℕ)) → Option (List ℕ)
-whole_by longest (Adds p) begun = whole_within longest begun p
-whole_by longest Loses begun = None
-whole_by longest Leaves begun = None
+abbrev pub whole_of : (longest : Option ℕ) → Option Piece × Option (List ℕ) → Option (List ℕ)
+whole_of longest (None, begun) = None
+whole_of longest (Some p, begun) = whole_within longest begun p
 
-abbrev pub begun_by : (longest : Option ℕ) → Deed → (begun : Option (List ℕ)) → Option (List ℕ)
-begun_by longest (Adds p) begun = begun_within longest begun p
-begun_by longest Loses begun = None
-begun_by longest Leaves begun = begun
+abbrev pub begun_of : (longest : Option ℕ) → Option Piece × Option (List ℕ) → Option (List ℕ)
+begun_of longest (None, begun) = begun
+begun_of longest (Some p, begun) = begun_within longest begun p
 
 -- ALL MESSAGES that are put together from the reads of a flow over a list of steps, in their order, over all openings
 abbrev pub messages_read : (longest : Option ℕ) → Flow → (begun : Option (List ℕ)) → List Step → List (List ℕ)
 messages_read longest f begun [] = []
-messages_read longest f begun (s ∷ steps) = listed (whole_by longest (deed_in f s) begun) ++ messages_read longest f (begun_by longest (deed_in f s) begun) steps
+messages_read longest f begun (s ∷ steps) = let found = found_in f s begun in listed (whole_of longest found) ++ messages_read longest f (begun_of longest found) steps

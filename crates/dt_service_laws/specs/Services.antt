@@ -1,5 +1,5 @@
 -- A network of services: nodes that make calls and reply to requests, each over its endpoint of a network.
-use Rattle.std.specs.Prelude.{ℕ, ◌==◌, drop, List, [], ◌∷◌, cond, length, option_map, Option, Some, None, if◌then◌else◌}
+use Rattle.std.specs.Prelude.{ℕ, ◌==◌, drop, List, [], ◌∷◌, cond, length, option_map, Option, Some, None}
 use Rattle.dt_units.specs.declared.endpoints.Flow.{Flow}
 use Rattle.dt_world_model.specs.declared.links.Route.{Route}
 use Rattle.dt_world_model.specs.Setup.{Setup}
@@ -16,7 +16,7 @@ use Rattle.dt_service_model.specs.Ends.{close, next}
 use Rattle.dt_service_model.specs.Halves.{Halves, new_halves}
 use Rattle.dt_service_model.specs.Turns.{Node, with_halves}
 
--- WHAT A PROGRAM ASKS of its node, and that it dies and its node opens again: with the moment of that, its routes, its limits and its life
+-- WHAT A PROGRAM ASKS of its node, and that it dies and its node opens again: with the moment of that, its routes, its limits and its life. What is asked may find no memory: then it is told what its node is after that
 pub data Deed : Type 0 where
   GivesKind : (port : ℕ) → (kind : Kind) → Deed
   MakesCall : (now : ℕ) → (flow : Flow) → (payload : List ℕ) → (patience : ℕ) → Deed
@@ -29,6 +29,7 @@ pub data Deed : Type 0 where
   PullsFrame : Deed
   Closes : Deed
   OpensAgain : (again : Option ℕ) → (routes : List Route) → (most : Most) → (life : ℕ) → Deed
+  FindsNoMemory : (deed : Deed) → (after : Node) → Deed
 
 -- what the definitions of a node make of it
 abbrev pub node_after : Setup → (node : ℕ) → Deed → Node → Node
@@ -43,6 +44,7 @@ node_after setup n TakesHappening x = with_halves (λ h. (next h).1) x
 node_after setup n PullsFrame x = record x { endpoint = record (x.endpoint) { frames = drop 1 x.endpoint.frames } }
 node_after setup n Closes x = with_halves close x
 node_after setup n (OpensAgain again routes most life) x = record { endpoint = opened_with setup n again routes; halves = new_halves most life }
+node_after setup n (FindsNoMemory deed after) x = after
 
 -- THE NETWORK, and what each node has beside its endpoint
 pub record Services : Type 0 where

@@ -19,7 +19,7 @@ messages_from begun (i ∷ items) = listed (whole_with begun (piece_at i)) ++ me
 abbrev pub messages_in : List Item → List (List ℕ)
 messages_in items = messages_from None items
 
--- what waits behind them
+-- what waits after them
 abbrev pub begun_after : (begun : Option (List ℕ)) → List Item → Option (List ℕ)
 begun_after begun [] = begun
 begun_after begun (i ∷ items) = begun_after (begun_with begun (piece_at i)) items

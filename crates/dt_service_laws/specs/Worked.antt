@@ -1,14 +1,20 @@
--- Two worked networks of services: a call that is answered, and one whose client starts again while its service is slow.
-use Rattle.std.specs.Prelude.{ℕ, zero, suc, ◌==◌, List, [], ◌∷◌, ◌++◌, unwrap_or, option_map, Some}
+-- Worked networks of services: a call that is answered, one whose client starts again while its service is slow, one whose service finds no memory, and one whose client finds none.
+use Rattle.std.specs.Prelude.{ℕ, zero, suc, ◌==◌, List, [], ◌∷◌, ◌++◌, unwrap_or, option_map, Some, None}
 use Rattle.dt_world_model.specs.Setup.{Setup, routes_of}
 use Rattle.dt_world_model.specs.Tables.{look}
 use Rattle.dt_world_model.specs.Worked.{main_flow, standard}
+use Rattle.dt_endpoint.specs.Calls.{arrive_event}
+use Rattle.dt_network.specs.Network.{opened_at}
 use Rattle.dt_service_model.specs.declared.ports.Kind.{Kind}
 use Rattle.dt_service_model.specs.declared.ports.Kind.TheVariants.{Caller, Service}
+use Rattle.dt_service_model.specs.Asked.{message_event}
+use Rattle.dt_service_model.specs.Ends.{close}
 use Rattle.dt_service_model.specs.Names.{number_with, token_with}
+use Rattle.dt_service_model.specs.Stopping.{call_kept, message_of_call}
+use Rattle.dt_service_model.specs.Turns.{Node, happens, reads, sweep, with_halves}
 use Rattle.dt_service_model.specs.Worked.{frame_at, roomy}
 use Rattle.dt_service_laws.specs.Histories.{Message}
-use Rattle.dt_service_laws.specs.Services.{Arrives, Does, GivesKind, GivesReply, MakesCall, OpensAgain, Passes, Services, Turn, new_services, services_by}
+use Rattle.dt_service_laws.specs.Services.{Arrives, Does, FindsNoMemory, GivesKind, GivesReply, MakesCall, OpensAgain, Passes, Services, Ticks, Turn, new_services, node_with, services_by}
 
 -- node 1 calls from port 10, and node 2 serves at port 20
 abbrev pub two_nodes : Setup
@@ -74,3 +80,29 @@ restarted =
     ++ Does 1 (Arrives 6240 2 (frame_of 2 2 (services_by two_nodes replied_late two_services)) 0)
     ∷ Does 1 (Arrives 6240 2 (frame_of 2 3 (services_by two_nodes replied_late two_services)) 0)
     ∷ []
+
+-- A SERVICE FINDS NO MEMORY in the turn in which a call comes: it hands the call out, and stops where its own calls were to be judged. Then it opens again
+abbrev pub node_in : (node : ℕ) → Services → Node
+node_in n s = node_with n s (unwrap_or (look ◌==◌ n s.network.endpoints) (opened_at two_nodes n None))
+
+abbrev pub stopped_at_judging : Node → Node
+stopped_at_judging x = let read = reads 40 x in with_halves (sweep read.endpoint.state.host) read
+
+abbrev pub comes_to_service : List ℕ → Node → Node
+comes_to_service datagram x = happens 40 (arrive_event 1 datagram 0) x
+
+abbrev pub out_of_memory : List Turn
+out_of_memory =
+    called
+    ++ Does 2 (FindsNoMemory (Arrives 40 1 (frame_of 1 0 (services_by two_nodes called two_services)) 0) (with_halves close (stopped_at_judging (comes_to_service (frame_of 1 0 (services_by two_nodes called two_services)) (node_in 2 (services_by two_nodes called two_services))))))
+    ∷ Does 2 (Ticks 40)
+    ∷ []
+
+-- A CLIENT FINDS NO MEMORY in its second call: the call is made, and its turn stops where calls were to be judged
+abbrev pub with_second_call : Node → Node
+with_second_call x =
+    let message = message_of_call (98 ∷ []) x.halves in
+    with_halves (call_kept 40 main_flow message 8000 x) (happens 40 (message_event main_flow message) x)
+
+abbrev pub client_without_memory : List Turn
+client_without_memory = called ++ Does 1 (FindsNoMemory (MakesCall 40 main_flow (98 ∷ []) 8000) (with_halves close (stopped_at_judging (with_second_call (node_in 1 (services_by two_nodes called two_services)))))) ∷ []

@@ -17,7 +17,7 @@ use dt_network::{network_is_a_world, what_is_read_is_what_was_sent};
 /// A NETWORK OF SERVICES IS ONE OF ENDPOINTS. Whatever is done at its nodes comes to calls of their
 /// endpoints that keep the duties; and a flow from a caller to a service takes the messages of the calls
 /// that are made on it, whole and side by side, and nothing else. So of a call that is declined or refused
-/// no octet is taken.
+/// no octet is taken. Only of one that found no memory it isn't known whether its message was.
 pub fn services_take_calls_that_are_made_and_nothing_else()
     ensures { (setup : Setup) (most : ℕ → Most) (life : ℕ → ℕ) (kinds : ℕ → ℕ → Kind) (turns : List Turn) (f : Flow) → IsWithinLimits setup.params → ((n : ℕ) → IsLife (life n)) → KeepsKinds kinds turns → IsServed kinds f → KeepsTurns setup turns (new_services setup most life) → TakesCallsAlone setup f turns (new_services setup most life) }
 {
@@ -25,11 +25,11 @@ pub fn services_take_calls_that_are_made_and_nothing_else()
     what_is_read_is_what_was_sent();
 }
 
-/// REQUESTS ARE CALLS, EACH ONCE AND IN THEIR ORDER. Whatever programs ask of their nodes, and however
-/// often these die and open again: the requests of a flow from a caller to a service that are handed out
-/// are calls that were made on it, by number and payload, each at most once, and in the order of their
-/// making, over all lives of both ends. So a call that was handed out settles every earlier one of its
-/// flow: that was handed out before it, or never will be.
+/// REQUESTS ARE CALLS, EACH ONCE AND IN THEIR ORDER. Whatever programs ask of their nodes, whichever turns
+/// find no memory, and however often nodes die and open again: the requests of a flow from a caller to a
+/// service that are handed out are calls that were made on it, by number and payload, each at most once,
+/// and in the order of their making, over all lives of both ends. So a call that was handed out settles
+/// every earlier one of its flow: that was handed out before it, or never will be.
 pub fn requests_are_calls_once_and_in_their_order()
     ensures { (setup : Setup) (most : ℕ → Most) (life : ℕ → ℕ) (kinds : ℕ → ℕ → Kind) (turns : List Turn) (f : Flow) → IsWithinLimits setup.params → ((n : ℕ) → IsLife (life n)) → KeepsKinds kinds turns → IsServed kinds f → KeepsTurns setup turns (new_services setup most life) → AreSomeOf (requests_on f setup turns (new_services setup most life)) (calls_on f setup turns (new_services setup most life)) }
 {

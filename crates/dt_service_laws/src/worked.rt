@@ -3,9 +3,13 @@
 
 ghost use Rattle.std.specs.Prelude.{◌≡◌, [], ◌∷◌};
 ghost use Rattle.dt_world_model.specs.Worked.{main_flow};
+ghost use Rattle.dt_service_model.specs.declared.calls.Cause.TheVariants.{Closed};
+ghost use Rattle.dt_service_model.specs.declared.happenings.Happening.TheVariants.{Unsure};
+ghost use Rattle.dt_service_model.specs.Names.{number_with};
+ghost use Rattle.dt_service_laws.specs.Fates.{calls_at, told_at};
 ghost use Rattle.dt_service_laws.specs.Histories.{answers_at, calls_on, lives_at, replies_on, requests_on};
 ghost use Rattle.dt_service_laws.specs.Premises.{Differ, IsServed, KeepsKinds, KeepsTurns};
-ghost use Rattle.dt_service_laws.specs.Worked.{answered, first_life, handed_out, kind_at, restarted, saying, two_nodes, two_services};
+ghost use Rattle.dt_service_laws.specs.Worked.{answered, client_without_memory, first_life, handed_out, kind_at, out_of_memory, restarted, saying, two_nodes, two_services};
 
 /// A call is made, handed out, replied to and answered.
 pub fn call_is_answered()
@@ -31,4 +35,25 @@ pub fn client_starts_again()
     ensures replied { replies_on main_flow two_nodes restarted two_services ≡ saying 5 0 (65 ∷ []) ∷ saying 6 0 (66 ∷ []) ∷ [] }
     ensures answers { answers_at 1 two_nodes restarted two_services ≡ saying 6 0 (66 ∷ []) ∷ [] }
     ensures lives { lives_at 1 two_nodes restarted two_services ≡ 6 ∷ [] }
+{}
+
+/// A service finds no memory in the turn in which a call comes, after the place where it hands it out. The
+/// call is handed out once, and the node does nothing more. The duties can be met by such a list.
+pub fn service_finds_no_memory()
+    ensures called { calls_on main_flow two_nodes out_of_memory two_services ≡ saying 5 0 (97 ∷ []) ∷ [] }
+    ensures handed_out { requests_on main_flow two_nodes out_of_memory two_services ≡ saying 5 0 (97 ∷ []) ∷ [] }
+    ensures duties { KeepsTurns two_nodes out_of_memory two_services }
+{}
+
+/// The premises hold to the end where a client starts again and both replies come to its second life.
+pub fn client_that_starts_again_keeps_the_duties()
+    ensures { KeepsTurns two_nodes restarted two_services }
+{}
+
+/// A client finds no memory in its second call, after the place where it is made. Both of its calls end in
+/// that turn, as its node closes. The duties can be met by such a list.
+pub fn client_finds_no_memory()
+    ensures called { calls_at 1 two_nodes client_without_memory two_services ≡ saying 5 0 (97 ∷ []) ∷ saying 5 1 (98 ∷ []) ∷ [] }
+    ensures told { told_at 1 two_nodes client_without_memory two_services ≡ Unsure (number_with 5 0) Closed ∷ Unsure (number_with 5 1) Closed ∷ [] }
+    ensures duties { KeepsTurns two_nodes client_without_memory two_services }
 {}

@@ -11,7 +11,7 @@ use Rattle.dt_world_model.specs.Station.{Event, Read}
 use Rattle.dt_world_model.specs.Tables.{same_flow}
 use Rattle.dt_calls_model.specs.Messages.{Piece, carried_in, has_number, number_in, reversed}
 use Rattle.dt_messages.specs.Joining.{whole_within}
-use Rattle.dt_endpoint.specs.Endpoints.{after_event, moment_of}
+use Rattle.dt_endpoint.specs.Endpoints.{after_event}
 use Rattle.dt_service_model.specs.declared.calls.Call.{Call}
 use Rattle.dt_service_model.specs.declared.happenings.Happening.TheVariants.{Answered, Request}
 use Rattle.dt_service_model.specs.declared.names.CallNumber.{CallNumber}
@@ -19,12 +19,13 @@ use Rattle.dt_service_model.specs.declared.names.Token.{Token}
 use Rattle.dt_service_model.specs.declared.ports.Kind.{Kind}
 use Rattle.dt_service_model.specs.declared.ports.Kind.TheVariants.{Caller, Service}
 use Rattle.dt_service_model.specs.Names.{call_number, same_number, token_with}
-use Rattle.dt_service_model.specs.Halves.{Halves, counted_up, kind_in, may_read, most_octets}
+use Rattle.dt_service_model.specs.Halves.{Halves, counted_up, kind_in, most_octets}
 use Rattle.dt_service_model.specs.Hearing.{hear, heard}
 use Rattle.dt_service_model.specs.Whole.{answered_at, begun_of, grown, is_open, is_waiting_call, take_as, take_piece, take_reply_at, take_whole, without_token}
 use Rattle.dt_service_model.specs.Accounts.{account, waits_in, waits_with}
-use Rattle.dt_service_model.specs.Turns.{Node, comes_in, happens, most_read, most_reads, piece_at, read_flow, read_times, reads, sweep, take_read, turn, turn_end, with_halves}
+use Rattle.dt_service_model.specs.Turns.{Node, happens, most_read, turn, turn_end}
 use Rattle.dt_service_model.proofs.Accounts.{ends_append, hear_keeps, judge_keeps}
+use Rattle.dt_service_model.proofs.Walking.{IsKept, end_kept}
 
 left_of : (a b : Bool) → (a && b) ≡ true → a ≡ true
 left_of true b h = refl
@@ -87,35 +88,25 @@ whole_keeps n f (Some message) h =
 pub piece_keeps : (n : CallNumber) (f : Flow) (p : Piece) (h : Halves) → account n (take_piece f p h) ≡ account n h
 piece_keeps n f p h = whole_keeps n f (whole_within (Some most_octets) (begun_of f h) p) (grown f (begun_of f h) p h)
 
-all_heard : (n : CallNumber) (told : List Told) (h : Halves) → account n (fold hear h told) ≡ account n h
+pub all_heard : (n : CallNumber) (told : List Told) (h : Halves) → account n (fold hear h told) ≡ account n h
 all_heard n [] h = refl
 all_heard n (t ∷ told) h = all_heard n told (hear h t) ∙ hear_keeps n (heard t) h
 
 pub happens_keeps : (n : CallNumber) (now : ℕ) (event : Event (Unit {0})) (x : Node) → account n (happens now event x).halves ≡ account n x.halves
 happens_keeps n now event x = all_heard n (after_event now event x.endpoint).reports x.halves
 
-read_keeps : (n : CallNumber) (again : Node → Node) (f : Flow) (o : Option Piece) (x : Node) → ((y : Node) → account n (again y).halves ≡ account n y.halves) → account n (take_read again f o x).halves ≡ account n x.halves
-read_keeps n again f None x keeps = refl
-read_keeps n again f (Some p) x keeps = keeps (with_halves (take_piece f p) x) ∙ piece_keeps n f p x.halves
-
-node_if : (n : CallNumber) (b : Bool) (one x : Node) → account n one.halves ≡ account n x.halves → account n (cond b one x).halves ≡ account n x.halves
-node_if n true one x e = e
-node_if n false one x e = refl
-
-times_keep : (n : CallNumber) (most now : ℕ) (f : Flow) (x : Node) → account n (read_times most now f x).halves ≡ account n x.halves
-times_keep n zero now f x = refl
-times_keep n (suc most) now f x =
-    node_if n (comes_in x f && may_read f x.halves) (take_read (read_times most now f) f (piece_at now f x.endpoint) (happens now (Read f most_read) x)) x
-    (read_keeps n (read_times most now f) f (piece_at now f x.endpoint) (happens now (Read f most_read) x) (λ y. times_keep n most now f y) ∙ happens_keeps n now (Read f most_read) x)
-
-flows_keep : (n : CallNumber) (now : ℕ) (flows : List Flow) (x : Node) → account n (fold (read_flow now) x flows).halves ≡ account n x.halves
-flows_keep n now [] x = refl
-flows_keep n now (f ∷ flows) x = flows_keep n now flows (read_flow now x f) ∙ times_keep n most_reads now f x
+account_kept : (n : CallNumber) (now : ℕ) → IsKept now (λ (x y : Node). account n y.halves ≡ account n x.halves)
+account_kept n now = record {
+  itself = λ x. refl;
+  through = λ x y z first second. second ∙ first;
+  hears = λ f x. happens_keeps n now (Read f most_read) x;
+  done = λ f x. refl;
+  takes = λ f p x. piece_keeps n f p x.halves;
+  swept = λ x. refl;
+}
 
 pub end_keeps : (n : CallNumber) (now : ℕ) (x : Node) → account n (turn_end now x).halves ≡ account n x.halves
-end_keeps n now x =
-    let y = reads now x in
-    judge_keeps n (moment_of now y.endpoint) (sweep y.endpoint.state.host y.halves) ∙ flows_keep n now x.halves.unread x
+end_keeps n now x = end_kept now (λ (u v : Node). account n v.halves ≡ account n u.halves) (account_kept n now) (λ moment u. judge_keeps n moment u.halves) x
 
 pub turn_keeps : (n : CallNumber) (now : ℕ) (event : Event (Unit {0})) (x : Node) → account n (turn now event x).halves ≡ account n x.halves
 turn_keeps n now event x = end_keeps n now (happens now event x) ∙ happens_keeps n now event x

@@ -6,6 +6,7 @@ pub mod Ends
 pub mod Accounts
 pub mod Turns
 pub mod Asked
+pub mod Stopping
 pub mod Worked
 pub mod Runs
 pub mod Carrying

@@ -18,7 +18,8 @@ pub enum Made {
 pub enum Declined {
     /// The node is silent after a restart, until this moment. What else was due is done.
     Quiet { until: u64 },
-    /// The request doesn't fit: so many octets do. What else was due is done.
+    /// The request doesn't fit: so many octets are free for it, its number of eight octets among them. What else
+    /// was due is done.
     Full { free: u32 },
     /// Each number of this life was used: a life is to be raised. Nothing changed.
     Numbers,
@@ -50,7 +51,8 @@ pub enum Replied {
     Done,
     /// The token isn't open: it had its reply, was forgotten, or is of a former life. Nothing changed.
     Gone,
-    /// It doesn't fit: so many octets do. The token stays open, and what else was due is done.
+    /// It doesn't fit: so many octets are free for it, its number of eight octets among them. The token stays
+    /// open, and what else was due is done.
     Full { free: u32 },
     /// It can't be sent. Nothing changed.
     Refused(Unfit),

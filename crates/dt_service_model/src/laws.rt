@@ -1,13 +1,15 @@
 //! Laws of the definitions. Each law is the contract of a public function with an empty body.
-ghost use Rattle.std.specs.Prelude.{ℕ, ◌+◌, ◌≡◌, List, false};
+ghost use Rattle.std.specs.Prelude.{ℕ, ◌+◌, ◌≡◌, Bool, List, false};
 ghost use Rattle.std.specs.List.{list_any};
 ghost use Rattle.dt_units.specs.declared.endpoints.Flow.{Flow};
 ghost use Rattle.dt_world_model.specs.Station.{Event};
 ghost use Rattle.dt_service_model.specs.declared.names.CallNumber.{CallNumber};
+ghost use Rattle.dt_service_model.specs.declared.names.Token.{Token};
 ghost use Rattle.dt_service_model.specs.Accounts.{account, has_cause, made_in};
 ghost use Rattle.dt_service_model.specs.Asked.{call};
-ghost use Rattle.dt_service_model.specs.Ends.{judge};
+ghost use Rattle.dt_service_model.specs.Ends.{close, judge};
 ghost use Rattle.dt_service_model.specs.Halves.{Halves};
+ghost use Rattle.dt_service_model.specs.Stopping.{ArriveStops, CallStops, ForgetStops, GoesOn, ReplyStops, TickStops};
 ghost use Rattle.dt_service_model.specs.Turns.{Node, turn, turn_end};
 
 /// A call that waits goes on waiting or has one end told, never more and never none: no turn changes the
@@ -24,4 +26,16 @@ pub fn call_waits_or_ends_once()
 /// given up, and its deadline is later.
 pub fn no_cause_is_left()
     ensures { (now : ℕ) (h : Halves) → list_any (has_cause now) (judge now h).calls ≡ false }
+{}
+
+/// A turn that finds no memory is a first part of it, wherever it stops: frames that had left and happenings
+/// that were told stay, and each number has its account. A call may have been made before that, and then its
+/// number has one more. The close that follows keeps each account too, so that a call that waited ends once.
+pub fn turn_that_stops_is_a_first_part()
+    ensures call { (now : ℕ) (f : Flow) (payload : List ℕ) (patience : ℕ) (n m : Node) → CallStops now f payload patience n m → (made : Bool) × GoesOn made n m }
+    ensures reply { (now : ℕ) (token : Token) (payload : List ℕ) (n m : Node) → ReplyStops now token payload n m → GoesOn false n m }
+    ensures forget { (now : ℕ) (token : Token) (n m : Node) → ForgetStops now token n m → GoesOn false n m }
+    ensures tick { (now : ℕ) (n m : Node) → TickStops now n m → GoesOn false n m }
+    ensures arrive { (now link : ℕ) (octets : List ℕ) (waited : ℕ) (n m : Node) → ArriveStops now link octets waited n m → GoesOn false n m }
+    ensures close { (x : CallNumber) (h : Halves) → account x (close h) ≡ account x h }
 {}

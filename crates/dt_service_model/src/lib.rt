@@ -16,7 +16,7 @@ pub use answers::{Declined, Forgot, Made, Replied, Unfit};
 pub use calls::{Call, Cause};
 pub use counts::Counts;
 pub use happenings::{Happening, Payload};
-pub use laws::{call_waits_or_ends_once, no_cause_is_left};
+pub use laws::{call_waits_or_ends_once, no_cause_is_left, turn_that_stops_is_a_first_part};
 pub use names::{CallNumber, Token};
 pub use ports::{Kind, Most, Port};
 pub use worked::{

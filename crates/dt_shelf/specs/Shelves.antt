@@ -19,7 +19,7 @@ empty_shelf room = record { room = room; held = [] }
 abbrev pub held_packet : (link : ℕ) → Flow → (number : ℕ) → (octets : List ℕ) → (since : ℕ) → Held
 held_packet link flow number octets since = record { link = link; flow = flow; number = number; frame = octets; since = since }
 
--- A PACKET IS HELD: it goes behind those that are there, where there is room for it.
+-- A PACKET IS HELD: it goes after those that are there, where there is room for it.
 abbrev pub hold : Held → Shelf → Bool × Shelf
 hold h shelf = if nat_lt (length shelf.held) shelf.room then (true, record { room = shelf.room; held = shelf.held ++ h ∷ [] }) else (false, shelf)
 

@@ -71,7 +71,7 @@ impl Shelf {
     /// by the charge for its time here, which is the time since it was put here and one millisecond
     /// more. None where there is no such packet. The others stay, in their order.
     ///
-    /// Its cost is that of going over the packets, and of moving those behind the one that leaves.
+    /// Its cost is that of going over the packets, and of moving those after the one that leaves.
     pub fn take(&mut self, flow: &Flow, number: u32, now: u64) -> Option<Taken>
         requires past { IsShelfUpTo now self.old }
         requires moment { now ≤ most_moment }

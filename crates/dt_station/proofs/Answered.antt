@@ -1,10 +1,11 @@
 -- A packet that came, and its reply; octets that were sent.
-use Rattle.std.proofs.Common.{◌≡◌, ℕ, ◌+◌, ◌<◌, ◌≤◌, ◌==◌, Bool, true, false, cond, List, Option, Some, None, Result, Ok, Err, refl, sym, subst, length, nat_lt, nat_le, arith}
+use Rattle.std.proofs.Common.{◌≡◌, ℕ, ◌+◌, ◌≤◌, Bool, true, false, cond, List, Option, Some, None, Result, Ok, refl, sym, subst, length, nat_lt, nat_le, arith}
+use Rattle.std.specs.Option.{option_and_then}
 use Rattle.std.proofs.lemmas.Bool.Decides.{nat_tests}
 use Rattle.dt_items.specs.declared.item.Item.{Item}
 use Rattle.dt_units.specs.declared.parameters.Params.{Params}
 use Rattle.dt_units.specs.declared.endpoints.Flow.{Flow}
-use Rattle.dt_layout.specs.Spelling.{PacketValue}
+use Rattle.dt_layout.specs.Spelling.{PacketValue, Data, Ack, Meet, Close}
 use Rattle.dt_reports.specs.Told.{Told}
 use Rattle.dt_flow_model.specs.declared.arrivals.Arrived.{Arrived}
 use Rattle.dt_flow_model.specs.declared.arrivals.Arrived.TheVariants as arrived
@@ -12,14 +13,32 @@ use Rattle.dt_flow_model.specs.declared.faults.PutFault.{PutFault}
 use Rattle.dt_flow_model.specs.declared.faults.PutFault.TheVariants.{Full}
 use Rattle.dt_flow_model.specs.Acting.{record_for}
 use Rattle.dt_flow_model.specs.Frames.{flow_of, reply_frame}
-use Rattle.dt_flow_model.specs.SendRecord.{SendRecord, fits, held_of, put_fault, room_of}
+use Rattle.dt_flow_model.specs.SendRecord.{SendRecord, fits, held_of, on_ack, put_fault, room_of}
 use Rattle.dt_reports.specs.declared.faults.Refusal.{Refusal}
 use Rattle.dt_reports.specs.declared.faults.Refusal.TheVariants as refusal
-use Rattle.dt_world_model.specs.Host.{Host, arrive, send_into, send_octets, sender_at, told_arrival}
+use Rattle.dt_world_model.specs.Host.{Host, ack_answer, arrive, comes, send_into, send_octets, sender_at, told_arrival}
 use Rattle.dt_world_model.specs.Relay.{Parcel, Relay}
 use Rattle.dt_world_model.specs.Script.{Concludes, Plays, Tell}
 use Rattle.dt_world_model.specs.Station.{come, deliver, pass_on, send_off, station_with}
 use Rattle.dt_station.proofs.Playing.{ends_with}
+
+-- the host stays that of its node
+acked_me : (f : Flow) (host : Host) (acked : Option (SendRecord × ℕ)) → (ack_answer host f acked).1.me ≡ host.me
+acked_me f host None = refl
+acked_me f host (Some (x, count)) = refl
+
+comes_me : (p : Params) (now : ℕ) (f : Flow) (v : PacketValue) (host : Host) → (comes p now f v host).1.me ≡ host.me
+comes_me p now f (Data from_port to_port number drf begin end octets) host = refl
+comes_me p now f (Ack from_port to_port number window) host = acked_me f host (option_and_then (λ x. on_ack p x number window) (sender_at host f))
+comes_me p now f (Meet from_port to_port number) host = refl
+comes_me p now f (Close from_port to_port number) host = refl
+
+quiet_me : (b : Bool) (quiet rest : Arrived × Host) (me : ℕ) → quiet.1.me ≡ me → rest.1.me ≡ me → (cond {A = Arrived × Host} b quiet rest).1.me ≡ me
+quiet_me true quiet rest me h k = h
+quiet_me false quiet rest me h k = k
+
+pub arrive_me : (p : Params) (now from : ℕ) (v : PacketValue) (host : Host) → (arrive p now from v host).1.me ≡ host.me
+arrive_me p now from v host = quiet_me (nat_lt now host.until) (arrived.Quiet host.until, host) (comes p now (flow_of from host.me v) v host) host.me refl (comes_me p now (flow_of from host.me v) v host)
 
 pub no_reply : (p : Params) (f : Flow) (a : Arrived) → ((number window : ℕ) → a ≡ arrived.Replied number window → ⊥) → reply_frame p f a ≡ None
 no_reply p f (arrived.Quiet until) h = refl

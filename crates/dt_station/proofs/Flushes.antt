@@ -1,8 +1,7 @@
 -- A link that is flushed, one packet at a time.
-use Rattle.std.proofs.Common.{sym, subst, map, slice_index, drop, add-one, ◌≡◌, ℕ, zero, suc, ◌+◌, ◌<◌, ◌==◌, List, [], ◌∷◌, length, Bool, true, false, cond, Option, Some, None, is_some, refl, ◌∙◌, ap, arith, nat_lt, eq-eqb}
+use Rattle.std.proofs.Common.{sym, subst, map, slice_index, drop, add-one, ◌≡◌, ℕ, ◌+◌, ◌<◌, ◌==◌, List, [], ◌∷◌, length, Bool, true, false, cond, Option, Some, None, is_some, refl, ◌∙◌, ap, arith, nat_lt, eq-eqb}
 use Rattle.std.proofs.lemmas.Bool.Decides.{nat_tests}
 use Rattle.std.proofs.Math.Seq.{drop-cons}
-use Rattle.std.proofs.lemmas.List.{length-map}
 use Rattle.dt_layout.specs.Carried.{life_of}
 use Rattle.dt_reports.specs.declared.reports.Report.TheVariants.{ExpiredOut, Put}
 use Rattle.dt_relay.specs.Places.{link_of, place_of}

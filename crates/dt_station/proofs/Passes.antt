@@ -7,9 +7,9 @@ use Rattle.dt_reports.specs.declared.reports.Report.TheVariants as report
 use Rattle.dt_world_model.specs.declared.links.Entered.{Entered}
 use Rattle.dt_world_model.specs.declared.links.Entered.TheVariants.{Queued, NoRoute, Full}
 use Rattle.dt_world_model.specs.Host.{Host}
-use Rattle.dt_world_model.specs.Relay.{Expired, Goes, Left, Out, Parcel, Relay, enter, enter_by, push, on_link, route_to, with_outs}
-use Rattle.dt_world_model.specs.Script.{Ask, Concludes, Done, Hand, Script, Tell, ◌>>=◌}
-use Rattle.dt_world_model.specs.Station.{Station, flush_at, flush_entered, pass_on, send_off, station_with}
+use Rattle.dt_world_model.specs.Relay.{Expired, Goes, Left, Out, Parcel, Relay, enter, enter_by, with_outs}
+use Rattle.dt_world_model.specs.Script.{Concludes, Done, Hand, Script, Tell, ◌>>=◌}
+use Rattle.dt_world_model.specs.Station.{flush_at, flush_entered, pass_on, send_off, station_with}
 use Rattle.dt_station.proofs.Flushes.{flush_expired, flush_goes, flush_none}
 use Rattle.dt_station.proofs.Playing.{ends_ask, ends_with}
 

@@ -2,17 +2,20 @@
 use Rattle.std.proofs.Common.{◌≡◌, ℕ, ◌+◌, ◌<◌, List, map, length, Result, Ok, Err, refl, subst, sym, ◌∙◌}
 use Rattle.std.specs.Prelude.{OnOk}
 use Rattle.dt_units.specs.declared.parameters.Params.{Params}
+use Rattle.dt_units.specs.declared.endpoints.Flow.{Flow}
 use Rattle.dt_reports.specs.Told.{Told}
 use Rattle.dt_flow_model.specs.Acting.{record_for}
 use Rattle.dt_flow_model.specs.Keeping.{octets_below, taken_by}
 use Rattle.dt_relay.specs.Places.{link_of}
 use Rattle.dt_world_model.specs.Host.{Host, sender_at, work}
-use Rattle.dt_world_model.specs.Relay.{Out, Parcel, Relay, with_outs}
+use Rattle.dt_world_model.specs.Relay.{Parcel, Relay, with_outs}
 use Rattle.dt_world_model.specs.Script.{Concludes, Plays, Stops, ◌>>=◌}
 use Rattle.dt_world_model.specs.Station.{Event, Station, do_turns, flush_links, happen, settle_station, station_event, station_with}
 use Rattle.dt_station.specs.declared.events.LocalEvent.{LocalEvent}
 use Rattle.dt_station.specs.declared.events.LocalEvent.TheVariants as local
-use Rattle.dt_station.specs.Events.{IsBufferNow, LeavesBufferHere, MayHappenHere, MayHappenHereNow, MaySend, MaySendNow, ReadsIntoHere, read_into}
+use Rattle.dt_station.specs.Events.{IsBufferNow, LeavesBufferHere, MayHappenHere, MayHappenHereNow, MaySend, MaySendNow, ReadsIntoHere}
+use Rattle.dt_station.specs.Stations.{StationValue, Stays}
+use Rattle.dt_station.proofs.Flushes.{kept}
 use Rattle.dt_station.proofs.Playing.{answers_hold, ends_after, stops_after, stops_within}
 
 module _ {V T : Type 0} (tells : V → Told → V → Type 0) (tags : V → Host → List ℕ → T → V → Type 0) (hands : V → ℕ → Parcel T → V → Type 0) (fails : V → V → Type 0) where
@@ -32,45 +35,46 @@ module _ {V T : Type 0} (tells : V → Told → V → Type 0) (tags : V → Host
     pub stops_first : (w : V) → Stops tells tags hands fails (settle_station p now station) first w → Stops tells tags hands fails (station_event p now e station) first w
     stops_first w h = stops_within tells tags hands fails (settle_station p now station) (λ before. happen p now e before >>= λ after. settle_station p now after) first w h
 
-    pub stops_second : (before : Station T) (m w : V) (q : Params) → q ≡ p → Plays tells tags hands (settle_station p now station) first m before → Stops tells tags hands fails (happen q now e before) m w → Stops tells tags hands fails (station_event p now e station) first w
-    stops_second before m w q same played h =
+    pub stops_second : (before : Station T) (m w : V) → Plays tells tags hands (settle_station p now station) first m before → Stops tells tags hands fails (happen p now e before) m w → Stops tells tags hands fails (station_event p now e station) first w
+    stops_second before m w played h =
         stops_after tells tags hands fails (settle_station p now station) (λ before. happen p now e before >>= λ after. settle_station p now after) first m w before played
-        (stops_within tells tags hands fails (happen p now e before) (λ after. settle_station p now after) m w (subst (λ (q : Params). Stops tells tags hands fails (happen q now e before) m w) same h))
+        (stops_within tells tags hands fails (happen p now e before) (λ after. settle_station p now after) m w h)
 
-    pub ends_third : {U E : Type 0} (before after : Station T) (m n w : V) (b : Station T) (result : Result U E) (q r : Params) → q ≡ p → r ≡ p → Plays tells tags hands (settle_station p now station) first m before →
-        Plays tells tags hands (happen q now e before) m n after → Concludes tells tags hands fails result (settle_station r now after) n w b → Concludes tells tags hands fails result (station_event p now e station) first w b
-    ends_third before after m n w b result q r same too played happened h =
+    pub ends_third : {U E : Type 0} (before after : Station T) (m n w : V) (b : Station T) (result : Result U E) → Plays tells tags hands (settle_station p now station) first m before →
+        Plays tells tags hands (happen p now e before) m n after → Concludes tells tags hands fails result (settle_station p now after) n w b → Concludes tells tags hands fails result (station_event p now e station) first w b
+    ends_third before after m n w b result played happened h =
         ends_after tells tags hands fails (settle_station p now station) (λ before. happen p now e before >>= λ after. settle_station p now after) first m w before b result played
-        (ends_after tells tags hands fails (happen p now e before) (λ after. settle_station p now after) m n w after b result (subst (λ (q : Params). Plays tells tags hands (happen q now e before) m n after) same happened)
-        (subst (λ (q : Params). Concludes tells tags hands fails result (settle_station q now after) n w b) too h))
+        (ends_after tells tags hands fails (happen p now e before) (λ after. settle_station p now after) m n w after b result happened h)
 
-  may_send : (p q : Params) (now : ℕ) (station settled : Station T) (first m : V) (flow : _) (count : ℕ) → q ≡ p → settled.host.me ≡ station.host.me → Plays tells tags hands (settle_station p now station) first m settled →
-      MaySend p now station flow count → MaySendNow q now settled.host flow count
-  may_send p q now station settled first m flow count same me played may = record {
-    from = may.from ∙ sym me;
-    to = rw me may.to;
-    some = may.some;
-    counted = rw same (answers_hold tells tags hands fails (λ (s : Station T). taken_by (record_for p now (sender_at s.host flow)) + count < octets_below) (settle_station p now station) first m settled may.counted played);
-  }
+  module _ (p : Params) (now : ℕ) (station settled : Station T) (first m : V) (played : Plays tells tags hands (settle_station p now station) first m settled) where
+    may_send : (flow : Flow) (count : ℕ) → settled.host.me ≡ station.host.me → MaySend p now station flow count → MaySendNow p now settled.host flow count
+    may_send flow count me may = record {
+      from = may.from ∙ sym me;
+      to = rw me may.to;
+      some = may.some;
+      counted = answers_hold tells tags hands fails (λ (s : Station T). taken_by (record_for p now (sender_at s.host flow)) + count < octets_below) (settle_station p now station) first m settled may.counted played;
+    }
 
-  -- what may happen to a station may happen to it once it has settled
-  pub may_now : (p q : Params) (now most : ℕ) (station settled : Station T) (first m : V) (event : LocalEvent) → q ≡ p → settled.host.me ≡ station.host.me →
-      Plays tells tags hands (settle_station p now station) first m settled → MayHappenHere p now station most event → MayHappenHereNow q now settled.host most event
-  may_now p q now most station settled first m (local.Send flow sent begin end) same me played may = may_send p q now station settled first m flow (length sent.now) same me played may
-  may_now p q now most station settled first m (local.Read flow) same me played may = may
-  may_now p q now most station settled first m local.Tick same me played may = tt
+    -- what may happen to a station may happen to it once it has settled
+    pub may_now : (most : ℕ) (event : LocalEvent) → settled.host.me ≡ station.host.me → MayHappenHere p now station most event → MayHappenHereNow p now settled.host most event
+    may_now most (local.Send flow sent begin end) me may = may_send flow (length sent.now) me may
+    may_now most (local.Read flow) me may = may
+    may_now most local.Tick me may = tt
 
-  -- a read of the host that has settled fills the buffer as it is told of the whole event
-  pub reads_now : (p q : Params) (now : ℕ) (station settled : Station T) (first m : V) (old new : List ℕ) (event : LocalEvent) → q ≡ p → Plays tells tags hands (settle_station p now station) first m settled →
-      IsBufferNow q now settled.host event old new → ReadsIntoHere tells tags hands p now event station first old new
-  reads_now p q now station settled first m old new (local.Send flow sent begin end) same played h = tt
-  reads_now p q now station settled first m old new (local.Read flow) same played h = record {
-    settled = settled;
-    seen = m;
-    settles = played;
-    filled = subst (λ (q : Params). new ≡ read_into q now flow old settled.host) same h;
-  }
-  reads_now p q now station settled first m old new local.Tick same played h = tt
+    -- a read of the host that has settled fills the buffer as it is told of the whole event
+    pub reads_now : (old new : List ℕ) (event : LocalEvent) → IsBufferNow p now settled.host event old new → ReadsIntoHere tells tags hands p now event station first old new
+    reads_now old new (local.Send flow sent begin end) h = tt
+    reads_now old new (local.Read flow) h = record { settled = settled; seen = m; settles = played; filled = h }
+    reads_now old new local.Tick h = tt
+
+-- what stays in two parts of an event stays in both
+pub stays_on : {T : Type 0} (a b c : StationValue T) → Stays a b → Stays b c → Stays a c
+stays_on a b c before after = record {
+  rules = after.rules ∙ before.rules;
+  latest = after.latest ∙ before.latest;
+  me = after.me ∙ before.me;
+  links = kept a.state.relay b.state.relay c.state.relay _ after.links before.links;
+}
 
 -- a buffer that nothing was done to is left
 pub leaves_it : (event : LocalEvent) (old : List ℕ) → LeavesBufferHere event old old

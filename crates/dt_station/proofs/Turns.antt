@@ -1,5 +1,5 @@
 -- The host's acts, one at a time.
-use Rattle.std.proofs.Common.{subst, ◌≡◌, ℕ, zero, suc, ◌+◌, ◌<◌, ◌≤◌, List, [], ◌∷◌, Bool, true, false, cond, Option, Some, None, IfSome, is_some, fold, refl, sym, ap, ◌∙◌, arith, unwrap_or, option_map}
+use Rattle.std.proofs.Common.{subst, inr, ◌≡◌, ℕ, zero, suc, ◌<◌, ◌≤◌, List, [], ◌∷◌, Bool, true, false, cond, Option, Some, None, IfSome, is_some, refl, sym, ap, ◌∙◌, arith, unwrap_or, option_map}
 use Rattle.dt_units.specs.declared.parameters.Params.{Params}
 use Rattle.dt_units.specs.declared.endpoints.Flow.{Flow}
 use Rattle.dt_layout.specs.Carried.{IsGram}
@@ -8,9 +8,7 @@ use Rattle.dt_reports.specs.declared.reports.Report.TheVariants as report
 use Rattle.dt_flow_model.specs.declared.acts.SendAct.TheVariants as A
 use Rattle.dt_flow_model.specs.declared.acts.RecvAct.TheVariants as R
 use Rattle.dt_flow_model.specs.declared.acts.RecvKind.TheVariants as K
-use Rattle.dt_flow_model.specs.SendRecord.{SendRecord}
-use Rattle.dt_flow_model.specs.SendActs.{Act, give_up, meet, release, renew, resend, send}
-use Rattle.dt_flow_model.specs.ReceiveRecord.{ReceiveRecord}
+use Rattle.dt_flow_model.specs.SendActs.{give_up, meet, release, renew, resend, send}
 use Rattle.dt_host.specs.declared.acts.Act.{Act as ActDone}
 use Rattle.dt_host.specs.declared.acts.Act.TheVariants as act
 use Rattle.dt_host.specs.declared.acts.Done.{Done as DoneAct}
@@ -18,10 +16,10 @@ use Rattle.dt_host.specs.Answers.{frame_made, host_after, told_act, told_done}
 use Rattle.dt_host.specs.Hosts.{HostValue}
 use Rattle.dt_world_model.specs.Host.{Host, HostAct, IsCurrentHost, Offer, Turn, least, next_turn, offers, recv_act, send_act, turn_of, work}
 use Rattle.dt_world_model.specs.Relay.{Parcel, Relay}
-use Rattle.dt_world_model.specs.Script.{Concludes, Done, Plays, Script, Stops, Tell, ◌>>=◌}
-use Rattle.dt_world_model.specs.Station.{Station, do_turns, go_on, send_off, station_with}
+use Rattle.dt_world_model.specs.Script.{Done, Plays, Script, Stops, Tell, ◌>>=◌}
+use Rattle.dt_world_model.specs.Station.{Station, do_turns, send_off, station_with}
 use Rattle.dt_station.specs.Acts.{makes_frame}
-use Rattle.dt_station.proofs.Playing.{Leads, leads_after, plays_bind, stops_within}
+use Rattle.dt_station.proofs.Playing.{Leads, leads_after, stops_within}
 
 -- WHICH ACTS MAKE A FRAME is seen of what is told
 abbrev tells_frame : Told → Bool
@@ -202,3 +200,27 @@ module _ {V T : Type 0} (tells : V → Told → V → Type 0) (tags : V → Host
     pub loop_stops : (w : V) → Turning tells tags hands fails p now whole first host.state relay here → Stops tells tags hands fails (act_script now done new.state left relay) here w → Stops tells tags hands fails whole first w
     loop_stops w turning stopped =
         turning_stops tells tags hands fails p now whole first here host.state new.state relay done left lower t.next t.is_next t.told t.made t.host_is w turning stopped
+
+-- an act that was told, and its frame, where it made one
+module _ {V T : Type 0} (tells : V → Told → V → Type 0) (tags : ℕ → V → Host → List ℕ → T → V → Type 0) (hands : V → ℕ → Parcel T → V → Type 0) (fails : V → V → Type 0)
+    (now : ℕ) (done : DoneAct) (host : HostValue) (left : List ℕ) (relay : Relay T) (here m : V) (told : tells here (told_done done) m) where
+  pub plays_unmade : false ≡ makes_frame done.act → Plays tells (tags now) hands (act_script now done host.state left relay) here m (station_with host.state relay)
+  plays_unmade e = rw (← e) (m, told, (refl, refl))
+
+  -- what a call of send_off did with the same host, frame and relay at the same moment
+  module _ (made : true ≡ makes_frame done.act) (then : ℕ) (sender : HostValue) (frame : List ℕ) (queues : Relay T) (at : then ≡ now) (by : sender ≡ host) (sent : frame ≡ left) (on : queues ≡ relay) (w : V) where
+    pub plays_act : (after : Relay T) → Plays tells (tags then) hands (send_off then sender.state (Some frame) queues) m w (station_with sender.state after) → Plays tells (tags now) hands (act_script now done host.state left relay) here w (station_with host.state after)
+    plays_act after played =
+        let moved = subst (λ (n : ℕ). Plays tells (tags n) hands (send_off n host.state (Some left) relay) m w (station_with host.state after)) at
+        (subst (λ (h : HostValue). Plays tells (tags then) hands (send_off then h.state (Some left) relay) m w (station_with h.state after)) by
+        (subst (λ (f : List ℕ). Plays tells (tags then) hands (send_off then sender.state (Some f) relay) m w (station_with sender.state after)) sent
+        (subst (λ (q : Relay T). Plays tells (tags then) hands (send_off then sender.state (Some frame) q) m w (station_with sender.state after)) on played))) in
+        rw (← made) (m, told, moved)
+
+    pub stops_act : Stops tells (tags then) hands fails (send_off then sender.state (Some frame) queues) m w → Stops tells (tags now) hands fails (act_script now done host.state left relay) here w
+    stops_act stopped =
+        let moved = subst (λ (n : ℕ). Stops tells (tags n) hands fails (send_off n host.state (Some left) relay) m w) at
+        (subst (λ (h : HostValue). Stops tells (tags then) hands fails (send_off then h.state (Some left) relay) m w) by
+        (subst (λ (f : List ℕ). Stops tells (tags then) hands fails (send_off then sender.state (Some f) relay) m w) sent
+        (subst (λ (q : Relay T). Stops tells (tags then) hands fails (send_off then sender.state (Some frame) q) m w) on stopped))) in
+        rw (← made) (inr (m, told, moved))

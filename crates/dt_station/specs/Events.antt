@@ -61,7 +61,7 @@ MayHappenHereNow p now host most (local.Send flow sent begin end) = MaySendNow p
 MayHappenHereNow p now host most (local.Read flow) = 0 < most
 MayHappenHereNow p now host most local.Tick = Unit {0}
 
--- WHAT STANDS IN THE BUFFER after a read: the octets of the piece at its head, and behind them what stood there.
+-- WHAT STANDS IN THE BUFFER after a read: the octets of the piece at its head, and after them what stood there.
 abbrev pub read_into : Params → ℕ → Flow → List ℕ → Host → List ℕ
 read_into p now flow old host = let taken = read_octets p now flow (length old) host in octets_of taken.0 ++ drop (length taken.0) old
 

@@ -6,7 +6,7 @@ use Rattle.dt_world_model.specs.declared.links.OutLink.{OutLink}
 use Rattle.dt_world_model.specs.declared.links.InLink.{InLink}
 use Rattle.dt_world_model.specs.declared.links.Route.{Route}
 use Rattle.dt_world_model.specs.Host.{Host, first_host, restarted_host}
-use Rattle.dt_world_model.specs.Relay.{IsOutUpTo, Relay, new_relay}
+use Rattle.dt_world_model.specs.Relay.{IsOutUpTo, Relay, new_relay, with_outs}
 use Rattle.dt_world_model.specs.Station.{Station, station_with}
 use Rattle.dt_relay.specs.Ways as ways
 
@@ -23,6 +23,13 @@ pub record IsStation {T : Type 0} (latest : ℕ) (host : HostValue) (relay : Rel
   pub host_past : host.latest ≤ latest
   pub relay_past : All (IsOutUpTo latest) relay.outs
 
+-- WHAT NO PART OF AN EVENT CHANGES: the parameters, the moment, the node, and all of the relay but its queues.
+pub record Stays {T : Type 0} (old new : StationValue T) : Type 0 where
+  pub rules : new.rules ≡ old.rules
+  pub latest : new.latest ≡ old.latest
+  pub me : new.state.host.me ≡ old.state.host.me
+  pub links : new.state.relay ≡ with_outs old.state.relay new.state.relay.outs
+
 -- the host of a node that starts for the first time, or again at a moment
 abbrev pub host_started : Params → ℕ → Option ℕ → Host
 host_started p me None = first_host me
@@ -37,6 +44,6 @@ abbrev pub is_spent_by : {A E : Type 0} → Result A E → Bool
 is_spent_by (Ok done) = false
 is_spent_by (Err fault) = true
 
--- one route more, behind the others
+-- one route more, after the others
 abbrev pub with_route : {T : Type 0} → Route → StationValue T → StationValue T
 with_route route s = record s { state = station_with s.state.host (ways.with_route route s.state.relay) }

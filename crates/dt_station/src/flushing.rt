@@ -1,5 +1,4 @@
-ghost use Rattle.std.specs.Prelude.{◌≡◌, ◌<◌, ◌≤◌, None, All, length, map};
-ghost use Rattle.dt_flow_model.specs.Keeping.{most_moment};
+ghost use Rattle.std.specs.Prelude.{◌≡◌, ◌<◌, None, All, length, map};
 ghost use Rattle.dt_relay.specs.Places.{link_in, link_of};
 ghost use Rattle.dt_world_model.specs.Relay.{IsOutUpTo, leave, on_link, with_outs};
 ghost use Rattle.dt_world_model.specs.Script.{Concludes};
@@ -8,29 +7,28 @@ ghost use Rattle.dt_station.specs.Leaving.{let_out};
 
 use crate::visitor::Visitor;
 use dt_items::NoMemory;
-use dt_relay::{Carry, Left, Relay};
+use dt_relay::{Carry, Left, Reading, Relay};
 use dt_reports::Report;
 
-/// Lets the first that may leave on the out link at a place leave: it is told, and handed out behind its
+/// Lets the first that may leave on the out link at a place leave: it is told, and handed out after its
 /// report. It stands apart, so that only where something leaves a packet is among the locals.
 #[inline(never)]
 fn let_out<P: Carry, V: Visitor<P>>(
     relay: &mut Relay<P>,
     place: usize,
-    now: u64,
+    now: Reading,
     visitor: &mut V,
 ) -> Result<(), NoMemory>
     requires place { place < length relay.old.outs }
-    requires past { All (IsOutUpTo now) relay.old.outs }
-    requires moment { now ≤ most_moment }
+    requires past { All (IsOutUpTo now.ms) relay.old.outs }
     ensures ends { let link = link_in relay.old.outs place in
-        Concludes V.tells (V.tags now) V.hands V.fails result (let_out link (on_link link None (leave now) relay.old.outs)) visitor.old visitor.new relay.new.outs }
+        Concludes V.tells (V.tags now.ms) V.hands V.fails result (let_out link (on_link link None (leave now.ms) relay.old.outs)) visitor.old visitor.new relay.new.outs }
     ensures after { let link = link_in relay.old.outs place in
-        relay.new ≡ with_outs relay.old (on_link link None (leave now) relay.old.outs).1 }
-    ensures past { All (IsOutUpTo now) relay.new.outs }
+        relay.new ≡ with_outs relay.old (on_link link None (leave now.ms) relay.old.outs).1 }
+    ensures past { All (IsOutUpTo now.ms) relay.new.outs }
 {
     let link = relay.link_at(place);
-    match relay.leave_at(place, now) {
+    match relay.leave_at(place, now.ms) {
         None => Ok(()),
         Some(Left::Expired) => {
             visitor.tell(&Report::ExpiredOut { link });
@@ -46,23 +44,22 @@ fn let_out<P: Carry, V: Visitor<P>>(
     }
 }
 
-/// Lets packets leave on the out link at a place until none does. Each is told, and handed out behind its
+/// Lets packets leave on the out link at a place until none does. Each is told, and handed out after its
 /// report.
 pub(crate) fn flush<P: Carry, V: Visitor<P>>(
     relay: &mut Relay<P>,
     place: usize,
-    now: u64,
+    now: Reading,
     visitor: &mut V,
 ) -> Result<(), NoMemory>
     requires place { place < length relay.old.outs }
-    requires past { All (IsOutUpTo now) relay.old.outs }
-    requires moment { now ≤ most_moment }
-    ensures ends { Concludes V.tells (V.tags now) V.hands V.fails result (flush_at (link_in relay.old.outs place) now relay.old.outs) visitor.old visitor.new relay.new.outs }
+    requires past { All (IsOutUpTo now.ms) relay.old.outs }
+    ensures ends { Concludes V.tells (V.tags now.ms) V.hands V.fails result (flush_at (link_in relay.old.outs place) now.ms relay.old.outs) visitor.old visitor.new relay.new.outs }
     ensures links { map link_of relay.new.outs ≡ map link_of relay.old.outs }
     ensures others { relay.new ≡ with_outs relay.old relay.new.outs }
-    ensures past { All (IsOutUpTo now) relay.new.outs }
+    ensures past { All (IsOutUpTo now.ms) relay.new.outs }
 {
-    'flush: while relay.is_ready(place, now) {
+    'flush: while relay.is_ready(place, now.ms) {
         let_out(relay, place, now, visitor)?;
     }
     Ok(())
@@ -72,14 +69,13 @@ pub(crate) fn flush<P: Carry, V: Visitor<P>>(
 pub(crate) fn flush_link<P: Carry, V: Visitor<P>>(
     relay: &mut Relay<P>,
     link: u16,
-    now: u64,
+    now: Reading,
     visitor: &mut V,
 ) -> Result<(), NoMemory>
-    requires past { All (IsOutUpTo now) relay.old.outs }
-    requires moment { now ≤ most_moment }
-    ensures ends { Concludes V.tells (V.tags now) V.hands V.fails result (flush_at link now relay.old.outs) visitor.old visitor.new relay.new.outs }
+    requires past { All (IsOutUpTo now.ms) relay.old.outs }
+    ensures ends { Concludes V.tells (V.tags now.ms) V.hands V.fails result (flush_at link now.ms relay.old.outs) visitor.old visitor.new relay.new.outs }
     ensures others { relay.new ≡ with_outs relay.old relay.new.outs }
-    ensures past { All (IsOutUpTo now) relay.new.outs }
+    ensures past { All (IsOutUpTo now.ms) relay.new.outs }
 {
     match relay.place(link) {
         None => Ok(()),
@@ -90,14 +86,13 @@ pub(crate) fn flush_link<P: Carry, V: Visitor<P>>(
 /// Flushes each out link, in their order.
 pub(crate) fn flush_all<P: Carry, V: Visitor<P>>(
     relay: &mut Relay<P>,
-    now: u64,
+    now: Reading,
     visitor: &mut V,
 ) -> Result<(), NoMemory>
-    requires past { All (IsOutUpTo now) relay.old.outs }
-    requires moment { now ≤ most_moment }
-    ensures ends { Concludes V.tells (V.tags now) V.hands V.fails result (flush_links now (map link_of relay.old.outs) relay.old.outs) visitor.old visitor.new relay.new.outs }
+    requires past { All (IsOutUpTo now.ms) relay.old.outs }
+    ensures ends { Concludes V.tells (V.tags now.ms) V.hands V.fails result (flush_links now.ms (map link_of relay.old.outs) relay.old.outs) visitor.old visitor.new relay.new.outs }
     ensures others { relay.new ≡ with_outs relay.old relay.new.outs }
-    ensures past { All (IsOutUpTo now) relay.new.outs }
+    ensures past { All (IsOutUpTo now.ms) relay.new.outs }
 {
     for place in 0..relay.links() {
         flush(relay, place, now, visitor)?;

@@ -1,5 +1,4 @@
-ghost use Rattle.std.specs.Prelude.{◌≡◌, ◌≤◌, All, Some};
-ghost use Rattle.dt_flow_model.specs.Keeping.{most_moment};
+ghost use Rattle.std.specs.Prelude.{◌≡◌, All, Some};
 ghost use Rattle.dt_layout.specs.Carried.{IsGram};
 ghost use Rattle.dt_relay.specs.Carrying.{parcel_seen};
 ghost use Rattle.dt_world_model.specs.Relay.{IsOutUpTo, with_outs};
@@ -11,7 +10,7 @@ use crate::visitor::Visitor;
 use dt_host::Host;
 use dt_items::NoMemory;
 use dt_layout::Frame;
-use dt_relay::{Carry, Entered, Passage, Relay};
+use dt_relay::{Carry, Entered, Passage, Reading, Relay};
 use dt_reports::Report;
 
 /// A packet whose octets are in the frame is passed on: it goes straight on from there, or enters the
@@ -20,18 +19,17 @@ pub(crate) fn pass_on<P: Carry, V: Visitor<P>>(
     relay: &mut Relay<P>,
     frame: &mut Frame,
     tag: P::Tag,
-    now: u64,
+    now: Reading,
     visitor: &mut V,
 ) -> Result<(), NoMemory>
     requires gram { IsGram frame.old }
-    requires past { All (IsOutUpTo now) relay.old.outs }
-    requires moment { now ≤ most_moment }
-    ensures ends { Concludes V.tells (V.tags now) V.hands V.fails result (pass_on (record { octets = frame.old; tag = tag }) now relay.old) visitor.old visitor.new relay.new }
+    requires past { All (IsOutUpTo now.ms) relay.old.outs }
+    ensures ends { Concludes V.tells (V.tags now.ms) V.hands V.fails result (pass_on (record { octets = frame.old; tag = tag }) now.ms relay.old) visitor.old visitor.new relay.new }
     ensures others { relay.new ≡ with_outs relay.old relay.new.outs }
-    ensures past { All (IsOutUpTo now) relay.new.outs }
+    ensures past { All (IsOutUpTo now.ms) relay.new.outs }
 {
     let life = Carry::life(frame);
-    match relay.pass(Carry::to(frame), life, now) {
+    match relay.pass(Carry::to(frame), life, now.ms) {
         Passage::Leaves { link } => {
             frame.lower(1);
             visitor.tell(&Report::Put {
@@ -63,15 +61,14 @@ fn wait<P: Carry, V: Visitor<P>>(
     relay: &mut Relay<P>,
     frame: &Frame,
     tag: P::Tag,
-    now: u64,
+    now: Reading,
     visitor: &mut V,
 ) -> Result<(), NoMemory>
     requires gram { IsGram frame.now }
-    requires past { All (IsOutUpTo now) relay.old.outs }
-    requires moment { now ≤ most_moment }
-    ensures ends { Concludes V.tells (V.tags now) V.hands V.fails result (pass_on (record { octets = frame.now; tag = tag }) now relay.old) visitor.old visitor.new relay.new }
+    requires past { All (IsOutUpTo now.ms) relay.old.outs }
+    ensures ends { Concludes V.tells (V.tags now.ms) V.hands V.fails result (pass_on (record { octets = frame.now; tag = tag }) now.ms relay.old) visitor.old visitor.new relay.new }
     ensures others { relay.new ≡ with_outs relay.old relay.new.outs }
-    ensures past { All (IsOutUpTo now) relay.new.outs }
+    ensures past { All (IsOutUpTo now.ms) relay.new.outs }
 {
     line_up(relay, P::make(frame, tag), now, visitor)
 }
@@ -80,17 +77,16 @@ fn wait<P: Carry, V: Visitor<P>>(
 fn line_up<P: Carry, V: Visitor<P>>(
     relay: &mut Relay<P>,
     packet: P,
-    now: u64,
+    now: Reading,
     visitor: &mut V,
 ) -> Result<(), NoMemory>
     requires gram { IsGram (P.octets packet) }
-    requires past { All (IsOutUpTo now) relay.old.outs }
-    requires moment { now ≤ most_moment }
-    ensures ends { Concludes V.tells (V.tags now) V.hands V.fails result (pass_on (parcel_seen P.octets P.label packet) now relay.old) visitor.old visitor.new relay.new }
+    requires past { All (IsOutUpTo now.ms) relay.old.outs }
+    ensures ends { Concludes V.tells (V.tags now.ms) V.hands V.fails result (pass_on (parcel_seen P.octets P.label packet) now.ms relay.old) visitor.old visitor.new relay.new }
     ensures others { relay.new ≡ with_outs relay.old relay.new.outs }
-    ensures past { All (IsOutUpTo now) relay.new.outs }
+    ensures past { All (IsOutUpTo now.ms) relay.new.outs }
 {
-    match relay.enter(packet, now) {
+    match relay.enter(packet, now.ms) {
         Entered::Queued { link } => flush_link(relay, link, now, visitor),
         Entered::NoRoute { to } => {
             visitor.tell(&Report::NoRoute { to });
@@ -108,16 +104,15 @@ pub(crate) fn send_off<P: Carry, V: Visitor<P>>(
     host: &Host,
     relay: &mut Relay<P>,
     frame: &mut Frame,
-    now: u64,
+    now: Reading,
     visitor: &mut V,
 ) -> Result<(), NoMemory>
     requires gram { IsGram frame.old }
-    requires past { All (IsOutUpTo now) relay.old.outs }
-    requires moment { now ≤ most_moment }
-    ensures ends { Concludes V.tells (V.tags now) V.hands V.fails result (send_off now host.now.state (Some frame.old) relay.old) visitor.old visitor.new (station_with host.now.state relay.new) }
+    requires past { All (IsOutUpTo now.ms) relay.old.outs }
+    ensures ends { Concludes V.tells (V.tags now.ms) V.hands V.fails result (send_off now.ms host.now.state (Some frame.old) relay.old) visitor.old visitor.new (station_with host.now.state relay.new) }
     ensures others { relay.new ≡ with_outs relay.old relay.new.outs }
-    ensures past { All (IsOutUpTo now) relay.new.outs }
+    ensures past { All (IsOutUpTo now.ms) relay.new.outs }
 {
-    let tag = visitor.tag(host, frame, now);
+    let tag = visitor.tag(host, frame, now.ms);
     pass_on(relay, frame, tag, now, visitor)
 }

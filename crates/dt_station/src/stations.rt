@@ -11,13 +11,13 @@ ghost use Rattle.dt_world_model.specs.Station.{Arrive, station_event, station_wa
 ghost use Rattle.dt_station.specs.Events.{LeavesBuffer, LeavesBufferHere, MayHappen, MayHappenHere, ReadsInto, ReadsIntoHere, event_seen, local_seen};
 ghost use Rattle.dt_station.specs.Stations.{host_started, is_spent_by, station_started, with_route};
 
+use crate::arriving::Came;
 use crate::events::{LocalEvent, StationEvent};
-use crate::happening::{arrival_on, local_event_on};
 use crate::visitor::Visitor;
 use dt_host::Host;
 use dt_items::NoMemory;
 use dt_layout::Frame;
-use dt_relay::{Carry, InLink, OutLink, Relay, Route, earlier};
+use dt_relay::{Carry, InLink, OutLink, Reading, Relay, Route, earlier};
 use dt_units::{NodeId, Rules};
 use std::alloc::Global;
 use std::marker::{Brand, Model};
@@ -30,14 +30,14 @@ use std::sync::ledger::Blank;
 /// given is at least that of the one before.
 #[derive(Drop)]
 pub struct Station<P: Carry> {
-    host: Box<Host>,
-    relay: Box<Relay<P>>,
+    pub(crate) host: Box<Host>,
+    pub(crate) relay: Box<Relay<P>>,
     /// In which the host makes its packets.
-    frame: Box<Frame>,
-    /// The greatest moment that it was given.
-    latest: u64,
+    pub(crate) frame: Box<Frame>,
+    /// The greatest moment that it was given: in an event, that of the event.
+    pub(crate) latest: Reading,
     /// An event found no memory.
-    spent: bool,
+    pub(crate) spent: bool,
 }
 
 // It holds no packet in place, so that it is as small for any kind of packets.
@@ -49,9 +49,9 @@ impl<P: Carry> Model for Station<P> {
 
     ghost Value = { StationValue P.Tag };
 
-    ghost view = { λ s. record { rules = s.host.value.rules; latest = s.latest; spent = s.spent; state = station_with s.host.value.state s.relay.value } };
+    ghost view = { λ s. record { rules = s.host.value.rules; latest = s.latest.ms; spent = s.spent; state = station_with s.host.value.state s.relay.value } };
 
-    ghost invariant = { λ s. IsStation s.latest s.host.value s.relay.value };
+    ghost invariant = { λ s. IsStation s.latest.ms s.host.value s.relay.value };
 }
 
 impl<P: Carry> Station<P> {
@@ -72,12 +72,15 @@ impl<P: Carry> Station<P> {
         ensures { IfOk result (λ station. station ≡ station_started rules.now me.0 again outs.now ins.now routes.now) }
     {
         let host = start_host(alloc, rules, me, again)?;
+        let latest = Reading {
+            ms: again.unwrap_or(0),
+        };
         let relay = Relay::new(alloc, outs, ins, routes)?;
         Ok(Station {
             host: Box::new(alloc, host)?,
             relay: Box::new(alloc, relay)?,
             frame: Box::new(alloc, Frame::new())?,
-            latest: again.unwrap_or(0),
+            latest,
             spent: false,
         })
     }
@@ -85,13 +88,13 @@ impl<P: Carry> Station<P> {
     /// Settles, does the event at `now`, and settles again.
     ///
     /// 1. To flush a link is to let packets leave it until none does. Each is told, and handed to the
-    ///    visitor behind its report; one that has expired is told.
+    ///    visitor after its report; one that has expired is told.
     /// 2. To settle is to flush each out link, in their order, and then to do the acts of the host until
     ///    none is due. Each act is told; then the frame that it made, if it made one, is tagged by the
     ///    visitor, enters the relay, and its link is flushed. One that doesn't enter is told.
     /// 3. Octets to send are given to the host, and it is told whether it took them.
     /// 4. Octets that are read are told, with at most as many as `buf` holds. They stand at its head
-    ///    afterwards, and behind them what stood there. Only a read needs room there, and only a read
+    ///    afterwards, and after them what stood there. Only a read needs room there, and only a read
     ///    writes to it.
     /// 5. A packet that comes pays the charge of its link first; where it can't, that is told.
     /// 6. One that isn't for this node enters the relay, and its link is flushed. It keeps its tag.
@@ -183,17 +186,8 @@ impl<P: Carry> Station<P> {
         // What it keeps is past.
         ensures latest { self.new.latest ≡ now }
     {
-        self.latest = now;
-        let done = local_event_on::<P, V, Brand>(
-            &mut *self.host,
-            &mut *self.relay,
-            &mut *self.frame,
-            now,
-            event,
-            buf,
-            Blank::new(1),
-            visitor,
-        );
+        self.latest = Reading { ms: now };
+        let done = self.do_local_event::<V, Brand>(event, buf, Blank::new(1), visitor);
         self.spent = done.is_err();
         done
     }
@@ -227,18 +221,9 @@ impl<P: Carry> Station<P> {
         // What it keeps is past.
         ensures latest { self.new.latest ≡ now }
     {
-        self.latest = now;
-        let ended = arrival_on::<P, V, Brand>(
-            &mut *self.host,
-            &mut *self.relay,
-            &mut *self.frame,
-            now,
-            link,
-            frame,
-            tag,
-            Blank::new(1),
-            visitor,
-        );
+        self.latest = Reading { ms: now };
+        let came = Came { link, frame, tag };
+        let ended = self.do_arrival::<V, Brand>(came, Blank::new(1), visitor);
         self.spent = ended.is_err();
         ended
     }

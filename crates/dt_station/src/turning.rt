@@ -1,72 +1,46 @@
-ghost use Rattle.std.specs.Prelude.{◌≡◌, ◌≤◌, All, Some, None, true, if◌then◌else◌, OnOk};
-ghost use Rattle.dt_flow_model.specs.Keeping.{most_moment};
-ghost use Rattle.dt_layout.specs.Carried.{IsGram};
-ghost use Rattle.dt_host.specs.Answers.{told_done};
+ghost use Rattle.std.specs.Prelude.{◌≡◌, OnOk};
 ghost use Rattle.dt_world_model.specs.Host.{IsCurrentHost, work};
-ghost use Rattle.dt_world_model.specs.Relay.{IsOutUpTo, with_outs};
-ghost use Rattle.dt_world_model.specs.Script.{Concludes, Tell};
-ghost use Rattle.dt_world_model.specs.Station.{do_turns, send_off, station_with};
+ghost use Rattle.dt_world_model.specs.Script.{Concludes};
+ghost use Rattle.dt_world_model.specs.Station.{do_turns};
 ghost use Rattle.dt_station.specs.Acts.{makes_frame};
+ghost use Rattle.dt_station.specs.Stations.{Stays};
 
 use crate::passing::send_off;
+use crate::stations::Station;
 use crate::telling::report_of_act;
 use crate::visitor::Visitor;
 use dt_flow_model::{RecvAct, SendAct};
-use dt_host::{Act, Done, Host};
+use dt_host::Act;
 use dt_items::NoMemory;
-use dt_layout::Frame;
-use dt_relay::{Carry, Relay};
+use dt_relay::Carry;
 use dt_units::Steps;
 use std::sync::ledger::Ledger;
 
-/// Does the acts of the host until none is due. Each is told, and then its frame goes off, which is
-/// made in `frame`.
-pub(crate) fn do_turns<P: Carry, V: Visitor<P>, L: Ledger>(
-    host: &mut Host,
-    relay: &mut Relay<P>,
-    frame: &mut Frame,
-    now: u64,
-    steps: &mut Steps<L>,
-    visitor: &mut V,
-) -> Result<(), NoMemory>
-    requires latest { host.old.latest ≤ now }
-    requires past { All (IsOutUpTo now) relay.old.outs }
-    requires moment { now ≤ most_moment }
-    ensures ends { Concludes V.tells (V.tags now) V.hands V.fails result (do_turns (work host.old.rules now host.old.state) host.old.rules now (station_with host.old.state relay.old)) visitor.old visitor.new (station_with host.new.state relay.new) }
-    ensures current { OnOk result (IsCurrentHost host.new.rules now host.new.state) }
-    ensures rules { host.new.rules ≡ host.old.rules }
-    ensures me { host.new.state.me ≡ host.old.state.me }
-    ensures others { relay.new ≡ with_outs relay.old relay.new.outs }
-    ensures latest { host.new.latest ≡ now }
-    ensures past { All (IsOutUpTo now) relay.new.outs }
-{
-    'turns: while let Some(done) = host.next(now, frame, steps) {
-        tell_act(host, relay, &done, frame, now, visitor)?;
-    }
-    Ok(())
-}
-
-/// An act is told, and the frame that it made goes off.
-fn tell_act<P: Carry, V: Visitor<P>>(
-    host: &Host,
-    relay: &mut Relay<P>,
-    done: &Done,
-    frame: &mut Frame,
-    now: u64,
-    visitor: &mut V,
-) -> Result<(), NoMemory>
-    requires gram { makes_frame done.now.act ≡ true → IsGram frame.old }
-    requires past { All (IsOutUpTo now) relay.old.outs }
-    requires moment { now ≤ most_moment }
-    ensures ends { let made = if makes_frame done.now.act then Some frame.old else None in
-        Concludes V.tells (V.tags now) V.hands V.fails result (Tell (told_done done.now) (send_off now host.now.state made relay.old)) visitor.old visitor.new (station_with host.now.state relay.new) }
-    ensures others { relay.new ≡ with_outs relay.old relay.new.outs }
-    ensures past { All (IsOutUpTo now) relay.new.outs }
-{
-    visitor.tell(&report_of_act(done));
-    if makes_frame(&done.act) {
-        send_off(host, relay, frame, now, visitor)
-    } else {
+impl<P: Carry> Station<P> {
+    /// Does the acts of the host until none is due. Each is told, and then its frame goes off, which is
+    /// made in the station's.
+    pub(crate) fn do_turns<V: Visitor<P>, L: Ledger>(
+        &mut self,
+        steps: &mut Steps<L>,
+        visitor: &mut V,
+    ) -> Result<(), NoMemory>
+        ensures ends { Concludes V.tells (V.tags self.old.latest) V.hands V.fails result (do_turns (work self.old.rules self.old.latest self.old.state.host) self.old.rules self.old.latest self.old.state) visitor.old visitor.new self.new.state }
+        ensures current { OnOk result (IsCurrentHost self.new.rules self.new.latest self.new.state.host) }
+        ensures stays { Stays self.old self.new }
+    {
+        'turns: while let Some(done) = self.host.next(self.latest.ms, &mut *self.frame, steps) {
+            visitor.tell(&report_of_act(&done));
+            if !makes_frame(&done.act) {
+                continue;
+            }
+            send_off(
+                &*self.host,
+                &mut *self.relay,
+                &mut *self.frame,
+                self.latest,
+                visitor,
+            )?;
+        }
         Ok(())
     }
 }

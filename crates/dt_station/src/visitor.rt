@@ -38,7 +38,7 @@ pub trait Visitor<P: Carry> {
     fn tell(&mut self, report: &Report<'_>)
         ensures { tells self.old (told report.now) self.new };
 
-    /// Is given a packet that leaves on a link after it waited for it, behind its report. An error ends
+    /// Is given a packet that leaves on a link after it waited for it, after its report. An error ends
     /// the event, and the station is used no more.
     fn out(&mut self, link: u16, packet: P) -> Result<(), NoMemory>
         requires gram { IsGram (P.octets packet) }

@@ -136,7 +136,7 @@ static ACKNOWLEDGED: [Row; 1] = [(
     ],
 )];
 
-/// Data for the station is accepted, and the acknowledgement that it makes goes out behind its report,
+/// Data for the station is accepted, and the acknowledgement that it makes goes out after its report,
 /// tagged. It goes back to node 1, to which there is no route.
 pub fn acknowledged() -> &'static [Row] {
     &ACKNOWLEDGED

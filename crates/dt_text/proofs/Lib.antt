@@ -10,3 +10,4 @@ pub mod HexLaws
 pub mod WordLaws
 pub mod RowLaws
 pub mod LineLaws
+pub mod TaskLaws

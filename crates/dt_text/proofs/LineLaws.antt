@@ -10,15 +10,22 @@ use Rattle.dt_reports.specs.declared.faults.LineFault.TheVariants as faults
 use Rattle.dt_text.specs.declared.lines.Form.{Form}
 use Rattle.dt_text.specs.declared.lines.Form.TheVariants.{Schedule, Script, Calls}
 use Rattle.dt_text.specs.declared.lines.Line.{Line}
+use Rattle.dt_text.specs.declared.lines.Line.TheVariants as lines
+use Rattle.dt_text.specs.declared.lines.Line.TheVariants.{Blank}
 use Rattle.dt_text.specs.declared.lines.NodeLine.{NodeLine}
 use Rattle.dt_text.specs.declared.lines.NodeLine.TheVariants as nodes
+use Rattle.dt_text.specs.declared.lines.RunLine.{RunLine}
+use Rattle.dt_text.specs.declared.lines.RunLine.TheVariants as runs
+use Rattle.dt_text.specs.declared.lines.ScriptLine.{ScriptLine}
+use Rattle.dt_text.specs.declared.lines.ScriptLine.TheVariants as scripts
 use Rattle.dt_text.specs.declared.lines.SetupLine.{SetupLine}
 use Rattle.dt_text.specs.declared.lines.SetupLine.TheVariants as setups
+use Rattle.dt_text.specs.declared.lines.UserLine.{UserLine}
+use Rattle.dt_text.specs.declared.lines.UserLine.TheVariants as users
 use Rattle.dt_text.specs.declared.lines.WorldLine.{WorldLine}
 use Rattle.dt_text.specs.declared.lines.WorldLine.TheVariants as worlds
 use Rattle.dt_text.specs.Splitting.{cut, words, word}
-use Rattle.dt_text.specs.Said as saids
-use Rattle.dt_text.specs.Said.{Said, RunSaid, ScriptSaid, UserSaid, Blank, ReadAs, said}
+use Rattle.dt_text.specs.Said.{Said, ReadAs, said}
 use Rattle.dt_text.specs.Rows.{Part, Fixed, Given, Makes, LineRow, LineKind, params_row, of_schedules, of_scripts, of_calls, behind_moments}
 use Rattle.dt_text.specs.Lines.{said_by, said_as, name_at, said_by_name, said_at, said_in, line_of}
 use Rattle.dt_text.specs.Spelling.{Values, made, texts, AreOfKinds, Way, in_world, in_schedule, in_script, setup_ways, world_ways, user_ways, run_ways, node_ways, at_ways, script_ways, ways, IsLine, way_text, IsSpelledBy, IsSpelling}
@@ -94,51 +101,54 @@ world-found Script (worlds.Pass by) = search refl
 world-found Calls (worlds.Pass by) = search refl
 world-found form line = search refl
 
-user-found : (form : Form) (line : UserSaid) → AreFound form (in_schedule form (user_ways line))
-unfolding said_as
-user-found Schedule (saids.Read flow max) = search refl
-user-found Script (saids.Read flow max) = search refl
-user-found Calls (saids.Read flow max) = search refl
-user-found form line = search refl
+-- lines of schedules alone, and of scripts alone
+schedule-found : (form : Form) (some : List Way) → AreFound Schedule some → AreFound form (in_schedule form some)
+schedule-found Schedule some h = h
+schedule-found Script some h = tt
+schedule-found Calls some h = tt
 
-run-found : (form : Form) (line : RunSaid) → AreFound form (run_ways form line)
-unfolding said_as
-run-found form (saids.World line) = world-found form line
-run-found form (saids.User line) = user-found form line
-run-found Schedule (saids.Call flow hex) = search refl
-run-found Script (saids.Call flow hex) = search refl
-run-found Calls (saids.Call flow hex) = search refl
+script-found : (form : Form) (some : List Way) → AreFound Script some → AreFound form (in_script form some)
+script-found Schedule some h = tt
+script-found Script some h = h
+script-found Calls some h = tt
 
-node-found : (form : Form) (line : NodeLine) → AreFound form (in_script form (node_ways line))
+user-found : (line : UserLine) → AreFound Schedule (user_ways line)
 unfolding said_as
-node-found Schedule (nodes.Me n again) = search refl
-node-found Script (nodes.Me n again) = search refl
-node-found Calls (nodes.Me n again) = search refl
-node-found form line = search refl
+user-found (users.Read flow max) = search refl
+user-found line = search refl
 
-at-found : (form : Form) (at : ℕ) (does : UserSaid) → AreFound form (in_script form (at_ways at does))
+run-found : (form : Form) (line : RunLine) → AreFound form (run_ways form line)
+unfolding said_as
+run-found form (runs.World line) = world-found form line
+run-found form (runs.User line) = schedule-found form (user_ways line) (user-found line)
+run-found Schedule (runs.Call flow hex) = search refl
+run-found Script (runs.Call flow hex) = search refl
+run-found Calls (runs.Call flow hex) = search refl
+
+node-found : (line : NodeLine) → AreFound Script (node_ways line)
+unfolding said_as
+node-found (nodes.Route to link) = search refl
+node-found line = search refl
+
+at-found : (at : ℕ) (does : UserLine) → AreFound Script (at_ways at does)
 unfolding said_as said_at
-at-found Schedule at (saids.Read flow max) = search refl
-at-found Script at (saids.Read flow max) = search refl
-at-found Calls at (saids.Read flow max) = search refl
-at-found form at does = search refl
+at-found at (users.Read flow max) = search refl
+at-found at does = search refl
 
-script-found : (form : Form) (line : ScriptSaid) → AreFound form (in_script form (script_ways line))
+script_line-found : (line : ScriptLine) → AreFound Script (script_ways line)
 unfolding said_as said_at
-script-found form (saids.Node line) = node-found form line
-script-found form (saids.At at does) = at-found form at does
-script-found Schedule (saids.Stop at) = search refl
-script-found Script (saids.Stop at) = search refl
-script-found Calls (saids.Stop at) = search refl
+script_line-found (scripts.Node line) = node-found line
+script_line-found (scripts.At at does) = at-found at does
+script_line-found line = search refl
 
 ways-found : (form : Form) (line : Said) → (line ≡ Blank) ⊎ AreFound form (ways form line)
 unfolding said_as
 ways-found Schedule Blank = inl refl
 ways-found Script Blank = inl refl
 ways-found Calls Blank = inl refl
-ways-found form (saids.Setup line) = inr (setup-found form line)
-ways-found form (saids.Run line) = inr (run-found form line)
-ways-found form (saids.Script line) = inr (script-found form line)
+ways-found form (lines.Setup line) = inr (setup-found form line)
+ways-found form (lines.Run line) = inr (run-found form line)
+ways-found form (lines.Script line) = inr (script-found form (script_ways line) (script_line-found line))
 ways-found form line = inr (search refl)
 
 spelled-read : (form : Form) (line : Said) (octets : List ℕ) (some : List Way) → AreFound form some → IsSpelledBy line octets some → line_of form octets ≡ Ok line

@@ -53,7 +53,7 @@ both : (a b : Bool) → (a && b) ≡ true → (a ≡ true) × (b ≡ true)
 both true b h = (refl, h)
 both false b h = cc
 
--- what was found behind a test passed it
+-- what was found after a test passed it
 found : (b : Bool) (r : Option ℕ) (n : ℕ) → cond b r None ≡ Some n → (b ≡ true) × (r ≡ Some n)
 found true r n h = (refl, h)
 found false r n h = cc

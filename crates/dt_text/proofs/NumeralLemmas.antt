@@ -9,7 +9,7 @@ use Rattle.std.proofs.lemmas.Bool.{cases_Bool, cases_lt}
 use Rattle.std.proofs.lemmas.Bool.Decides.{nat_tests}
 use Rattle.dt_text.specs.Numerals.{digits_number}
 
--- the number that digits make behind a value so far, if they do
+-- the number that digits make after a value so far, if they do
 pub number_on : ℕ → ℕ → List ℕ → Option ℕ
 number_on most value digits = cond (all_ascii_digits digits && nat_le (digits_value_after 10 value digits) most) (Some (digits_value_after 10 value digits)) None
 
@@ -53,7 +53,7 @@ number_on-step most value digit digits None small h =
 number_on-step most value digit digits (Some next) small h =
     by_digit most value digit digits true h.0.0 ∙ ap (λ n. number_on most n digits) (sym h.1)
 
--- digits alone make what they make behind 0
+-- digits alone make what they make after 0
 pub digits_number-is : (most : ℕ) (digits : List ℕ) → digits_number most digits ≡ number_on most 0 digits
 unfolding digits_number number_on
 digits_number-is most digits = refl

@@ -8,4 +8,5 @@ pub mod WordKinds
 pub mod Rows
 pub mod Lines
 pub mod Stages
+pub mod Tasks
 pub mod Spelling

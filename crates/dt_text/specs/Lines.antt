@@ -7,7 +7,8 @@ use Rattle.dt_reports.specs.declared.faults.LineFault.TheVariants as faults
 use Rattle.dt_text.specs.declared.lines.Form.{Form}
 use Rattle.dt_text.specs.declared.lines.Form.TheVariants.{Schedule, Script, Calls}
 use Rattle.dt_text.specs.Splitting.{words, word}
-use Rattle.dt_text.specs.Said.{Said, Blank}
+use Rattle.dt_text.specs.declared.lines.Line.TheVariants.{Blank}
+use Rattle.dt_text.specs.Said.{Said}
 use Rattle.dt_text.specs.WordKinds.{value_read}
 use Rattle.dt_text.specs.Rows.{Part, Fixed, Given, Makes, LineKind, of_schedules, of_scripts, of_calls, behind_moments}
 
@@ -43,7 +44,7 @@ abbrev pub said_by_name : ℕ → List LineKind → List (List ℕ) → Result S
 said_by_name place [] line = Err faults.Word
 said_by_name place (kind ∷ kinds) line = if bytes_eq (word place line) (name_at place kind) then said_as kind line else said_by_name place kinds line
 
--- behind `at T` the third word names the kind
+-- after `at T` the third word names the kind
 unfoldable pub said_at : List (List ℕ) → Result Said LineFault
 said_at line = if nat_lt (length line) 3 then Err faults.Count else said_by_name 2 behind_moments line
 

@@ -1,10 +1,14 @@
 -- The lines of schedules, of scripts and of calls, a row each: which words a line has, and what it says.
 use Rattle.std.specs.Prelude.{ℕ, List, [], ◌∷◌, codes, replicate}
 use Rattle.dt_units.specs.Limits.{day}
+use Rattle.dt_text.specs.declared.lines.Line.TheVariants.{Params, Go, Setup, Run, Script}
 use Rattle.dt_text.specs.declared.lines.NodeLine.TheVariants as nodes
+use Rattle.dt_text.specs.declared.lines.RunLine.TheVariants.{World, User}
+use Rattle.dt_text.specs.declared.lines.ScriptLine.TheVariants.{Me, Local, Node, At, Stop}
 use Rattle.dt_text.specs.declared.lines.SetupLine.TheVariants as setups
+use Rattle.dt_text.specs.declared.lines.UserLine.TheVariants.{Read}
 use Rattle.dt_text.specs.declared.lines.WorldLine.TheVariants as worlds
-use Rattle.dt_text.specs.Said.{Said, Params, Go, Setup, Run, Script, World, User, Call, Node, At, Stop, Send, Read}
+use Rattle.dt_text.specs.Said.{Said, call_said, send_said}
 use Rattle.dt_text.specs.WordKinds.{WordKind, NumberWord, FlowWord, AddressWord, HexWord, MarksWord, AgainWord, Value}
 
 -- A word of a line is fixed, or it is one of a kind and gives the line a value.
@@ -117,7 +121,7 @@ pass_row = record { words = Fixed (codes "pass") ∷ number_word ∷ []; says = 
 
 -- `send FLOW MARKS HEX`
 abbrev pub send_row : LineRow
-send_row = record { words = Fixed (codes "send") ∷ flow_word ∷ marks_word ∷ hex_word ∷ []; says = λ flow marks hex. Run (User (Send flow marks.0 marks.1 hex)) }
+send_row = record { words = Fixed (codes "send") ∷ flow_word ∷ marks_word ∷ hex_word ∷ []; says = λ flow marks hex. Run (User (send_said flow marks.0 marks.1 hex)) }
 
 -- `read FLOW MAX`
 abbrev pub read_row : LineRow
@@ -141,15 +145,15 @@ restart_row = record { words = Fixed (codes "restart") ∷ number_word ∷ []; s
 
 -- `call FLOW HEX`
 abbrev pub call_row : LineRow
-call_row = record { words = Fixed (codes "call") ∷ flow_word ∷ payload_word ∷ []; says = λ flow hex. Run (Call flow hex) }
+call_row = record { words = Fixed (codes "call") ∷ flow_word ∷ payload_word ∷ []; says = λ flow hex. Run (call_said flow hex) }
 
 -- `me N first` or `me N again`
 abbrev pub me_row : LineRow
-me_row = record { words = Fixed (codes "me") ∷ number_word ∷ again_word ∷ []; says = λ n again. Script (Node (nodes.Me n again)) }
+me_row = record { words = Fixed (codes "me") ∷ number_word ∷ again_word ∷ []; says = λ n again. Script (Me n again) }
 
 -- `local ADDRESS`
 abbrev pub local_row : LineRow
-local_row = record { words = Fixed (codes "local") ∷ address_word ∷ []; says = λ address. Script (Node (nodes.Local address)) }
+local_row = record { words = Fixed (codes "local") ∷ address_word ∷ []; says = λ address. Script (Local address) }
 
 -- `peer L ADDRESS CHARGE PACE`
 abbrev pub peer_row : LineRow
@@ -167,7 +171,7 @@ shelf_row = record { words = Fixed (codes "shelf") ∷ room_word ∷ []; says = 
 abbrev pub at_send_row : LineRow
 at_send_row = record {
   words = Fixed (codes "at") ∷ number_word ∷ Fixed (codes "send") ∷ flow_word ∷ marks_word ∷ hex_word ∷ [];
-  says = λ at flow marks hex. Script (At at (Send flow marks.0 marks.1 hex));
+  says = λ at flow marks hex. Script (At at (send_said flow marks.0 marks.1 hex));
 }
 
 -- `at T read FLOW MAX`
@@ -194,10 +198,10 @@ of_calls =
     (params_row ∷ params_start_row ∷ []) ∷ (station_row ∷ []) ∷ (link_row ∷ []) ∷ (route_row ∷ []) ∷ (go_row ∷ [])
     ∷ (call_row ∷ []) ∷ (pass_row ∷ []) ∷ (tick_row ∷ []) ∷ (arrive_row ∷ []) ∷ (lose_row ∷ []) ∷ (restart_row ∷ []) ∷ []
 
--- the kinds of lines of a script, but for those behind `at T`
+-- the kinds of lines of a script, but for those after `at T`
 abbrev pub of_scripts : List LineKind
 of_scripts = (params_row ∷ params_start_row ∷ []) ∷ (me_row ∷ []) ∷ (local_row ∷ []) ∷ (peer_row ∷ []) ∷ (own_route_row ∷ []) ∷ (shelf_row ∷ []) ∷ (go_row ∷ []) ∷ []
 
--- the kinds of lines of a script behind `at T`
+-- the kinds of lines of a script after `at T`
 abbrev pub behind_moments : List LineKind
 behind_moments = (at_send_row ∷ []) ∷ (at_read_row ∷ []) ∷ (at_stop_row ∷ []) ∷ []

@@ -3,14 +3,20 @@ use Rattle.std.specs.Prelude.{◌≡◌, ◌⊎◌, ℕ, List, [], ◌∷◌, �
 use Rattle.std.specs.List.{join_with_byte}
 use Rattle.dt_text.specs.declared.lines.Form.{Form}
 use Rattle.dt_text.specs.declared.lines.Form.TheVariants.{Schedule, Script, Calls}
+use Rattle.dt_text.specs.declared.lines.Line.TheVariants as lines
 use Rattle.dt_text.specs.declared.lines.NodeLine.{NodeLine}
 use Rattle.dt_text.specs.declared.lines.NodeLine.TheVariants as nodes
+use Rattle.dt_text.specs.declared.lines.RunLine.{RunLine}
+use Rattle.dt_text.specs.declared.lines.RunLine.TheVariants as runs
+use Rattle.dt_text.specs.declared.lines.ScriptLine.{ScriptLine}
+use Rattle.dt_text.specs.declared.lines.ScriptLine.TheVariants as scripts
 use Rattle.dt_text.specs.declared.lines.SetupLine.{SetupLine}
 use Rattle.dt_text.specs.declared.lines.SetupLine.TheVariants as setups
+use Rattle.dt_text.specs.declared.lines.UserLine.{UserLine}
+use Rattle.dt_text.specs.declared.lines.UserLine.TheVariants as users
 use Rattle.dt_text.specs.declared.lines.WorldLine.{WorldLine}
 use Rattle.dt_text.specs.declared.lines.WorldLine.TheVariants as worlds
-use Rattle.dt_text.specs.Said as said
-use Rattle.dt_text.specs.Said.{Said, RunSaid, ScriptSaid, UserSaid, Blank, Params, Go, Setup, Run, World, User, Call, Node, At, Stop, Send, Read}
+use Rattle.dt_text.specs.Said.{Said}
 use Rattle.dt_text.specs.WordKinds.{Value, value_text, IsOfKind}
 use Rattle.dt_text.specs.Rows.{Part, Fixed, Given, Makes, LineRow, params_row, params_start_row, station_row, link_row, route_row, go_row, pass_row, send_row, read_row, tick_row, arrive_row, lose_row, restart_row, me_row, local_row, peer_row, own_route_row, at_send_row, at_read_row, at_stop_row, shelf_row, call_row}
 
@@ -69,7 +75,7 @@ in_calls Calls ways = ways
 
 -- a blank line has no words
 abbrev pub blank_row : LineRow
-blank_row = record { words = []; says = Blank }
+blank_row = record { words = []; says = lines.Blank }
 
 -- The rows by which a line may be written, with the values of their words, for each kind of lines.
 abbrev pub setup_ways : SetupLine → List Way
@@ -84,41 +90,41 @@ world_ways (worlds.Arrive copy) = by arrive_row (copy, tt)
 world_ways (worlds.Lose copy) = by lose_row (copy, tt)
 world_ways (worlds.Restart n) = by restart_row (n, tt)
 
-abbrev pub user_ways : UserSaid → List Way
-user_ways (Send flow begin end hex) = by send_row (flow, ((begin, end), (hex, tt)))
-user_ways (Read flow max) = by read_row (flow, (max, tt))
+abbrev pub user_ways : UserLine → List Way
+user_ways (users.Send flow begin end hex) = by send_row (flow, ((begin, end), (hex.now, tt)))
+user_ways (users.Read flow max) = by read_row (flow, (max, tt))
 
-abbrev pub run_ways : Form → RunSaid → List Way
-run_ways form (World line) = in_world form (world_ways line)
-run_ways form (User line) = in_schedule form (user_ways line)
-run_ways form (Call flow hex) = in_calls form (by call_row (flow, (hex, tt)))
+abbrev pub run_ways : Form → RunLine → List Way
+run_ways form (runs.World line) = in_world form (world_ways line)
+run_ways form (runs.User line) = in_schedule form (user_ways line)
+run_ways form (runs.Call flow hex) = in_calls form (by call_row (flow, (hex.now, tt)))
 
 abbrev pub node_ways : NodeLine → List Way
-node_ways (nodes.Me n again) = by me_row (n, (again, tt))
-node_ways (nodes.Local address) = by local_row (address, tt)
 node_ways (nodes.Peer link address charge pace) = by peer_row (link, (address, (charge, (pace, tt))))
 node_ways (nodes.Route to link) = by own_route_row (to, (link, tt))
 node_ways (nodes.Shelf room) = by shelf_row (room, tt)
 
-abbrev pub at_ways : ℕ → UserSaid → List Way
-at_ways at (Send flow begin end hex) = by at_send_row (at, (flow, ((begin, end), (hex, tt))))
-at_ways at (Read flow max) = by at_read_row (at, (flow, (max, tt)))
+abbrev pub at_ways : ℕ → UserLine → List Way
+at_ways at (users.Send flow begin end hex) = by at_send_row (at, (flow, ((begin, end), (hex.now, tt))))
+at_ways at (users.Read flow max) = by at_read_row (at, (flow, (max, tt)))
 
-abbrev pub script_ways : ScriptSaid → List Way
-script_ways (Node line) = node_ways line
-script_ways (At at does) = at_ways at does
-script_ways (Stop at) = by at_stop_row (at, tt)
+abbrev pub script_ways : ScriptLine → List Way
+script_ways (scripts.Me n again) = by me_row (n, (again, tt))
+script_ways (scripts.Local address) = by local_row (address, tt)
+script_ways (scripts.Node line) = node_ways line
+script_ways (scripts.At at does) = at_ways at does
+script_ways (scripts.Stop at) = by at_stop_row (at, tt)
 
 -- Where a row leaves a part of the line out, it is a way to write the lines alone that it makes.
 abbrev pub ways : Form → Said → List Way
-ways form Blank = by blank_row tt
-ways form (Params p) =
+ways form lines.Blank = by blank_row tt
+ways form (lines.Params p) =
     by params_start_row (p.mpl, (p.r, (p.a, (p.rto, (p.probe, (p.seg, (p.cap, (p.rcap, (p.window, (p.run_limit, (p.start, tt)))))))))))
     ++ by params_row (p.mpl, (p.r, (p.a, (p.rto, (p.probe, (p.seg, (p.cap, (p.rcap, (p.window, (p.run_limit, tt))))))))))
-ways form Go = by go_row tt
-ways form (Setup line) = in_world form (setup_ways line)
-ways form (Run line) = run_ways form line
-ways form (said.Script line) = in_script form (script_ways line)
+ways form lines.Go = by go_row tt
+ways form (lines.Setup line) = in_world form (setup_ways line)
+ways form (lines.Run line) = run_ways form line
+ways form (lines.Script line) = in_script form (script_ways line)
 
 -- the row makes the line, with values of the kinds of its words
 abbrev pub IsWay : Said → Way → Type 0

@@ -10,6 +10,6 @@ words line = slice_split (λ octet. octet == 32) line
 abbrev pub word : ℕ → List (List ℕ) → List ℕ
 word place line = slice_index_or line place []
 
--- what stands before the first of these octets, and what stands behind it, if there is one
+-- what stands before the first of these octets, and what stands after it, if there is one
 abbrev pub cut : ℕ → List ℕ → Option (List ℕ × List ℕ)
 cut octet text = option_map (λ place. (take place text, drop (place + 1) text)) (position (λ x. x == octet) text)

@@ -1,4 +1,4 @@
-//! The words behind the first word of a line: what each may be, and its fault where it isn't that.
+//! The words after the first word of a line: what each may be, and its fault where it isn't that.
 ghost use Rattle.std.specs.Prelude.{◌≡◌, ◌==◌, ◌<◌, ◌≤◌, length, IfOk, OnOk, MatchResult, if◌then◌else◌};
 ghost use Rattle.dt_text.specs.WordKinds.{value_read, NumberWord, FlowWord, AddressWord, HexWord, MarksWord, AgainWord};
 ghost use Rattle.dt_text.specs.Rows.{any_number, called_octets, link_number, link_time, read_count, sent_octets, shelf_count};

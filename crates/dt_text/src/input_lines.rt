@@ -3,7 +3,7 @@ ghost use Rattle.dt_text.specs.InputLines.{lines_of};
 
 use memchr::memchr;
 
-/// The first line of an input that isn't empty, without its line feed, and what stands behind it.
+/// The first line of an input that isn't empty, without its line feed, and what stands after it.
 /// The cost is the line, and no memory is taken.
 pub fn split_line(input: &[u8]) -> (&[u8], &[u8])
     requires { 0 < length input.now }

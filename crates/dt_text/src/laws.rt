@@ -10,7 +10,7 @@ ghost use Rattle.dt_text.specs.Hexadecimal.{is_hex, are_pairs, octets_of_hex};
 ghost use Rattle.dt_log.specs.Words.{flow_text, hex_text};
 ghost use Rattle.dt_units.specs.Flows.{IsFlow};
 ghost use Rattle.dt_text.specs.Spelling.{IsLine, IsSpelling};
-ghost use Rattle.dt_text.specs.Said as said;
+ghost use Rattle.dt_text.specs.declared.lines.Line.TheVariants as lines;
 ghost use Rattle.dt_text.specs.Said.{Said};
 ghost use Rattle.dt_text.specs.Lines.{line_of};
 ghost use Rattle.dt_text.specs.declared.lines.Form.{Form};
@@ -40,5 +40,5 @@ pub fn octets_have_one_spelling_in_lower_case()
 /// spelling. Parameters whose START is 0 have two: START may be left out.
 pub fn lines_are_their_spellings()
     ensures read { (form : Form) (line : Said) (octets : List ℕ) → IsSpelling form line octets → line_of form octets ≡ Ok line }
-    ensures only { (form : Form) (line : Said) (octets : List ℕ) → line_of form octets ≡ Ok line → (line ≡ said.Blank) ⊎ (IsLine form line × IsSpelling form line octets) }
+    ensures only { (form : Form) (line : Said) (octets : List ℕ) → line_of form octets ≡ Ok line → (line ≡ lines.Blank) ⊎ (IsLine form line × IsSpelling form line octets) }
 {}

@@ -13,6 +13,7 @@ mod numerals;
 mod reading;
 pub mod splitting;
 mod stages;
+mod tasks;
 
 pub use dt_log::{put_flow, put_hex, put_number, write_line};
 pub use dt_reports::{Fault, LineFault, LogLine, Refusal, Report, SetupFault, StepFault};
@@ -23,3 +24,4 @@ pub use lines::{Form, Line, NodeLine, RunLine, ScriptLine, SetupLine, UserLine, 
 pub use numerals::read_number;
 pub use reading::read_line;
 pub use stages::{Stage, follows};
+pub use tasks::Task;

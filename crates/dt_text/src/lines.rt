@@ -14,7 +14,7 @@ pub enum Form {
 }
 
 /// A line of an input, as its words say. Lines of a kind have a type of their own: those of the setup of
-/// a world, those behind its `go`, and those of a script alone.
+/// a world, those after its `go`, and those of a script alone.
 #[derive(Clone, Copy, Debug, PartialEq, Eq)]
 pub enum Line<'a> {
     /// An empty line, or one that begins with `#`.
@@ -26,7 +26,7 @@ pub enum Line<'a> {
     Go,
     /// The setup of a world: of schedules and of inputs of calls.
     Setup(SetupLine),
-    /// Behind `go`, of schedules and of inputs of calls.
+    /// After `go`, of schedules and of inputs of calls.
     Run(RunLine<'a>),
     /// Of a script.
     Script(ScriptLine<'a>),
@@ -57,7 +57,7 @@ pub enum SetupLine {
     },
 }
 
-/// A line behind `go` in the input of a world.
+/// A line after `go` in the input of a world.
 #[derive(Clone, Copy, Debug, PartialEq, Eq)]
 pub enum RunLine<'a> {
     /// Of schedules and of inputs of calls: what happens to the world.
@@ -101,27 +101,24 @@ pub enum UserLine<'a> {
     },
 }
 
-/// A line of a script alone. The moments behind its `go` are in ms after the first reading of the clock.
+/// A line of a script alone. The moments after its `go` are in ms after the first reading of the clock.
 #[derive(Clone, Copy, Debug, PartialEq, Eq)]
 pub enum ScriptLine<'a> {
-    /// Before `go`: the node is set up.
+    /// Before `go`: the node's number, and whether it begins again after an earlier life.
+    Me { n: u32, again: bool },
+    /// Before `go`: the address that the node binds.
+    Local(Address),
+    /// Before `go`: how the node is reached, and what it has.
     Node(NodeLine),
-    /// Behind `go`: what the user of the node does at this moment.
+    /// After `go`: what the user of the node does at this moment.
     At { at: u32, does: UserLine<'a> },
-    /// Behind `go`: the run ends at this moment.
+    /// After `go`: the run ends at this moment.
     Stop { at: u32 },
 }
 
-/// A line by which a script sets up its node.
+/// A line by which a script sets up its node, whose number and address are known.
 #[derive(Clone, Copy, Debug, PartialEq, Eq)]
 pub enum NodeLine {
-    /// The node's number, and whether it begins again after an earlier life.
-    Me {
-        n: u32,
-        again: bool,
-    },
-    /// The address that the node binds.
-    Local(Address),
     /// The other end of a link in both directions. Its number is 0 to 255. Its charge and its pace are
     /// 0 to 86,400,000 ms.
     Peer {

@@ -69,15 +69,25 @@ fn params_line<'a>(words: &Words<'a>) -> Result<Line<'a>, LineFault>
     }))
 }
 
+/// A line of so many words, of which these are read from left to right, each by its place.
+macro_rules! read_words {
+    ($words:expr, $count:expr; $($name:pat = $read:ident($place:expr)),*; $line:expr) => {{
+        has($count, $words)?;
+        $(let $name = $read($words.word($place))?;)*
+        Ok($line)
+    }};
+}
+
 /// `station N ZERO`
 #[tactic(auto, unfolding(crate::specs::Lines::said_as))]
 fn station_line<'a>(words: &Words<'a>) -> Result<Line<'a>, LineFault>
     ensures { ReadAs result (said_as (rows.station_row ∷ []) words.now) }
 {
-    has(3, words)?;
-    let n = number(words.word(1))?;
-    let zero = number(words.word(2))?;
-    Ok(Line::Setup(SetupLine::Station { n, zero }))
+    read_words! { words, 3;
+        n = number(1),
+        zero = number(2);
+        Line::Setup(SetupLine::Station { n, zero })
+    }
 }
 
 /// `link L FROM TO CHARGE PACE`
@@ -85,19 +95,14 @@ fn station_line<'a>(words: &Words<'a>) -> Result<Line<'a>, LineFault>
 fn link_line<'a>(words: &Words<'a>) -> Result<Line<'a>, LineFault>
     ensures { ReadAs result (said_as (rows.link_row ∷ []) words.now) }
 {
-    has(6, words)?;
-    let link = link(words.word(1))?;
-    let from = number(words.word(2))?;
-    let to = number(words.word(3))?;
-    let charge = day(words.word(4))?;
-    let pace = day(words.word(5))?;
-    Ok(Line::Setup(SetupLine::Link {
-        link,
-        from,
-        to,
-        charge,
-        pace,
-    }))
+    read_words! { words, 6;
+        link = link(1),
+        from = number(2),
+        to = number(3),
+        charge = day(4),
+        pace = day(5);
+        Line::Setup(SetupLine::Link { link, from, to, charge, pace })
+    }
 }
 
 /// `route AT TO L`
@@ -105,11 +110,12 @@ fn link_line<'a>(words: &Words<'a>) -> Result<Line<'a>, LineFault>
 fn route_line<'a>(words: &Words<'a>) -> Result<Line<'a>, LineFault>
     ensures { ReadAs result (said_as (rows.route_row ∷ []) words.now) }
 {
-    has(4, words)?;
-    let at = number(words.word(1))?;
-    let to = number(words.word(2))?;
-    let link = link(words.word(3))?;
-    Ok(Line::Setup(SetupLine::Route { at, to, link }))
+    read_words! { words, 4;
+        at = number(1),
+        to = number(2),
+        link = link(3);
+        Line::Setup(SetupLine::Route { at, to, link })
+    }
 }
 
 /// `go`
@@ -126,9 +132,10 @@ fn go_line<'a>(words: &Words<'_>) -> Result<Line<'a>, LineFault>
 fn pass_line<'a>(words: &Words<'a>) -> Result<Line<'a>, LineFault>
     ensures { ReadAs result (said_as (rows.pass_row ∷ []) words.now) }
 {
-    has(2, words)?;
-    let by = number(words.word(1))?;
-    Ok(Line::Run(RunLine::World(WorldLine::Pass { by })))
+    read_words! { words, 2;
+        by = number(1);
+        Line::Run(RunLine::World(WorldLine::Pass { by }))
+    }
 }
 
 /// `send FLOW MARKS HEX`
@@ -136,16 +143,12 @@ fn pass_line<'a>(words: &Words<'a>) -> Result<Line<'a>, LineFault>
 fn send_line<'a>(words: &Words<'a>) -> Result<Line<'a>, LineFault>
     ensures { ReadAs result (said_as (rows.send_row ∷ []) words.now) }
 {
-    has(4, words)?;
-    let flow = flow(words.word(1))?;
-    let (begin, end) = marks(words.word(2))?;
-    let hex = hex(words.word(3))?;
-    Ok(Line::Run(RunLine::User(UserLine::Send {
-        flow,
-        begin,
-        end,
-        hex,
-    })))
+    read_words! { words, 4;
+        flow = flow(1),
+        (begin, end) = marks(2),
+        hex = hex(3);
+        Line::Run(RunLine::User(UserLine::Send { flow, begin, end, hex }))
+    }
 }
 
 /// `read FLOW MAX`
@@ -153,10 +156,11 @@ fn send_line<'a>(words: &Words<'a>) -> Result<Line<'a>, LineFault>
 fn reading_line<'a>(words: &Words<'a>) -> Result<Line<'a>, LineFault>
     ensures { ReadAs result (said_as (rows.read_row ∷ []) words.now) }
 {
-    has(3, words)?;
-    let flow = flow(words.word(1))?;
-    let max = max(words.word(2))?;
-    Ok(Line::Run(RunLine::User(UserLine::Read { flow, max })))
+    read_words! { words, 3;
+        flow = flow(1),
+        max = max(2);
+        Line::Run(RunLine::User(UserLine::Read { flow, max }))
+    }
 }
 
 /// `tick N`
@@ -164,9 +168,10 @@ fn reading_line<'a>(words: &Words<'a>) -> Result<Line<'a>, LineFault>
 fn tick_line<'a>(words: &Words<'a>) -> Result<Line<'a>, LineFault>
     ensures { ReadAs result (said_as (rows.tick_row ∷ []) words.now) }
 {
-    has(2, words)?;
-    let n = number(words.word(1))?;
-    Ok(Line::Run(RunLine::World(WorldLine::Tick { n })))
+    read_words! { words, 2;
+        n = number(1);
+        Line::Run(RunLine::World(WorldLine::Tick { n }))
+    }
 }
 
 /// `arrive C`
@@ -174,9 +179,10 @@ fn tick_line<'a>(words: &Words<'a>) -> Result<Line<'a>, LineFault>
 fn arrive_line<'a>(words: &Words<'a>) -> Result<Line<'a>, LineFault>
     ensures { ReadAs result (said_as (rows.arrive_row ∷ []) words.now) }
 {
-    has(2, words)?;
-    let copy = number(words.word(1))?;
-    Ok(Line::Run(RunLine::World(WorldLine::Arrive { copy })))
+    read_words! { words, 2;
+        copy = number(1);
+        Line::Run(RunLine::World(WorldLine::Arrive { copy }))
+    }
 }
 
 /// `lose C`
@@ -184,9 +190,10 @@ fn arrive_line<'a>(words: &Words<'a>) -> Result<Line<'a>, LineFault>
 fn lose_line<'a>(words: &Words<'a>) -> Result<Line<'a>, LineFault>
     ensures { ReadAs result (said_as (rows.lose_row ∷ []) words.now) }
 {
-    has(2, words)?;
-    let copy = number(words.word(1))?;
-    Ok(Line::Run(RunLine::World(WorldLine::Lose { copy })))
+    read_words! { words, 2;
+        copy = number(1);
+        Line::Run(RunLine::World(WorldLine::Lose { copy }))
+    }
 }
 
 /// `restart N`
@@ -194,9 +201,10 @@ fn lose_line<'a>(words: &Words<'a>) -> Result<Line<'a>, LineFault>
 fn restart_line<'a>(words: &Words<'a>) -> Result<Line<'a>, LineFault>
     ensures { ReadAs result (said_as (rows.restart_row ∷ []) words.now) }
 {
-    has(2, words)?;
-    let n = number(words.word(1))?;
-    Ok(Line::Run(RunLine::World(WorldLine::Restart { n })))
+    read_words! { words, 2;
+        n = number(1);
+        Line::Run(RunLine::World(WorldLine::Restart { n }))
+    }
 }
 
 /// `me N first` or `me N again`
@@ -204,10 +212,11 @@ fn restart_line<'a>(words: &Words<'a>) -> Result<Line<'a>, LineFault>
 fn me_line<'a>(words: &Words<'a>) -> Result<Line<'a>, LineFault>
     ensures { ReadAs result (said_as (rows.me_row ∷ []) words.now) }
 {
-    has(3, words)?;
-    let n = number(words.word(1))?;
-    let again = again(words.word(2))?;
-    Ok(Line::Script(ScriptLine::Node(NodeLine::Me { n, again })))
+    read_words! { words, 3;
+        n = number(1),
+        again = again(2);
+        Line::Script(ScriptLine::Me { n, again })
+    }
 }
 
 /// `local ADDRESS`
@@ -215,9 +224,10 @@ fn me_line<'a>(words: &Words<'a>) -> Result<Line<'a>, LineFault>
 fn local_line<'a>(words: &Words<'a>) -> Result<Line<'a>, LineFault>
     ensures { ReadAs result (said_as (rows.local_row ∷ []) words.now) }
 {
-    has(2, words)?;
-    let address = address(words.word(1))?;
-    Ok(Line::Script(ScriptLine::Node(NodeLine::Local(address))))
+    read_words! { words, 2;
+        address = address(1);
+        Line::Script(ScriptLine::Local(address))
+    }
 }
 
 /// `peer L ADDRESS CHARGE PACE`
@@ -225,17 +235,13 @@ fn local_line<'a>(words: &Words<'a>) -> Result<Line<'a>, LineFault>
 fn peer_line<'a>(words: &Words<'a>) -> Result<Line<'a>, LineFault>
     ensures { ReadAs result (said_as (rows.peer_row ∷ []) words.now) }
 {
-    has(5, words)?;
-    let link = link(words.word(1))?;
-    let address = address(words.word(2))?;
-    let charge = day(words.word(3))?;
-    let pace = day(words.word(4))?;
-    Ok(Line::Script(ScriptLine::Node(NodeLine::Peer {
-        link,
-        address,
-        charge,
-        pace,
-    })))
+    read_words! { words, 5;
+        link = link(1),
+        address = address(2),
+        charge = day(3),
+        pace = day(4);
+        Line::Script(ScriptLine::Node(NodeLine::Peer { link, address, charge, pace }))
+    }
 }
 
 /// `route TO L`
@@ -243,10 +249,11 @@ fn peer_line<'a>(words: &Words<'a>) -> Result<Line<'a>, LineFault>
 fn own_route_line<'a>(words: &Words<'a>) -> Result<Line<'a>, LineFault>
     ensures { ReadAs result (said_as (rows.own_route_row ∷ []) words.now) }
 {
-    has(3, words)?;
-    let to = number(words.word(1))?;
-    let link = link(words.word(2))?;
-    Ok(Line::Script(ScriptLine::Node(NodeLine::Route { to, link })))
+    read_words! { words, 3;
+        to = number(1),
+        link = link(2);
+        Line::Script(ScriptLine::Node(NodeLine::Route { to, link }))
+    }
 }
 
 /// `shelf N`
@@ -254,9 +261,10 @@ fn own_route_line<'a>(words: &Words<'a>) -> Result<Line<'a>, LineFault>
 fn shelf_line<'a>(words: &Words<'a>) -> Result<Line<'a>, LineFault>
     ensures { ReadAs result (said_as (rows.shelf_row ∷ []) words.now) }
 {
-    has(2, words)?;
-    let room = room(words.word(1))?;
-    Ok(Line::Script(ScriptLine::Node(NodeLine::Shelf { room })))
+    read_words! { words, 2;
+        room = room(1);
+        Line::Script(ScriptLine::Node(NodeLine::Shelf { room }))
+    }
 }
 
 /// `at T send FLOW MARKS HEX`
@@ -264,18 +272,13 @@ fn shelf_line<'a>(words: &Words<'a>) -> Result<Line<'a>, LineFault>
 fn at_send_line<'a>(words: &Words<'a>) -> Result<Line<'a>, LineFault>
     ensures { ReadAs result (said_as (rows.at_send_row ∷ []) words.now) }
 {
-    has(6, words)?;
-    let at = number(words.word(1))?;
-    let flow = flow(words.word(3))?;
-    let (begin, end) = marks(words.word(4))?;
-    let hex = hex(words.word(5))?;
-    let does = UserLine::Send {
-        flow,
-        begin,
-        end,
-        hex,
-    };
-    Ok(Line::Script(ScriptLine::At { at, does }))
+    read_words! { words, 6;
+        at = number(1),
+        flow = flow(3),
+        (begin, end) = marks(4),
+        hex = hex(5);
+        Line::Script(ScriptLine::At { at, does: UserLine::Send { flow, begin, end, hex } })
+    }
 }
 
 /// `at T read FLOW MAX`
@@ -283,12 +286,12 @@ fn at_send_line<'a>(words: &Words<'a>) -> Result<Line<'a>, LineFault>
 fn at_read_line<'a>(words: &Words<'a>) -> Result<Line<'a>, LineFault>
     ensures { ReadAs result (said_as (rows.at_read_row ∷ []) words.now) }
 {
-    has(5, words)?;
-    let at = number(words.word(1))?;
-    let flow = flow(words.word(3))?;
-    let max = max(words.word(4))?;
-    let does = UserLine::Read { flow, max };
-    Ok(Line::Script(ScriptLine::At { at, does }))
+    read_words! { words, 5;
+        at = number(1),
+        flow = flow(3),
+        max = max(4);
+        Line::Script(ScriptLine::At { at, does: UserLine::Read { flow, max } })
+    }
 }
 
 /// `at T stop`
@@ -296,9 +299,10 @@ fn at_read_line<'a>(words: &Words<'a>) -> Result<Line<'a>, LineFault>
 fn at_stop_line<'a>(words: &Words<'a>) -> Result<Line<'a>, LineFault>
     ensures { ReadAs result (said_as (rows.at_stop_row ∷ []) words.now) }
 {
-    has(3, words)?;
-    let at = number(words.word(1))?;
-    Ok(Line::Script(ScriptLine::Stop { at }))
+    read_words! { words, 3;
+        at = number(1);
+        Line::Script(ScriptLine::Stop { at })
+    }
 }
 
 /// `call FLOW HEX`
@@ -306,10 +310,11 @@ fn at_stop_line<'a>(words: &Words<'a>) -> Result<Line<'a>, LineFault>
 fn call_line<'a>(words: &Words<'a>) -> Result<Line<'a>, LineFault>
     ensures { ReadAs result (said_as (rows.call_row ∷ []) words.now) }
 {
-    has(3, words)?;
-    let flow = flow(words.word(1))?;
-    let hex = payload(words.word(2))?;
-    Ok(Line::Run(RunLine::Call { flow, hex }))
+    read_words! { words, 3;
+        flow = flow(1),
+        hex = payload(2);
+        Line::Run(RunLine::Call { flow, hex })
+    }
 }
 
 /// The reader that a word names, one row a kind of line, or the fault of a word that names none.
@@ -319,7 +324,26 @@ macro_rules! by_name {
     };
 }
 
-/// A line of a script behind `at T`, which its third word chooses.
+/// The same for lines of a world: those of its setup, what happens in it, and these.
+macro_rules! by_world_name {
+    ($name:expr, $words:expr; $($text:literal => $read:ident,)*) => {
+        by_name! { $name, $words;
+            "params" => params_line,
+            "station" => station_line,
+            "link" => link_line,
+            "route" => route_line,
+            "go" => go_line,
+            $($text => $read,)*
+            "pass" => pass_line,
+            "tick" => tick_line,
+            "arrive" => arrive_line,
+            "lose" => lose_line,
+            "restart" => restart_line,
+        }
+    };
+}
+
+/// A line of a script after `at T`, which its third word chooses.
 #[tactic(auto, unfolding(crate::specs::Lines::said_at))]
 fn at_line<'a>(words: &Words<'a>) -> Result<Line<'a>, LineFault>
     ensures { ReadAs result (said_at words.now) }
@@ -341,19 +365,9 @@ fn schedule_line<'a>(words: &Words<'a>) -> Result<Line<'a>, LineFault>
     ensures { ReadAs result (said_in Schedule words.now) }
 {
     let name = words.word(0);
-    by_name! { name, words;
-        "params" => params_line,
-        "station" => station_line,
-        "link" => link_line,
-        "route" => route_line,
-        "go" => go_line,
-        "pass" => pass_line,
+    by_world_name! { name, words;
         "send" => send_line,
         "read" => reading_line,
-        "tick" => tick_line,
-        "arrive" => arrive_line,
-        "lose" => lose_line,
-        "restart" => restart_line,
     }
 }
 
@@ -363,18 +377,8 @@ fn calls_line<'a>(words: &Words<'a>) -> Result<Line<'a>, LineFault>
     ensures { ReadAs result (said_in Calls words.now) }
 {
     let name = words.word(0);
-    by_name! { name, words;
-        "params" => params_line,
-        "station" => station_line,
-        "link" => link_line,
-        "route" => route_line,
-        "go" => go_line,
+    by_world_name! { name, words;
         "call" => call_line,
-        "pass" => pass_line,
-        "tick" => tick_line,
-        "arrive" => arrive_line,
-        "lose" => lose_line,
-        "restart" => restart_line,
     }
 }
 
@@ -396,9 +400,9 @@ fn script_line<'a>(words: &Words<'a>) -> Result<Line<'a>, LineFault>
     }
 }
 
-/// The line of this form that the octets spell, without the line feed behind it. Any octets are
+/// The line of this form that the octets spell, without the line feed after it. Any octets are
 /// read, or refused by the first test that fails: the first word, the number of words, and then the
-/// words from left to right; never [`LineFault::Order`]. Behind `at T` the third word chooses the
+/// words from left to right; never [`LineFault::Order`]. After `at T` the third word chooses the
 /// line. The cost is the line, and no memory is taken.
 #[tactic(auto, unfolding(crate::specs::Lines::line_of))]
 pub fn read_line(form: Form, bytes: &[u8]) -> Result<Line<'_>, LineFault>

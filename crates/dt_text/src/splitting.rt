@@ -14,7 +14,7 @@ fn place_of(octet: u8, text: &[u8]) -> Option<usize>
     text.iter().position(|x| *x == octet)
 }
 
-/// What stands before the first of these octets, and what stands behind it. It is `None` exactly
+/// What stands before the first of these octets, and what stands after it. It is `None` exactly
 /// where there is none of them. The cost is the part before it.
 pub fn cut(octet: u8, text: &[u8]) -> Option<(&[u8], &[u8])>
     ensures { option_map (λ parts. (parts.0.now, parts.1.now)) result ≡ cut octet text.now }
@@ -52,7 +52,7 @@ impl<'a> Model for Words<'a> {
 }
 
 impl<'a> Words<'a> {
-    /// The words of a line. The cost is the line up to the space behind the last word that is
+    /// The words of a line. The cost is the line up to the space after the last word that is
     /// kept.
     pub fn new(line: &'a [u8]) -> Self
         ensures { result ≡ words line.now }

@@ -1,8 +1,8 @@
 ghost use Rattle.std.specs.Prelude.{◌≡◌};
 ghost use Rattle.dt_text.specs.Said.{run_said, said, script_said};
-ghost use Rattle.dt_text.specs.Stages.{before_params, calls_run, in_run, in_setup, node_after, not_before, schedule_run, script_after, script_line_after, stage_after, world_after};
+ghost use Rattle.dt_text.specs.Stages.{before_params, behind_me, behind_params, calls_run, in_run, in_setup, not_before, schedule_run, script_after, script_line_after, stage_after, world_after};
 
-use crate::lines::{Form, Line, NodeLine, RunLine, ScriptLine};
+use crate::lines::{Form, Line, RunLine, ScriptLine};
 
 /// How far an input has come, by its lines that aren't blank.
 #[derive(Clone, Copy, Debug, PartialEq, Eq)]
@@ -32,6 +32,26 @@ fn before_params(stage: Stage, next: Stage) -> Option<Stage>
     }
 }
 
+/// After the parameters of a script alone, and then in the next stage.
+fn behind_params(stage: Stage, next: Stage) -> Option<Stage>
+    ensures { result ≡ behind_params stage next }
+{
+    match stage {
+        Stage::Params => Some(next),
+        _ => None,
+    }
+}
+
+/// After the number of the node alone, and then in the next stage.
+fn behind_me(stage: Stage, next: Stage) -> Option<Stage>
+    ensures { result ≡ behind_me stage next }
+{
+    match stage {
+        Stage::Me => Some(next),
+        _ => None,
+    }
+}
+
 /// In the setup alone, and then in the next stage.
 fn in_setup(stage: Stage, next: Stage) -> Option<Stage>
     ensures { result ≡ in_setup stage next }
@@ -42,7 +62,7 @@ fn in_setup(stage: Stage, next: Stage) -> Option<Stage>
     }
 }
 
-/// Behind `go` alone, and the stage stays.
+/// After `go` alone, and the stage stays.
 fn in_run(stage: Stage) -> Option<Stage>
     ensures { result ≡ in_run stage }
 {
@@ -52,7 +72,7 @@ fn in_run(stage: Stage) -> Option<Stage>
     }
 }
 
-/// Behind `go` alone, and not before the last moment.
+/// After `go` alone, and not before the last moment.
 fn not_before(stage: Stage, moment: u32, next: Stage) -> Option<Stage>
     ensures { result ≡ not_before stage moment next }
 {
@@ -62,7 +82,7 @@ fn not_before(stage: Stage, moment: u32, next: Stage) -> Option<Stage>
     }
 }
 
-/// The stage behind a line of a schedule behind `go`.
+/// The stage after a line of a schedule after `go`.
 fn schedule_run(stage: Stage, line: &RunLine<'_>) -> Option<Stage>
     ensures { result ≡ schedule_run stage (run_said line.now) }
 {
@@ -72,7 +92,7 @@ fn schedule_run(stage: Stage, line: &RunLine<'_>) -> Option<Stage>
     }
 }
 
-/// The stage behind a line of an input of calls behind `go`.
+/// The stage after a line of an input of calls after `go`.
 fn calls_run(stage: Stage, line: &RunLine<'_>) -> Option<Stage>
     ensures { result ≡ calls_run stage (run_said line.now) }
 {
@@ -82,7 +102,7 @@ fn calls_run(stage: Stage, line: &RunLine<'_>) -> Option<Stage>
     }
 }
 
-/// A match on a line of the input of a world, by what says which lines stand behind its `go`.
+/// A match on a line of the input of a world, by what says which lines stand after its `go`.
 macro_rules! world_after {
     ($stage:expr, $line:expr, $run:ident) => {
         match $line {
@@ -96,46 +116,34 @@ macro_rules! world_after {
     };
 }
 
-/// The stage behind a line of a schedule.
+/// The stage after a line of a schedule.
 fn schedule_after(stage: Stage, line: &Line<'_>) -> Option<Stage>
     ensures { result ≡ world_after schedule_run stage (said line.now) }
 {
     world_after!(stage, line, schedule_run)
 }
 
-/// The stage behind a line of an input of calls.
+/// The stage after a line of an input of calls.
 fn calls_after(stage: Stage, line: &Line<'_>) -> Option<Stage>
     ensures { result ≡ world_after calls_run stage (said line.now) }
 {
     world_after!(stage, line, calls_run)
 }
 
-/// The stage behind a line that sets up the node of a script.
-fn node_after(stage: Stage, line: &NodeLine) -> Option<Stage>
-    ensures { result ≡ node_after stage line.now }
-{
-    match (stage, line) {
-        (Stage::Params, NodeLine::Me { .. }) => Some(Stage::Me),
-        (Stage::Me, NodeLine::Local(_)) => Some(Stage::Setup),
-        (Stage::Setup, NodeLine::Peer { .. } | NodeLine::Route { .. } | NodeLine::Shelf { .. }) => {
-            Some(Stage::Setup)
-        }
-        _ => None,
-    }
-}
-
-/// The stage behind a line of a script alone.
+/// The stage after a line of a script alone.
 fn script_line_after(stage: Stage, line: &ScriptLine<'_>) -> Option<Stage>
     ensures { result ≡ script_line_after stage (script_said line.now) }
 {
     match line {
-        ScriptLine::Node(line) => node_after(stage, line),
+        ScriptLine::Me { .. } => behind_params(stage, Stage::Me),
+        ScriptLine::Local(_) => behind_me(stage, Stage::Setup),
+        ScriptLine::Node(_) => in_setup(stage, Stage::Setup),
         ScriptLine::At { at, .. } => not_before(stage, *at, Stage::Run { last: *at }),
         ScriptLine::Stop { at } => not_before(stage, *at, Stage::Ended),
     }
 }
 
-/// The stage behind a line of a script.
+/// The stage after a line of a script.
 fn script_after(stage: Stage, line: &Line<'_>) -> Option<Stage>
     ensures { result ≡ script_after stage (said line.now) }
 {
@@ -148,7 +156,7 @@ fn script_after(stage: Stage, line: &Line<'_>) -> Option<Stage>
     }
 }
 
-/// The stage behind a line that stands at this stage of its input. It is `None` exactly where the
+/// The stage after a line that stands at this stage of its input. It is `None` exactly where the
 /// line isn't allowed there, which is the fault [`crate::LineFault::Order`]. In a schedule the
 /// parameters come first, then stations, links and routes, then `go`, then what happens; in an
 /// input of calls it is the same, with calls in place of sends and reads. In a script the parameters

@@ -4,7 +4,7 @@ use dt_text::Form;
 use std::alloc::Global;
 use std::test::Fail;
 
-/// A line whose words are `x` from a place on, but for the third word behind `at T`, which chooses
+/// A line whose words are `x` from a place on, but for the third word after `at T`, which chooses
 /// the line: it is `x` only where the place is its own.
 fn spoiled(alloc: Global, line: &str, place: usize) -> Result<Vec<u8>, Fail> {
     let chooses = line.starts_with("at ");
@@ -21,7 +21,7 @@ fn spoiled(alloc: Global, line: &str, place: usize) -> Result<Vec<u8>, Fail> {
 }
 
 /// A form, the letters of faults, and a line. The line is read, has the fault Count with one word
-/// more, and has these faults where a word and all behind it are none of their kinds: the first letter
+/// more, and has these faults where a word and all after it are none of their kinds: the first letter
 /// is that of the first word, and so on.
 const FAULTS: &str = "s|wnnnnnnnnnnn|params 1 1 1 1 1 1 1 1 1 1 1
 s|wnn|station 1 0

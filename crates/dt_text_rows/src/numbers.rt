@@ -114,7 +114,7 @@ fn the_greatest_parameters(rt: HostRuntime) -> Result<(), Fail> {
     Ok(())
 }
 
-/// Words with so many digits behind them.
+/// Words with so many digits after them.
 fn with_digits(alloc: Global, words: &str, count: usize) -> Result<Vec<u8>, Fail> {
     let mut line = Vec::new(alloc);
     line.extend_from_slice(words.as_bytes())?;

@@ -43,7 +43,7 @@ fn stage_of(letter: u8) -> Option<Stage> {
     }
 }
 
-/// A form, the letter of a stage, and the letters of the stages behind it, for each of the kinds: `-`
+/// A form, the letter of a stage, and the letters of the stages after it, for each of the kinds: `-`
 /// where the kind isn't allowed there.
 const STAGES: &str = "s|a|as----------------------
 s|s|s-sss0------------------

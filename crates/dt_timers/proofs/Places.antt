@@ -1,10 +1,9 @@
 -- The moments that stand in the places of a tournament.
 use Rattle.std.proofs.Common.{ℕ, ◌≡◌, ◌≢◌, ◌<◌, ◌≤◌, ◌⊎◌, inl, inr, List, [], ◌∷◌, length, map, set, zero, suc, Option, Some, None, refl, sym, ap, subst, ◌∙◌, arith, get_or-set_same, get_or-set_other}
-use Rattle.std.specs.Option.{option_map}
 use Rattle.std.proofs.lemmas.Bool.{cases_eq}
 use Rattle.dt_timers.specs.declared.deadline.Deadline.{Deadline}
 use Rattle.dt_timers.specs.Order.{IsBy}
-use Rattle.dt_timers.specs.Tournaments.{IsSoonestOf, node}
+use Rattle.dt_timers.specs.Tournaments.{IsSoonestOf, deadline_in, node}
 use Rattle.dt_timers.specs.Deadlines.{HasNoMoment, IsFirst, StandInPlace, moment_at, moment_of}
 
 abbrev pub moments : List (Option Deadline) → List (Option ℕ)
@@ -14,9 +13,6 @@ pub moment_is : (places : List (Option Deadline)) (i : ℕ) → moment_at (momen
 moment_is [] i = refl
 moment_is (d ∷ ds) zero = refl
 moment_is (d ∷ ds) (suc i) = moment_is ds i
-
-abbrev pub deadline_in : ℕ → Option ℕ → Option Deadline
-deadline_in place moment = option_map (λ (m : ℕ). let d : Deadline = record { moment = m; place = place } in d) moment
 
 own_moment : (place : ℕ) (m : Option ℕ) → moment_of (deadline_in place m) ≡ m
 own_moment place None = refl

@@ -1,6 +1,6 @@
 -- Nodes that are played again one after another, and the soonest of all places.
-use Rattle.std.proofs.Common.{ℕ, zero, suc, ◌≡◌, ◌≢◌, ◌+◌, ◌/◌, ◌<◌, ◌≤◌, ◌⊎◌, inl, inr, List, length, get_or, set, drop, Option, None, sym, ap, subst, ◌∙◌, arith, ◌-◌, length-drop, get_or-set_same, get_or-set_other}
-use Rattle.std.proofs.lemmas.List.{drop-set-add, ext_get_or, get_or-drop, get_or_past, length-set}
+use Rattle.std.proofs.Common.{ℕ, zero, suc, ◌≡◌, ◌≢◌, ◌+◌, ◌/◌, ◌<◌, ◌≤◌, ◌⊎◌, inl, inr, List, length, get_or, set, slice_index_or, ◌*◌, drop, Option, None, sym, ap, subst, ◌∙◌, arith, ◌-◌, length-drop, get_or-set_same, get_or-set_other}
+use Rattle.std.proofs.lemmas.List.{drop-set-add, ext_get_or, get_or-drop, get_or_default, get_or_past, length-set}
 use Rattle.std.proofs.lemmas.Bool.{cases_eq, cases_lt}
 use Rattle.dt_timers.specs.declared.deadline.Deadline.{Deadline}
 use Rattle.dt_timers.specs.Order.{IsBy, sooner_of}
@@ -16,6 +16,40 @@ even_or_odd k = elim (cases_eq k (k / 2 + k / 2)) [ inl e ↦ inl e | inr ne ↦
 half_odd : (at k : ℕ) → k + k + 1 ≡ at → k ≡ at / 2
 half_odd at k e = omega arith
 
+-- the nodes from one on were played
+abbrev pub ArePlayedFrom : ℕ → List (Option Deadline) → Type 0
+ArePlayedFrom from nodes = (k : ℕ) → from ≤ k → 1 ≤ k → k + k + 1 < length nodes → node nodes k ≡ sooner_of (node nodes (k + k)) (node nodes (k + k + 1))
+
+-- what was read at a node that is there
+pub read : (nodes : List (Option Deadline)) (k : ℕ) (d : Option Deadline) → d ≡ slice_index_or nodes k d → k < length nodes → d ≡ node nodes k
+read nodes k d is within = is ∙ get_or_default nodes k d None within
+
+pub winner_is : (nodes : List (Option Deadline)) (at : ℕ) (a b w : Option Deadline) → at + at + 1 < length nodes → a ≡ slice_index_or nodes (2 * at) a → b ≡ slice_index_or nodes (2 * at + 1) b → w ≡ sooner_of a b → w ≡ sooner_of (node nodes (at + at)) (node nodes (at + at + 1))
+winner_is nodes at a b w within one other won =
+    let twice : 2 * at ≡ at + at = omega arith in
+    won
+    ∙ ap (λ (d : Option Deadline). sooner_of d b) (read nodes (2 * at) a one (omega arith))
+    ∙ ap (λ (d : Option Deadline). sooner_of (node nodes (2 * at)) d) (read nodes (2 * at + 1) b other (omega arith))
+    ∙ ap (λ (n : ℕ). sooner_of (node nodes n) (node nodes (n + 1))) twice
+
+-- TWICE AS MANY PLACES: nodes are added, the places are copied to where the new ones begin, and what is before them is played anew
+pub doubled : (half room : ℕ) (old more copied after : List (Option Deadline)) → length old ≡ half + half → half + half ≤ room → length more ≡ room + room
+    → ((k : ℕ) → k < half + half → node more k ≡ node old k) → ((k : ℕ) → half + half ≤ k → k < room + room → node more k ≡ None)
+    → ((k : ℕ) → room ≤ k → k < room + half → node copied k ≡ node more (half + (k - room))) → ((k : ℕ) → room + half ≤ k → node copied k ≡ node more k) → ((k : ℕ) → room ≤ k → node after k ≡ node copied k)
+    → (i : ℕ) → node (drop room after) i ≡ node (drop half old) i
+doubled half room old more copied after even wide long was empty moved same kept i =
+    let out : node (drop room after) i ≡ node copied (room + i) = get_or-drop room after i None ∙ kept (room + i) (omega arith) in
+    let back : node old (half + i) ≡ node (drop half old) i = sym (get_or-drop half old i None) in
+    elim (cases_lt i half) [
+      | inl there ↦
+          let from : half + (room + i - room) ≡ half + i = omega arith in
+          out ∙ moved (room + i) (omega arith) (omega arith) ∙ ap (node more) from ∙ was (half + i) (omega arith) ∙ back
+      | inr beyond ↦ out ∙ same (room + i) (omega arith) ∙ no_more (room + i) (omega arith) ∙ sym (get_or_past old (half + i) None (omega arith)) ∙ back
+    ]
+  where
+    no_more : (k : ℕ) → half + half ≤ k → node more k ≡ None
+    no_more k far = elim (cases_lt k (room + room)) [ inl there ↦ empty k far there | inr past ↦ get_or_past more k None (omega arith) ]
+
 module _ (nodes : List (Option Deadline)) where
   -- a node keeps its deadline where another is written
   pub stays : (at k : ℕ) (d : Option Deadline) → k ≢ at → node (set nodes at d) k ≡ node nodes k
@@ -24,8 +58,8 @@ module _ (nodes : List (Option Deadline)) where
   pub wrote : (at : ℕ) (d : Option Deadline) → at < length nodes → node (set nodes at d) at ≡ d
   wrote at d within = get_or-set_same nodes at d None within
 
-  -- ONE MORE NODE IS PLAYED: the next one up may be wrong
-  module _ (at : ℕ) (some : 1 ≤ at) (within : at + at + 1 < length nodes) (played : ArePlayedBut at nodes) where
+  -- ONE MORE NODE IS PLAYED
+  module _ (at : ℕ) (some : 1 ≤ at) (within : at + at + 1 < length nodes) where
     abbrev won : Option Deadline
     won = sooner_of (node nodes (at + at)) (node nodes (at + at + 1))
 
@@ -41,17 +75,33 @@ module _ (nodes : List (Option Deadline)) where
         let r : at + at + 1 ≢ at = λ e. omega arith in
         wrote at won (omega arith) ∙ sym (both at l r)
 
-    there : (k : ℕ) → 1 ≤ k → k + k + 1 < length after → k ≢ at / 2 → k ≢ at → node after k ≡ sooner_of (node after (k + k)) (node after (k + k + 1))
-    there k k_some k_within apart other =
-        let long : k + k + 1 < length nodes = subst (λ (n : ℕ). k + k + 1 < n) (length-set nodes at won) k_within in
-        stays at k won other ∙ played k k_some long other ∙ sym (both k (λ e. apart (half_even at k e)) (λ e. apart (half_odd at k e)))
+    -- the next one up may be wrong
+    module _ (played : ArePlayedBut at nodes) where
+      there : (k : ℕ) → 1 ≤ k → k + k + 1 < length after → k ≢ at / 2 → k ≢ at → node after k ≡ sooner_of (node after (k + k)) (node after (k + k + 1))
+      there k k_some k_within apart other =
+          let long : k + k + 1 < length nodes = subst (λ (n : ℕ). k + k + 1 < n) (length-set nodes at won) k_within in
+          stays at k won other ∙ played k k_some long other ∙ sym (both k (λ e. apart (half_even at k e)) (λ e. apart (half_odd at k e)))
 
-    pub one_more : ArePlayedBut (at / 2) after
-    one_more = λ k k_some k_within apart.
-        elim (cases_eq k at) [
-          | inl same ↦ subst (λ (n : ℕ). node after n ≡ sooner_of (node after (n + n)) (node after (n + n + 1))) (sym same) here
-          | inr other ↦ there k k_some k_within apart other
-        ]
+      pub one_more : ArePlayedBut (at / 2) after
+      one_more = λ k k_some k_within apart.
+          elim (cases_eq k at) [
+            | inl same ↦ subst (λ (n : ℕ). node after n ≡ sooner_of (node after (n + n)) (node after (n + n + 1))) (sym same) here
+            | inr other ↦ there k k_some k_within apart other
+          ]
+
+    -- those after it are played already
+    module _ (from : ArePlayedFrom (at + 1) nodes) where
+      behind : (k : ℕ) → at ≤ k → 1 ≤ k → k + k + 1 < length after → k ≢ at → node after k ≡ sooner_of (node after (k + k)) (node after (k + k + 1))
+      behind k low k_some k_within other =
+          let long : k + k + 1 < length nodes = subst (λ (n : ℕ). k + k + 1 < n) (length-set nodes at won) k_within in
+          stays at k won other ∙ from k (omega arith) k_some long ∙ sym (both k (λ e. omega arith) (λ e. omega arith))
+
+      pub one_before : ArePlayedFrom at after
+      one_before = λ k low k_some k_within.
+          elim (cases_eq k at) [
+            | inl same ↦ subst (λ (n : ℕ). node after n ≡ sooner_of (node after (n + n)) (node after (n + n + 1))) (sym same) here
+            | inr other ↦ behind k low k_some k_within other
+          ]
 
   -- WHERE THE NODE THAT MAY BE WRONG IS RIGHT, none is wrong
   pub all_right : (at : ℕ) → node nodes at ≡ sooner_of (node nodes (at + at)) (node nodes (at + at + 1)) → ArePlayedBut at nodes → ArePlayed nodes

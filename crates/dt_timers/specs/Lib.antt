@@ -1,3 +1,4 @@
 pub mod Order
+pub mod Nodes
 pub mod Tournaments
 pub mod Deadlines

@@ -1,9 +1,15 @@
 -- The order of deadlines: by moment, ties by the lesser place. No deadline comes after any.
-use Rattle.std.specs.Prelude.{◌≡◌, ◌<◌, ◌≤◌, ◌⊎◌, ◌==◌, ◌&&◌, ◌||◌, Bool, nat_lt, if◌then◌else◌, Option, Some, None}
+use Rattle.std.specs.Prelude.{◌≡◌, ◌<◌, ◌≤◌, ◌⊎◌, ◌==◌, ◌&&◌, ◌||◌, Bool, false, true, nat_lt, if◌then◌else◌, Option, Some, None}
 use Rattle.dt_timers.specs.declared.deadline.Deadline.{Deadline}
 
 abbrev pub goes_first : Deadline → Deadline → Bool
 goes_first d e = nat_lt d.moment e.moment || ((d.moment == e.moment) && nat_lt d.place e.place)
+
+-- whether one of two, of which each may be none, comes first
+abbrev pub goes_before : Option Deadline → Option Deadline → Bool
+goes_before None d = false
+goes_before (Some e) None = true
+goes_before (Some e) (Some d) = goes_first e d
 
 abbrev pub sooner_of : Option Deadline → Option Deadline → Option Deadline
 sooner_of None e = e

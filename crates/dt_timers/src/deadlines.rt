@@ -1,9 +1,6 @@
 ghost use Rattle.std.specs.Prelude.{ℕ, ◌≡◌, ◌<◌, ◌≤◌, [], length, set, MatchOption, None, OnErr, OnOk};
-ghost use Rattle.std.specs.Option.{option_map};
 ghost use Rattle.dt_timers.specs.Deadlines.{HasNoMoment, IsFirst, moment_at};
-ghost use Rattle.dt_timers.specs.declared.deadline.Deadline.{Deadline as DeadlineValue};
 
-use crate::deadline::Deadline;
 use crate::tournament::Tournament;
 use dt_items::NoMemory;
 use std::alloc::Global;
@@ -13,8 +10,8 @@ use std::marker::Model;
 /// the places. Moments are any numbers of 64 bits, and what they count is the caller's.
 ///
 /// The least moment is at hand, and a moment is changed at a cost that grows with the number of places
-/// as its logarithm does. Memory is taken by [`Deadlines::hold`] alone: two tree nodes of 24 octets for
-/// each place, doubled as places are wanted.
+/// as its logarithm does. Memory is taken by [`Deadlines::hold`] alone: two tree nodes of 16 octets for
+/// each place, doubled as places are wanted. There are 2^32 places at most.
 #[derive(Drop)]
 pub struct Deadlines {
     tournament: Tournament,
@@ -59,7 +56,7 @@ impl Deadlines {
         ensures err { OnErr result (self.new ≡ self.old) }
     {
         if count == self.tournament.room() {
-            self.tournament = self.tournament.doubled()?;
+            self.tournament.double()?;
         }
         Ok(())
     }
@@ -78,8 +75,7 @@ impl Deadlines {
         requires { place < length self.old }
         ensures { self.new ≡ set self.old place moment }
     {
-        let deadline = deadline_of(place, moment);
-        self.tournament.place(place, deadline);
+        self.tournament.place(place, moment);
     }
 
     /// The least moment and its place, the first place where several have that moment. None comes
@@ -90,11 +86,4 @@ impl Deadlines {
         let first = self.tournament.soonest()?;
         Some((first.moment, first.place))
     }
-}
-
-/// The deadline of a place, where it has a moment.
-fn deadline_of(place: usize, moment: Option<u64>) -> Option<Deadline>
-    ensures { result ≡ option_map (λ m. let d : DeadlineValue = record { moment = m; place = place } in d) moment }
-{
-    moment.map(|moment| Deadline { moment, place })
 }

@@ -3,6 +3,7 @@
 
 mod deadline;
 mod deadlines;
+mod node;
 mod tournament;
 
 pub use deadlines::Deadlines;

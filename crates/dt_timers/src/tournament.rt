@@ -1,10 +1,14 @@
-ghost use Rattle.std.specs.Prelude.{ℕ, ◌≡◌, ◌+◌, ◌<◌, ◌≤◌, ◌/◌, [], length, set, IfOk, MatchOption, None, Some};
-ghost use Rattle.dt_timers.specs.Tournaments.{ArePlayed, ArePlayedBut, IsSoonestOf, node};
+ghost use Rattle.std.specs.Prelude.{ℕ, ◌≡◌, ◌+◌, ◌<◌, ◌≤◌, ◌/◌, [], length, set, OnErr, OnOk};
+ghost use Rattle.dt_timers.specs.Tournaments.{ArePlayed, ArePlayedBut, IsSoonestOf, deadline_in, node};
 
-use crate::deadline::{Deadline, sooner};
+use crate::deadline::Deadline;
+use crate::node::{Node, sooner};
 use dt_items::NoMemory;
 use std::alloc::Global;
 use std::marker::Model;
+
+/// The most places: their numbers are of 32 bits.
+const MOST_ROOM: usize = 1 << 32;
 
 /// Places for deadlines, of which the soonest is at hand. A contract sees the list of its places.
 ///
@@ -13,11 +17,11 @@ use std::marker::Model;
 #[derive(Drop)]
 pub struct Tournament {
     room: usize,
-    nodes: Vec<Option<Deadline>>,
+    nodes: Vec<Node>,
 }
 
 impl Model for Tournament {
-    ghost use Rattle.std.specs.Prelude.{◌≡◌, ◌+◌, List, Option, drop, length};
+    ghost use Rattle.std.specs.Prelude.{◌≡◌, ◌+◌, ◌^◌, ◌≤◌, List, Option, drop, length};
     ghost use Rattle.dt_timers.specs.declared.deadline.Deadline.{Deadline};
     ghost use Rattle.dt_timers.specs.Tournaments.{ArePlayed};
 
@@ -25,7 +29,7 @@ impl Model for Tournament {
 
     ghost view = { λ t. drop t.room t.nodes.items };
 
-    ghost invariant = { λ t. (length t.nodes.items ≡ t.room + t.room) × ArePlayed t.nodes.items };
+    ghost invariant = { λ t. (length t.nodes.items ≡ t.room + t.room) × ArePlayed t.nodes.items × (t.room ≤ 2 ^ 32) };
 }
 
 impl Tournament {
@@ -46,38 +50,33 @@ impl Tournament {
         self.room
     }
 
-    /// A tournament of the same deadlines with twice as many places, or with one where there is none.
-    /// The cost is that of putting each into its place.
-    pub fn doubled(&self) -> Result<Tournament, NoMemory>
-        ensures { IfOk result (λ t. (length self.now < length t) × ((i : ℕ) → node t i ≡ node self.now i)) }
+    /// The same deadlines in twice as many places, or in one where there is none. `NoMemory` leaves all
+    /// as it was. The cost is that of all nodes.
+    pub fn double(&mut self) -> Result<(), NoMemory>
+        ensures more { OnOk result (length self.old < length self.new) }
+        ensures same { OnOk result ((i : ℕ) → node self.new i ≡ node self.old i) }
+        ensures err { OnErr result (self.new ≡ self.old) }
     {
         let room = self.nodes.len().max(1);
-        let mut doubled = Tournament::with_room(*self.nodes.allocator(), room)?;
-        for place in 0..self.room {
-            doubled.place(place, self.nodes[self.room + place]);
+        if room > MOST_ROOM {
+            return Err(NoMemory);
         }
-        Ok(doubled)
+        self.nodes.resize(room + room, Node::none())?;
+        self.nodes
+            .copy_within(self.room..self.room + self.room, room);
+        play_all(&mut self.nodes);
+        self.room = room;
+        Ok(())
     }
 
-    /// A tournament of empty places.
-    fn with_room(alloc: Global, room: usize) -> Result<Tournament, NoMemory>
-        ensures { IfOk result (λ t. (length t ≡ room) × ((i : ℕ) → node t i ≡ None)) }
-    {
-        let nodes = room.checked_mul(2).ok_or(NoMemory)?;
-        Ok(Tournament {
-            room,
-            nodes: vec![in alloc; None; nodes]?,
-        })
-    }
-
-    /// Puts a deadline into a place, or none. The cost is that of the tree's height at most, and doesn't
-    /// grow where the place has that deadline already.
-    pub fn place(&mut self, place: usize, deadline: Option<Deadline>)
+    /// Puts a moment into a place, or none. The cost is that of the tree's height at most, and doesn't
+    /// grow where the place has that moment already.
+    pub fn place(&mut self, place: usize, moment: Option<u64>)
         requires { place < length self.old }
-        ensures { self.new ≡ set self.old place deadline }
+        ensures { self.new ≡ set self.old place (deadline_in place moment) }
     {
         let leaf = self.room + place;
-        self.nodes[leaf] = deadline;
+        self.nodes[leaf] = Node::of(place, moment);
         play_from(&mut self.nodes, leaf);
     }
 
@@ -86,20 +85,37 @@ impl Tournament {
         requires { place < length self.now }
         ensures { result ≡ node self.now place }
     {
-        self.nodes[self.room + place]
+        self.nodes[self.room + place].deadline()
     }
 
     /// The soonest of all places, or none where all are empty. The cost doesn't grow.
     pub fn soonest(&self) -> Option<Deadline>
         ensures { IsSoonestOf self.now result }
     {
-        if self.room == 0 { None } else { self.nodes[1] }
+        if self.room == 0 {
+            None
+        } else {
+            self.nodes[1].deadline()
+        }
+    }
+}
+
+/// Plays all nodes, from the last one up.
+fn play_all(nodes: &mut [Node])
+    requires even { (half : ℕ) × (length nodes.old ≡ half + half) }
+    ensures played { ArePlayed nodes.new }
+    ensures places { (k : ℕ) → length nodes.old ≤ k + k → node nodes.new k ≡ node nodes.old k }
+{
+    let mut at = nodes.len() / 2;
+    while at > 1 {
+        at -= 1;
+        nodes[at] = sooner(&nodes[2 * at], &nodes[2 * at + 1]);
     }
 }
 
 /// Plays again the nodes above one whose deadline changed, up to the first that stays as it was: those
 /// above it stay too.
-fn play_from(nodes: &mut [Option<Deadline>], leaf: usize)
+fn play_from(nodes: &mut [Node], leaf: usize)
     requires within { leaf < length nodes.old }
     requires some { 1 ≤ leaf }
     requires even { (half : ℕ) × (length nodes.old ≡ half + half) }
@@ -110,8 +126,8 @@ fn play_from(nodes: &mut [Option<Deadline>], leaf: usize)
     let mut at = leaf;
     while at > 1 {
         at /= 2;
-        let winner = sooner(nodes[2 * at], nodes[2 * at + 1]);
-        if nodes[at] == winner {
+        let winner = sooner(&nodes[2 * at], &nodes[2 * at + 1]);
+        if nodes[at].is(&winner) {
             return;
         }
         nodes[at] = winner;

@@ -32,7 +32,7 @@ rules = shape.rules
 pub is_free : is_simple_and_free line ≡ true
 is_free = refl
 
--- WHERE THE WALK STANDS, behind the mark or not, with none of the positional words, one or two
+-- WHERE THE WALK STANDS, after the mark or not, with none of the positional words, one or two
 
 abbrev at0 : Bool → Walk
 at0 behind = record { held = nothing_held; waiting = idle; position = 1; is_trailing = behind; stopped = None }
@@ -289,7 +289,7 @@ head0 (word ∷ words) h =
 
 -- AFTER THE WALK
 
--- what is refused behind a walk that ends so
+-- what is refused after a walk that ends so
 closing : Walk → Kinds
 closing end =
     or_else (entered_fault (built line) end.stopped)
@@ -361,7 +361,7 @@ unfolding walk_fault walked
 tail_takes0 [] h = refl
 tail_takes0 (word ∷ words) h = tail_takes1 word words h.1
 
--- behind the mark, where the walk stands in a place that the mark leaves as it is
+-- after the mark, where the walk stands in a place that the mark leaves as it is
 mark_is : (word : Text) → bytes_eq word (codes "--") ≡ true → word ≡ codes "--"
 mark_is word e = (bytes_eq-Decides word (codes "--")).0 e
 

@@ -139,7 +139,7 @@ fn input_line<'a>(words: &Words<'a>) -> Result<Line<'a>, LineFault>
     }
 }
 
-/// The line that the octets spell, without the line feed behind it, or the fault of the first test
+/// The line that the octets spell, without the line feed after it, or the fault of the first test
 /// that fails; never `Flow` or `Order`. The cost is the line, and no memory is taken.
 #[tactic(auto, unfolding(crate::specs::Lines::input_of))]
 pub fn read_line(bytes: &[u8]) -> Result<Line<'_>, LineFault>

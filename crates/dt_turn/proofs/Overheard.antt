@@ -1,4 +1,4 @@
--- What a listener hands on is what the visitor behind it sees.
+-- What a listener hands on is what the visitor after it sees.
 use Rattle.std.proofs.Common.{◌≡◌, ◌∙◌, ℕ, List, Result, Ok, Err, ap, inl, inr, sym}
 use Rattle.std.specs.Prelude.{OnOk}
 use Rattle.dt_reports.specs.Told.{Told}

@@ -17,7 +17,7 @@ use Rattle.dt_station.proofs.Playing.{answers_hold}
 use Rattle.dt_shelf.specs.declared.held.Held.{Held}
 use Rattle.dt_shelf.specs.Shelves.{IsShelfUpTo, Shelf}
 use Rattle.dt_script.specs.declared.orders.Orders.{Orders}
-use Rattle.dt_script.specs.Codes.{most_octets}
+use Rattle.dt_text.specs.Tasks.{most_octets}
 use Rattle.dt_turn.specs.declared.nodes.Node.{Node}
 use Rattle.dt_turn.specs.Codes.{GoesOn, IsReady, MayGo}
 use Rattle.dt_world_laws.specs.Counting.{HasTakenAtMost, octets_sent}

@@ -6,7 +6,8 @@ use Rattle.dt_station.specs.Stations.{StationValue}
 use Rattle.dt_shelf.specs.Shelves.{IsShelfUpTo}
 use Rattle.dt_world_laws.specs.Counting.{HasTakenAtMost}
 use Rattle.dt_script.specs.declared.orders.Orders.{Orders}
-use Rattle.dt_script.specs.Codes.{IsGood, command_seen, most_octets, orders_seen}
+use Rattle.dt_text.specs.Tasks.{most_octets}
+use Rattle.dt_script.specs.Codes.{IsGood, command_seen, orders_seen}
 use Rattle.dt_script.specs.Orders as model
 use Rattle.dt_turn.specs.declared.arrivals.Arrival.{Arrival}
 use Rattle.dt_turn.specs.declared.arriving.Came.{Came}

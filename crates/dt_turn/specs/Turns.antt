@@ -9,7 +9,8 @@ use Rattle.dt_world_model.specs.Script.{Script, Done, Tell, ◌>>=◌}
 use Rattle.dt_world_model.specs.Station.{Station, Event, Send, Read, Tick, station_event}
 use Rattle.dt_shelf.specs.Shelves.{Shelf}
 use Rattle.dt_script.specs.Drafts.{has_link}
-use Rattle.dt_script.specs.Orders.{Task, Sends, Reads, Command, Orders}
+use Rattle.dt_script.specs.Orders.{Command, Orders}
+use Rattle.dt_text.specs.Tasks.{Task, Sends, Reads}
 use Rattle.dt_turn.specs.Nodes.{Node, node_with}
 use Rattle.dt_turn.specs.Shelving.{arrive}
 

@@ -23,7 +23,7 @@ use dt_units::Flow;
 pub enum Heard {
     /// Nothing that concerns it.
     Nothing,
-    /// Its data were accepted, and `next` is the sequence number behind them.
+    /// Its data were accepted, and `next` is the sequence number after them.
     Accepted { flow: Flow, next: u32 },
     /// It wasn't accepted: it was replied to with this number, or dropped.
     Refused { flow: Flow, replied: Option<u32> },

@@ -1,7 +1,6 @@
 //! A turn of a node.
 ghost use Rattle.std.specs.Prelude.{◌≡◌, ◌*◌, ◌<◌, ◌≤◌, All, IfOk, IfSome, OnErr, OnOk, false, length, true, vec_len};
 ghost use Rattle.std.specs.Option.{IsSomeAnd};
-ghost use Rattle.dt_flow_model.specs.Keeping.{most_moment};
 ghost use Rattle.dt_flow_model.specs.SendActs.{IsBefore};
 ghost use Rattle.dt_layout.specs.Reading.{gram_fault};
 ghost use Rattle.dt_shelf.specs.Shelves.{IsShelfUpTo};
@@ -9,7 +8,8 @@ ghost use Rattle.dt_station.specs.Events.{MayHappenHere, local_seen};
 ghost use Rattle.dt_world_model.specs.Script.{Concludes};
 ghost use Rattle.dt_world_model.specs.Station.{Tick, station_event};
 ghost use Rattle.dt_world_laws.specs.Counting.{HasTakenAtMost, octets_sent};
-ghost use Rattle.dt_script.specs.Codes.{IsCommandOf, IsTaskOf, most_commands, most_octets, orders_seen, task_seen};
+ghost use Rattle.dt_text.specs.Tasks.{most_octets, task_seen};
+ghost use Rattle.dt_script.specs.Codes.{IsCommandOf, IsTaskOf, most_commands, orders_seen};
 ghost use Rattle.dt_turn.specs.Codes.{GoesOn, IsReady, MayGo, MayTurn, arrival_seen, arrived, left_of, node_seen, turned};
 ghost use Rattle.dt_turn.specs.Shelving.{inside};
 ghost use Rattle.dt_turn.specs.Turns.{comes, do_due, event_of, finish, hand_in, turn};
@@ -20,9 +20,10 @@ use crate::nodes::{Dock, Node};
 use dt_items::NoMemory;
 use dt_layout::{Frame, read_deltagram};
 use dt_reports::Report;
-use dt_script::{Orders, Task, has_link};
+use dt_script::{Orders, has_link};
 use dt_shelf::Shelf;
 use dt_station::{InLink, LocalEvent, Station, Visitor};
+use dt_text::Task;
 
 /// One event of the station, before a visitor.
 fn happen<V: Visitor<Frame>>(
@@ -153,10 +154,7 @@ fn do_due<V: Visitor<Frame>>(
     now: u64,
     visitor: &mut V,
 ) -> Result<(), NoMemory>
-    requires ready { IsReady orders.now now node.old }
-    requires tasks { All (IsCommandOf orders.now.setup.me.0) (left_of orders.now 0) }
-    requires few { vec_len orders.now.commands ≤ most_commands }
-    requires moment { now ≤ most_moment }
+    requires may { MayTurn orders.now now node.old }
     ensures ends { let script = do_due orders.now.setup.rules now node.old.shelf (left_of orders.now node.old.next) node.old.dock.station.state in
         Concludes V.tells (V.tags now) V.hands V.fails result script visitor.old visitor.new (node_seen orders.now node.new) }
     ensures memory { OnErr result (node.new.dock.station.spent ≡ true) }
@@ -217,8 +215,7 @@ fn finish<V: Visitor<Frame>>(
     now: u64,
     visitor: &mut V,
 ) -> Result<bool, NoMemory>
-    requires ready { IsReady orders.now now node.old }
-    requires moment { now ≤ most_moment }
+    requires may { MayTurn orders.now now node.old }
     ensures ends { let script = finish (orders_seen orders.now) now (node_seen orders.now node.old) in
         Concludes V.tells (V.tags now) V.hands V.fails result script visitor.old visitor.new (turned result (node_seen orders.now node.new)) }
     ensures memory { OnErr result (node.new.dock.station.spent ≡ true) }

@@ -10,7 +10,6 @@ use Rattle.dt_units.specs.declared.parameters.Params.{Params}
 use Rattle.dt_units.specs.declared.endpoints.Flow.{Flow}
 use Rattle.dt_units.specs.Limits.{IsWithinLimits}
 use Rattle.dt_world_model.specs.declared.links.Link.{Link}
-use Rattle.dt_world_model.specs.declared.links.Route.{Route}
 use Rattle.dt_world_model.specs.Ledgers.{FlowLedger, FlowRun, Ledgers}
 use Rattle.dt_world_model.specs.Setup.{Setup, new_world, placed_first}
 use Rattle.dt_world_model.specs.Tables.{AllEntries}
@@ -21,8 +20,8 @@ use Rattle.dt_world.specs.declared.notes.Notes.{Notes}
 use Rattle.dt_world.specs.declared.parts.Parts.{Parts}
 use Rattle.dt_world.specs.declared.placed.PlacedStation.{PlacedStation}
 use Rattle.dt_world.specs.Notes.{ledgers_seen}
-use Rattle.dt_world.specs.Setups.{AreNumbered, links_of, stated_routes}
-use Rattle.dt_world.specs.Starts.{begun_stations, setup_seen}
+use Rattle.dt_world.specs.Setups.{AreNumbered, links_of}
+use Rattle.dt_world.specs.Starts.{begun_stations}
 use Rattle.dt_world.specs.Worlds.{IsStationOf, IsWhole, most_read, placed_seen, stations_seen, world_seen}
 use Rattle.dt_world.proofs.SetupTables.{inserted_last}
 
@@ -112,37 +111,28 @@ no_ledgers n rows runs =
     ap (λ (x : List (Flow × FlowLedger)). let l : Ledgers = record { rows = x; runs = n.runs.entries } in l) rows
     ∙ ap (λ (x : List (Flow × FlowRun)). let l : Ledgers = record { rows = []; runs = x } in l) runs
 
-setup_is : (p : Params) (zeros : List (ℕ × ℕ)) (links : List (ℕ × Link)) (ways : List ((ℕ × ℕ) × ℕ)) (s : Setup) → p ≡ s.params → zeros ≡ s.stations → links_of links ≡ s.links → stated_routes ways ≡ s.routes → setup_seen p zeros links ways ≡ s
-setup_is p zeros links ways s ps zs ls ws =
-    ap (λ (x : Params). let made : Setup = record { params = x; stations = zeros; links = links_of links; routes = stated_routes ways } in made) ps
-    ∙ ap (λ (x : List (ℕ × ℕ)). let made : Setup = record { params = s.params; stations = x; links = links_of links; routes = stated_routes ways } in made) zs
-    ∙ ap (λ (x : List Link). let made : Setup = record { params = s.params; stations = s.stations; links = x; routes = stated_routes ways } in made) ls
-    ∙ ap (λ (x : List (ℕ × Route)). let made : Setup = record { params = s.params; stations = s.stations; links = s.links; routes = x } in made) ws
-
 pub new_buf : (old new : List ℕ) (len : ℕ) → old ≡ [] → len ≡ 0 → new ≡ take 65536 old ++ replicate (65536 - len) 0 → length new ≡ most_read
 new_buf old new len a b c = grind (arith, common_steps)
 
 -- THE WORLD THAT BEGINS is the definition's, and whole: its parts are made of a setup's tables
-module _ (zeros : List (ℕ × ℕ)) (links : List (ℕ × Link)) (ways : List ((ℕ × ℕ) × ℕ)) (s : Setup) (parts : Parts)
-    (rules : parts.rules ≡ s.params) (zs : zeros ≡ s.stations) (ls : links_of links ≡ s.links) (ws : stated_routes ways ≡ s.routes)
-    (moment : parts.now ≡ 0) (same : parts.links.entries ≡ links) (made : stations_seen parts.stations.entries ≡ begun_stations (setup_seen parts.rules zeros links ways) zeros)
-    (copies : parts.notes.copies ≡ []) (rows : parts.notes.ledger ≡ []) (runs : parts.notes.runs.entries ≡ []) where
+module _ (s : Setup) (parts : Parts) (links : List (ℕ × Link)) (rules : parts.rules ≡ s.params) (ls : links_of links ≡ s.links) (moment : parts.now ≡ 0) (same : parts.links.entries ≡ links)
+    (made : stations_seen parts.stations.entries ≡ begun_stations s s.stations) (copies : parts.notes.copies ≡ []) (rows : parts.notes.ledger ≡ []) (runs : parts.notes.runs.entries ≡ []) where
   pub begun_world : world_seen parts ≡ new_world s
   begun_world =
-      let begun = begun_stations (setup_seen parts.rules zeros links ways) zeros in
-      ap (λ (x : ℕ). let w : World = record { params = parts.rules; now = x; stations = stations_seen parts.stations.entries; links = links_of parts.links.entries; copies = parts.notes.copies; ledgers = ledgers_seen parts.notes } in w) moment
-      ∙ ap (λ (x : List (ℕ × Placed)). let w : World = record { params = parts.rules; now = 0; stations = x; links = links_of parts.links.entries; copies = parts.notes.copies; ledgers = ledgers_seen parts.notes } in w) made
-      ∙ ap (λ (x : List (ℕ × Link)). let w : World = record { params = parts.rules; now = 0; stations = begun; links = links_of x; copies = parts.notes.copies; ledgers = ledgers_seen parts.notes } in w) same
-      ∙ ap (λ (x : List Copy). let w : World = record { params = parts.rules; now = 0; stations = begun; links = links_of links; copies = x; ledgers = ledgers_seen parts.notes } in w) copies
-      ∙ ap (λ (x : Ledgers). let w : World = record { params = parts.rules; now = 0; stations = begun; links = links_of links; copies = []; ledgers = x } in w) (no_ledgers parts.notes rows runs)
-      ∙ ap new_world (setup_is parts.rules zeros links ways s rules zs ls ws)
+      let begun = begun_stations s s.stations in
+      ap (λ (x : Params). let w : World = record { params = x; now = parts.now; stations = stations_seen parts.stations.entries; links = links_of parts.links.entries; copies = parts.notes.copies; ledgers = ledgers_seen parts.notes } in w) rules
+      ∙ ap (λ (x : ℕ). let w : World = record { params = s.params; now = x; stations = stations_seen parts.stations.entries; links = links_of parts.links.entries; copies = parts.notes.copies; ledgers = ledgers_seen parts.notes } in w) moment
+      ∙ ap (λ (x : List (ℕ × Placed)). let w : World = record { params = s.params; now = 0; stations = x; links = links_of parts.links.entries; copies = parts.notes.copies; ledgers = ledgers_seen parts.notes } in w) made
+      ∙ ap (λ (x : List Link). let w : World = record { params = s.params; now = 0; stations = begun; links = x; copies = parts.notes.copies; ledgers = ledgers_seen parts.notes } in w) (ap links_of same ∙ ls)
+      ∙ ap (λ (x : List Copy). let w : World = record { params = s.params; now = 0; stations = begun; links = s.links; copies = x; ledgers = ledgers_seen parts.notes } in w) copies
+      ∙ ap (λ (x : Ledgers). let w : World = record { params = s.params; now = 0; stations = begun; links = s.links; copies = []; ledgers = x } in w) (no_ledgers parts.notes rows runs)
 
-  pub begun_whole : IsWithinLimits s.params → AreNumbered links → AllEntries (IsStationOf parts.rules 0) parts.stations.entries → IsWhole parts
+  pub begun_whole : IsWithinLimits s.params → AreNumbered links → AllEntries (IsStationOf s.params 0) parts.stations.entries → IsWhole parts
   begun_whole limits numbers stations =
       record {
         limits = subst (λ (p : Params). IsWithinLimits p) (sym rules) limits;
         moment = omega (arith, moment);
         numbers = subst (λ (es : List (ℕ × Link)). AreNumbered es) (sym same) numbers;
-        stations = subst (λ (k : ℕ). AllEntries (IsStationOf parts.rules k) parts.stations.entries) (sym moment) stations;
+        stations = subst (λ (k : ℕ). AllEntries (IsStationOf parts.rules k) parts.stations.entries) (sym moment) (subst (λ (p : Params). AllEntries (IsStationOf p 0) parts.stations.entries) (sym rules) stations);
         facts = subst (λ (w : World). WorldFacts w) (sym begun_world) (new_world_facts s);
       }

@@ -15,7 +15,7 @@ use Rattle.dt_world_laws.proofs.Worlds.{GoesTo, effect_keeps}
 use Rattle.dt_world.specs.declared.parts.Parts.{Parts}
 use Rattle.dt_world.specs.Outcomes.{HasHappened, HasStopped, IsDone, IsSpent}
 use Rattle.dt_world.specs.Setups.{AreNumbered}
-use Rattle.dt_world.specs.Steps.{most_now}
+use Rattle.dt_world.specs.Moments.{most_now}
 use Rattle.dt_world.specs.Stopping.{ComesTo, IsAtItsEnd, MayStop}
 use Rattle.dt_world.specs.Worlds.{IsStationOf, IsWhole, WorldValue, most_read, world_seen}
 

@@ -1,5 +1,6 @@
 -- Copies as they are kept: the octets of all of them one after another, and of each a slot that says which are its own.
 use Rattle.std.specs.Prelude.{ℕ, ◌+◌, ◌≤◌, false, true, All, List, [], get_or, map, slice_range}
+use Rattle.dt_flow_model.specs.Frames.{Mark}
 use Rattle.dt_world_model.specs.World.{Copy}
 use Rattle.dt_world.specs.declared.copies.LinkCopy.{LinkCopy}
 use Rattle.dt_world.specs.declared.copies.Slot.{Slot}
@@ -35,8 +36,8 @@ abbrev pub copy_seen : LinkCopy → Copy
 copy_seen c = record { link = c.link; parcel = record { octets = c.octets.now; tag = record { birth = c.birth; place = c.place } }; put = c.put; lost = c.lost }
 
 -- a copy that is put on a link
-abbrev pub put_copy : (link : ℕ) (octets : List ℕ) (birth place put : ℕ) → Copy
-put_copy link octets birth place put = record { link = link; parcel = record { octets = octets; tag = record { birth = birth; place = place } }; put = put; lost = false }
+abbrev pub put_copy : (link : ℕ) (octets : List ℕ) (mark : Mark) (put : ℕ) → Copy
+put_copy link octets mark put = record { link = link; parcel = record { octets = octets; tag = mark }; put = put; lost = false }
 
 abbrev pub lost_copy : Copy → Copy
 lost_copy c = record c { lost = true }

@@ -1,6 +1,7 @@
 pub mod Copies
 pub mod Effects
 pub mod Marks
+pub mod Moments
 pub mod Notes
 pub mod Occasions
 pub mod Outcomes

@@ -43,5 +43,5 @@ IsBeyond o (Transmits count) l = ⊥
 IsBeyond o TransmitsAgain l = ⊥
 IsBeyond o (GivesUp count) l = ⊥
 IsBeyond o (Settles count) l = ⊥
-IsBeyond o (Accepts run) l = 2 ^ 62 ≤ o.place + length o.octets.now
+IsBeyond o (Accepts run) l = 2 ^ 62 ≤ o.brought.place + length o.brought.octets.octets.now
 IsBeyond o (ReadsOut count) l = 2 ^ 62 ≤ read_of_all l.reads + count

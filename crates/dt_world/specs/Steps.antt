@@ -1,6 +1,5 @@
 -- What a step answers, tells and leaves.
-use Rattle.std.specs.Prelude.{ℕ, ◌^◌, ◌≡◌, false, List, [], Result, Ok, Err}
-use Rattle.dt_items.specs.Unread.{marked}
+use Rattle.std.specs.Prelude.{ℕ, ◌≡◌, List, [], Result, Ok, Err}
 use Rattle.dt_units.specs.declared.parameters.Params.{Params}
 use Rattle.dt_reports.specs.Entries.{Entry}
 use Rattle.dt_world_model.specs.Script.{Script, play}
@@ -11,9 +10,10 @@ use Rattle.dt_world_model.specs.World.{Noted, World, world_handler}
 use Rattle.dt_world_model.specs.WorldStep.{items_with, occasion}
 use Rattle.dt_world_laws.specs.Visits.{IsOnTheWay}
 use Rattle.dt_world.specs.declared.notes.Notes.{Notes}
-use Rattle.dt_world.specs.declared.placed.Brought.{Brought}
+use Rattle.dt_world.specs.declared.occasions.Brought.{Brought}
 use Rattle.dt_world.specs.declared.tellers.Teller.{Teller}
 use Rattle.dt_world.specs.Notes.{ledgers_seen}
+use Rattle.dt_world.specs.Occasions.{items_in}
 use Rattle.dt_world.specs.Tellers.{TellsAll, copies_of, ledgers_of, occasion_of}
 
 module _ {L : Type 0} (tells : L → Entry → L → Type 0) where
@@ -42,22 +42,18 @@ module _ {L : Type 0} (tells : L → Entry → L → Type 0) where
 abbrev pub noted_first : {L : Type 0} → Teller L → Noted
 noted_first s = record { ledgers = ledgers_of s; copies = copies_of s; lines = [] }
 
--- the greatest moment of a world
-abbrev pub most_now : ℕ
-most_now = 2 ^ 61
-
 -- The occasion of an event at a station of such a life, with what the event brings.
 abbrev pub occasion_with : Params → (now node life : ℕ) → Brought → ledgers.Occasion
-occasion_with p now node life b = record { params = p; now = now; node = node; life = life; items = marked b.octets.now b.begin b.end false; place = b.place }
+occasion_with p now node life b = record { params = p; now = now; node = node; life = life; items = items_in b.octets; place = b.place }
 
 -- what an event brings is so much
 pub record Brings (w : World) (n : ℕ) (e : Event Mark) (b : Brought) : Type 0 where
-  pub items : (occasion w n e).items ≡ marked b.octets.now b.begin b.end false
+  pub items : (occasion w n e).items ≡ items_in b.octets
   pub place : (occasion w n e).place ≡ b.place
 
 -- what a packet brings: the octets of a data packet, and its place
 pub record BringsPacket (octets : List ℕ) (place : ℕ) (b : Brought) : Type 0 where
-  pub items : (m : Mark) → items_with (marked_packet m (value_in octets)) ≡ marked b.octets.now b.begin b.end false
+  pub items : (m : Mark) → items_with (marked_packet m (value_in octets)) ≡ items_in b.octets
   pub place_is : b.place ≡ place
 
 -- the world's notes, before any line of an event

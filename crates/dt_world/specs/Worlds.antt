@@ -13,7 +13,7 @@ use Rattle.dt_world.specs.declared.placed.PlacedStation.{PlacedStation}
 use Rattle.dt_world.specs.declared.parts.Parts.{Parts}
 use Rattle.dt_world.specs.Notes.{ledgers_seen}
 use Rattle.dt_world.specs.Setups.{AreNumbered, links_of}
-use Rattle.dt_world.specs.Steps.{most_now}
+use Rattle.dt_world.specs.Moments.{most_now}
 
 pub record WorldValue : Type 0 where
   pub state : World

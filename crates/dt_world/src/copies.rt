@@ -2,6 +2,7 @@
 ghost use Rattle.std.specs.Prelude.{◌≡◌, ◌<◌, ◌^◌, ◌↔◌, [], ◌∷◌, ◌++◌, IfSome, IsSome, OnErr, OnOk, length, set};
 ghost use Rattle.dt_world.specs.Copies.{copy_in, copy_seen, lost_copy, put_copy};
 
+use crate::marked::Mark;
 use dt_items::NoMemory;
 use std::alloc::Global;
 use std::marker::Model;
@@ -77,18 +78,11 @@ impl Copies {
         self.slots.len() as u64
     }
 
-    /// Adds a copy of a packet of fewer than 65,536 octets, which was put on the link at `put` and made
-    /// at `birth`. `NoMemory` leaves the copies as they were.
-    pub fn add(
-        &mut self,
-        link: u16,
-        octets: &[u8],
-        birth: u64,
-        place: u64,
-        put: u64,
-    ) -> Result<(), NoMemory>
+    /// Adds a copy of a packet of fewer than 65,536 octets, which was put on the link at `put`, in ms.
+    /// `NoMemory` leaves the copies as they were.
+    pub fn add(&mut self, link: u16, octets: &[u8], mark: Mark, put: u64) -> Result<(), NoMemory>
         requires { length octets.now < 2 ^ 16 }
-        ensures ok { OnOk result (self.new ≡ self.old ++ put_copy link octets.now birth place put ∷ []) }
+        ensures ok { OnOk result (self.new ≡ self.old ++ put_copy link octets.now mark put ∷ []) }
         ensures err { OnErr result (self.new ≡ self.old) }
     {
         self.slots.reserve(1)?;
@@ -97,8 +91,8 @@ impl Copies {
         self.slots.push_reserved(Slot {
             start,
             put,
-            birth,
-            place,
+            birth: mark.birth(),
+            place: mark.place(),
             length: octets.len() as u16,
             link,
             lost: false,

@@ -11,14 +11,16 @@ ghost use Rattle.dt_world_model.specs.Ledgers.{ledger_of};
 ghost use Rattle.dt_world_model.specs.Station.{Read, Send, Tick};
 ghost use Rattle.dt_world_model.specs.Tables.{AllEntries, look};
 ghost use Rattle.dt_world_model.specs.WorldStep.{Arrives, Loses, Restarts, after_event, at_station, first_refusal, loss, refusals};
+ghost use Rattle.dt_world.specs.Moments.{most_now};
 ghost use Rattle.dt_world.specs.Outcomes.{Happens, HasHappened};
-ghost use Rattle.dt_world.specs.Steps.{BringsPacket, most_now};
+ghost use Rattle.dt_world.specs.Steps.{BringsPacket};
 ghost use Rattle.dt_world.specs.Stopping.{ComesAt, ComesTo, IsLastLife};
 ghost use Rattle.dt_world.specs.Worlds.{IsStationOf, IsWhole, world_seen};
 
 use crate::marked::Mark;
+use crate::occasions::{Brought, MarkedOctets, Occasion};
 use crate::parts::{Parts, event_at};
-use crate::placed::{Brought, start_again};
+use crate::placed::start_again;
 use crate::placed_events::PlacedEvent;
 use crate::refusals::link_of;
 use crate::tellers::Lines;
@@ -31,17 +33,15 @@ use dt_units::Flow;
 pub fn send<L: Lines>(
     parts: &mut Parts,
     flow: Flow,
-    octets: &[u8],
-    begin: bool,
-    end: bool,
+    sent: MarkedOctets<'_>,
     lines: &mut L,
 ) -> Result<(), NoMemory>
     requires whole { IsWhole parts.old }
     requires apart { flow.from.0 ≢ flow.to.0 }
-    requires some { 1 ≤ length octets.now }
-    requires counted { length (ledger_of (world_seen parts.old).ledgers flow).taken + length octets.now < octets_below }
-    ensures happens { let w = world_seen parts.old in
-        Happens L.tells result w (ComesAt w flow.from.0 (Send flow octets.now begin end)) (at_station w flow.from.0 (Send flow octets.now begin end)) lines.old lines.new (world_seen parts.new) }
+    requires some { 1 ≤ length sent.octets.now }
+    requires counted { length (ledger_of (world_seen parts.old).ledgers flow).taken + length sent.octets.now < octets_below }
+    ensures happens { let w = world_seen parts.old in let event = Send flow sent.entry.octets.now sent.entry.begin sent.entry.end in
+        Happens L.tells result w (ComesAt w flow.from.0 event) (at_station w flow.from.0 event) lines.old lines.new (world_seen parts.new) }
     ensures stations { OnOk result (AllEntries (IsStationOf parts.old.rules parts.old.now) parts.new.stations.entries) }
     ensures rules { parts.new.rules ≡ parts.old.rules }
     ensures now { parts.new.now ≡ parts.old.now }
@@ -49,14 +49,12 @@ pub fn send<L: Lines>(
 {
     let event = PlacedEvent::Send {
         flow,
-        octets,
-        begin,
-        end,
+        octets: sent.octets,
+        begin: sent.begin,
+        end: sent.end,
     };
     let brought = Brought {
-        octets,
-        begin,
-        end,
+        octets: sent,
         place: 0,
     };
     event_at(parts, flow.from.0, event, brought, lines)
@@ -153,9 +151,11 @@ fn brought_by<'a>(frame: &Frame, place: u64, room: &'a mut [u8]) -> Brought<'a>
             let copied = &mut room[..octets.len()];
             copied.copy_from_slice(octets);
             Brought {
-                octets: copied,
-                begin,
-                end,
+                octets: MarkedOctets {
+                    octets: copied,
+                    begin,
+                    end,
+                },
                 place,
             }
         }
@@ -168,13 +168,15 @@ fn brought_by<'a>(frame: &Frame, place: u64, room: &'a mut [u8]) -> Brought<'a>
 
 /// What an event without octets brings.
 fn no_octets(place: u64) -> Brought<'static>
-    ensures octets { result.octets.now ≡ [] }
+    ensures octets { result.octets.octets.now ≡ [] }
     ensures place { result.place ≡ place }
 {
     Brought {
-        octets: &[],
-        begin: false,
-        end: false,
+        octets: MarkedOctets {
+            octets: &[],
+            begin: false,
+            end: false,
+        },
         place,
     }
 }
@@ -212,17 +214,26 @@ pub fn restart<L: Lines>(parts: &mut Parts, node: u32, lines: &mut L) -> Result<
     let alloc = *parts.stations.allocator();
     match parts.stations.get_mut(&node) {
         None => Ok(()),
-        Some(placed) => match start_again(alloc, placed, &parts.rules, parts.now, node) {
-            Err(NoMemory) => Err(NoMemory),
-            Ok(()) => {
-                lines.line(&LogLine {
-                    moment: parts.now,
-                    node: Some(node),
-                    report: Report::Restarted { life: placed.life },
-                });
-                Ok(())
+        Some(placed) => {
+            let occasion = Occasion {
+                rules: &parts.rules,
+                now: parts.now,
+                node,
+                life: placed.life,
+                brought: no_octets(0),
+            };
+            match start_again(alloc, placed, &occasion) {
+                Err(NoMemory) => Err(NoMemory),
+                Ok(()) => {
+                    lines.line(&LogLine {
+                        moment: parts.now,
+                        node: Some(node),
+                        report: Report::Restarted { life: placed.life },
+                    });
+                    Ok(())
+                }
             }
-        },
+        }
     }
 }
 

@@ -12,6 +12,7 @@ mod occasions;
 mod parts;
 mod placed;
 mod placed_events;
+mod readings;
 mod refusals;
 mod runs;
 mod setups;

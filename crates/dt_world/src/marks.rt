@@ -98,17 +98,17 @@ fn acknowledged_place(
     flow: &Flow,
     number: u32,
 ) -> u64
-    ensures { result ≡ ack_place (receiver_at host.now.state flow.now).standing (ledger_of (ledgers_seen notes.now) flow.now).given number occasion.entry.now.place }
+    ensures { result ≡ ack_place (receiver_at host.now.state flow.now).standing (ledger_of (ledgers_seen notes.now) flow.now).given number occasion.entry.now.brought.place }
 {
     match host.expected(flow) {
         Some(expected) => {
             if number == expected {
                 after_given(&notes.ledger, flow)
             } else {
-                occasion.place
+                occasion.brought.place
             }
         }
-        None => occasion.place,
+        None => occasion.brought.place,
     }
 }
 

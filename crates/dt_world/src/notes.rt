@@ -30,7 +30,7 @@ pub struct Notes {
     pub copies: Copies,
 }
 
-/// A report changes the ledger and the run of its flow. A flow that isn't there begins, behind all
+/// A report changes the ledger and the run of its flow. A flow that isn't there begins, after all
 /// others.
 ///
 /// `NoMemory` leaves all as it was. It comes for want of memory: where a flow begins, where octets are
@@ -119,14 +119,11 @@ fn take(notes: &mut Notes, occasion: &Occasion<'_>, flow: &Flow) -> Result<(), N
     ensures err { OnErr result (ledgers_seen notes.new ≡ ledgers_seen notes.old) }
     ensures copies { notes.new.copies ≡ notes.old.copies }
 {
+    let taken = occasion.brought.octets;
     make_room(&mut notes.runs, flow)?;
-    notes.ledger.take(
-        flow,
-        occasion.life,
-        occasion.octets,
-        occasion.begin,
-        occasion.end,
-    )?;
+    notes
+        .ledger
+        .take(flow, occasion.life, taken.octets, taken.begin, taken.end)?;
     begin_run(&mut notes.runs, flow);
     Ok(())
 }
@@ -193,18 +190,20 @@ fn accept(
     ensures ok { OnOk result (ledgers_seen notes.new ≡ ledgers_by (occasion_seen occasion.entry.now) (Changes flow.now (Accepts run)) (ledgers_seen notes.old)) }
     ensures err { OnErr result (ledgers_seen notes.new ≡ ledgers_seen notes.old) }
     ensures copies { notes.new.copies ≡ notes.old.copies }
-    ensures beyond { 2 ^ 62 ≤ occasion.entry.now.place + length occasion.entry.now.octets.now → IsErr result }
+    ensures beyond { 2 ^ 62 ≤ occasion.entry.now.brought.place + length occasion.entry.now.brought.octets.octets.now → IsErr result }
 {
-    if !stays_below(occasion.place, occasion.octets.len() as u64) {
+    let place = occasion.brought.place;
+    let given = occasion.brought.octets;
+    if !stays_below(place, given.octets.len() as u64) {
         return Err(NoMemory);
     }
     make_room(&mut notes.runs, flow)?;
     notes.ledger.give(
         flow,
-        occasion.place,
-        occasion.octets,
-        occasion.begin,
-        occasion.end,
+        place,
+        given.octets,
+        given.begin,
+        given.end,
         run,
         occasion.life,
         occasion.now,

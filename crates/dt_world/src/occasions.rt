@@ -1,10 +1,26 @@
 //! An event at a station.
 ghost use Rattle.std.specs.Prelude.{◌≤◌};
-ghost use Rattle.dt_flow_model.specs.Keeping.{most_moment};
+ghost use Rattle.dt_world.specs.Moments.{most_now};
 
 use dt_units::Rules;
 
-/// An event at a station, at a moment of the world, in ms.
+/// Octets, of which the first may begin a message and the last may end one.
+#[derive(Clone, Copy)]
+pub struct MarkedOctets<'a> {
+    pub octets: &'a [u8],
+    pub begin: bool,
+    pub end: bool,
+}
+
+/// What an event brings beyond what is reported: the octets of a send or of a data packet, and the
+/// packet's place.
+#[derive(Clone, Copy)]
+pub struct Brought<'a> {
+    pub octets: MarkedOctets<'a>,
+    pub place: u64,
+}
+
+/// An event at a station, at a moment of the world, in ms: 0 to 2^61.
 #[derive(Drop)]
 pub struct Occasion<'a> {
     pub rules: &'a Rules,
@@ -12,11 +28,6 @@ pub struct Occasion<'a> {
     pub node: u32,
     /// The station's life number.
     pub life: u32,
-    /// What the event brings beyond what is reported: the octets of a send or of a data packet, the
-    /// first of which may begin a message and the last of which may end one, and the packet's place.
-    pub octets: &'a [u8],
-    pub begin: bool,
-    pub end: bool,
-    pub place: u64,
-    ghost timely: { now ≤ most_moment },
+    pub brought: Brought<'a>,
+    ghost timely: { now ≤ most_now },
 }

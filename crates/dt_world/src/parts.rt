@@ -11,7 +11,8 @@ ghost use Rattle.dt_world.specs.Outcomes.{Happens};
 ghost use Rattle.dt_world.specs.Worlds.{IsStationOf, IsWhole, world_seen};
 
 use crate::notes::Notes;
-use crate::placed::{Brought, PlacedStation, happen};
+use crate::occasions::{Brought, Occasion};
+use crate::placed::{PlacedStation, happen};
 use crate::placed_events::PlacedEvent;
 use crate::tellers::Lines;
 use dt_items::NoMemory;
@@ -55,15 +56,15 @@ pub fn event_at<L: Lines>(
 {
     match parts.stations.get_mut(&node) {
         None => Ok(()),
-        Some(placed) => happen(
-            placed,
-            &parts.rules,
-            parts.now,
-            node,
-            event,
-            brought,
-            &mut parts.notes,
-            lines,
-        ),
+        Some(placed) => {
+            let occasion = Occasion {
+                rules: &parts.rules,
+                now: parts.now,
+                node,
+                life: placed.life,
+                brought,
+            };
+            happen(placed, event, occasion, &mut parts.notes, lines)
+        }
     }
 }

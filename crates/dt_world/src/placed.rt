@@ -1,18 +1,19 @@
 //! The stations of the world, and an event at one.
 ghost use Rattle.std.specs.Prelude.{◌≡◌, ◌+◌, ◌^◌, ◌<◌, ◌≤◌, IfOk, OnErr, OnOk, false};
-ghost use Rattle.dt_flow_model.specs.Keeping.{most_moment};
 ghost use Rattle.dt_world_model.specs.Relay.{emptied, new_relay, with_outs};
 ghost use Rattle.dt_world_model.specs.Host.{first_host, restarted_host};
 ghost use Rattle.dt_world_model.specs.Station.{station_event, station_with};
 ghost use Rattle.dt_station.specs.Stations.{is_spent_by};
+ghost use Rattle.dt_world.specs.Occasions.{occasion_seen};
 ghost use Rattle.dt_world.specs.PlacedEvents.{MayCome, event_seen};
-ghost use Rattle.dt_world.specs.Steps.{Happened, Played, most_now, noted_first, occasion_with};
+ghost use Rattle.dt_world.specs.Steps.{Happened, Played, noted_first};
 ghost use Rattle.dt_world.specs.Tellers.{Ends, occasion_of};
 
 use crate::marked::MarkedFrame;
 use crate::notes::Notes;
 use crate::occasions::Occasion;
 use crate::placed_events::PlacedEvent;
+use crate::readings::{Reading, read_clock};
 use crate::tellers::{Lines, Teller};
 use dt_items::NoMemory;
 use dt_station::{InLink, LocalEvent, OutLink, Route, Station};
@@ -41,34 +42,24 @@ pub struct Plan {
     pub routes: Vec<Route>,
 }
 
-/// What an event brings beyond what is reported: the octets of a send or of a data packet, and the
-/// packet's place.
-#[derive(Clone, Copy)]
-pub struct Brought<'a> {
-    pub octets: &'a [u8],
-    pub begin: bool,
-    pub end: bool,
-    pub place: u64,
-}
-
 /// An event at a station's reading, seen by a teller.
 fn take_part<L: Lines>(
     station: &mut Station<MarkedFrame>,
-    now: u64,
+    now: Reading,
     event: PlacedEvent<'_>,
     teller: &mut Teller<'_, '_, L>,
 ) -> Result<(), NoMemory>
     requires unspent { station.old.spent ≡ false }
-    requires may { MayCome station.old.rules now station.old.state event }
-    requires past { station.old.latest ≤ now }
-    requires moment { now ≤ most_moment }
-    ensures script { Ends L.tells result (station_event station.old.rules now (event_seen event.entry) station.old.state) teller.old teller.new station.new.state }
+    requires may { MayCome station.old.rules now.milliseconds station.old.state event }
+    requires past { station.old.latest ≤ now.milliseconds }
+    ensures script { Ends L.tells result (station_event station.old.rules now.milliseconds (event_seen event.entry) station.old.state) teller.old teller.new station.new.state }
     ensures rules { station.new.rules ≡ station.old.rules }
-    ensures latest { station.new.latest ≡ now }
+    ensures latest { station.new.latest ≡ now.milliseconds }
     ensures spent { station.new.spent ≡ is_spent_by result }
     ensures me { station.new.state.host.me ≡ station.old.state.host.me }
     ensures links { station.new.state.relay ≡ with_outs station.old.state.relay station.new.state.relay.outs }
 {
+    let now = now.milliseconds;
     match event {
         PlacedEvent::Send {
             flow,
@@ -96,21 +87,20 @@ fn take_part<L: Lines>(
 /// teller has failed.
 pub fn play<L: Lines>(
     station: &mut Station<MarkedFrame>,
-    now: u64,
+    now: Reading,
     event: PlacedEvent<'_>,
     teller: &mut Teller<'_, '_, L>,
 ) -> Result<(), NoMemory>
     requires fresh { teller.old.failed ≡ false }
     requires unspent { station.old.spent ≡ false }
-    requires may { MayCome station.old.rules now station.old.state event }
-    requires past { station.old.latest ≤ now }
-    requires moment { now ≤ most_moment }
+    requires may { MayCome station.old.rules now.milliseconds station.old.state event }
+    requires past { station.old.latest ≤ now.milliseconds }
     ensures notes { teller.new.notes.ghost_name ≡ teller.old.notes.ghost_name }
     ensures lines { teller.new.lines.ghost_name ≡ teller.old.lines.ghost_name }
-    ensures played { let script = station_event station.old.rules now (event_seen event.entry) station.old.state in
+    ensures played { let script = station_event station.old.rules now.milliseconds (event_seen event.entry) station.old.state in
         Played L.tells result (occasion_of teller.old) script (noted_first teller.old) teller.old.lines.now teller.new station.new.state }
     ensures rules { station.new.rules ≡ station.old.rules }
-    ensures latest { station.new.latest ≡ now }
+    ensures latest { station.new.latest ≡ now.milliseconds }
     ensures spent { OnOk result (station.new.spent ≡ false) }
     ensures relay { OnOk result (emptied station.new.state.relay ≡ emptied station.old.state.relay) }
     ensures me { station.new.state.host.me ≡ station.old.state.host.me }
@@ -123,43 +113,28 @@ pub fn play<L: Lines>(
     Ok(())
 }
 
-/// An event at a station of the world, which isn't spent, at a moment of at most 2^61 ms.
+/// An event at a station of the world, which isn't spent.
 pub fn happen<'a, 'o, L: Lines>(
     placed: &mut PlacedStation,
-    rules: &'o Rules,
-    now: u64,
-    node: u32,
     event: PlacedEvent<'_>,
-    brought: Brought<'o>,
+    occasion: Occasion<'o>,
     notes: &'a mut Notes,
     lines: &'a mut L,
 ) -> Result<(), NoMemory>
     requires unspent { placed.old.station.spent ≡ false }
-    requires may { MayCome placed.old.station.rules (now + placed.old.zero) placed.old.station.state event }
-    requires past { placed.old.station.latest ≤ now + placed.old.zero }
-    requires moment { now ≤ most_now }
-    ensures happened { let o = occasion_with rules.now now node placed.old.life brought.entry in
-        let script = station_event placed.old.station.rules (now + placed.old.zero) (event_seen event.entry) placed.old.station.state in
-        Happened L.tells result o script notes.old lines.old notes.new lines.new placed.new.station.state }
+    requires may { MayCome placed.old.station.rules (occasion.now + placed.old.zero) placed.old.station.state event }
+    requires past { placed.old.station.latest ≤ occasion.now + placed.old.zero }
+    ensures happened { let script = station_event placed.old.station.rules (occasion.entry.now + placed.old.zero) (event_seen event.entry) placed.old.station.state in
+        Happened L.tells result (occasion_seen occasion.entry) script notes.old lines.old notes.new lines.new placed.new.station.state }
     ensures zero { placed.new.zero ≡ placed.old.zero }
     ensures life { placed.new.life ≡ placed.old.life }
     ensures plan { placed.new.plan ≡ placed.old.plan }
     ensures relay { OnOk result (emptied placed.new.station.state.relay ≡ emptied placed.old.station.state.relay) }
     ensures rules { placed.new.station.rules ≡ placed.old.station.rules }
-    ensures latest { placed.new.station.latest ≡ now + placed.old.zero }
+    ensures latest { placed.new.station.latest ≡ occasion.entry.now + placed.old.zero }
     ensures spent { OnOk result (placed.new.station.spent ≡ false) }
 {
-    let reading = now + u64::from(placed.zero);
-    let occasion = Occasion {
-        rules,
-        now,
-        node,
-        life: placed.life,
-        octets: brought.octets,
-        begin: brought.begin,
-        end: brought.end,
-        place: brought.place,
-    };
+    let reading = read_clock(&occasion, placed.zero);
     let mut teller = Teller {
         notes,
         lines,
@@ -193,38 +168,34 @@ pub fn start_first(
     )
 }
 
-/// The station starts again at a moment of at most 2^61 ms, with its links and routes and nothing else,
-/// and is silent for a while. `NoMemory` leaves it as it was; it comes also where the life number is at
-/// its end.
+/// The station starts again, with its links and routes and nothing else, and is silent for a while.
+/// `NoMemory` leaves it as it was; it comes also where the life number is at its end.
 pub fn start_again(
     alloc: Global,
     placed: &mut PlacedStation,
-    rules: &Rules,
-    now: u64,
-    node: u32,
+    occasion: &Occasion<'_>,
 ) -> Result<(), NoMemory>
-    requires moment { now ≤ most_now }
     ensures station { let relay = new_relay placed.old.plan.outs.items placed.old.plan.ins.items placed.old.plan.routes.items in
-        OnOk result (placed.new.station.state ≡ station_with (restarted_host rules.now node (now + placed.old.zero)) relay) }
+        OnOk result (placed.new.station.state ≡ station_with (restarted_host occasion.entry.now.rules.now occasion.entry.now.node (occasion.entry.now.now + placed.old.zero)) relay) }
     ensures err { OnErr result (placed.new ≡ placed.old) }
     ensures within { OnOk result (placed.old.life + 1 < 2 ^ 32) }
     ensures life { OnOk result (placed.new.life ≡ placed.old.life + 1) }
-    ensures rules { OnOk result (placed.new.station.rules ≡ rules.now) }
+    ensures rules { OnOk result (placed.new.station.rules ≡ occasion.entry.now.rules.now) }
     ensures unspent { OnOk result (placed.new.station.spent ≡ false) }
-    ensures latest { OnOk result (placed.new.station.latest ≡ now + placed.old.zero) }
+    ensures latest { OnOk result (placed.new.station.latest ≡ occasion.entry.now.now + placed.old.zero) }
     ensures zero { placed.new.zero ≡ placed.old.zero }
     ensures plan { placed.new.plan ≡ placed.old.plan }
 {
     if placed.life == u32::MAX {
         return Err(NoMemory);
     }
-    let reading = now + u64::from(placed.zero);
+    let reading = read_clock(occasion, placed.zero);
     let plan = &placed.plan;
-    let again = Some(reading);
+    let again = Some(reading.milliseconds);
     let station = Station::new(
         alloc,
-        rules,
-        NodeId(node),
+        occasion.rules,
+        NodeId(occasion.node),
         again,
         &plan.outs,
         &plan.ins,

@@ -1,15 +1,15 @@
 //! The stations of a world that begins.
-ghost use Rattle.std.specs.Prelude.{◌≡◌, IfOk, []};
+ghost use Rattle.std.specs.Prelude.{◌≡◌, IfOk};
 ghost use Rattle.dt_world_model.specs.Setup.{ins_of, outs_of, placed_first, routes_of};
 ghost use Rattle.dt_world_model.specs.Tables.{AllEntries};
 ghost use Rattle.dt_world.specs.Setups.{links_of, stated_routes};
-ghost use Rattle.dt_world.specs.Starts.{begun_stations, setup_seen};
+ghost use Rattle.dt_world.specs.Starts.{begun_stations};
 ghost use Rattle.dt_world.specs.Worlds.{IsStationOf, placed_seen, stations_seen};
 
 use crate::placed::{PlacedStation, Plan, start_first};
+use crate::setups::Setup;
 use dt_items::NoMemory;
 use dt_station::{InLink, OutLink, Route};
-use dt_units::Rules;
 use dt_world_model::Link;
 use indexmap::IndexMap;
 use std::alloc::Global;
@@ -18,18 +18,15 @@ use std::alloc::Global;
 /// of all links and routes for each station.
 pub fn first_stations(
     alloc: Global,
-    rules: &Rules,
-    zeros: &IndexMap<u32, u32>,
-    links: &IndexMap<u16, Link>,
-    ways: &IndexMap<(u32, u32), u16>,
+    setup: &Setup,
 ) -> Result<IndexMap<u32, PlacedStation>, NoMemory>
-    ensures seen { let s = setup_seen rules.now zeros.now.entries links.now.entries ways.now.entries in
-        IfOk result (λ stations. stations_seen stations.entries ≡ begun_stations s zeros.now.entries) }
-    ensures all { IfOk result (λ stations. AllEntries (IsStationOf rules.now 0) stations.entries) }
+    ensures seen { IfOk result (λ stations. stations_seen stations.entries ≡ begun_stations setup.now setup.now.stations) }
+    ensures all { IfOk result (λ stations. AllEntries (IsStationOf setup.now.params 0) stations.entries) }
 {
+    let zeros = setup.zeros();
     let mut stations = IndexMap::new(alloc);
     for (node, zero) in zeros.iter() {
-        let placed = first_station(alloc, rules, *node, *zero, links, ways)?;
+        let placed = first_station(alloc, setup, *node, *zero)?;
         stations.insert(*node, placed)?;
     }
     Ok(stations)
@@ -52,22 +49,19 @@ pub fn same_links(
 /// A station of a setup, which starts for the first time.
 fn first_station(
     alloc: Global,
-    rules: &Rules,
+    setup: &Setup,
     node: u32,
     zero: u32,
-    links: &IndexMap<u16, Link>,
-    ways: &IndexMap<(u32, u32), u16>,
 ) -> Result<PlacedStation, NoMemory>
-    ensures seen { let s = setup_seen rules.now [] links.now.entries ways.now.entries in
-        IfOk result (λ placed. placed_seen placed ≡ placed_first s node zero) }
-    ensures station { IfOk result (IsStationOf rules.now 0 node) }
+    ensures seen { IfOk result (λ placed. placed_seen placed ≡ placed_first setup.now node zero) }
+    ensures station { IfOk result (IsStationOf setup.now.params 0 node) }
 {
     let plan = Plan {
-        outs: outs_of(alloc, links, node)?,
-        ins: ins_of(alloc, links, node)?,
-        routes: routes_of(alloc, ways, node)?,
+        outs: outs_of(alloc, setup.links(), node)?,
+        ins: ins_of(alloc, setup.links(), node)?,
+        routes: routes_of(alloc, setup.ways(), node)?,
     };
-    let station = start_first(alloc, rules, node, &plan)?;
+    let station = start_first(alloc, setup.rules(), node, &plan)?;
     Ok(PlacedStation {
         zero,
         life: 0,

@@ -6,14 +6,15 @@ ghost use Rattle.dt_units.specs.Flows.{IsFlow};
 ghost use Rattle.dt_world_model.specs.Tables.{AllEntries};
 ghost use Rattle.dt_world_model.specs.WorldFacts.{CanHappen};
 ghost use Rattle.dt_world_model.specs.WorldStep.{after_event, first_refusal, refusals};
+ghost use Rattle.dt_world.specs.Moments.{most_now};
 ghost use Rattle.dt_world.specs.Outcomes.{Happens};
-ghost use Rattle.dt_world.specs.Steps.{most_now};
 ghost use Rattle.dt_world.specs.Stopping.{ComesTo, IsAtItsEnd, MayStop};
 ghost use Rattle.dt_world.specs.Worlds.{IsStationOf, IsWhole, MayStep, event_of, most_read, world_seen};
 
 use crate::doing;
 use crate::events::Event;
 use crate::notes::stays_below;
+use crate::occasions::MarkedOctets;
 use crate::parts::Parts;
 use crate::tellers::Lines;
 use dt_items::NoMemory;
@@ -54,7 +55,8 @@ pub fn happen<L: Lines>(
             if !can_take(parts, flow, octets.len() as u64) {
                 return Err(NoMemory);
             }
-            doing::send(parts, flow, octets, begin, end, lines)
+            let sent = MarkedOctets { octets, begin, end };
+            doing::send(parts, flow, sent, lines)
         }
         Event::Read { flow, max } => doing::read(parts, flow, &mut buf[..max as usize], lines),
         Event::Tick { station } => doing::tick(parts, station.0, lines),

@@ -84,9 +84,7 @@ impl<'a, 'o, L: Lines> Visitor<MarkedFrame> for Teller<'a, 'o, L> {
             return Err(NoMemory);
         }
         let put = self.occasion.now;
-        self.notes
-            .copies
-            .add(link, frame.as_slice(), mark.birth(), mark.place(), put)
+        self.notes.copies.add(link, frame.as_slice(), mark, put)
     }
 }
 

@@ -68,7 +68,7 @@ impl World {
     {
         let rules = *setup.rules();
         let stated = setup.links();
-        let stations = first_stations(alloc, &rules, setup.zeros(), stated, setup.ways())?;
+        let stations = first_stations(alloc, setup)?;
         let links = same_links(alloc, stated)?;
         let notes = Notes {
             ledger: Ledger::new(alloc),

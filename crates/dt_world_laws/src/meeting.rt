@@ -33,7 +33,7 @@ pub fn numbers_are_in_the_order_of_places()
         s.sender ≡ Some x → x.outstanding ≡ (g ∷ gone) ++ rest → (number ≡ number_of w.params (next_from x.left (g ∷ gone))) ↔ (parcel.tag.place ≡ place_of s x (next_from x.left (g ∷ gone))) }
 {}
 
-/// The octets that a packet brings are octets of its flow: the place behind the last of them is at most the
+/// The octets that a packet brings are octets of its flow: the place after the last of them is at most the
 /// count that the flow took. `copy`: of each copy on a link, whether it is refused or not. `comes`: of what
 /// comes in an event of a station. So the places of what is given pass no bound that the count of what was
 /// taken keeps.

@@ -25,7 +25,7 @@ pub fn totals_add_up()
 {}
 
 /// No more of a flow is read than was given, over all lives, and no more given than was taken: of each safe
-/// ledger, and so at every point of a station's event, behind each of its reports. So a count of what was
+/// ledger, and so at every point of a station's event, after each of its reports. So a count of what was
 /// given or read passes no bound that the count of what was taken keeps.
 pub fn no_more_is_read_than_was_taken()
     ensures read { (life : ℕ) (l : FlowLedger) → SafeLedger life l.taken l.given l.reads → total (λ r. r.count) l.reads ≤ length l.given }

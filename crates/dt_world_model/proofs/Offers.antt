@@ -27,7 +27,7 @@ abbrev pub IsOf : Params → ℕ → Host → HostAct → Type 0
 IsOf p now host (send_act f x act) = IsOfSender p now host.senders (send_act f x act)
 IsOf p now host (recv_act f y kind) = IsOfReceiver p now host.receivers (recv_act f y kind)
 
--- keys of later entries are apart from the first one's, so they are found behind it
+-- keys of later entries are apart from the first one's, so they are found after it
 found_behind : {A : Type 0} (f g : Flow) (a b : A) (es : List (Flow × A)) → Lacks same_flow f es → look same_flow g es ≡ Some b → look same_flow g ((f, a) ∷ es) ≡ Some b
 found_behind f g a b es h e =
     elim (cases_Bool (same_flow f g)) [

@@ -26,7 +26,7 @@ pub record Station (T : Type 0) : Type 0 where
 abbrev pub station_with : {T : Type 0} → Host → Relay T → Station T
 station_with host relay = record { host = host; relay = relay }
 
--- A QUEUE IS FLUSHED: packets leave it until none does. Each is told, and handed out behind its line. One that waits is taken each time, so there are no more turns than packets that wait.
+-- A QUEUE IS FLUSHED: packets leave it until none does. Each is told, and handed out after its line. One that waits is taken each time, so there are no more turns than packets that wait.
 abbrev pub flush_on : {T : Type 0} → (Out T → Script T (Out T)) → Option (Left T) × Out T → Script T (Out T)
 flush_on again (None, out) = Done out
 flush_on again (Some Expired, out) = Tell (report.ExpiredOut out.link) (again out)

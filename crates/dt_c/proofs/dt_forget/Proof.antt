@@ -1,64 +1,15 @@
--- `dt_forget` lends what lies at the pointer to `forget_in` for a lifetime that is made for the call.
-use Rattle.dt_c.proofs.Steps.{ℕ, List, [], ◌∷◌, refl, Val, vptr, proved, full_share, id⊢, ftrue, flft, flent, named, fact, tables, WpFn, ‵, raw, ◌⊛◌, some, later, prop, ◌$◌, ◌∵◌, !, qed, done, move, keep, drop, use1, use2, use3, split, join, fsplit, pick, await, regoal, suffices, frame, group, enter, of_opd, addr, no_more, and_then, first, blocks, exec, returns, stop, alloc_all, pass_all, free_all, look_at, get, through, sets, sets_last, lands_as, env, at_ret, lft_new, lft_end, yes, Is, shows, lends_ref, ref_back, mem, part_at, owns, Ptr, RawPtr, block_ptr, lies_at, in_a_block, rawptr_vals, rawptr_Tells, MutRef, mut_vals, MutBor, plain, nothing, heard, peeks, calls_at, lasts, triple_of, Stays, walk_of, says, stay_dropped, Goes-dropped, ends_at, framed, Body, ptr_val, show, sem, sep, Lasts, w8, w64, u64, u8, vint, uint_vals, uint_Tells, uint_Lawful, RefOf, ShrRef, shr_vals, shr_Tells}
+-- `dt_forget` lends what lies at the handle to `forget_in`.
+use Rattle.std.proofs.Common.{w64}
+use mir.Syntax.{named}
+use Rattle.dt_c.proofs.Exports.{exported, status}
+use Rattle.dt_c.proofs.Parameters.{none, number, shared, ◌&◌}
 use Rattle.dt_c.specs.Serving.{Forgetting}
-use Rattle.dt_c.specs.contracts.service_rows.TokenRow.{the_row as N}
-use Rattle.dt_c.specs.declared.service_slots.ServiceSlot.{ServiceSlot}
+use Rattle.dt_c.specs.contracts.service_rows.TokenRow.{the_row as TokenRow}
 use Rattle.dt_c.specs.contracts.service_slots.ServiceSlot.{the_row as R}
-use Rattle.dt_c.specs.contracts.dt_forget as f
 use Rattle.dt_c.proofs.dt_forget.Statement.{statement}
 use Rattle.dt_c.proofs.dt_forget.Code as code
-use Rattle.dt_c.specs.contracts.service_calls.forget_in as g
 use Rattle.dt_c.proofs.service_calls.forget_in.Met.{met}
 
-abbrev stayed : Stays f.ended.signature.params f.ended.kept
-stayed = (stay_dropped _ yes, (stay_dropped _ yes, (stay_dropped _ yes, tt)))
-
 pub dt_forget_spec : {M : Type 1} → statement M
-dt_forget_spec 𝓤 𝓛 𝓜 𝓡 wired =
-    let c = f.clauses 𝓛 𝓜.mem 𝓡.returns in let W = walk_of 𝓛 f.ended stayed c in let 𝓣 = tables 𝓤 𝓛.H 𝓜 𝓡 𝓡.env in
-    proved 𝓛 f.ended stayed c 𝓜 𝓡 (Goes-dropped 𝓛 1 (plain (λ _. RawPtr)) yes (λ κs x w. refl), (Goes-dropped 𝓛 1 (plain (λ _. u64)) yes (λ κs x w. refl), (Goes-dropped 𝓛 1 (RefOf (0 ∷ []) tt (plain (λ _. N)) (λ _. tt)) yes (λ κs x w. refl), tt)))
-    f.Key.name code.function (code.unfolded 𝓤 𝓛.H 𝓜 𝓡 wired)
-    (λ κs. (rawptr_vals, (uint_vals w64, (shr_vals, tt))))
-    (λ κs. (rawptr_Tells, (uint_Tells w64, (shr_Tells (named 0) κs.0 N, tt)))) (λ κs qs bounds a x are.
-    let now = a.1.0 in let token = a.1.1.0 in
-    let vss : List Val × (List Val × Unit {0}) = (uint_vals w64 now, (shr_vals token, tt)) in
-    let y : Ptr → W.Ghost = λ p. ((κs, qs, bounds, (p, a.1), (rawptr_vals p, vss)), x) in
-    qed 𝓛 (((‵ (flft κs.0 qs.0) ⊛ ‵ ftrue) ⊛ ‵ (owns (RawPtr ∷ u64 ∷ ShrRef (named 0) κs.0 N ∷ []) a (rawptr_vals a.0, vss))) ∷ ‵ (lies_at R full_share a.0 x) ∷ []) ∵
-    split ! $ move ! (1 ∷ []) $ fsplit ! $ drop ! $ move ! (2 ∷ []) $
-    in_a_block ! a.0 (λ p. lies_at R full_share p x) (id⊢ 𝓤 _) (λ b o e.
-    regoal ! (λ p. prop (WpFn 𝓤 𝓛.H 𝓣.C 𝓣.Λ code.function (ptr_val p ∷ vint w64 now ∷ vptr token.ref_ptr.0 token.ref_ptr.1 ∷ []) (W.post (y p)))) e refl $
-    enter ! _ _ _ _ _ $ alloc_all ! (λ l. pass_all ! refl ((tt, tt), ((tt, record { fits = are.1.0.1 }), ((tt, tt), tt))) $
-    -- [the slot; the other parameters; the token; the locals]
-    lft_new ! tt (λ α. let κ = α ∷ [] in move ! (1 ∷ []) $
-    use1 𝓛 (later (some (λ (γ : ℕ). ‵ ((MutRef (named 0) κ R).own_val (record { ref_ptr = (b, o); ghost_name = γ; now = x }) (vptr b o ∷ [])) ⊛ ‵ (flent κ (Body (mem R) b o γ)))))
-    (lends_ref 𝓛 R (named 0) κ x b o) $ await ! tt $ pick ! (λ γ. split ! $
-    -- [the loan; the lender's part; the loan's token; the other parameters; the token; the locals]
-    let r : MutBor ServiceSlot = record { ref_ptr = (b, o); ghost_name = γ; now = x } in
-    first ! $ blocks ! $
-    sets ! (of_opd ! (get ! refl)) refl (tt, tt) $
-    sets ! (of_opd ! (get ! refl)) refl (tt, tt) $
-    sets_last ! (addr ! (through ! refl (stop !))) refl (tt, tt) $
-    exec ! 𝓣.C 𝓣.Λ (env code.Mir.locals l) code.Mir.t-2 (at_ret _ (W.post (y (block_ptr b o)))) $
-    sets ! (of_opd ! (get ! refl)) refl (tt, tt) $
-    sets ! (of_opd ! (get ! refl)) refl (tt, record { fits = are.1.0.1 }) $
-    sets ! (of_opd ! (get ! refl)) refl (tt, tt) $
-    let G = triple_of 𝓛 g.signature (g.spec 𝓛 𝓜.mem 𝓡.returns) in
-    let z : G.Ghost = (((κ, (κs.0, tt)), (full_share, (qs.0, tt)), tt, (r, a.1), (mut_vals r, vss)), tt) in
-    move ! (0 ∷ 3 ∷ []) $ join ! $ move ! (2 ∷ 3 ∷ []) $ join ! $ join ! $ nothing ! $ move ! (1 ∷ 0 ∷ []) $ use2 𝓛 (raw (G.pre z)) (id⊢ 𝓤 _) $
-    -- [what `forget_in` asks; the lender's part; the locals]
-    calls_at ! (framed 𝓤 𝓛.H 𝓜 (tables 𝓤 𝓛.H 𝓜 𝓡 𝓡.env)) G (met 𝓤 𝓛 𝓜 𝓡 (code.calls-dt_c::service_calls::forget_in 𝓡.env wired)) z
-    (and_then ! (get ! refl) (and_then ! (get ! refl) (and_then ! (get ! refl) (no_more !)))) (λ v.
-    use1 𝓛 (later (some (λ (u : ℕ). ((‵ (flft κ full_share) ⊛ (‵ (flft κs.0 qs.0) ⊛ ‵ ftrue)) ⊛ ‵ (u8.own_val u (v ∷ []))) ⊛
-    some (λ (ws : Lasts g.ended z.0.0 z.0.3). ‵ (lasts g.ended z.0.0 z.0.3 ws) ⊛ raw (fact 𝓤 (Forgetting u now token.now x ws.0)))))) (id⊢ 𝓤 _) $
-    await ! tt $ pick ! (λ u. split ! $ split ! $ split ! $ lft_end ! tt $ move ! (2 ∷ []) $
-    -- [the result; the dead lifetime; the token; what is told; the lender's part; the locals]
-    peeks ! u8 (Is u8) (shows 𝓛 u8) u (v ∷ []) (λ is. lands_as ! refl refl ((uint_Lawful 𝓛 w8).typed u _ is).0 $
-    move ! (3 ∷ []) $ pick ! (λ ws. split ! $ move ! (1 ∷ []) $ heard ! _ (λ told.
-    fsplit ! $ fsplit ! $
-    -- [the loan's last value; its borrow; nothing; the result; the dead lifetime; the token; the lender's part; the locals]
-    move ! (4 ∷ 6 ∷ 0 ∷ []) $ use3 𝓛 (later (‵ (part_at R full_share ws.0 b o))) (ref_back 𝓛 R κ γ ws.0 b o) $ await ! tt $
-    returns ! (look_at ! 0 refl) $ free_all ! refl $ keep ! (4 ∷ 3 ∷ 0 ∷ []) $
-    suffices ! _ (ends_at 𝓛 f.ended stayed c (y (block_ptr b o)) v u (tt, (tt, (tt, tt))) (tt, (tt, (tt, tt)))) $
-    -- [the token; the result; the slot]
-    nothing ! $ nothing ! $ join ! $ nothing ! $ join ! $ nothing ! $ join ! $ move ! (1 ∷ 0 ∷ []) $ group ! 3 $ frame ! $
-    show ! (λ (h : ServiceSlot). sep 𝓤 (sem 𝓛 (lies_at R full_share (block_ptr b o) h)) (fact 𝓤 (Forgetting u now token.now x h))) ws.0 $ says ! told $ done !))))))))))
+dt_forget_spec 𝓤 𝓛 𝓜 𝓡 wired = exported 𝓛 𝓜 𝓡 R (status 𝓛) 1 (λ κs. number w64 & shared (named 0) κs.0 TokenRow & none)
+    (λ κs a x told h ws. Forgetting told a.0 a.1.0.now x h) (λ κs. tt) (λ κs. code.unfolded 𝓤 𝓛.H 𝓜 𝓡 wired) (met 𝓤 𝓛 𝓜 𝓡 (code.calls-dt_c::service_calls::forget_in 𝓡.env wired))

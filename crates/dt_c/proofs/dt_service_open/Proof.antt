@@ -1,75 +1,20 @@
--- `dt_service_open` lends what lies at the pointer to `open_service_in` for a lifetime that is made for the call.
-use Rattle.dt_c.proofs.Steps.{ℕ, List, [], ◌∷◌, refl, Val, vptr, proved, full_share, id⊢, ftrue, flft, flent, named, fact, tables, WpFn, ‵, raw, ◌⊛◌, some, later, prop, ◌$◌, ◌∵◌, !, qed, done, move, keep, drop, use1, use2, use3, split, join, fsplit, pick, await, regoal, suffices, frame, group, enter, of_opd, addr, no_more, and_then, first, blocks, exec, returns, stop, alloc_all, pass_all, free_all, look_at, get, through, sets, sets_last, lands_as, env, at_ret, lft_new, lft_end, yes, Is, shows, lends_ref, ref_back, mem, part_at, owns, Ptr, RawPtr, block_ptr, lies_at, in_a_block, rawptr_vals, rawptr_Tells, MutRef, mut_vals, MutBor, plain, nothing, heard, peeks, calls_at, lasts, triple_of, Stays, walk_of, says, stay_dropped, Goes-dropped, ends_at, framed, Body, ptr_val, show, sem, sep, Lasts, RefOf, ShrRef, shr_vals, shr_Tells, SliceRefOf, ShrSlice, shr_slice_vals, shr_slice_Tells, slice_val, length}
+-- `dt_service_open` lends what lies at the handle to `open_service_in`.
+use Rattle.std.proofs.Common.{refl}
+use mir.Syntax.{named}
+use Rattle.dt_c.proofs.Exports.{exported}
+use Rattle.dt_c.proofs.Parameters.{allocator, items, none, shared, ◌&◌}
 use Rattle.dt_c.specs.Serving.{ServiceOpening}
-use Rattle.dt_c.specs.declared.rows.OpenedRow.{OpenedRow}
+use Rattle.dt_c.specs.contracts.rows.ParamsRow.{the_row as ParamsRow}
+use Rattle.dt_c.specs.contracts.service_rows.ServiceStartRow.{the_row as ServiceStartRow}
+use Rattle.dt_c.specs.contracts.rows.LinkRow.{the_row as LinkRow}
+use Rattle.dt_c.specs.contracts.rows.RouteRow.{the_row as RouteRow}
 use Rattle.dt_c.specs.contracts.rows.OpenedRow.{the_row as Q}
 use Rattle.dt_c.proofs.rows.OpenedRow.TheLaws.{the_row_laws}
-use Rattle.std.specs.contracts.alloc.Global as heap
-use Rattle.std.proofs.alloc.Global.TheLaws as heap_laws
-use Rattle.dt_c.specs.contracts.rows.ParamsRow.{the_row as P}
-use Rattle.dt_c.specs.contracts.rows.LinkRow.{the_row as L}
-use Rattle.dt_c.specs.contracts.rows.RouteRow.{the_row as T}
-use Rattle.dt_c.specs.contracts.service_rows.ServiceStartRow.{the_row as S}
-use Rattle.dt_c.specs.declared.service_slots.ServiceSlot.{ServiceSlot}
 use Rattle.dt_c.specs.contracts.service_slots.ServiceSlot.{the_row as R}
-use Rattle.dt_c.specs.contracts.dt_service_open as f
 use Rattle.dt_c.proofs.dt_service_open.Statement.{statement}
 use Rattle.dt_c.proofs.dt_service_open.Code as code
-use Rattle.dt_c.specs.contracts.service_calls.open_service_in as g
 use Rattle.dt_c.proofs.service_calls.open_service_in.Met.{met}
 
-abbrev stayed : Stays f.ended.signature.params f.ended.kept
-stayed = (stay_dropped _ yes, (stay_dropped _ yes, (stay_dropped _ yes, (stay_dropped _ yes, (stay_dropped _ yes, (stay_dropped _ yes, tt))))))
-
 pub dt_service_open_spec : {M : Type 1} → statement M
-dt_service_open_spec 𝓤 𝓛 𝓜 𝓡 wired =
-    let c = f.clauses 𝓛 𝓜.mem 𝓡.returns in let W = walk_of 𝓛 f.ended stayed c in let 𝓣 = tables 𝓤 𝓛.H 𝓜 𝓡 𝓡.env in
-    proved 𝓛 f.ended stayed c 𝓜 𝓡 (Goes-dropped 𝓛 4 (plain (λ _. RawPtr)) yes (λ κs x w. refl), (Goes-dropped 𝓛 4 (plain (λ _. heap.the_row)) yes (λ κs x w. refl), (Goes-dropped 𝓛 4 (RefOf (0 ∷ []) tt (plain (λ _. P)) (λ _. tt)) yes (λ κs x w. refl), (Goes-dropped 𝓛 4 (RefOf (1 ∷ []) tt (plain (λ _. S)) (λ _. tt)) yes (λ κs x w. refl), (Goes-dropped 𝓛 4 (SliceRefOf (2 ∷ []) tt (plain (λ _. L)) (λ _. tt)) yes (λ κs x w. refl), (Goes-dropped 𝓛 4 (SliceRefOf (3 ∷ []) tt (plain (λ _. T)) (λ _. tt)) yes (λ κs x w. refl), tt))))))
-    f.Key.name code.function (code.unfolded 𝓤 𝓛.H 𝓜 𝓡 wired)
-    (λ κs. (rawptr_vals, ((λ d. heap_laws.lowers.lowered d ∷ []), (shr_vals, (shr_vals, (shr_slice_vals, (shr_slice_vals, tt)))))))
-    (λ κs. (rawptr_Tells, (heap_laws.lowers.val_is, (shr_Tells (named 0) κs.0 P, (shr_Tells (named 1) κs.1.0 S, (shr_slice_Tells (named 2) κs.1.1.0 L, (shr_slice_Tells (named 3) κs.1.1.1.0 T, tt))))))) (λ κs qs bounds a x are.
-    let alloc = heap_laws.lowers.lowered a.1.0 in let typed = ((heap_laws.the_row_laws.lawful 𝓛).typed a.1.0 _ are.1.0).0 in let params = a.1.1.0 in let start = a.1.1.1.0 in let links = a.1.1.1.1.0 in let routes = a.1.1.1.1.1.0 in
-    let vss : List Val × (List Val × (List Val × (List Val × (List Val × Unit {0})))) = (alloc ∷ [], (shr_vals params, (shr_vals start, (shr_slice_vals links, (shr_slice_vals routes, tt))))) in
-    let y : Ptr → W.Ghost = λ p. ((κs, qs, bounds, (p, a.1), (rawptr_vals p, vss)), x) in
-    qed 𝓛 (((‵ (flft κs.0 qs.0) ⊛ (‵ (flft κs.1.0 qs.1.0) ⊛ (‵ (flft κs.1.1.0 qs.1.1.0) ⊛ (‵ (flft κs.1.1.1.0 qs.1.1.1.0) ⊛ ‵ ftrue)))) ⊛ ‵ (owns (RawPtr ∷ heap.the_row ∷ ShrRef (named 0) κs.0 P ∷ ShrRef (named 1) κs.1.0 S ∷ ShrSlice (named 2) κs.1.1.0 L ∷ ShrSlice (named 3) κs.1.1.1.0 T ∷ []) a (rawptr_vals a.0, vss))) ∷ ‵ (lies_at R full_share a.0 x) ∷ []) ∵
-    split ! $ move ! (1 ∷ []) $ fsplit ! $ drop ! $ move ! (2 ∷ []) $
-    in_a_block ! a.0 (λ p. lies_at R full_share p x) (id⊢ 𝓤 _) (λ b o e.
-    regoal ! (λ p. prop (WpFn 𝓤 𝓛.H 𝓣.C 𝓣.Λ code.function (ptr_val p ∷ alloc ∷ vptr params.ref_ptr.0 params.ref_ptr.1 ∷ vptr start.ref_ptr.0 start.ref_ptr.1 ∷ slice_val links.ref_ptr (length links.now) ∷ slice_val routes.ref_ptr (length routes.now) ∷ []) (W.post (y p)))) e refl $
-    enter ! _ _ _ _ _ $ alloc_all ! (λ l. pass_all ! refl ((tt, tt), (typed, ((tt, tt), ((tt, tt), ((tt, (tt, (record { fits = are.1.1.1.1.0.0.1.0 }, tt))), ((tt, (tt, (record { fits = are.1.1.1.1.1.0.0.1.0 }, tt))), tt)))))) $
-    -- [the slot; the other parameters; the token; the locals]
-    lft_new ! tt (λ α. let κ = α ∷ [] in move ! (1 ∷ []) $
-    use1 𝓛 (later (some (λ (γ : ℕ). ‵ ((MutRef (named 0) κ R).own_val (record { ref_ptr = (b, o); ghost_name = γ; now = x }) (vptr b o ∷ [])) ⊛ ‵ (flent κ (Body (mem R) b o γ)))))
-    (lends_ref 𝓛 R (named 0) κ x b o) $ await ! tt $ pick ! (λ γ. split ! $
-    -- [the loan; the lender's part; the loan's token; the other parameters; the token; the locals]
-    let r : MutBor ServiceSlot = record { ref_ptr = (b, o); ghost_name = γ; now = x } in
-    first ! $ blocks ! $
-    sets ! (of_opd ! (get ! refl)) refl (tt, tt) $
-    sets ! (of_opd ! (get ! refl)) refl (tt, tt) $
-    sets_last ! (addr ! (through ! refl (stop !))) refl (tt, tt) $
-    exec ! 𝓣.C 𝓣.Λ (env code.Mir.locals l) code.Mir.t-2 (at_ret _ (W.post (y (block_ptr b o)))) $
-    sets ! (of_opd ! (get ! refl)) refl (tt, tt) $
-    sets ! (of_opd ! (get ! refl)) refl typed $
-    sets ! (of_opd ! (get ! refl)) refl (tt, tt) $
-    sets ! (of_opd ! (get ! refl)) refl (tt, tt) $
-    sets ! (of_opd ! (get ! refl)) refl (tt, (tt, (record { fits = are.1.1.1.1.0.0.1.0 }, tt))) $
-    sets ! (of_opd ! (get ! refl)) refl (tt, (tt, (record { fits = are.1.1.1.1.1.0.0.1.0 }, tt))) $
-    let G = triple_of 𝓛 g.signature (g.spec 𝓛 𝓜.mem 𝓡.returns) in
-    let z : G.Ghost = (((κ, (κs.0, (κs.1.0, (κs.1.1.0, (κs.1.1.1.0, tt))))), (full_share, (qs.0, (qs.1.0, (qs.1.1.0, (qs.1.1.1.0, tt))))), tt, (r, a.1), (mut_vals r, vss)), tt) in
-    move ! (0 ∷ 3 ∷ []) $ join ! $ move ! (2 ∷ 3 ∷ []) $ join ! $ join ! $ nothing ! $ move ! (1 ∷ 0 ∷ []) $ use2 𝓛 (raw (G.pre z)) (id⊢ 𝓤 _) $
-    -- [what `open_service_in` asks; the lender's part; the locals]
-    calls_at ! (framed 𝓤 𝓛.H 𝓜 (tables 𝓤 𝓛.H 𝓜 𝓡 𝓡.env)) G (met 𝓤 𝓛 𝓜 𝓡 (code.calls-dt_c::service_calls::open_service_in 𝓡.env wired)) z
-    (and_then ! (get ! refl) (and_then ! (get ! refl) (and_then ! (get ! refl) (and_then ! (get ! refl) (and_then ! (get ! refl) (and_then ! (get ! refl) (no_more !))))))) (λ v.
-    use1 𝓛 (later (some (λ (u : OpenedRow). ((‵ (flft κ full_share) ⊛ (‵ (flft κs.0 qs.0) ⊛ (‵ (flft κs.1.0 qs.1.0) ⊛ (‵ (flft κs.1.1.0 qs.1.1.0) ⊛ (‵ (flft κs.1.1.1.0 qs.1.1.1.0) ⊛ ‵ ftrue))))) ⊛ ‵ (Q.own_val u (v ∷ []))) ⊛
-    some (λ (ws : Lasts g.ended z.0.0 z.0.3). ‵ (lasts g.ended z.0.0 z.0.3 ws) ⊛ raw (fact 𝓤 (ServiceOpening u params.now start.now links.now routes.now x ws.0)))))) (id⊢ 𝓤 _) $
-    await ! tt $ pick ! (λ u. split ! $ split ! $ split ! $ lft_end ! tt $ move ! (2 ∷ []) $
-    -- [the result; the dead lifetime; the token; what is told; the lender's part; the locals]
-    peeks ! Q (Is Q) (shows 𝓛 Q) u (v ∷ []) (λ is. lands_as ! refl refl ((the_row_laws.lawful 𝓛).typed u _ is).0 $
-    move ! (3 ∷ []) $ pick ! (λ ws. split ! $ move ! (1 ∷ []) $ heard ! _ (λ told.
-    fsplit ! $ fsplit ! $
-    -- [the loan's last value; its borrow; nothing; the result; the dead lifetime; the token; the lender's part; the locals]
-    move ! (4 ∷ 6 ∷ 0 ∷ []) $ use3 𝓛 (later (‵ (part_at R full_share ws.0 b o))) (ref_back 𝓛 R κ γ ws.0 b o) $ await ! tt $
-    returns ! (look_at ! 0 refl) $ free_all ! refl $ keep ! (4 ∷ 3 ∷ 0 ∷ []) $
-    suffices ! _ (ends_at 𝓛 f.ended stayed c (y (block_ptr b o)) v u (tt, (tt, (tt, (tt, (tt, (tt, tt)))))) (tt, (tt, (tt, (tt, (tt, (tt, tt))))))) $
-    -- [the token; the result; the slot]
-    nothing ! $ nothing ! $ join ! $ nothing ! $ join ! $ nothing ! $ join ! $ nothing ! $ join ! $ nothing ! $ join ! $ nothing ! $ join ! $ move ! (1 ∷ 0 ∷ []) $ group ! 3 $ frame ! $
-    show ! (λ (h : ServiceSlot). sep 𝓤 (sem 𝓛 (lies_at R full_share (block_ptr b o) h)) (fact 𝓤 (ServiceOpening u params.now start.now links.now routes.now x h))) ws.0 $ says ! told $ done !))))))))))
+dt_service_open_spec 𝓤 𝓛 𝓜 𝓡 wired = exported 𝓛 𝓜 𝓡 R (record { row = Q; lawful = the_row_laws.lawful 𝓛; one = refl }) 4 (λ κs. allocator 𝓛 & shared (named 0) κs.0 ParamsRow & shared (named 1) κs.1.0 ServiceStartRow & items (named 2) κs.1.1.0 LinkRow & items (named 3) κs.1.1.1.0 RouteRow & none)
+    (λ κs a x row h ws. ServiceOpening row a.1.0.now a.1.1.0.now a.1.1.1.0.now a.1.1.1.1.0.now x h) (λ κs. tt) (λ κs. code.unfolded 𝓤 𝓛.H 𝓜 𝓡 wired) (met 𝓤 𝓛 𝓜 𝓡 (code.calls-dt_c::service_calls::open_service_in 𝓡.env wired))

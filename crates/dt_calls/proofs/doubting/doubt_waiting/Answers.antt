@@ -1,36 +1,22 @@
-use Rattle.std.proofs.Common.{ℕ, ◌+◌, ◌≡◌, ◌<◌, ◌≤◌, List, drop, length, get_or, refl, sym, ap, subst, ◌∙◌, arith, rules}
+use Rattle.std.proofs.Common.{ℕ, ◌+◌, ◌≡◌, ◌<◌, ◌≤◌, List, drop, length, refl, sym, ap, subst, ◌∙◌, arith, rules}
 use Rattle.dt_calls_model.specs.CallStep.{becomes_unsure}
 use Rattle.dt_calls.specs.Parts.{calls_seen}
-use Rattle.dt_calls.proofs.DoubtParts.{same_read, sure_next, unsure_next}
-use Rattle.dt_calls.proofs.DoubtWaiting.{DoubtsTo, all_doubted, call_is_there, drop_at, none_from}
+use Rattle.dt_calls.proofs.DoubtParts.{is_there, same_read, sure_next, to_number, unsure_next}
+use Rattle.dt_calls.proofs.DoubtWaiting.{DoubtsTo, all_doubted, none_from}
 use Rattle.dt_calls.proofs.doubting.doubt_waiting.Goals as goal
 use Rattle.dt_calls.proofs.doubting.doubt_waiting.Goals.{then-becomes_unsure, else-becomes_unsure}
 
 pub index-requires : goal.index-requires
 index-requires g c =
-    let fn = c.args.parts.now in
-    let loop = c.loop-place.parts in
-    let inv = c.loop-place.invariant in
-    let i = c.loop-place.place in
-    let k = c.index-number.result.now in
-    let less : i < length fn.waiting.items = search rules in
-    let number : k ≡ get_or fn.waiting.items i k = subst (λ p. k ≡ get_or p.waiting.items i k) inv.same c.index-number.ensures in
-    let to = subst (λ (ns : List ℕ). DoubtsTo g.L.CallLines.tells fn.world.state fn.calls.items c.args.lines.now ns loop.calls.items c.loop-place.lines) (drop_at i fn.waiting.items k less number) inv.to in
-    let there = call_is_there g.L.CallLines.tells fn.world.state fn.calls.items c.args.lines.now loop.calls.items c.loop-place.lines k (drop (i + 1) fn.waiting.items) to in
-    omega (arith, there, loop.calls.ok.0)
+    let less : c.loop-place.place < length c.args.parts.now.waiting.items = search rules in
+    let there = is_there g.L.CallLines.tells c.args.parts.now c.loop-place.parts c.args.lines.now c.loop-place.lines c.loop-place.place c.index-number.result.now less c.loop-place.invariant.same c.index-number.ensures c.loop-place.invariant.to in
+    omega (arith, there, c.loop-place.parts.calls.ok.0)
 
 pub index_mut-requires : goal.index_mut-requires
 index_mut-requires g c =
-    let fn = c.args.parts.now in
-    let loop = c.loop-place.parts in
-    let inv = c.loop-place.invariant in
-    let i = c.loop-place.place in
-    let k = c.index-number.result.now in
-    let less : i < length fn.waiting.items = search rules in
-    let number : k ≡ get_or fn.waiting.items i k = subst (λ p. k ≡ get_or p.waiting.items i k) inv.same c.index-number.ensures in
-    let to = subst (λ (ns : List ℕ). DoubtsTo g.L.CallLines.tells fn.world.state fn.calls.items c.args.lines.now ns loop.calls.items c.loop-place.lines) (drop_at i fn.waiting.items k less number) inv.to in
-    let there = call_is_there g.L.CallLines.tells fn.world.state fn.calls.items c.args.lines.now loop.calls.items c.loop-place.lines k (drop (i + 1) fn.waiting.items) to in
-    omega (arith, there, loop.calls.ok.0)
+    let less : c.loop-place.place < length c.args.parts.now.waiting.items = search rules in
+    let there = is_there g.L.CallLines.tells c.args.parts.now c.loop-place.parts c.args.lines.now c.loop-place.lines c.loop-place.place c.index-number.result.now less c.loop-place.invariant.same c.index-number.ensures c.loop-place.invariant.to in
+    omega (arith, there, c.loop-place.parts.calls.ok.0)
 
 pub loop-place-preserved : goal.loop-place-preserved
 loop-place-preserved g c =
@@ -45,10 +31,9 @@ loop-place-preserved g c =
     let m = c.loop-place.lines in
     let n = c.if-becomes_unsure.lines in
     let ks = drop (i + 1) fn.waiting.items in
-    let less : i < length fn.waiting.items = search rules in
-    let number : k ≡ get_or fn.waiting.items i k = subst (λ p. k ≡ get_or p.waiting.items i k) inv.same c.index-number.ensures in
-    let to = subst (λ (ns : List ℕ). DoubtsTo tells fn.world.state fn.calls.items l ns loop.calls.items m) (drop_at i fn.waiting.items k less number) inv.to in
-    let there = call_is_there tells fn.world.state fn.calls.items l loop.calls.items m k ks to in
+    let less : c.loop-place.place < length c.args.parts.now.waiting.items = search rules in
+    let to = to_number g.L.CallLines.tells c.args.parts.now c.loop-place.parts c.args.lines.now c.loop-place.lines c.loop-place.place c.index-number.result.now less c.loop-place.invariant.same c.index-number.ensures c.loop-place.invariant.to in
+    let there = is_there g.L.CallLines.tells c.args.parts.now c.loop-place.parts c.args.lines.now c.loop-place.lines c.loop-place.place c.index-number.result.now less c.loop-place.invariant.same c.index-number.ensures c.loop-place.invariant.to in
     elim c.if-becomes_unsure.branch [
       | then-becomes_unsure w ↦
           let x = w.index_mut.result.now in

@@ -17,15 +17,13 @@ go_on-requires-clause-rest g c = nothing_due (g.H.Handler.answer c.args.parts.no
 
 pub returns-in_err-due-clause-steps : goal.returns-in_err-due-clause-steps
 returns-in_err-due-clause-steps g c =
-    let tells = g.L.CallLines.tells in
     let answer = g.H.Handler.answer c.args.parts.now.handler in
     let p = c.args.parts.now in
     let after = c.go_on.new.parts in
     let event = event_of c.args.event.now in
-    let l = c.args.lines.now in
     let e = err_from_is_err_and c.from_residual.result c.from_residual.ensures.1 in
     let wrong = subst (λ (why : StepFault). GoesWrong event p after why) (sym e.2) c.in_err-due.ensures in
-    fails_with tells answer (calls_seen p) (Happens event) l l (calls_seen after) c.from_residual.result e.0 e.1 (event_wrong event p after tells answer l e.0 wrong)
+    fails_with g.L.CallLines.tells answer (calls_seen p) (Happens event) c.args.lines.now c.args.lines.now (calls_seen after) c.from_residual.result e.0 e.1 (event_wrong event p after g.L.CallLines.tells answer c.args.lines.now e.0 wrong)
 
 pub finish-requires-clause-course : goal.finish-requires-clause-course
 finish-requires-clause-course g c =

@@ -7,6 +7,7 @@ use Rattle.dt_node.specs.Deeds.{TurnEnds, scene}
 use Rattle.dt_node.specs.Logging.{noted_text}
 use Rattle.dt_node.specs.TurnScripts.{turn_script}
 use Rattle.dt_node.proofs.Gathered.{gathered}
+use Rattle.dt_node.proofs.Logged.{leaves_put}
 use Rattle.dt_node.proofs.running.turn_at.Goals as goal
 
 pub returns-clause-ends : goal.returns-clause-ends
@@ -28,3 +29,6 @@ returns-clause-ends g c =
     let waits = c.turn_into-turned.new.run.recorder.buffer in
     let into = subst (λ (b : List ℕ). TurnEnds c.turn_into-turned.result form me now first script (turned c.turn_into-turned.result node) (scene gives w (with_waiting a b)) (scene after v (with_waiting mid waits))) c.requires.empty c.turn_into-turned.ensures.ends in
     gathered form me now gives after first script w v a mid end waits c.turn_into-turned.ensures.reached c.turn_into-turned.result c.pass_rest.result node into c.pass_rest.ensures.puts
+
+pub returns-clause-leaves : goal.returns-clause-leaves
+returns-clause-leaves g c = leaves_put c.args.turn.orders.now c.args.turn.moment c.turn_into-turned.result c.pass_rest.result c.turn_into-turned.new.run.node c.pass_rest.ensures.same c.pass_rest.ensures.memory c.turn_into-turned.ensures.leaves

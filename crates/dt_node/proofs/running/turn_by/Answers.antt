@@ -1,12 +1,11 @@
-use Rattle.std.proofs.Common.{◌≡◌, ◌<◌, Bool, Result, [], ap, false, refl, subst, sym}
-use Rattle.std.specs.Prelude.{IfOk, OnOk}
+use Rattle.std.proofs.Common.{Bool, Result, [], ap, refl, subst, sym}
 use Rattle.dt_fold.specs.declared.stops.Stop.{Stop}
-use Rattle.dt_turn.specs.Codes.{IsReady, node_seen}
-use Rattle.dt_node.specs.TurnScripts.{turned}
+use Rattle.dt_turn.specs.Codes.{node_seen}
+use Rattle.dt_node.specs.TurnScripts.{Leaves, turned}
 use Rattle.dt_node.specs.Deeds.{TurnEnds, scene}
 use Rattle.dt_node.specs.Logging.{Fixed, log_sight}
 use Rattle.dt_node.specs.TurnScripts.{turn_script}
-use Rattle.dt_node.proofs.Logged.{ends_fixed, ends_sink, if_ended, on_ended, turn_ends, wanted_memory}
+use Rattle.dt_node.proofs.Logged.{ends_fixed, ends_sink, leaves_ended, turn_ends}
 use Rattle.dt_node.proofs.running.turn_by.Goals as goal
 
 pub returns-clause-ends : goal.returns-clause-ends
@@ -34,15 +33,9 @@ returns-clause-same_sink g c = (ends_sink (log_sight g.W.Wire.sight g.K.Sink.sig
 pub returns-clause-reached : goal.returns-clause-reached
 returns-clause-reached g c = (ends_sink (log_sight g.W.Wire.sight g.K.Sink.sight) c.turn-done.result _ _ _ _ c.turn-done.ensures.ends c.requires.fine).1
 
-pub returns-clause-ready : goal.returns-clause-ready
-returns-clause-ready g c =
-    let ready = IsReady c.args.turn.orders.now c.args.turn.moment c.turn-done.new.node in
-    subst (λ (r : Result Bool Stop). OnOk r ready) (sym c.ended.ensures) (on_ended ready c.turn-done.new.visitor.failed c.turn-done.result c.turn-done.ensures.ready)
-
-pub returns-clause-going : goal.returns-clause-going
-returns-clause-going g c =
-    let goes = λ (stopped : Bool). stopped ≡ false → c.args.turn.moment < c.args.turn.orders.now.stop in
-    subst (λ (r : Result Bool Stop). IfOk r goes) (sym c.ended.ensures) (if_ended goes c.turn-done.new.visitor.failed c.turn-done.result c.turn-done.ensures.going)
-
-pub returns-clause-memory : goal.returns-clause-memory
-returns-clause-memory g c = λ wants. wanted_memory _ c.turn-done.new.visitor.failed c.turn-done.result c.turn-done.ensures.memory (rw c.ended.ensures at wants)
+pub returns-clause-leaves : goal.returns-clause-leaves
+returns-clause-leaves g c =
+    let o = c.args.turn.orders.now in
+    let now = c.args.turn.moment in
+    let node = c.turn-done.new.node in
+    subst (λ (r : Result Bool Stop). Leaves o now r node) (sym c.ended.ensures) (leaves_ended o now c.turn-done.new.visitor.failed c.turn-done.result node c.turn-done.ensures.ready c.turn-done.ensures.going c.turn-done.ensures.memory)

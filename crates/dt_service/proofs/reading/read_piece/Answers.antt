@@ -12,10 +12,10 @@ returns-in-Read c =
     let marks : Marks = record { run = r.run'; begin = r.begin; end = r.end } in
     let read = subst (λ (n : ℕ). Reads (piece.Read r.len r.run' r.begin r.end) c.args.now c.args.flow n c.read.new.buf c.args.endpoint.now c.read.new.self) c.requires r.ensures in
     let so = reads_some marks r.len c.args.now c.args.flow most_read c.read.new.buf c.args.endpoint.now c.read.new.self read in
-    record { found = so.found_is; within = omega (arith, so.within, c.read.auto.buf, c.requires); after = so.after; part = tt }
+    record { found = so.found_is; within = omega (arith, so.within, c.read.auto.buf, c.requires); after = so.after; cut = tt }
 
 pub returns-in-Nothing : goal.returns-in-Nothing
 returns-in-Nothing c =
     let read = subst (λ (n : ℕ). Reads piece.Nothing c.args.now c.args.flow n c.read.new.buf c.args.endpoint.now c.read.new.self) c.requires c.in-Nothing.ensures in
     let so = reads_nothing c.args.now c.args.flow most_read c.read.new.buf c.args.endpoint.now c.read.new.self read in
-    record { found = so.found_is; within = omega arith; after = so.after; part = tt }
+    record { found = so.found_is; within = omega arith; after = so.after; cut = tt }

@@ -12,19 +12,19 @@ use Rattle.dt_station.proofs.flushing.flush.Goals as goal
 pub flush-smaller : goal.flush-smaller
 flush-smaller g c =
     let same = ap (λ (r : Relay _). r.outs) c.in_ok-let_out.ensures.after in
-    rw same (ready_falls (link_in c.flush.relay.outs c.args.place) c.args.now c.flush.relay.outs c.flush-test.ensures)
+    rw same (ready_falls (link_in c.flush.relay.outs c.args.place) c.args.now.ms c.flush.relay.outs c.flush-test.ensures)
 
 pub flush-preserved : goal.flush-preserved
 flush-preserved g c =
     let first = link_in c.args.relay.now.outs c.args.place in
     let link = link_in c.flush.relay.outs c.args.place in
     let same : link ≡ first = ap (λ (links : List ℕ). slice_index links c.args.place) c.flush.invariant.links in
-    let left = on_link link None (leave c.args.now) c.flush.relay.outs in
-    let leads = leads_is g.V.Visitor.tells (g.V.Visitor.tags c.args.now) g.V.Visitor.hands g.V.Visitor.fails (flush_at first c.args.now c.args.relay.now.outs) (flush_at first c.args.now c.flush.relay.outs) (let_out link left >>= flush_at first c.args.now) c.args.visitor.now c.flush.visitor (flush_on_link first link c.args.now c.flush.relay.outs same c.flush-test.ensures) c.flush.invariant.leads in
+    let left = on_link link None (leave c.args.now.ms) c.flush.relay.outs in
+    let leads = leads_is g.V.Visitor.tells (g.V.Visitor.tags c.args.now.ms) g.V.Visitor.hands g.V.Visitor.fails (flush_at first c.args.now.ms c.args.relay.now.outs) (flush_at first c.args.now.ms c.flush.relay.outs) (let_out link left >>= flush_at first c.args.now.ms) c.args.visitor.now c.flush.visitor (flush_on_link first link c.args.now.ms c.flush.relay.outs same c.flush-test.ensures) c.flush.invariant.leads in
     record {
-      leads = leads_after g.V.Visitor.tells (g.V.Visitor.tags c.args.now) g.V.Visitor.hands g.V.Visitor.fails (flush_at first c.args.now c.args.relay.now.outs) c.args.visitor.now (let_out link left) (flush_at first c.args.now) c.flush.visitor c.let_out.new.visitor c.let_out.new.relay.outs leads c.in_ok-let_out.ensures.ends;
+      leads = leads_after g.V.Visitor.tells (g.V.Visitor.tags c.args.now.ms) g.V.Visitor.hands g.V.Visitor.fails (flush_at first c.args.now.ms c.args.relay.now.outs) c.args.visitor.now (let_out link left) (flush_at first c.args.now.ms) c.flush.visitor c.let_out.new.visitor c.let_out.new.relay.outs leads c.in_ok-let_out.ensures.ends;
       past = c.in_ok-let_out.ensures.past;
-      links = ap (λ (r : Relay _). map link_of r.outs) c.in_ok-let_out.ensures.after ∙ leave_links link c.args.now c.flush.relay.outs ∙ c.flush.invariant.links;
+      links = ap (λ (r : Relay _). map link_of r.outs) c.in_ok-let_out.ensures.after ∙ leave_links link c.args.now.ms c.flush.relay.outs ∙ c.flush.invariant.links;
       others = kept c.args.relay.now c.flush.relay c.let_out.new.relay _ c.in_ok-let_out.ensures.after c.flush.invariant.others;
     }
 
@@ -34,17 +34,17 @@ returns-in_err-let_out-clause-ends g c =
     let first = link_in c.args.relay.now.outs c.args.place in
     let link = link_in c.flush.relay.outs c.args.place in
     let same : link ≡ first = ap (λ (links : List ℕ). slice_index links c.args.place) c.flush.invariant.links in
-    let left = on_link link None (leave c.args.now) c.flush.relay.outs in
-    let leads = leads_is g.V.Visitor.tells (g.V.Visitor.tags c.args.now) g.V.Visitor.hands g.V.Visitor.fails (flush_at first c.args.now c.args.relay.now.outs) (flush_at first c.args.now c.flush.relay.outs) (let_out link left >>= flush_at first c.args.now) c.args.visitor.now c.flush.visitor (flush_on_link first link c.args.now c.flush.relay.outs same c.flush-test.ensures) c.flush.invariant.leads in
-    rw p.1 (leads.stops c.let_out.new.visitor (stops_within g.V.Visitor.tells (g.V.Visitor.tags c.args.now) g.V.Visitor.hands g.V.Visitor.fails (let_out link left) (flush_at first c.args.now) c.flush.visitor c.let_out.new.visitor c.in_err-let_out.ensures.ends))
+    let left = on_link link None (leave c.args.now.ms) c.flush.relay.outs in
+    let leads = leads_is g.V.Visitor.tells (g.V.Visitor.tags c.args.now.ms) g.V.Visitor.hands g.V.Visitor.fails (flush_at first c.args.now.ms c.args.relay.now.outs) (flush_at first c.args.now.ms c.flush.relay.outs) (let_out link left >>= flush_at first c.args.now.ms) c.args.visitor.now c.flush.visitor (flush_on_link first link c.args.now.ms c.flush.relay.outs same c.flush-test.ensures) c.flush.invariant.leads in
+    rw p.1 (leads.stops c.let_out.new.visitor (stops_within g.V.Visitor.tells (g.V.Visitor.tags c.args.now.ms) g.V.Visitor.hands g.V.Visitor.fails (let_out link left) (flush_at first c.args.now.ms) c.flush.visitor c.let_out.new.visitor c.in_err-let_out.ensures.ends))
 
 pub returns-in_err-let_out-clause-links : goal.returns-in_err-let_out-clause-links
 returns-in_err-let_out-clause-links g c =
-    ap (λ (r : Relay _). map link_of r.outs) c.in_err-let_out.ensures.after ∙ leave_links (link_in c.flush.relay.outs c.args.place) c.args.now c.flush.relay.outs ∙ c.flush.invariant.links
+    ap (λ (r : Relay _). map link_of r.outs) c.in_err-let_out.ensures.after ∙ leave_links (link_in c.flush.relay.outs c.args.place) c.args.now.ms c.flush.relay.outs ∙ c.flush.invariant.links
 
 pub returns-clause-ends : goal.returns-clause-ends
 returns-clause-ends g c =
     let first = link_in c.args.relay.now.outs c.args.place in
     let link = link_in c.flush.relay.outs c.args.place in
     let same : link ≡ first = ap (λ (links : List ℕ). slice_index links c.args.place) c.flush.invariant.links in
-    c.flush.invariant.leads.plays _ _ (rw (flush_ends_on first link c.args.now c.flush.relay.outs same c.flush-test.ensures) (refl, refl))
+    c.flush.invariant.leads.plays _ _ (rw (flush_ends_on first link c.args.now.ms c.flush.relay.outs same c.flush-test.ensures) (refl, refl))

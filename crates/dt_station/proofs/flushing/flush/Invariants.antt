@@ -12,8 +12,8 @@ invariant-flush g l =
     let visitor = g.V.Visitor in
     let link = link_in l.fn.relay.outs l.place in
     record {
-      leads : Leads visitor.tells (visitor.tags l.now) visitor.hands visitor.fails (flush_at link l.now l.fn.relay.outs) l.fn.visitor (flush_at link l.now l.relay.outs) l.visitor;
-      past : All (IsOutUpTo l.now) l.relay.outs;
+      leads : Leads visitor.tells (visitor.tags l.now.ms) visitor.hands visitor.fails (flush_at link l.now.ms l.fn.relay.outs) l.fn.visitor (flush_at link l.now.ms l.relay.outs) l.visitor;
+      past : All (IsOutUpTo l.now.ms) l.relay.outs;
       links : map link_of l.relay.outs ≡ map link_of l.fn.relay.outs;
       others : l.relay ≡ with_outs l.fn.relay l.relay.outs;
     }

@@ -14,7 +14,7 @@ returns-in_err-flush-clause-ends g c =
     let small : c.loop-place.place < length links = rw (length-map c.args.relay.now.outs link_of, ← c.loop-place.invariant.end) c.loop-place-test.true in
     let next : drop c.loop-place.place links ≡ (link_in c.loop-place.relay.outs c.loop-place.place) ∷ drop (c.loop-place.place + 1) links = next_link links (map link_of c.loop-place.relay.outs) c.loop-place.place (link_in c.loop-place.relay.outs c.loop-place.place) c.loop-place.invariant.links small refl in
     let leads = rw next at c.loop-place.invariant.leads in
-    rw p.1 (leads.stops c.flush.new.visitor (stops_within g.V.Visitor.tells (g.V.Visitor.tags c.args.now) g.V.Visitor.hands g.V.Visitor.fails (flush_at (link_in c.loop-place.relay.outs c.loop-place.place) c.args.now c.loop-place.relay.outs) (flush_links c.args.now (drop (c.loop-place.place + 1) links)) c.loop-place.visitor c.flush.new.visitor c.in_err-flush.ensures.ends))
+    rw p.1 (leads.stops c.flush.new.visitor (stops_within g.V.Visitor.tells (g.V.Visitor.tags c.args.now.ms) g.V.Visitor.hands g.V.Visitor.fails (flush_at (link_in c.loop-place.relay.outs c.loop-place.place) c.args.now.ms c.loop-place.relay.outs) (flush_links c.args.now.ms (drop (c.loop-place.place + 1) links)) c.loop-place.visitor c.flush.new.visitor c.in_err-flush.ensures.ends))
 
 pub loop-place-preserved : goal.loop-place-preserved
 loop-place-preserved g c =
@@ -23,7 +23,7 @@ loop-place-preserved g c =
     let next : drop c.loop-place.place links ≡ (link_in c.loop-place.relay.outs c.loop-place.place) ∷ drop (c.loop-place.place + 1) links = next_link links (map link_of c.loop-place.relay.outs) c.loop-place.place (link_in c.loop-place.relay.outs c.loop-place.place) c.loop-place.invariant.links small refl in
     let leads = rw next at c.loop-place.invariant.leads in
     record {
-      leads = leads_after g.V.Visitor.tells (g.V.Visitor.tags c.args.now) g.V.Visitor.hands g.V.Visitor.fails (flush_links c.args.now links c.args.relay.now.outs) c.args.visitor.now (flush_at (link_in c.loop-place.relay.outs c.loop-place.place) c.args.now c.loop-place.relay.outs) (flush_links c.args.now (drop (c.loop-place.place + 1) links)) c.loop-place.visitor c.flush.new.visitor c.flush.new.relay.outs leads c.in_ok-flush.ensures.ends;
+      leads = leads_after g.V.Visitor.tells (g.V.Visitor.tags c.args.now.ms) g.V.Visitor.hands g.V.Visitor.fails (flush_links c.args.now.ms links c.args.relay.now.outs) c.args.visitor.now (flush_at (link_in c.loop-place.relay.outs c.loop-place.place) c.args.now.ms c.loop-place.relay.outs) (flush_links c.args.now.ms (drop (c.loop-place.place + 1) links)) c.loop-place.visitor c.flush.new.visitor c.flush.new.relay.outs leads c.in_ok-flush.ensures.ends;
       past = c.in_ok-flush.ensures.past;
       links = c.in_ok-flush.ensures.links ∙ c.loop-place.invariant.links;
       end = c.loop-place.invariant.end;

@@ -11,8 +11,8 @@ invariant-loop-place g l =
     let visitor = g.V.Visitor in
     let links = map link_of l.fn.relay.outs in
     record {
-      leads : Leads visitor.tells (visitor.tags l.now) visitor.hands visitor.fails (flush_links l.now links l.fn.relay.outs) l.fn.visitor (flush_links l.now (drop l.place links) l.relay.outs) l.visitor;
-      past : All (IsOutUpTo l.now) l.relay.outs;
+      leads : Leads visitor.tells (visitor.tags l.now.ms) visitor.hands visitor.fails (flush_links l.now.ms links l.fn.relay.outs) l.fn.visitor (flush_links l.now.ms (drop l.place links) l.relay.outs) l.visitor;
+      past : All (IsOutUpTo l.now.ms) l.relay.outs;
       links : map link_of l.relay.outs ≡ links;
       end : l.place-end ≡ length l.fn.relay.outs;
       others : l.relay ≡ with_outs l.fn.relay l.relay.outs;

@@ -5,6 +5,7 @@ use Rattle.dt_timers.proofs.tournament.play_from.Given as goal
 -- all is played but for the node above the one that changed last, and the places are as they were
 abbrev pub invariant-loop-at : goal.invariant-loop-at
 invariant-loop-at l = record {
+  long : length l.nodes ≡ length l.fn.nodes;
   some : 1 ≤ l.at;
   within : l.at < length l.nodes;
   played : ArePlayedBut (l.at / 2) l.nodes;

@@ -1,7 +1,8 @@
 use Rattle.std.proofs.Common.{ℕ, ◌*◌, List, arith, length, subst, sym}
 use Rattle.dt_flow_model.specs.Keeping.{octets_below}
 use Rattle.dt_station.specs.Events.{MaySend}
-use Rattle.dt_script.specs.Codes.{most_commands, most_octets}
+use Rattle.dt_text.specs.Tasks.{most_octets}
+use Rattle.dt_script.specs.Codes.{most_commands}
 use Rattle.dt_world_laws.proofs.Counting.{settled_counts}
 use Rattle.dt_turn.proofs.Readying.{ok_more}
 use Rattle.dt_turn.proofs.turns.do_task.Goals as goal

@@ -5,33 +5,33 @@ use Rattle.dt_world.proofs.Telling.{lines_kept, links_kept, notes_kept, played_a
 use Rattle.dt_world.proofs.placed.play.Goals as goal
 
 pub returns-in_err-take_part-clause-notes : goal.returns-in_err-take_part-clause-notes
-returns-in_err-take_part-clause-notes g c = notes_kept g.L.Lines.tells c.args.teller.now c.take_part.result (station_event c.args.station.now.rules c.args.now (event_seen c.args.event) c.args.station.now.state) c.take_part.new.teller c.take_part.new.station.state c.take_part.ensures.script
+returns-in_err-take_part-clause-notes g c = notes_kept g.L.Lines.tells c.args.teller.now c.take_part.result (station_event c.args.station.now.rules c.args.now.milliseconds (event_seen c.args.event) c.args.station.now.state) c.take_part.new.teller c.take_part.new.station.state c.take_part.ensures.script
 
 pub returns-in_err-take_part-clause-lines : goal.returns-in_err-take_part-clause-lines
-returns-in_err-take_part-clause-lines g c = lines_kept g.L.Lines.tells c.args.teller.now c.take_part.result (station_event c.args.station.now.rules c.args.now (event_seen c.args.event) c.args.station.now.state) c.take_part.new.teller c.take_part.new.station.state c.take_part.ensures.script
+returns-in_err-take_part-clause-lines g c = lines_kept g.L.Lines.tells c.args.teller.now c.take_part.result (station_event c.args.station.now.rules c.args.now.milliseconds (event_seen c.args.event) c.args.station.now.state) c.take_part.new.teller c.take_part.new.station.state c.take_part.ensures.script
 
 pub returns-in_err-take_part-clause-played : goal.returns-in_err-take_part-clause-played
 returns-in_err-take_part-clause-played g c =
     let p = err_from_is_err_and c.from_residual.result c.from_residual.ensures.1 in
-    rw p.1 (played_part g.L.Lines.tells c.args.teller.now c.take_part.result (station_event c.args.station.now.rules c.args.now (event_seen c.args.event) c.args.station.now.state) c.take_part.new.teller c.take_part.new.station.state c.take_part.ensures.script)
+    rw p.1 (played_part g.L.Lines.tells c.args.teller.now c.take_part.result (station_event c.args.station.now.rules c.args.now.milliseconds (event_seen c.args.event) c.args.station.now.state) c.take_part.new.teller c.take_part.new.station.state c.take_part.ensures.script)
 
 pub returns-then-teller-clause-notes : goal.returns-then-teller-clause-notes
-returns-then-teller-clause-notes g c = notes_kept g.L.Lines.tells c.args.teller.now c.take_part.result (station_event c.args.station.now.rules c.args.now (event_seen c.args.event) c.args.station.now.state) c.take_part.new.teller c.take_part.new.station.state c.take_part.ensures.script
+returns-then-teller-clause-notes g c = notes_kept g.L.Lines.tells c.args.teller.now c.take_part.result (station_event c.args.station.now.rules c.args.now.milliseconds (event_seen c.args.event) c.args.station.now.state) c.take_part.new.teller c.take_part.new.station.state c.take_part.ensures.script
 
 pub returns-then-teller-clause-lines : goal.returns-then-teller-clause-lines
-returns-then-teller-clause-lines g c = lines_kept g.L.Lines.tells c.args.teller.now c.take_part.result (station_event c.args.station.now.rules c.args.now (event_seen c.args.event) c.args.station.now.state) c.take_part.new.teller c.take_part.new.station.state c.take_part.ensures.script
+returns-then-teller-clause-lines g c = lines_kept g.L.Lines.tells c.args.teller.now c.take_part.result (station_event c.args.station.now.rules c.args.now.milliseconds (event_seen c.args.event) c.args.station.now.state) c.take_part.new.teller c.take_part.new.station.state c.take_part.ensures.script
 
 pub returns-then-teller-clause-played : goal.returns-then-teller-clause-played
-returns-then-teller-clause-played g c = played_part g.L.Lines.tells c.args.teller.now c.take_part.result (station_event c.args.station.now.rules c.args.now (event_seen c.args.event) c.args.station.now.state) c.take_part.new.teller c.take_part.new.station.state c.take_part.ensures.script
+returns-then-teller-clause-played g c = played_part g.L.Lines.tells c.args.teller.now c.take_part.result (station_event c.args.station.now.rules c.args.now.milliseconds (event_seen c.args.event) c.args.station.now.state) c.take_part.new.teller c.take_part.new.station.state c.take_part.ensures.script
 
 pub returns-clause-notes : goal.returns-clause-notes
-returns-clause-notes g c = notes_kept g.L.Lines.tells c.args.teller.now c.take_part.result (station_event c.args.station.now.rules c.args.now (event_seen c.args.event) c.args.station.now.state) c.take_part.new.teller c.take_part.new.station.state c.take_part.ensures.script
+returns-clause-notes g c = notes_kept g.L.Lines.tells c.args.teller.now c.take_part.result (station_event c.args.station.now.rules c.args.now.milliseconds (event_seen c.args.event) c.args.station.now.state) c.take_part.new.teller c.take_part.new.station.state c.take_part.ensures.script
 
 pub returns-clause-lines : goal.returns-clause-lines
-returns-clause-lines g c = lines_kept g.L.Lines.tells c.args.teller.now c.take_part.result (station_event c.args.station.now.rules c.args.now (event_seen c.args.event) c.args.station.now.state) c.take_part.new.teller c.take_part.new.station.state c.take_part.ensures.script
+returns-clause-lines g c = lines_kept g.L.Lines.tells c.args.teller.now c.take_part.result (station_event c.args.station.now.rules c.args.now.milliseconds (event_seen c.args.event) c.args.station.now.state) c.take_part.new.teller c.take_part.new.station.state c.take_part.ensures.script
 
 pub returns-clause-played : goal.returns-clause-played
-returns-clause-played g c = played_all g.L.Lines.tells c.args.teller.now (station_event c.args.station.now.rules c.args.now (event_seen c.args.event) c.args.station.now.state) c.take_part.new.teller c.take_part.new.station.state c.in_ok-take_part.ensures.script c.if-teller.false
+returns-clause-played g c = played_all g.L.Lines.tells c.args.teller.now (station_event c.args.station.now.rules c.args.now.milliseconds (event_seen c.args.event) c.args.station.now.state) c.take_part.new.teller c.take_part.new.station.state c.in_ok-take_part.ensures.script c.if-teller.false
 
 pub returns-clause-relay : goal.returns-clause-relay
-returns-clause-relay g c = links_kept g.L.Lines.tells c.args.station.now.rules c.args.now (event_seen c.args.event) c.args.station.now.state c.take_part.new.station.state c.args.teller.now c.take_part.new.teller c.in_ok-take_part.ensures.script
+returns-clause-relay g c = links_kept g.L.Lines.tells c.args.station.now.rules c.args.now.milliseconds (event_seen c.args.event) c.args.station.now.state c.take_part.new.station.state c.args.teller.now c.take_part.new.teller c.in_ok-take_part.ensures.script

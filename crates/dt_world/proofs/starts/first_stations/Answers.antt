@@ -1,10 +1,9 @@
 use Rattle.std.proofs.Common.{ℕ, List, subst}
-use Rattle.dt_world.specs.Starts.{setup_seen}
 use Rattle.dt_world.proofs.Beginning.{Begun, one_more}
 use Rattle.dt_world.proofs.starts.first_stations.Goals as goal
 
 pub loop-node-preserved : goal.loop-node-preserved
 loop-node-preserved c =
-    let s = setup_seen c.args.rules.now c.args.zeros.now.entries c.args.links.now.entries c.args.ways.now.entries in
-    let before = subst (λ (left : List (ℕ × ℕ)). Begun c.args.rules.now s c.loop-node.stations.entries left c.args.zeros.now.entries) c.in-Some.ensures.steps c.loop-node.invariant in
-    one_more c.args.rules.now s c.loop-node.stations.entries c.insert.new.self.entries c.in-Some.node.now c.in-Some.zero.now c.next.new.self c.args.zeros.now.entries c.in_ok-placed.placed before c.in_ok-placed.ensures.seen c.in_ok-placed.ensures.station c.in_ok-insert.ensures.entries
+    let s = c.args.setup.now in
+    let before = subst (λ (left : List (ℕ × ℕ)). Begun s.params s c.loop-node.stations.entries left s.stations) c.in-Some.ensures.steps c.loop-node.invariant in
+    one_more s.params s c.loop-node.stations.entries c.insert.new.self.entries c.in-Some.node.now c.in-Some.zero.now c.next.new.self s.stations c.in_ok-placed.placed before c.in_ok-placed.ensures.seen c.in_ok-placed.ensures.station c.in_ok-insert.ensures.entries

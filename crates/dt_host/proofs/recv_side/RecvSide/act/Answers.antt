@@ -1,213 +1,66 @@
-use Rattle.std.proofs.Common.{ℕ, ◌≡◌, ◌<◌, Option, Some, None, set, refl, sym, ap, subst, ◌∙◌, arith}
+use Rattle.std.proofs.Common.{ℕ, Option, refl, sym, ap, subst, ◌∙◌, arith}
 use Rattle.std.proofs.lemmas.Bool.{false≢true}
-use Rattle.std.proofs.lemmas.List.{length-set}
-use Rattle.std.specs.Prelude.{IfSome, IsSome, unwrap_or}
-use Rattle.dt_layout.specs.Carried.{IsGram}
+use Rattle.std.specs.Prelude.{IsSome}
 use Rattle.dt_flow_model.specs.declared.acts.RecvKind.{RecvKind}
-use Rattle.dt_flow_model.specs.Frames.{recv_frame}
-use Rattle.dt_flow_model.specs.ReceiveRecord.{ReceiveRecord, Receiver, after_recv_act, recv_told_of}
-use Rattle.dt_recv.specs.Receivers.{ReceiverValue}
-use Rattle.dt_world_model.specs.Host.{Host, host_with_receiver}
-use Rattle.dt_world_model.specs.Tables.{look, same_flow}
-use Rattle.dt_host.specs.Dues.{HasRecvDue}
-use Rattle.dt_host.specs.Hosts.{receivers_of}
+use Rattle.dt_host.specs.Agendas.{recv_kinds}
 use Rattle.dt_host.specs.Places.{present}
-use Rattle.dt_host.specs.Sides.{RecvSideValue}
-use Rattle.dt_host.proofs.RecvTurns.{acted, due_is, gone, look_none, recv_told, stands_is, stayed, value_is}
-use Rattle.dt_host.proofs.RecvSides.{HasDueIn, all_recv, busy_entry, found_there, gone as left, never_empty, none_there, place_room, place_within, side_left, side_set, written}
+use Rattle.dt_host.specs.Sides.{IsRecvKept, RecvSideValue}
+use Rattle.dt_host.proofs.RecvTurns.{look_none}
+use Rattle.dt_host.proofs.RecvSides.{ActDone, HasDueIn, act_entry, act_gone, act_stayed, due_here, side_left, side_set}
+use Rattle.dt_host.proofs.Tables.{Read, Written, never_empty, whole, written_placed}
 use Rattle.dt_host.proofs.recv_side.RecvSide.act.Goals as goal
 
 pub unreachable-requires : goal.unreachable-requires
 unreachable-requires g c =
     let h = c.self.inside in
-    let a = c.args in
-    let f = a.flow.now in
-    let p = h.rules in
-    let es = present h.slots.items in
-    let all = all_recv h.rules h.latest h.places h.slots.items h.agenda c.self.invariant in
-    let d = subst (λ (v : RecvSideValue). HasDueIn f v) (sym c.self.view_is) c.requires.due in
-    let none = look_none f es (none_there h.rules h.latest h.places h.slots.items h.agenda c.self.invariant f c.in_default.ensures.place) in
+    let d = subst (λ (v : RecvSideValue). HasDueIn c.args.flow.now v) (sym c.self.view_is) c.requires.due in
+    let none = look_none c.args.flow.now (present h.table.slots.items) c.in_default.ensures.none in
     let there = d.4.there in
     absurd cc
 
-pub index_mut-requires : goal.index_mut-requires
-index_mut-requires g c =
-    let h = c.self.inside in
-    subst (λ (n : ℕ). c.in-Some.place < n) (sym h.slots.ok.0) (place_within h.rules h.latest h.places h.slots.items h.agenda c.self.invariant c.find.ensures.once c.args.flow.now c.in-Some.place c.in-Some.ensures.place)
-
-pub unreachable-requires-in_default-index_mut : goal.unreachable-requires-in_default-index_mut
-unreachable-requires-in_default-index_mut g c =
-    let h = c.self.inside in
-    never_empty h.rules h.latest h.places h.slots.items h.agenda c.self.invariant c.find.ensures.once c.args.flow.now c.in-Some.place c.in-Some.ensures.place c.index_mut.result.now c.index_mut.ensures.value c.in_default-index_mut.is
-
-pub note-requires : goal.note-requires
-note-requires g c =
-    let h = c.self.inside in
-    place_room h.rules h.latest h.places h.slots.items h.agenda c.self.invariant c.find.ensures.once c.args.flow.now c.in-Some.place c.in-Some.ensures.place
+pub place-requires : goal.place-requires
+place-requires g c = whole (IsRecvKept c.self.inside.rules) recv_kinds c.self.inside.table.places c.self.inside.table.slots.items c.self.inside.table.agenda c.self.invariant.table
 
 pub act-act-requires : goal.act-act-requires
 act-act-requires g c =
     let h = c.self.inside in
-    let a = c.args in
-    let f = a.flow.now in
-    let p = h.rules in
-    let es = present h.slots.items in
-    let all = all_recv h.rules h.latest h.places h.slots.items h.agenda c.self.invariant in
-    let s = c.in-Some-index_mut.receiver in
-    let d = subst (λ (v : RecvSideValue). HasDueIn f v) (sym c.self.view_is) c.requires.due in
-    let due = due_is f es s (found_there h.rules h.latest h.places h.slots.items h.agenda c.self.invariant c.find.ensures.once c.args.flow.now c.in-Some.place c.in-Some.ensures.place c.index_mut.result.now c.index_mut.ensures.value c.in-Some-index_mut.field-0-0 c.in-Some-index_mut.receiver c.in-Some-index_mut.is) p all h.latest d.0 d.1 d.2 d.3 d.4 in
-    subst (λ (o : Option (RecvKind × ℕ)). IsSome o) (sym due) refl
+    let at : Read h.table.places h.table.slots.items c.args.flow.now c.in-Some.place = record { once = c.place.ensures.once; place = c.in-Some.ensures.here; read = c.index_mut.result.now; from = c.index_mut.ensures.value; owner = c.in-Some-index_mut.field-0-0; value = c.in-Some-index_mut.receiver; is = c.in-Some-index_mut.is } in
+    let d = subst (λ (v : RecvSideValue). HasDueIn c.args.flow.now v) (sym c.self.view_is) c.requires.due in
+    subst (λ (o : Option (RecvKind × ℕ)). IsSome o) (sym (due_here c.self.invariant at d.0 d.1 d.2 d.3 d.4)) refl
 
-pub index_mut-requires-then-idle : goal.index_mut-requires-then-idle
-index_mut-requires-then-idle g c =
+pub remove-requires-clause-placed : goal.remove-requires-clause-placed
+remove-requires-clause-placed g c =
     let h = c.self.inside in
-    let long = length-set h.slots.items c.in-Some.place (Some (c.in-Some-index_mut.field-0-0, c.act-act.new.self)) in
-    let within = place_within h.rules h.latest h.places h.slots.items h.agenda c.self.invariant c.find.ensures.once c.args.flow.now c.in-Some.place c.in-Some.ensures.place in
-    let ok = h.slots.ok.0 in
-    omega arith
-
-pub forget-requires : goal.forget-requires
-forget-requires g c =
-    let h = c.self.inside in
-    place_room h.rules h.latest h.places h.slots.items h.agenda c.self.invariant c.find.ensures.once c.args.flow.now c.in-Some.place c.in-Some.ensures.place
+    let at : Read h.table.places h.table.slots.items c.args.flow.now c.in-Some.place = record { once = c.place.ensures.once; place = c.in-Some.ensures.here; read = c.index_mut.result.now; from = c.index_mut.ensures.value; owner = c.in-Some-index_mut.field-0-0; value = c.in-Some-index_mut.receiver; is = c.in-Some-index_mut.is } in
+    written_placed (IsRecvKept h.rules) recv_kinds h.table.places h.table.slots.items h.table.agenda c.self.invariant.table c.args.flow.now c.in-Some.place at c.act-act.new.self
 
 pub invariant_of-self : goal.invariant_of-self
 invariant_of-self g c =
     let h = c.self.inside in
-    side_left h.rules h.latest h.places h.slots.items h.agenda c.self.invariant c.find.ensures.once c.args.flow.now c.in-Some.place c.in-Some.ensures.place c.index_mut.result.now c.index_mut.ensures.value c.in-Some-index_mut.field-0-0 c.in-Some-index_mut.receiver c.in-Some-index_mut.is c.act-act.new.self c.leave.new.self c.leave.ensures c.forget.new.self c.forget.ensures.here c.forget.ensures.others c.forget.ensures.room
+    let at : Read h.table.places h.table.slots.items c.args.flow.now c.in-Some.place = record { once = c.place.ensures.once; place = c.in-Some.ensures.here; read = c.index_mut.result.now; from = c.index_mut.ensures.value; owner = c.in-Some-index_mut.field-0-0; value = c.in-Some-index_mut.receiver; is = c.in-Some-index_mut.is } in
+    side_left h.rules h.latest h.table.places h.table.slots.items h.table.agenda c.self.invariant c.args.flow.now c.in-Some.place at c.act-act.new.self c.remove.new.self.places c.remove.new.self.slots.items c.remove.new.self.agenda c.remove.ensures.placed c.remove.ensures.slots c.remove.ensures.notes
 
 pub invariant_of-self-else-idle : goal.invariant_of-self-else-idle
 invariant_of-self-else-idle g c =
     let h = c.self.inside in
-    let a = c.args in
-    let f = a.flow.now in
-    let p = h.rules in
-    let es = present h.slots.items in
-    let all = all_recv h.rules h.latest h.places h.slots.items h.agenda c.self.invariant in
-    let s = c.in-Some-index_mut.receiver in
-    let u = c.act-act.new.self in
-    let found = found_there h.rules h.latest h.places h.slots.items h.agenda c.self.invariant c.find.ensures.once c.args.flow.now c.in-Some.place c.in-Some.ensures.place c.index_mut.result.now c.index_mut.ensures.value c.in-Some-index_mut.field-0-0 c.in-Some-index_mut.receiver c.in-Some-index_mut.is in
-    let d = subst (λ (v : RecvSideValue). HasDueIn f v) (sym c.self.view_is) c.requires.due in
-    let e = acted f es s found p all h.latest d.0 d.1 d.2 d.3 d.4 u (c.act-act.ensures.after d.2 d.3 (due_is f es s found p all h.latest d.0 d.1 d.2 d.3 d.4)) in
-    let entry = busy_entry p f (after_recv_act p d.0 d.2) u e (λ idle. false≢true (sym c.if-idle.false ∙ c.is_idle-idle.ensures.1 idle)) in
-    side_set h.rules h.latest h.places h.slots.items h.agenda c.self.invariant c.find.ensures.once c.args.flow.now c.in-Some.place c.in-Some.ensures.place c.index_mut.result.now c.index_mut.ensures.value c.in-Some-index_mut.field-0-0 c.in-Some-index_mut.receiver c.in-Some-index_mut.is u entry c.note.new.agenda c.note.ensures.here c.note.ensures.others c.note.ensures.room
+    let at : Read h.table.places h.table.slots.items c.args.flow.now c.in-Some.place = record { once = c.place.ensures.once; place = c.in-Some.ensures.here; read = c.index_mut.result.now; from = c.index_mut.ensures.value; owner = c.in-Some-index_mut.field-0-0; value = c.in-Some-index_mut.receiver; is = c.in-Some-index_mut.is } in
+    let d = subst (λ (v : RecvSideValue). HasDueIn c.args.flow.now v) (sym c.self.view_is) c.requires.due in
+    let entry = act_entry c.self.invariant at d.0 d.1 d.2 d.3 d.4 c.act-act.new.self (c.act-act.ensures.after d.2 d.3 (due_here c.self.invariant at d.0 d.1 d.2 d.3 d.4)) (λ idle. false≢true (sym c.if-idle.false ∙ c.is_idle-idle.ensures.1 idle)) in
+    side_set h.rules h.latest h.table.places h.table.slots.items h.table.agenda c.self.invariant c.args.flow.now c.in-Some.place at c.act-act.new.self entry c.note.new.self c.note_of-note.result c.note.ensures.here c.note_of-note.ensures.note c.note.ensures.others c.note.ensures.room
 
-pub returns-then-idle-clause-told : goal.returns-then-idle-clause-told
-returns-then-idle-clause-told g c =
+pub returns-then-idle : goal.returns-then-idle
+returns-then-idle g c =
     let h = c.self.inside in
-    let a = c.args in
-    let f = a.flow.now in
-    let p = h.rules in
-    let es = present h.slots.items in
-    let all = all_recv h.rules h.latest h.places h.slots.items h.agenda c.self.invariant in
-    let s = c.in-Some-index_mut.receiver in
-    let u = c.act-act.new.self in
-    let found = found_there h.rules h.latest h.places h.slots.items h.agenda c.self.invariant c.find.ensures.once c.args.flow.now c.in-Some.place c.in-Some.ensures.place c.index_mut.result.now c.index_mut.ensures.value c.in-Some-index_mut.field-0-0 c.in-Some-index_mut.receiver c.in-Some-index_mut.is in
-    subst (λ (v : RecvSideValue). (r : Receiver) (y : ReceiveRecord) (kind : RecvKind) (moment : ℕ) → HasRecvDue v.rules v.latest (look same_flow f (receivers_of v.entries)) r y kind moment → c.act-act.result ≡ recv_told_of v.rules r.unread y kind) c.self.view_is
-    (λ r y kind moment due. recv_told f es s found p all h.latest r y kind moment due c.act-act.result (c.act-act.ensures.told kind moment y (due_is f es s found p all h.latest r y kind moment due) (stands_is f es s found p all h.latest r y kind moment due)))
+    let at : Read h.table.places h.table.slots.items c.args.flow.now c.in-Some.place = record { once = c.place.ensures.once; place = c.in-Some.ensures.here; read = c.index_mut.result.now; from = c.index_mut.ensures.value; owner = c.in-Some-index_mut.field-0-0; value = c.in-Some-index_mut.receiver; is = c.in-Some-index_mut.is } in
+    let d = subst (λ (v : RecvSideValue). ActDone v.rules v.latest c.args.flow.now v.entries (present c.remove.new.self.slots.items) c.act-act.result c.args.frame.now c.act-act.new.frame) c.self.view_is (act_gone c.self.invariant at c.act-act.result c.args.frame.now c.act-act.new.frame c.act-act.new.self c.act-act.ensures.told c.act-act.ensures.frame c.act-act.ensures.gram c.act-act.ensures.after (c.is_idle-idle.ensures.0 c.if-idle.true) c.remove.new.self.slots.items c.remove.ensures.slots) in
+    record { told = d.told; frame = d.frame; gram = d.gram; after = d.after; same = ap (λ (v : RecvSideValue). let w : RecvSideValue = record v { entries = (present c.remove.new.self.slots.items) } in w) c.self.view_is; looks = (let one = c.act-act.ensures.looks in omega arith) }
 
-pub returns-then-idle-clause-frame : goal.returns-then-idle-clause-frame
-returns-then-idle-clause-frame g c =
+pub returns-else-idle : goal.returns-else-idle
+returns-else-idle g c =
     let h = c.self.inside in
-    let a = c.args in
-    let f = a.flow.now in
-    let p = h.rules in
-    let es = present h.slots.items in
-    let all = all_recv h.rules h.latest h.places h.slots.items h.agenda c.self.invariant in
-    let s = c.in-Some-index_mut.receiver in
-    let u = c.act-act.new.self in
-    let found = found_there h.rules h.latest h.places h.slots.items h.agenda c.self.invariant c.find.ensures.once c.args.flow.now c.in-Some.place c.in-Some.ensures.place c.index_mut.result.now c.index_mut.ensures.value c.in-Some-index_mut.field-0-0 c.in-Some-index_mut.receiver c.in-Some-index_mut.is in
-    let is = value_is f es s found p all in
-    subst (λ (v : RecvSideValue). c.act-act.new.frame ≡ unwrap_or (recv_frame v.rules f c.act-act.result) a.frame.now) c.self.view_is
-    (c.act-act.ensures.frame ∙ ap (λ (w : ReceiverValue). unwrap_or (recv_frame w.rules w.flow c.act-act.result) a.frame.now) is)
+    let at : Read h.table.places h.table.slots.items c.args.flow.now c.in-Some.place = record { once = c.place.ensures.once; place = c.in-Some.ensures.here; read = c.index_mut.result.now; from = c.index_mut.ensures.value; owner = c.in-Some-index_mut.field-0-0; value = c.in-Some-index_mut.receiver; is = c.in-Some-index_mut.is } in
+    let d = subst (λ (v : RecvSideValue). ActDone v.rules v.latest c.args.flow.now v.entries (present (Written h.table.slots.items c.in-Some.place at.owner c.act-act.new.self)) c.act-act.result c.args.frame.now c.act-act.new.frame) c.self.view_is (act_stayed c.self.invariant at c.act-act.result c.args.frame.now c.act-act.new.frame c.act-act.new.self c.act-act.ensures.told c.act-act.ensures.frame c.act-act.ensures.gram c.act-act.ensures.after (λ idle. false≢true (sym c.if-idle.false ∙ c.is_idle-idle.ensures.1 idle))) in
+    record { told = d.told; frame = d.frame; gram = d.gram; after = d.after; same = ap (λ (v : RecvSideValue). let w : RecvSideValue = record v { entries = (present (Written h.table.slots.items c.in-Some.place at.owner c.act-act.new.self)) } in w) c.self.view_is; looks = (let one = c.act-act.ensures.looks in let two = c.note_of-note.ensures.looks in omega arith) }
 
-pub returns-then-idle-clause-gram : goal.returns-then-idle-clause-gram
-returns-then-idle-clause-gram g c =
-    let h = c.self.inside in
-    let a = c.args in
-    let f = a.flow.now in
-    let p = h.rules in
-    let es = present h.slots.items in
-    let all = all_recv h.rules h.latest h.places h.slots.items h.agenda c.self.invariant in
-    let s = c.in-Some-index_mut.receiver in
-    let u = c.act-act.new.self in
-    let found = found_there h.rules h.latest h.places h.slots.items h.agenda c.self.invariant c.find.ensures.once c.args.flow.now c.in-Some.place c.in-Some.ensures.place c.index_mut.result.now c.index_mut.ensures.value c.in-Some-index_mut.field-0-0 c.in-Some-index_mut.receiver c.in-Some-index_mut.is in
-    let is = value_is f es s found p all in
-    subst (λ (v : RecvSideValue). IfSome (recv_frame v.rules f c.act-act.result) (λ octets. IsGram octets)) c.self.view_is
-    (subst (λ (w : ReceiverValue). IfSome (recv_frame w.rules w.flow c.act-act.result) (λ octets. IsGram octets)) is c.act-act.ensures.gram)
-
-pub returns-then-idle-clause-after : goal.returns-then-idle-clause-after
-returns-then-idle-clause-after g c =
-    let h = c.self.inside in
-    let a = c.args in
-    let f = a.flow.now in
-    let p = h.rules in
-    let es = present h.slots.items in
-    let all = all_recv h.rules h.latest h.places h.slots.items h.agenda c.self.invariant in
-    let s = c.in-Some-index_mut.receiver in
-    let u = c.act-act.new.self in
-    let found = found_there h.rules h.latest h.places h.slots.items h.agenda c.self.invariant c.find.ensures.once c.args.flow.now c.in-Some.place c.in-Some.ensures.place c.index_mut.result.now c.index_mut.ensures.value c.in-Some-index_mut.field-0-0 c.in-Some-index_mut.receiver c.in-Some-index_mut.is in
-    subst (λ (v : RecvSideValue). (r : Receiver) (y : ReceiveRecord) (kind : RecvKind) (moment : ℕ) → HasRecvDue v.rules v.latest (look same_flow f (receivers_of v.entries)) r y kind moment → (host : Host) → record host { receivers = receivers_of (present (set (set h.slots.items c.in-Some.place (Some (c.in-Some-index_mut.field-0-0, u))) c.in-Some.place None)) } ≡ host_with_receiver (record host { receivers = receivers_of v.entries }) f (after_recv_act v.rules r kind)) c.self.view_is
-    (λ r y kind moment due host.
-    let e = acted f es s found p all h.latest r y kind moment due u (c.act-act.ensures.after kind moment (due_is f es s found p all h.latest r y kind moment due)) in
-    gone f es s found p all u (after_recv_act p r kind) e (present (set (set h.slots.items c.in-Some.place (Some (c.in-Some-index_mut.field-0-0, u))) c.in-Some.place None)) (c.is_idle-idle.ensures.0 c.if-idle.true) (left h.rules h.latest h.places h.slots.items h.agenda c.self.invariant c.find.ensures.once c.args.flow.now c.in-Some.place c.in-Some.ensures.place c.index_mut.result.now c.index_mut.ensures.value c.in-Some-index_mut.field-0-0 c.in-Some-index_mut.receiver c.in-Some-index_mut.is u) host)
-
-pub returns-else-idle-clause-told : goal.returns-else-idle-clause-told
-returns-else-idle-clause-told g c =
-    let h = c.self.inside in
-    let a = c.args in
-    let f = a.flow.now in
-    let p = h.rules in
-    let es = present h.slots.items in
-    let all = all_recv h.rules h.latest h.places h.slots.items h.agenda c.self.invariant in
-    let s = c.in-Some-index_mut.receiver in
-    let u = c.act-act.new.self in
-    let found = found_there h.rules h.latest h.places h.slots.items h.agenda c.self.invariant c.find.ensures.once c.args.flow.now c.in-Some.place c.in-Some.ensures.place c.index_mut.result.now c.index_mut.ensures.value c.in-Some-index_mut.field-0-0 c.in-Some-index_mut.receiver c.in-Some-index_mut.is in
-    subst (λ (v : RecvSideValue). (r : Receiver) (y : ReceiveRecord) (kind : RecvKind) (moment : ℕ) → HasRecvDue v.rules v.latest (look same_flow f (receivers_of v.entries)) r y kind moment → c.act-act.result ≡ recv_told_of v.rules r.unread y kind) c.self.view_is
-    (λ r y kind moment due. recv_told f es s found p all h.latest r y kind moment due c.act-act.result (c.act-act.ensures.told kind moment y (due_is f es s found p all h.latest r y kind moment due) (stands_is f es s found p all h.latest r y kind moment due)))
-
-pub returns-else-idle-clause-frame : goal.returns-else-idle-clause-frame
-returns-else-idle-clause-frame g c =
-    let h = c.self.inside in
-    let a = c.args in
-    let f = a.flow.now in
-    let p = h.rules in
-    let es = present h.slots.items in
-    let all = all_recv h.rules h.latest h.places h.slots.items h.agenda c.self.invariant in
-    let s = c.in-Some-index_mut.receiver in
-    let u = c.act-act.new.self in
-    let found = found_there h.rules h.latest h.places h.slots.items h.agenda c.self.invariant c.find.ensures.once c.args.flow.now c.in-Some.place c.in-Some.ensures.place c.index_mut.result.now c.index_mut.ensures.value c.in-Some-index_mut.field-0-0 c.in-Some-index_mut.receiver c.in-Some-index_mut.is in
-    let is = value_is f es s found p all in
-    subst (λ (v : RecvSideValue). c.act-act.new.frame ≡ unwrap_or (recv_frame v.rules f c.act-act.result) a.frame.now) c.self.view_is
-    (c.act-act.ensures.frame ∙ ap (λ (w : ReceiverValue). unwrap_or (recv_frame w.rules w.flow c.act-act.result) a.frame.now) is)
-
-pub returns-else-idle-clause-gram : goal.returns-else-idle-clause-gram
-returns-else-idle-clause-gram g c =
-    let h = c.self.inside in
-    let a = c.args in
-    let f = a.flow.now in
-    let p = h.rules in
-    let es = present h.slots.items in
-    let all = all_recv h.rules h.latest h.places h.slots.items h.agenda c.self.invariant in
-    let s = c.in-Some-index_mut.receiver in
-    let u = c.act-act.new.self in
-    let found = found_there h.rules h.latest h.places h.slots.items h.agenda c.self.invariant c.find.ensures.once c.args.flow.now c.in-Some.place c.in-Some.ensures.place c.index_mut.result.now c.index_mut.ensures.value c.in-Some-index_mut.field-0-0 c.in-Some-index_mut.receiver c.in-Some-index_mut.is in
-    let is = value_is f es s found p all in
-    subst (λ (v : RecvSideValue). IfSome (recv_frame v.rules f c.act-act.result) (λ octets. IsGram octets)) c.self.view_is
-    (subst (λ (w : ReceiverValue). IfSome (recv_frame w.rules w.flow c.act-act.result) (λ octets. IsGram octets)) is c.act-act.ensures.gram)
-
-pub returns-else-idle-clause-after : goal.returns-else-idle-clause-after
-returns-else-idle-clause-after g c =
-    let h = c.self.inside in
-    let a = c.args in
-    let f = a.flow.now in
-    let p = h.rules in
-    let es = present h.slots.items in
-    let all = all_recv h.rules h.latest h.places h.slots.items h.agenda c.self.invariant in
-    let s = c.in-Some-index_mut.receiver in
-    let u = c.act-act.new.self in
-    let found = found_there h.rules h.latest h.places h.slots.items h.agenda c.self.invariant c.find.ensures.once c.args.flow.now c.in-Some.place c.in-Some.ensures.place c.index_mut.result.now c.index_mut.ensures.value c.in-Some-index_mut.field-0-0 c.in-Some-index_mut.receiver c.in-Some-index_mut.is in
-    subst (λ (v : RecvSideValue). (r : Receiver) (y : ReceiveRecord) (kind : RecvKind) (moment : ℕ) → HasRecvDue v.rules v.latest (look same_flow f (receivers_of v.entries)) r y kind moment → (host : Host) → record host { receivers = receivers_of (present (set h.slots.items c.in-Some.place (Some (c.in-Some-index_mut.field-0-0, u)))) } ≡ host_with_receiver (record host { receivers = receivers_of v.entries }) f (after_recv_act v.rules r kind)) c.self.view_is
-    (λ r y kind moment due host.
-    let e = acted f es s found p all h.latest r y kind moment due u (c.act-act.ensures.after kind moment (due_is f es s found p all h.latest r y kind moment due)) in
-    stayed f es s found p all u (after_recv_act p r kind) e (present (set h.slots.items c.in-Some.place (Some (c.in-Some-index_mut.field-0-0, u)))) (λ idle. false≢true (sym c.if-idle.false ∙ c.is_idle-idle.ensures.1 idle)) (written h.rules h.latest h.places h.slots.items h.agenda c.self.invariant c.find.ensures.once c.args.flow.now c.in-Some.place c.in-Some.ensures.place c.index_mut.result.now c.index_mut.ensures.value c.in-Some-index_mut.field-0-0 c.in-Some-index_mut.receiver c.in-Some-index_mut.is u) host)
+pub unreachable-requires-in_default-index_mut : goal.unreachable-requires-in_default-index_mut
+unreachable-requires-in_default-index_mut g c = never_empty (IsRecvKept c.self.inside.rules) recv_kinds c.self.inside.table.places c.self.inside.table.slots.items c.self.inside.table.agenda c.self.invariant.table c.place.ensures.once c.args.flow.now c.in-Some.place (sym c.in-Some.ensures.here) c.index_mut.result.now c.index_mut.ensures.value c.in_default-index_mut.is

@@ -1,53 +1,73 @@
-use Rattle.std.proofs.Common.{◌≡◌, [], None, false, sym, ap, subst, ◌∙◌}
+use Rattle.std.proofs.Common.{◌≡◌, [], None, false, length, sym, ap, subst, ◌∙◌}
 use Rattle.std.specs.Prelude.{Ok}
+use Rattle.std.proofs.lemmas.Result.{err_from_is_err_and}
 use Rattle.std.specs.Map.{lookup}
 use Rattle.dt_items.specs.Unread.{marked}
 use Rattle.dt_flow_model.specs.declared.arrivals.Action.TheVariants.{Make}
-use Rattle.dt_flow_model.specs.ReceiveRecord.{Receiver, action_on, after_data, answer_to_data}
-use Rattle.dt_recv.specs.Receivers.{ReceiverValue}
+use Rattle.dt_flow_model.specs.ReceiveRecord.{action_on}
+use Rattle.dt_host.specs.Agendas.{Note, recv_kinds}
 use Rattle.dt_host.specs.Answers.{IsDataAnswer, IsDataTaken}
 use Rattle.dt_host.specs.Places.{equal_flows, present}
-use Rattle.dt_host.specs.Sides.{RecvSideValue}
-use Rattle.indexmap.specs.IndexMap.{insert_entry}
-use Rattle.dt_host.proofs.RecvTurns.{kept_made, look_none, made, made_with, nothing}
-use Rattle.dt_host.proofs.RecvSides.{all_recv}
+use Rattle.dt_host.specs.Sides.{IsRecvKept, RecvSideValue}
+use Rattle.dt_host.proofs.RecvSides.{all_recv, made_after, made_answer, made_entry, data_kept, side_kept, side_more}
+use Rattle.dt_host.proofs.Tables.{present_kept, present_more, whole}
 use Rattle.dt_host.proofs.recv_side.RecvSide.make.Goals as goal
+
+pub add-requires-clause-placed : goal.add-requires-clause-placed
+add-requires-clause-placed g c =
+    let h = c.self.inside in
+    whole (IsRecvKept h.rules) recv_kinds h.table.places h.table.slots.items h.table.agenda c.self.invariant.table
+
+pub add-requires-clause-kinds : goal.add-requires-clause-kinds
+add-requires-clause-kinds g c =
+    let h = c.self.inside in
+    ap (λ (n : Note). length n) c.note_of-note.ensures.note ∙ sym c.self.invariant.table.counted
+
+pub add-requires-clause-none : goal.add-requires-clause-none
+add-requires-clause-none g c =
+    let h = c.self.inside in
+    let absent = ap (λ (v : RecvSideValue). lookup (equal_flows c.args.flow.now) v.entries) c.self.view_is ∙ c.requires.none in
+    absent
+
+pub invariant_of-self : goal.invariant_of-self
+invariant_of-self g c =
+    let h = c.self.inside in
+    side_kept h.rules h.latest h.table.places h.table.slots.items h.table.agenda c.self.invariant c.add.new.self.places c.add.new.self.slots.items c.add.new.self.agenda c.add.ensures.placed c.in_err-add.ensures.err
+
+pub invariant_of-self-2 : goal.invariant_of-self-2
+invariant_of-self-2 g c =
+    let h = c.self.inside in
+    let absent = ap (λ (v : RecvSideValue). lookup (equal_flows c.args.flow.now) v.entries) c.self.view_is ∙ c.requires.none in
+    let k = c.args.segment.now in
+    let items = marked k.octets.now k.begin k.end false in
+    let makes = subst (λ (v : RecvSideValue). action_on v.rules (record { unread = []; standing = None }) k.drf k.number items ≡ Make) (sym c.self.view_is) c.requires.makes in
+    side_more h.rules h.latest h.table.places h.table.slots.items h.table.agenda c.self.invariant c.add.new.self.places c.add.new.self.slots.items c.add.new.self.agenda c.add.ensures.placed c.args.flow.now c.hand_over-arrived.new.receiver c.note_of-note.result c.in_ok-add.ensures.ok (made_entry h.rules h.latest (present h.table.slots.items) (all_recv h.rules h.latest h.table.places h.table.slots.items h.table.agenda c.self.invariant) c.args.flow.now absent k.drf k.number items makes c.in_ok-receiver.receiver c.hand_over-arrived.new.receiver c.in_ok-receiver.ensures c.hand_over-arrived.ensures.after) c.note_of-note.ensures.note
+
+pub returns-in_err-add-clause-after : goal.returns-in_err-add-clause-after
+returns-in_err-add-clause-after g c =
+    let h = c.self.inside in
+    let k = c.args.segment.now in
+    let items = marked k.octets.now k.begin k.end false in
+    let err = err_from_is_err_and c.from_residual-in_err-add.result c.from_residual-in_err-add.ensures.1 in
+    subst (λ (v : RecvSideValue). IsDataTaken v.rules v.latest c.args.flow.now k.drf k.number items v.entries (present c.add.new.self.slots.items) c.from_residual-in_err-add.result) c.self.view_is
+    (data_kept h.rules h.latest c.args.flow.now k.drf k.number items (present h.table.slots.items) (present c.add.new.self.slots.items) (present_kept (IsRecvKept h.rules) recv_kinds h.table.places h.table.slots.items h.table.agenda c.self.invariant.table c.add.new.self.places c.add.new.self.slots.items c.add.new.self.agenda c.add.ensures.placed c.in_err-add.ensures.err) c.from_residual-in_err-add.result err.0 err.1)
 
 pub returns-clause-answer : goal.returns-clause-answer
 returns-clause-answer g c =
     let h = c.self.inside in
-    let a = c.args in
-    let k = a.segment.now in
+    let absent = ap (λ (v : RecvSideValue). lookup (equal_flows c.args.flow.now) v.entries) c.self.view_is ∙ c.requires.none in
+    let k = c.args.segment.now in
     let items = marked k.octets.now k.begin k.end false in
-    let f = a.flow.now in
-    let p = h.rules in
-    let es = present h.slots.items in
-    let all = all_recv h.rules h.latest h.places h.slots.items h.agenda c.self.invariant in
-    let u = c.hand_over-arrived.new.receiver in
-    let absent = ap (λ (v : RecvSideValue). lookup (equal_flows f) v.entries) c.self.view_is ∙ c.requires.none in
-    let none = look_none f es absent in
     let makes = subst (λ (v : RecvSideValue). action_on v.rules (record { unread = []; standing = None }) k.drf k.number items ≡ Make) (sym c.self.view_is) c.requires.makes in
-    subst (λ (v : RecvSideValue). IsDataAnswer v.rules f k.drf k.number items v.entries (Ok c.hand_over-arrived.result)) c.self.view_is
-    (λ host.
-    c.hand_over-arrived.ensures.answer
-    ∙ ap (λ (w : ReceiverValue). answer_to_data w.rules w.state k.drf k.number items) c.in_ok-receiver.ensures
-    ∙ ap (λ (r : Receiver). answer_to_data p r k.drf k.number items) (sym (nothing f es none)))
+    subst (λ (v : RecvSideValue). IsDataAnswer v.rules c.args.flow.now k.drf k.number items v.entries (Ok c.hand_over-arrived.result)) c.self.view_is
+    (λ host. made_answer h.rules h.latest (present h.table.slots.items) (all_recv h.rules h.latest h.table.places h.table.slots.items h.table.agenda c.self.invariant) c.args.flow.now absent k.drf k.number items makes c.in_ok-receiver.receiver c.hand_over-arrived.new.receiver c.in_ok-receiver.ensures c.hand_over-arrived.ensures.after c.hand_over-arrived.result c.hand_over-arrived.ensures.answer)
 
 pub returns-clause-after : goal.returns-clause-after
 returns-clause-after g c =
     let h = c.self.inside in
-    let a = c.args in
-    let k = a.segment.now in
+    let absent = ap (λ (v : RecvSideValue). lookup (equal_flows c.args.flow.now) v.entries) c.self.view_is ∙ c.requires.none in
+    let k = c.args.segment.now in
     let items = marked k.octets.now k.begin k.end false in
-    let f = a.flow.now in
-    let p = h.rules in
-    let es = present h.slots.items in
-    let all = all_recv h.rules h.latest h.places h.slots.items h.agenda c.self.invariant in
-    let u = c.hand_over-arrived.new.receiver in
-    let absent = ap (λ (v : RecvSideValue). lookup (equal_flows f) v.entries) c.self.view_is ∙ c.requires.none in
-    let none = look_none f es absent in
     let makes = subst (λ (v : RecvSideValue). action_on v.rules (record { unread = []; standing = None }) k.drf k.number items ≡ Make) (sym c.self.view_is) c.requires.makes in
-    let e = made_with p f h.latest k.drf k.number items c.in_ok-receiver.receiver u c.in_ok-receiver.ensures c.hand_over-arrived.ensures.after in
-    let ok = subst (λ (v : RecvSideValue). c.add.new.self ≡ record v { entries = insert_entry equal_flows v.entries f u }) (sym c.self.view_is) c.in_ok-add.ensures.ok in
-    subst (λ (v : RecvSideValue). IsDataTaken v.rules v.latest f k.drf k.number items v.entries c.add.new.self.entries (Ok c.hand_over-arrived.result)) c.self.view_is
-    (λ host. made f es none p all u (λ (r : Receiver). after_data p h.latest r k.drf k.number items) e (kept_made p h.latest k.drf k.number items makes) c.add.new.self.entries (ap (λ (v : RecvSideValue). v.entries) ok) host)
+    subst (λ (v : RecvSideValue). IsDataTaken v.rules v.latest c.args.flow.now k.drf k.number items v.entries (present c.add.new.self.slots.items) (Ok c.hand_over-arrived.result)) c.self.view_is
+    (λ host. made_after h.rules h.latest (present h.table.slots.items) (all_recv h.rules h.latest h.table.places h.table.slots.items h.table.agenda c.self.invariant) c.args.flow.now absent k.drf k.number items makes c.in_ok-receiver.receiver c.hand_over-arrived.new.receiver c.in_ok-receiver.ensures c.hand_over-arrived.ensures.after (present c.add.new.self.slots.items) (present_more (IsRecvKept h.rules) recv_kinds h.table.places h.table.slots.items h.table.agenda c.self.invariant.table c.add.new.self.places c.add.new.self.slots.items c.add.new.self.agenda c.add.ensures.placed c.args.flow.now c.hand_over-arrived.new.receiver c.note_of-note.result c.in_ok-add.ensures.ok absent) host)

@@ -1,237 +1,99 @@
-use Rattle.std.proofs.Common.{ℕ, ◌≡◌, ◌<◌, ◌++◌, List, Some, None, drop, length, set, refl, sym, ap, subst, ◌∙◌, arith}
+use Rattle.std.proofs.Common.{◌≡◌, ◌++◌, List, Some, drop, length, refl, sym, ap, subst, ◌∙◌, arith}
 use Rattle.std.proofs.lemmas.Bool.{false≢true}
-use Rattle.std.proofs.lemmas.List.{length-set}
 use Rattle.dt_items.specs.declared.item.Item.{Item}
 use Rattle.dt_items.specs.Unread.{octets_of, piece_told}
 use Rattle.dt_world_model.specs.Host.{Host, read_octets}
+use Rattle.dt_host.specs.Agendas.{recv_kinds}
 use Rattle.dt_host.specs.Hosts.{receivers_of}
 use Rattle.dt_host.specs.Places.{present}
-use Rattle.dt_host.specs.Sides.{RecvSideValue}
-use Rattle.dt_host.proofs.RecvTurns.{gone, look_none, no_octets, no_piece, no_read, read_moved, read_none, read_some, stayed, taken_is, unread_same}
-use Rattle.dt_host.proofs.RecvSides.{all_recv, busy_entry, found_there, gone as left, never_empty, none_there, place_room, place_within, same_side, side_left, side_set, written}
+use Rattle.dt_host.specs.Sides.{IsRecvKept, RecvSideValue}
+use Rattle.dt_host.proofs.RecvTurns.{look_none, no_octets, no_piece, no_read}
+use Rattle.dt_host.proofs.RecvSides.{ReadDone, none_read, read_entry, read_gone, read_stayed, same_side, side_left, side_set, taken_here, unread_here}
+use Rattle.dt_host.proofs.Tables.{Read, Written, never_empty, whole, written_placed}
 use Rattle.dt_host.proofs.recv_side.RecvSide.read.Goals as goal
 
 pub returns-in_err-place-clause-piece : goal.returns-in_err-place-clause-piece
 returns-in_err-place-clause-piece g c =
     let h = c.self.inside in
-    let a = c.args in
-    let f = a.flow.now in
-    let p = h.rules in
-    let es = present h.slots.items in
-    let all = all_recv h.rules h.latest h.places h.slots.items h.agenda c.self.invariant in
-    let none = look_none f es (none_there h.rules h.latest h.places h.slots.items h.agenda c.self.invariant f c.in_err-place.ensures.place) in
-    subst (λ (v : RecvSideValue). (host : Host) → c.from_residual.result ≡ piece_told (read_octets v.rules v.latest f (length a.buf.now) (record host { receivers = receivers_of v.entries })).0) c.self.view_is
-    (λ host. c.from_residual.ensures ∙ no_piece f es none p h.latest (length a.buf.now) host)
+    let none = look_none c.args.flow.now (present h.table.slots.items) c.in_err-place.ensures.none in
+    subst (λ (v : RecvSideValue). (host : Host) → c.from_residual.result ≡ piece_told (read_octets v.rules v.latest c.args.flow.now (length c.args.buf.now) (record host { receivers = receivers_of v.entries })).0) c.self.view_is
+    (λ host. c.from_residual.ensures ∙ no_piece c.args.flow.now (present h.table.slots.items) none h.rules h.latest (length c.args.buf.now) host)
 
 pub returns-in_err-place-clause-octets : goal.returns-in_err-place-clause-octets
 returns-in_err-place-clause-octets g c =
     let h = c.self.inside in
-    let a = c.args in
-    let f = a.flow.now in
-    let p = h.rules in
-    let es = present h.slots.items in
-    let all = all_recv h.rules h.latest h.places h.slots.items h.agenda c.self.invariant in
-    let none = look_none f es (none_there h.rules h.latest h.places h.slots.items h.agenda c.self.invariant f c.in_err-place.ensures.place) in
-    subst (λ (v : RecvSideValue). (host : Host) → a.buf.now ≡ octets_of (read_octets v.rules v.latest f (length a.buf.now) (record host { receivers = receivers_of v.entries })).0 ++ drop (length (read_octets v.rules v.latest f (length a.buf.now) (record host { receivers = receivers_of v.entries })).0) a.buf.now) c.self.view_is
-    (λ host. no_octets f es none p h.latest (length a.buf.now) host a.buf.now)
+    let none = look_none c.args.flow.now (present h.table.slots.items) c.in_err-place.ensures.none in
+    subst (λ (v : RecvSideValue). (host : Host) → c.args.buf.now ≡ octets_of (read_octets v.rules v.latest c.args.flow.now (length c.args.buf.now) (record host { receivers = receivers_of v.entries })).0 ++ drop (length (read_octets v.rules v.latest c.args.flow.now (length c.args.buf.now) (record host { receivers = receivers_of v.entries })).0) c.args.buf.now) c.self.view_is
+    (λ host. no_octets c.args.flow.now (present h.table.slots.items) none h.rules h.latest (length c.args.buf.now) host c.args.buf.now)
 
 pub returns-in_err-place-clause-after : goal.returns-in_err-place-clause-after
 returns-in_err-place-clause-after g c =
     let h = c.self.inside in
-    let a = c.args in
-    let f = a.flow.now in
-    let p = h.rules in
-    let es = present h.slots.items in
-    let all = all_recv h.rules h.latest h.places h.slots.items h.agenda c.self.invariant in
-    let none = look_none f es (none_there h.rules h.latest h.places h.slots.items h.agenda c.self.invariant f c.in_err-place.ensures.place) in
-    subst (λ (v : RecvSideValue). (host : Host) → record host { receivers = receivers_of v.entries } ≡ (read_octets v.rules v.latest f (length a.buf.now) (record host { receivers = receivers_of v.entries })).1) c.self.view_is
-    (λ host. no_read f es none p h.latest (length a.buf.now) host)
+    let none = look_none c.args.flow.now (present h.table.slots.items) c.in_err-place.ensures.none in
+    subst (λ (v : RecvSideValue). (host : Host) → record host { receivers = receivers_of v.entries } ≡ (read_octets v.rules v.latest c.args.flow.now (length c.args.buf.now) (record host { receivers = receivers_of v.entries })).1) c.self.view_is
+    (λ host. no_read c.args.flow.now (present h.table.slots.items) none h.rules h.latest (length c.args.buf.now) host)
 
-pub index_mut-requires : goal.index_mut-requires
-index_mut-requires g c =
-    let h = c.self.inside in
-    subst (λ (n : ℕ). c.in_ok-place.place < n) (sym h.slots.ok.0) (place_within h.rules h.latest h.places h.slots.items h.agenda c.self.invariant c.find.ensures.once c.args.flow.now c.in_ok-place.place c.in_ok-place.ensures.place)
+pub place-requires : goal.place-requires
+place-requires g c = whole (IsRecvKept c.self.inside.rules) recv_kinds c.self.inside.table.places c.self.inside.table.slots.items c.self.inside.table.agenda c.self.invariant.table
 
 pub unreachable-requires : goal.unreachable-requires
-unreachable-requires g c =
-    let h = c.self.inside in
-    never_empty h.rules h.latest h.places h.slots.items h.agenda c.self.invariant c.find.ensures.once c.args.flow.now c.in_ok-place.place c.in_ok-place.ensures.place c.index_mut.result.now c.index_mut.ensures.value c.in_default.is
+unreachable-requires g c = never_empty (IsRecvKept c.self.inside.rules) recv_kinds c.self.inside.table.places c.self.inside.table.slots.items c.self.inside.table.agenda c.self.invariant.table c.place.ensures.once c.args.flow.now c.in_ok-place.place (sym c.in_ok-place.ensures.here) c.index_mut.result.now c.index_mut.ensures.value c.in_default.is
 
-pub note-requires : goal.note-requires
-note-requires g c =
+pub remove-requires-clause-placed : goal.remove-requires-clause-placed
+remove-requires-clause-placed g c =
     let h = c.self.inside in
-    place_room h.rules h.latest h.places h.slots.items h.agenda c.self.invariant c.find.ensures.once c.args.flow.now c.in_ok-place.place c.in_ok-place.ensures.place
-
-pub index_mut-requires-then-idle : goal.index_mut-requires-then-idle
-index_mut-requires-then-idle g c =
-    let h = c.self.inside in
-    let long = length-set h.slots.items c.in_ok-place.place (Some (c.in-Some.field-0-0, c.read.new.self)) in
-    let within = place_within h.rules h.latest h.places h.slots.items h.agenda c.self.invariant c.find.ensures.once c.args.flow.now c.in_ok-place.place c.in_ok-place.ensures.place in
-    let ok = h.slots.ok.0 in
-    omega arith
-
-pub forget-requires : goal.forget-requires
-forget-requires g c =
-    let h = c.self.inside in
-    place_room h.rules h.latest h.places h.slots.items h.agenda c.self.invariant c.find.ensures.once c.args.flow.now c.in_ok-place.place c.in_ok-place.ensures.place
-
-pub invariant_of-self-then-idle : goal.invariant_of-self-then-idle
-invariant_of-self-then-idle g c =
-    let h = c.self.inside in
-    side_left h.rules h.latest h.places h.slots.items h.agenda c.self.invariant c.find.ensures.once c.args.flow.now c.in_ok-place.place c.in_ok-place.ensures.place c.index_mut.result.now c.index_mut.ensures.value c.in-Some.field-0-0 c.in-Some.receiver c.in-Some.is c.read.new.self c.leave.new.self c.leave.ensures c.forget.new.self c.forget.ensures.here c.forget.ensures.others c.forget.ensures.room
+    let at : Read h.table.places h.table.slots.items c.args.flow.now c.in_ok-place.place = record { once = c.place.ensures.once; place = c.in_ok-place.ensures.here; read = c.index_mut.result.now; from = c.index_mut.ensures.value; owner = c.in-Some.field-0-0; value = c.in-Some.receiver; is = c.in-Some.is } in
+    written_placed (IsRecvKept h.rules) recv_kinds h.table.places h.table.slots.items h.table.agenda c.self.invariant.table c.args.flow.now c.in_ok-place.place at c.read.new.self
 
 pub invariant_of-self : goal.invariant_of-self
 invariant_of-self g c =
     let h = c.self.inside in
-    let a = c.args in
-    let f = a.flow.now in
-    let p = h.rules in
-    let es = present h.slots.items in
-    let all = all_recv h.rules h.latest h.places h.slots.items h.agenda c.self.invariant in
-    let s = c.in-Some.receiver in
-    let u = c.read.new.self in
-    let found = found_there h.rules h.latest h.places h.slots.items h.agenda c.self.invariant c.find.ensures.once c.args.flow.now c.in_ok-place.place c.in_ok-place.ensures.place c.index_mut.result.now c.index_mut.ensures.value c.in-Some.field-0-0 c.in-Some.receiver c.in-Some.is in
-    same_side h.rules h.latest h.places h.slots.items h.agenda c.self.invariant c.find.ensures.once c.args.flow.now c.in_ok-place.place c.in_ok-place.ensures.place c.index_mut.result.now c.index_mut.ensures.value c.in-Some.field-0-0 c.in-Some.receiver c.in-Some.is u (unread_same f es s found p all h.latest (length a.buf.now) (c.in_err-piece.ensures.none.0 refl) u c.read.ensures.after (present (set h.slots.items c.in_ok-place.place (Some (c.in-Some.field-0-0, u)))) (written h.rules h.latest h.places h.slots.items h.agenda c.self.invariant c.find.ensures.once c.args.flow.now c.in_ok-place.place c.in_ok-place.ensures.place c.index_mut.result.now c.index_mut.ensures.value c.in-Some.field-0-0 c.in-Some.receiver c.in-Some.is u))
+    let at : Read h.table.places h.table.slots.items c.args.flow.now c.in_ok-place.place = record { once = c.place.ensures.once; place = c.in_ok-place.ensures.here; read = c.index_mut.result.now; from = c.index_mut.ensures.value; owner = c.in-Some.field-0-0; value = c.in-Some.receiver; is = c.in-Some.is } in
+    same_side h.rules h.latest h.table.places h.table.slots.items h.table.agenda c.self.invariant c.args.flow.now c.in_ok-place.place at c.read.new.self (unread_here c.self.invariant at (length c.args.buf.now) c.read.new.self c.read.ensures.after (c.in_err-piece.ensures.none.0 refl))
 
-pub returns-in_err-piece-clause-piece : goal.returns-in_err-piece-clause-piece
-returns-in_err-piece-clause-piece g c =
+pub invariant_of-self-then-idle : goal.invariant_of-self-then-idle
+invariant_of-self-then-idle g c =
     let h = c.self.inside in
-    let a = c.args in
-    let f = a.flow.now in
-    let p = h.rules in
-    let es = present h.slots.items in
-    let all = all_recv h.rules h.latest h.places h.slots.items h.agenda c.self.invariant in
-    let s = c.in-Some.receiver in
-    let u = c.read.new.self in
-    let found = found_there h.rules h.latest h.places h.slots.items h.agenda c.self.invariant c.find.ensures.once c.args.flow.now c.in_ok-place.place c.in_ok-place.ensures.place c.index_mut.result.now c.index_mut.ensures.value c.in-Some.field-0-0 c.in-Some.receiver c.in-Some.is in
-    subst (λ (v : RecvSideValue). (host : Host) → c.from_residual-in_err-piece.result ≡ piece_told (read_octets v.rules v.latest f (length a.buf.now) (record host { receivers = receivers_of v.entries })).0) c.self.view_is
-    (λ host. c.from_residual-in_err-piece.ensures ∙ c.in_err-piece.ensures.piece ∙ ap piece_told (sym (taken_is f es s found p all h.latest (length a.buf.now) host)))
-
-pub returns-in_err-piece-clause-octets : goal.returns-in_err-piece-clause-octets
-returns-in_err-piece-clause-octets g c =
-    let h = c.self.inside in
-    let a = c.args in
-    let f = a.flow.now in
-    let p = h.rules in
-    let es = present h.slots.items in
-    let all = all_recv h.rules h.latest h.places h.slots.items h.agenda c.self.invariant in
-    let s = c.in-Some.receiver in
-    let u = c.read.new.self in
-    let found = found_there h.rules h.latest h.places h.slots.items h.agenda c.self.invariant c.find.ensures.once c.args.flow.now c.in_ok-place.place c.in_ok-place.ensures.place c.index_mut.result.now c.index_mut.ensures.value c.in-Some.field-0-0 c.in-Some.receiver c.in-Some.is in
-    subst (λ (v : RecvSideValue). (host : Host) → c.read.new.buf ≡ octets_of (read_octets v.rules v.latest f (length a.buf.now) (record host { receivers = receivers_of v.entries })).0 ++ drop (length (read_octets v.rules v.latest f (length a.buf.now) (record host { receivers = receivers_of v.entries })).0) a.buf.now) c.self.view_is
-    (λ host. c.read.ensures.octets ∙ ap (λ (items : List Item). octets_of items ++ drop (length items) a.buf.now) (sym (taken_is f es s found p all h.latest (length a.buf.now) host)))
-
-pub returns-in_err-piece-clause-after : goal.returns-in_err-piece-clause-after
-returns-in_err-piece-clause-after g c =
-    let h = c.self.inside in
-    let a = c.args in
-    let f = a.flow.now in
-    let p = h.rules in
-    let es = present h.slots.items in
-    let all = all_recv h.rules h.latest h.places h.slots.items h.agenda c.self.invariant in
-    let s = c.in-Some.receiver in
-    let u = c.read.new.self in
-    let found = found_there h.rules h.latest h.places h.slots.items h.agenda c.self.invariant c.find.ensures.once c.args.flow.now c.in_ok-place.place c.in_ok-place.ensures.place c.index_mut.result.now c.index_mut.ensures.value c.in-Some.field-0-0 c.in-Some.receiver c.in-Some.is in
-    subst (λ (v : RecvSideValue). (host : Host) → record host { receivers = receivers_of (present (set h.slots.items c.in_ok-place.place (Some (c.in-Some.field-0-0, u)))) } ≡ (read_octets v.rules v.latest f (length a.buf.now) (record host { receivers = receivers_of v.entries })).1) c.self.view_is
-    (λ host. read_none f es s found p all h.latest (length a.buf.now) (c.in_err-piece.ensures.none.0 refl) u c.read.ensures.after (present (set h.slots.items c.in_ok-place.place (Some (c.in-Some.field-0-0, u)))) (written h.rules h.latest h.places h.slots.items h.agenda c.self.invariant c.find.ensures.once c.args.flow.now c.in_ok-place.place c.in_ok-place.ensures.place c.index_mut.result.now c.index_mut.ensures.value c.in-Some.field-0-0 c.in-Some.receiver c.in-Some.is u) host)
-
-pub returns-then-idle-clause-piece : goal.returns-then-idle-clause-piece
-returns-then-idle-clause-piece g c =
-    let h = c.self.inside in
-    let a = c.args in
-    let f = a.flow.now in
-    let p = h.rules in
-    let es = present h.slots.items in
-    let all = all_recv h.rules h.latest h.places h.slots.items h.agenda c.self.invariant in
-    let s = c.in-Some.receiver in
-    let u = c.read.new.self in
-    let found = found_there h.rules h.latest h.places h.slots.items h.agenda c.self.invariant c.find.ensures.once c.args.flow.now c.in_ok-place.place c.in_ok-place.ensures.place c.index_mut.result.now c.index_mut.ensures.value c.in-Some.field-0-0 c.in-Some.receiver c.in-Some.is in
-    subst (λ (v : RecvSideValue). (host : Host) → (Some c.in_ok-piece.piece) ≡ piece_told (read_octets v.rules v.latest f (length a.buf.now) (record host { receivers = receivers_of v.entries })).0) c.self.view_is
-    (λ host. c.in_ok-piece.ensures.piece ∙ ap piece_told (sym (taken_is f es s found p all h.latest (length a.buf.now) host)))
-
-pub returns-then-idle-clause-octets : goal.returns-then-idle-clause-octets
-returns-then-idle-clause-octets g c =
-    let h = c.self.inside in
-    let a = c.args in
-    let f = a.flow.now in
-    let p = h.rules in
-    let es = present h.slots.items in
-    let all = all_recv h.rules h.latest h.places h.slots.items h.agenda c.self.invariant in
-    let s = c.in-Some.receiver in
-    let u = c.read.new.self in
-    let found = found_there h.rules h.latest h.places h.slots.items h.agenda c.self.invariant c.find.ensures.once c.args.flow.now c.in_ok-place.place c.in_ok-place.ensures.place c.index_mut.result.now c.index_mut.ensures.value c.in-Some.field-0-0 c.in-Some.receiver c.in-Some.is in
-    subst (λ (v : RecvSideValue). (host : Host) → c.read.new.buf ≡ octets_of (read_octets v.rules v.latest f (length a.buf.now) (record host { receivers = receivers_of v.entries })).0 ++ drop (length (read_octets v.rules v.latest f (length a.buf.now) (record host { receivers = receivers_of v.entries })).0) a.buf.now) c.self.view_is
-    (λ host. c.read.ensures.octets ∙ ap (λ (items : List Item). octets_of items ++ drop (length items) a.buf.now) (sym (taken_is f es s found p all h.latest (length a.buf.now) host)))
-
-pub returns-else-idle-clause-piece : goal.returns-else-idle-clause-piece
-returns-else-idle-clause-piece g c =
-    let h = c.self.inside in
-    let a = c.args in
-    let f = a.flow.now in
-    let p = h.rules in
-    let es = present h.slots.items in
-    let all = all_recv h.rules h.latest h.places h.slots.items h.agenda c.self.invariant in
-    let s = c.in-Some.receiver in
-    let u = c.read.new.self in
-    let found = found_there h.rules h.latest h.places h.slots.items h.agenda c.self.invariant c.find.ensures.once c.args.flow.now c.in_ok-place.place c.in_ok-place.ensures.place c.index_mut.result.now c.index_mut.ensures.value c.in-Some.field-0-0 c.in-Some.receiver c.in-Some.is in
-    subst (λ (v : RecvSideValue). (host : Host) → (Some c.in_ok-piece.piece) ≡ piece_told (read_octets v.rules v.latest f (length a.buf.now) (record host { receivers = receivers_of v.entries })).0) c.self.view_is
-    (λ host. c.in_ok-piece.ensures.piece ∙ ap piece_told (sym (taken_is f es s found p all h.latest (length a.buf.now) host)))
-
-pub returns-else-idle-clause-octets : goal.returns-else-idle-clause-octets
-returns-else-idle-clause-octets g c =
-    let h = c.self.inside in
-    let a = c.args in
-    let f = a.flow.now in
-    let p = h.rules in
-    let es = present h.slots.items in
-    let all = all_recv h.rules h.latest h.places h.slots.items h.agenda c.self.invariant in
-    let s = c.in-Some.receiver in
-    let u = c.read.new.self in
-    let found = found_there h.rules h.latest h.places h.slots.items h.agenda c.self.invariant c.find.ensures.once c.args.flow.now c.in_ok-place.place c.in_ok-place.ensures.place c.index_mut.result.now c.index_mut.ensures.value c.in-Some.field-0-0 c.in-Some.receiver c.in-Some.is in
-    subst (λ (v : RecvSideValue). (host : Host) → c.read.new.buf ≡ octets_of (read_octets v.rules v.latest f (length a.buf.now) (record host { receivers = receivers_of v.entries })).0 ++ drop (length (read_octets v.rules v.latest f (length a.buf.now) (record host { receivers = receivers_of v.entries })).0) a.buf.now) c.self.view_is
-    (λ host. c.read.ensures.octets ∙ ap (λ (items : List Item). octets_of items ++ drop (length items) a.buf.now) (sym (taken_is f es s found p all h.latest (length a.buf.now) host)))
-
-pub returns-then-idle-clause-after : goal.returns-then-idle-clause-after
-returns-then-idle-clause-after g c =
-    let h = c.self.inside in
-    let a = c.args in
-    let f = a.flow.now in
-    let p = h.rules in
-    let es = present h.slots.items in
-    let all = all_recv h.rules h.latest h.places h.slots.items h.agenda c.self.invariant in
-    let s = c.in-Some.receiver in
-    let u = c.read.new.self in
-    let found = found_there h.rules h.latest h.places h.slots.items h.agenda c.self.invariant c.find.ensures.once c.args.flow.now c.in_ok-place.place c.in_ok-place.ensures.place c.index_mut.result.now c.index_mut.ensures.value c.in-Some.field-0-0 c.in-Some.receiver c.in-Some.is in
-    let e = read_moved f es s found p all h.latest (length a.buf.now) u c.read.ensures.after in
-    subst (λ (v : RecvSideValue). (host : Host) → record host { receivers = receivers_of (present (set (set h.slots.items c.in_ok-place.place (Some (c.in-Some.field-0-0, u))) c.in_ok-place.place None)) } ≡ (read_octets v.rules v.latest f (length a.buf.now) (record host { receivers = receivers_of v.entries })).1) c.self.view_is
-    (λ host. gone f es s found p all u _ e (present (set (set h.slots.items c.in_ok-place.place (Some (c.in-Some.field-0-0, u))) c.in_ok-place.place None)) (c.is_idle-idle.ensures.0 c.if-idle.true) (left h.rules h.latest h.places h.slots.items h.agenda c.self.invariant c.find.ensures.once c.args.flow.now c.in_ok-place.place c.in_ok-place.ensures.place c.index_mut.result.now c.index_mut.ensures.value c.in-Some.field-0-0 c.in-Some.receiver c.in-Some.is u) host ∙ read_some f es s found p all h.latest (length a.buf.now) c.in_ok-piece.piece c.in_ok-piece.ensures.piece host)
-
-pub returns-else-idle-clause-after : goal.returns-else-idle-clause-after
-returns-else-idle-clause-after g c =
-    let h = c.self.inside in
-    let a = c.args in
-    let f = a.flow.now in
-    let p = h.rules in
-    let es = present h.slots.items in
-    let all = all_recv h.rules h.latest h.places h.slots.items h.agenda c.self.invariant in
-    let s = c.in-Some.receiver in
-    let u = c.read.new.self in
-    let found = found_there h.rules h.latest h.places h.slots.items h.agenda c.self.invariant c.find.ensures.once c.args.flow.now c.in_ok-place.place c.in_ok-place.ensures.place c.index_mut.result.now c.index_mut.ensures.value c.in-Some.field-0-0 c.in-Some.receiver c.in-Some.is in
-    let e = read_moved f es s found p all h.latest (length a.buf.now) u c.read.ensures.after in
-    subst (λ (v : RecvSideValue). (host : Host) → record host { receivers = receivers_of (present (set h.slots.items c.in_ok-place.place (Some (c.in-Some.field-0-0, u)))) } ≡ (read_octets v.rules v.latest f (length a.buf.now) (record host { receivers = receivers_of v.entries })).1) c.self.view_is
-    (λ host. stayed f es s found p all u _ e (present (set h.slots.items c.in_ok-place.place (Some (c.in-Some.field-0-0, u)))) (λ idle. false≢true (sym c.if-idle.false ∙ c.is_idle-idle.ensures.1 idle)) (written h.rules h.latest h.places h.slots.items h.agenda c.self.invariant c.find.ensures.once c.args.flow.now c.in_ok-place.place c.in_ok-place.ensures.place c.index_mut.result.now c.index_mut.ensures.value c.in-Some.field-0-0 c.in-Some.receiver c.in-Some.is u) host ∙ read_some f es s found p all h.latest (length a.buf.now) c.in_ok-piece.piece c.in_ok-piece.ensures.piece host)
+    let at : Read h.table.places h.table.slots.items c.args.flow.now c.in_ok-place.place = record { once = c.place.ensures.once; place = c.in_ok-place.ensures.here; read = c.index_mut.result.now; from = c.index_mut.ensures.value; owner = c.in-Some.field-0-0; value = c.in-Some.receiver; is = c.in-Some.is } in
+    side_left h.rules h.latest h.table.places h.table.slots.items h.table.agenda c.self.invariant c.args.flow.now c.in_ok-place.place at c.read.new.self c.remove.new.self.places c.remove.new.self.slots.items c.remove.new.self.agenda c.remove.ensures.placed c.remove.ensures.slots c.remove.ensures.notes
 
 pub invariant_of-self-else-idle : goal.invariant_of-self-else-idle
 invariant_of-self-else-idle g c =
     let h = c.self.inside in
-    let a = c.args in
-    let f = a.flow.now in
-    let p = h.rules in
-    let es = present h.slots.items in
-    let all = all_recv h.rules h.latest h.places h.slots.items h.agenda c.self.invariant in
-    let s = c.in-Some.receiver in
-    let u = c.read.new.self in
-    let found = found_there h.rules h.latest h.places h.slots.items h.agenda c.self.invariant c.find.ensures.once c.args.flow.now c.in_ok-place.place c.in_ok-place.ensures.place c.index_mut.result.now c.index_mut.ensures.value c.in-Some.field-0-0 c.in-Some.receiver c.in-Some.is in
-    let e = read_moved f es s found p all h.latest (length a.buf.now) u c.read.ensures.after in
-    let entry = busy_entry p f _ u e (λ idle. false≢true (sym c.if-idle.false ∙ c.is_idle-idle.ensures.1 idle)) in
-    side_set h.rules h.latest h.places h.slots.items h.agenda c.self.invariant c.find.ensures.once c.args.flow.now c.in_ok-place.place c.in_ok-place.ensures.place c.index_mut.result.now c.index_mut.ensures.value c.in-Some.field-0-0 c.in-Some.receiver c.in-Some.is u entry c.note.new.agenda c.note.ensures.here c.note.ensures.others c.note.ensures.room
+    let at : Read h.table.places h.table.slots.items c.args.flow.now c.in_ok-place.place = record { once = c.place.ensures.once; place = c.in_ok-place.ensures.here; read = c.index_mut.result.now; from = c.index_mut.ensures.value; owner = c.in-Some.field-0-0; value = c.in-Some.receiver; is = c.in-Some.is } in
+    side_set h.rules h.latest h.table.places h.table.slots.items h.table.agenda c.self.invariant c.args.flow.now c.in_ok-place.place at c.read.new.self (read_entry c.self.invariant at (length c.args.buf.now) c.read.new.self c.read.ensures.after (λ idle. false≢true (sym c.if-idle.false ∙ c.is_idle-idle.ensures.1 idle))) c.note.new.self c.note_of-note.result c.note.ensures.here c.note_of-note.ensures.note c.note.ensures.others c.note.ensures.room
+
+pub returns-in_err-piece-clause-piece : goal.returns-in_err-piece-clause-piece
+returns-in_err-piece-clause-piece g c =
+    let h = c.self.inside in
+    let at : Read h.table.places h.table.slots.items c.args.flow.now c.in_ok-place.place = record { once = c.place.ensures.once; place = c.in_ok-place.ensures.here; read = c.index_mut.result.now; from = c.index_mut.ensures.value; owner = c.in-Some.field-0-0; value = c.in-Some.receiver; is = c.in-Some.is } in
+    subst (λ (v : RecvSideValue). (host : Host) → c.from_residual-in_err-piece.result ≡ piece_told (read_octets v.rules v.latest c.args.flow.now (length c.args.buf.now) (record host { receivers = receivers_of v.entries })).0) c.self.view_is
+    (λ host. c.from_residual-in_err-piece.ensures ∙ c.in_err-piece.ensures.piece ∙ ap piece_told (sym (taken_here c.self.invariant at (length c.args.buf.now) host)))
+
+pub returns-in_err-piece-clause-octets : goal.returns-in_err-piece-clause-octets
+returns-in_err-piece-clause-octets g c =
+    let h = c.self.inside in
+    let at : Read h.table.places h.table.slots.items c.args.flow.now c.in_ok-place.place = record { once = c.place.ensures.once; place = c.in_ok-place.ensures.here; read = c.index_mut.result.now; from = c.index_mut.ensures.value; owner = c.in-Some.field-0-0; value = c.in-Some.receiver; is = c.in-Some.is } in
+    subst (λ (v : RecvSideValue). (host : Host) → c.read.new.buf ≡ octets_of (read_octets v.rules v.latest c.args.flow.now (length c.args.buf.now) (record host { receivers = receivers_of v.entries })).0 ++ drop (length (read_octets v.rules v.latest c.args.flow.now (length c.args.buf.now) (record host { receivers = receivers_of v.entries })).0) c.args.buf.now) c.self.view_is
+    (λ host. c.read.ensures.octets ∙ ap (λ (items : List Item). octets_of items ++ drop (length items) c.args.buf.now) (sym (taken_here c.self.invariant at (length c.args.buf.now) host)))
+
+pub returns-in_err-piece-clause-after : goal.returns-in_err-piece-clause-after
+returns-in_err-piece-clause-after g c =
+    let h = c.self.inside in
+    let at : Read h.table.places h.table.slots.items c.args.flow.now c.in_ok-place.place = record { once = c.place.ensures.once; place = c.in_ok-place.ensures.here; read = c.index_mut.result.now; from = c.index_mut.ensures.value; owner = c.in-Some.field-0-0; value = c.in-Some.receiver; is = c.in-Some.is } in
+    subst (λ (v : RecvSideValue). (host : Host) → record host { receivers = receivers_of (present (Written h.table.slots.items c.in_ok-place.place at.owner c.read.new.self)) } ≡ (read_octets v.rules v.latest c.args.flow.now (length c.args.buf.now) (record host { receivers = receivers_of v.entries })).1) c.self.view_is
+    (λ host. none_read c.self.invariant at (length c.args.buf.now) c.read.new.self c.read.ensures.after (c.in_err-piece.ensures.none.0 refl) host)
+
+pub returns-then-idle : goal.returns-then-idle
+returns-then-idle g c =
+    let h = c.self.inside in
+    let at : Read h.table.places h.table.slots.items c.args.flow.now c.in_ok-place.place = record { once = c.place.ensures.once; place = c.in_ok-place.ensures.here; read = c.index_mut.result.now; from = c.index_mut.ensures.value; owner = c.in-Some.field-0-0; value = c.in-Some.receiver; is = c.in-Some.is } in
+    let d = subst (λ (v : RecvSideValue). ReadDone v.rules v.latest c.args.flow.now v.entries (present c.remove.new.self.slots.items) (Some c.in_ok-piece.piece) c.args.buf.now c.read.new.buf) c.self.view_is (read_gone c.self.invariant at c.in_ok-piece.piece c.args.buf.now c.read.new.buf c.read.new.self c.in_ok-piece.ensures.piece c.read.ensures.octets c.read.ensures.after (c.is_idle-idle.ensures.0 c.if-idle.true) c.remove.new.self.slots.items c.remove.ensures.slots) in
+    record { piece = d.told; octets = d.octets; after = d.after; same = ap (λ (v : RecvSideValue). let w : RecvSideValue = record v { entries = (present c.remove.new.self.slots.items) } in w) c.self.view_is; looks = (let one = c.read.ensures.looks in omega arith) }
+
+pub returns-else-idle : goal.returns-else-idle
+returns-else-idle g c =
+    let h = c.self.inside in
+    let at : Read h.table.places h.table.slots.items c.args.flow.now c.in_ok-place.place = record { once = c.place.ensures.once; place = c.in_ok-place.ensures.here; read = c.index_mut.result.now; from = c.index_mut.ensures.value; owner = c.in-Some.field-0-0; value = c.in-Some.receiver; is = c.in-Some.is } in
+    let d = subst (λ (v : RecvSideValue). ReadDone v.rules v.latest c.args.flow.now v.entries (present (Written h.table.slots.items c.in_ok-place.place at.owner c.read.new.self)) (Some c.in_ok-piece.piece) c.args.buf.now c.read.new.buf) c.self.view_is (read_stayed c.self.invariant at c.in_ok-piece.piece c.args.buf.now c.read.new.buf c.read.new.self c.in_ok-piece.ensures.piece c.read.ensures.octets c.read.ensures.after (λ idle. false≢true (sym c.if-idle.false ∙ c.is_idle-idle.ensures.1 idle))) in
+    record { piece = d.told; octets = d.octets; after = d.after; same = ap (λ (v : RecvSideValue). let w : RecvSideValue = record v { entries = (present (Written h.table.slots.items c.in_ok-place.place at.owner c.read.new.self)) } in w) c.self.view_is; looks = (let one = c.read.ensures.looks in let two = c.note_of-note.ensures.looks in omega arith) }

@@ -12,11 +12,11 @@ invariant_of-self c =
     let there = c.min-there.result in
     let first : place ≡ first_unsent c.args.life rows = c.first_waiting-place.ensures.place ∙ ap (λ (life : ℕ). first_unsent life c.deref.result.now) c.of.ensures.life ∙ ap (first_unsent c.args.life) c.deref.ensures.value in
     let within : place + there ≤ length rows = omega (arith, inside.rows.ok.0, ap length c.deref.ensures.value) in
-    beside_written inside.counts _ inside.rows.len c.note_first_at.new.rows rows (note_first c.args.at place there rows)
-    (c.note_first_at.ensures ∙ ap (note_first c.args.at place there) c.deref_mut.ensures.value)
-    (length-note_first c.args.at place there rows)
+    beside_written inside.counts _ inside.rows.len c.note_first_at.new.rows rows (note_first c.args.at.milliseconds place there rows)
+    (c.note_first_at.ensures ∙ ap (note_first c.args.at.milliseconds place there) c.deref_mut.ensures.value)
+    (length-note_first c.args.at.milliseconds place there rows)
     (omega (arith, inside.rows.ok.0))
-    (beside_sent inside.counts inside.progress c.args.at c.args.life place there rows first within c.self.invariant)
+    (beside_sent inside.counts inside.progress c.args.at.milliseconds c.args.life place there rows first within c.self.invariant)
 
 pub returns-clause-noted : goal.returns-clause-noted
 returns-clause-noted c =
@@ -28,10 +28,10 @@ returns-clause-noted c =
     let within : place ≤ length rows = omega (arith, ap length c.deref.ensures.value) in
     let so_many : there ≡ min (length rows - place) c.args.count = omega (arith, inside.rows.ok.0) in
     let new = c.note_first_at.new.rows in
-    let is : new ≡ note_first c.args.at place there rows = c.note_first_at.ensures ∙ ap (note_first c.args.at place there) c.deref_mut.ensures.value in
-    rewritten inside.rows.len new rows (ap length is ∙ length-note_first c.args.at place there rows) (omega (arith, inside.rows.ok.0))
+    let is : new ≡ note_first c.args.at.milliseconds place there rows = c.note_first_at.ensures ∙ ap (note_first c.args.at.milliseconds place there) c.deref_mut.ensures.value in
+    rewritten inside.rows.len new rows (ap length is ∙ length-note_first c.args.at.milliseconds place there rows) (omega (arith, inside.rows.ok.0))
     ∙ is
-    ∙ ap (λ (n : ℕ). note_first c.args.at place n rows) so_many
-    ∙ note_first_there c.args.at place c.args.count rows within
-    ∙ ap (λ (n : ℕ). note_first c.args.at n c.args.count rows) first
-    ∙ ap (λ (xs : List Taken). note_first c.args.at (first_unsent c.args.life xs) c.args.count xs) c.self.view_is
+    ∙ ap (λ (n : ℕ). note_first c.args.at.milliseconds place n rows) so_many
+    ∙ note_first_there c.args.at.milliseconds place c.args.count rows within
+    ∙ ap (λ (n : ℕ). note_first c.args.at.milliseconds n c.args.count rows) first
+    ∙ ap (λ (xs : List Taken). note_first c.args.at.milliseconds (first_unsent c.args.life xs) c.args.count xs) c.self.view_is

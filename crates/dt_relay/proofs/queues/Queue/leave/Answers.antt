@@ -7,7 +7,7 @@ use Rattle.dt_relay.proofs.queues.Queue.leave.Goals as goal
 pub overflow_sub-charge : goal.overflow_sub-charge
 overflow_sub-charge g c =
     let waits : map (waiting_seen g.P.Carry.octets g.P.Carry.label) c.self.inside.ring.items ≡ c.args.self.now.waits = ap (λ q. q.waits) c.self.view_is in
-    first_since g.P.Carry.octets g.P.Carry.label c.args.now c.self.inside.ring.items c.in_ok-packet.field-0 (rw waits c.requires.past.waits) (sym c.pop_front.ensures.value ∙ c.in_ok-packet.was)
+    first_since g.P.Carry.octets g.P.Carry.label c.args.now.ms c.self.inside.ring.items c.in_ok-packet.field-0 (rw waits c.requires.waits) (sym c.pop_front.ensures.value ∙ c.in_ok-packet.was)
 
 pub invariant_of-self-then-from-charge : goal.invariant_of-self-then-from-charge
 invariant_of-self-then-from-charge g c =
@@ -17,4 +17,4 @@ invariant_of-self-then-from-charge g c =
 pub invariant_of-self-2 : goal.invariant_of-self-2
 invariant_of-self-2 g c =
     let kept = c.self.invariant in
-    rw c.pop_front.ensures.items record { room = kept.room; grams = All-drop (WaitsAsGram g.P.Carry.octets) 1 c.self.inside.ring.items kept.grams; last_out = c.requires.moment }
+    rw c.pop_front.ensures.items record { room = kept.room; grams = All-drop (WaitsAsGram g.P.Carry.octets) 1 c.self.inside.ring.items kept.grams; last_out = c.args.now.bounded }

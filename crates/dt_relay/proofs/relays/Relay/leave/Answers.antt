@@ -1,15 +1,8 @@
-use Rattle.std.proofs.Common.{◌≡◌, All, List, ap, refl, subst, sym, None, ◌∙◌}
-use Rattle.dt_world_model.specs.Relay.{IsOutUpTo, Out, leave}
-use Rattle.dt_relay.proofs.Links.{on_link_at, on_link_nowhere, past_at}
-use Rattle.dt_relay.specs.Places.{link_of}
-use Rattle.dt_relay.proofs.Lookups.{stays_placed}
-use Rattle.dt_relay.proofs.Past.{leave_all_past, leave_link}
+use Rattle.std.proofs.Common.{None, refl}
+use Rattle.dt_world_model.specs.Relay.{leave}
+use Rattle.dt_relay.proofs.Links.{on_link_nowhere}
+use Rattle.dt_relay.proofs.Lookups.{link_found}
 use Rattle.dt_relay.proofs.relays.Relay.leave.Goals as goal
-
-pub leave-requires-clause-past : goal.leave-requires-clause-past
-leave-requires-clause-past g c =
-    let same : c.self.inside.outs.items ≡ c.args.self.now.outs = ap (λ w. w.outs) c.self.view_is in
-    past_at c.args.now c.args.self.now.outs c.index_mut-queue.result.now c.in-Some.i c.requires.past c.in-Some.ensures.within (rw (← same) c.index_mut-queue.ensures.value)
 
 pub returns-in-None-clause-left : goal.returns-in-None-clause-left
 returns-in-None-clause-left g c = rw (on_link_nowhere c.args.link None (leave c.args.now) c.args.self.now.outs c.in-None.ensures.place) refl
@@ -18,20 +11,7 @@ pub returns-in-None-clause-after : goal.returns-in-None-clause-after
 returns-in-None-clause-after g c = rw (on_link_nowhere c.args.link None (leave c.args.now) c.args.self.now.outs c.in-None.ensures.place) refl
 
 pub returns-in-Some-clause-left : goal.returns-in-Some-clause-left
-returns-in-Some-clause-left g c =
-    let same : c.self.inside.outs.items ≡ c.args.self.now.outs = ap (λ w. w.outs) c.self.view_is in
-    rw (on_link_at c.args.link None (leave c.args.now) c.args.self.now.outs c.index_mut-queue.result.now c.in-Some.i c.in-Some.ensures.place c.in-Some.ensures.within (rw (← same) c.index_mut-queue.ensures.value)) c.leave.ensures.left
+returns-in-Some-clause-left g c = rw (link_found c.args.link c.in-Some.place c.args.self.now.outs c.in-Some.ensures.place) at c.leave_at.ensures.left
 
 pub returns-in-Some-clause-after : goal.returns-in-Some-clause-after
-returns-in-Some-clause-after g c =
-    let same : c.self.inside.outs.items ≡ c.args.self.now.outs = ap (λ w. w.outs) c.self.view_is in
-    let ins : c.self.inside.ins.items ≡ c.args.self.now.ins = ap (λ w. w.ins) c.self.view_is in
-    let routes : c.self.inside.routes.items ≡ c.args.self.now.routes = ap (λ w. w.routes) c.self.view_is in
-    rw (on_link_at c.args.link None (leave c.args.now) c.args.self.now.outs c.index_mut-queue.result.now c.in-Some.i c.in-Some.ensures.place c.in-Some.ensures.within (rw (← same) c.index_mut-queue.ensures.value), ← c.leave.ensures.queue, same, ins, routes) refl
-
-pub returns-in-Some-clause-past : goal.returns-in-Some-clause-past
-returns-in-Some-clause-past g c =
-    subst (λ (outs : List (Out _)). All (IsOutUpTo c.args.now) outs) (sym (ap (λ w. w.outs) (returns-in-Some-clause-after g c))) (leave_all_past c.args.link c.args.now c.args.self.now.outs c.requires.past)
-
-pub invariant_of-self : goal.invariant_of-self
-invariant_of-self g c = stays_placed c.in-Some.i c.self.inside.outs.items c.index_mut-queue.result.now c.leave.new.self c.index_mut-queue.ensures.value (ap link_of c.leave.ensures.queue ∙ leave_link c.args.now c.index_mut-queue.result.now) c.self.invariant
+returns-in-Some-clause-after g c = rw (link_found c.args.link c.in-Some.place c.args.self.now.outs c.in-Some.ensures.place) at c.leave_at.ensures.after

@@ -6,8 +6,8 @@ use Rattle.dt_relay.proofs.Lookups.{stays_placed}
 use Rattle.dt_relay.proofs.Past.{leave_all_past, leave_link}
 use Rattle.dt_relay.proofs.relays.Relay.leave_at.Goals as goal
 
-pub leave-requires-clause-past : goal.leave-requires-clause-past
-leave-requires-clause-past g c =
+pub leave-requires : goal.leave-requires
+leave-requires g c =
     let same : c.self.inside.outs.items ≡ c.args.self.now.outs = ap (λ w. w.outs) c.self.view_is in
     past_at c.args.now c.args.self.now.outs c.index_mut-queue.result.now c.in-Some.i c.requires.past c.in-Some.ensures.within (rw (← same) c.index_mut-queue.ensures.value)
 

@@ -5,7 +5,7 @@ use Rattle.dt_units.specs.declared.parameters.Params.{Params}
 use Rattle.dt_flow_model.specs.SendRecord.{SendRecord}
 use Rattle.dt_flow_model.specs.Keeping.{taken_by}
 use Rattle.dt_flow_model.proofs.Records.{put_counts}
-use Rattle.dt_send.specs.Rings.{record_of}
+use Rattle.dt_send.specs.SendBuffer.{record_of}
 use Rattle.dt_send.specs.Senders.{SenderValue}
 use Rattle.dt_send.proofs.SenderLemmas.{full_after}
 use Rattle.dt_send.proofs.senders.Sender.put.Goals as goal
@@ -23,4 +23,4 @@ returns-clause-counted g c =
     let items = marked c.args.octets.now c.args.begin c.args.end false in
     let seen = ap (λ (u : SenderValue). taken_by u.state) c.self.view_is in
     let put = ap taken_by c.put.ensures.record in
-    omega (arith, seen, put, put_counts (record_of c.self.inside.rings) items, length-marked c.args.octets.now c.args.begin c.args.end false)
+    omega (arith, seen, put, put_counts (record_of c.self.inside.buffer) items, length-marked c.args.octets.now c.args.begin c.args.end false)

@@ -1,7 +1,9 @@
-use Rattle.std.proofs.Common.{false}
+use Rattle.std.proofs.Common.{inr, subst}
+use Rattle.dt_service_model.specs.Stopping.{EndStops}
+use Rattle.dt_service_model.specs.Turns.{Node}
 use Rattle.dt_service.specs.Nodes.{node_in}
-use Rattle.dt_service.proofs.Going.{goes_then}
+use Rattle.dt_service.proofs.Stops.{on_error}
 use Rattle.dt_service.proofs.parts.Parts.finish.Goals as goal
 
-pub returns-clause-part : goal.returns-clause-part
-returns-clause-part c = goes_then false (node_in c.args.self.now) (node_in c.hear.new.self) (node_in c.end_turn.new.self) c.hear.ensures.part c.end_turn.ensures.part
+pub returns-clause-stops : goal.returns-clause-stops
+returns-clause-stops c = on_error c.end_turn.result (λ stops. inr (subst (λ (n : Node). EndStops c.args.now n (node_in c.end_turn.new.self)) c.in_ok-hear.ensures.heard stops)) c.end_turn.ensures.stops

@@ -1,12 +1,13 @@
-use Rattle.std.proofs.Common.{◌≡◌, false, length}
+use Rattle.std.proofs.Common.{◌≡◌, length}
 use Rattle.dt_service_model.specs.Turns.{hears}
-use Rattle.dt_service.specs.Nodes.{GoesOn, node_in}
+use Rattle.dt_service.specs.Nodes.{node_in}
+use Rattle.dt_service.proofs.Stops.{HeardTo}
 use Rattle.dt_service.proofs.parts.Parts.hear.Given as goal
 
 abbrev pub invariant-loop-report : goal.invariant-loop-report
 invariant-loop-report l = record {
   whole : hears (node_in l.self) ≡ hears (node_in l.fn.self);
-  part : GoesOn false (node_in l.fn.self) (node_in l.self);
+  heard : HeardTo (node_in l.fn.self) (node_in l.self);
   room : l.self.room.value ≡ l.fn.self.room.value;
 }
 

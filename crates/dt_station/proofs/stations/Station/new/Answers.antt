@@ -1,4 +1,4 @@
-use Rattle.std.proofs.Common.{◌≡◌, ◌≤◌, ap, unwrap_or, arith}
+use Rattle.std.proofs.Common.{ap, arith}
 use Rattle.dt_host.specs.Hosts.{HostValue}
 use Rattle.dt_station.proofs.stations.Station.new.Goals as goal
 

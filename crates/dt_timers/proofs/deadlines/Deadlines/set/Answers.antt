@@ -2,7 +2,7 @@ use Rattle.std.proofs.Common.{ℕ, ◌<◌, List, Option, length, set, sym, ap, 
 use Rattle.std.proofs.lemmas.List.{length-map}
 use Rattle.dt_timers.specs.declared.deadline.Deadline.{Deadline}
 use Rattle.dt_timers.specs.Deadlines.{StandInPlace, moment_of}
-use Rattle.dt_timers.proofs.Places.{deadline_in, moments, stand, wrote}
+use Rattle.dt_timers.proofs.Places.{moments, stand, wrote}
 use Rattle.dt_timers.proofs.deadlines.Deadlines.set.Goals as goal
 
 pub place-requires : goal.place-requires
@@ -20,11 +20,11 @@ invariant_of-self c =
     let whole = ap (λ (ms : List (Option ℕ)). length ms) c.self.view_is in
     let within = c.requires in
     let at : c.args.place < length t = omega arith in
-    subst StandInPlace (sym (c.place.ensures ∙ ap (λ (d : Option Deadline). set t c.args.place d) c.deadline_of-deadline.ensures)) (stand t c.args.place c.args.moment at c.self.invariant)
+    subst StandInPlace (sym c.place.ensures) (stand t c.args.place c.args.moment at c.self.invariant)
 
 pub returns : goal.returns
 returns c =
     let t = c.self.inside.tournament in
-    ap moments (c.place.ensures ∙ ap (λ (d : Option Deadline). set t c.args.place d) c.deadline_of-deadline.ensures)
+    ap moments c.place.ensures
     ∙ wrote t c.args.place c.args.moment
     ∙ ap (λ (ms : List (Option ℕ)). set ms c.args.place c.args.moment) c.self.view_is

@@ -11,7 +11,7 @@ returns c =
     let t = c.self.inside in
     let nodes = t.nodes.items in
     let at = t.room + c.args.place in
-    let d = c.args.deadline in
+    let d = c.of.result in
     let wrote : c.deref_mut.result.now ≡ set nodes at d = c.deref_mut.ensures.value in
     let long : length c.play_from.new.nodes ≡ length (set nodes at d) = c.play_from.auto.nodes ∙ ap length wrote in
     let same : (k : ℕ) → length (set nodes at d) ≤ k + k → node c.play_from.new.nodes k ≡ node (set nodes at d) k = subst (λ (ns : List (Option Deadline)). (k : ℕ) → length ns ≤ k + k → node c.play_from.new.nodes k ≡ node ns k) wrote c.play_from.ensures.places in
@@ -19,3 +19,4 @@ returns c =
     ap (drop t.room) (with_items_is (with_item t.nodes at d) c.play_from.new.nodes size)
     ∙ placed nodes t.room c.self.invariant.0 c.args.place d c.play_from.new.nodes long same
     ∙ ap (λ (places : List (Option Deadline)). set places c.args.place d) c.self.view_is
+    ∙ ap (λ (e : Option Deadline). set c.args.self.now c.args.place e) c.of.ensures

@@ -1,0 +1,11 @@
+use Rattle.std.proofs.Common.{ℕ, suc, ◌≡◌, take}
+use Rattle.dt_host.specs.Agendas.{HasRoom, note_at}
+use Rattle.dt_host.proofs.agenda.Agenda.hold.Given as goal
+
+-- the tables so far have one place more
+abbrev pub invariant-loop-kind : goal.invariant-loop-kind
+invariant-loop-kind l = record {
+  more : HasRoom (suc l.count) (take l.kind l.self-inside.tables.items);
+  room : HasRoom l.count l.self-inside.tables.items;
+  same : (i : ℕ) → note_at l.self-inside.tables.items i ≡ note_at l.fn.self i;
+}

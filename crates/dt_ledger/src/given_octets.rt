@@ -1,0 +1,20 @@
+ghost use Rattle.std.specs.Prelude.{◌+◌, ◌^◌, ◌<◌, length};
+
+/// Octets that are given to a flow's receiver together, at places below 2^62.
+#[derive(Clone, Copy)]
+pub struct GivenOctets<'a> {
+    pub octets: &'a [u8],
+    /// The first begins a message.
+    pub begin: bool,
+    /// The last ends a message.
+    pub end: bool,
+    /// The first has a run mark.
+    pub run: bool,
+    /// The place of the first of them.
+    pub place: u64,
+    /// The life of the receiving station.
+    pub life: u32,
+    /// The moment when they are given, in ms.
+    pub at: u64,
+    ghost below: { place + length octets.now < 2 ^ 62 },
+}

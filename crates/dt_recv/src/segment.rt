@@ -1,0 +1,13 @@
+/// A data packet's octets, and what it says of them.
+#[derive(Clone, Copy)]
+pub struct Segment<'a> {
+    /// The sequence number of the first octet.
+    pub number: u32,
+    /// The data-run flag: no octet before these is still under way from this sender.
+    pub drf: bool,
+    /// A message begins with the first octet.
+    pub begin: bool,
+    /// A message ends with the last octet.
+    pub end: bool,
+    pub octets: &'a [u8],
+}

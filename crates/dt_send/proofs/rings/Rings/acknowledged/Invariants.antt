@@ -1,8 +1,0 @@
-use Rattle.std.proofs.Common.{◌≡◌, ◌+◌, take}
-use Rattle.dt_send.specs.Rings.{record_of}
-use Rattle.dt_send.specs.Stretches.{octets_in}
-use Rattle.dt_send.proofs.Scans.{HasPassed}
-use Rattle.dt_send.proofs.rings.Rings.acknowledged.Given as goal
-
-abbrev pub invariant-loop-place : goal.invariant-loop-place
-invariant-loop-place l = (l.end ≡ l.self.left + octets_in (take l.place l.self.stretches.items)) × HasPassed l.rules l.number l.self.left (record_of l.self).outstanding l.place l.end

@@ -1,0 +1,388 @@
+-- Turns tell the causes of the ends that they tell, and leave no call that waits with one.
+use Rattle.std.proofs.Common.{ℕ, ◌+◌, ◌<◌, ◌≤◌, ◌≡◌, ◌==◌, Bool, true, false, List, [], ◌∷◌, ◌++◌, inl, inr, drop, length, map, filter, Option, Some, None, refl, ap, sym, subst, ◌∙◌, arith}
+use Rattle.std.specs.Prelude.{◌&&◌, All, Contains, cond, filter_map, nat_le, option_map}
+use Rattle.std.specs.List.{cons_option}
+use Rattle.std.proofs.Math.Seq.{drop-append_seam, drop-length, drop-nil}
+use Rattle.std.proofs.lemmas.Bool.{and_parts}
+use Rattle.std.proofs.lemmas.Bool.Decides.{nat_tests}
+use Rattle.std.proofs.lemmas.List.Elements.{All-append, All-cons, All-contains_itself, All-head, All-nil, All-tail, All-weaker, Contains-append_cases, Contains-append_left, Contains-append_right}
+use Rattle.dt_units.specs.declared.endpoints.Flow.{Flow}
+use Rattle.dt_reports.specs.declared.faults.Refusal.{Refusal}
+use Rattle.dt_world_model.specs.Setup.{Setup}
+use Rattle.dt_world_model.specs.Station.{Tick}
+use Rattle.dt_world_model.specs.Tables.{look}
+use Rattle.dt_world_model.specs.WorldStep.{first_refusal}
+use Rattle.dt_calls_model.specs.Messages.{message_of, reversed}
+use Rattle.dt_endpoint.specs.declared.answers.Arrived.{Arrived}
+use Rattle.dt_endpoint.specs.declared.answers.Arrived.TheVariants as arrived
+use Rattle.dt_endpoint.specs.declared.answers.Ticked.{Ticked}
+use Rattle.dt_endpoint.specs.declared.answers.Ticked.TheVariants as ticked
+use Rattle.dt_endpoint.specs.Calls.{arrive_event, arrive_refusal, send_answer}
+use Rattle.dt_endpoint.specs.Endpoints.{EndpointValue, moment_of}
+use Rattle.dt_network.specs.Network.{Network}
+use Rattle.dt_service_model.specs.declared.answers.Forgot.{Forgot}
+use Rattle.dt_service_model.specs.declared.answers.Forgot.TheVariants as forgot
+use Rattle.dt_service_model.specs.declared.answers.Made.{Made}
+use Rattle.dt_service_model.specs.declared.answers.Replied.{Replied}
+use Rattle.dt_service_model.specs.declared.calls.Call.{Call}
+use Rattle.dt_service_model.specs.declared.calls.Cause.{Cause}
+use Rattle.dt_service_model.specs.declared.calls.Cause.TheVariants as cause
+use Rattle.dt_service_model.specs.declared.happenings.Happening.{Happening}
+use Rattle.dt_service_model.specs.declared.happenings.Happening.TheVariants.{Answered, Request, Unsure}
+use Rattle.dt_service_model.specs.declared.names.CallNumber.{CallNumber}
+use Rattle.dt_service_model.specs.declared.names.Token.{Token}
+use Rattle.dt_service_model.specs.declared.ports.Kind.{Kind}
+use Rattle.dt_service_model.specs.Asked.{call_refusals, forget_refusals, forgotten, forgotten_unless, is_closed, is_life_in_use, made_by, message_event, next_number, or_counted, replied_by, reply_refusals, unless, with_call_unless, with_port}
+use Rattle.dt_service_model.specs.Ends.{cause_of, close, closing_of, is_kept, judge, judged_as, judged_call, next_call, next_in, told_by, unsure_by, unsure_of}
+use Rattle.dt_service_model.specs.Halves.{Halves, kind_in}
+use Rattle.dt_service_model.specs.Names.{number_of}
+use Rattle.dt_service_model.specs.Turns.{Node, happens, turn, turn_end, with_halves}
+use Rattle.dt_service_laws.specs.Causes.{EndsAt, EndsInTurn, HasCause, IsEventOf, IsPatient, TellCauses, TellsAt, WasGivenUp, moment_told, of_deed}
+use Rattle.dt_service_laws.specs.Fates.{told_at, told_in}
+use Rattle.dt_service_laws.specs.Histories.{Message, answer_in, answers_at, at_node, at_the, each_of, in_turn}
+use Rattle.dt_service_laws.specs.Histories.{told_by as told_by_turn}
+use Rattle.dt_service_laws.specs.Premises.{KeepsDeed, KeepsFrom, KeepsTurn, KeepsTurns}
+use Rattle.dt_service_laws.specs.Services.{Arrives, Closes, Deed, Does, FindsNoMemory, Forgets, GivesKind, GivesReply, MakesCall, OpensAgain, Passes, PullsFrame, Raises, Services, TakesHappening, Ticks, Turn, node_after, node_does, node_with, services_after, services_by, told_between}
+use Rattle.dt_service_laws.proofs.Accounts.{broken_open, closed_again, closed_now, either_false, either_first, taken_told, told_beside, told_closing, told_more, told_of}
+use Rattle.dt_service_laws.proofs.Answering.{contains_first, contains_more, contains_parts, not_in_none}
+use Rattle.dt_service_laws.proofs.Asked.{all_clear}
+use Rattle.dt_service_laws.proofs.Causes.{Doubts, IsDoubt, doubts_begin, doubts_call, doubts_hear, doubts_read, doubts_stay, given_stays, within_tells}
+use Rattle.dt_service_laws.proofs.Everywhere.{IsOfEach, written_each}
+use Rattle.dt_service_model.proofs.Growing.{NotUnsure, Tells, grows_through, judge_grows, tells_same, tells_stopped}
+use Rattle.dt_service_model.proofs.Halting.{Any}
+use Rattle.dt_service_laws.proofs.Halting.{Halts, IsKeptByDeeds, halts}
+use Rattle.dt_service_laws.proofs.Quiet.{all_filtered}
+use Rattle.dt_service_model.proofs.Walking.{read_through}
+
+-- A CALL after a turn: nothing is doubted of it, and its deadline is to come
+pub record IsCalm (latest : ℕ) (call : Call) : Type 0 where
+  pub sure : call.doubted ≡ false
+  pub patient : IsPatient latest call
+
+-- A NODE whose calls have no cause. At one that is closed each has its end
+abbrev pub AreSure : Node → Type 0
+AreSure x = x.halves.closed ≡ false → All (IsCalm x.endpoint.latest) x.halves.calls
+
+undoubted : (x : Node) → x.halves.closed ≡ false → AreSure x → All (λ (c : Call). c.doubted ≡ false) x.halves.calls
+undoubted x open_x sure = All-weaker (IsCalm x.endpoint.latest) (λ (c : Call). c.doubted ≡ false) (λ c s. s.sure) x.halves.calls (sure open_x)
+
+-- CALLS ARE JUDGED
+not_unsure : (deed : Deed) (x y : Node) (happening : Happening) → NotUnsure happening → HasCause deed x y happening
+not_unsure deed x y (Request token payload) h = tt
+not_unsure deed x y (Answered number answer) h = tt
+not_unsure deed x y (Unsure number why) h = absurd h
+
+lt_by : (m n : ℕ) → nat_le m n ≡ false → n < m
+lt_by m n h = grind (arith, nat_tests)
+
+le_by : (m n : ℕ) → nat_le m n ≡ true → m ≤ n
+le_by m n h = grind (arith, nat_tests)
+
+module _ (deed : Deed) (x y : Node) (end : EndsAt deed x y) where
+  abbrev moment : ℕ
+  moment = moment_of (moment_told deed) end.judges.endpoint
+
+  judged_cause : (call : Call) (rest : List Happening) → Contains end.judges.halves.calls call → IsDoubt (WasGivenUp deed x end.judges) call → All (HasCause deed x y) rest → (a b : Bool) → (call.waits && call.doubted) ≡ a → (call.waits && nat_le call.deadline moment) ≡ b
+      → All (HasCause deed x y) (cons_option (unsure_by call (cond a (Some cause.GivenUp) (cond b (Some cause.Patience) None))) rest)
+  judged_cause call rest there doubt more true b is over = All-cons (HasCause deed x y) (Unsure call.number cause.GivenUp) rest (end, doubt (and_parts call.waits call.doubted is).1) more
+  judged_cause call rest there doubt more false true is over =
+      let p = and_parts call.waits (nat_le call.deadline moment) over in
+      All-cons (HasCause deed x y) (Unsure call.number cause.Patience) rest (end, record { call = call; there = there; waits = p.0; number_is = refl; deadline = le_by _ _ p.1 }) more
+  judged_cause call rest there doubt more false false is over = more
+
+  judged_causes : (cs : List Call) → All (Contains end.judges.halves.calls) cs → All (IsDoubt (WasGivenUp deed x end.judges)) cs → All (HasCause deed x y) (filter_map (unsure_of moment) cs)
+  judged_causes [] there doubts = All-nil (HasCause deed x y)
+  judged_causes (call ∷ cs) there doubts =
+      judged_cause call (filter_map (unsure_of moment) cs) (All-head (Contains end.judges.halves.calls) call cs there) (All-head (IsDoubt (WasGivenUp deed x end.judges)) call cs doubts)
+      (judged_causes cs (All-tail (Contains end.judges.halves.calls) call cs there) (All-tail (IsDoubt (WasGivenUp deed x end.judges)) call cs doubts))
+      (call.waits && call.doubted) (call.waits && nat_le call.deadline moment) refl refl
+
+-- and none is left with a cause
+judged_sure : (latest now : ℕ) → latest ≤ now → (call : Call) (a b : Bool) → (call.waits && nat_le call.deadline now) ≡ b → IsCalm latest (judged_as call (cond a (Some cause.GivenUp) (cond b (Some cause.Patience) None)))
+judged_sure latest now le call true b is = record { sure = refl; patient = λ waits. absurd cc }
+judged_sure latest now le call false true is = record { sure = refl; patient = λ waits. absurd cc }
+judged_sure latest now le call false false is = record {
+  sure = refl;
+  patient = λ waits.
+      let no : nat_le call.deadline now ≡ false = sym (ap (λ (w : Bool). w && nat_le call.deadline now) waits) ∙ is in
+      let later = lt_by call.deadline now no in
+      omega (arith, le, later);
+}
+
+all_judged : (latest now : ℕ) → latest ≤ now → (cs : List Call) → All (IsCalm latest) (map (judged_call now) cs)
+all_judged latest now le [] = All-nil (IsCalm latest)
+all_judged latest now le (call ∷ cs) = All-cons (IsCalm latest) (judged_call now call) (map (judged_call now) cs) (judged_sure latest now le call (call.waits && call.doubted) (call.waits && nat_le call.deadline now) refl) (all_judged latest now le cs)
+
+-- WHERE AN OCTET WAS GIVEN UP the call ends
+told_there : (now : ℕ) (call : Call) (cs : List Call) → Contains cs call → call.waits ≡ true → call.doubted ≡ true → Contains (filter_map (unsure_of now) cs) (Unsure call.number cause.GivenUp)
+told_there now call [] there waits doubted = absurd (let lt = there.1 in omega (arith, lt))
+told_there now call (c ∷ cs) there waits doubted =
+    elim (contains_parts c call cs there) [
+      | inl same ↦
+          let why : cause_of now c ≡ Some cause.GivenUp = subst (λ (k : Call). cause_of now k ≡ Some cause.GivenUp) (sym same) (ap (λ (b : Bool). cond b (Some cause.GivenUp) (cond (call.waits && nat_le call.deadline now) (Some cause.Patience) None)) (ap (λ (b : Bool). b && call.doubted) waits ∙ doubted)) in
+          let first : cons_option (unsure_by c (cause_of now c)) (filter_map (unsure_of now) cs) ≡ Unsure c.number cause.GivenUp ∷ filter_map (unsure_of now) cs = ap (λ (o : Option Cause). cons_option (unsure_by c o) (filter_map (unsure_of now) cs)) why in
+          subst (λ (ts : List Happening). Contains ts (Unsure call.number cause.GivenUp)) (sym first) (contains_first (Unsure c.number cause.GivenUp) (Unsure call.number cause.GivenUp) (filter_map (unsure_of now) cs) (ap (λ (k : Call). Unsure k.number cause.GivenUp) same))
+      | inr more ↦ later (unsure_by c (cause_of now c)) (told_there now call cs more waits doubted)
+    ]
+  where
+    later : (o : Option Happening) → Contains (filter_map (unsure_of now) cs) (Unsure call.number cause.GivenUp) → Contains (cons_option o (filter_map (unsure_of now) cs)) (Unsure call.number cause.GivenUp)
+    later None h = h
+    later (Some t) h = contains_more t (Unsure call.number cause.GivenUp) (filter_map (unsure_of now) cs) h
+
+given_up_ends : (deed : Deed) (x y : Node) → x.halves.closed ≡ false → (end : EndsAt deed x y) (n : CallNumber) → WasGivenUp deed x end.judges n → EndsInTurn end.judges n (told_of x.halves y.halves)
+unfolding grows_through judge_grows
+given_up_ends deed x y open_x end n given =
+    let z = end.judges in
+    let d = given_stays deed x z n given in
+    let moment = moment_of (moment_told deed) z.endpoint in
+    let t = within_tells end.within in
+    let g = grows_through x.halves z.halves (judge moment z.halves) t.grows (judge_grows moment z.halves) in
+    let told : told_of x.halves y.halves ≡ t.grows.told ++ filter_map (unsure_of moment) z.halves.calls = ap (λ (v : Node). told_of x.halves v.halves) end.is ∙ told_more x.halves (judge moment z.halves) open_x g in
+    record {
+      call = d.call;
+      there = d.there;
+      number_is = d.number;
+      tells = λ waits.
+          let one = told_there moment d.call z.halves.calls d.there waits d.doubted in
+          subst (λ (m : CallNumber). Contains (told_of x.halves y.halves) (Unsure m cause.GivenUp)) d.number
+          (subst (λ (ts : List Happening). Contains ts (Unsure d.call.number cause.GivenUp)) (sym told) (Contains-append_right t.grows.told (filter_map (unsure_of moment) z.halves.calls) (Unsure d.call.number cause.GivenUp) one));
+    }
+
+-- WHAT A DEED TELLS has its cause
+pub record Judged (deed : Deed) (x y : Node) : Type 0 where
+  pub causes : All (HasCause deed x y) (told_of x.halves y.halves)
+  pub answers : (m : CallNumber) (answer : List ℕ) → Contains (told_of x.halves y.halves) (Answered m answer) → Contains (told_between x y) (Answered m answer)
+  pub sure : AreSure y
+
+nothing_told : (deed : Deed) (x y : Node) → told_of x.halves y.halves ≡ [] → AreSure y → Judged deed x y
+nothing_told deed x y none sure = record { causes = subst (λ (ts : List Happening). All (HasCause deed x y) ts) (sym none) (All-nil (HasCause deed x y)); answers = λ m answer there. absurd (not_in_none (told_of x.halves y.halves) (Answered m answer) none there); sure = sure }
+
+stays : (deed : Deed) (x y : Node) → y.halves ≡ x.halves → AreSure y → Judged deed x y
+stays deed x y same sure = nothing_told deed x y (ap (told_of x.halves) same ∙ drop-length (told_by x.halves)) sure
+
+-- from a node within the turn on
+ends : (deed : Deed) (x z : Node) → x.halves.closed ≡ false → Doubts deed x z → Judged deed x (turn_end (moment_told deed) z)
+unfolding grows_through judge_grows
+ends deed x z open_x doubts =
+    let now = moment_told deed in
+    let r = read_through now z in
+    let y = turn_end now z in
+    let d = doubts_read deed x z doubts in
+    let t = within_tells d.within in
+    let moment = moment_of now r.endpoint in
+    let g = grows_through x.halves r.halves y.halves t.grows (judge_grows moment r.halves) in
+    let end : EndsAt deed x y = record { judges = r; within = d.within; is = refl } in
+    let le : r.endpoint.latest ≤ moment = omega arith in
+    let told : told_of x.halves y.halves ≡ told_between x y = told_more x.halves y.halves open_x g ∙ sym (ap (drop (length x.halves.happenings)) g.happenings ∙ drop-append_seam x.halves.happenings g.told) in
+    record {
+      causes = subst (λ (ts : List Happening). All (HasCause deed x y) ts) (sym (told_more x.halves y.halves open_x g))
+          (All-append (HasCause deed x y) t.grows.told (filter_map (unsure_of moment) r.halves.calls) (All-weaker NotUnsure (HasCause deed x y) (λ happening h. not_unsure deed x y happening h) t.grows.told t.sure)
+          (judged_causes deed x y end r.halves.calls (All-contains_itself r.halves.calls) d.doubts));
+      answers = λ m answer there. subst (λ (ts : List Happening). Contains ts (Answered m answer)) told there;
+      sure = λ open_y. all_filtered (IsCalm r.endpoint.latest) is_kept (map (judged_call moment) r.halves.calls) (all_judged r.endpoint.latest moment le r.halves.calls);
+    }
+
+-- A CALL
+call_doubts : (o : Option Refusal) (deed : Deed) {now patience : ℕ} {payload : List ℕ} (x z : Node) (f : Flow) (count deadline : ℕ) → deed ≡ MakesCall now f payload patience → Doubts deed x z → Doubts deed x (with_halves (with_call_unless o f count deadline) z)
+call_doubts None deed x z f count deadline asked d = doubts_call deed x z f count deadline asked d
+call_doubts (Some r) deed x z f count deadline asked d = d
+
+call_judged : (o : Option Made) (now : ℕ) (f : Flow) (payload message : List ℕ) (patience : ℕ) (x : Node) → IsEventOf (MakesCall now f payload patience) (message_event f message) → first_refusal (call_refusals x f payload patience) ≡ o → AreSure x → Judged (MakesCall now f payload patience) x (unless o x (made_by now f message patience x)).1
+call_judged (Some a) now f payload message patience x own is sure = stays (MakesCall now f payload patience) x x refl sure
+call_judged None now f payload message patience x own is sure =
+    let deed = MakesCall now f payload patience in
+    let refused = send_answer now f message true true x.endpoint in
+    let deadline = moment_of now x.endpoint + patience in
+    let z = happens now (message_event f message) x in
+    let open_x = either_false x.endpoint.spent x.halves.closed (all_clear (call_refusals x f payload patience) is).0 in
+    ends deed x (with_halves (with_call_unless refused f (length message) deadline) z) open_x
+    (call_doubts refused deed x z f (length message) deadline refl (doubts_hear deed x x (message_event f message) (of_deed own) (doubts_begin deed x (undoubted x open_x sure))))
+
+-- A REPLY
+forgot_doubts : (o : Option Refusal) (deed : Deed) (x z : Node) (token : Token) → Doubts deed x z → Doubts deed x (with_halves (forgotten_unless o token) z)
+forgot_doubts None deed x z token d = doubts_stay deed x z (forgotten token z.halves) (record { calls = refl; happenings = refl; closed = refl }) d
+forgot_doubts (Some r) deed x z token d = d
+
+reply_judged : (o : Option Replied) (now : ℕ) (token : Token) (payload message : List ℕ) (x : Node) → IsEventOf (GivesReply now token payload) (message_event (reversed token.flow) message) → first_refusal (reply_refusals x token payload) ≡ o → AreSure x → Judged (GivesReply now token payload) x (unless o x (replied_by now token message x)).1
+reply_judged (Some a) now token payload message x own is sure = stays (GivesReply now token payload) x x refl sure
+reply_judged None now token payload message x own is sure =
+    let deed = GivesReply now token payload in
+    let refused = send_answer now (reversed token.flow) message true true x.endpoint in
+    let z = happens now (message_event (reversed token.flow) message) x in
+    let open_x = either_false x.endpoint.spent x.halves.closed (all_clear (reply_refusals x token payload) is).0 in
+    ends deed x (with_halves (forgotten_unless refused token) z) open_x
+    (forgot_doubts refused deed x z token (doubts_hear deed x x (message_event (reversed token.flow) message) (of_deed own) (doubts_begin deed x (undoubted x open_x sure))))
+
+forget_judged : (o : Option Forgot) (now : ℕ) (token : Token) (x : Node) → first_refusal (forget_refusals x token) ≡ o → AreSure x → Judged (Forgets now token) x (unless o x (forgot.Done, turn_end now (with_halves (forgotten token) x))).1
+forget_judged (Some a) now token x is sure = stays (Forgets now token) x x refl sure
+forget_judged None now token x is sure =
+    let open_x = either_false x.endpoint.spent x.halves.closed (either_first (is_closed x) _ (all_clear (forget_refusals x token) is).0) in
+    ends (Forgets now token) x (with_halves (forgotten token) x) open_x
+    (doubts_stay (Forgets now token) x x (forgotten token x.halves) (record { calls = refl; happenings = refl; closed = refl }) (doubts_begin (Forgets now token) x (undoubted x open_x sure)))
+
+tick_judged : (b : Bool) (now : ℕ) (x : Node) → is_closed x ≡ b → AreSure x → Judged (Ticks now) x (cond {A = Ticked × Node} b (ticked.Spent, x) (ticked.Done, turn now Tick x)).1
+tick_judged true now x is sure = stays (Ticks now) x x refl sure
+tick_judged false now x is sure = let open_x = either_false x.endpoint.spent x.halves.closed is in ends (Ticks now) x (happens now Tick x) open_x (doubts_hear (Ticks now) x x Tick (of_deed refl) (doubts_begin (Ticks now) x (undoubted x open_x sure)))
+
+arrive_judged : (c : Bool) (o : Option Arrived) (now link : ℕ) (datagram : List ℕ) (waited : ℕ) (x : Node) → is_closed x ≡ c → AreSure x
+    → Judged (Arrives now link datagram waited) x (cond {A = Arrived × Node} c (arrived.Spent, x) (or_counted o x (arrived.Done, turn now (arrive_event link datagram waited) x))).1
+arrive_judged true o now link datagram waited x is sure = stays (Arrives now link datagram waited) x x refl sure
+arrive_judged false (Some a) now link datagram waited x is sure = stays (Arrives now link datagram waited) x _ refl sure
+arrive_judged false None now link datagram waited x is sure =
+    let event = arrive_event link datagram waited in
+    let open_x = either_false x.endpoint.spent x.halves.closed is in
+    let deed = Arrives now link datagram waited in
+    ends deed x (happens now event x) open_x (doubts_hear deed x x event (of_deed refl) (doubts_begin deed x (undoubted x open_x sure)))
+
+-- WHAT IS NO TURN
+kind_judged : (port : ℕ) (o : Option Kind) (kind : Kind) (x : Node) → AreSure x → Judged (GivesKind port kind) x (with_halves (with_port port o kind) x)
+kind_judged port (Some has) kind x sure = stays (GivesKind port kind) x x refl sure
+kind_judged port None kind x sure = nothing_told (GivesKind port kind) x _ (told_beside x.halves (with_port port None kind x.halves) refl refl refl) sure
+
+raise_judged : (b : Bool) (life : ℕ) (x : Node) → AreSure x → Judged (Raises life) x (record x { halves = cond b x.halves (record (x.halves) { life = life; count = 0 }) })
+raise_judged true life x sure = stays (Raises life) x x refl sure
+raise_judged false life x sure = nothing_told (Raises life) x _ (told_beside x.halves (record (x.halves) { life = life; count = 0 }) refl refl refl) sure
+
+next_sure : (P : Call → Type 0) (cs : List Call) (h : Halves) → All P cs → All P h.calls → All P (next_call cs h).1.calls
+next_sure P [] h all whole = whole
+next_sure P (call ∷ cs) h all whole = All-tail P call cs all
+
+closed_sure : (P : Call → Type 0) (b : Bool) (h : Halves) → All P h.calls → All P (cond {A = Option Happening × Halves} b (next_call h.calls h) (None, h)).1.calls
+closed_sure P true h all = next_sure P h.calls h all all
+closed_sure P false h all = all
+
+taken_sure : (P : Call → Type 0) (told : List Happening) (h : Halves) → All P h.calls → All P (next_in told h).1.calls
+taken_sure P [] h all = closed_sure P h.closed h all
+taken_sure P (x ∷ told) h all = all
+
+next_closed : (cs : List Call) (h : Halves) → (next_call cs h).1.closed ≡ h.closed
+next_closed [] h = refl
+next_closed (call ∷ cs) h = refl
+
+closed_closed : (b : Bool) (h : Halves) → (cond {A = Option Happening × Halves} b (next_call h.calls h) (None, h)).1.closed ≡ h.closed
+closed_closed true h = next_closed h.calls h
+closed_closed false h = refl
+
+taken_closed : (told : List Happening) (h : Halves) → (next_in told h).1.closed ≡ h.closed
+taken_closed [] h = closed_closed h.closed h
+taken_closed (x ∷ told) h = refl
+
+closing_causes : (deed : Deed) (x y : Node) → x.halves.closed ≡ false → y.halves.closed ≡ true → (cs : List Call) → All (HasCause deed x y) (map closing_of cs)
+closing_causes deed x y open_x closed_y [] = All-nil (HasCause deed x y)
+closing_causes deed x y open_x closed_y (call ∷ cs) = All-cons (HasCause deed x y) (closing_of call) (map closing_of cs) (open_x, closed_y) (closing_causes deed x y open_x closed_y cs)
+
+none_answered : (m : CallNumber) (answer : List ℕ) (cs : List Call) → Contains (map closing_of cs) (Answered m answer) → ⊥
+none_answered m answer [] there = (let lt = there.1 in omega (arith, lt))
+none_answered m answer (call ∷ cs) there = elim (contains_parts (closing_of call) (Answered m answer) (map closing_of cs) there) [ inl same ↦ absurd cc | inr more ↦ none_answered m answer cs more ]
+
+close_judged : (b : Bool) (x : Node) → x.halves.closed ≡ b → AreSure x → Judged Closes x (with_halves close x)
+close_judged true x is sure = nothing_told Closes x (with_halves close x) (closed_again x.halves is) (λ open_y. absurd cc)
+close_judged false x is sure = record {
+  causes = subst (λ (ts : List Happening). All (HasCause Closes x (with_halves close x)) ts) (sym (closed_now x.halves is)) (closing_causes Closes x (with_halves close x) is refl (filter (λ (call : Call). call.waits) x.halves.calls));
+  answers = λ m answer there. absurd (none_answered m answer (filter (λ (call : Call). call.waits) x.halves.calls) (subst (λ (ts : List Happening). Contains ts (Answered m answer)) (closed_now x.halves is) there));
+  sure = λ open_y. absurd cc;
+}
+
+-- A TURN THAT FOUND NO MEMORY tells what it had told, and then that its node closed
+call_tells : (o : Option Refusal) (f : Flow) (count deadline : ℕ) (h : Halves) → Tells h (with_call_unless o f count deadline h)
+call_tells None f count deadline h = tells_same h _ refl refl
+call_tells (Some r) f count deadline h = tells_same h h refl refl
+
+forgot_tells : (o : Option Refusal) (token : Token) (h : Halves) → Tells h (forgotten_unless o token h)
+forgot_tells None token h = tells_same h _ refl refl
+forgot_tells (Some r) token h = tells_same h h refl refl
+
+telling : IsKeptByDeeds (λ (x y : Node). Tells x.halves y.halves) Any
+telling = record { turns = tells_stopped; calls = λ o f count deadline x. call_tells o f count deadline x.halves; forgets = λ o token x. forgot_tells o token x.halves }
+
+halted_judged : (deed : Deed) (x y : Node) → x.halves.closed ≡ false → Halts (λ (u v : Node). Tells u.halves v.halves) Any telling x y → Judged deed x y
+halted_judged deed x y open_x h =
+    let st = h.stopped.halves in
+    let g = h.part.grows in
+    let left = filter (λ (call : Call). call.waits) st.calls in
+    let closed_y : y.halves.closed ≡ true = ap (λ (z : Node). z.halves.closed) h.closed in
+    let told : told_of x.halves y.halves ≡ g.told ++ map closing_of left = told_closing x.halves st y.halves g.told open_x g.happenings (ap (λ (z : Node). z.halves) h.closed) in
+    let between : g.told ≡ told_between x y = sym (ap (λ (z : Node). drop (length x.halves.happenings) z.halves.happenings) h.closed ∙ ap (drop (length x.halves.happenings)) g.happenings ∙ drop-append_seam x.halves.happenings g.told) in
+    record {
+      causes = subst (λ (ts : List Happening). All (HasCause deed x y) ts) (sym told)
+          (All-append (HasCause deed x y) g.told (map closing_of left) (All-weaker NotUnsure (HasCause deed x y) (λ happening sure. not_unsure deed x y happening sure) g.told h.part.sure) (closing_causes deed x y open_x closed_y left));
+      answers = λ m answer there.
+          elim (Contains-append_cases g.told (map closing_of left) (Answered m answer) (subst (λ (ts : List Happening). Contains ts (Answered m answer)) told there)) [
+            | inl before ↦ subst (λ (ts : List Happening). Contains ts (Answered m answer)) between before
+            | inr end ↦ absurd (none_answered m answer left end)
+          ];
+      sure = λ open_y. (let no : true ≡ false = sym closed_y ∙ open_y in absurd cc);
+    }
+
+-- WHATEVER IS DONE
+pub deed_judged : (setup : Setup) (net : Network) (n : ℕ) (deed : Deed) (x : Node) → KeepsDeed setup net n deed x → AreSure x → Judged deed x (node_after setup n deed x)
+deed_judged setup net n (MakesCall now f payload patience) x keeps sure = call_judged (first_refusal (call_refusals x f payload patience)) now f payload (message_of (number_of (next_number x.halves)) payload) patience x (next_number x.halves, refl) refl sure
+deed_judged setup net n (GivesKind port kind) x keeps sure = kind_judged port (kind_in port x.halves.ports) kind x sure
+deed_judged setup net n (GivesReply now token payload) x keeps sure = reply_judged (first_refusal (reply_refusals x token payload)) now token payload (message_of (number_of token.number) payload) x refl refl sure
+deed_judged setup net n (Forgets now token) x keeps sure = forget_judged (first_refusal (forget_refusals x token)) now token x refl sure
+deed_judged setup net n (Ticks now) x keeps sure = tick_judged (is_closed x) now x refl sure
+deed_judged setup net n (Arrives now link datagram waited) x keeps sure = arrive_judged (is_closed x) (arrive_refusal link datagram waited x.endpoint) now link datagram waited x refl sure
+deed_judged setup net n (Raises life) x keeps sure = raise_judged (is_life_in_use life x.halves) life x sure
+deed_judged setup net n TakesHappening x keeps sure = nothing_told TakesHappening x (node_after setup n TakesHappening x) (taken_told x.halves.happenings x.halves refl) (λ open_y. taken_sure (IsCalm x.endpoint.latest) x.halves.happenings x.halves (sure (sym (taken_closed x.halves.happenings x.halves) ∙ open_y)))
+deed_judged setup net n PullsFrame x keeps sure = stays PullsFrame x (node_after setup n PullsFrame x) refl sure
+deed_judged setup net n Closes x keeps sure = close_judged x.halves.closed x refl sure
+deed_judged setup net n (OpensAgain again routes most life) x keeps sure = nothing_told (OpensAgain again routes most life) x (node_after setup n (OpensAgain again routes most life) x) (drop-nil (length (told_by x.halves))) (λ open_y. All-nil (IsCalm (node_after setup n (OpensAgain again routes most life) x).endpoint.latest))
+deed_judged setup net n (FindsNoMemory deed after) x keeps sure =
+    halted_judged (FindsNoMemory deed after) x after (broken_open deed x after keeps.1) (halts (λ (u v : Node). Tells u.halves v.halves) Any telling deed x after (λ event own. tt) keeps.1)
+
+-- AN ANSWER that is told is one of the answers
+answer_there : (m : CallNumber) (answer : List ℕ) (told : List Happening) → Contains told (Answered m answer) → Contains (each_of answer_in told) (record { number = m; carried = answer })
+answer_there m answer [] there = absurd (let lt = there.1 in omega (arith, lt))
+answer_there m answer (t ∷ told) there =
+    elim (contains_parts t (Answered m answer) told there) [
+      | inl same ↦ subst (λ (u : Happening). Contains (answer_in u ++ each_of answer_in told) (record { number = m; carried = answer })) (sym same) (contains_first _ _ (each_of answer_in told) refl)
+      | inr more ↦ Contains-append_right (answer_in t) (each_of answer_in told) (record { number = m; carried = answer }) (answer_there m answer told more)
+    ]
+
+-- ALL TURNS
+module _ (setup : Setup) where
+  at_judged : (s : Services) → IsOfEach AreSure s → (n : ℕ) (deed : Deed) (o : Option EndpointValue) → look ◌==◌ n s.network.endpoints ≡ o → KeepsFrom setup s.network n deed (option_map (node_with n s) o) → TellsAt setup n deed (option_map (node_with n s) o) × IsOfEach AreSure (node_does setup n deed s (option_map (node_with n s) o))
+  at_judged s sure n deed None found keeps = (tt, sure)
+  at_judged s sure n deed (Some e) found keeps =
+      let x = node_with n s e in
+      let j = deed_judged setup s.network n deed x keeps (sure n e found) in
+      (record { causes = j.causes; given_up = given_up_ends deed x (node_after setup n deed x) }, written_each AreSure n s (node_after setup n deed x) sure j.sure)
+
+  pub turns_judged : (turns : List Turn) (s : Services) → KeepsTurns setup turns s → IsOfEach AreSure s → TellCauses setup turns s × IsOfEach AreSure (services_by setup turns s)
+  turns_judged [] s keeps sure = (tt, sure)
+  turns_judged (Passes by ∷ turns) s keeps sure = turns_judged turns (services_after setup (Passes by) s) keeps.1 (λ k e there. sure k e there)
+  turns_judged (Does n deed ∷ turns) s keeps sure =
+      let one = at_judged s sure n deed (look ◌==◌ n s.network.endpoints) refl keeps.0 in
+      let rest = turns_judged turns (services_after setup (Does n deed) s) keeps.1 one.1 in
+      ((one.0, rest.0), rest.1)
+
+  module _ (c : ℕ) (m : CallNumber) (answer : List ℕ) where
+    abbrev one : Message
+    one = record { number = m; carried = answer }
+
+    at_answers : (s : Services) → IsOfEach AreSure s → (n : ℕ) (deed : Deed) (o : Option EndpointValue) → look ◌==◌ n s.network.endpoints ≡ o → KeepsFrom setup s.network n deed (option_map (node_with n s) o)
+        → Contains (at_node (at_the c (told_in setup) n deed) (option_map (node_with n s) o)) (Answered m answer) → Contains (at_node (at_the c (told_by_turn answer_in setup) n deed) (option_map (node_with n s) o)) one
+    at_answers s sure n deed None found keeps there = absurd (let lt = there.1 in omega (arith, lt))
+    at_answers s sure n deed (Some e) found keeps there =
+        let x = node_with n s e in
+        let j = deed_judged setup s.network n deed x keeps (sure n e found) in
+        by_test (n == c) (λ told. answer_there m answer (told_between x (node_after setup n deed x)) (j.answers m answer told)) there
+      where
+        by_test : (b : Bool) → (let x = node_with n s e in Contains (told_in setup n deed x) (Answered m answer) → Contains (told_by_turn answer_in setup n deed x) one)
+            → let x = node_with n s e in Contains (cond b (told_in setup n deed x) []) (Answered m answer) → Contains (cond b (told_by_turn answer_in setup n deed x) []) one
+        by_test true here told = here told
+        by_test false here told = absurd (let lt = told.1 in omega (arith, lt))
+
+    turn_answers : (t : Turn) (s : Services) → IsOfEach AreSure s → KeepsTurn setup t s → Contains (in_turn (at_the c (told_in setup)) t s) (Answered m answer) → Contains (in_turn (at_the c (told_by_turn answer_in setup)) t s) one
+    turn_answers (Passes by) s sure keeps there = absurd (let lt = there.1 in omega (arith, lt))
+    turn_answers (Does n deed) s sure keeps there = at_answers s sure n deed (look ◌==◌ n s.network.endpoints) refl keeps there
+
+    pub turns_answer : (turns : List Turn) (s : Services) → KeepsTurns setup turns s → IsOfEach AreSure s → Contains (told_at c setup turns s) (Answered m answer) → Contains (answers_at c setup turns s) one
+    turns_answer [] s keeps sure there = absurd (let lt = there.1 in omega (arith, lt))
+    turns_answer (t ∷ turns) s keeps sure there =
+        let v = services_after setup t s in
+        let next = (turns_judged (t ∷ []) s (keeps.0, tt) sure).1 in
+        elim (Contains-append_cases (in_turn (at_the c (told_in setup)) t s) (told_at c setup turns v) (Answered m answer) there) [
+          | inl now ↦ Contains-append_left (in_turn (at_the c (told_by_turn answer_in setup)) t s) (answers_at c setup turns v) one (turn_answers t s sure keeps.0 now)
+          | inr later ↦ Contains-append_right (in_turn (at_the c (told_by_turn answer_in setup)) t s) (answers_at c setup turns v) one (turns_answer turns v keeps.1 next later)
+        ]

@@ -1,0 +1,106 @@
+ghost use Rattle.std.specs.Prelude.{◌≡◌, ◌<◌, ◌^◌, IsTrue, None};
+ghost use Rattle.dt_timers.specs.Order.{goes_before, sooner_of};
+ghost use Rattle.dt_timers.specs.Tournaments.{deadline_in};
+
+use crate::deadline::Deadline;
+use std::marker::Model;
+use std::mem::size_of;
+
+/// A deadline or none. A contract sees the deadline.
+#[derive(Clone, Copy)]
+pub struct Node {
+    moment: u64,
+    place: u32,
+    /// There is a deadline.
+    taken: bool,
+}
+
+// A table has two for each place.
+const _: () = prove!(size_of::<Node>() == 16);
+
+impl Model for Node {
+    ghost use Rattle.std.specs.Prelude.{ℕ, Bool, ◌≡◌, false, Option, is_some};
+    ghost use Rattle.std.proofs.Common.{ap, ◌∙◌};
+    ghost use Rattle.dt_timers.specs.declared.deadline.Deadline.{Deadline};
+    ghost use Rattle.dt_timers.specs.Nodes.{deadline_seen, moment_back, moment_kept, place_back, place_kept, taken_back};
+
+    ghost Value = { Option Deadline };
+
+    ghost view = { λ n. deadline_seen n.taken n.moment n.place };
+
+    ghost invariant = { λ n. n.taken ≡ false → (n.moment ≡ 0) × (n.place ≡ 0) };
+
+    ghost inverse = { λ d. record { moment = moment_kept d; place = place_kept d; taken = is_some d } };
+
+    ghost inverse_ok = { λ n h.
+        ap (λ (m : ℕ). record { moment = m; place = place_kept (deadline_seen n.taken n.moment n.place); taken = is_some (deadline_seen n.taken n.moment n.place) }) (moment_back n.taken n.moment n.place h)
+        ∙ ap (λ (p : ℕ). record { moment = n.moment; place = p; taken = is_some (deadline_seen n.taken n.moment n.place) }) (place_back n.taken n.moment n.place h)
+        ∙ ap (λ (t : Bool). record { moment = n.moment; place = n.place; taken = t }) (taken_back n.taken n.moment n.place) };
+}
+
+impl Node {
+    /// No deadline.
+    pub fn none() -> Node
+        ensures { result ≡ None }
+    {
+        Node {
+            moment: 0,
+            place: 0,
+            taken: false,
+        }
+    }
+
+    /// The deadline of a place, where it has a moment.
+    pub fn of(place: usize, moment: Option<u64>) -> Node
+        requires { place < 2 ^ 32 }
+        ensures { result ≡ deadline_in place moment }
+    {
+        match moment {
+            Some(moment) => Node {
+                moment,
+                place: place as u32,
+                taken: true,
+            },
+            None => Node::none(),
+        }
+    }
+
+    /// The deadline, if there is one.
+    pub fn deadline(&self) -> Option<Deadline>
+        ensures { result ≡ self.now }
+    {
+        if self.taken {
+            Some(Deadline {
+                moment: self.moment,
+                place: self.place as usize,
+            })
+        } else {
+            None
+        }
+    }
+
+    /// Whether it is the other one.
+    pub fn is(&self, other: &Node) -> bool
+        ensures { IsTrue result → self.now ≡ other.now }
+    {
+        self.taken == other.taken && self.moment == other.moment && self.place == other.place
+    }
+
+    /// Whether it comes before another deadline: its moment is less, or its place where the moments are
+    /// equal.
+    fn goes_before(&self, other: &Node) -> bool
+        ensures { result ≡ goes_before self.now other.now }
+    {
+        self.taken
+            && (!other.taken
+                || self.moment < other.moment
+                || (self.moment == other.moment && self.place < other.place))
+    }
+}
+
+/// The one of two deadlines that comes first, of which each may be none.
+pub fn sooner(one: &Node, other: &Node) -> Node
+    ensures { result ≡ sooner_of one.now other.now }
+{
+    if other.goes_before(one) { *other } else { *one }
+}
