@@ -84,7 +84,7 @@ impl FlowNotes {
     }
 
     /// So many octets more are taken.
-    fn take(&mut self, count: u32)
+    fn count_taken(&mut self, count: u32)
         requires { self.old.taken + count ≤ 2 ^ 62 }
         ensures { self.new ≡ record self.old { taken = self.old.taken + count } }
     {
@@ -206,7 +206,7 @@ impl FlowNotes {
         self.begin(lives.sender)?;
         match change {
             Change::Took { count } => {
-                self.take(count);
+                self.count_taken(count);
                 Ok(None)
             }
             Change::Sent { number, length } => Ok(self.send(number, length)),

@@ -134,7 +134,7 @@ pub fn read_log(bytes: &[u8]) -> Result<Fact, LineFault>
     ensures { result ≡ fact_of bytes.now }
 {
     let words = Words::new(bytes);
-    if words.are_fewer(3) {
+    if words.has_fewer_than(3) {
         return Ok(Fact::Other);
     }
     if is_told(&words) {

@@ -6,7 +6,7 @@ use Rattle.dt_reports.specs.declared.faults.StepFault.TheVariants as fault
 use Rattle.dt_world_model.specs.World.{World}
 use Rattle.dt_world_model.specs.WorldStep.{Refused, Stepped, WorldEvent, then_step, world_step}
 use Rattle.dt_world.specs.Outcomes.{Answers, IsDone, IsRefused}
-use Rattle.dt_world.specs.Tellers.{TellsAll}
+use Rattle.dt_world.specs.Reporters.{TellsAll}
 use Rattle.dt_world.specs.Worlds.{WorldValue}
 use Rattle.dt_calls_model.specs.Heard.{ALoss, APiece, ARefusal, ATaking, AnAcceptance, Heard, NoMessage, heard, is_refusal, or_later, piece_in, tells_refusal}
 use Rattle.dt_calls_model.specs.Messages.{Piece}

@@ -5,7 +5,6 @@
 
 mod call_events;
 mod call_lines;
-mod doubting;
 mod dues;
 mod flow_sides;
 mod flows;
@@ -13,6 +12,7 @@ mod handlers;
 mod hearing;
 mod reading;
 mod totals;
+mod unsure_calls;
 mod world_calls;
 
 pub use call_events::CallEvent;

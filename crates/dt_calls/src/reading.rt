@@ -37,7 +37,7 @@ use dt_world::{Event, World};
 const MOST_READ: u32 = 65_536;
 
 /// An event of the world within a step. Where it is refused, nothing happens.
-pub fn happen(world: &mut World, heard: &mut Heard, event: &Event<'_>) -> Result<(), NoMemory>
+pub fn try_event(world: &mut World, heard: &mut Heard, event: &Event<'_>) -> Result<(), NoMemory>
     requires unspent { world.old.spent ≡ false }
     requires may { MayStep (event_of event.now) }
     ensures { Happens result (event_of event.now) world.old heard.old world.new heard.new }
@@ -76,7 +76,7 @@ pub fn post<H>(parts: &mut Parts<H>, flow: Flow) -> Result<Posted, NoMemory>
         begin: true,
         end: true,
     };
-    happen(&mut parts.world, &mut parts.heard, &event)?;
+    try_event(&mut parts.world, &mut parts.heard, &event)?;
     if parts.heard.is_refused() {
         return Ok(Posted::Refused);
     }
@@ -177,7 +177,7 @@ fn read_side<H: Handler, L: CallLines>(
         max: MOST_READ,
     };
     loop {
-        happen(&mut parts.world, &mut parts.heard, &read)?;
+        try_event(&mut parts.world, &mut parts.heard, &read)?;
         if parts.heard.piece().is_none() {
             return Ok(());
         }

@@ -26,13 +26,13 @@ ghost use Rattle.dt_calls.specs.declared.dues.Due.TheVariants as due;
 
 use crate::call_events::CallEvent;
 use crate::call_lines::{CallLine, CallLines};
-use crate::doubting::doubt;
 use crate::dues::{Due, due_behind};
 use crate::flows::{Flows, add_flow, drop_begun};
 use crate::handlers::Handler;
 use crate::hearing::Heard;
 use crate::reading::{post, read_due};
 use crate::totals::{CallTotals, totals_of};
+use crate::unsure_calls::mark_unsure;
 use dt_calls_model::{Call, CallState, Posted};
 use dt_items::NoMemory;
 use dt_messages::{reversed, write_message};
@@ -244,7 +244,7 @@ fn step_world<H: Handler, L: CallLines>(
     ensures few { length parts.old.calls.items < 2 ^ 64 }
     ensures handler { parts.new.handler ≡ parts.old.handler }
 {
-    let due = go_on(parts, event)?;
+    let due = advance_world(parts, event)?;
     finish(parts, due, lines)?;
     Ok(())
 }
@@ -265,7 +265,7 @@ fn finish<H: Handler, L: CallLines>(
     ensures handler { parts.new.handler ≡ parts.old.handler }
 {
     read_due(parts, due, lines)?;
-    doubt(parts, lines);
+    mark_unsure(parts, lines);
     Ok(())
 }
 
@@ -378,7 +378,7 @@ fn state_of(request: Posted) -> CallState
 }
 
 /// An event of the world. Answers what must be read after it.
-fn go_on<H>(parts: &mut Parts<H>, event: &Event<'_>) -> Result<Due, StepFault>
+fn advance_world<H>(parts: &mut Parts<H>, event: &Event<'_>) -> Result<Due, StepFault>
     requires whole { IsWhole parts.old }
     requires rest { IsDue due.Nothing parts.old.world.state (flows_seen parts.old.flows.entries) }
     requires may { IsNoSendOrRead (event_of event.now) }

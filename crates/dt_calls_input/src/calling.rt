@@ -16,7 +16,7 @@ use dt_text::WorldLine;
 
 /// What a line of a world says happens: that is no send and no read.
 #[tactic(auto, using(crate::proofs::CallTurns::comes_quietly))]
-pub fn come<K: Sink>(
+pub fn apply_world_line<K: Sink>(
     calls: &mut Calls<Reversing>,
     line: WorldLine,
     out: &mut K,

@@ -5,7 +5,7 @@ ghost use Rattle.dt_world_model.specs.Setup.{new_world};
 ghost use Rattle.dt_calls_model.specs.Calls.{new_calls};
 ghost use Rattle.dt_calls_input.specs.CallInputs.{last_text};
 
-use crate::calling::{come, step};
+use crate::calling::{apply_world_line, step};
 use crate::writing::put_totals;
 use dt_calls::{CallEvent, Calls, Reversing};
 use dt_edges::{Failed, Sink};
@@ -48,10 +48,14 @@ impl Simulation for InputCalls {
         })
     }
 
-    fn happen<K: Sink>(&mut self, line: &RunLine<'_>, out: &mut K) -> Result<Option<Fault>, Stop> {
+    fn apply_line<K: Sink>(
+        &mut self,
+        line: &RunLine<'_>,
+        out: &mut K,
+    ) -> Result<Option<Fault>, Stop> {
         let calls = &mut self.calls;
         match *line {
-            RunLine::World(line) => come(calls, line, out),
+            RunLine::World(line) => apply_world_line(calls, line, out),
             RunLine::Call { flow, hex } => {
                 decode_hex(hex, &mut self.payload)?;
                 let payload = &self.payload;

@@ -14,7 +14,7 @@ ghost use Rattle.dt_endpoint.specs.Hearing.{heard_in, piece_in};
 use crate::answers::{Arrived, Piece, Routed, Sent, Ticked};
 use crate::collecting::Collector;
 use crate::counts::{Counts, Octets};
-use crate::events::{happen, receive};
+use crate::events::{collect_event, receive};
 use crate::frames::OutFrame;
 use crate::links::{Links, has_link};
 use crate::noting::Heard;
@@ -108,7 +108,7 @@ impl Endpoint {
         let now = self.moment_at(now);
         self.latest = now;
         self.asked += octets_in(&event);
-        let done = happen(&mut self.station, &mut self.collector, now, event, buf);
+        let done = collect_event(&mut self.station, &mut self.collector, now, event, buf);
         if done.is_err() {
             self.spent = true;
             return Err(NoMemory);

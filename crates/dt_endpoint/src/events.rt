@@ -14,7 +14,7 @@ use dt_layout::Frame;
 use dt_station::{LocalEvent, Station};
 
 /// One event that brings no packet, which is collected. After `NoMemory` a first part of it was.
-pub fn happen(
+pub fn collect_event(
     station: &mut Station<Frame>,
     collector: &mut Collector,
     now: u64,

@@ -51,7 +51,7 @@ impl DueAct {
     }
 
     /// It or the one that came first so far: the one that comes first.
-    pub fn or_sooner(self, best: Option<DueAct>) -> Option<DueAct>
+    pub fn first_of(self, best: Option<DueAct>) -> Option<DueAct>
         ensures { result ≡ Some (sooner_of best self) }
     {
         match best {
@@ -62,7 +62,7 @@ impl DueAct {
 }
 
 /// The lesser of two moments, of which each may be none.
-pub fn lesser(moment: Option<u64>, other: Option<u64>) -> Option<u64>
+pub fn earlier(moment: Option<u64>, other: Option<u64>) -> Option<u64>
     ensures { result ≡ earlier moment other }
 {
     match (moment, other) {

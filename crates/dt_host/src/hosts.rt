@@ -16,7 +16,7 @@ ghost use Rattle.dt_host.specs.Soonest.{missed_senders};
 ghost use Rattle.dt_host.specs.declared.faults.SendFault.TheVariants as send_fault;
 
 use crate::acts::{Act, Done};
-use crate::dues::{DueAct, DueKind, lesser};
+use crate::dues::{DueAct, DueKind, earlier};
 use crate::faults::SendFault;
 use crate::octets::Octets;
 use crate::recv_side::RecvSide;
@@ -368,7 +368,7 @@ impl Host {
     pub fn wake(&self) -> Option<u64>
         ensures { result ≡ host_wake self.now.rules self.now.state }
     {
-        lesser(self.senders.wake(), self.receivers.wake())
+        earlier(self.senders.wake(), self.receivers.wake())
     }
 
     /// The node that it is the host of.

@@ -70,7 +70,7 @@ impl Places {
     }
 
     /// A flow that stands nowhere takes an empty place. `NoMemory` leaves all as it was.
-    pub fn take(&mut self, place: usize, flow: &Flow) -> Result<(), NoMemory>
+    pub fn assign(&mut self, place: usize, flow: &Flow) -> Result<(), NoMemory>
         requires within { place < length self.old }
         requires empty { slot self.old place ≡ None }
         requires new { place_in flow.now self.old ≡ None }

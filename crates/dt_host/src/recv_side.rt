@@ -20,7 +20,7 @@ ghost use Rattle.dt_host.specs.Notes.{recv_noted};
 ghost use Rattle.dt_host.specs.Places.{equal_flows};
 ghost use Rattle.dt_host.specs.Soonest.{IsQuiet, IsSoonest, receiver_moment};
 
-use crate::dues::{DueAct, DueKind, lesser};
+use crate::dues::{DueAct, DueKind, earlier};
 use crate::table::Table;
 use dt_flow_model::{Action, Arrived, RecvAct, RecvKind};
 use dt_items::{NoMemory, Piece};
@@ -113,7 +113,7 @@ impl RecvSide {
                     moment,
                     flow: *flow,
                 };
-                best = due.or_sooner(best);
+                best = due.first_of(best);
             }
         }
         best
@@ -318,7 +318,7 @@ impl RecvSide {
     pub fn wake(&self) -> Option<u64>
         ensures { result ≡ earliest (λ e. recv_wake_of self.now.rules e.1.standing) (receivers_of self.now.entries) }
     {
-        lesser(
+        earlier(
             self.soonest_of(RecvKind::Release),
             self.soonest_of(RecvKind::Ack),
         )

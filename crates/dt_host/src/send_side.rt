@@ -130,7 +130,7 @@ impl SendSide {
                     moment,
                     flow: *flow,
                 };
-                best = due.or_sooner(best);
+                best = due.first_of(best);
             }
         }
         best

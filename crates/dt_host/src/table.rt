@@ -76,7 +76,7 @@ impl<A: Drop> Table<A> {
         self.agenda.hold(place)?;
         self.places.hold(place)?;
         self.slots.push(None)?;
-        self.places.take(place, flow)?;
+        self.places.assign(place, flow)?;
         self.agenda.note(place, note);
         self.slots[place] = Some((*flow, made));
         Ok(())

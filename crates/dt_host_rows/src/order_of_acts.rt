@@ -292,7 +292,7 @@ fn offers<L: Ledger>(
 }
 
 /// The act that comes next.
-fn does<L: Ledger>(rt: &impl Abort, host: &mut Host, act: Done, now: u64, steps: &mut Steps<L>)
+fn does_next<L: Ledger>(rt: &impl Abort, host: &mut Host, act: Done, now: u64, steps: &mut Steps<L>)
     requires moment { now ≤ most_moment }
     requires past { host.old.latest ≤ now }
     ensures latest { host.new.latest ≡ now }
@@ -364,8 +364,8 @@ fn happens<L: Ledger>(
         Event::Send(port) => offers(rt, host, out(port), &[65], now, Ok(()), steps),
         Event::SendTwo(port) => offers(rt, host, out(port), &[65, 66], now, Ok(()), steps),
         Event::Refused(port, fault) => offers(rt, host, out(port), &[65], now, Err(fault), steps),
-        Event::Sender(port, act) => does(rt, host, sends(out(port), act), now, steps),
-        Event::Receiver(port, act) => does(rt, host, receives(back(port), act), now, steps),
+        Event::Sender(port, act) => does_next(rt, host, sends(out(port), act), now, steps),
+        Event::Receiver(port, act) => does_next(rt, host, receives(back(port), act), now, steps),
         Event::Rest => rests(rt, host, now, &mut Frame::new(), steps),
         Event::Wake(moment) => assert_eq!(rt; host.wake(), moment, "at {now}"),
         Event::Message(port, end, answer) => {

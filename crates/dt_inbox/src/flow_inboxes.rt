@@ -30,7 +30,7 @@ impl Model for FlowInbox {
 }
 
 impl FlowInbox {
-    fn take(
+    fn take_message(
         &mut self,
         alloc: Global,
         endpoint: &mut Endpoint,
@@ -112,7 +112,7 @@ impl FlowInboxes {
         let place = self.first_due()?;
         let first = &mut self.inboxes[place];
         let before = first.inbox.dropped();
-        let answer = first.take(alloc, endpoint, now, buf);
+        let answer = first.take_message(alloc, endpoint, now, buf);
         let more = first.inbox.dropped().saturating_sub(before);
         let is_over = first.is_over(endpoint);
         self.dropped = self.dropped.saturating_add(more);

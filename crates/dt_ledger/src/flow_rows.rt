@@ -55,11 +55,17 @@ impl FlowRows {
     /// Octets are taken in a life of the sending station: a row each, after all others, with no fate
     /// and no first moment. The first begins a message and the last ends one, where that is asked for.
     /// `NoMemory` leaves the ledger as it was. The cost is that of the octets.
-    pub fn take(&mut self, life: u32, octets: &[u8], begin: bool, end: bool) -> Result<(), NoMemory>
+    pub fn note_taken(
+        &mut self,
+        life: u32,
+        octets: &[u8],
+        begin: bool,
+        end: bool,
+    ) -> Result<(), NoMemory>
         ensures ok { OnOk result (self.new ≡ record self.old { taken = take_rows life (marked octets.now begin end false) self.old.taken }) }
         ensures err { OnErr result (self.new ≡ self.old) }
     {
-        self.taken.take(life, octets, begin, end)
+        self.taken.push_taken(life, octets, begin, end)
     }
 
     /// So many taken rows from a place on, which are there, get their first moment. The cost is that of

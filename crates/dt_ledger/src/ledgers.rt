@@ -85,10 +85,10 @@ impl Ledger {
         ensures err { OnErr result (self.new ≡ self.old) }
     {
         if let Some(rows) = self.rows_mut(flow) {
-            return rows.take(life, octets, begin, end);
+            return rows.note_taken(life, octets, begin, end);
         }
         let mut rows = FlowRows::new(self.alloc);
-        rows.take(life, octets, begin, end)?;
+        rows.note_taken(life, octets, begin, end)?;
         self.flows.insert(*flow, rows)?;
         Ok(())
     }

@@ -166,7 +166,13 @@ impl TakenRows {
 
     /// Octets are taken: a row each, with no fate and no first moment. `NoMemory` leaves the rows as
     /// they were.
-    pub fn take(&mut self, life: u32, octets: &[u8], begin: bool, end: bool) -> Result<(), NoMemory>
+    pub fn push_taken(
+        &mut self,
+        life: u32,
+        octets: &[u8],
+        begin: bool,
+        end: bool,
+    ) -> Result<(), NoMemory>
         ensures ok { OnOk result (self.new ≡ take_rows life (marked octets.now begin end false) self.old) }
         ensures err { OnErr result (self.new ≡ self.old) }
     {

@@ -226,7 +226,7 @@ some : (word : Text) (words : List Text) → Word word → Words words → Words
 some word words h more = record { are = (h.is, more.are) }
 
 -- after the word of the node, where a node tells the line
-behind : (teller : Option ℕ) (words : List Text) → Words words → Words (node_words teller ++ words)
+behind : (reporter : Option ℕ) (words : List Text) → Words words → Words (node_words reporter ++ words)
 behind None words h = h
 behind (Some node) words h = record { are = (number_word node, h.are) }
 
@@ -269,9 +269,9 @@ faulty fault = record { are = fault_are fault }
 ruleset words = (line, none, some, behind, stood, number, of_line, flow, hex, sent, read, released, run, refused, bad, faulty)
 
 -- The last clause has each line that isn't named before.
-line_are : (moment : ℕ) (teller : Option ℕ) (told : Told) → Line (line_words moment teller told)
-line_are moment teller reports.End = search (words, refl) depth 24
-line_are moment teller told = search (words, refl) depth 24
+line_are : (moment : ℕ) (reporter : Option ℕ) (told : Told) → Line (line_words moment reporter told)
+line_are moment reporter reports.End = search (words, refl) depth 24
+line_are moment reporter told = search (words, refl) depth 24
 
 -- CUTTING
 

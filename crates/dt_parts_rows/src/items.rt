@@ -51,7 +51,7 @@ fn reads_nothing(queue: &mut Queue) -> bool {
     queue.read_into(&mut buf).is_none() && begins_with(&buf, b"") && queue.len() == 0
 }
 
-fn take(rt: &impl Abort, queue: &mut Queue, step: &Step) {
+fn do_step(rt: &impl Abort, queue: &mut Queue, step: &Step) {
     match step {
         Step::Push(octets, marks) => push(rt, queue, octets, marks),
         Step::Read(most, octets, marks) => read(rt, queue, *most, octets, marks),
@@ -76,7 +76,7 @@ static IN_PIECES: [Step; 11] = [
 fn a_message_is_read_in_pieces(rt: HostRuntime) -> Result<(), Fail> {
     let mut queue = Queue::with_room(rt.alloc(), 5)?;
     for step in &IN_PIECES {
-        take(&rt, &mut queue, step);
+        do_step(&rt, &mut queue, step);
     }
     assert!(rt; queue.len() == 5);
     assert!(rt; queue.free() == 0);
@@ -106,7 +106,7 @@ static MESSAGES_AND_RUNS: [Step; 12] = [
 fn a_piece_is_of_one_message_and_of_one_run(rt: HostRuntime) -> Result<(), Fail> {
     let mut queue = Queue::with_room(rt.alloc(), 12)?;
     for step in &MESSAGES_AND_RUNS {
-        take(&rt, &mut queue, step);
+        do_step(&rt, &mut queue, step);
     }
     assert!(rt; reads_nothing(&mut queue));
     Ok(())
@@ -126,7 +126,7 @@ fn a_queue_is_filled_and_read_for_long(rt: HostRuntime) -> Result<(), Fail> {
     assert!(rt; reads_nothing(&mut queue));
     for _ in 0..1000 {
         for step in &ROUND {
-            take(&rt, &mut queue, step);
+            do_step(&rt, &mut queue, step);
         }
     }
     assert!(rt; reads_nothing(&mut queue));

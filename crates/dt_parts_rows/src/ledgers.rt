@@ -30,7 +30,7 @@ fn has(marks: &[u8], mark: u8) -> bool {
 }
 
 fn is_taken(rows: &mut FlowRows, octets: &[u8]) -> bool {
-    rows.take(0, octets, true, true).is_ok()
+    rows.note_taken(0, octets, true, true).is_ok()
 }
 
 fn goes_out(rows: &mut FlowRows, count: u32, at: u32, place: u64) -> bool {

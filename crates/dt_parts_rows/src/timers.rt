@@ -32,7 +32,7 @@ fn has_first(deadlines: &Deadlines, first: Option<(u64, usize)>) -> bool {
     deadlines.first() == first
 }
 
-fn take(rt: &impl Abort, deadlines: &mut Deadlines, step: &Step) {
+fn do_step(rt: &impl Abort, deadlines: &mut Deadlines, step: &Step) {
     match step {
         Step::Hold(count) => hold(rt, deadlines, *count),
         Step::Set(place, moment) => set(rt, deadlines, *place, *moment),
@@ -60,7 +60,7 @@ static LESSER_PLACE: [Step; 12] = [
 fn the_first_is_the_least_moment_and_then_the_lesser_place(rt: HostRuntime) {
     let mut deadlines = Deadlines::new(rt.alloc());
     for step in &LESSER_PLACE {
-        take(&rt, &mut deadlines, step);
+        do_step(&rt, &mut deadlines, step);
     }
     assert!(rt; has_first(&deadlines, None));
 }

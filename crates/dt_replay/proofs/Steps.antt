@@ -11,7 +11,7 @@ use Rattle.dt_fold.specs.declared.stops.Stop.{Stop}
 use Rattle.dt_fold.specs.Logging.{TurnsTo}
 use Rattle.dt_world_model.specs.WorldStep.{Outcome, Stepped, WorldEvent, after_event, step_unless, world_step}
 use Rattle.dt_world.specs.Outcomes.{Answers, IsRefused, IsSpent}
-use Rattle.dt_world.specs.Tellers.{TellsAll}
+use Rattle.dt_world.specs.Reporters.{TellsAll}
 use Rattle.dt_world.specs.Worlds.{WorldValue}
 use Rattle.dt_scenario.specs.declared.logs.Log.{Log}
 use Rattle.dt_scenario.specs.Parts.{stepped}

@@ -48,7 +48,11 @@ impl Simulation for ScheduledWorld {
         Ok(ScheduledWorld { world, alloc })
     }
 
-    fn happen<K: Sink>(&mut self, line: &RunLine<'_>, out: &mut K) -> Result<Option<Fault>, Stop> {
+    fn apply_line<K: Sink>(
+        &mut self,
+        line: &RunLine<'_>,
+        out: &mut K,
+    ) -> Result<Option<Fault>, Stop> {
         match line {
             RunLine::World(line) => step(&mut self.world, &world_event(*line), out),
             RunLine::User(line) => self.use_node(line, out),

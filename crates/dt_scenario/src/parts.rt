@@ -80,7 +80,7 @@ impl<S: Simulation> Part<S> {
 
     /// Something happens in the simulation.
     #[tactic(auto, using(crate::proofs::Happenings::happening_turns))]
-    pub fn happen<K: Sink>(
+    pub fn simulate<K: Sink>(
         &mut self,
         line: &RunLine<'_>,
         out: &mut K,
@@ -89,7 +89,7 @@ impl<S: Simulation> Part<S> {
         ensures { TurnsTo K.sight (happens S.simulates (scene_of S.state self.old) (run_said line.now)) result (scene_of S.state self.old) (scene_of S.state self.new) out.old out.new }
     {
         match self {
-            Part::Running(simulation) => simulation.happen(line, out),
+            Part::Running(simulation) => simulation.apply_line(line, out),
             Part::Nothing | Part::Preparing(_) => Ok(Some(MISPLACED)),
         }
     }

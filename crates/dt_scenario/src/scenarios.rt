@@ -33,7 +33,11 @@ impl<S: Simulation> Scenario<S> {
     }
 
     /// Does what a line says that is allowed here.
-    fn does<K: Sink>(&mut self, line: &Line<'_>, out: &mut K) -> Result<Option<Fault>, Stop>
+    fn apply_allowed<K: Sink>(
+        &mut self,
+        line: &Line<'_>,
+        out: &mut K,
+    ) -> Result<Option<Fault>, Stop>
         requires in_form { IsLine S.simulates.form (said line.now) }
         ensures { TurnsTo K.sight (done_by S.simulates (scene_in S.state self.old) (said line.now)) result (scene_in S.state self.old) (scene_in S.state self.new) out.old out.new }
     {
@@ -43,7 +47,7 @@ impl<S: Simulation> Scenario<S> {
             Line::Params(params) => Ok(part.configure(self.alloc, params)),
             Line::Go => Ok(part.go(self.alloc)?),
             Line::Setup(line) => Ok(part.add(*line)?),
-            Line::Run(line) => part.happen(line, out),
+            Line::Run(line) => part.simulate(line, out),
             Line::Script(_) => Ok(Some(MISPLACED)),
         }
     }
@@ -65,7 +69,7 @@ impl<S: Simulation> LineTurns for Scenario<S> {
             Err(fault) => return Ok(Some(Fault::Line(fault))),
         };
         match follows(S::form(), self.part.stage(), &said) {
-            Some(_) => self.does(&said, out),
+            Some(_) => self.apply_allowed(&said, out),
             None => Ok(Some(MISPLACED)),
         }
     }

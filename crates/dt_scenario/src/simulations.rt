@@ -33,7 +33,11 @@ pub trait Simulation: Drop {
 
     /// Does what a line after `go` says, and logs its text; or says why it is refused, and changes
     /// and logs nothing then.
-    fn happen<K: Sink>(&mut self, line: &RunLine<'_>, out: &mut K) -> Result<Option<Fault>, Stop>
+    fn apply_line<K: Sink>(
+        &mut self,
+        line: &RunLine<'_>,
+        out: &mut K,
+    ) -> Result<Option<Fault>, Stop>
         requires { IsLineOf simulates (run_said line.now) }
         ensures { TurnsTo K.sight (simulates.does (state self.old) (run_said line.now)) result (state self.old) (state self.new) out.old out.new };
 

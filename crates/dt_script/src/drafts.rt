@@ -88,7 +88,7 @@ impl Draft {
     }
 
     /// Does what a line says that is allowed here.
-    fn does(&mut self, line: &Line<'_>) -> Result<Option<Fault>, NoMemory>
+    fn apply_allowed(&mut self, line: &Line<'_>) -> Result<Option<Fault>, NoMemory>
         requires in_form { IsLine OfScript (said line.now) }
         ensures { LeadsTo (done_by self.old (said line.now)) result self.old self.new }
     {
@@ -122,7 +122,7 @@ impl LineTurns for Draft {
             Err(fault) => return Ok(Some(Fault::Line(fault))),
         };
         match follows(Form::Script, self.part.stage(), &said) {
-            Some(_) => Ok(self.does(&said)?),
+            Some(_) => Ok(self.apply_allowed(&said)?),
             None => Ok(Some(MISPLACED)),
         }
     }

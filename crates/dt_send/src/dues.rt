@@ -27,7 +27,7 @@ pub fn due_first(now: u64, moments: &SendMoments) -> Option<(SendKind, u64)>
 }
 
 /// The lesser of two moments, of which each may be none.
-pub fn lesser(moment: Option<u64>, other: Option<u64>) -> Option<u64>
+pub fn earlier(moment: Option<u64>, other: Option<u64>) -> Option<u64>
     ensures { result ≡ earlier moment other }
 {
     match (moment, other) {
@@ -41,7 +41,7 @@ pub fn lesser(moment: Option<u64>, other: Option<u64>) -> Option<u64>
 pub fn least(moments: &SendMoments) -> Option<u64>
     ensures { result ≡ least_moment moments.now }
 {
-    let later = lesser(moments.send, moments.meet);
-    let later = lesser(moments.resend, later);
-    lesser(moments.give_up, lesser(moments.release, later))
+    let later = earlier(moments.send, moments.meet);
+    let later = earlier(moments.resend, later);
+    earlier(moments.give_up, earlier(moments.release, later))
 }

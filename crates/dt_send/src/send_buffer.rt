@@ -14,7 +14,7 @@ ghost use Rattle.dt_send.specs.declared.sent_segments.SentSegment.{SentSegment};
 ghost use Rattle.dt_send.specs.SentSegments.{IsPlaceOf, earlier_place, octets_in, segment_of};
 ghost use Rattle.dt_send.specs.SendBuffer.{Acts, IsSendBuffer, IsChosen, IsEndAt, record_of};
 
-use crate::dues::{due_first, lesser};
+use crate::dues::{due_first, earlier};
 use crate::numbering::{crosses, crossing_after, number_at};
 use crate::occasions::Occasion;
 use crate::octets::cut_at;
@@ -110,7 +110,7 @@ impl SendBuffer {
         while 0 < place {
             place -= 1;
             let stretch = stretch_at(&self.stretches, place);
-            first = lesser(stretch.resend_from(rules, now), first);
+            first = earlier(stretch.resend_from(rules, now), first);
         }
         first
     }

@@ -28,7 +28,7 @@ pub struct Parts {
 
 impl Parts {
     /// What the endpoint has told is heard, and waits no more.
-    pub fn hear(&mut self) -> Result<(), NoMemory>
+    pub fn hear_reports(&mut self) -> Result<(), NoMemory>
         ensures heard { OnOk result (node_in self.new ≡ hears (node_in self.old)) }
         ensures room { self.new.room.value ≡ self.old.room.value }
         ensures stops { OnErr result (HearingStops (node_in self.old) (node_in self.new)) }
@@ -56,7 +56,7 @@ impl Parts {
             return Ok(false);
         }
         let found = read_piece(&mut self.endpoint, now, *flow, &mut *self.room)?;
-        self.hear()?;
+        self.hear_reports()?;
         let Some(found) = found else {
             self.halves.done_with(flow);
             return Ok(false);

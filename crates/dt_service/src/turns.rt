@@ -44,7 +44,7 @@ impl Parts {
         ensures ended { OnOk result (node_in self.new ≡ turn_end now (hears (node_in self.old))) }
         ensures stops { OnErr result (RestStops now (node_in self.old) (node_in self.new)) }
     {
-        self.hear()?;
+        self.hear_reports()?;
         self.end_turn(now)
     }
 
@@ -121,7 +121,7 @@ impl Parts {
         let count = self.message.len() as u32;
         let deadline = self.endpoint.moment_at(now) + u64::from(patience);
         let refused = send_message(&mut self.endpoint, now, flow, &self.message)?;
-        self.hear()?;
+        self.hear_reports()?;
         self.keep_call(refused, flow, count, deadline)?;
         self.end_turn(now)?;
         Ok(made_of(refused, number))
@@ -147,7 +147,7 @@ impl Parts {
         write_message(token.number, payload, &mut self.message)?;
         let flow = reversed(token.flow);
         let refused = send_message(&mut self.endpoint, now, flow, &self.message)?;
-        self.hear()?;
+        self.hear_reports()?;
         self.drop_unless(refused, &token);
         self.end_turn(now)?;
         Ok(replied_of(refused))

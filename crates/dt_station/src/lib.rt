@@ -1,11 +1,11 @@
 //! One station: a host and a relay, and what they do in one event.
 #![tactic(auto)]
 
-mod arriving;
+mod arrivals;
 mod events;
 mod flushing;
-mod happening;
 mod laws;
+mod local_events;
 mod passing;
 mod stations;
 mod telling;

@@ -11,7 +11,7 @@ ghost use Rattle.dt_world_model.specs.Station.{Arrive, station_event, station_wa
 ghost use Rattle.dt_station.specs.Events.{LeavesBuffer, LeavesBufferHere, MayHappen, MayHappenHere, ReadsInto, ReadsIntoHere, event_seen, local_seen};
 ghost use Rattle.dt_station.specs.Stations.{host_started, is_spent_by, station_started, with_route};
 
-use crate::arriving::Came;
+use crate::arrivals::Arrival;
 use crate::events::{LocalEvent, StationEvent};
 use crate::visitor::Visitor;
 use dt_host::Host;
@@ -222,7 +222,7 @@ impl<P: Carry> Station<P> {
         ensures latest { self.new.latest ≡ now }
     {
         self.latest = Reading { ms: now };
-        let came = Came { link, frame, tag };
+        let came = Arrival { link, frame, tag };
         let ended = self.do_arrival::<V, Brand>(came, Blank::new(1), visitor);
         self.spent = ended.is_err();
         ended

@@ -32,7 +32,7 @@ pub fn has(count: usize, words: &Words<'_>) -> Result<(), LineFault>
     ensures value { result ≡ (if length words.now == count then Ok tt else Err LineFault.Count) }
     ensures count { OnOk result (length words.now ≡ count) }
 {
-    if words.are(count) {
+    if words.has_exactly(count) {
         Ok(())
     } else {
         Err(LineFault::Count)

@@ -19,7 +19,7 @@ fn has_parameters(words: &Words<'_>) -> Result<(), LineFault>
     ensures ok { OnOk result ((length words.now ≡ 11) ⊎ (length words.now ≡ 12)) }
     ensures err { IfErr result (λ fault. (fault ≡ LineFault.Count) × (length words.now ≢ 11) × (length words.now ≢ 12)) }
 {
-    if words.are(11) {
+    if words.has_exactly(11) {
         Ok(())
     } else {
         has(12, words)
@@ -30,7 +30,7 @@ fn has_parameters(words: &Words<'_>) -> Result<(), LineFault>
 fn start(words: &Words<'_>) -> Result<u32, LineFault>
     ensures { result ≡ (if length words.now == 12 then value_read rows.any_number (word 11 words.now) else Ok 0) }
 {
-    if words.are(12) {
+    if words.has_exactly(12) {
         number(words.word(11))
     } else {
         Ok(0)
@@ -348,7 +348,7 @@ macro_rules! by_world_name {
 fn at_line<'a>(words: &Words<'a>) -> Result<Line<'a>, LineFault>
     ensures { ReadAs result (said_at words.now) }
 {
-    if words.are_fewer(3) {
+    if words.has_fewer_than(3) {
         return Err(LineFault::Count);
     }
     let name = words.word(2);

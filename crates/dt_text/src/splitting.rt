@@ -83,7 +83,7 @@ impl<'a> Words<'a> {
     }
 
     /// Whether there are as many words as that, which are at most [`MOST_WORDS`].
-    pub fn are(&self, count: usize) -> bool
+    pub fn has_exactly(&self, count: usize) -> bool
         requires { count ≤ MOST_WORDS }
         ensures { IsTrue result ↔ (length self.now ≡ count) }
     {
@@ -91,7 +91,7 @@ impl<'a> Words<'a> {
     }
 
     /// Whether there are fewer words than that, which are at most [`MOST_WORDS`].
-    pub fn are_fewer(&self, count: usize) -> bool
+    pub fn has_fewer_than(&self, count: usize) -> bool
         requires { count ≤ MOST_WORDS }
         ensures { IsTrue result ↔ (length self.now < count) }
     {

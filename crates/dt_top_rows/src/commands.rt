@@ -21,7 +21,7 @@ fn said_of(status: u8) -> &'static [u8] {
 }
 
 /// Whether words do so with an input.
-fn does<'a>(alloc: Global, words: &'a [&'a str], input: &'a str, status: u8, out: &str) -> bool {
+fn ends_as<'a>(alloc: Global, words: &'a [&'a str], input: &'a str, status: u8, out: &str) -> bool {
     let trial = Trial {
         words,
         input: input.as_bytes(),
@@ -155,8 +155,8 @@ const SCHEDULES: [(&str, &str, &str, u8); 15] = [
 fn worked_schedules(rt: HostRuntime) -> Result<(), Fail> {
     for (params, rest, log, status) in &SCHEDULES {
         let input = joined(rt.alloc(), &[*params, SETUP, *rest])?;
-        let does = does(rt.alloc(), &["replay"], input.as_str(), *status, log);
-        assert!(rt; does, "after {rest:?}");
+        let ends = ends_as(rt.alloc(), &["replay"], input.as_str(), *status, log);
+        assert!(rt; ends, "after {rest:?}");
     }
     Ok(())
 }
@@ -187,7 +187,7 @@ const INPUTS: [(&str, &str, &str, u8); 7] = [
 fn worked_inputs(rt: HostRuntime) {
     for (command, input, out, status) in &INPUTS {
         assert!(rt;
-            does(rt.alloc(), &[*command], input, *status, out),
+            ends_as(rt.alloc(), &[*command], input, *status, out),
             "{command} of {input:?}"
         );
     }
@@ -452,7 +452,7 @@ fn a_trace_is_run_again(rt: HostRuntime) -> Result<(), Fail> {
     assert!(rt; ends(rt.alloc(), &trace, 0, TRACE.as_bytes(), b""));
     let input = joined(rt.alloc(), &[SCRIPT, "trace\n", TRACE])?;
     let log = joined(rt.alloc(), &[SENDS, "0 1 unsent 1\nend 100\n"])?;
-    assert!(rt; does(rt.alloc(), &["retrace"], input.as_str(), 0, log.as_str()));
+    assert!(rt; ends_as(rt.alloc(), &["retrace"], input.as_str(), 0, log.as_str()));
     let closed = joined(rt.alloc(), &[SCRIPT, "trace\n! 0\n"])?;
     let retrace = Trial {
         words: &["retrace"],
@@ -484,14 +484,14 @@ fn calls_are_made(rt: HostRuntime) -> Result<(), Fail> {
     for (more, rest, status) in &CALLS {
         let input = joined(rt.alloc(), &[PARAMS, SETUP, CALL, *more])?;
         let text = joined(rt.alloc(), &[CALL_TEXT, *rest])?;
-        let does = does(
+        let ends = ends_as(
             rt.alloc(),
             &["calls"],
             input.as_str(),
             *status,
             text.as_str(),
         );
-        assert!(rt; does, "after {more:?}");
+        assert!(rt; ends, "after {more:?}");
     }
     Ok(())
 }

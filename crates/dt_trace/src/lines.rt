@@ -107,7 +107,7 @@ fn octets_line<'a>(words: &Words<'a>) -> Result<Line<'a>, LineFault>
 fn take_line<'a>(words: &Words<'a>) -> Result<Line<'a>, LineFault>
     ensures { ReadsAs result (take_said words.now) }
 {
-    if words.are_fewer(2) {
+    if words.has_fewer_than(2) {
         return Err(LineFault::Count);
     }
     let found = words.word(1);
@@ -115,7 +115,7 @@ fn take_line<'a>(words: &Words<'a>) -> Result<Line<'a>, LineFault>
         nothing_line(words)
     } else if is(found, "x") {
         failed_line(words)
-    } else if words.are(2) {
+    } else if words.has_exactly(2) {
         empty_line(words)
     } else {
         octets_line(words)

@@ -12,7 +12,7 @@ ghost use Rattle.dt_turn.specs.Codes.{GoesOn, MayGo, came_seen, next_seen};
 ghost use Rattle.dt_turn.specs.Hearing.{heard_in};
 ghost use Rattle.dt_turn.specs.Shelving.{arrive, data_number, datagram, early_number, fetch, first_round, hold_if, inside, is_early, plain, round, round_with, rounds};
 
-use crate::heard::{Heard, hear};
+use crate::heard::{Heard, hear_arrival};
 use crate::nodes::Dock;
 use dt_items::NoMemory;
 use dt_layout::{Deltagram, Frame, Packet, read_deltagram, read_packet};
@@ -147,7 +147,7 @@ fn answer<V: Visitor<Frame>>(
     ensures memory { OnErr result (dock.new.station.spent ≡ true) }
 {
     copy(&came.frame, &mut dock.frame);
-    hear(dock, came.link, now, visitor)
+    hear_arrival(dock, came.link, now, visitor)
 }
 
 /// Copies a frame into another.

@@ -26,7 +26,7 @@ use dt_station::{InLink, LocalEvent, Station, Visitor};
 use dt_text::Task;
 
 /// One event of the station, before a visitor.
-fn happen<V: Visitor<Frame>>(
+fn do_event<V: Visitor<Frame>>(
     station: &mut Station<Frame>,
     event: LocalEvent<'_>,
     buf: &mut [u8],
@@ -137,12 +137,12 @@ fn do_task<V: Visitor<Frame>>(
                 begin: *begin,
                 end: *end,
             };
-            happen(station, event, &mut [], now, visitor)
+            do_event(station, event, &mut [], now, visitor)
         }
         Task::Read { flow, max } => {
             let room = *max as usize;
             let event = LocalEvent::Read { flow: *flow };
-            happen(station, event, &mut buf[..room], now, visitor)
+            do_event(station, event, &mut buf[..room], now, visitor)
         }
     }
 }
@@ -205,7 +205,7 @@ fn tick<V: Visitor<Frame>>(
     if !is_due(station.wake(), now) {
         return Ok(());
     }
-    happen(station, LocalEvent::Tick, &mut [], now, visitor)
+    do_event(station, LocalEvent::Tick, &mut [], now, visitor)
 }
 
 /// Ends the run where the stop is due, and ticks else. It says whether the stop was due.

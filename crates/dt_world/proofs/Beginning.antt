@@ -18,7 +18,7 @@ use Rattle.dt_world_model.specs.WorldFacts.{WorldFacts}
 use Rattle.dt_world_laws.proofs.Starts.{new_world_facts}
 use Rattle.dt_world.specs.declared.notes.Notes.{Notes}
 use Rattle.dt_world.specs.declared.parts.Parts.{Parts}
-use Rattle.dt_world.specs.declared.placed.PlacedStation.{PlacedStation}
+use Rattle.dt_world.specs.declared.placed_stations.PlacedStation.{PlacedStation}
 use Rattle.dt_world.specs.Notes.{ledgers_seen}
 use Rattle.dt_world.specs.Setups.{AreNumbered, links_of}
 use Rattle.dt_world.specs.Starts.{begun_stations}

@@ -21,7 +21,7 @@ use Rattle.dt_world_laws.proofs.Sending.{settle_bounded}
 use Rattle.dt_world_laws.proofs.Worlds.{placed_is}
 use Rattle.dt_station.specs.Events.{MaySend}
 use Rattle.dt_world.specs.declared.parts.Parts.{Parts}
-use Rattle.dt_world.specs.declared.placed.PlacedStation.{PlacedStation}
+use Rattle.dt_world.specs.declared.placed_stations.PlacedStation.{PlacedStation}
 use Rattle.dt_world.specs.Outcomes.{HasStopped}
 use Rattle.dt_world.specs.Stopping.{CameTo, ComesAt}
 use Rattle.dt_world.specs.Worlds.{IsWhole, placed_seen, stations_seen, world_seen}

@@ -13,7 +13,7 @@ use Rattle.dt_world_model.specs.Station.{Station, station_with}
 use Rattle.dt_world_model.specs.Tables.{AllEntries, look, write}
 use Rattle.dt_world_model.specs.World.{Placed, World}
 use Rattle.dt_world_model.specs.WorldStep.{Restarts, after_event, noted_at, restart_at, restarted}
-use Rattle.dt_world.specs.declared.placed.PlacedStation.{PlacedStation}
+use Rattle.dt_world.specs.declared.placed_stations.PlacedStation.{PlacedStation}
 use Rattle.dt_world.specs.declared.events.Event.{Event}
 use Rattle.dt_world.specs.declared.events.Event.TheVariants as event
 use Rattle.dt_world.specs.declared.parts.Parts.{Parts}

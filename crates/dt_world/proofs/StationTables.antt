@@ -11,7 +11,7 @@ use Rattle.dt_world_model.specs.Station.{station_with}
 use Rattle.dt_world_model.specs.World.{Placed, World, placed}
 use Rattle.dt_world_model.proofs.Tables.{nat_is}
 use Rattle.dt_world.specs.declared.parts.Parts.{Parts}
-use Rattle.dt_world.specs.declared.placed.PlacedStation.{PlacedStation}
+use Rattle.dt_world.specs.declared.placed_stations.PlacedStation.{PlacedStation}
 use Rattle.dt_world.specs.Worlds.{placed_seen, stations_seen, world_seen}
 
 either_way : (m n : ℕ) → (m == n) ≡ (n == m)

@@ -11,5 +11,5 @@ pub mod Setups
 pub mod Starts
 pub mod Steps
 pub mod Stopping
-pub mod Tellers
+pub mod Reporters
 pub mod Worlds

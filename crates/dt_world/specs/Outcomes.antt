@@ -10,7 +10,7 @@ use Rattle.dt_world_model.specs.World.{Noted, World, view}
 use Rattle.dt_world_model.specs.WorldFacts.{SafeLedgers, SafeWorld, WorldFacts}
 use Rattle.dt_world_model.specs.WorldStep.{Refused, Stepped, WorldEvent, after_event, first_refusal, refusals, world_step}
 use Rattle.dt_world.specs.Stopping.{ComesTo, HasNoted, IsAtItsEnd, KeepsLedger, MayStop}
-use Rattle.dt_world.specs.Tellers.{TellsAll}
+use Rattle.dt_world.specs.Reporters.{TellsAll}
 use Rattle.dt_world.specs.Worlds.{WorldValue}
 
 module _ {L : Type 0} (tells : L → Entry → L → Type 0) where

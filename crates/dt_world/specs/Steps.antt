@@ -11,35 +11,35 @@ use Rattle.dt_world_model.specs.WorldStep.{items_with, occasion}
 use Rattle.dt_world_laws.specs.Visits.{IsOnTheWay}
 use Rattle.dt_world.specs.declared.notes.Notes.{Notes}
 use Rattle.dt_world.specs.declared.occasions.Brought.{Brought}
-use Rattle.dt_world.specs.declared.tellers.Teller.{Teller}
+use Rattle.dt_world.specs.declared.reporters.Reporter.{Reporter}
 use Rattle.dt_world.specs.Notes.{ledgers_seen}
 use Rattle.dt_world.specs.Occasions.{items_in}
-use Rattle.dt_world.specs.Tellers.{TellsAll, copies_of, ledgers_of, occasion_of}
+use Rattle.dt_world.specs.Reporters.{TellsAll, copies_of, ledgers_of, occasion_of}
 
 module _ {L : Type 0} (tells : L → Entry → L → Type 0) where
   -- A TELLER IS SEEN as what the world notes, since lines were first told to who is told them.
-  pub record Sees (first : L) (o : ledgers.Occasion) (s : Teller L) (d : Noted) : Type 0 where
+  pub record Sees (first : L) (o : ledgers.Occasion) (s : Reporter L) (d : Noted) : Type 0 where
     pub ledgers : ledgers_of s ≡ d.ledgers
     pub copies : copies_of s ≡ d.copies
     pub lines : TellsAll tells d.lines first s.lines.now
     pub occasion : occasion_of s ≡ o
 
-  -- the script of an event was played before the teller: to its end, or it was seen at a state on the way
-  pub record PlayedAll (o : ledgers.Occasion) (script : Script Mark (Station Mark)) (d : Noted) (first : L) (s : Teller L) (after : Station Mark) : Type 0 where
+  -- the script of an event was played before the reporter: to its end, or it was seen at a state on the way
+  pub record PlayedAll (o : ledgers.Occasion) (script : Script Mark (Station Mark)) (d : Noted) (first : L) (s : Reporter L) (after : Station Mark) : Type 0 where
     pub seen : Sees first o s (play (world_handler o) script d).0
     pub station : (play (world_handler o) script d).1 ≡ after
 
-  pub record PlayedPart (o : ledgers.Occasion) (script : Script Mark (Station Mark)) (d : Noted) (first : L) (s : Teller L) : Type 0 where
+  pub record PlayedPart (o : ledgers.Occasion) (script : Script Mark (Station Mark)) (d : Noted) (first : L) (s : Reporter L) : Type 0 where
     pub at : Noted
     pub seen : Sees first o s at
     pub on_the_way : IsOnTheWay (world_handler o) script d at
 
-  abbrev pub Played : {U E : Type 0} → Result U E → ledgers.Occasion → Script Mark (Station Mark) → Noted → L → Teller L → Station Mark → Type 0
+  abbrev pub Played : {U E : Type 0} → Result U E → ledgers.Occasion → Script Mark (Station Mark) → Noted → L → Reporter L → Station Mark → Type 0
   Played (Ok done) o script d first s after = PlayedAll o script d first s after
   Played (Err e) o script d first s after = PlayedPart o script d first s
 
 -- what the world has noted as an event begins: no line of it
-abbrev pub noted_first : {L : Type 0} → Teller L → Noted
+abbrev pub noted_first : {L : Type 0} → Reporter L → Noted
 noted_first s = record { ledgers = ledgers_of s; copies = copies_of s; lines = [] }
 
 -- The occasion of an event at a station of such a life, with what the event brings.

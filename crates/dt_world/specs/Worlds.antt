@@ -9,7 +9,7 @@ use Rattle.dt_world_model.specs.WorldFacts.{WorldFacts}
 use Rattle.dt_world_model.specs.WorldStep.{Arrives, Loses, Passes, Reads, Restarts, Sends, Ticks, WorldEvent}
 use Rattle.dt_world.specs.declared.events.Event.{Event}
 use Rattle.dt_world.specs.declared.events.Event.TheVariants as event
-use Rattle.dt_world.specs.declared.placed.PlacedStation.{PlacedStation}
+use Rattle.dt_world.specs.declared.placed_stations.PlacedStation.{PlacedStation}
 use Rattle.dt_world.specs.declared.parts.Parts.{Parts}
 use Rattle.dt_world.specs.Notes.{ledgers_seen}
 use Rattle.dt_world.specs.Setups.{AreNumbered, links_of}

@@ -50,7 +50,7 @@ pub fn change(
     ensures memory { OnErr result (IsNew flow.now (ledgers_seen notes.old) ⊎ WantsRoom occasion.entry.now (change_seen change) (ledger_of (ledgers_seen notes.old) flow.now) ⊎ IsBeyond occasion.entry.now (change_seen change) (ledger_of (ledgers_seen notes.old) flow.now)) }
 {
     match change {
-        Change::Takes => take(notes, occasion, flow),
+        Change::Takes => take_octets(notes, occasion, flow),
         Change::Accepts { run } => accept(notes, occasion, flow, run),
         Change::ReadsOut { count } => read(notes, occasion, flow, count),
         Change::Transmits { count } => {
@@ -60,7 +60,7 @@ pub fn change(
         }
         Change::TransmitsAgain => {
             begin(notes, flow)?;
-            go_on(notes, occasion, flow);
+            retransmit(notes, occasion, flow);
             Ok(())
         }
         Change::GivesUp { count } => {
@@ -70,7 +70,7 @@ pub fn change(
         }
         Change::Settles { count } => {
             begin(notes, flow)?;
-            settle(notes, occasion, flow, count);
+            acknowledge(notes, occasion, flow, count);
             Ok(())
         }
     }
@@ -114,7 +114,7 @@ fn begin_run(runs: &mut Runs, flow: &Flow)
 }
 
 /// The flow takes the octets of the event.
-fn take(notes: &mut Notes, occasion: &Occasion<'_>, flow: &Flow) -> Result<(), NoMemory>
+fn take_octets(notes: &mut Notes, occasion: &Occasion<'_>, flow: &Flow) -> Result<(), NoMemory>
     ensures ok { OnOk result (ledgers_seen notes.new ≡ ledgers_by (occasion_seen occasion.entry.now) (Changes flow.now Takes) (ledgers_seen notes.old)) }
     ensures err { OnErr result (ledgers_seen notes.new ≡ ledgers_seen notes.old) }
     ensures copies { notes.new.copies ≡ notes.old.copies }
@@ -145,7 +145,7 @@ fn transmit(notes: &mut Notes, occasion: &Occasion<'_>, flow: &Flow, count: u32)
 }
 
 /// Something of the flow's run goes out again.
-fn go_on(notes: &mut Notes, occasion: &Occasion<'_>, flow: &Flow)
+fn retransmit(notes: &mut Notes, occasion: &Occasion<'_>, flow: &Flow)
     requires there { IsThere flow.now (ledgers_seen notes.old) }
     ensures becomes { ledgers_seen notes.new ≡ ledgers_by (occasion_seen occasion.entry.now) (Changes flow.now TransmitsAgain) (ledgers_seen notes.old) }
     ensures copies { notes.new.copies ≡ notes.old.copies }
@@ -153,7 +153,7 @@ fn go_on(notes: &mut Notes, occasion: &Occasion<'_>, flow: &Flow)
     let Some(run) = notes.runs.get_mut(flow) else {
         unreachable!();
     };
-    run.go_on(occasion.now);
+    run.retransmit(occasion.now);
 }
 
 /// The leftmost open octets of the present life, so many, are given up.
@@ -169,7 +169,7 @@ fn give_up(notes: &mut Notes, occasion: &Occasion<'_>, flow: &Flow, count: u32)
 }
 
 /// The leftmost open octets of the present life, so many, are acknowledged.
-fn settle(notes: &mut Notes, occasion: &Occasion<'_>, flow: &Flow, count: u32)
+fn acknowledge(notes: &mut Notes, occasion: &Occasion<'_>, flow: &Flow, count: u32)
     requires there { IsThere flow.now (ledgers_seen notes.old) }
     ensures becomes { ledgers_seen notes.new ≡ ledgers_by (occasion_seen occasion.entry.now) (Changes flow.now (Settles count)) (ledgers_seen notes.old) }
     ensures copies { notes.new.copies ≡ notes.old.copies }

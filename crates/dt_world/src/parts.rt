@@ -12,9 +12,9 @@ ghost use Rattle.dt_world.specs.Worlds.{IsStationOf, IsWhole, world_seen};
 
 use crate::notes::Notes;
 use crate::occasions::{Brought, Occasion};
-use crate::placed::{PlacedStation, happen};
 use crate::placed_events::PlacedEvent;
-use crate::tellers::Lines;
+use crate::placed_stations::{PlacedStation, deliver_to_station};
+use crate::reporters::Lines;
 use dt_items::NoMemory;
 use dt_units::Rules;
 use dt_world_model::Link;
@@ -64,7 +64,7 @@ pub fn event_at<L: Lines>(
                 life: placed.life,
                 brought,
             };
-            happen(placed, event, occasion, &mut parts.notes, lines)
+            deliver_to_station(placed, event, occasion, &mut parts.notes, lines)
         }
     }
 }

@@ -64,7 +64,7 @@ impl FlowRun {
     pub fn transmit(&mut self, rules: &Rules, place: u64, now: u64)
         ensures { self.new ≡ record { run = run_told rules.now place now self.old.run; crossings = crossings_told rules.now place now self.old.run self.old.crossings } }
     {
-        let run = told(rules, place, now, self.run);
+        let run = run_after(rules, place, now, self.run);
         self.run = run;
         if is_crossing(rules, place.saturating_sub(base_in(run))) {
             self.third = self.second;
@@ -74,15 +74,15 @@ impl FlowRun {
     }
 
     /// Something of the run goes out again at `now`.
-    pub fn go_on(&mut self, now: u64)
+    pub fn retransmit(&mut self, now: u64)
         ensures { self.new ≡ record self.old { run = run_goes_on now self.old.run } }
     {
-        self.run = gone_on(now, self.run);
+        self.run = sent_again(now, self.run);
     }
 }
 
 /// The run after a first transmission.
-fn told(rules: &Rules, place: u64, now: u64, run: Option<Run>) -> Option<Run>
+fn run_after(rules: &Rules, place: u64, now: u64, run: Option<Run>) -> Option<Run>
     ensures { run_seen result ≡ run_told rules.now place now (run_seen run) }
 {
     if begins(rules, now, run) {
@@ -92,7 +92,7 @@ fn told(rules: &Rules, place: u64, now: u64, run: Option<Run>) -> Option<Run>
             sent: now,
         })
     } else {
-        gone_on(now, run)
+        sent_again(now, run)
     }
 }
 
@@ -106,7 +106,7 @@ fn begins(rules: &Rules, now: u64, run: Option<Run>) -> bool
     }
 }
 
-fn gone_on(now: u64, run: Option<Run>) -> Option<Run>
+fn sent_again(now: u64, run: Option<Run>) -> Option<Run>
     ensures { run_seen result ≡ run_goes_on now (run_seen run) }
 {
     match run {

@@ -6,7 +6,7 @@ ghost use Rattle.dt_world.specs.Setups.{links_of, stated_routes};
 ghost use Rattle.dt_world.specs.Starts.{begun_stations};
 ghost use Rattle.dt_world.specs.Worlds.{IsStationOf, placed_seen, stations_seen};
 
-use crate::placed::{PlacedStation, Plan, start_first};
+use crate::placed_stations::{PlacedStation, Plan, start_first};
 use crate::setups::Setup;
 use dt_items::NoMemory;
 use dt_station::{InLink, OutLink, Route};

@@ -16,14 +16,14 @@ use crate::events::Event;
 use crate::notes::stays_below;
 use crate::occasions::MarkedOctets;
 use crate::parts::Parts;
-use crate::tellers::Lines;
+use crate::reporters::Lines;
 use dt_items::NoMemory;
 use dt_layout::Frame;
 use dt_units::Flow;
 
 /// The event happens. `NoMemory` comes also where a count would pass its end: 2^62 octets of a flow,
 /// 2^32 lives of a station, a moment of 2^61 ms.
-pub fn happen<L: Lines>(
+pub fn apply_event<L: Lines>(
     parts: &mut Parts,
     event: &Event<'_>,
     buf: &mut [u8],

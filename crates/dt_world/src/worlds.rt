@@ -12,10 +12,10 @@ use crate::events::Event;
 use crate::notes::Notes;
 use crate::parts::Parts;
 use crate::refusals::{has_station, refusal};
+use crate::reporters::Lines;
 use crate::setups::Setup;
 use crate::starts::{first_stations, same_links};
-use crate::steps::happen;
-use crate::tellers::Lines;
+use crate::steps::apply_event;
 use dt_items::NoMemory;
 use dt_layout::Frame;
 use dt_ledger::Ledger;
@@ -131,7 +131,7 @@ impl World {
         if let Some(fault) = refusal(&self.parts, event) {
             return Err(fault);
         }
-        match happen(
+        match apply_event(
             &mut self.parts,
             event,
             &mut self.buf,

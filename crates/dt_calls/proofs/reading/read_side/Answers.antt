@@ -14,17 +14,17 @@ loop-parts-init g c =
 
 pub returns-then-is_none-clause-goes : goal.returns-then-is_none-clause-goes
 returns-then-is_none-clause-goes g c =
-    let one = one_read g.L.CallLines.tells (g.H.Handler.answer c.args.parts.now.handler) (side_seen c.args.side) c.args.flow.now c.args.parts.now c.args.lines.now c.loop-parts.parts c.loop-parts.lines c.loop-parts.invariant c.flow_read.result c.happen.new.world c.happen.new.heard c.flow_read.ensures.flow c.flow_read.ensures.range c.in_ok-happen.ensures in
-    reading_ends one (piece_lost _ c.piece.result c.happen.new.heard.piece c.piece.ensures c.if-is_none.ensures)
+    let one = one_read g.L.CallLines.tells (g.H.Handler.answer c.args.parts.now.handler) (side_seen c.args.side) c.args.flow.now c.args.parts.now c.args.lines.now c.loop-parts.parts c.loop-parts.lines c.loop-parts.invariant c.flow_read.result c.try_event.new.world c.try_event.new.heard c.flow_read.ensures.flow c.flow_read.ensures.range c.in_ok-try_event.ensures in
+    reading_ends one (piece_lost _ c.piece.result c.try_event.new.heard.piece c.piece.ensures c.if-is_none.ensures)
 
 pub returns-then-is_none-clause-whole : goal.returns-then-is_none-clause-whole
 returns-then-is_none-clause-whole g c =
-    let one = one_read g.L.CallLines.tells (g.H.Handler.answer c.args.parts.now.handler) (side_seen c.args.side) c.args.flow.now c.args.parts.now c.args.lines.now c.loop-parts.parts c.loop-parts.lines c.loop-parts.invariant c.flow_read.result c.happen.new.world c.happen.new.heard c.flow_read.ensures.flow c.flow_read.ensures.range c.in_ok-happen.ensures in
+    let one = one_read g.L.CallLines.tells (g.H.Handler.answer c.args.parts.now.handler) (side_seen c.args.side) c.args.flow.now c.args.parts.now c.args.lines.now c.loop-parts.parts c.loop-parts.lines c.loop-parts.invariant c.flow_read.result c.try_event.new.world c.try_event.new.heard c.flow_read.ensures.flow c.flow_read.ensures.range c.in_ok-try_event.ensures in
     whole_read one
 
 pub returns-in_err-take_message-clause-goes : goal.returns-in_err-take_message-clause-goes
 returns-in_err-take_message-clause-goes g c =
-    let one = one_read g.L.CallLines.tells (g.H.Handler.answer c.args.parts.now.handler) (side_seen c.args.side) c.args.flow.now c.args.parts.now c.args.lines.now c.loop-parts.parts c.loop-parts.lines c.loop-parts.invariant c.flow_read.result c.happen.new.world c.happen.new.heard c.flow_read.ensures.flow c.flow_read.ensures.range c.in_ok-happen.ensures in
+    let one = one_read g.L.CallLines.tells (g.H.Handler.answer c.args.parts.now.handler) (side_seen c.args.side) c.args.flow.now c.args.parts.now c.args.lines.now c.loop-parts.parts c.loop-parts.lines c.loop-parts.invariant c.flow_read.result c.try_event.new.world c.try_event.new.heard c.flow_read.ensures.flow c.flow_read.ensures.range c.in_ok-try_event.ensures in
     let j = c.in_ok-message.ensures.joined in
     let some = ap (option_map (λ m. m.items)) c.in-Some.is ∙ ap (λ (os : List ℕ). Some os) (sym c.deref.ensures.value) in
     let stop = taken_by one c.join.new.parts _ j g.H.Handler.answer refl (λ a o. HasStopped g.L.CallLines.tells (take_whole a (side_seen c.args.side) c.args.flow.now o) (calls_seen c.join.new.parts) c.loop-parts.lines c.take_message.new.lines) c.deref.result.now some c.in_err-take_message.ensures.goes in
@@ -34,18 +34,18 @@ returns-in_err-take_message-clause-goes g c =
 
 pub take_message-requires-clause-served : goal.take_message-requires-clause-served
 take_message-requires-clause-served g c =
-    let one = one_read g.L.CallLines.tells (g.H.Handler.answer c.args.parts.now.handler) (side_seen c.args.side) c.args.flow.now c.args.parts.now c.args.lines.now c.loop-parts.parts c.loop-parts.lines c.loop-parts.invariant c.flow_read.result c.happen.new.world c.happen.new.heard c.flow_read.ensures.flow c.flow_read.ensures.range c.in_ok-happen.ensures in
+    let one = one_read g.L.CallLines.tells (g.H.Handler.answer c.args.parts.now.handler) (side_seen c.args.side) c.args.flow.now c.args.parts.now c.args.lines.now c.loop-parts.parts c.loop-parts.lines c.loop-parts.invariant c.flow_read.result c.try_event.new.world c.try_event.new.heard c.flow_read.ensures.flow c.flow_read.ensures.range c.in_ok-try_event.ensures in
     still_served_once one c.join.new.parts _ c.in_ok-message.ensures.joined
 
 pub take_message-requires-clause-short : goal.take_message-requires-clause-short
 take_message-requires-clause-short g c =
-    let one = one_read g.L.CallLines.tells (g.H.Handler.answer c.args.parts.now.handler) (side_seen c.args.side) c.args.flow.now c.args.parts.now c.args.lines.now c.loop-parts.parts c.loop-parts.lines c.loop-parts.invariant c.flow_read.result c.happen.new.world c.happen.new.heard c.flow_read.ensures.flow c.flow_read.ensures.range c.in_ok-happen.ensures in
+    let one = one_read g.L.CallLines.tells (g.H.Handler.answer c.args.parts.now.handler) (side_seen c.args.side) c.args.flow.now c.args.parts.now c.args.lines.now c.loop-parts.parts c.loop-parts.lines c.loop-parts.invariant c.flow_read.result c.try_event.new.world c.try_event.new.heard c.flow_read.ensures.flow c.flow_read.ensures.range c.in_ok-try_event.ensures in
     let some = ap (option_map (λ m. m.items)) c.in-Some.is ∙ ap (λ (os : List ℕ). Some os) (sym c.deref.ensures.value) in
     message_is_short one c.join.new.parts _ c.in_ok-message.ensures.joined c.deref.result.now some
 
 pub loop-parts-smaller-in-Some : goal.loop-parts-smaller-in-Some
 loop-parts-smaller-in-Some g c =
-    let one = one_read g.L.CallLines.tells (g.H.Handler.answer c.args.parts.now.handler) (side_seen c.args.side) c.args.flow.now c.args.parts.now c.args.lines.now c.loop-parts.parts c.loop-parts.lines c.loop-parts.invariant c.flow_read.result c.happen.new.world c.happen.new.heard c.flow_read.ensures.flow c.flow_read.ensures.range c.in_ok-happen.ensures in
+    let one = one_read g.L.CallLines.tells (g.H.Handler.answer c.args.parts.now.handler) (side_seen c.args.side) c.args.flow.now c.args.parts.now c.args.lines.now c.loop-parts.parts c.loop-parts.lines c.loop-parts.invariant c.flow_read.result c.try_event.new.world c.try_event.new.heard c.flow_read.ensures.flow c.flow_read.ensures.range c.in_ok-try_event.ensures in
     let j = c.in_ok-message.ensures.joined in
     let some = ap (option_map (λ m. m.items)) c.in-Some.is ∙ ap (λ (os : List ℕ). Some os) (sym c.deref.ensures.value) in
     let gone = taken_by one c.join.new.parts _ j g.H.Handler.answer refl (λ a o. HasGoneOn g.L.CallLines.tells (take_whole a (side_seen c.args.side) c.args.flow.now o) (calls_seen c.join.new.parts) c.loop-parts.lines c.take_message.new.lines (calls_seen c.take_message.new.parts)) c.deref.result.now some c.in_ok-take_message.ensures.goes in
@@ -53,7 +53,7 @@ loop-parts-smaller-in-Some g c =
 
 pub loop-parts-preserved-in-Some : goal.loop-parts-preserved-in-Some
 loop-parts-preserved-in-Some g c =
-    let one = one_read g.L.CallLines.tells (g.H.Handler.answer c.args.parts.now.handler) (side_seen c.args.side) c.args.flow.now c.args.parts.now c.args.lines.now c.loop-parts.parts c.loop-parts.lines c.loop-parts.invariant c.flow_read.result c.happen.new.world c.happen.new.heard c.flow_read.ensures.flow c.flow_read.ensures.range c.in_ok-happen.ensures in
+    let one = one_read g.L.CallLines.tells (g.H.Handler.answer c.args.parts.now.handler) (side_seen c.args.side) c.args.flow.now c.args.parts.now c.args.lines.now c.loop-parts.parts c.loop-parts.lines c.loop-parts.invariant c.flow_read.result c.try_event.new.world c.try_event.new.heard c.flow_read.ensures.flow c.flow_read.ensures.range c.in_ok-try_event.ensures in
     let j = c.in_ok-message.ensures.joined in
     let some = ap (option_map (λ m. m.items)) c.in-Some.is ∙ ap (λ (os : List ℕ). Some os) (sym c.deref.ensures.value) in
     let gone = taken_by one c.join.new.parts _ j g.H.Handler.answer refl (λ a o. HasGoneOn g.L.CallLines.tells (take_whole a (side_seen c.args.side) c.args.flow.now o) (calls_seen c.join.new.parts) c.loop-parts.lines c.take_message.new.lines (calls_seen c.take_message.new.parts)) c.deref.result.now some c.in_ok-take_message.ensures.goes in
@@ -62,14 +62,14 @@ loop-parts-preserved-in-Some g c =
 
 pub loop-parts-smaller : goal.loop-parts-smaller
 loop-parts-smaller g c =
-    let one = one_read g.L.CallLines.tells (g.H.Handler.answer c.args.parts.now.handler) (side_seen c.args.side) c.args.flow.now c.args.parts.now c.args.lines.now c.loop-parts.parts c.loop-parts.lines c.loop-parts.invariant c.flow_read.result c.happen.new.world c.happen.new.heard c.flow_read.ensures.flow c.flow_read.ensures.range c.in_ok-happen.ensures in
+    let one = one_read g.L.CallLines.tells (g.H.Handler.answer c.args.parts.now.handler) (side_seen c.args.side) c.args.flow.now c.args.parts.now c.args.lines.now c.loop-parts.parts c.loop-parts.lines c.loop-parts.invariant c.flow_read.result c.try_event.new.world c.try_event.new.heard c.flow_read.ensures.flow c.flow_read.ensures.range c.in_ok-try_event.ensures in
     let j = c.in_ok-message.ensures.joined in
     let none = none_taken one c.join.new.parts _ j (ap (option_map (λ m. m.items)) c.in_default.is) in
     reading_falls one c.join.new.parts _ j c.loop-parts.lines c.join.new.parts none
 
 pub loop-parts-preserved : goal.loop-parts-preserved
 loop-parts-preserved g c =
-    let one = one_read g.L.CallLines.tells (g.H.Handler.answer c.args.parts.now.handler) (side_seen c.args.side) c.args.flow.now c.args.parts.now c.args.lines.now c.loop-parts.parts c.loop-parts.lines c.loop-parts.invariant c.flow_read.result c.happen.new.world c.happen.new.heard c.flow_read.ensures.flow c.flow_read.ensures.range c.in_ok-happen.ensures in
+    let one = one_read g.L.CallLines.tells (g.H.Handler.answer c.args.parts.now.handler) (side_seen c.args.side) c.args.flow.now c.args.parts.now c.args.lines.now c.loop-parts.parts c.loop-parts.lines c.loop-parts.invariant c.flow_read.result c.try_event.new.world c.try_event.new.heard c.flow_read.ensures.flow c.flow_read.ensures.range c.in_ok-try_event.ensures in
     let j = c.in_ok-message.ensures.joined in
     let none = none_taken one c.join.new.parts _ j (ap (option_map (λ m. m.items)) c.in_default.is) in
     reading_goes one c.join.new.parts _ j c.loop-parts.lines c.join.new.parts none (none_stays one c.join.new.parts _ j)

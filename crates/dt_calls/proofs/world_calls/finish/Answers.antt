@@ -20,17 +20,17 @@ pub returns-clause-goes : goal.returns-clause-goes
 returns-clause-goes g c =
     let tells = g.L.CallLines.tells in
     let answer = g.H.Handler.answer c.args.parts.now.handler in
-    gone_then tells (read_all answer) doubt_all (λ told d. refl) (calls_seen c.args.parts.now) (calls_seen c.read_due.new.parts) (calls_seen c.doubt.new.parts) c.args.lines.now c.read_due.new.lines c.doubt.new.lines c.in_ok-read_due.ensures.goes c.doubt.ensures.goes
+    gone_then tells (read_all answer) doubt_all (λ told d. refl) (calls_seen c.args.parts.now) (calls_seen c.read_due.new.parts) (calls_seen c.mark_unsure.new.parts) c.args.lines.now c.read_due.new.lines c.mark_unsure.new.lines c.in_ok-read_due.ensures.goes c.mark_unsure.ensures.goes
 
 pub returns-clause-whole : goal.returns-clause-whole
 returns-clause-whole g c =
     let p = c.read_due.new.parts in
-    let same = c.doubt.ensures.same in
+    let same = c.mark_unsure.ensures.same in
     let whole = c.in_ok-read_due.ensures.whole in
     record {
       unspent = ap (λ x. x.world.spent) same ∙ whole.unspent;
       heard = ap (λ x. x.heard.failed) same ∙ whole.heard;
       world = subst IsKeptWorld (sym (ap (λ x. x.world.state) same)) whole.world;
-      waiting = c.doubt.ensures.covers;
-      requests = subst AreShort (sym (ap (λ x. x.calls) c.doubt.ensures.goes.calls)) (doubted_short p.world.state p.calls.items whole.requests);
+      waiting = c.mark_unsure.ensures.covers;
+      requests = subst AreShort (sym (ap (λ x. x.calls) c.mark_unsure.ensures.goes.calls)) (doubted_short p.world.state p.calls.items whole.requests);
     }

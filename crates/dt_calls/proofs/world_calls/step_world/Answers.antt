@@ -12,14 +12,14 @@ use Rattle.dt_calls.proofs.Kept.{once_done}
 use Rattle.dt_calls.proofs.Steps.{event_course, event_cut, event_ends, event_wrong, fails_with, lacked}
 use Rattle.dt_calls.proofs.world_calls.step_world.Goals as goal
 
-pub go_on-requires-clause-rest : goal.go_on-requires-clause-rest
-go_on-requires-clause-rest g c = nothing_due (g.H.Handler.answer c.args.parts.now.handler) (calls_seen c.args.parts.now) c.requires.facts
+pub advance_world-requires-clause-rest : goal.advance_world-requires-clause-rest
+advance_world-requires-clause-rest g c = nothing_due (g.H.Handler.answer c.args.parts.now.handler) (calls_seen c.args.parts.now) c.requires.facts
 
 pub returns-in_err-due-clause-steps : goal.returns-in_err-due-clause-steps
 returns-in_err-due-clause-steps g c =
     let answer = g.H.Handler.answer c.args.parts.now.handler in
     let p = c.args.parts.now in
-    let after = c.go_on.new.parts in
+    let after = c.advance_world.new.parts in
     let event = event_of c.args.event.now in
     let e = err_from_is_err_and c.from_residual.result c.from_residual.ensures.1 in
     let wrong = subst (λ (why : StepFault). GoesWrong event p after why) (sym e.2) c.in_err-due.ensures in
@@ -30,15 +30,15 @@ finish-requires-clause-course g c =
     let tells = g.L.CallLines.tells in
     let answer = g.H.Handler.answer c.args.parts.now.handler in
     let gone = c.in_ok-due.ensures in
-    subst (λ h. CourseFacts (g.H.Handler.answer h) (calls_seen c.go_on.new.parts)) (sym gone.handler)
-    (event_course (event_of c.args.event.now) c.args.parts.now c.go_on.new.parts tells answer c.args.lines.now c.in_ok-due.due gone c.requires.facts.course c.requires.may)
+    subst (λ h. CourseFacts (g.H.Handler.answer h) (calls_seen c.advance_world.new.parts)) (sym gone.handler)
+    (event_course (event_of c.args.event.now) c.args.parts.now c.advance_world.new.parts tells answer c.args.lines.now c.in_ok-due.due gone c.requires.facts.course c.requires.may)
 
 pub returns-in_err-finish-clause-steps : goal.returns-in_err-finish-clause-steps
 returns-in_err-finish-clause-steps g c =
     let tells = g.L.CallLines.tells in
     let answer = g.H.Handler.answer c.args.parts.now.handler in
     let p = c.args.parts.now in
-    let after = c.go_on.new.parts in
+    let after = c.advance_world.new.parts in
     let event = event_of c.args.event.now in
     let l = c.args.lines.now in
     let gone = c.in_ok-due.ensures in
@@ -52,7 +52,7 @@ returns-clause-once g c =
     let tells = g.L.CallLines.tells in
     let answer = g.H.Handler.answer c.args.parts.now.handler in
     let p = c.args.parts.now in
-    let after = c.go_on.new.parts in
+    let after = c.advance_world.new.parts in
     let new = calls_seen c.finish.new.parts in
     let event = event_of c.args.event.now in
     let l = c.args.lines.now in

@@ -8,8 +8,8 @@ use Rattle.dt_log.specs.LogLines.{totals_words, line_words}
 use Rattle.dt_log.proofs.log_lines.write_line.Goals as goal
 
 -- what is put for totals is the line of a report of them
-of_report : {S T E : Type 0} (sight : S → SinkSight) (moment : ℕ) (teller : Option ℕ) (report : Told) (flow : Flow) (totals : Totals) (r : Result T E) (old new : S) → report ≡ totals_told flow totals → Puts sight (row_text (totals_words flow totals)) r old new → Puts sight (row_text (line_words moment teller (told report))) r old new
-of_report sight moment teller report flow totals r old new e p = subst (λ x. Puts sight (row_text (line_words moment teller (told x))) r old new) (sym e) p
+of_report : {S T E : Type 0} (sight : S → SinkSight) (moment : ℕ) (reporter : Option ℕ) (report : Told) (flow : Flow) (totals : Totals) (r : Result T E) (old new : S) → report ≡ totals_told flow totals → Puts sight (row_text (totals_words flow totals)) r old new → Puts sight (row_text (line_words moment reporter (told report))) r old new
+of_report sight moment reporter report flow totals r old new e p = subst (λ x. Puts sight (row_text (line_words moment reporter (told x))) r old new) (sym e) p
 
 pub returns-in-FlowTotals : goal.returns-in-FlowTotals
 returns-in-FlowTotals g c =

@@ -7,8 +7,8 @@ use Rattle.dt_world_laws.proofs.Counting.{settled_counts}
 use Rattle.dt_turn.proofs.Readying.{ok_more}
 use Rattle.dt_turn.proofs.turns.do_task.Goals as goal
 
-pub happen-requires-clause-may : goal.happen-requires-clause-may
-happen-requires-clause-may g c =
+pub do_event-requires-clause-may : goal.do_event-requires-clause-may
+do_event-requires-clause-may g c =
     let s = c.args.station.now in
     let can = rw c.in-Send.is at c.requires.can in
     let octets = c.in-Send.octets.items in
@@ -23,7 +23,7 @@ happen-requires-clause-may g c =
 pub returns-in-Send-clause-on : goal.returns-in-Send-clause-on
 returns-in-Send-clause-on g c =
     let can = rw c.in-Send.is at c.requires.can in
-    ok_more c.args.now (length c.in-Send.octets.items) most_octets c.args.station.now c.happen.new.station c.happen.result can.3 (rw c.deref.ensures.value at c.happen.ensures.on)
+    ok_more c.args.now (length c.in-Send.octets.items) most_octets c.args.station.now c.do_event.new.station c.do_event.result can.3 (rw c.deref.ensures.value at c.do_event.ensures.on)
 
 pub returns-in-Read-clause-on : goal.returns-in-Read-clause-on
-returns-in-Read-clause-on g c = ok_more c.args.now 0 most_octets c.args.station.now c.happen-in-Read.new.station c.happen-in-Read.result (omega arith) c.happen-in-Read.ensures.on
+returns-in-Read-clause-on g c = ok_more c.args.now 0 most_octets c.args.station.now c.do_event-in-Read.new.station c.do_event-in-Read.result (omega arith) c.do_event-in-Read.ensures.on

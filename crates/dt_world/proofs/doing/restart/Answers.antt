@@ -7,8 +7,8 @@ use Rattle.dt_world_model.specs.Station.{Station}
 use Rattle.dt_world_model.specs.Tables.{AllEntries, write}
 use Rattle.dt_world_model.specs.World.{Placed}
 use Rattle.dt_world_model.specs.WorldStep.{Restarts, after_event}
-use Rattle.dt_world.specs.declared.placed.Plan.{Plan}
-use Rattle.dt_world.specs.declared.placed.PlacedStation.{PlacedStation}
+use Rattle.dt_world.specs.declared.placed_stations.Plan.{Plan}
+use Rattle.dt_world.specs.declared.placed_stations.PlacedStation.{PlacedStation}
 use Rattle.dt_world.specs.Stopping.{ComesTo, IsLastLife}
 use Rattle.dt_world.specs.Worlds.{IsStationOf, placed_seen, stations_seen, world_seen}
 use Rattle.dt_world.proofs.Possible.{is_placed, stopped_at_once, there}

@@ -13,8 +13,8 @@ returns-in_ok-begin-in-Transmits-clause-ok c =
 
 pub returns-in_ok-begin-in-TransmitsAgain-clause-ok : goal.returns-in_ok-begin-in-TransmitsAgain-clause-ok
 returns-in_ok-begin-in-TransmitsAgain-clause-ok c =
-    begun_then (occasion_seen c.args.occasion.now) c.args.flow.now (ledgers_seen c.args.notes.now) (ledgers_seen c.begin-in-TransmitsAgain.new.notes) (ledgers_seen c.go_on.new.notes) (change_seen c.args.change) TransmitsAgain
-    (ap change_seen c.in-TransmitsAgain.is) c.in_ok-begin-in-TransmitsAgain.ensures.ok c.go_on.ensures.becomes
+    begun_then (occasion_seen c.args.occasion.now) c.args.flow.now (ledgers_seen c.args.notes.now) (ledgers_seen c.begin-in-TransmitsAgain.new.notes) (ledgers_seen c.retransmit.new.notes) (change_seen c.args.change) TransmitsAgain
+    (ap change_seen c.in-TransmitsAgain.is) c.in_ok-begin-in-TransmitsAgain.ensures.ok c.retransmit.ensures.becomes
 
 pub returns-in_ok-begin-in-GivesUp-clause-ok : goal.returns-in_ok-begin-in-GivesUp-clause-ok
 returns-in_ok-begin-in-GivesUp-clause-ok c =
@@ -23,5 +23,5 @@ returns-in_ok-begin-in-GivesUp-clause-ok c =
 
 pub returns-in_ok-begin-in-Settles-clause-ok : goal.returns-in_ok-begin-in-Settles-clause-ok
 returns-in_ok-begin-in-Settles-clause-ok c =
-    begun_then (occasion_seen c.args.occasion.now) c.args.flow.now (ledgers_seen c.args.notes.now) (ledgers_seen c.begin-in-Settles.new.notes) (ledgers_seen c.settle.new.notes) (change_seen c.args.change) (Settles c.in-Settles.count)
-    (ap change_seen c.in-Settles.is) c.in_ok-begin-in-Settles.ensures.ok c.settle.ensures.becomes
+    begun_then (occasion_seen c.args.occasion.now) c.args.flow.now (ledgers_seen c.args.notes.now) (ledgers_seen c.begin-in-Settles.new.notes) (ledgers_seen c.acknowledge.new.notes) (change_seen c.args.change) (Settles c.in-Settles.count)
+    (ap change_seen c.in-Settles.is) c.in_ok-begin-in-Settles.ensures.ok c.acknowledge.ensures.becomes

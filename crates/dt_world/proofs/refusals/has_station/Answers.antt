@@ -1,6 +1,6 @@
 use Rattle.std.proofs.Common.{is_some, ap, sym, ◌≡◌, ◌∙◌, Option, Some, None, refl}
 use Rattle.std.specs.Prelude.{option_map}
-use Rattle.dt_world.specs.declared.placed.PlacedStation.{PlacedStation}
+use Rattle.dt_world.specs.declared.placed_stations.PlacedStation.{PlacedStation}
 use Rattle.dt_world.specs.Worlds.{placed_seen}
 use Rattle.dt_world.proofs.StationTables.{look_seen}
 use Rattle.dt_world.proofs.refusals.has_station.Goals as goal

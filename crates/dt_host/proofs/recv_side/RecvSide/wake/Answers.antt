@@ -6,7 +6,7 @@ use Rattle.dt_host.proofs.recv_side.RecvSide.wake.Goals as goal
 pub returns : goal.returns
 returns c =
     let v = c.args.self.now in
-    c.lesser.ensures
+    c.earlier.ensures
     ∙ ap (λ (o : Option ℕ). earlier o c.soonest_of-2.result) c.soonest_of.ensures
     ∙ ap (earlier _) c.soonest_of-2.ensures
     ∙ either_wake v.rules v.entries

@@ -14,27 +14,27 @@ on_err : (r : Result (Unit {0}) NoMemory) → {P : Type 0} → P → OnErr r P
 on_err (Ok done) h = tt
 on_err (Err why) h = h
 
-pub take-requires-clause-new : goal.take-requires-clause-new
-take-requires-clause-new g c =
+pub assign-requires-clause-new : goal.assign-requires-clause-new
+assign-requires-clause-new g c =
     let s = c.close_up.new.self in
     let none = ap (λ (es : List _). lookup (equal_flows c.args.flow.now) es) (sym (entries_are s.slots.items (note_at s.agenda)) ∙ ap (λ (rs : List _). entries rs) c.close_up.ensures.rows ∙ entries_are c.args.self.now.slots.items (note_at c.args.self.now.agenda)) ∙ c.requires.none in
     still_none (length c.args.self.now.agenda) s.places s.slots.items s.agenda c.close_up.ensures.placed c.len-place.result (let n = c.len-place.ensures in let k = s.slots.ok.0 in omega arith) c.push.new.self.items c.in_ok-push.ensures.items c.hold-2.new.self c.in_ok-hold-2.ensures.same c.in_ok-hold-2.ensures.room c.in_ok-hold-2.ensures.ok c.hold.new.self c.in_ok-hold.ensures.same c.in_ok-hold.ensures.ok c.args.flow.now none
 
-pub take-requires-clause-empty : goal.take-requires-clause-empty
-take-requires-clause-empty g c =
+pub assign-requires-clause-empty : goal.assign-requires-clause-empty
+assign-requires-clause-empty g c =
     let s = c.close_up.new.self in
     let none = ap (λ (es : List _). lookup (equal_flows c.args.flow.now) es) (sym (entries_are s.slots.items (note_at s.agenda)) ∙ ap (λ (rs : List _). entries rs) c.close_up.ensures.rows ∙ entries_are c.args.self.now.slots.items (note_at c.args.self.now.agenda)) ∙ c.requires.none in
     last_empty (length c.args.self.now.agenda) s.places s.slots.items s.agenda c.close_up.ensures.placed c.len-place.result (let n = c.len-place.ensures in let k = s.slots.ok.0 in omega arith) c.push.new.self.items c.in_ok-push.ensures.items c.hold-2.new.self c.in_ok-hold-2.ensures.same c.in_ok-hold-2.ensures.room c.in_ok-hold-2.ensures.ok c.hold.new.self c.in_ok-hold.ensures.same c.in_ok-hold.ensures.ok c.args.flow.now none
 
-pub returns-in_err-take-clause-placed : goal.returns-in_err-take-clause-placed
-returns-in_err-take-clause-placed g c =
+pub returns-in_err-assign-clause-placed : goal.returns-in_err-assign-clause-placed
+returns-in_err-assign-clause-placed g c =
     let s = c.close_up.new.self in
-    subst (λ (fs : List (Option Flow)). IsPlaced (length c.args.self.now.agenda) fs c.push.new.self.items c.hold.new.self) (sym c.in_err-take.ensures.err) (pushed_placed (length c.args.self.now.agenda) s.places s.slots.items s.agenda c.close_up.ensures.placed c.len-place.result (let n = c.len-place.ensures in let k = s.slots.ok.0 in omega arith) c.push.new.self.items c.in_ok-push.ensures.items c.hold-2.new.self c.in_ok-hold-2.ensures.same c.in_ok-hold-2.ensures.room c.in_ok-hold-2.ensures.ok c.hold.new.self c.in_ok-hold.ensures.same c.in_ok-hold.ensures.ok)
+    subst (λ (fs : List (Option Flow)). IsPlaced (length c.args.self.now.agenda) fs c.push.new.self.items c.hold.new.self) (sym c.in_err-assign.ensures.err) (pushed_placed (length c.args.self.now.agenda) s.places s.slots.items s.agenda c.close_up.ensures.placed c.len-place.result (let n = c.len-place.ensures in let k = s.slots.ok.0 in omega arith) c.push.new.self.items c.in_ok-push.ensures.items c.hold-2.new.self c.in_ok-hold-2.ensures.same c.in_ok-hold-2.ensures.room c.in_ok-hold-2.ensures.ok c.hold.new.self c.in_ok-hold.ensures.same c.in_ok-hold.ensures.ok)
 
-pub returns-in_err-take-clause-err : goal.returns-in_err-take-clause-err
-returns-in_err-take-clause-err g c =
+pub returns-in_err-assign-clause-err : goal.returns-in_err-assign-clause-err
+returns-in_err-assign-clause-err g c =
     let s = c.close_up.new.self in
-    on_err c.from_residual-in_err-take.result (pushed_rows (length c.args.self.now.agenda) s.places s.slots.items s.agenda c.close_up.ensures.placed c.len-place.result (let n = c.len-place.ensures in let k = s.slots.ok.0 in omega arith) c.push.new.self.items c.in_ok-push.ensures.items c.hold-2.new.self c.in_ok-hold-2.ensures.same c.in_ok-hold-2.ensures.room c.in_ok-hold-2.ensures.ok c.hold.new.self c.in_ok-hold.ensures.same c.in_ok-hold.ensures.ok ∙ c.close_up.ensures.rows)
+    on_err c.from_residual-in_err-assign.result (pushed_rows (length c.args.self.now.agenda) s.places s.slots.items s.agenda c.close_up.ensures.placed c.len-place.result (let n = c.len-place.ensures in let k = s.slots.ok.0 in omega arith) c.push.new.self.items c.in_ok-push.ensures.items c.hold-2.new.self c.in_ok-hold-2.ensures.same c.in_ok-hold-2.ensures.room c.in_ok-hold-2.ensures.ok c.hold.new.self c.in_ok-hold.ensures.same c.in_ok-hold.ensures.ok ∙ c.close_up.ensures.rows)
 
 pub returns-in_err-hold-clause-placed : goal.returns-in_err-hold-clause-placed
 returns-in_err-hold-clause-placed g c =
@@ -56,7 +56,7 @@ returns-clause-placed g c =
     let s = c.close_up.new.self in
     let none = ap (λ (es : List _). lookup (equal_flows c.args.flow.now) es) (sym (entries_are s.slots.items (note_at s.agenda)) ∙ ap (λ (rs : List _). entries rs) c.close_up.ensures.rows ∙ entries_are c.args.self.now.slots.items (note_at c.args.self.now.agenda)) ∙ c.requires.none in
     let ready = pushed_placed (length c.args.self.now.agenda) s.places s.slots.items s.agenda c.close_up.ensures.placed c.len-place.result (let n = c.len-place.ensures in let k = s.slots.ok.0 in omega arith) c.push.new.self.items c.in_ok-push.ensures.items c.hold-2.new.self c.in_ok-hold-2.ensures.same c.in_ok-hold-2.ensures.room c.in_ok-hold-2.ensures.ok c.hold.new.self c.in_ok-hold.ensures.same c.in_ok-hold.ensures.ok in
-    added_placed (length c.args.self.now.agenda) s.places s.slots.items s.agenda c.close_up.ensures.placed c.len-place.result (let n = c.len-place.ensures in let k = s.slots.ok.0 in omega arith) c.push.new.self.items c.in_ok-push.ensures.items c.hold-2.new.self c.in_ok-hold-2.ensures.same c.in_ok-hold-2.ensures.room c.in_ok-hold-2.ensures.ok c.hold.new.self c.in_ok-hold.ensures.same c.in_ok-hold.ensures.ok c.args.flow.now none c.args.made c.args.note.now c.note.new.self (c.note.ensures.here (c.requires.kinds ∙ sym ready.counted)) c.note.ensures.others c.note.ensures.room c.take.new.self c.in_ok-take.ensures.ok
+    added_placed (length c.args.self.now.agenda) s.places s.slots.items s.agenda c.close_up.ensures.placed c.len-place.result (let n = c.len-place.ensures in let k = s.slots.ok.0 in omega arith) c.push.new.self.items c.in_ok-push.ensures.items c.hold-2.new.self c.in_ok-hold-2.ensures.same c.in_ok-hold-2.ensures.room c.in_ok-hold-2.ensures.ok c.hold.new.self c.in_ok-hold.ensures.same c.in_ok-hold.ensures.ok c.args.flow.now none c.args.made c.args.note.now c.note.new.self (c.note.ensures.here (c.requires.kinds ∙ sym ready.counted)) c.note.ensures.others c.note.ensures.room c.assign.new.self c.in_ok-assign.ensures.ok
 
 pub returns-clause-ok : goal.returns-clause-ok
 returns-clause-ok g c =

@@ -8,14 +8,14 @@ use Rattle.dt_ledger.proofs.ledgers.Ledger.take.Goals as goal
 pub returns-in-Some-clause-ok : goal.returns-in-Some-clause-ok
 returns-in-Some-clause-ok c =
     there_ok (λ (l : FlowLedger). record l { taken = take_rows c.args.life (marked c.args.octets.now c.args.begin c.args.end false) l.taken }) c.args.flow.now c.args.self.now
-    c.take.result c.rows_mut.result c.in-Some.rows c.in-Some.rows.now c.take.new.self _ c.in-Some.is (c.rows_mut.follows.holds c.take.new.self) c.in-Some.ensures.value c.take.ensures.ok
+    c.note_taken.result c.rows_mut.result c.in-Some.rows c.in-Some.rows.now c.note_taken.new.self _ c.in-Some.is (c.rows_mut.follows.holds c.note_taken.new.self) c.in-Some.ensures.value c.note_taken.ensures.ok
 
 pub returns-in-Some-clause-err : goal.returns-in-Some-clause-err
 returns-in-Some-clause-err c =
     there_err (λ (l : FlowLedger). l) c.args.flow.now c.args.self.now
-    c.take.result c.rows_mut.result c.in-Some.rows c.in-Some.rows.now c.take.new.self _ c.in-Some.is (c.rows_mut.follows.holds c.take.new.self) c.in-Some.ensures.value c.take.ensures.err
+    c.note_taken.result c.rows_mut.result c.in-Some.rows c.in-Some.rows.now c.note_taken.new.self _ c.in-Some.is (c.rows_mut.follows.holds c.note_taken.new.self) c.in-Some.ensures.value c.note_taken.ensures.err
 
 pub returns-clause-ok : goal.returns-clause-ok
 returns-clause-ok c =
     absent_ok (λ (l : FlowLedger). record l { taken = take_rows c.args.life (marked c.args.octets.now c.args.begin c.args.end false) l.taken }) c.args.flow.now c.args.self.now
-    c.new-rows.result c.take-2.new.self _ _ c.in_default.ensures.value c.new-rows.ensures c.in_ok-take.ensures.ok (c.self.view_is ∙ c.rows_mut.follows.holds-at-none) c.in_ok-insert.ensures.entries
+    c.new-rows.result c.note_taken-2.new.self _ _ c.in_default.ensures.value c.new-rows.ensures c.in_ok-note_taken.ensures.ok (c.self.view_is ∙ c.rows_mut.follows.holds-at-none) c.in_ok-insert.ensures.entries

@@ -20,7 +20,7 @@ loop-place-preserved c =
     let gs = (record_of c.args.self.now).outstanding in
     let more = resends_more c.args.rules.now c.args.now gs (c.loop-place.place - 1) _ (found c.args.rules.now c.args.self.now c.requires (c.loop-place.place - 1) c.stretch_at-stretch.result c.stretch_at-stretch.ensures) in (
       omega arith,
-      c.lesser-first.ensures
+      c.earlier-first.ensures
           ∙ ap (λ m. earlier c.resend_from.result m) (c.loop-place.invariant.1 ∙ ap (λ n. resends_from c.args.rules.now c.args.now (drop n gs)) (sym next))
           ∙ ap (λ m. earlier m (resends_from c.args.rules.now c.args.now (drop (c.loop-place.place - 1 + 1) gs))) c.resend_from.ensures
           ∙ sym more,

@@ -1,0 +1,119 @@
+//! Who sees a station's event for the world.
+ghost use Rattle.std.specs.Prelude.{◌≡◌, length, OnErr, OnOk};
+ghost use Rattle.dt_reports.specs.Entries.{Entry, entry_of};
+ghost use Rattle.dt_reports.specs.Told.{told};
+ghost use Rattle.dt_world_model.specs.Ledgers.{ledgers_by};
+ghost use Rattle.dt_world_model.specs.World.{world_told};
+ghost use Rattle.dt_world.specs.Effects.{effect_seen};
+ghost use Rattle.dt_world.specs.Notes.{ledgers_seen};
+ghost use Rattle.dt_world.specs.Occasions.{occasion_seen};
+
+use crate::effects::{Effect, effect_of};
+use crate::marked::{Mark, MarkedFrame};
+use crate::marks::mark_of;
+use crate::notes::{Notes, change};
+use crate::occasions::Occasion;
+use dt_host::Host;
+use dt_items::NoMemory;
+use dt_layout::Frame;
+use dt_reports::{LogLine, Report};
+use dt_station::Visitor;
+
+/// Is told the lines of the log, in order.
+pub trait Lines {
+    ghost tells: { Self → Entry → Self → Type 0 };
+
+    /// The next line.
+    fn line(&mut self, line: &LogLine<'_>)
+        ensures { tells self.old (entry_of line.now) self.new };
+}
+
+/// What the world notes of one event, and who is told its lines. Where something finds no memory, it
+/// has failed: from then on it notes nothing, tells nothing and takes no packet.
+#[derive(Drop)]
+pub struct Reporter<'a, 'o, L> {
+    pub notes: &'a mut Notes,
+    pub lines: &'a mut L,
+    pub occasion: Occasion<'o>,
+    pub failed: bool,
+}
+
+impl<'a, 'o, L: Lines> Visitor<MarkedFrame> for Reporter<'a, 'o, L> {
+    ghost use Rattle.dt_world.specs.Reporters.{Hands, Marks, Stays, Tells};
+
+    ghost tells = { λ s r t. Tells L.tells s r t };
+
+    ghost tags = { λ now s host octets mark t. Marks s host octets mark t };
+
+    ghost hands = { λ s link parcel t. Hands s link parcel t };
+
+    ghost fails = { λ s t. Stays s t };
+
+    fn tag(&mut self, host: &Host, frame: &Frame, _now: u64) -> Mark {
+        match mark_of(self.notes, &self.occasion, host, frame) {
+            Some(mark) => mark,
+            None => {
+                self.failed = true;
+                Mark::new(0, 0)
+            }
+        }
+    }
+
+    fn tell(&mut self, report: &Report<'_>) {
+        if self.failed {
+            return;
+        }
+        let effect = effect_of(report);
+        if note(self.notes, &self.occasion, &effect).is_err() {
+            self.failed = true;
+            return;
+        }
+        self.lines.line(&LogLine {
+            moment: self.occasion.now,
+            node: Some(self.occasion.node),
+            report: world_report(report, &effect, self.notes.copies.len()),
+        });
+    }
+
+    fn out(&mut self, link: u16, packet: MarkedFrame) -> Result<(), NoMemory> {
+        self.out_at_once(link, &packet.frame, packet.mark)
+    }
+
+    fn out_at_once(&mut self, link: u16, frame: &Frame, mark: Mark) -> Result<(), NoMemory> {
+        if self.failed {
+            return Err(NoMemory);
+        }
+        let put = self.occasion.now;
+        self.notes.copies.add(link, frame.as_slice(), mark, put)
+    }
+}
+
+/// What a report says of the world is noted. After `NoMemory` nothing was.
+fn note(notes: &mut Notes, occasion: &Occasion<'_>, effect: &Effect) -> Result<(), NoMemory>
+    ensures ok { OnOk result (ledgers_seen notes.new ≡ ledgers_by (occasion_seen occasion.entry.now) (effect_seen effect.now) (ledgers_seen notes.old)) }
+    ensures err { OnErr result (ledgers_seen notes.new ≡ ledgers_seen notes.old) }
+    ensures copies { notes.new.copies ≡ notes.old.copies }
+{
+    match *effect {
+        Effect::Changes {
+            flow,
+            change: becomes,
+        } => change(notes, occasion, &flow, becomes),
+        Effect::Leaves { .. } | Effect::Neither => Ok(()),
+    }
+}
+
+/// The report as the world tells it, by what it says of the world: where a packet leaves, the number of
+/// the copy is told too.
+fn world_report<'a>(report: &Report<'a>, effect: &Effect, copies: u64) -> Report<'a>
+    ensures { told result ≡ world_told copies (told report.now) (effect_seen effect.now) }
+{
+    match *effect {
+        Effect::Leaves { link, life } => Report::PutAs {
+            link,
+            life,
+            copy: copies,
+        },
+        Effect::Changes { .. } | Effect::Neither => *report,
+    }
+}
