@@ -1,3 +1,4 @@
+//! A log, line by line, up to its first flaw, and the line of the verdict.
 ghost use Rattle.std.specs.Prelude.{◌≡◌, ◌≤◌, ◌++◌, codes, decimal, IfOk, length};
 ghost use Rattle.dt_edges.specs.Sinks.{Puts};
 ghost use Rattle.dt_log.specs.Words.{spaced};

@@ -1,3 +1,4 @@
+//! A buffer before a sink.
 ghost use Rattle.std.specs.Prelude.{◌≡◌, ◌++◌, ◌<◌, ◌≤◌, [], take, length, IfOk, OnOk};
 ghost use Rattle.std.specs.Io.KnownBytes.{WriteAppends, append_known};
 ghost use Rattle.dt_edges.specs.Counts.{CountsFaults};

@@ -1,3 +1,4 @@
+//! A clock in memory, whose readings are a list.
 ghost use Rattle.std.specs.Prelude.{◌≡◌, ◌<◌, length, IfOk};
 ghost use Rattle.dt_edges.specs.Clocks.{reading_at, clock_after};
 

@@ -9,8 +9,8 @@ use crate::failures::Failed;
 /// 2^64 - 1.
 pub trait Sink {
     /// What contracts see: the octets that the sink holds, where it tells them, which of them have
-    /// reached their end, how many puts failed, and which sink it is. A sink that passes its octets on to another that it borrows is named by
-    /// that loan, which no put changes. Plain sinks have no name.
+    /// reached their end, how many puts failed, and which sink it is. A sink that passes its octets on to
+    /// another that it borrows is named by that loan, which no put changes. Plain sinks have no name.
     ghost sight: { Self → SinkSight };
 
     /// Takes the first octets of the piece, one at least, and says how many. An `Err` comes only where

@@ -1,3 +1,4 @@
+//! A node without a socket, a clock or a thread: its calls, and what is pulled after them.
 ghost use Rattle.std.specs.Prelude.{ℕ, [], ◌≡◌, ◌+◌, ◌<◌, ◌≤◌, ◌++◌, false, IfNone, IfOk, OnOk, OnErr, is_some, drop, length, option_map, option_to_list, take};
 ghost use Rattle.dt_reports.specs.Told.{told};
 ghost use Rattle.dt_flow_model.specs.Keeping.{most_moment, octets_below};

@@ -1,3 +1,4 @@
+//! An input, line by line, up to its end or to the first line that is refused.
 ghost use Rattle.std.specs.Prelude.{◌≡◌, ◌≤◌, [], length, IfOk};
 ghost use Rattle.dt_fold.specs.Folds.{fold_input, refusal};
 ghost use Rattle.dt_fold.specs.Logging.{FoldsTo, Logs};

@@ -1,3 +1,4 @@
+//! The host of a node: its senders, its receivers, and which of them acts next.
 ghost use Rattle.std.specs.Prelude.{◌≡◌, ◌≢◌, ◌+◌, ◌<◌, ◌≤◌, ◌↔◌, [], ◌++◌, drop, false, length, IfErr, IfOk, IfSome, IsErr, IsTrue, Some, None, option_map, unwrap_or};
 ghost use Rattle.dt_items.specs.Unread.{marked, octets_of, piece_told};
 ghost use Rattle.dt_layout.specs.Carried.{IsGram};

@@ -1,3 +1,4 @@
+//! The senders of a host, and what is noted of when each may act.
 ghost use Rattle.std.specs.Prelude.{ℕ, ◌≡◌, ◌+◌, ◌<◌, ◌≤◌, [], false, length, IfErr, IfOk, IfSome, Some, None, unwrap_or};
 ghost use Rattle.std.specs.Option.{option_and_then, option_copied};
 ghost use Rattle.std.specs.Map.{lookup};

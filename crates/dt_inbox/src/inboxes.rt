@@ -63,8 +63,8 @@ impl Inbox {
     }
 
     /// Reads the flow at `now`, in pieces that the buffer holds, until a message is whole or nothing is
-    /// unread, and 65536 times at most. Each read is a call of [`Endpoint::read`], and does what is due. The cost is that of the
-    /// reads, and each octet is copied twice.
+    /// unread, and 65,536 times at most. Each read is a call of [`Endpoint::read`], and does what is due.
+    /// The cost is that of the reads, and each octet is copied twice.
     pub fn take(
         &mut self,
         alloc: Global,

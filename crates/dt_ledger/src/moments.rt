@@ -1,3 +1,4 @@
+//! A moment or none, in one number.
 ghost use Rattle.std.specs.Prelude.{◌≡◌, ◌≤◌, None, Some, is_some};
 ghost use Rattle.dt_flow_model.specs.Keeping.{most_moment};
 

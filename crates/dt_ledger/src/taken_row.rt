@@ -1,3 +1,4 @@
+//! The ledger's row of an octet that was taken.
 ghost use Rattle.std.specs.Prelude.{◌≡◌, ◌+◌, ◌<◌, ◌==◌, ◌&&◌, false, length, None, Some, slice_index};
 ghost use Rattle.dt_flow_model.specs.Ledger.{is_open, is_open_in, is_unsent, open_row};
 ghost use Rattle.dt_ledger.specs.Rows.{with_fate};

@@ -1,3 +1,4 @@
+//! The text of a number.
 ghost use Rattle.std.specs.Prelude.{◌≡◌, ◌+◌, ◌≤◌, length, drop, decimal};
 ghost use Rattle.dt_edges.specs.Sinks.{Puts};
 

@@ -1,3 +1,4 @@
+//! The machine's clock.
 ghost use Rattle.std.specs.Prelude.{None};
 
 use crate::moments::Moments;

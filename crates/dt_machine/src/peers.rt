@@ -1,3 +1,4 @@
+//! Which address a link has, and which link an address.
 ghost use Rattle.std.specs.Prelude.{◌≡◌, ◌≢◌, None, All, Any, IfSome};
 
 use dt_edges::{Address, Peer};

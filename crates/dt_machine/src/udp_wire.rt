@@ -1,3 +1,4 @@
+//! A wire over a UDP socket.
 ghost use Rattle.std.specs.Prelude.{ℕ, ◌≡◌, ◌≤◌, None, Some, false, length, All, IfOk, IfSome};
 ghost use Rattle.dt_machine.specs.Waits.{may_have_waited};
 ghost use Rattle.dt_machine.specs.Wires.{uncalled};
@@ -19,9 +20,10 @@ use std::time;
 const PEERS: usize = 256;
 
 /// A wire over a UDP socket. It tells how it was opened, how often it was called and how often a call
-/// failed, how long the last take was to wait, and nothing of what passes. What it hands over has waited in this machine for at most 20 ms,
-/// by the moments at which it found the socket empty; what may have waited longer is dropped, as a link
-/// may lose it. So is what is given later than 20 ms after the last reading of the clock.
+/// failed, how long the last take was to wait, and nothing of what passes. What it hands over has waited
+/// in this machine for at most 20 ms, by the moments at which it found the socket empty; what may have
+/// waited longer is dropped, as a link may lose it. So is what is given later than 20 ms after the last
+/// reading of the clock.
 #[derive(Drop)]
 pub struct UdpWire<'a, R> {
     rt: &'a R,

@@ -1,3 +1,4 @@
+//! What the generator draws for a round.
 ghost use Rattle.std.specs.Prelude.{◌≡◌, ◌<◌};
 ghost use Rattle.dt_make.specs.Draws as draws;
 ghost use Rattle.dt_make.specs.Kinds.{kind_of};

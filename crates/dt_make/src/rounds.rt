@@ -1,3 +1,4 @@
+//! The lines of a generated round.
 ghost use Rattle.std.specs.Prelude.{◌+◌, ◌*◌, ◌≤◌, ◌<◌, ◌++◌, flat_map, codes};
 ghost use Rattle.dt_edges.specs.Sinks.{Puts};
 ghost use Rattle.dt_log.specs.Words.{hex_text};

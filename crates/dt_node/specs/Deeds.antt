@@ -79,7 +79,7 @@ pub record Did (deeds : List Deed) (s t : LogSight) : Type 0 where
   pub out : Takes (deeds_text s.fixed.form s.gives s.fixed.me deeds) s.out t.out
   pub wire : Gave deeds s.wire t.wire
 
--- why nothing more is done: a line couldn't be written, or memory was wanted
+-- why nothing more is done: a line couldn't be written, or memory ran out
 abbrev pub stop_by : Bool → Stop
 stop_by true = stops.WriteFault
 stop_by false = stops.NoMemory

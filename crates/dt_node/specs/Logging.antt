@@ -115,7 +115,7 @@ log_hands view v link parcel w = LogHands (view v) link parcel.octets (view w)
 abbrev pub log_fails : {V : Type 0} → V → V → Type 0
 log_fails v w = ⊥
 
--- Why a turn stops before its end: memory was wanted, or a line couldn't be written.
+-- Why a turn stops before its end: memory ran out, or a line couldn't be written.
 abbrev pub wants_memory : {U : Type 0} → Result U Stop → Bool
 wants_memory (Ok done) = false
 wants_memory (Err stops.NoMemory) = true

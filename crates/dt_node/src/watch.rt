@@ -1,3 +1,4 @@
+//! The moment of a turn, and how many turns running had it.
 ghost use Rattle.std.specs.Prelude.{◌≡◌, ◌≤◌, ◌<◌, ◌^◌, ◌-◌};
 ghost use Rattle.dt_node.specs.Runs.{first_watch, next_watch, moment, most_equal};
 

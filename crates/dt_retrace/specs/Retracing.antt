@@ -38,7 +38,7 @@ pub record Reruns (script : List ℕ) (t : Recorded) (outcome : NodeOutcome) (be
   pub answers : Answers Log script outcome (edges_before t before) (edges wire clock after)
   pub completes : Completes script outcome (edges_before t before) (edges wire clock after)
 
--- memory was wanted before anything was written
+-- memory ran out before anything was written
 abbrev pub Wants : NodeOutcome → SinkSight → SinkSight → Type 0
 Wants outcome before after = (outcome ≡ NoMemory) × (after ≡ before)
 

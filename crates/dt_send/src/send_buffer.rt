@@ -1,3 +1,4 @@
+//! What a sender holds: the ring of its items, the segments that went out of it, and what each act makes of them.
 ghost use Rattle.std.specs.Prelude.{◌≡◌, ℕ, ◌+◌, ◌-◌, ◌^◌, ◌<◌, ◌≤◌, ◌==◌, ◌&&◌, nat_lt, nat_le, not, false, List, [], ◌∷◌, ◌++◌, length, drop, take, slice_get, slice_set, Some, None, IfNone, IfOk, IfSome, IsSome, if◌then◌else◌};
 ghost use Rattle.std.specs.Option.{option_map};
 ghost use Rattle.circular_buffer.specs.Buffer.{buffer};

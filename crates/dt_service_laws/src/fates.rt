@@ -42,9 +42,10 @@ pub fn calls_are_unsure_for_their_causes()
 {}
 
 /// THE FATE OF A CALL. Over a network of services, whatever was lost, came again or came late, whichever
-/// turns found no memory, and however often nodes died and opened again: a name is that of one call at most, and where the call was made it has
-/// one end, or waits, or was lost with its program. Answered, it has what its service gave to it; unsure, it
-/// has one of three causes; and of a call that was declined or refused nothing was taken.
+/// turns found no memory, and however often nodes died and opened again: a name is that of one call at
+/// most, and where the call was made it has one end, or waits, or was lost with its program. Answered, it
+/// has what its service gave to it; unsure, it has one of three causes; and of a call that was declined or
+/// refused nothing was taken.
 pub fn calls_end_once_for_their_causes()
     ensures { (setup : Setup) (most : ℕ → Most) (life : ℕ → ℕ) (kinds : ℕ → ℕ → Kind) (turns : List Turn) (f : Flow) → IsWithinLimits setup.params → ((n : ℕ) → IsLife (life n)) → KeepsKinds kinds turns → IsServed kinds f → KeepsTurns setup turns (new_services setup most life) → Differ (life f.from.0 ∷ lives_at f.from.0 setup turns (new_services setup most life)) → (name : CallNumber) → HasOneFate setup f turns (new_services setup most life) name }
 {

@@ -42,7 +42,8 @@ pub fn server_restarts_before_its_reply()
     ensures rest { rest_after server_restarts_before_its_reply usual ≡ record { waiting = []; open_names = []; at_client = no_counts; at_server = no_counts } }
 {}
 
-/// Where a request is given up and its reply comes in that very turn the call is answered; where it comes in a later one the call is unsure.
+/// Where a request is given up and its reply comes in that very turn the call is answered; where it comes
+/// in a later one the call is unsure.
 pub fn given_up_and_served()
     ensures told { told_by given_up_and_served usual ≡ IsMade 0 (made.Call (five 0)) ∷ IsMade 1 (made.Call (five 1)) ∷ Happens 40 (Request (on_main (five 0)) (97 ∷ [])) ∷ Happens 40 (Request (on_main (five 1)) (98 ∷ [])) ∷ IsReplied 5151 replied.Done ∷ IsReplied 5151 replied.Done ∷ Happens 5200 (Answered (five 0) (65 ∷ [])) ∷ Happens 5201 (Unsure (five 1) cause.GivenUp) ∷ [] }
     ensures rest { rest_after given_up_and_served usual ≡ record { waiting = []; open_names = []; at_client = record no_counts { late = 1 }; at_server = no_counts } }
@@ -60,7 +61,8 @@ pub fn no_room_for_a_reply()
     ensures rest { rest_after no_room_for_a_reply short_of_room ≡ record { waiting = []; open_names = []; at_client = no_counts; at_server = no_counts } }
 {}
 
-/// After an unsure call an answered one on the same flow is the last word: what came before it was handed out before it.
+/// After an unsure call an answered one on the same flow is the last word: what came before it was handed
+/// out before it.
 pub fn asked_again()
     ensures told { told_by asked_again usual ≡ IsMade 0 (made.Call (five 0)) ∷ Happens 300 (Unsure (five 0) cause.Patience) ∷ IsMade 300 (made.Call (five 1)) ∷ Happens 510 (Request (on_main (five 0)) (111 ∷ 114 ∷ 100 ∷ 101 ∷ 114 ∷ 32 ∷ 49 ∷ 55 ∷ [])) ∷ IsReplied 510 replied.Done ∷ Happens 1110 (Request (on_main (five 1)) (119 ∷ 97 ∷ 115 ∷ 32 ∷ 49 ∷ 55 ∷ 32 ∷ 98 ∷ 111 ∷ 111 ∷ 107 ∷ 101 ∷ 100 ∷ 63 ∷ [])) ∷ IsReplied 1110 replied.Done ∷ Happens 1120 (Answered (five 1) (121 ∷ 101 ∷ 115 ∷ [])) ∷ [] }
     ensures rest { rest_after asked_again usual ≡ record { waiting = []; open_names = []; at_client = record no_counts { late = 1 }; at_server = no_counts } }

@@ -1,3 +1,4 @@
+//! Packets that leave on a link, until none may.
 ghost use Rattle.std.specs.Prelude.{◌≡◌, ◌<◌, None, All, length, map};
 ghost use Rattle.dt_relay.specs.Places.{link_in, link_of};
 ghost use Rattle.dt_world_model.specs.Relay.{IsOutUpTo, leave, on_link, with_outs};

@@ -1,3 +1,4 @@
+//! Frames that go out on a link: those that came for other nodes, and those that the host made.
 ghost use Rattle.std.specs.Prelude.{◌≡◌, All, Some};
 ghost use Rattle.dt_layout.specs.Carried.{IsGram};
 ghost use Rattle.dt_relay.specs.Carrying.{parcel_seen};

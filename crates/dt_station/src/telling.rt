@@ -1,3 +1,4 @@
+//! The report of an act, and of a packet that came.
 ghost use Rattle.std.specs.Prelude.{◌≡◌};
 ghost use Rattle.dt_layout.specs.Spelling.{packet_of};
 ghost use Rattle.dt_reports.specs.Told.{told};

@@ -1,3 +1,4 @@
+//! The acts of the host, until none is due.
 ghost use Rattle.std.specs.Prelude.{◌≡◌, OnOk};
 ghost use Rattle.dt_world_model.specs.Host.{IsCurrentHost, work};
 ghost use Rattle.dt_world_model.specs.Script.{Concludes};

@@ -1,3 +1,4 @@
+//! Words that are flows and addresses.
 ghost use Rattle.std.specs.Prelude.{◌≡◌};
 ghost use Rattle.dt_text.specs.Endpoints.{endpoint_read, flow_read, ip_read, address_read};
 ghost use Rattle.dt_text.specs.Numerals.{numeral};

@@ -1,3 +1,4 @@
+//! Words of hexadecimal digits, and the octets that they spell.
 ghost use Rattle.std.specs.Prelude.{◌≡◌, ◌<◌, ◌/◌, length, vec_len, vec_capacity, IsTrue, OnOk, OnErr};
 ghost use Rattle.std.specs.List.{list_all};
 ghost use Rattle.std.specs.Char.{digit_value, is_ascii_hexdigit};

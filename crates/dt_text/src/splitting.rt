@@ -1,3 +1,4 @@
+//! The words of a line.
 ghost use Rattle.std.specs.Prelude.{◌≡◌, ◌<◌, ◌≤◌, ◌↔◌, length, option_map, IsTrue, position, ◌==◌, ◌+◌};
 ghost use Rattle.std.specs.Str.{bytes_eq};
 ghost use Rattle.dt_text.specs.Splitting.{cut, words, word};

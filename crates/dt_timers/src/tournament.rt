@@ -1,3 +1,4 @@
+//! The soonest of many deadlines, by a tournament.
 ghost use Rattle.std.specs.Prelude.{ℕ, ◌≡◌, ◌+◌, ◌<◌, ◌≤◌, ◌/◌, [], length, set, OnErr, OnOk};
 ghost use Rattle.dt_timers.specs.Tournaments.{ArePlayed, ArePlayedBut, IsSoonestOf, deadline_in, node};
 

@@ -128,7 +128,7 @@ WireFailed Retrace left e = IfSome left (λ octets. Retraces octets node.WireFau
 WireFailed Calls left e = ⊥
 WireFailed Audit left e = ⊥
 
--- what `retrace` leaves over the script and the trace of a run that left this log and this answer: the same, but where memory was wanted, or its own source or sink failed
+-- what `retrace` leaves over the script and the trace of a run that left this log and this answer: the same, but where memory ran out, or its own source or sink failed
 abbrev pub RunsAgain : (log : List ℕ) → (outcome : NodeOutcome) → (status : ℕ) → (before after : SinkSight) → Type 0
 RunsAgain log outcome status before after = ((status ≡ status_of (node_ending outcome)) × Appends before.held after.held log) ⊎ ((status ≡ 4) ⊎ ((status ≡ 7) ⊎ (status ≡ 8)))
 

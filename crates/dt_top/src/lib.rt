@@ -48,10 +48,10 @@ fn status_told<E: Sink>(ending: Ending, err: &mut E) -> u8
 ///   `out`. A call is answered with its payload in reversed order.
 /// - `audit`: reads a log of `replay` from the source to its end, checks it, and writes the verdict.
 ///
-/// All but `node` and `trace` leave wire and clock as they were. The cost of `replay` is the input, the log, and
-/// what the schedule asks of its world; that of `node`, `trace` and `retrace` is the turns; that of `make` is what it writes;
-/// that of `calls` is the input and the text, what is asked of the world, and at each event the calls that wait;
-/// that of `audit` is the log.
+/// All but `node` and `trace` leave wire and clock as they were. The cost of `replay` is the input, the log,
+/// and what the schedule asks of its world; that of `node`, `trace` and `retrace` is the turns; that of
+/// `make` is what it writes; that of `calls` is the input and the text, what is asked of the world, and at
+/// each event the calls that wait; that of `audit` is the log.
 ///
 /// - 0: all was served, and `out` has the whole log, trace, schedule, text of calls or verdict; a log that is
 ///   audited has no flaw.

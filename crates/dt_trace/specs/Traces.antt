@@ -91,7 +91,7 @@ clock_of t = record { plan = or_zero t.readings; taken = 0 }
 abbrev pub taken_seen : code.Taken → Datagram
 taken_seen t = record { link = t.link; octets = t.octets.items }
 
--- A line was noted, or refused for its fault and changed nothing. Where memory was wanted nothing more is said.
+-- A line was noted, or refused for its fault and changed nothing. Where memory ran out nothing more is said.
 abbrev pub Notes : ℕ → Result Input LineFault → Result (Unit {0}) Refusal → Recorded → Recorded → Type 0
 Notes line input (Ok done) before after = (rest : Recorded → Result Recorded (ℕ × LineFault)) → note_then line before input rest ≡ rest after
 Notes line input (Err (refusals.Line fault)) before after = (rest : Recorded → Result Recorded (ℕ × LineFault)) → note_then line before input rest ≡ Err (line, fault)
