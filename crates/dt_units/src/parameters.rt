@@ -1,5 +1,6 @@
-ghost use Rattle.std.specs.Prelude.{◌≡◌, IfOk, IfErr, Some, find, not};
+ghost use Rattle.std.specs.Prelude.{◌≡◌, ◌<◌, IfOk, IfErr, Some, find, not};
 ghost use Rattle.dt_units.specs.Limits.{value_of, is_in_range, first_out_of_range, IsWithinLimits};
+ghost use Rattle.dt_units.specs.Numbers.{quantum};
 ghost use Rattle.dt_units.specs.Times.{times_of};
 
 use std::marker::Model;
@@ -167,6 +168,9 @@ impl Params {
     }
 }
 
+/// The greatest quantum, in octets.
+const MOST_QUANTUM: u32 = 1 << 29;
+
 /// Parameters that were checked, with their time bounds. A contract sees them as the [`Params`].
 #[derive(Clone, Copy, Debug)]
 pub struct Rules {
@@ -207,5 +211,14 @@ impl Rules {
         ensures within { IsWithinLimits self.now }
     {
         &self.times
+    }
+
+    /// The quantum in octets, 1 to 536,870,912: the lesser of `run_limit` and the greatest one. A
+    /// crossing is an offset that is a multiple of it.
+    pub fn quantum(&self) -> u64
+        ensures value { result ≡ quantum self.now }
+        ensures some { 0 < result }
+    {
+        u64::from(self.params().run_limit.min(MOST_QUANTUM))
     }
 }
