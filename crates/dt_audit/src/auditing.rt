@@ -1,6 +1,7 @@
 ghost use Rattle.std.specs.Prelude.{◌≡◌, ◌≤◌, ◌++◌, codes, decimal, IfOk, length};
 ghost use Rattle.dt_edges.specs.Sinks.{Puts};
 ghost use Rattle.dt_log.specs.Words.{spaced};
+ghost use Rattle.dt_text.specs.InputLines.{most_input};
 ghost use Rattle.dt_audit.specs.Audits.{AreSafe, Audits, ledger_of, verdict_text};
 ghost use Rattle.dt_audit.specs.Books.{flaw_in};
 ghost use Rattle.dt_audit.specs.Flaws.{flaw_words};
@@ -16,7 +17,7 @@ use std::alloc::Global;
 
 /// The number of the first line that has a flaw, counted from 1, and its first flaw.
 fn find_flaw(alloc: Global, bytes: &[u8]) -> Result<Option<(u64, Flaw)>, NoMemory>
-    requires few { length bytes.now ≤ 16777216 }
+    requires few { length bytes.now ≤ most_input }
     ensures { IfOk result (λ found. found ≡ flaw_in (ledger_of bytes.now)) }
 {
     let mut notebook = Notebook::new(alloc);
@@ -99,7 +100,7 @@ fn put_verdict<K: Sink>(found: Option<(u64, Flaw)>, out: &mut K) -> Result<(), F
 /// is the log, and at an acceptance a search among such lives of its sender, whose steps grow with the
 /// logarithm of their number.
 pub fn audit<K: Sink>(alloc: Global, bytes: &[u8], out: &mut K) -> AuditOutcome
-    requires few { length bytes.now ≤ 16777216 }
+    requires few { length bytes.now ≤ most_input }
     ensures ends { Audits result bytes.now (K.sight out.old) (K.sight out.new) }
     ensures safe { IfOk (ledger_of bytes.now) AreSafe }
 {

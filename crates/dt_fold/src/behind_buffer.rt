@@ -1,4 +1,5 @@
 ghost use Rattle.std.specs.Prelude.{◌≡◌, ◌≤◌, [], length};
+ghost use Rattle.dt_text.specs.InputLines.{most_input};
 ghost use Rattle.dt_fold.specs.Folds.{fold_input};
 ghost use Rattle.dt_fold.specs.Logging.{Fills, FillsBehind, PassesRest};
 
@@ -21,7 +22,7 @@ pub fn fold_behind_buffer<T: LineTurns, K: Sink>(
     bytes: &[u8],
     out: &mut K,
 ) -> Result<bool, Stop>
-    requires few { length bytes.now ≤ 16777216 }
+    requires few { length bytes.now ≤ most_input }
     ensures { Fills (fold_input T.turns (T.state lines.old) bytes.now) result (K.sight out.old) (K.sight out.new) }
 {
     let mut buffer = Buffer::new(alloc)?;
@@ -36,7 +37,7 @@ fn fold_into<T: LineTurns, K: Sink>(
     buffer: &mut Buffer,
     out: &mut K,
 ) -> Result<bool, Stop>
-    requires few { length bytes.now ≤ 16777216 }
+    requires few { length bytes.now ≤ most_input }
     ensures { FillsBehind (fold_input T.turns (T.state lines.old) bytes.now) result (K.sight out.old) buffer.old (K.sight out.new) buffer.new }
 {
     let mut log = Buffered { out, buffer };

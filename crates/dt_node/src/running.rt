@@ -6,6 +6,7 @@ ghost use Rattle.dt_fold.specs.Logging.{PassesRest, with_waiting};
 ghost use Rattle.dt_trace.specs.Inputs.{Reading, Taken};
 ghost use Rattle.dt_trace.specs.Standing.{HasFound};
 ghost use Rattle.dt_trace.specs.Written.{input_written};
+ghost use Rattle.dt_trace.specs.Lines.{most_taken};
 ghost use Rattle.dt_world_model.specs.Station.{station_wake};
 ghost use Rattle.dt_script.specs.Codes.{IsGood, orders_seen};
 ghost use Rattle.dt_turn.specs.Codes.{IsReady, MayTurn, left_of, node_seen};
@@ -15,7 +16,7 @@ ghost use Rattle.dt_node.specs.declared.outcomes.NodeOutcome.TheVariants as outc
 ghost use Rattle.dt_node.specs.Deeds.{TurnEnds, scene};
 ghost use Rattle.dt_node.specs.Logging.{NotesFault, noted_text, wants_memory};
 ghost use Rattle.dt_node.specs.Runs.{next_moment, wait_until, wakes_by};
-ghost use Rattle.dt_node.specs.Serving.{Serves, edges, most_taken};
+ghost use Rattle.dt_node.specs.Serving.{Serves, edges};
 ghost use Rattle.dt_node.specs.TurnScripts.{Leaves, ended_by, turn_script};
 
 use crate::logs::Log;
@@ -26,11 +27,8 @@ use dt_edges::{Buffer, Buffered, Clock, Sink, Wire};
 use dt_fold::Stop;
 use dt_items::NoMemory;
 use dt_script::Orders;
-use dt_trace::Input;
+use dt_trace::{Input, MOST_TAKEN};
 use dt_turn::{Arrival, Node, arrival_of};
-
-/// The room for a datagram: one octet more than a frame has at most.
-const MOST_TAKEN: usize = 8_223;
 
 /// A node that runs, and what is written of it.
 #[derive(Drop)]

@@ -3,6 +3,7 @@ ghost use Rattle.dt_units.specs.Limits.{value_of, is_in_range, first_out_of_rang
 ghost use Rattle.dt_units.specs.Numbers.{quantum};
 ghost use Rattle.dt_units.specs.Times.{times_of};
 
+use crate::limits::{DAY, MOST_OCTETS};
 use std::marker::Model;
 
 /// The parameters of the protocol, all of one value at every node. Times are milliseconds and
@@ -85,9 +86,6 @@ const FIELDS: [Field; 10] = [
     Field::RunLimit,
 ];
 
-/// The greatest time that a parameter may be: a day, in milliseconds.
-const DAY: u32 = 86_400_000;
-
 impl Params {
     /// The value of a field.
     fn value(&self, field: Field) -> u32
@@ -133,7 +131,7 @@ impl Params {
             Field::Probe => (1..=DAY).contains(&value)
                 && u64::from(value) < self.time_bounds().send,
             Field::Seg => (1..=8192).contains(&value),
-            Field::Cap | Field::Rcap | Field::Window => (1..=65_536).contains(&value),
+            Field::Cap | Field::Rcap | Field::Window => (1..=MOST_OCTETS).contains(&value),
             Field::RunLimit => (1..=2_147_483_648).contains(&value),
         }
     }
