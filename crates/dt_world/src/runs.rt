@@ -1,5 +1,5 @@
-//! The run of each flow: what the ledger's places and an acknowledgement's number are told by.
-ghost use Rattle.std.specs.Prelude.{◌≡◌, ◌<◌};
+//! The run of each flow: what the ledger's places and an acknowledgement's number are known by.
+ghost use Rattle.std.specs.Prelude.{◌≡◌};
 ghost use Rattle.dt_flow_model.specs.Flow.{base_in, begins_run, crossings_told, run_goes_on, run_told};
 ghost use Rattle.dt_flow_model.specs.Numbering.{is_crossing};
 ghost use Rattle.dt_world.specs.Runs.{no_run, run_seen};
