@@ -1,23 +1,25 @@
 //! A log, line by line, up to its first flaw, and the line of the verdict.
-ghost use Rattle.std.specs.Prelude.{◌≡◌, ◌≤◌, ◌++◌, codes, decimal, IfOk, length};
+ghost use Rattle.std.specs.Prelude.{◌≡◌, ◌≤◌, IfOk, length};
 ghost use Rattle.dt_edges.specs.Sinks.{Puts};
-ghost use Rattle.dt_log.specs.Words.{spaced};
+ghost use Rattle.dt_log.specs.LogLines.{at_line};
+ghost use Rattle.dt_log.specs.Words.{row_text};
+ghost use Rattle.dt_text.specs.InputLines.{most_input};
 ghost use Rattle.dt_audit.specs.Audits.{AreSafe, Audits, ledger_of, verdict_text};
 ghost use Rattle.dt_audit.specs.Books.{flaw_in};
 ghost use Rattle.dt_audit.specs.Flaws.{flaw_words};
 
-use crate::flaws::{Flaw, flaw_text};
+use crate::flaws::Flaw;
 use crate::notebooks::Notebook;
 use crate::outcomes::AuditOutcome;
-use dt_edges::{Failed, Sink, put_all};
+use dt_edges::{Failed, Sink};
 use dt_items::NoMemory;
-use dt_log::put_number;
+use dt_log::{Word, line_fault_text, put_at_line, put_row};
 use dt_text::split_line;
 use std::alloc::Global;
 
 /// The number of the first line that has a flaw, counted from 1, and its first flaw.
 fn find_flaw(alloc: Global, bytes: &[u8]) -> Result<Option<(u64, Flaw)>, NoMemory>
-    requires few { length bytes.now ≤ 16777216 }
+    requires few { length bytes.now ≤ most_input }
     ensures { IfOk result (λ found. found ≡ flaw_in (ledger_of bytes.now)) }
 {
     let mut notebook = Notebook::new(alloc);
@@ -34,40 +36,19 @@ fn find_flaw(alloc: Global, bytes: &[u8]) -> Result<Option<(u64, Flaw)>, NoMemor
     Ok(None)
 }
 
-/// Puts the words of a flaw and a line feed.
-#[tactic(auto, using(dt_edges::proofs::Puts::two_parts))]
-fn put_ended<K: Sink>(flaw: Flaw, out: &mut K) -> Result<(), Failed>
-    ensures { Puts K.sight (spaced (flaw_words flaw) ++ codes "\n") result out.old out.new }
-{
-    put_all(flaw_text(flaw).as_bytes(), out)?;
-    put_all(b"\n", out)
-}
-
-/// Puts the number of a line, a colon and a space.
-#[tactic(auto, using(dt_edges::proofs::Puts::two_parts))]
-fn put_line_number<K: Sink>(line: u64, out: &mut K) -> Result<(), Failed>
-    ensures { Puts K.sight (decimal line ++ codes ": ") result out.old out.new }
-{
-    put_number(line, out)?;
-    put_all(b": ", out)
-}
-
-/// Puts the number of a line and its flaw.
-#[tactic(auto, using(dt_edges::proofs::Puts::two_parts))]
-fn put_numbered<K: Sink>(line: u64, flaw: Flaw, out: &mut K) -> Result<(), Failed>
-    ensures { Puts K.sight ((decimal line ++ codes ": ") ++ (spaced (flaw_words flaw) ++ codes "\n")) result out.old out.new }
-{
-    put_line_number(line, out)?;
-    put_ended(flaw, out)
-}
-
-/// Puts the line of a flaw.
-#[tactic(auto, using(dt_edges::proofs::Puts::two_parts))]
+/// Puts the line of a flaw, which stands in the log's line of this number.
 fn put_flaw<K: Sink>(line: u64, flaw: Flaw, out: &mut K) -> Result<(), Failed>
-    ensures { Puts K.sight (codes "line " ++ ((decimal line ++ codes ": ") ++ (spaced (flaw_words flaw) ++ codes "\n"))) result out.old out.new }
+    ensures { Puts K.sight (row_text (at_line line (flaw_words flaw))) result out.old out.new }
 {
-    put_all(b"line ", out)?;
-    put_numbered(line, flaw, out)
+    match flaw {
+        Flaw::Line(fault) => put_at_line(line, &[Word::Text(line_fault_text(fault))], out),
+        Flaw::Stray => put_at_line(line, &[Word::Text("stray")], out),
+        Flaw::Breaks(promise) => put_at_line(
+            line,
+            &[Word::Text("breaks"), Word::Text(promise.name())],
+            out,
+        ),
+    }
 }
 
 /// Puts the verdict.
@@ -76,7 +57,7 @@ fn put_verdict<K: Sink>(found: Option<(u64, Flaw)>, out: &mut K) -> Result<(), F
 {
     match found {
         Some((line, flaw)) => put_flaw(line, flaw, out),
-        None => put_all(b"audit yes\n", out),
+        None => put_row(Word::Text("audit"), &[Word::Text("yes")], &[], out),
     }
 }
 
@@ -100,7 +81,7 @@ fn put_verdict<K: Sink>(found: Option<(u64, Flaw)>, out: &mut K) -> Result<(), F
 /// is the log, and at an acceptance a search among such lives of its sender, whose steps grow with the
 /// logarithm of their number.
 pub fn audit<K: Sink>(alloc: Global, bytes: &[u8], out: &mut K) -> AuditOutcome
-    requires few { length bytes.now ≤ 16777216 }
+    requires few { length bytes.now ≤ most_input }
     ensures ends { Audits result bytes.now (K.sight out.old) (K.sight out.new) }
     ensures safe { IfOk (ledger_of bytes.now) AreSafe }
 {

@@ -1,8 +1,6 @@
 ghost use Rattle.std.specs.Prelude.{◌≡◌};
-ghost use Rattle.dt_log.specs.Words.{spaced};
-ghost use Rattle.dt_audit.specs.Flaws.{flaw_words};
+ghost use Rattle.dt_audit.specs.Flaws.{promise_text};
 
-use dt_log::line_fault_text;
 use dt_reports::LineFault;
 
 /// What a log can break.
@@ -29,16 +27,16 @@ pub enum Flaw {
     Breaks(Promise),
 }
 
-/// The text of a flaw.
-pub fn flaw_text(flaw: Flaw) -> &'static str
-    ensures { result.now ≡ spaced (flaw_words flaw) }
-{
-    match flaw {
-        Flaw::Line(fault) => line_fault_text(fault),
-        Flaw::Stray => "stray",
-        Flaw::Breaks(Promise::InOrder) => "breaks S1",
-        Flaw::Breaks(Promise::SkipsReported) => "breaks S3",
-        Flaw::Breaks(Promise::AcknowledgedIsGiven) => "breaks S4",
-        Flaw::Breaks(Promise::RunsUnbroken) => "breaks S6",
+impl Promise {
+    /// The number by which the log of an audit names it.
+    pub fn name(self) -> &'static str
+        ensures { result.now ≡ promise_text self }
+    {
+        match self {
+            Promise::InOrder => "S1",
+            Promise::SkipsReported => "S3",
+            Promise::AcknowledgedIsGiven => "S4",
+            Promise::RunsUnbroken => "S6",
+        }
     }
 }

@@ -259,7 +259,7 @@ until_moment row moment = record row { moment = moment }
 abbrev pub released : Flow → Bool → ReportRow
 released flow sending = record (about 8 (flow_row flow)) { sending = sending }
 
--- what a station tells; what only others tell is of kind 0
+-- what a station reports; what only a world, a node or a run tells is of kind 0
 abbrev pub report_row : Told → ReportRow
 report_row (reports.Took flow count) = numbered 1 flow 0 count 0
 report_row (reports.Refused flow (refusal.Quiet until)) = until_moment (numbered 2 flow 0 0 0) until
@@ -286,7 +286,17 @@ report_row (reports.ExpiredOut link) = elsewhere 22 link 0
 report_row (reports.NoRoute to) = elsewhere 23 to 0
 report_row (reports.Full link) = elsewhere 24 link 0
 report_row (reports.Bad fault) = elsewhere 25 (fault_row fault).fault (fault_row fault).value
-report_row other = about_none 0
+report_row (reports.PutAs link life copy) = about_none 0
+report_row (reports.Unsent link) = about_none 0
+report_row (reports.Shelved flow number) = about_none 0
+report_row (reports.NoShelf flow number) = about_none 0
+report_row (reports.Again flow number) = about_none 0
+report_row (reports.Stale flow number) = about_none 0
+report_row (reports.Restarted life) = about_none 0
+report_row (reports.Lost copy) = about_none 0
+report_row (reports.FlowTotals flow taken acked uncertain unsettled given read) = about_none 0
+report_row reports.End = about_none 0
+report_row (reports.Fault line fault) = about_none 0
 
 -- WHAT A GUARD KEPT OUT
 abbrev pub kept_out_row : GuardValue → KeptOutRow

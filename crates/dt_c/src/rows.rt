@@ -755,7 +755,7 @@ fn released(flow: Flow, sending: bool) -> ReportRow
     row
 }
 
-/// A report of a station. Those that are told by others are of kind 0.
+/// A report of a station. Those that only a world, a node or a run tells are of kind 0.
 pub fn report_row(report: &Report<'_>) -> ReportRow
     ensures { result ≡ report_row (told report.now) }
 {
@@ -835,6 +835,16 @@ pub fn report_row(report: &Report<'_>) -> ReportRow
             let row = fault_row(fault);
             elsewhere(25, row.fault as u32, row.value)
         }
-        _ => about_none(0),
+        Report::PutAs { .. }
+        | Report::Unsent { .. }
+        | Report::Shelved { .. }
+        | Report::NoShelf { .. }
+        | Report::Again { .. }
+        | Report::Stale { .. }
+        | Report::Restarted { .. }
+        | Report::Lost { .. }
+        | Report::FlowTotals { .. }
+        | Report::End
+        | Report::Fault { .. } => about_none(0),
     }
 }

@@ -31,10 +31,8 @@ use dt_items::NoMemory;
 use dt_messages::{read_message, reversed, write_message};
 use dt_reports::StepFault;
 use dt_units::Flow;
+use dt_units::limits::MOST_OCTETS;
 use dt_world::{Event, World};
-
-/// The most octets of a read.
-const MOST_READ: u32 = 65_536;
 
 /// An event of the world within a step. Where it is refused, nothing happens.
 pub fn try_event(world: &mut World, heard: &mut Heard, event: &Event<'_>) -> Result<(), NoMemory>
@@ -174,7 +172,7 @@ fn read_side<H: Handler, L: CallLines>(
 {
     let read = Event::Read {
         flow: side.flow_read(*flow),
-        max: MOST_READ,
+        max: MOST_OCTETS,
     };
     loop {
         try_event(&mut parts.world, &mut parts.heard, &read)?;

@@ -14,7 +14,7 @@ use Rattle.dt_reports.specs.declared.faults.Fault.TheVariants as faults
 use Rattle.dt_reports.specs.declared.faults.SetupFault.{SetupFault}
 use Rattle.dt_text.specs.declared.lines.Form.TheVariants as forms
 use Rattle.dt_text.specs.declared.stages.Stage.{Stage}
-use Rattle.dt_text.specs.InputLines.{lines_of}
+use Rattle.dt_text.specs.InputLines.{lines_of, most_input}
 use Rattle.dt_text.specs.Hexadecimal.{octets_of_hex}
 use Rattle.dt_text.specs.Lines.{line_of}
 use Rattle.dt_text.specs.declared.lines.Line.TheVariants as said
@@ -221,7 +221,7 @@ lines_read number payloads scene (line ∷ lines) few h =
     (read_turn payloads scene (omega (arith, few)) h line (line_of forms.Calls line) refl)
     (λ next k. lines_read (suc number) (payloads ++ called) next lines (omega (arith, few, one, many)) k)
 
-few_lines : (count : ℕ) (octets : List ℕ) → length octets ≤ 16777216 → length (take count (lines_of octets)) < 2 ^ 64
+few_lines : (count : ℕ) (octets : List ℕ) → length octets ≤ most_input → length (take count (lines_of octets)) < 2 ^ 64
 few_lines count octets few = let some = length-take count (lines_of octets) in let all = lines_count octets in omega (arith, some, all, few)
 
 -- THE CALLS OF AN INPUT
@@ -241,7 +241,7 @@ are_calls octets c made rest few all h =
     let same = h.own.count in
     record { made = own; answers = λ e entries after may step. step_answers reverse c e entries after h.facts (omega (arith, few, long, same)) may step (first_called octets c) own }
 
-module _ (octets : List ℕ) (few : length octets ≤ 16777216) where
+module _ (octets : List ℕ) (few : length octets ≤ most_input) where
   few_called : (lines : List (List ℕ)) → length (octets_called lines) ≤ length lines
   few_called [] = omega arith
   few_called (line ∷ lines) =
@@ -285,11 +285,11 @@ module _ (octets : List ℕ) (few : length octets ≤ 16777216) where
   unfolding calls_read
   whole_read = let all = lines_count octets in lines_read 1 [] Empty (lines_of octets) (omega (arith, all, few)) refl
 
-pub served_once : (count : ℕ) (octets : List ℕ) → length octets ≤ 16777216 → IfSome (calls_after_lines count octets) (λ c. AreServedOnce c)
+pub served_once : (count : ℕ) (octets : List ℕ) → length octets ≤ most_input → IfSome (calls_after_lines count octets) (λ c. AreServedOnce c)
 served_once count octets few = served_after octets few count
 
-pub made_by_lines : (count : ℕ) (octets : List ℕ) → length octets ≤ 16777216 → IfSome (calls_after_lines count octets) (λ c. AreCallsOf octets c)
+pub made_by_lines : (count : ℕ) (octets : List ℕ) → length octets ≤ most_input → IfSome (calls_after_lines count octets) (λ c. AreCallsOf octets c)
 made_by_lines count octets few = calls_after octets few count
 
-pub own_answers : (octets : List ℕ) → length octets ≤ 16777216 → TellsOwnAnswers octets
+pub own_answers : (octets : List ℕ) → length octets ≤ most_input → TellsOwnAnswers octets
 own_answers octets few = let h = whole_read octets few in record { told = h.told; last = h.last; text = h.text; answers = h.answers }

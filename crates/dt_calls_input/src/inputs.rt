@@ -13,8 +13,8 @@ use dt_fold::Stop;
 use dt_items::NoMemory;
 use dt_log::write_line;
 use dt_reports::{Fault, LogLine, Report};
-use dt_scenario::{MISPLACED, Simulation};
-use dt_text::{Form, RunLine, decode_hex};
+use dt_scenario::Simulation;
+use dt_text::{Form, MISPLACED, RunLine, decode_hex};
 use dt_world::{Setup, World};
 use std::alloc::Global;
 

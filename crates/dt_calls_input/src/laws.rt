@@ -1,6 +1,7 @@
 //! What is true of every input of calls. Each law is the contract of a public function with an empty
 //! body.
 ghost use Rattle.std.specs.Prelude.{ℕ, ◌≤◌, IfSome, List, length};
+ghost use Rattle.dt_text.specs.InputLines.{most_input};
 ghost use Rattle.dt_calls_model.specs.Promises.{AreServedOnce};
 ghost use Rattle.dt_calls_input.specs.CallAnswers.{AreCallsOf, TellsOwnAnswers};
 ghost use Rattle.dt_calls_input.specs.CallInputs.{calls_after_lines};
@@ -12,7 +13,7 @@ ghost use Rattle.dt_calls_input.specs.CallInputs.{calls_after_lines};
 /// to there. And in the text of the input each answer is that of its own call: `answered N` has the octets
 /// of the `call` line N, counted from 0, in reversed order, and there is such a line.
 pub fn calls_of_an_input_are_served_at_most_once()
-    ensures once { (count : ℕ) (octets : List ℕ) → length octets ≤ 16777216 → IfSome (calls_after_lines count octets) (λ c. AreServedOnce c) }
-    ensures calls { (count : ℕ) (octets : List ℕ) → length octets ≤ 16777216 → IfSome (calls_after_lines count octets) (λ c. AreCallsOf octets c) }
-    ensures answers { (octets : List ℕ) → length octets ≤ 16777216 → TellsOwnAnswers octets }
+    ensures once { (count : ℕ) (octets : List ℕ) → length octets ≤ most_input → IfSome (calls_after_lines count octets) (λ c. AreServedOnce c) }
+    ensures calls { (count : ℕ) (octets : List ℕ) → length octets ≤ most_input → IfSome (calls_after_lines count octets) (λ c. AreCallsOf octets c) }
+    ensures answers { (octets : List ℕ) → length octets ≤ most_input → TellsOwnAnswers octets }
 {}

@@ -1,5 +1,6 @@
 //! An input of calls, read from its first line to its last.
 ghost use Rattle.std.specs.Prelude.{ℕ, ◌≡◌, ◌≤◌, length, IfSome};
+ghost use Rattle.dt_text.specs.InputLines.{most_input};
 ghost use Rattle.dt_calls_model.specs.Promises.{AreServedOnce};
 ghost use Rattle.dt_calls_input.specs.CallEnds.{CallsEnd, outcome_of};
 ghost use Rattle.dt_calls_input.specs.CallAnswers.{AreCallsOf, TellsOwnAnswers};
@@ -25,7 +26,7 @@ use std::alloc::Global;
 /// there. Each answer that is told is that of its own call: `answered N` has the octets of the `call` line
 /// N, counted from 0, in reversed order, and there is such a line.
 pub fn calls<K: Sink>(alloc: Global, bytes: &[u8], out: &mut K) -> CallsOutcome
-    requires few { length bytes.now ≤ 16777216 }
+    requires few { length bytes.now ≤ most_input }
     ensures ends { CallsEnd result bytes.now (K.sight out.old) (K.sight out.new) }
     ensures once { (count : ℕ) → IfSome (calls_after_lines count bytes.now) (λ c. AreServedOnce c) }
     ensures calls { (count : ℕ) → IfSome (calls_after_lines count bytes.now) (λ c. AreCallsOf bytes.now c) }

@@ -4,7 +4,7 @@ use Rattle.std.specs.Prelude.{◌&&◌, if◌then◌else◌, nat_lt, nat_le, min
 use Rattle.std.specs.List.{All}
 use Rattle.std.proofs.lemmas.Bool.{cases_lt}
 use Rattle.std.proofs.lemmas.List.Elements.{All-append, All-cons, All-head, All-tail, All-weaker}
-use Rattle.dt_flow_model.specs.SendActs.{Act, GoesFirst, HoldsMissed, IsAhead, IsDue, IsKindDue, IsMomentOf, act_if, act_of, can_send, could_meet, due_moment, earlier, give_up, gives_up_from, giving_up, is_late, kind_of, may_send_from, meet, meeting, moment_if, most_segments, release, release_or_renew, releases_from, releasing, renew, resend, resending, resends_from, send, send_moment, send_moments, sending}
+use Rattle.dt_flow_model.specs.SendActs.{Act, GoesFirst, HoldsMissed, IsAhead, IsDue, IsKindDue, IsMomentOf, act_if, act_of, can_send, could_meet, due_moment, give_up, gives_up_from, giving_up, is_late, kind_of, may_send_from, meet, meeting, moment_if, most_segments, release, release_or_renew, releases_from, releasing, renew, resend, resending, resends_from, send, send_moment, send_moments, sending}
 use Rattle.dt_flow_model.specs.ReceiveRecord.{IsOwed, IsRecvDue, ReceiveRecord, owing, recv_due_of, recv_moment, recv_moment_if, recv_moments}
 use Rattle.dt_flow_model.specs.declared.acts.RecvKind.{RecvKind}
 use Rattle.dt_flow_model.specs.declared.acts.RecvKind.TheVariants as K
@@ -14,6 +14,7 @@ use Rattle.dt_flow_model.specs.declared.acts.SendKind.TheVariants.{GiveUp, Meet,
 use Rattle.dt_items.specs.declared.item.Item.{Item}
 use Rattle.dt_units.specs.Times.{give_time, receive_time, send_time}
 use Rattle.dt_units.specs.declared.parameters.Params.{Params}
+use Rattle.dt_units.specs.Moments.{earlier}
 use Rattle.std.proofs.lemmas.Bool.{and_parts}
 use Rattle.dt_flow_laws.proofs.Resends.{resend_is_first}
 use Rattle.dt_flow_model.proofs.Chosen.{act_is_due, both, cut_count, either, le_true, lt_true, release_may, true_le, true_lt}

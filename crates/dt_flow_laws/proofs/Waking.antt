@@ -4,12 +4,13 @@ use Rattle.std.specs.Prelude.{◌&&◌, nat_lt, nat_le, min, max}
 use Rattle.std.proofs.lemmas.Bool.{cases_Bool, cases_lt}
 use Rattle.std.proofs.lemmas.Bool.Decides.{nat_tests}
 use Rattle.dt_flow_model.specs.ReceiveRecord.{IsOwed, IsRecvDue, ReceiveRecord, owing, recv_due_of, recv_moment_if, recv_wake_of}
-use Rattle.dt_flow_model.specs.SendActs.{Act, IsBefore, IsDue, IsFirst, act_if, act_of, better, can_send, could_meet, earlier, give_up, gives_up_from, giving_up, is_late, kind_of, may_send_from, meet, meeting, moment_if, most_segments, or_else, rank_of, release, release_or_renew, releases_from, releasing, renew, resend, resending, resends_from, send, sending, wake_of}
+use Rattle.dt_flow_model.specs.SendActs.{Act, IsBefore, IsDue, IsFirst, act_if, act_of, better, can_send, could_meet, give_up, gives_up_from, giving_up, is_late, kind_of, may_send_from, meet, meeting, moment_if, most_segments, or_else, rank_of, release, release_or_renew, releases_from, releasing, renew, resend, resending, resends_from, send, sending, wake_of}
 use Rattle.dt_flow_model.specs.SendRecord.{Segment, SendRecord, cut_of, cut_size, next_of, rest_of}
 use Rattle.dt_flow_model.specs.declared.acts.RecvKind.{RecvKind}
 use Rattle.dt_items.specs.declared.item.Item.{Item}
 use Rattle.dt_units.specs.Times.{give_time, receive_time, send_time}
 use Rattle.dt_units.specs.declared.parameters.Params.{Params}
+use Rattle.dt_units.specs.Moments.{earlier}
 use Rattle.dt_flow_model.specs.declared.acts.RecvKind.TheVariants as V
 use Rattle.dt_flow_model.proofs.Chosen.{DueOf, both, cut_count, le_true, resend_may, true_le, true_lt}
 

@@ -15,9 +15,9 @@ use Rattle.dt_flow_model.specs.declared.arrivals.Action.TheVariants.{Drop, Make,
 use Rattle.dt_flow_model.specs.declared.arrivals.Arrived.{Arrived}
 use Rattle.dt_flow_model.specs.declared.arrivals.Arrived.TheVariants.{Accepted, Replied, Dropped, Closing}
 use Rattle.dt_units.specs.Numbers.{number_after, relation_of}
+use Rattle.dt_units.specs.Moments.{earlier}
 use Rattle.dt_flow_model.specs.Ledger.{unread_items}
 use Rattle.dt_flow_model.specs.SendRecord.{ends}
-use Rattle.dt_flow_model.specs.SendActs.{earlier}
 
 pub record ReceiveRecord : Type 0 where
   -- the number of the octet that comes next. It goes round

@@ -1,7 +1,8 @@
 -- The acts of a send record: when each kind is due, its due moment, what it does, and when the record is to be woken.
-use Rattle.std.specs.Prelude.{ℕ, ◌+◌, ◌<◌, ◌≤◌, ◌≡◌, min, max, Bool, true, false, ◌&&◌, if◌then◌else◌, nat_lt, nat_le, List, [], ◌∷◌, ◌++◌, length, Option, Some, None, All}
+use Rattle.std.specs.Prelude.{ℕ, ◌+◌, ◌<◌, ◌≤◌, ◌≡◌, max, Bool, true, false, ◌&&◌, if◌then◌else◌, nat_lt, nat_le, List, [], ◌∷◌, ◌++◌, length, Option, Some, None, All}
 use Rattle.dt_items.specs.declared.item.Item.{Item}
 use Rattle.dt_units.specs.declared.parameters.Params.{Params}
+use Rattle.dt_units.specs.Moments.{earlier}
 use Rattle.dt_units.specs.Times.{give_time, send_time, spacing_time}
 use Rattle.dt_flow_model.specs.declared.acts.SendKind.{SendKind}
 use Rattle.dt_flow_model.specs.declared.acts.SendKind.TheVariants.{GiveUp, Release, Resend, Send, Meet}
@@ -164,12 +165,6 @@ told_of p x renew = Renewed
 told_of p x (resend before g after) = Resent (cut_told p x g.offset g.items)
 told_of p x (send cut rest) = Sent (cut_told p x (next_of x) cut)
 told_of p x meet = Met (number_of p x.left)
-
--- the lesser of two moments, of which each may be none
-abbrev pub earlier : Option ℕ → Option ℕ → Option ℕ
-earlier None n = n
-earlier (Some m) None = Some m
-earlier (Some m) (Some n) = Some (min m n)
 
 abbrev pub moment_if : Bool → ℕ → Option ℕ
 moment_if true moment = Some moment

@@ -77,3 +77,9 @@ abbrev pub PassesRest : Result Bool Stop → Result Bool Stop → List ℕ → S
 PassesRest (Err stops.WriteFault) result waiting before after = (result ≡ Err stops.WriteFault) × (after ≡ before)
 PassesRest (Err stops.NoMemory) result waiting before after = Passes (Err stops.NoMemory) result waiting before after
 PassesRest (Ok accepted) result waiting before after = Passes (Ok accepted) result waiting before after
+
+-- a call stopped since memory ran out, and not since a put failed
+abbrev pub wants_memory : {U : Type 0} → Result U Stop → Bool
+wants_memory (Ok done) = false
+wants_memory (Err stops.NoMemory) = true
+wants_memory (Err stops.WriteFault) = false

@@ -1,6 +1,7 @@
-ghost use Rattle.std.specs.Prelude.{◌≡◌, ◌≤◌, [], length};
+ghost use Rattle.std.specs.Prelude.{◌≡◌, ◌≤◌, [], length, true, IfOk, OnOk, Ok};
+ghost use Rattle.dt_text.specs.InputLines.{most_input};
 ghost use Rattle.dt_fold.specs.Folds.{fold_input};
-ghost use Rattle.dt_fold.specs.Logging.{Fills, FillsBehind, PassesRest};
+ghost use Rattle.dt_fold.specs.Logging.{Fills, FillsBehind, PassesRest, wants_memory};
 
 use crate::folding::fold_input;
 use crate::line_turns::LineTurns;
@@ -21,7 +22,7 @@ pub fn fold_behind_buffer<T: LineTurns, K: Sink>(
     bytes: &[u8],
     out: &mut K,
 ) -> Result<bool, Stop>
-    requires few { length bytes.now ≤ 16777216 }
+    requires few { length bytes.now ≤ most_input }
     ensures { Fills (fold_input T.turns (T.state lines.old) bytes.now) result (K.sight out.old) (K.sight out.new) }
 {
     let mut buffer = Buffer::new(alloc)?;
@@ -36,24 +37,33 @@ fn fold_into<T: LineTurns, K: Sink>(
     buffer: &mut Buffer,
     out: &mut K,
 ) -> Result<bool, Stop>
-    requires few { length bytes.now ≤ 16777216 }
+    requires few { length bytes.now ≤ most_input }
     ensures { FillsBehind (fold_input T.turns (T.state lines.old) bytes.now) result (K.sight out.old) buffer.old (K.sight out.new) buffer.new }
 {
     let mut log = Buffered { out, buffer };
     fold_input(lines, bytes, &mut log)
 }
 
-/// Puts what waits on the sink, where no put has failed.
-fn pass_rest<K: Sink>(
-    folded: Result<bool, Stop>,
+/// Puts what waits in a buffer on the sink behind it, where no put has failed: the end of a call that
+/// wrote into the buffer, by what the call answered. Takes no memory. The cost is that of what waits.
+///
+/// - `Ok`: the call's answer. All is put, and nothing waits any more.
+/// - `NoMemory`: the call's answer. All is put.
+/// - `WriteFault`: a put of the call failed, and nothing more is put; or one failed here, a first part
+///   is put, and the sink's count of faults rose.
+pub fn pass_rest<K: Sink>(
+    done: Result<bool, Stop>,
     buffer: &mut Buffer,
     out: &mut K,
 ) -> Result<bool, Stop>
-    ensures { PassesRest folded result buffer.old (K.sight out.old) (K.sight out.new) }
+    ensures puts { PassesRest done result buffer.old (K.sight out.old) (K.sight out.new) }
+    ensures empty { OnOk result (buffer.new ≡ []) }
+    ensures same { IfOk result (λ answer. done ≡ Ok answer) }
+    ensures memory { wants_memory result ≡ true → wants_memory done ≡ true }
 {
-    if let Err(Stop::WriteFault) = folded {
-        return folded;
+    if let Err(Stop::WriteFault) = done {
+        return done;
     }
     buffer.pass_on(out)?;
-    folded
+    done
 }

@@ -1,5 +1,6 @@
 //! An input, line by line, up to its end or to the first line that is refused.
 ghost use Rattle.std.specs.Prelude.{◌≡◌, ◌≤◌, [], length, IfOk};
+ghost use Rattle.dt_text.specs.InputLines.{most_input};
 ghost use Rattle.dt_fold.specs.Folds.{fold_input, refusal};
 ghost use Rattle.dt_fold.specs.Logging.{FoldsTo, Logs};
 
@@ -29,7 +30,7 @@ fn fold_lines<T: LineTurns, K: Sink>(
     bytes: &[u8],
     out: &mut K,
 ) -> Result<Option<(u64, Fault)>, Stop>
-    requires few { length bytes.now ≤ 16777216 }
+    requires few { length bytes.now ≤ most_input }
     ensures { FoldsTo K.sight (fold_input T.turns (T.state lines.old) bytes.now) result (T.state lines.new) out.old out.new }
 {
     let mut rest = bytes;
@@ -60,7 +61,7 @@ pub fn fold_input<T: LineTurns, K: Sink>(
     bytes: &[u8],
     out: &mut K,
 ) -> Result<bool, Stop>
-    requires few { length bytes.now ≤ 16777216 }
+    requires few { length bytes.now ≤ most_input }
     ensures logs { Logs K.sight (fold_input T.turns (T.state lines.old) bytes.now).text result out.old out.new }
     ensures accepted { IfOk result (λ accepted. accepted ≡ (fold_input T.turns (T.state lines.old) bytes.now).accepted) }
     ensures state { IfOk result (λ _. T.state lines.new ≡ (fold_input T.turns (T.state lines.old) bytes.now).state) }

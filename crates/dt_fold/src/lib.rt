@@ -7,7 +7,7 @@ mod folding;
 mod line_turns;
 mod stops;
 
-pub use behind_buffer::fold_behind_buffer;
+pub use behind_buffer::{fold_behind_buffer, pass_rest};
 pub use folding::fold_input;
 pub use line_turns::LineTurns;
 pub use stops::Stop;

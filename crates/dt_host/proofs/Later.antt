@@ -2,8 +2,9 @@
 use Rattle.std.proofs.Common.{ℕ, ◌≡◌, ◌≤◌, List, [], ◌∷◌, Option, refl, ap, ◌∙◌, arith}
 use Rattle.dt_units.specs.declared.parameters.Params.{Params}
 use Rattle.dt_units.specs.declared.endpoints.Flow.{Flow}
+use Rattle.dt_units.specs.Moments.{earlier}
 use Rattle.dt_flow_model.specs.SendRecord.{SendRecord}
-use Rattle.dt_flow_model.specs.SendActs.{earlier, wake_of}
+use Rattle.dt_flow_model.specs.SendActs.{wake_of}
 use Rattle.dt_flow_model.specs.ReceiveRecord.{Receiver, recv_wake_of}
 use Rattle.dt_world_model.specs.Tables.{earliest}
 use Rattle.dt_flow_model.specs.declared.moments.RecvMoments.{RecvMoments}

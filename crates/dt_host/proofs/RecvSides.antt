@@ -4,6 +4,7 @@ use Rattle.std.specs.Prelude.{Err, drop, IfSome, Result, slice_index_or, unwrap_
 use Rattle.std.specs.Map.{lookup, remove_entry, set_value}
 use Rattle.dt_units.specs.declared.endpoints.Flow.{Flow}
 use Rattle.dt_units.specs.declared.parameters.Params.{Params}
+use Rattle.dt_units.specs.Moments.{earlier}
 use Rattle.indexmap.specs.IndexMap.{insert_entry}
 use Rattle.dt_items.specs.declared.item.Item.{Item}
 use Rattle.dt_flow_model.specs.declared.arrivals.Action.TheVariants.{Make}
@@ -14,7 +15,6 @@ use Rattle.dt_flow_model.specs.declared.acts.RecvKind.{RecvKind}
 use Rattle.dt_flow_model.specs.declared.acts.RecvKind.TheVariants.{Release, Ack}
 use Rattle.dt_flow_model.specs.declared.moments.RecvMoments.{RecvMoments}
 use Rattle.dt_flow_model.specs.ReceiveRecord.{ReceiveRecord, Receiver, action_on, after_data, after_read, answer_to_data, after_recv_act, recv_due_of, recv_moment, recv_told_of, recv_wake_of}
-use Rattle.dt_flow_model.specs.SendActs.{earlier}
 use Rattle.dt_flow_model.specs.declared.arrivals.Arrived.{Arrived}
 use Rattle.dt_flow_model.specs.Frames.{recv_frame, reply_frame}
 use Rattle.dt_layout.specs.Carried.{IsGram}

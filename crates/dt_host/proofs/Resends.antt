@@ -5,8 +5,9 @@ use Rattle.std.specs.List.{list_any}
 use Rattle.std.proofs.lemmas.Bool.{cases_Bool, true≢false}
 use Rattle.std.proofs.lemmas.Bool.Decides.{nat_tests}
 use Rattle.dt_units.specs.declared.parameters.Params.{Params}
+use Rattle.dt_units.specs.Moments.{earlier}
 use Rattle.dt_flow_model.specs.SendRecord.{Segment}
-use Rattle.dt_flow_model.specs.SendActs.{earlier, moment_if, resends_from}
+use Rattle.dt_flow_model.specs.SendActs.{moment_if, resends_from}
 use Rattle.dt_host.specs.Soonest.{is_missed}
 
 module _ (p : Params) (since now : ℕ) (le : since ≤ now) where

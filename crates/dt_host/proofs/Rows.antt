@@ -1,6 +1,6 @@
 -- The earliest of the moments that members of a list have.
 use Rattle.std.proofs.Common.{ℕ, zero, suc, ◌≡◌, ◌≤◌, List, [], ◌∷◌, Option, Some, None, refl, ap, ◌∙◌, arith}
-use Rattle.dt_flow_model.specs.SendActs.{earlier}
+use Rattle.dt_units.specs.Moments.{earlier}
 use Rattle.dt_world_model.specs.Tables.{earliest}
 use Rattle.dt_host.specs.Agendas.{HasNone, IsFirstIn, moment_in}
 

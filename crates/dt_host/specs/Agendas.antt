@@ -7,7 +7,7 @@ use Rattle.dt_flow_model.specs.declared.acts.SendKind.{SendKind}
 use Rattle.dt_flow_model.specs.declared.acts.SendKind.TheVariants as S
 use Rattle.dt_flow_model.specs.declared.acts.RecvKind.{RecvKind}
 use Rattle.dt_flow_model.specs.declared.acts.RecvKind.TheVariants as R
-use Rattle.dt_flow_model.specs.SendActs.{earlier}
+use Rattle.dt_units.specs.Moments.{earlier}
 use Rattle.dt_timers.specs.Deadlines.{HasNoMoment, IsFirst, moment_at}
 use Rattle.dt_host.specs.Places.{slot}
 

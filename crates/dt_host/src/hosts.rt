@@ -17,7 +17,7 @@ ghost use Rattle.dt_host.specs.Soonest.{missed_senders};
 ghost use Rattle.dt_host.specs.declared.faults.SendFault.TheVariants as send_fault;
 
 use crate::acts::{Act, Done};
-use crate::dues::{DueAct, DueKind, earlier};
+use crate::dues::{DueAct, DueKind};
 use crate::faults::SendFault;
 use crate::octets::Octets;
 use crate::recv_side::RecvSide;
@@ -26,7 +26,7 @@ use dt_flow_model::{Arrived, RecvKind, SendKind};
 use dt_items::{NoMemory, Piece};
 use dt_layout::{Frame, Packet};
 use dt_recv::Segment;
-use dt_units::{Flow, NodeId, Rules, Steps};
+use dt_units::{Flow, NodeId, Rules, Steps, earlier};
 use std::alloc::Global;
 use std::marker::Model;
 use std::mem::size_of;

@@ -21,13 +21,13 @@ ghost use Rattle.dt_host.specs.Notes.{recv_noted};
 ghost use Rattle.dt_host.specs.Places.{equal_flows};
 ghost use Rattle.dt_host.specs.Soonest.{IsQuiet, IsSoonest, receiver_moment};
 
-use crate::dues::{DueAct, DueKind, earlier};
+use crate::dues::{DueAct, DueKind};
 use crate::table::Table;
 use dt_flow_model::{Action, Arrived, RecvAct, RecvKind};
 use dt_items::{NoMemory, Piece};
 use dt_layout::{Frame, Packet, write_frame};
 use dt_recv::{Receiver, Segment, action};
-use dt_units::{Flow, Rules, Steps};
+use dt_units::{Flow, Rules, Steps, earlier};
 use std::alloc::Global;
 use std::marker::Model;
 use std::sync::ledger::Ledger;

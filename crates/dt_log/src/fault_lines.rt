@@ -48,8 +48,12 @@ pub fn line_fault_text(fault: LineFault) -> &'static str
 /// The words where there was no memory.
 const NO_MEMORY: [Word<'static>; 3] = [Word::Text("out"), Word::Text("of"), Word::Text("memory")];
 
-/// Puts the line of a refused line of an input: its number, and these words.
-fn put_refused_line<K: Sink>(line: u64, words: &[Word<'_>], out: &mut K) -> Result<(), Failed>
+/// Puts what is reported of a line of an input, which has this number: `line N:` and these words, with
+/// one space between two of them, and a line feed.
+///
+/// `Ok` has appended exactly that. `Failed` has appended a first part of it, and comes only where the
+/// sink's count of faults rose. Takes no memory. The cost is that of what is put.
+pub fn put_at_line<K: Sink>(line: u64, words: &[Word<'_>], out: &mut K) -> Result<(), Failed>
     ensures { Puts K.sight (row_text (at_line line (map word_text words.now))) result out.old out.new }
 {
     put_row(Word::Text("line"), &[Word::Line(line)], words, out)
@@ -64,7 +68,7 @@ fn put_refused_number<K: Sink>(
 ) -> Result<(), Failed>
     ensures { Puts K.sight (row_text (at_line line (name.now ∷ decimal n ∷ []))) result out.old out.new }
 {
-    put_refused_line(line, &[Word::Text(name), Word::Number(n)], out)
+    put_at_line(line, &[Word::Text(name), Word::Number(n)], out)
 }
 
 /// Puts the line of a line that a setup refuses: one row a fault.
@@ -75,7 +79,7 @@ fn put_setup_fault<K: Sink>(line: u64, fault: SetupFault, out: &mut K) -> Result
         SetupFault::Twice { n } => put_refused_number(line, "twice", n, out),
         SetupFault::Unknown { n } => put_refused_number(line, "unknown", n, out),
         SetupFault::Stray { n } => put_refused_number(line, "stray", n, out),
-        SetupFault::NoMemory => put_refused_line(line, &NO_MEMORY, out),
+        SetupFault::NoMemory => put_at_line(line, &NO_MEMORY, out),
     }
 }
 
@@ -83,7 +87,7 @@ fn put_setup_fault<K: Sink>(line: u64, fault: SetupFault, out: &mut K) -> Result
 fn put_missing<K: Sink>(line: u64, what: &'static str, n: u32, out: &mut K) -> Result<(), Failed>
     ensures { Puts K.sight (row_text (at_line line (codes "no" ∷ what.now ∷ decimal n ∷ []))) result out.old out.new }
 {
-    put_refused_line(
+    put_at_line(
         line,
         &[Word::Text("no"), Word::Text(what), Word::Number(n)],
         out,
@@ -95,13 +99,11 @@ fn put_step_fault<K: Sink>(line: u64, fault: StepFault, out: &mut K) -> Result<(
     ensures { Puts K.sight (row_text (at_line line (step_fault_words fault))) result out.old out.new }
 {
     match fault {
-        StepFault::BadFlow => {
-            put_refused_line(line, &[Word::Text("bad"), Word::Text("flow")], out)
-        }
+        StepFault::BadFlow => put_at_line(line, &[Word::Text("bad"), Word::Text("flow")], out),
         StepFault::NoStation { n } => put_missing(line, "station", n, out),
         StepFault::NoCopy { n } => put_missing(line, "copy", n, out),
         StepFault::Lost { n } => put_refused_number(line, "lost", n, out),
-        StepFault::TooLate { held, charge } => put_refused_line(
+        StepFault::TooLate { held, charge } => put_at_line(
             line,
             &[
                 Word::Text("too"),
@@ -111,7 +113,7 @@ fn put_step_fault<K: Sink>(line: u64, fault: StepFault, out: &mut K) -> Result<(
             ],
             out,
         ),
-        StepFault::NoMemory => put_refused_line(line, &NO_MEMORY, out),
+        StepFault::NoMemory => put_at_line(line, &NO_MEMORY, out),
     }
 }
 
@@ -120,8 +122,8 @@ pub(crate) fn put_fault<K: Sink>(line: u64, fault: Fault, out: &mut K) -> Result
     ensures { Puts K.sight (row_text (at_line line (fault_words fault))) result out.old out.new }
 {
     match fault {
-        Fault::Line(fault) => put_refused_line(line, &[Word::Text(line_fault_text(fault))], out),
-        Fault::Param(fault) => put_refused_line(
+        Fault::Line(fault) => put_at_line(line, &[Word::Text(line_fault_text(fault))], out),
+        Fault::Param(fault) => put_at_line(
             line,
             &[
                 Word::Text("param"),

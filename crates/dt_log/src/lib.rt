@@ -11,7 +11,7 @@ mod numbers;
 mod words;
 
 pub use digits::put_hex;
-pub use fault_lines::line_fault_text;
+pub use fault_lines::{line_fault_text, put_at_line};
 pub use flows::put_flow;
 pub use log_lines::write_line;
 pub use numbers::put_number;

@@ -11,6 +11,7 @@ use Rattle.dt_edges.specs.Telling.{NotesAll}
 use Rattle.dt_edges.specs.Wires.{Datagram, HasWaited, OpenFails, Opening, Plan, TakeFails, TakesOne, WireSight}
 use Rattle.std.specs.Prelude.{if◌then◌else◌}
 use Rattle.dt_log.specs.Logs.{log_text}
+use Rattle.dt_text.specs.InputLines.{most_input}
 use Rattle.dt_fold.specs.declared.stops.Stop.{Stop}
 use Rattle.dt_fold.specs.declared.stops.Stop.TheVariants as stops
 use Rattle.dt_fold.specs.Folds.{Folded, fold_input}
@@ -28,13 +29,14 @@ use Rattle.dt_script.specs.Drafts.{Draft, Empty, orders_in, read_script, refusal
 use Rattle.dt_script.proofs.Fitting.{script_good, script_read}
 use Rattle.dt_trace.specs.Inputs.{Input, FailedOpen, FailedTake, Reading, Taken as Found}
 use Rattle.dt_trace.specs.Standing.{HasFound}
+use Rattle.dt_trace.specs.Lines.{most_taken}
 use Rattle.dt_node.specs.declared.forms.Form.{Form}
 use Rattle.dt_node.specs.declared.forms.Form.TheVariants as forms
 use Rattle.dt_node.specs.Deeds.{FatesFrom, FaultsBy, Scene, Sublist, TurnEnds, counted, deeds_text, lost}
 use Rattle.dt_node.specs.TakingIn.{failed_gives}
 use Rattle.dt_node.specs.Logging.{NotesBehind, NotesFault, noted_text}
 use Rattle.dt_node.specs.InOrder.{InOrder}
-use Rattle.dt_node.specs.Serving.{AppendsPart, CountsTakes, Edges, EndsAs, FailsAs, GivesAs, GivesSome, HasOpened, IsFresh, IsWhole, Logs, NoneFails, Serves, SinkFaults, TakeFaults, Written, first_entries, edges, first_readings, most_taken}
+use Rattle.dt_node.specs.Serving.{AppendsPart, CountsTakes, Edges, EndsAs, FailsAs, GivesAs, GivesSome, HasOpened, IsFresh, IsWhole, Logs, NoneFails, Serves, SinkFaults, TakeFaults, Written, first_entries, edges, first_readings}
 use Rattle.dt_node.specs.Answering.{Answers, AnswersBy, RefusesAs}
 use Rattle.dt_node.proofs.Noting.{notes_none, notes_then, nothing_notes, sub_none, sub_then}
 use Rattle.dt_node.proofs.Doing.{acts_more, lost_more, sent_sub}
@@ -487,7 +489,7 @@ module _ (octets : List ℕ) (start : Draft) (empty : start ≡ Empty) where
       let found = there.1 in
       absurd cc
 
-  pub orders_good : (state : Draft) (o : Orders) → length octets ≤ 16777216 → state ≡ folded.state → Some o ≡ orders_in state → IsGood o
+  pub orders_good : (state : Draft) (o : Orders) → length octets ≤ most_input → state ≡ folded.state → Some o ≡ orders_in state → IsGood o
   orders_good state o few f e = script_good octets o few (ap (λ (f : Folded Draft). orders_in f.state) (sym same) ∙ ap orders_in (sym f) ∙ sym e)
 
   module _ (form : Form) (w : WireSight) (c : ClockSight) (s t : SinkSight) where

@@ -10,9 +10,10 @@ use Rattle.dt_edges.specs.Clocks.{ClockSight, ReadsOne, reading_at}
 use Rattle.dt_edges.specs.Counts.{is_planned, last_count}
 use Rattle.dt_edges.specs.Telling.{Notes, NotesAll}
 use Rattle.dt_edges.specs.Wires.{Datagram, Opening, OpensOne, Plan, SameGiving, SameLists, SameTaking, TakesOne, WireSight, cut_to, entry_at, used_after}
+use Rattle.dt_trace.specs.Lines.{most_taken}
 use Rattle.dt_node.specs.Acts.{Deed, sent_frames, fates}
 use Rattle.dt_node.specs.Deeds.{Gave, lost, FatesFrom}
-use Rattle.dt_node.specs.Serving.{most_taken, first_readings, first_entries, NoneFails}
+use Rattle.dt_node.specs.Serving.{first_readings, first_entries, NoneFails}
 use Rattle.dt_node.proofs.Noting.{notes_none, notes_then}
 use Rattle.dt_node.proofs.Doing.{gave_none, gives_then, plan_then, lost_more, sent_more}
 

@@ -5,7 +5,7 @@ use Rattle.std.proofs.lemmas.List.{map-append}
 use Rattle.dt_reports.specs.Told.{Told}
 use Rattle.std.specs.Io.KnownBytes.{Appends}
 use Rattle.dt_edges.specs.Sinks.{Grows, SinkSight}
-use Rattle.dt_fold.specs.Logging.{StopsIn}
+use Rattle.dt_fold.specs.Logging.{StopsIn, wants_memory}
 use Rattle.dt_world_model.specs.Script.{Script, Done, Tell, Ask, Hand, Plays, Stops, Concludes}
 use Rattle.dt_fold.specs.declared.stops.Stop.{Stop}
 use Rattle.dt_fold.specs.declared.stops.Stop.TheVariants as stops
@@ -18,7 +18,7 @@ use Rattle.dt_turn.specs.Codes.{IsReady}
 use Rattle.dt_turn.specs.Nodes.{Node}
 use Rattle.dt_node.specs.TurnScripts.{Leaves, ended_by, turned}
 use Rattle.dt_node.specs.Acts.{Act, Tells, Hands, Deed, Says, Gives, act_of, acts_of, answer_of}
-use Rattle.dt_node.specs.Logging.{Fixed, LogSight, LogTells, LogHands, HandsIf, TellsIf, log_tells, log_tags, log_hands, log_fails, wants_memory}
+use Rattle.dt_node.specs.Logging.{Fixed, LogSight, LogTells, LogHands, HandsIf, TellsIf, log_tells, log_tags, log_hands, log_fails}
 use Rattle.dt_node.specs.Deeds.{deeds_text, Did, DidSome, FaultsBy, TurnEnds, WroteSome, scene, stop_by, unlost}
 use Rattle.dt_node.proofs.Doing.{did_none, did_then, did_then_some, some_more, some_none, acts_unlost, told_did, told_some, handed}
 

@@ -7,7 +7,7 @@ use Rattle.std.proofs.KnownBytes.{Appends-nil, Appends-trans}
 use Rattle.dt_edges.specs.Clocks.{ClockSight, ReadsOne}
 use Rattle.dt_edges.specs.Wires.{Datagram, HasWaited, OpensOne, TakesOne, WireSight}
 use Rattle.dt_trace.specs.Inputs.{Input, Reading, Taken as Found}
-use Rattle.dt_trace.specs.Lines.{most_number}
+use Rattle.dt_trace.specs.Lines.{most_number, most_taken}
 use Rattle.dt_trace.specs.Standing.{HasFound}
 use Rattle.dt_node.specs.declared.forms.Form.{Form}
 use Rattle.dt_node.specs.declared.watch.Watch.{Watch}
@@ -18,7 +18,7 @@ use Rattle.dt_turn.specs.Turns.{turn}
 use Rattle.dt_node.specs.Runs.{moment, most_equal, first_watch, next_watch}
 use Rattle.dt_node.specs.Deeds.{Scene, Wrote, TurnEnds, counted, deeds_text}
 use Rattle.dt_node.specs.Logging.{noted_text}
-use Rattle.dt_node.specs.Serving.{Edges, most_taken}
+use Rattle.dt_node.specs.Serving.{Edges}
 use Rattle.dt_node.proofs.Doing.{counted_more, fates_more}
 use Rattle.dt_node.specs.TakingIn.{failed_gives}
 use Rattle.dt_node.proofs.Listing.{ListCame, ListComes, ListTook, list_came, list_first, list_next, list_took}

@@ -8,8 +8,6 @@ use Rattle.dt_edges.specs.Wires.{Datagram, GiveFails, GivesOne, WireSight}
 use Rattle.dt_reports.specs.Told.{Told}
 use Rattle.dt_reports.specs.declared.reports.Report.TheVariants as report
 use Rattle.dt_log.specs.Logs.{entry_text}
-use Rattle.dt_fold.specs.declared.stops.Stop.{Stop}
-use Rattle.dt_fold.specs.declared.stops.Stop.TheVariants as stops
 use Rattle.dt_fold.specs.Logging.{HasAll, HasPart}
 use Rattle.dt_trace.specs.Inputs.{FailedGive, Input, input_text}
 use Rattle.dt_world_model.specs.Host.{Host}
@@ -114,12 +112,6 @@ log_hands view v link parcel w = LogHands (view v) link parcel.octets (view w)
 
 abbrev pub log_fails : {V : Type 0} → V → V → Type 0
 log_fails v w = ⊥
-
--- Why a turn stops before its end: memory ran out, or a line couldn't be written.
-abbrev pub wants_memory : {U : Type 0} → Result U Stop → Bool
-wants_memory (Ok done) = false
-wants_memory (Err stops.NoMemory) = true
-wants_memory (Err stops.WriteFault) = false
 
 -- AN INPUT IS NOTED on a sink: its line is written where the form has one
 abbrev pub Notes : {K T E : Type 0} → (K → SinkSight) → Form → Input → Result T E → K → K → Type 0

@@ -23,6 +23,7 @@ use Rattle.dt_node.specs.Waiting.{Asks}
 use Rattle.dt_trace.specs.Inputs.{trace_text}
 use Rattle.dt_trace.specs.Standing.{Stand, noted_all}
 use Rattle.dt_trace.specs.Traces.{Recorded, nothing, trace_of}
+use Rattle.dt_trace.specs.Lines.{most_taken}
 
 -- a wire, a clock and a sink, as they tell: of the sink what it holds, and its count of faults
 pub record Edges : Type 0 where
@@ -33,10 +34,6 @@ pub record Edges : Type 0 where
 
 abbrev pub edges : WireSight → ClockSight → SinkSight → Edges
 edges wire clock out = record { wire = wire; clock = clock; held = out.held; faults = out.faults }
-
--- the room for a datagram: one octet more than a frame has at most
-abbrev pub most_taken : ℕ
-most_taken = 8223
 
 -- PLANS
 

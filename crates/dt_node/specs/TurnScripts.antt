@@ -3,6 +3,7 @@ use Rattle.std.specs.Prelude.{◌≡◌, ◌<◌, ℕ, Bool, true, false, Option
 use Rattle.dt_items.specs.declared.memory.NoMemory.{NoMemory}
 use Rattle.dt_fold.specs.declared.stops.Stop.{Stop}
 use Rattle.dt_fold.specs.declared.stops.Stop.TheVariants as stops
+use Rattle.dt_fold.specs.Logging.{wants_memory}
 use Rattle.dt_world_model.specs.Script.{Script}
 use Rattle.dt_script.specs.declared.orders.Orders.{Orders}
 use Rattle.dt_script.specs.Codes.{orders_seen}
@@ -12,7 +13,6 @@ use Rattle.dt_turn.specs.Codes as codes
 use Rattle.dt_turn.specs.Nodes as model
 use Rattle.dt_turn.specs.Turns.{turn}
 use Rattle.dt_node.specs.declared.running.Turn.{Turn}
-use Rattle.dt_node.specs.Logging.{wants_memory}
 
 abbrev pub turn_script : Turn → Node → Script (Unit {0}) (Option model.Node)
 turn_script t node = turn (orders_seen t.orders.now) t.moment (arrived t.came) (node_seen t.orders.now node)

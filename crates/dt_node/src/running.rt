@@ -1,11 +1,12 @@
 //! Turn after turn.
-ghost use Rattle.std.specs.Prelude.{◌≡◌, ◌≢◌, ◌<◌, ◌≤◌, [], IfOk, IfSome, OnOk, false, length, true, Ok};
+ghost use Rattle.std.specs.Prelude.{◌≡◌, ◌≢◌, ◌<◌, ◌≤◌, [], IfSome, OnOk, false, length, true, Ok};
 ghost use Rattle.dt_edges.specs.Sinks.{Grows};
 ghost use Rattle.dt_edges.specs.Wires.{handed};
-ghost use Rattle.dt_fold.specs.Logging.{PassesRest, with_waiting};
+ghost use Rattle.dt_fold.specs.Logging.{with_waiting};
 ghost use Rattle.dt_trace.specs.Inputs.{Reading, Taken};
 ghost use Rattle.dt_trace.specs.Standing.{HasFound};
 ghost use Rattle.dt_trace.specs.Written.{input_written};
+ghost use Rattle.dt_trace.specs.Lines.{most_taken};
 ghost use Rattle.dt_world_model.specs.Station.{station_wake};
 ghost use Rattle.dt_script.specs.Codes.{IsGood, orders_seen};
 ghost use Rattle.dt_turn.specs.Codes.{IsReady, MayTurn, left_of, node_seen};
@@ -13,24 +14,21 @@ ghost use Rattle.dt_node.specs.TurnScripts.{turned};
 ghost use Rattle.dt_turn.specs.Nodes.{first_node};
 ghost use Rattle.dt_node.specs.declared.outcomes.NodeOutcome.TheVariants as outcome;
 ghost use Rattle.dt_node.specs.Deeds.{TurnEnds, scene};
-ghost use Rattle.dt_node.specs.Logging.{NotesFault, noted_text, wants_memory};
+ghost use Rattle.dt_node.specs.Logging.{NotesFault, noted_text};
 ghost use Rattle.dt_node.specs.Runs.{next_moment, wait_until, wakes_by};
-ghost use Rattle.dt_node.specs.Serving.{Serves, edges, most_taken};
+ghost use Rattle.dt_node.specs.Serving.{Serves, edges};
 ghost use Rattle.dt_node.specs.TurnScripts.{Leaves, ended_by, turn_script};
 
 use crate::logs::Log;
 use crate::outcomes::NodeOutcome;
 use crate::recorders::{Recorder, Writer};
 use crate::watch::{MOST_EQUAL, Watch};
-use dt_edges::{Buffer, Buffered, Clock, Sink, Wire};
-use dt_fold::Stop;
+use dt_edges::{Buffered, Clock, Sink, Wire};
+use dt_fold::{Stop, pass_rest};
 use dt_items::NoMemory;
 use dt_script::Orders;
-use dt_trace::Input;
+use dt_trace::{Input, MOST_TAKEN};
 use dt_turn::{Arrival, Node, arrival_of};
-
-/// The room for a datagram: one octet more than a frame has at most.
-const MOST_TAKEN: usize = 8_223;
 
 /// A node that runs, and what is written of it.
 #[derive(Drop)]
@@ -152,24 +150,6 @@ fn turn_into<W: Wire, K: Sink>(
         &mut gathered,
         &mut run.recorder.writer,
     )
-}
-
-/// Puts the lines of a turn on the sink, where no put has failed.
-fn pass_rest<K: Sink>(
-    turned: Result<bool, Stop>,
-    buffer: &mut Buffer,
-    out: &mut K,
-) -> Result<bool, Stop>
-    ensures puts { PassesRest turned result buffer.old (K.sight out.old) (K.sight out.new) }
-    ensures empty { OnOk result (buffer.new ≡ []) }
-    ensures same { IfOk result (λ stopped. turned ≡ Ok stopped) }
-    ensures memory { wants_memory result ≡ true → wants_memory turned ≡ true }
-{
-    if let Err(Stop::WriteFault) = turned {
-        return turned;
-    }
-    buffer.pass_on(out)?;
-    turned
 }
 
 /// A turn, and its lines on the sink. It says whether the stop was due.

@@ -1,5 +1,6 @@
 //! What is carried out of a script.
 ghost use Rattle.std.specs.Prelude.{◌≡◌, ◌≤◌, [], IfOk, length};
+ghost use Rattle.dt_text.specs.InputLines.{most_input};
 ghost use Rattle.dt_node.specs.Answering.{Answers};
 ghost use Rattle.dt_node.specs.Completing.{Completes};
 ghost use Rattle.dt_script.specs.Codes.{IsGood, orders_seen};
@@ -69,7 +70,7 @@ impl Job {
         clock: &mut C,
         out: &mut K,
     ) -> NodeOutcome
-        requires { length script.now ≤ 16777216 }
+        requires { length script.now ≤ most_input }
         ensures { Answers self.form script.now result (edges (W.sight wire.old) (C.sight clock.old) (K.sight out.old)) (edges (W.sight wire.new) (C.sight clock.new) (K.sight out.new)) }
     {
         let mut draft = Draft::new(self.alloc);
@@ -117,7 +118,7 @@ pub fn serve<W: Wire, C: Clock, K: Sink>(
     clock: &mut C,
     out: &mut K,
 ) -> NodeOutcome
-    requires { length script.now ≤ 16777216 }
+    requires { length script.now ≤ most_input }
     ensures answers { Answers Log script.now result (edges (W.sight wire.old) (C.sight clock.old) (K.sight out.old)) (edges (W.sight wire.new) (C.sight clock.new) (K.sight out.new)) }
     ensures completes { Completes script.now result (edges (W.sight wire.old) (C.sight clock.old) (K.sight out.old)) (edges (W.sight wire.new) (C.sight clock.new) (K.sight out.new)) }
 {
@@ -144,7 +145,7 @@ pub fn serve_traced<W: Wire, C: Clock, K: Sink>(
     clock: &mut C,
     out: &mut K,
 ) -> NodeOutcome
-    requires { length script.now ≤ 16777216 }
+    requires { length script.now ≤ most_input }
     ensures answers { Answers Trace script.now result (edges (W.sight wire.old) (C.sight clock.old) (K.sight out.old)) (edges (W.sight wire.new) (C.sight clock.new) (K.sight out.new)) }
     ensures completes { Completes script.now result (edges (W.sight wire.old) (C.sight clock.old) (K.sight out.old)) (edges (W.sight wire.new) (C.sight clock.new) (K.sight out.new)) }
 {

@@ -2,7 +2,6 @@
 //! milliseconds.
 ghost use Rattle.std.specs.Prelude.{◌≡◌, ◌≤◌, ◌+◌, ◌^◌, Some, length};
 ghost use Rattle.dt_units.specs.Numbers.{number_after};
-ghost use Rattle.dt_flow_model.specs.SendActs.{earlier};
 ghost use Rattle.dt_units.specs.Times.{receive_time};
 ghost use Rattle.dt_flow_model.specs.ReceiveRecord.{due_in, expected_of, owed_after, opens_window, owing, recv_due_of, recv_moments, recv_wake_of, record_read, standing_told, told_in, window_told};
 ghost use Rattle.dt_recv.specs.Receivers.{IsTouched};
@@ -10,7 +9,7 @@ ghost use Rattle.dt_recv.specs.Records.{receive_record_of, standing_of};
 
 use crate::segment::Segment;
 use dt_flow_model::{RecvKind, RecvMoments};
-use dt_units::{Rules, later};
+use dt_units::{Rules, earlier, later};
 
 /// A receive record.
 #[derive(Clone, Copy)]
@@ -167,17 +166,6 @@ pub fn moments(standing: Option<Record>, rules: &Rules) -> RecvMoments
             release: Some(record.release(rules)),
             ack: record.due,
         },
-    }
-}
-
-/// The earlier of two moments, each of which may be none.
-fn earlier(a: Option<u64>, b: Option<u64>) -> Option<u64>
-    ensures { result ≡ earlier a b }
-{
-    match (a, b) {
-        (None, b) => b,
-        (a, None) => a,
-        (Some(a), Some(b)) => Some(a.min(b)),
     }
 }
 

@@ -68,9 +68,7 @@ impl Carry for Frame {
     }
 
     fn make(frame: &Frame, tag: ()) -> Frame {
-        let mut made = Frame::new();
-        made.refill(frame.as_slice());
-        made
+        Frame::copy_of(frame)
     }
 
     fn frame(&self) -> &Frame {

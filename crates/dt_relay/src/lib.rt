@@ -13,4 +13,4 @@ pub use dt_world_model::{Entered, InLink, OutLink, Route};
 pub use passages::Passage;
 pub use queues::Left;
 pub use readings::Reading;
-pub use relays::{Relay, earlier};
+pub use relays::Relay;

@@ -2,7 +2,6 @@ ghost use Rattle.std.specs.Prelude.{ℕ, ◌≡◌, ◌≢◌, ◌≤◌, ◌<�
 ghost use Rattle.std.specs.HashMap.{get};
 ghost use Rattle.dt_layout.specs.Carried.{IsGram, life_of, to_of};
 ghost use Rattle.dt_flow_model.specs.Keeping.{most_moment};
-ghost use Rattle.dt_flow_model.specs.SendActs.{earlier};
 ghost use Rattle.dt_world_model.specs.Relay.{IsOutUpTo, Parcel, admit, charge_of, empty_out, enter, leave, new_relay, on_link, relay_wake, route_to, with_outs};
 ghost use Rattle.dt_relay.specs.Carrying.{IfOut, left_seen, parcel_seen};
 ghost use Rattle.dt_relay.specs.Passages.{HasLife, Passes, passage_by};
@@ -16,6 +15,7 @@ use crate::queues::{Left, Queue};
 use crate::readings::Reading;
 use dt_items::NoMemory;
 use dt_layout::Frame;
+use dt_units::earlier;
 use dt_world_model::{Entered, InLink, OutLink, Route};
 use std::alloc::Global;
 use std::marker::Model;
@@ -356,15 +356,4 @@ fn firsts_of(
         firsts.push(place_in(places, u32::from(out.link)))?;
     }
     Ok(firsts)
-}
-
-/// The earlier of two moments, each of which may be none.
-pub fn earlier(a: Option<u64>, b: Option<u64>) -> Option<u64>
-    ensures { result ≡ earlier a b }
-{
-    match (a, b) {
-        (None, b) => b,
-        (a, None) => a,
-        (Some(a), Some(b)) => Some(a.min(b)),
-    }
 }

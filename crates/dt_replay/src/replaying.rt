@@ -1,4 +1,5 @@
 ghost use Rattle.std.specs.Prelude.{ℕ, ◌≡◌, ◌≤◌, length, IfSome};
+ghost use Rattle.dt_text.specs.InputLines.{most_input};
 ghost use Rattle.dt_world_model.specs.WorldFacts.{SafeWorld};
 ghost use Rattle.dt_replay.specs.Replays.{Replays, outcome_of};
 ghost use Rattle.dt_replay.specs.Schedules.{world_after_lines, world_of};
@@ -22,7 +23,7 @@ use std::alloc::Global;
 /// octet of every flow was given at most once, in the order of its sending, and what was passed over was
 /// told.
 pub fn replay<K: Sink>(alloc: Global, bytes: &[u8], out: &mut K) -> Outcome
-    requires few { length bytes.now ≤ 16777216 }
+    requires few { length bytes.now ≤ most_input }
     ensures ends { Replays result bytes.now (K.sight out.old) (K.sight out.new) }
     ensures safe { (count : ℕ) → IfSome (world_after_lines count bytes.now) (λ w. SafeWorld w) }
     ensures whole { IfSome (world_of bytes.now) (λ w. SafeWorld w) }

@@ -12,6 +12,7 @@ use Rattle.dt_text.specs.InputLines.{lines_of}
 use Rattle.dt_trace.specs.Inputs.{Input, Reading, Taken, FailedTake, FailedGive, FailedOpen}
 use Rattle.dt_trace.specs.Standing.{HasFound, IsInput, Stand, noted_all}
 use Rattle.dt_trace.specs.Traces.{Recorded, noted, nothing, or_zero, trace_of, wire_of}
+use Rattle.dt_trace.specs.Lines.{most_taken}
 use Rattle.dt_node.specs.declared.forms.Form.TheVariants as forms
 use Rattle.dt_node.specs.declared.outcomes.NodeOutcome.{NodeOutcome}
 use Rattle.dt_node.specs.declared.outcomes.NodeOutcome.TheVariants.{Done, Refused, NoMemory, WireFault, ClockStill, WriteFault}
@@ -22,7 +23,7 @@ use Rattle.dt_script.specs.Drafts.{refusal_text, script_of}
 use Rattle.dt_script.specs.Orders.{Orders}
 use Rattle.dt_node.specs.Runs.{Run, node_run}
 use Rattle.dt_node.specs.TakingIn.{run_inputs}
-use Rattle.dt_node.specs.Serving.{Edges, EndsAs, IsFresh, IsWhole, Serves, edges, most_taken, recorded}
+use Rattle.dt_node.specs.Serving.{Edges, EndsAs, IsFresh, IsWhole, Serves, edges, recorded}
 use Rattle.dt_retrace.specs.Parts.{text_of}
 use Rattle.dt_retrace.specs.Repeating.{Repeats, joined}
 use Rattle.dt_retrace.specs.Retracing.{Reruns, RerunsBy, Retraces, RetracesBy, edges_before}

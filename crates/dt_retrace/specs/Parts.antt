@@ -2,7 +2,7 @@
 use Rattle.std.specs.Prelude.{◌≡◌, ℕ, ◌+◌, ◌<◌, ◌≤◌, ◌^◌, Bool, List, [], ◌∷◌, ◌++◌, codes, flat_map, length, Option, Some, None, Result, Ok, Err, if◌then◌else◌}
 use Rattle.std.specs.Option.{option_map}
 use Rattle.std.specs.Str.{bytes_eq}
-use Rattle.dt_text.specs.InputLines.{lines_of}
+use Rattle.dt_text.specs.InputLines.{lines_of, most_input}
 use Rattle.dt_retrace.specs.declared.parts.Parts.{Parts}
 
 abbrev pub is_mark : List ℕ → Bool
@@ -26,9 +26,9 @@ pub record IsCut (p : Parts) (parts : List (List ℕ) × List (List ℕ)) : Type
   pub script : p.script.now ≡ text_of parts.0
   pub mark : p.mark ≡ length parts.0 + 1
   pub trace : lines_of p.trace.now ≡ parts.1
-  pub short : length p.script.now ≤ 16777216
+  pub short : length p.script.now ≤ most_input
   pub few : p.mark + length p.trace.now < 2 ^ 32
-  pub least : length p.trace.now ≤ 16777216
+  pub least : length p.trace.now ≤ most_input
 
 abbrev pub CutsTo : Result Parts ℕ → List ℕ → Type 0
 CutsTo (Ok p) octets = (parts : List (List ℕ) × List (List ℕ)) × (cut_lines (lines_of octets) ≡ Some parts) × IsCut p parts

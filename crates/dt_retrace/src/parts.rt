@@ -2,6 +2,7 @@
 ghost use Rattle.std.specs.Prelude.{◌≡◌, ◌≤◌, length};
 ghost use Rattle.std.specs.Str.{bytes_eq};
 ghost use Rattle.std.specs.Prelude.{codes};
+ghost use Rattle.dt_text.specs.InputLines.{most_input};
 ghost use Rattle.dt_retrace.specs.Parts.{CutsTo, is_mark};
 
 use dt_text::split_line;
@@ -27,7 +28,7 @@ fn is_mark(line: &[u8]) -> bool
 /// Cuts an input of at most 16,777,216 octets at its first line `trace`. Without one it says how many
 /// lines there are. The cost is the part up to that line.
 pub fn cut_input(input: &[u8]) -> Result<Parts<'_>, u64>
-    requires { length input.now ≤ 16777216 }
+    requires { length input.now ≤ most_input }
     ensures { CutsTo result input.now }
 {
     let mut rest = input;

@@ -1,5 +1,6 @@
 //! A script is served over the wire and the clock of a trace.
 ghost use Rattle.std.specs.Prelude.{◌≡◌, ◌≤◌, ◌<◌, ◌^◌, IfOk, OnErr, length};
+ghost use Rattle.dt_text.specs.InputLines.{most_input};
 ghost use Rattle.dt_retrace.specs.Retracing.{RefusesWith, Reruns, Retraces, refused_text};
 
 use crate::parts::cut_input;
@@ -36,7 +37,7 @@ fn rerun<K: Sink>(
     trace: &Trace,
     out: &mut K,
 ) -> Result<NodeOutcome, NoMemory>
-    requires { length script.now ≤ 16777216 }
+    requires { length script.now ≤ most_input }
     ensures runs { IfOk result (λ outcome. Reruns script.now trace.now outcome (K.sight out.old) (K.sight out.new)) }
     ensures unchanged { OnErr result (out.new ≡ out.old) }
 {
@@ -57,7 +58,7 @@ fn rerun<K: Sink>(
 /// - `NoMemory` may come before anything is written, too.
 #[tactic(auto, using(crate::proofs::Rerunning::no_mark, crate::proofs::Rerunning::runs_again, crate::proofs::Rerunning::refuses_line))]
 pub fn retrace<K: Sink>(alloc: Global, input: &[u8], out: &mut K) -> NodeOutcome
-    requires { length input.now ≤ 16777216 }
+    requires { length input.now ≤ most_input }
     ensures { Retraces input.now result (K.sight out.old) (K.sight out.new) }
 {
     let parts = match cut_input(input) {

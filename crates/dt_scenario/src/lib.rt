@@ -9,7 +9,6 @@ mod simulations;
 mod world_events;
 
 pub use logs::{Log, stepped};
-pub use parts::MISPLACED;
 pub use scenarios::Scenario;
 pub use simulations::Simulation;
 pub use world_events::world_event;

@@ -13,14 +13,11 @@ use crate::simulations::Simulation;
 use dt_edges::Sink;
 use dt_fold::Stop;
 use dt_items::NoMemory;
-use dt_reports::{Fault, LineFault, SetupFault};
-use dt_text::{RunLine, SetupLine, Stage};
+use dt_reports::{Fault, SetupFault};
+use dt_text::{MISPLACED, RunLine, SetupLine, Stage};
 use dt_units::{NodeId, Params};
 use dt_world::Setup;
 use std::alloc::Global;
-
-/// A line that isn't allowed where it stands.
-pub const MISPLACED: Fault = Fault::Line(LineFault::Order);
 
 /// What the lines so far have led to.
 #[derive(Drop)]

@@ -5,12 +5,12 @@ ghost use Rattle.dt_text.specs.Spelling.{IsLine};
 ghost use Rattle.dt_scenario.specs.Parts.{scene_in};
 ghost use Rattle.dt_scenario.specs.Scenes.{Empty, done_by};
 
-use crate::parts::{MISPLACED, Part};
+use crate::parts::Part;
 use crate::simulations::Simulation;
 use dt_edges::Sink;
 use dt_fold::{LineTurns, Stop};
 use dt_reports::Fault;
-use dt_text::{Line, follows, read_line};
+use dt_text::{Line, MISPLACED, follows, read_line};
 use std::alloc::Global;
 
 /// An input that is read line by line: its first lines set up a world, `go` starts a simulation over

@@ -5,6 +5,7 @@ use Rattle.dt_edges.specs.declared.addresses.Peer.{Peer}
 use Rattle.dt_items.specs.declared.memory.NoMemory.{NoMemory}
 use Rattle.dt_reports.specs.declared.faults.Fault.{Fault}
 use Rattle.dt_text.specs.Tasks.{Task, Sends, Reads, most_octets, task_seen}
+use Rattle.dt_text.specs.InputLines.{most_input}
 use Rattle.dt_fold.specs.Folds.{Turned}
 use Rattle.dt_world_model.specs.declared.links.InLink.{InLink}
 use Rattle.dt_script.specs.declared.orders.Command.{Command}
@@ -56,7 +57,7 @@ LeadsTo turn (Err fault) before after = Unit {0}
 
 -- the most commands of a script
 abbrev pub most_commands : ℕ
-most_commands = 16777216
+most_commands = most_input
 
 abbrev pub IsTaskOf : ℕ → Task → Type 0
 IsTaskOf me (Sends flow begin end octets) = (flow.from.0 ≡ me) × (flow.to.0 ≢ me) × (0 < length octets) × (length octets ≤ most_octets)

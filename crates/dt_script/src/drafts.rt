@@ -14,16 +14,15 @@ use crate::orders::{Command, NodeSetup, Orders};
 use dt_edges::{Address, Peer, Sink};
 use dt_fold::{LineTurns, Stop};
 use dt_items::NoMemory;
-use dt_reports::{Fault, LineFault, SetupFault, StepFault};
-use dt_text::{Form, Line, NodeLine, ScriptLine, Stage, Task, UserLine, follows, read_line};
+use dt_reports::{Fault, SetupFault, StepFault};
+use dt_text::{
+    Form, Line, MISPLACED, NodeLine, ScriptLine, Stage, Task, UserLine, follows, read_line,
+};
 use dt_units::{NodeId, Params, Rules};
 use dt_world_model::{InLink, OutLink, Route};
 use std::alloc::Global;
 use std::marker::Model;
 use std::mem;
-
-/// A line that isn't allowed where it stands.
-const MISPLACED: Fault = Fault::Line(LineFault::Order);
 
 /// What the lines so far have led to.
 #[derive(Drop)]

@@ -6,11 +6,12 @@ use Rattle.std.proofs.lemmas.Bool.{cases_Bool, cases_lt, and_parts}
 use Rattle.std.proofs.lemmas.Bool.Decides.{nat_tests}
 use Rattle.dt_units.specs.Times.{give_time, send_time}
 use Rattle.dt_units.specs.declared.parameters.Params.{Params}
+use Rattle.dt_units.specs.Moments.{earlier}
 use Rattle.dt_items.specs.declared.item.Item.{Item}
 use Rattle.dt_flow_model.specs.declared.acts.SendKind.{SendKind}
 use Rattle.dt_flow_model.specs.declared.acts.SendKind.TheVariants.{GiveUp, Release, Resend, Send, Meet}
 use Rattle.dt_flow_model.specs.SendRecord.{Segment, SendRecord, cut_of, rest_of}
-use Rattle.dt_flow_model.specs.SendActs.{Act, act_if, better, can_send, could_meet, due_moment, due_of, earlier, give_up, gives_up_from, giving_up, is_late, kind_and_moment, kind_of, may_send_from, meet, meeting, moment_if, or_else, release, release_or_renew, releases_from, releasing, renew, resend, resending, resends_from, send, send_moments, sending}
+use Rattle.dt_flow_model.specs.SendActs.{Act, act_if, better, can_send, could_meet, due_moment, due_of, give_up, gives_up_from, giving_up, is_late, kind_and_moment, kind_of, may_send_from, meet, meeting, moment_if, or_else, release, release_or_renew, releases_from, releasing, renew, resend, resending, resends_from, send, send_moments, sending}
 use Rattle.dt_flow_model.proofs.Chosen.{le_true, lt_true, DueOf, resend_may, true_le, true_lt, both}
 use Rattle.dt_send.specs.Senders.{due_if, first_due}
 

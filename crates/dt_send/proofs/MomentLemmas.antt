@@ -7,8 +7,9 @@ use Rattle.std.proofs.lemmas.Bool.Decides.{nat_tests}
 use Rattle.dt_items.specs.declared.item.Item.{Item}
 use Rattle.dt_units.specs.Times.{give_time}
 use Rattle.dt_units.specs.declared.parameters.Params.{Params}
+use Rattle.dt_units.specs.Moments.{earlier}
 use Rattle.dt_flow_model.specs.SendRecord.{Segment, SendRecord, cut_length, cut_size, may_go, next_of}
-use Rattle.dt_flow_model.specs.SendActs.{better, can_send, could_meet, earlier, gives_up_from, is_late, moment_if, releases_from, resending, resends_from}
+use Rattle.dt_flow_model.specs.SendActs.{better, can_send, could_meet, gives_up_from, is_late, moment_if, releases_from, resending, resends_from}
 use Rattle.dt_send.specs.declared.sent_segments.SentSegment.{SentSegment}
 use Rattle.dt_send.specs.declared.send_buffer.SendBuffer.{SendBuffer}
 use Rattle.dt_send.specs.SentSegments.{segments_of, octets_in}

@@ -1,15 +1,11 @@
 //! The numbers of offsets, and the crossings among offsets.
 ghost use Rattle.std.specs.Prelude.{◌≡◌, ◌^◌, ◌<◌};
-ghost use Rattle.dt_units.specs.Numbers.{quantum};
 ghost use Rattle.dt_flow_model.specs.Numbering.{number_of, is_crossing, up_to_crossing};
 
 use dt_units::Rules;
 
 /// How many numbers there are.
 const NUMBERS: u64 = 1 << 32;
-
-/// The greatest quantum.
-const MOST_QUANTUM: u32 = 1 << 29;
 
 /// The sequence number of an offset.
 pub fn number_at(rules: &Rules, offset: u64) -> u32
@@ -19,19 +15,11 @@ pub fn number_at(rules: &Rules, offset: u64) -> u32
     ((u64::from(rules.params().start) + offset) % NUMBERS) as u32
 }
 
-/// The quantum: a crossing is an offset that is a multiple of it.
-fn quantum_of(rules: &Rules) -> u64
-    ensures value { result ≡ quantum rules.now }
-    ensures some { 0 < result }
-{
-    u64::from(rules.params().run_limit.min(MOST_QUANTUM))
-}
-
 /// Whether the offset is a crossing.
 pub fn crosses(rules: &Rules, offset: u64) -> bool
     ensures { result ≡ is_crossing rules.now offset }
 {
-    offset % quantum_of(rules) == 0
+    offset % rules.quantum() == 0
 }
 
 /// How many octets there are up to the next crossing above the offset.
@@ -39,6 +27,6 @@ pub fn crossing_after(rules: &Rules, offset: u64) -> u64
     ensures value { result ≡ up_to_crossing rules.now offset }
     ensures some { 0 < result }
 {
-    let quantum = quantum_of(rules);
+    let quantum = rules.quantum();
     quantum - offset % quantum
 }

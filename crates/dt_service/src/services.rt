@@ -12,9 +12,9 @@ use crate::parts::Parts;
 use crate::reading::ROOM;
 use dt_endpoint::{Arrived, Endpoint, Links, OutFrame, Route, Routed, Ticked};
 use dt_items::NoMemory;
-use dt_service_halves::{Halves, earlier};
+use dt_service_halves::Halves;
 use dt_service_model::{Counts, Forgot, Happening, Kind, Made, Most, Replied, Token};
-use dt_units::{Flow, NodeId, Rules};
+use dt_units::{Flow, NodeId, Rules, earlier};
 use std::alloc::Global;
 use std::marker::Model;
 

@@ -1,7 +1,7 @@
 -- A loop that writes a list from left to right: what is left to do from a place on.
 use Rattle.std.proofs.Common.{ℕ, zero, suc, ◌+◌, ◌-◌, ◌≡◌, ◌<◌, ◌≤◌, Bool, true, false, List, [], ◌∷◌, length, map, set, get_or, drop, Option, Some, None, refl, ap, sym, subst, ◌∙◌, arith, add-one}
 use Rattle.dt_units.specs.declared.endpoints.Flow.{Flow}
-use Rattle.dt_flow_model.specs.SendActs.{earlier}
+use Rattle.dt_units.specs.Moments.{earlier}
 use Rattle.dt_world_model.specs.Tables.{earliest, same_flow}
 use Rattle.dt_service_model.specs.declared.calls.Call.{Call}
 use Rattle.dt_service_model.specs.Hearing.{with_fate, with_fates}

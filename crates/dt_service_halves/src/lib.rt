@@ -13,6 +13,5 @@ mod whole;
 
 pub use asked::carried;
 pub use dt_messages::reversed;
-pub use ends::earlier;
 pub use halves::Halves;
 pub use numbers::write_message;

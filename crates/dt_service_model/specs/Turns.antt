@@ -3,7 +3,7 @@ use Rattle.std.specs.Prelude.{ℕ, zero, suc, ◌-◌, length, ◌==◌, ◌&&�
 use Rattle.dt_items.specs.declared.piece.Piece.{Piece as ItemPiece}
 use Rattle.dt_items.specs.Unread.{octets_of, piece_told}
 use Rattle.dt_units.specs.declared.endpoints.Flow.{Flow}
-use Rattle.dt_flow_model.specs.SendActs.{earlier}
+use Rattle.dt_units.specs.Moments.{earlier}
 use Rattle.dt_world_model.specs.Host.{Host}
 use Rattle.dt_world_model.specs.Station.{Event, Read}
 use Rattle.dt_world_model.specs.Tables.{earliest, has_key, same_flow}

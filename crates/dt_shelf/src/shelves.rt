@@ -55,13 +55,11 @@ impl Shelf {
         if self.held.len() >= self.room as usize {
             return false;
         }
-        let mut copy = Frame::new();
-        copy.refill(frame.as_slice());
         self.held.push_reserved(Held {
             link,
             flow,
             number,
-            frame: copy,
+            frame: Frame::copy_of(frame),
             since: now,
         });
         true

@@ -1,6 +1,10 @@
 -- An input in lines.
 use Rattle.std.specs.Prelude.{ℕ, List, [], ◌∷◌, if◌then◌else◌, ◌==◌}
 
+-- the most octets of an input
+abbrev pub most_input : ℕ
+most_input = 16777216
+
 -- an octet stands first in the first line
 abbrev pub in_front : ℕ → List (List ℕ) → List (List ℕ)
 in_front octet [] = (octet ∷ []) ∷ []

@@ -10,15 +10,10 @@ use crate::splitting::{MOST_WORDS, Words, is};
 use dt_edges::Address;
 use dt_reports::LineFault;
 use dt_units::Flow;
+use dt_units::limits::{DAY, MOST_OCTETS};
 
 /// The greatest number of a link.
 const MOST_LINK: u32 = 255;
-
-/// A day: the greatest charge and the greatest pace, in ms.
-const DAY: u32 = 86_400_000;
-
-/// The most octets of one read, and the most pairs of hexadecimal digits of a send.
-const MOST_OCTETS: u32 = 65_536;
 
 /// The most pairs of hexadecimal digits of a call: its message has its number before them.
 const MOST_PAYLOAD: u32 = 65_528;

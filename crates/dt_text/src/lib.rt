@@ -23,5 +23,5 @@ pub use input_lines::split_line;
 pub use lines::{Form, Line, NodeLine, RunLine, ScriptLine, SetupLine, UserLine, WorldLine};
 pub use numerals::read_number;
 pub use reading::read_line;
-pub use stages::{Stage, follows};
+pub use stages::{MISPLACED, Stage, follows};
 pub use tasks::Task;

@@ -3,6 +3,10 @@ ghost use Rattle.dt_text.specs.Said.{run_said, said, script_said};
 ghost use Rattle.dt_text.specs.Stages.{before_params, behind_me, behind_params, calls_run, in_run, in_setup, not_before, schedule_run, script_after, script_line_after, stage_after, world_after};
 
 use crate::lines::{Form, Line, RunLine, ScriptLine};
+use dt_reports::{Fault, LineFault};
+
+/// The fault of a line that isn't allowed where it stands: [`follows`] has no stage for it.
+pub const MISPLACED: Fault = Fault::Line(LineFault::Order);
 
 /// How far an input has come, by its lines that aren't blank.
 #[derive(Clone, Copy, Debug, PartialEq, Eq)]

@@ -3,12 +3,13 @@ use Rattle.std.specs.Prelude.{ℕ, ◌<◌, ◌≤◌, ◌≡◌, List, length, 
 use Rattle.std.specs.Io.KnownBytes.{IsAtEnd}
 use Rattle.dt_edges.specs.Counts.{HasRisen}
 use Rattle.dt_edges.specs.Sources.{SourceSight}
+use Rattle.dt_text.specs.InputLines.{most_input}
 use Rattle.dt_top.specs.declared.input.InputFault.{InputFault}
 use Rattle.dt_top.specs.declared.input.InputFault.TheVariants as faults
 
 -- the most octets of an input
 abbrev pub limit : ℕ
-limit = 16777216
+limit = most_input
 
 -- The input was read to its end: these are its octets, where the source tells them, and no take failed.
 pub record IsInput (octets : List ℕ) (before after : SourceSight) : Type 0 where

@@ -18,7 +18,7 @@ use Rattle.dt_text.proofs.CutLaws.{IsFree, IsFree-append, IsFree-cons, IsFree-de
 use Rattle.dt_text.proofs.NumberLaws.{numeral-decimal}
 use Rattle.dt_text.proofs.HexLaws.{octets_of_hex-hex_text, is_hex-hex_text}
 use Rattle.dt_trace.specs.Inputs.{Input, Reading, Taken, FailedTake, FailedGive, FailedOpen, input_words, octets_words, found_words}
-use Rattle.dt_trace.specs.Lines.{datagram, failure, input_of, input_said, most_link, most_number, most_octets, number_read, octets_read, reading_said, failure_said, take_said, empty_said, octets_said}
+use Rattle.dt_trace.specs.Lines.{datagram, failure, input_of, input_said, most_link, most_number, most_taken, number_read, octets_read, reading_said, failure_said, take_said, empty_said, octets_said}
 use Rattle.dt_trace.specs.Standing.{Fits, HasFound, IsInput}
 
 -- WORDS WITHOUT SPACES AND LINE FEEDS
@@ -95,9 +95,9 @@ failure_again n within = then (number_read most_number (decimal n)) n _ _ (numbe
 decimal_some : (n : ℕ) → n < 2 ^ 64 → 0 < length (decimal n)
 decimal_some n small = omega (arith, (decimal_is_IsNumeral n small).0.0)
 
-octets_again : (octet : ℕ) (octets : List ℕ) → length (octet ∷ octets) ≤ most_octets → AllByRecursion (λ x. x < 256) (octet ∷ octets) → octets_read (hex_text (octet ∷ octets)) ≡ Ok (octet ∷ octets)
+octets_again : (octet : ℕ) (octets : List ℕ) → length (octet ∷ octets) ≤ most_taken → AllByRecursion (λ x. x < 256) (octet ∷ octets) → octets_read (hex_text (octet ∷ octets)) ≡ Ok (octet ∷ octets)
 octets_again octet octets few all =
-    ap (λ b. cond b (Ok (octets_of_hex (hex_text (octet ∷ octets)))) (Err faults.Hex)) (is_hex-hex_text most_octets (octet ∷ octets) all (omega arith) few)
+    ap (λ b. cond b (Ok (octets_of_hex (hex_text (octet ∷ octets)))) (Err faults.Hex)) (is_hex-hex_text most_taken (octet ∷ octets) all (omega arith) few)
     ∙ ap Ok (octets_of_hex-hex_text (octet ∷ octets) all)
 
 -- a number is neither `-` nor `x`

@@ -22,7 +22,7 @@ use Rattle.dt_text.proofs.HexLaws.{hex_text-pairs}
 use Rattle.dt_text.proofs.NumberLaws.{numeral-only}
 use Rattle.dt_text.proofs.WordLaws.{chosen, is_text, value-only}
 use Rattle.dt_trace.specs.Inputs.{Input, Reading, Taken, FailedTake, FailedGive, FailedOpen, input_words, octets_words}
-use Rattle.dt_trace.specs.Lines.{alone_said, counted, datagram, empty_said, failure, failure_said, input_of, input_said, most_link, most_number, most_octets, number_read, octets_read, octets_said, reading_said, take_said}
+use Rattle.dt_trace.specs.Lines.{alone_said, counted, datagram, empty_said, failure, failure_said, input_of, input_said, most_link, most_number, most_taken, number_read, octets_read, octets_said, reading_said, take_said}
 use Rattle.dt_trace.specs.Spelling.{AllSpell, SpellInputs, Spells, in_lower_case}
 use Rattle.dt_trace.specs.Standing.{Fits, HasFound, IsInput, Stand, noted_all}
 use Rattle.dt_trace.specs.Traces.{Recorded, is_placed, note_then, noted, nothing, read_from, trace_of}
@@ -145,10 +145,10 @@ octets_only line input begins h =
     let octets = ok_then (octets_read (word 2 line)) _ input link.2 in
     let is = number_is most_link link.0 (word 1 line) (omega arith) link.1 in
     let hex = word 2 line in
-    elim (chosen (is_hex most_octets hex) (Ok (octets_of_hex hex)) (Err faults.Hex) octets.0 octets.1) [
+    elim (chosen (is_hex most_taken hex) (Ok (octets_of_hex hex)) (Err faults.Hex) octets.0 octets.1) [
       | inl p ↦
           let read : octets_of_hex hex ≡ octets.0 = cc in
-          let digits = hex_is most_octets hex p.0 in
+          let digits = hex_is most_taken hex p.0 in
           let pairs = both (length hex % 2 == 0) (list_all is_ascii_hexdigit hex) digits.pairs in
           let said : Input = datagram link.0 (octets_of_hex hex) in
           let same : said ≡ input = ap (datagram link.0) read ∙ (let e : datagram link.0 octets.0 ≡ input = cc in e) in

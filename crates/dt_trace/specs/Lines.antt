@@ -19,9 +19,9 @@ most_number = 18446744073709551615
 abbrev pub most_link : ℕ
 most_link = 255
 
--- the most octets of a datagram: as many as a take has room for
-abbrev pub most_octets : ℕ
-most_octets = 8223
+-- the most octets of a datagram, for which a take has room: one more than a frame has at most
+abbrev pub most_taken : ℕ
+most_taken = 8223
 
 -- a line that has so many words, or its fault
 abbrev pub counted : ℕ → List (List ℕ) → Result (Unit {0}) LineFault
@@ -31,7 +31,7 @@ abbrev pub number_read : ℕ → List ℕ → Result ℕ LineFault
 number_read most text = ok_or (numeral most text) faults.Number
 
 abbrev pub octets_read : List ℕ → Result (List ℕ) LineFault
-octets_read text = if is_hex most_octets text then Ok (octets_of_hex text) else Err faults.Hex
+octets_read text = if is_hex most_taken text then Ok (octets_of_hex text) else Err faults.Hex
 
 abbrev pub datagram : ℕ → List ℕ → Input
 datagram link octets = Taken (Some (record { link = link; octets = octets }))

@@ -3,12 +3,12 @@ use Rattle.std.specs.Prelude.{◌≡◌, ℕ, suc, ◌<◌, ◌≤◌, true, Lis
 use Rattle.std.specs.List.{AllByRecursion}
 use Rattle.dt_edges.specs.Wires.{Datagram}
 use Rattle.dt_trace.specs.Inputs.{Input, Reading, Taken, FailedTake, FailedGive, FailedOpen}
-use Rattle.dt_trace.specs.Lines.{most_link, most_number, most_octets}
+use Rattle.dt_trace.specs.Lines.{most_link, most_number, most_taken}
 use Rattle.dt_trace.specs.Traces.{Recorded, is_placed, noted}
 
 pub record Fits (d : Datagram) : Type 0 where
   pub link : d.link ≤ most_link
-  pub few : length d.octets ≤ most_octets
+  pub few : length d.octets ≤ most_taken
   pub octets : AllByRecursion (λ octet. octet < 256) d.octets
 
 abbrev pub HasFound : Option Datagram → Type 0

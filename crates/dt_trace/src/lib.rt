@@ -11,5 +11,6 @@ mod trace_faults;
 mod traces;
 
 pub use inputs::{Input, put_input};
+pub use lines::MOST_TAKEN;
 pub use trace_faults::TraceFault;
 pub use traces::{Trace, read_trace};

@@ -1,7 +1,7 @@
 //! A line of a trace, read.
 ghost use Rattle.std.specs.Prelude.{◌≡◌, ◌<◌, ◌≤◌, length, IfOk, IfSome};
 ghost use Rattle.dt_trace.specs.Inputs.{FailedTake, Taken};
-ghost use Rattle.dt_trace.specs.Lines.{ReadsAs, number_read, most_link, most_octets, reading_said, failure_said, alone_said, empty_said, octets_said, take_said, input_said, input_of, input_seen};
+ghost use Rattle.dt_trace.specs.Lines.{ReadsAs, number_read, most_link, most_taken, reading_said, failure_said, alone_said, empty_said, octets_said, take_said, input_said, input_of, input_seen};
 
 use dt_reports::LineFault;
 use dt_text::fields::has;
@@ -11,8 +11,9 @@ use dt_text::{is_hex, read_number};
 /// The greatest number of a link.
 const MOST_LINK: u64 = 255;
 
-/// The most octets of a datagram.
-const MOST_OCTETS: u32 = 8_223;
+/// The most octets of a datagram that a take finds, for which it has room: one more than a frame has
+/// at most.
+pub const MOST_TAKEN: usize = 8_223;
 
 /// What a line of a trace says.
 #[derive(Clone, Copy, Debug, PartialEq, Eq)]
@@ -96,7 +97,7 @@ fn octets_line<'a>(words: &Words<'a>) -> Result<Line<'a>, LineFault>
     has(3, words)?;
     let link = link(words.word(1))?;
     let hex = words.word(2);
-    if is_hex(hex, MOST_OCTETS) {
+    if is_hex(hex, MOST_TAKEN as u32) {
         Ok(Line::Datagram { link, hex })
     } else {
         Err(LineFault::Hex)

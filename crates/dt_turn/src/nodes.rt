@@ -10,11 +10,9 @@ use dt_layout::Frame;
 use dt_script::Orders;
 use dt_shelf::Shelf;
 use dt_station::Station;
+use dt_units::limits::MOST_OCTETS;
 use std::alloc::Global;
 use std::mem::size_of;
-
-/// How many octets a read takes at most.
-const MOST_READ: usize = 65_536;
 
 /// A station, and the frame in which packets are handed to it, which is the station's to change.
 #[derive(Drop)]
@@ -48,7 +46,7 @@ impl Node {
         let setup = &orders.setup;
         let again = restart(setup.again);
         let mut buf = Vec::new(alloc);
-        buf.resize(MOST_READ, 0)?;
+        buf.resize(MOST_OCTETS as usize, 0)?;
         let shelf = new_shelf(alloc, setup.shelf)?;
         let station = Station::new(
             alloc,

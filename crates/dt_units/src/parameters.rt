@@ -1,7 +1,9 @@
-ghost use Rattle.std.specs.Prelude.{◌≡◌, IfOk, IfErr, Some, find, not};
+ghost use Rattle.std.specs.Prelude.{◌≡◌, ◌<◌, IfOk, IfErr, Some, find, not};
 ghost use Rattle.dt_units.specs.Limits.{value_of, is_in_range, first_out_of_range, IsWithinLimits};
+ghost use Rattle.dt_units.specs.Numbers.{quantum};
 ghost use Rattle.dt_units.specs.Times.{times_of};
 
+use crate::limits::{DAY, MOST_OCTETS};
 use std::marker::Model;
 
 /// The parameters of the protocol, all of one value at every node. Times are milliseconds and
@@ -84,9 +86,6 @@ const FIELDS: [Field; 10] = [
     Field::RunLimit,
 ];
 
-/// The greatest time that a parameter may be: a day, in milliseconds.
-const DAY: u32 = 86_400_000;
-
 impl Params {
     /// The value of a field.
     fn value(&self, field: Field) -> u32
@@ -132,7 +131,7 @@ impl Params {
             Field::Probe => (1..=DAY).contains(&value)
                 && u64::from(value) < self.time_bounds().send,
             Field::Seg => (1..=8192).contains(&value),
-            Field::Cap | Field::Rcap | Field::Window => (1..=65_536).contains(&value),
+            Field::Cap | Field::Rcap | Field::Window => (1..=MOST_OCTETS).contains(&value),
             Field::RunLimit => (1..=2_147_483_648).contains(&value),
         }
     }
@@ -166,6 +165,9 @@ impl Params {
         }
     }
 }
+
+/// The greatest quantum, in octets.
+const MOST_QUANTUM: u32 = 1 << 29;
 
 /// Parameters that were checked, with their time bounds. A contract sees them as the [`Params`].
 #[derive(Clone, Copy, Debug)]
@@ -207,5 +209,14 @@ impl Rules {
         ensures within { IsWithinLimits self.now }
     {
         &self.times
+    }
+
+    /// The quantum in octets, 1 to 536,870,912: the lesser of `run_limit` and the greatest one. A
+    /// crossing is an offset that is a multiple of it.
+    pub fn quantum(&self) -> u64
+        ensures value { result ≡ quantum self.now }
+        ensures some { 0 < result }
+    {
+        u64::from(self.params().run_limit.min(MOST_QUANTUM))
     }
 }

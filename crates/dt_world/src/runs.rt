@@ -1,6 +1,5 @@
-//! The run of each flow: what the ledger's places and an acknowledgement's number are told by.
-ghost use Rattle.std.specs.Prelude.{◌≡◌, ◌<◌};
-ghost use Rattle.dt_units.specs.Numbers.{quantum};
+//! The run of each flow: what the ledger's places and an acknowledgement's number are known by.
+ghost use Rattle.std.specs.Prelude.{◌≡◌};
 ghost use Rattle.dt_flow_model.specs.Flow.{base_in, begins_run, crossings_told, run_goes_on, run_told};
 ghost use Rattle.dt_flow_model.specs.Numbering.{is_crossing};
 ghost use Rattle.dt_world.specs.Runs.{no_run, run_seen};
@@ -124,18 +123,8 @@ fn base_in(run: Option<Run>) -> u64
     }
 }
 
-/// The greatest quantum.
-const MOST_QUANTUM: u32 = 1 << 29;
-
 fn is_crossing(rules: &Rules, offset: u64) -> bool
     ensures { result ≡ is_crossing rules.now offset }
 {
-    offset % quantum_of(rules) == 0
-}
-
-fn quantum_of(rules: &Rules) -> u64
-    ensures value { result ≡ quantum rules.now }
-    ensures some { 0 < result }
-{
-    u64::from(rules.params().run_limit.min(MOST_QUANTUM))
+    offset % rules.quantum() == 0
 }

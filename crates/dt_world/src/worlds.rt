@@ -21,6 +21,7 @@ use dt_layout::Frame;
 use dt_ledger::Ledger;
 use dt_reports::StepFault;
 use dt_units::NodeId;
+use dt_units::limits::MOST_OCTETS;
 use indexmap::IndexMap;
 use std::alloc::Global;
 use std::marker::Model;
@@ -54,9 +55,6 @@ impl Model for World {
     ghost invariant = { λ w. (length w.buf.items ≡ most_read) × (w.spent ≡ false → IsWhole w.parts.value) × SafeLedgers (world_seen w.parts.value) (world_seen w.parts.value).ledgers };
 }
 
-/// The most octets of a read.
-const MOST_READ: usize = 65_536;
-
 impl World {
     /// The world of a setup: all its stations start for the first time, the moment is 0, and nothing is
     /// on a link. `NoMemory` where there is none. The cost is that of all links and routes for each
@@ -76,7 +74,7 @@ impl World {
             copies: Copies::new(alloc),
         };
         let mut buf = Vec::new(alloc);
-        buf.resize(MOST_READ, 0)?;
+        buf.resize(MOST_OCTETS as usize, 0)?;
         let frame = Box::new(alloc, Frame::new())?;
         let parts = Parts {
             rules,

@@ -5,9 +5,10 @@ use Rattle.std.proofs.lemmas.Bool.{cases_Bool}
 use Rattle.std.proofs.lemmas.Bool.Decides.{nat_tests}
 use Rattle.dt_units.specs.declared.parameters.Params.{Params}
 use Rattle.dt_units.specs.declared.endpoints.Flow.{Flow}
+use Rattle.dt_units.specs.Moments.{earlier}
 use Rattle.dt_flow_model.specs.declared.acts.RecvKind.{RecvKind}
 use Rattle.dt_flow_model.specs.ReceiveRecord.{ReceiveRecord, Receiver, recv_due_of, recv_wake_of}
-use Rattle.dt_flow_model.specs.SendActs.{IsBefore, IsFirst, act_of, earlier, wake_of}
+use Rattle.dt_flow_model.specs.SendActs.{IsBefore, IsFirst, act_of, wake_of}
 use Rattle.dt_flow_model.specs.SendRecord.{SendRecord}
 use Rattle.dt_flow_laws.proofs.Waking.{recv_wake_first, wake_first}
 use Rattle.dt_world_model.specs.Tables.{earliest}

@@ -23,11 +23,12 @@ use Rattle.dt_flow_model.specs.declared.arrivals.Arrived.TheVariants as arrived
 use Rattle.dt_flow_model.specs.declared.faults.PutFault.{PutFault}
 use Rattle.dt_flow_model.specs.declared.faults.PutFault.TheVariants as fault
 use Rattle.dt_flow_model.specs.SendRecord.{Segment, SendRecord, put, put_fault, on_ack}
-use Rattle.dt_flow_model.specs.SendActs.{Act, act_of, kind_of, due_moment, record_after, told_of, wake_of, earlier}
+use Rattle.dt_flow_model.specs.SendActs.{Act, act_of, kind_of, due_moment, record_after, told_of, wake_of}
 use Rattle.dt_flow_model.specs.ReceiveRecord.{ReceiveRecord, Receiver, after_data, answer_to_data, after_meet, answer_to_meet, answer_to_close, after_read, recv_due_of, after_recv_act, recv_told_of, recv_wake_of}
 use Rattle.dt_flow_model.specs.Acting.{record_for}
 use Rattle.dt_flow_model.specs.Frames.{flow_of, number_in, frame_of_act, recv_frame}
 use Rattle.dt_units.specs.Flows.{IsFlow}
+use Rattle.dt_units.specs.Moments.{earlier}
 use Rattle.dt_flow_model.specs.Keeping.{IsSendRecord, IsReceiverKept, IsUpTo, IsStandingUpTo}
 use Rattle.dt_world_model.specs.Tables.{same_flow, look, write_or_erase, Distinct, AllEntries, earliest, total}
 

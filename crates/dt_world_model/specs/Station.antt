@@ -4,6 +4,7 @@ use Rattle.dt_items.specs.declared.piece.Piece.{Piece}
 use Rattle.dt_items.specs.Unread.{marked, octets_of, piece_told}
 use Rattle.dt_units.specs.declared.parameters.Params.{Params}
 use Rattle.dt_units.specs.declared.endpoints.Flow.{Flow}
+use Rattle.dt_units.specs.Moments.{earlier}
 use Rattle.dt_layout.specs.declared.faults.LayoutFault.{LayoutFault}
 use Rattle.dt_layout.specs.Spelling.{PacketValue}
 use Rattle.dt_layout.specs.Reading.{gram_in, packet_read}
@@ -12,7 +13,6 @@ use Rattle.dt_reports.specs.declared.faults.Refusal.{Refusal}
 use Rattle.dt_reports.specs.declared.reports.Report.TheVariants as report
 use Rattle.dt_reports.specs.Told.{Told, read_told}
 use Rattle.dt_flow_model.specs.Frames.{flow_of, reply_frame}
-use Rattle.dt_flow_model.specs.SendActs.{earlier}
 use Rattle.dt_world_model.specs.declared.links.Entered.{Entered}
 use Rattle.dt_world_model.specs.declared.links.Entered.TheVariants.{Queued, NoRoute, Full}
 use Rattle.dt_world_model.specs.Host.{Host, Turn, next_turn, work, send_octets, read_octets, arrive, told_arrival, host_wake, IsHostUpTo}

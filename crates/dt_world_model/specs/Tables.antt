@@ -1,7 +1,7 @@
 -- Tables: lists of entries with a key, in the order of their making. A key stands in one entry. With them what is said of a list's members together: a sum, and the earliest moment.
 use Rattle.std.specs.Prelude.{ℕ, ◌+◌, ◌==◌, ◌≡◌, Bool, false, ◌&&◌, if◌then◌else◌, is_some, List, [], ◌∷◌, Option, Some, None}
 use Rattle.dt_units.specs.declared.endpoints.Flow.{Flow}
-use Rattle.dt_flow_model.specs.SendActs.{earlier}
+use Rattle.dt_units.specs.Moments.{earlier}
 
 abbrev pub same_flow : Flow → Flow → Bool
 same_flow f g = (f.from.0 == g.from.0) && (f.from_port == g.from_port) && (f.to.0 == g.to.0) && (f.to_port == g.to_port)

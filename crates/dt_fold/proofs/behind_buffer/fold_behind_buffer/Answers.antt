@@ -11,4 +11,4 @@ returns g c =
     let mid = g.K.Sink.sight c.fold_into-folded.new.out in
     let waits = c.fold_into-folded.new.buffer in
     let empty = subst (λ (w : List ℕ). FillsBehind all c.fold_into-folded.result start w mid waits) c.in_ok-buffer.ensures c.fold_into-folded.ensures in
-    filled all start mid (g.K.Sink.sight c.pass_rest.new.out) waits c.fold_into-folded.result c.pass_rest.result empty c.pass_rest.ensures
+    filled all start mid (g.K.Sink.sight c.pass_rest.new.out) waits c.fold_into-folded.result c.pass_rest.result empty c.pass_rest.ensures.puts

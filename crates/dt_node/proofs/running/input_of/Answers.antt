@@ -3,7 +3,7 @@ use Rattle.std.specs.List.{AllByRecursion}
 use Rattle.std.specs.Option.{IfSome}
 use Rattle.dt_edges.specs.Wires.{handed}
 use Rattle.dt_trace.specs.Standing.{HasFound}
-use Rattle.dt_node.specs.Serving.{most_taken}
+use Rattle.dt_trace.specs.Lines.{most_taken}
 use Rattle.dt_node.proofs.running.input_of.Goals as goal
 
 all_by_place : (xs : List ℕ) → ((i : ℕ) → get_or xs i 0 < 256) → AllByRecursion (λ octet. octet < 256) xs

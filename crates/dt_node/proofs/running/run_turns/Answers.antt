@@ -9,6 +9,7 @@ use Rattle.dt_edges.specs.declared.failures.Failed.{Failed}
 use Rattle.dt_trace.specs.Inputs.{FailedTake, Input, Reading, Taken as Found}
 use Rattle.dt_trace.specs.Standing.{HasFound}
 use Rattle.dt_trace.specs.Written.{input_written}
+use Rattle.dt_trace.specs.Lines.{most_taken}
 use Rattle.dt_world_model.specs.Station.{station_wake}
 use Rattle.dt_edges.specs.Counts.{HasRisen}
 use Rattle.dt_edges.specs.Sinks.{SinkSight}
@@ -27,7 +28,7 @@ use Rattle.dt_node.specs.TurnScripts.{turned}
 use Rattle.dt_node.specs.Runs.{moment, most_equal, next_moment, next_watch, wait_until, wakes_by}
 use Rattle.dt_node.specs.Deeds.{Scene, TurnEnds, scene}
 use Rattle.dt_node.specs.declared.outcomes.NodeOutcome.TheVariants.{WriteFault}
-use Rattle.dt_node.specs.Serving.{Edges, Serves, edges, most_taken}
+use Rattle.dt_node.specs.Serving.{Edges, Serves, edges}
 use Rattle.dt_node.specs.Waiting.{pause_of, wait_in}
 use Rattle.dt_node.proofs.Waited.{asked_wait}
 use Rattle.dt_node.proofs.Watching.{IsWell, goes_on, first_well}

@@ -1,10 +1,11 @@
 use Rattle.std.proofs.Common.{◌≡◌, ◌≤◌, []}
 use Rattle.std.specs.Option.{IfSome}
 use Rattle.dt_edges.specs.Wires.{handed}
+use Rattle.dt_trace.specs.Lines.{most_taken}
 use Rattle.dt_script.specs.Codes.{orders_seen}
 use Rattle.dt_turn.specs.Codes.{IsReady, node_seen}
 use Rattle.dt_node.specs.Runs.{moment}
-use Rattle.dt_node.specs.Serving.{edges, most_taken}
+use Rattle.dt_node.specs.Serving.{edges}
 use Rattle.dt_node.proofs.Watching.{IsWell, left_before}
 use Rattle.dt_node.proofs.Served.{Going}
 use Rattle.dt_node.proofs.running.run_turns.Given as goal

@@ -1,5 +1,5 @@
 use Rattle.std.proofs.Common.{◌≡◌, drop}
-use Rattle.dt_flow_model.specs.SendActs.{earlier}
+use Rattle.dt_units.specs.Moments.{earlier}
 use Rattle.dt_world_model.specs.Tables.{earliest}
 use Rattle.dt_service_model.specs.Turns.{deadline_of}
 use Rattle.dt_service_halves.proofs.ends.deadline.Given as goal

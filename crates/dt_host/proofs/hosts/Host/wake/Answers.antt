@@ -1,7 +1,8 @@
 use Rattle.std.proofs.Common.{ℕ, ◌≡◌, Option, ap, subst, ◌∙◌}
 use Rattle.dt_units.specs.declared.endpoints.Flow.{Flow}
 use Rattle.dt_units.specs.declared.parameters.Params.{Params}
-use Rattle.dt_flow_model.specs.SendActs.{earlier, wake_of}
+use Rattle.dt_units.specs.Moments.{earlier}
+use Rattle.dt_flow_model.specs.SendActs.{wake_of}
 use Rattle.dt_flow_model.specs.SendRecord.{SendRecord}
 use Rattle.dt_flow_model.specs.ReceiveRecord.{Receiver, recv_wake_of}
 use Rattle.dt_world_model.specs.Host.{host_wake}

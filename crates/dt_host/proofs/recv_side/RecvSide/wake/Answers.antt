@@ -1,5 +1,5 @@
 use Rattle.std.proofs.Common.{ℕ, Option, ap, ◌∙◌}
-use Rattle.dt_flow_model.specs.SendActs.{earlier}
+use Rattle.dt_units.specs.Moments.{earlier}
 use Rattle.dt_host.proofs.RecvSides.{either_wake}
 use Rattle.dt_host.proofs.recv_side.RecvSide.wake.Goals as goal
 

@@ -1,5 +1,5 @@
 use Rattle.std.proofs.Common.{◌≡◌, drop}
-use Rattle.dt_flow_model.specs.SendActs.{earlier}
+use Rattle.dt_units.specs.Moments.{earlier}
 use Rattle.dt_world_model.specs.Relay.{relay_wake}
 use Rattle.dt_relay.proofs.relays.Relay.wake.Given as goal
 

@@ -1,5 +1,6 @@
 use Rattle.std.proofs.Common.{◌≡◌, ◌+◌, ◌-◌, sym, ap, ◌∙◌, drop, arith}
-use Rattle.dt_flow_model.specs.SendActs.{earlier, resends_from}
+use Rattle.dt_units.specs.Moments.{earlier}
+use Rattle.dt_flow_model.specs.SendActs.{resends_from}
 use Rattle.dt_send.specs.SendBuffer.{record_of}
 use Rattle.dt_send.proofs.MomentLemmas.{none_behind, resends_more}
 use Rattle.dt_send.proofs.RingLemmas.{found, found_timed}
