@@ -1,8 +1,9 @@
 /* deltat.h: a Delta-t node without a socket, a clock or a thread of its own.
  *
  * The program feeds it datagrams, octets to send and the time; it takes datagrams to put on the wire, octets that
- * came, and the moment when to call again. What each function does is proved: a sentence of its contract stands
- * beside it, and the contract itself in crates/dt_c. What the program owes nothing checks:
+ * came, and the moment when to call again. What each function does is proved, but for the sizes and
+ * alignments, which are the compiler's: a sentence of its contract stands beside it, and the contract itself in crates/dt_c.
+ * What the program owes nothing checks:
  *
  *   for (;;) {
  *       struct dt_moment wake = dt_wake(node);        wait for the socket, at most until `wake`
@@ -254,7 +255,7 @@ struct dt_totals dt_totals(dt_node *n, const struct dt_flow *flow);
 
 /* The first frame that waits, `len` octets at the head of the buffer, is for the node `to` and leaves on `link`; it
  * waits no more, and the rest of the buffer is as it was. DONE CLOSED; NOTHING: none waits; ROOM: `len` octets are
- * wanted, and it goes on waiting. */
+ * needed, and it goes on waiting. */
 struct dt_out dt_next_frame(dt_node *n, uint8_t *buf, size_t room);
 
 /* The first report that waits, which waits no more. DONE CLOSED; NOTHING: none waits. Reports take memory until they
@@ -351,7 +352,7 @@ uint8_t dt_forget(dt_service *s, uint64_t now, const struct dt_token *t);
 
 /* What happened, in its order and each once: `len` octets at the head of the buffer, the rest of which is as it was; a flow is
  * told of a request alone. It is no turn. After NO_MEMORY and dt_service_stop it hands out what was told, and then that each
- * call that waited is UNSURE, WAS_CLOSED. DONE CLOSED; NOTHING: nothing was told; ROOM: `len` octets are wanted, and it goes
+ * call that waited is UNSURE, WAS_CLOSED. DONE CLOSED; NOTHING: nothing was told; ROOM: `len` octets are needed, and it goes
  * on waiting. */
 struct dt_event dt_next_event(dt_service *s, uint8_t *buf, size_t room);
 
