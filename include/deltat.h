@@ -24,7 +24,7 @@
  *            allows that. No call blocks, and none calls back. None from a signal handler, and none in the forked
  *            child of a process with threads.
  *   time     `now` is in ms, of one clock that never goes back, goes at the right rate and GOES ON WHILE THE MACHINE
- *            SLEEPS (CLOCK_BOOTTIME, not CLOCK_MONOTONIC). A `now` below the greatest of an earlier call counts as
+ *            SLEEPS (CLOCK_BOOTTIME, not CLOCK_MONOTONIC). A `now` below the greatest of an earlier event counts as
  *            that one, and one above 2^62 as 2^62.
  *   links    No datagram is under way on a link for longer than the link's charge, counted from the call after which
  *            dt_next_frame could hand it out. What it waited on this machine before dt_arrive is told as `waited`,
