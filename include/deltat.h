@@ -277,7 +277,8 @@ struct dt_moment dt_wake(dt_node *n);
  *       struct dt_moment wake = dt_service_wake(s);       wait for the socket, at most until `wake`
  *       a datagram came: dt_service_arrive(s, now(), link, buf, len, waited);   none did: dt_service_tick(s, now());
  *       while ((e = dt_next_event(s, buf, sizeof buf)).status == DT_DONE)
- *           if (e.kind == DT_REQUEST) dt_reply(s, now(), &token, answer, len);        at once or later, in any order
+ *           if (e.kind == DT_REQUEST) dt_reply(s, now(), &(struct dt_token){e.number, e.flow}, answer, len);   at once or later,
+ *                                                                                                        in any order
  *       while ((f = dt_service_next_frame(s, buf, sizeof buf)).status == DT_DONE)    send it on f.link, or to f.to
  *   }
  *
