@@ -201,7 +201,7 @@ def main() -> int:
         "COMMAND is run with the case's word behind it: replay, retrace, calls, audit, make N or frames. "
         "For this project's program it is conformance/deltat PATH."))
     reads.add_argument("--kind", action="append", choices=KINDS, help="ask the cases of this kind alone; may be given again")
-    reads.add_argument("--name", default="*", metavar="PATTERN", help="ask the cases with such a name alone, as 18-*")
+    reads.add_argument("--name", default="*", metavar="PATTERN", help="ask the cases with such a name alone, as 'refused-*'")
     reads.add_argument("--without", action="append", choices=NEEDS, default=[], help="leave out the cases that need this; may be given again")
     reads.add_argument("--room", type=int, default=1 << 32, metavar="N", help="leave out the cases whose records hold more than N octets")
     reads.add_argument("--seconds", type=float, default=60, metavar="S", help="stop a run after so long (%(default)s)")

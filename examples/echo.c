@@ -4,7 +4,7 @@
  *     cc -std=gnu11 -O2 -I include examples/echo.c lib/libdeltat.a -o echo && ./echo
  *
  * It keeps what deltat.h asks of a program: one clock that goes on in sleep, what a datagram waited in the socket, and
- * that no frame goes on the wire long after it left the node. Say `again` behind it where node 2 ran less than 2 s ago. */
+ * that no frame goes on the wire long after it left the node. Say `again` after it where node 2 ran less than 2 s ago. */
 #include <arpa/inet.h>
 #include <poll.h>
 #include <stdio.h>

@@ -5,7 +5,7 @@
     examples/echo.py ask hello world    node 1 on port 4001: sends each word, prints the answers
 
 What the client sends comes at most once, whatever the network repeats; what wasn't acknowledged in time it is told.
-Where a node may have run less than 2 s before, say `again` behind `serve` or `ask`: it is silent then for `quiet`."""
+Where a node may have run less than 2 s before, say `again` after `serve` or `ask`: it is silent then for `quiet`."""
 import pathlib
 import sys
 

@@ -1,8 +1,9 @@
 /* deltat.h: a Delta-t node without a socket, a clock or a thread of its own.
  *
  * The program feeds it datagrams, octets to send and the time; it takes datagrams to put on the wire, octets that
- * came, and the moment when to call again. What each function does is proved: a sentence of its contract stands
- * beside it, and the contract itself in crates/dt_c. What the program owes nothing checks:
+ * came, and the moment when to call again. What each function does is proved, but for the sizes and
+ * alignments, which are the compiler's: a sentence of its contract stands beside it, and the contract itself in crates/dt_c.
+ * What the program owes nothing checks:
  *
  *   for (;;) {
  *       struct dt_moment wake = dt_wake(node);        wait for the socket, at most until `wake`
@@ -23,7 +24,7 @@
  *            allows that. No call blocks, and none calls back. None from a signal handler, and none in the forked
  *            child of a process with threads.
  *   time     `now` is in ms, of one clock that never goes back, goes at the right rate and GOES ON WHILE THE MACHINE
- *            SLEEPS (CLOCK_BOOTTIME, not CLOCK_MONOTONIC). A `now` below the greatest of an earlier call counts as
+ *            SLEEPS (CLOCK_BOOTTIME, not CLOCK_MONOTONIC). A `now` below the greatest of an earlier event counts as
  *            that one, and one above 2^62 as 2^62.
  *   links    No datagram is under way on a link for longer than the link's charge, counted from the call after which
  *            dt_next_frame could hand it out. What it waited on this machine before dt_arrive is told as `waited`,
@@ -49,7 +50,9 @@ typedef struct dt_node dt_node;
 enum dt_status {
     DT_DONE = 0,
     DT_NO_MEMORY = 1, /* of an event, dt_read and dt_take a first part was done, and the node is spent: what waits can
-                         still be taken, then it is closed and opened `again`. Of other calls nothing changed */
+                         still be taken, then it is closed and opened `again`. So it is of dt_call, dt_reply, dt_forget,
+                         dt_service_tick and dt_service_arrive, and the service is stopped. Of other calls nothing
+                         changed */
     DT_CLOSED = 2,    /* the handle holds no node, or none with an inbox; nothing changed */
     DT_REFUSED = 3,   /* an argument is out of its range; nothing changed */
     DT_HELD = 4,      /* there is a node, an inbox or a route already; nothing changed */
@@ -57,7 +60,7 @@ enum dt_status {
     DT_ROOM = 6,      /* the buffer is too small, and what was to go into it waits on */
     DT_FULL = 7,      /* the octets don't fit, and weren't taken; what else was due is done */
     DT_QUIET = 8,     /* the node is silent, and took none; what else was due is done */
-    DT_SPENT = 9,     /* an earlier call found no memory; nothing changed */
+    DT_SPENT = 9,     /* an earlier call found no memory, or the service was stopped; nothing changed */
     DT_BAD = 11,      /* the datagram doesn't read; nothing changed but a count */
     DT_STALE = 12,    /* the datagram waited for all of its life, or longer; nothing changed but a count */
     DT_KEPT_OUT = 13, /* the guard doesn't admit the datagram, which is lost and counted; nothing else changed */
@@ -252,7 +255,7 @@ struct dt_totals dt_totals(dt_node *n, const struct dt_flow *flow);
 
 /* The first frame that waits, `len` octets at the head of the buffer, is for the node `to` and leaves on `link`; it
  * waits no more, and the rest of the buffer is as it was. DONE CLOSED; NOTHING: none waits; ROOM: `len` octets are
- * wanted, and it goes on waiting. */
+ * needed, and it goes on waiting. */
 struct dt_out dt_next_frame(dt_node *n, uint8_t *buf, size_t room);
 
 /* The first report that waits, which waits no more. DONE CLOSED; NOTHING: none waits. Reports take memory until they
@@ -274,7 +277,8 @@ struct dt_moment dt_wake(dt_node *n);
  *       struct dt_moment wake = dt_service_wake(s);       wait for the socket, at most until `wake`
  *       a datagram came: dt_service_arrive(s, now(), link, buf, len, waited);   none did: dt_service_tick(s, now());
  *       while ((e = dt_next_event(s, buf, sizeof buf)).status == DT_DONE)
- *           if (e.kind == DT_REQUEST) dt_reply(s, now(), &token, answer, len);        at once or later, in any order
+ *           if (e.kind == DT_REQUEST) dt_reply(s, now(), &(struct dt_token){e.number, e.flow}, answer, len);   at once or later,
+ *                                                                                                        in any order
  *       while ((f = dt_service_next_frame(s, buf, sizeof buf)).status == DT_DONE)    send it on f.link, or to f.to
  *   }
  *
@@ -286,8 +290,8 @@ struct dt_moment dt_wake(dt_node *n);
 typedef struct dt_service dt_service;
 
 /* How a service starts: as dt_start, with a life; `calls`, how many calls may wait or have an end that wasn't taken;
- * `requests`, how many requests may have no reply, and how many weren't taken; `of_a_flow`, how many of one flow may have
- * no reply. Where there is no room for a request its flow isn't read, and nothing is dropped. */
+ * `requests`, how many requests may be without a reply, and also how many may wait to be taken; `of_a_flow`, how many of one
+ * flow may be without a reply. Where there is no room for a request its flow isn't read, and nothing is dropped. */
 struct dt_service_start { uint64_t now; uint32_t me, life, calls, requests, of_a_flow; bool again; };
 /* The name of a request: the flow on which it came and the number of its call, which is its life in the upper 32 bits and
  * a count in the lower. It may be stored, compared and logged. */
@@ -333,20 +337,23 @@ uint8_t dt_port(dt_service *s, uint16_t port, uint8_t kind);
 
 /* A call: a request with this payload goes on a flow from a caller's port, and its end comes by dt_next_event, at the latest
  * in the first turn `patience` ms or more after `now`. DONE: it has `number`. QUIET: silent until `until`, and FULL: `free`
- * octets are free, eight of which the number takes; then nothing of it was taken, and what else was due is done. CLOSED MANY NUMBERS SPENT; REFUSED: `unfit`.
- * NO_MEMORY: the service is closed, as by dt_service_stop; its request may have been taken, and then its end is told too. */
+ * octets are free, eight of which the number takes; then nothing of it was taken, and what else was due is done. CLOSED MANY
+ * NUMBERS SPENT; REFUSED: `unfit`. NO_MEMORY: the service is stopped, as by dt_service_stop; the call may have been made all
+ * the same, so take it as unsure, and then dt_next_event tells its end too. */
 struct dt_made dt_call(dt_service *s, uint64_t now, const struct dt_flow *f, const uint8_t *payload, size_t len, uint32_t patience);
 
-/* The reply to a request, once. DONE: the node has it, and the token is open no more; FULL: `free` octets are free,
- * as in dt_call, what else was due is done, and the reply may be tried again. CLOSED GONE SPENT; REFUSED: `unfit`. NO_MEMORY: as dt_call. */
+/* The reply to a request, once. DONE: the node has it, and the token is open no more; FULL: `free` octets are free, as in
+ * dt_call, what else was due is done, and the reply may be tried again. CLOSED GONE SPENT; REFUSED: `unfit`. NO_MEMORY: the
+ * service is stopped, and the reply may have been sent. */
 struct dt_replied dt_reply(dt_service *s, uint64_t now, const struct dt_token *t, const uint8_t *payload, size_t len);
 
-/* A request has no reply: its token is open no more, and there is room for another. DONE CLOSED GONE NO_MEMORY */
+/* A request gets no reply: its token is open no more, and there is room for another. DONE CLOSED GONE; NO_MEMORY: the service
+ * is stopped. */
 uint8_t dt_forget(dt_service *s, uint64_t now, const struct dt_token *t);
 
 /* What happened, in its order and each once: `len` octets at the head of the buffer, the rest of which is as it was; a flow is
  * told of a request alone. It is no turn. After NO_MEMORY and dt_service_stop it hands out what was told, and then that each
- * call that waited is UNSURE, WAS_CLOSED. DONE CLOSED; NOTHING: nothing was told; ROOM: `len` octets are wanted, and it goes
+ * call that waited is UNSURE, WAS_CLOSED. DONE CLOSED; NOTHING: nothing was told; ROOM: `len` octets are needed, and it goes
  * on waiting. */
 struct dt_event dt_next_event(dt_service *s, uint8_t *buf, size_t room);
 
@@ -361,9 +368,9 @@ struct dt_call_counts dt_call_counts(dt_service *s);
  * memory. DONE CLOSED */
 uint8_t dt_service_stop(dt_service *s);
 
-/* As dt_tick, dt_arrive, dt_next_frame, dt_wake, dt_add_route, dt_guard, dt_kept_out and dt_counts, of a service. SPENT: an
- * earlier call found no memory, or the service was stopped. The wake has the least end of a patience too, and a service
- * that was stopped has none. */
+/* As dt_tick, dt_arrive, dt_next_frame, dt_wake, dt_add_route, dt_guard, dt_kept_out and dt_counts, of a service. A tick and
+ * a datagram are SPENT where an earlier call found no memory or the service was stopped, and where they find no memory the
+ * service is stopped. The wake has the least end of a patience too, and a service that was stopped has none. */
 uint8_t dt_service_tick(dt_service *s, uint64_t now);
 struct dt_came dt_service_arrive(dt_service *s, uint64_t now, uint16_t link, const uint8_t *datagram, size_t len, uint32_t waited);
 struct dt_out dt_service_next_frame(dt_service *s, uint8_t *buf, size_t room);

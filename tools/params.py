@@ -24,7 +24,7 @@ def arguments() -> argparse.Namespace:
     it.add_argument("--mtu", type=number(1, 65_535, int), default=1500, help="the least MTU of the links (1500)")
     it.add_argument("--room", type=number(1, par.MOST_ROOM, int), default=par.MOST_ROOM, help="octets of a flow that are under way, or unread (65536)")
     it.add_argument("--wait", type=number(0, par.DAY, int), default=2, help="the longest that a packet may wait at a station, in ms (2)")
-    it.add_argument("--shelf", type=number(0, 1000, int), default=0, metavar="N", help="how often a lost packet may go again while those behind it lie on a shelf (0: nodes have none)")
+    it.add_argument("--shelf", type=number(0, 1000, int), default=0, metavar="N", help="how often a lost packet may go again while those after it lie on a shelf (0: nodes have none)")
     return it.parse_args()
 
 

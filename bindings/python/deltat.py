@@ -109,12 +109,13 @@ class Kind(enum.IntEnum):
 
 
 class DeltatError(Exception):
-    """What a node refuses. Nothing was sent or read by the call that raised it."""
+    """What a node refuses. But for NoMemory, and `deltat_service.Unsure`, nothing was sent or read by the call that raised it."""
 
 
 class NoMemory(DeltatError):
-    """The library found no memory. A node that raised this, but of `guard` and `add_route`, is spent: close it, and open it
-    `again`."""
+    """The library found no memory, and a first part of the call may have been done: of a send its octets may have been taken. A
+    node that raised this is spent, or is to be taken as spent: close it, and open it `again`. Only `guard`, `add_route` and
+    `follow`, and `port` of a service, changed nothing, and the node goes on."""
 
 
 class Spent(DeltatError):
@@ -310,8 +311,8 @@ class Params:
 
     @property
     def fingerprint(self) -> int:
-        """A number of 64 bits: programs whose parameters are equal have the same, and others don't. BadParameter where one is
-        out of its range."""
+        """A number of 64 bits: programs whose parameters are equal have the same, and it would take a search to find others
+        that have it too. BadParameter where one is out of its range."""
         for name, value in zip(_Params._fields_, astuple(self)):
             _in_range(value, 32, name[0])
         it = _library.dt_fingerprint(_Params(*astuple(self)))
@@ -371,7 +372,7 @@ class Piece(NamedTuple):
 
 
 class Message(NamedTuple):
-    """A whole message of a flow. `gap`: octets of the flow before it, behind the message before, were passed over, or may
+    """A whole message of a flow. `gap`: octets of the flow between the message before and this one were passed over, or may
     have been."""
 
     flow: Flow
@@ -763,7 +764,7 @@ class AsyncUdp:
     The loop watches the socket, and the datagrams are read here: a datagram endpoint of asyncio doesn't hand out the
     kernel's stamps, so what a datagram waited while the loop was busy couldn't be told. A message is read from the node
     when the program asks for it, so of a program that is slow the senders are held back. NoMemory comes of each call
-    behind the one that found none, and Spent of those that wait when it is closed."""
+    after the one that found none, and Spent of those that wait when it is closed."""
 
     def __init__(self, node: Node, bind: tuple[str, int], peers: Mapping[int, tuple[str, int]], routes: Mapping[int, int] | None = None) -> None:
         """Binds the socket, and joins the running loop: RuntimeError where none runs. As `Udp`."""
@@ -834,8 +835,8 @@ class AsyncUdp:
 
     async def send(self, flow: Flow, octets: bytes, begin: bool = True, end: bool = True) -> None:
         """Sends a message, or a part of one, of at most `cap` octets, as soon as there is room for it and the node isn't
-        silent. Those who wait for room of one flow aren't served in the order in which they came. BadParameter, NoMemory
-        or Spent, and then nothing of it was taken, as where the wait is cancelled."""
+        silent. Those who wait for room of one flow aren't served in the order in which they came. BadParameter or Spent, and
+        then nothing of it was taken, as where the wait is cancelled; NoMemory, and then it may have been."""
         if len(octets) > self.node.params.cap:
             raise BadParameter(f"a flow holds {self.node.params.cap} octets, and not {len(octets)}")
         while True:

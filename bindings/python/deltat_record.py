@@ -4,13 +4,13 @@
     ...
     node.close()
 
-Behind that `deltat retrace < run.txt` writes what run.txt.log has: every report of the node, as the library told it. What
+After that `deltat retrace < run.txt` writes what run.txt.log has: every report of the node, as the library told it. What
 a run did on one machine can so be seen on another one, line by line, and with other eyes.
 
 A script of a node does its commands in the first turn of their moment. So of a node that records a send or a read begins
 a new millisecond, unless it follows another one: it waits for that, and takes up to 1 ms longer. Moments are those since
 the node was opened. What is kept lies in memory until the node is closed; `retrace` reads 16,777,216 octets at most, and
-what came behind about as many isn't kept."""
+what came after about as many isn't kept."""
 
 from __future__ import annotations
 

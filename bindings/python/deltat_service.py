@@ -120,8 +120,8 @@ class Gone(DeltatError):
 
 @dataclass(frozen=True)
 class Limits:
-    """How many calls may wait or have an end that wasn't taken; how many requests may have no reply, and how many weren't
-    taken; and how many of one flow may have no reply."""
+    """`waiting`: how many calls may wait or have an end that wasn't taken; `open`: how many requests may be without a reply, and
+    also how many may wait to be taken; `each`: how many requests of one flow may be without a reply."""
 
     waiting: int = 1_000
     open: int = 1_000
@@ -264,8 +264,9 @@ class Service:
         self._raise(status)
 
     def call(self, flow: Flow, payload: bytes, patience: int, at: int | None = None) -> int:
-        """Makes a call that ends within `patience` ms, 1 to 4,294,967,295, and returns its number. Declined, or
-        BadParameter; nothing of it was sent then."""
+        """Makes a call that ends within `patience` ms, 1 to 4,294,967,295, and returns its number. Declined, BadParameter or
+        Spent; nothing of it was sent then. NoMemory: the node is closed, and the call may have been made: if it was,
+        `happenings` tells its end."""
         octets = bytes(payload)
         deltat._in_range(patience, 32, "the patience")
         made = _library.dt_call(self._handle, deltat.now() if at is None else at, deltat._flow(flow), octets, len(octets), patience)
@@ -277,8 +278,9 @@ class Service:
         raise Declined({Status.QUIET: "quiet", Status.FULL: "full", MANY: "many", NUMBERS: "numbers"}[made.status], made.until, made.free)
 
     def reply(self, token: Token, payload: bytes, at: int | None = None) -> None:
-        """Replies to a request, once. Gone; or Full, and then it may be tried again; or BadParameter where it is too
-        long."""
+        """Replies to a request, once. Gone; or Full, and then it may be tried again (eight of the `free` octets are for its
+        number); or BadParameter where it is too long; or Spent. NoMemory: the node is closed, and the reply may have been
+        sent."""
         octets = bytes(payload)
         said = _library.dt_reply(self._handle, deltat.now() if at is None else at, _token(token), octets, len(octets))
         if said.status == Status.FULL:
@@ -307,7 +309,7 @@ class Service:
         self.life = life
 
     def happenings(self) -> Iterator[Happening]:
-        """What was told, in its order, each once: also behind `stop` and NoMemory."""
+        """What was told, in its order, each once: also after `stop` and NoMemory."""
         while True:
             it = _library.dt_next_event(self._handle, self._room, len(self._room))
             if it.status == Status.ROOM:
@@ -413,8 +415,8 @@ class Calls:
         self._functions: dict[int, Callable[[Request], bytes | None]] = {}
 
     def call(self, flow: Flow, payload: bytes, patience: float = 5.0) -> bytes:
-        """The answer to a call, within `patience` seconds. Unsure, Declined or BadParameter; NoMemory or Spent where it wasn't
-        made."""
+        """The answer to a call, within `patience` seconds. Unsure; Declined, BadParameter or Spent where it wasn't made; NoMemory
+        where the node closed as it was to be made: take it as unsure."""
         at = deltat.now()
         try:
             number = self.node.call(flow, payload, _patience(patience), at)
@@ -518,8 +520,9 @@ class AsyncCalls:
         self._tasks: set[asyncio.Task[None]] = set()
 
     async def call(self, flow: Flow, payload: bytes, patience: float = 5.0) -> bytes:
-        """The answer to a call, within `patience` seconds. Unsure, Declined or BadParameter; NoMemory or Spent where it wasn't
-        made. Where the wait is cancelled the call goes on, and its end is dropped."""
+        """The answer to a call, within `patience` seconds. Unsure; Declined, BadParameter or Spent where it wasn't made; NoMemory
+        where the node closed as it was to be made, or before: take it as unsure. Where the wait is cancelled the call goes
+        on, and its end is dropped."""
         number = self._does(lambda at: self.node.call(flow, payload, _patience(patience), at))
         end = self._ends[number] = asyncio.get_running_loop().create_future()
         try:
@@ -548,7 +551,8 @@ class AsyncCalls:
             await self._step()
 
     def on(self, port: int) -> Callable[[Callable[[Request], Awaitable[bytes | None]]], Callable[[Request], Awaitable[bytes | None]]]:
-        """Decorates the coroutine that serves a port, as `Calls.on`. Several may be under way at once."""
+        """Decorates the coroutine that serves a port, as `Calls.on`. Several may be under way at once. Of one that raises the
+        request is forgotten, and `run` goes on: asyncio logs what it raised."""
 
         def serves(function: Callable[[Request], Awaitable[bytes | None]]) -> Callable[[Request], Awaitable[bytes | None]]:
             self._functions[port] = function

@@ -7,7 +7,7 @@
 TCP until it is answered. The link is that of tests/wan.py, two network namespaces with 20 ms between them each way,
 which wants root and /dev/net/tun. Where there are none, or with --relay, both ends are on this machine, and a relay
 between them does the same to the datagrams of calls; TCP has no losses and no delay then. A client is killed every
-0.7 s, the bank every 10 s, each at a random moment, and started again. Behind the time that was asked for nobody is
+0.7 s, the bank every 10 s, each at a random moment, and started again. After the time that was asked for nobody is
 killed any more, and each client finds out what became of its last orders.
 
 Then the journal of the bank is compared with the notes of all clients. It ends with 0 where by calls the sum of the

@@ -125,13 +125,13 @@ pub enum Error {
     Spent,
     /// An argument is out of its range, a flow isn't this node's, or there is no such link.
     Refused,
-    /// The octets don't fit: so many do. What else was due is done.
+    /// The octets don't fit: `free` octets do. What else was due is done.
     Full { free: u32 },
     /// The node started again and is silent until this moment. What else was due is done.
     Quiet { until: u64 },
     /// The datagram doesn't read, or has no life left. It was dropped.
     Dropped,
-    /// The buffer has too little room: so many octets are wanted.
+    /// The buffer has too little room: `wanted` octets would do.
     Room { wanted: usize },
     /// There was no memory for octets of this flow that were read. They are lost, and the node goes on.
     Lost { flow: Flow },
@@ -195,15 +195,15 @@ pub struct Frame {
 /// What a report tells that a program needs most often; the rest by its number, as `enum dt_kind` of the header has it.
 #[derive(Clone, Copy, Debug, PartialEq, Eq)]
 pub enum Told {
-    /// A send was taken: so many octets.
+    /// A send of `count` octets was taken.
     Took { flow: Flow, count: u32 },
-    /// So many octets were acknowledged.
+    /// `count` octets were acknowledged.
     Settled { flow: Flow, count: u32 },
-    /// So many octets were given up: they may have come or not.
+    /// `count` octets were given up: they may have come or not.
     Uncertain { flow: Flow, count: u32 },
     /// Octets were accepted, and can be read.
     Accepted { flow: Flow, count: u32 },
-    /// The flow has no receiver any more.
+    /// The receive record of the flow was released. What is unread can still be read.
     Released { flow: Flow },
     Other { kind: u8, flow: Flow },
 }

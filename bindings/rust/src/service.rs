@@ -24,10 +24,11 @@ pub struct Start {
     pub number: u32,
     pub life: u32,
     pub again: bool,
-    /// So many calls may wait or have an end that wasn't taken.
+    /// How many calls may wait or have an end that wasn't taken.
     pub calls: u32,
-    /// So many requests may have no reply, and so many weren't taken; and so many of one flow have no reply.
+    /// How many requests may be without a reply, and also how many may wait to be taken.
     pub requests: u32,
+    /// How many requests of one flow may be without a reply.
     pub of_a_flow: u32,
 }
 
@@ -39,18 +40,19 @@ pub struct Token {
     pub flow: Flow,
 }
 
-/// Why a call isn't made. Nothing of it was taken.
+/// Why a call isn't made. Nothing of it was taken, but where there was no memory.
 #[derive(Clone, Copy, Debug, PartialEq, Eq)]
 pub enum Declined {
     /// The node is silent after its start, until this moment.
     Quiet { until: u64 },
-    /// So many octets are free, eight of which the call's number takes.
+    /// `free` octets are free, eight of which the call's number takes.
     Full { free: u32 },
     /// As many calls as may be wait, or have ends that weren't taken.
     Many,
     /// Each number of this life was used: raise it.
     Numbers,
-    /// It can't be made, or the service is closed or found no memory.
+    /// It can't be made, or the service is closed. `Error::NoMemory`: the service closed as the call was to be made. It may have
+    /// been made, so take it as unsure; then `next_event` tells its end.
     Error(Error),
 }
 
@@ -59,8 +61,9 @@ pub enum Declined {
 pub enum Unreplied {
     /// The token isn't open: it had its reply, was forgotten, or is of a former life.
     Gone,
-    /// So many octets are free, eight of which the number takes. It may be tried again.
+    /// `free` octets are free, eight of which the number takes. It may be tried again.
     Full { free: u32 },
+    /// It can't be sent, or the service is closed. `Error::NoMemory`: the service closed, and the reply may have been sent.
     Error(Error),
 }
 
