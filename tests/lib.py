@@ -165,9 +165,8 @@ def memory_of(pid: int) -> int:
 
 
 def growth(sizes: Sequence[int]) -> int:
-    """By how much the last size is more than that at a third of them; sizes of 0 aren't known."""
-    known = [it for it in sizes if it]
-    return known[-1] - known[len(known) // 3] if known else 0
+    """By how much the last size is more than that at a third of them."""
+    return sizes[-1] - sizes[len(sizes) // 3] if sizes else 0
 
 
 HANDED_OUT: set[int] = set()

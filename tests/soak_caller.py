@@ -3,8 +3,8 @@
 line before it replies, and replies late and out of order; a client has some calls under way at once, each of which it
 writes down before it makes it. Nothing of a call may be done twice. It ends with 0 at its moment, and is killed before.
 
-Spoilt as `first`, it opens its node each time as one that never ran, with the same life; a service that is spoilt as
-`twice` serves one of 50 calls twice.
+Spoilt as `first`, it opens its node each time as one that never ran, with the same life, and a service opens it anew once
+or twice a second, which is faster than a process starts. A service that is spoilt as `twice` serves one of 50 calls twice.
 
 In tests/all: not a test."""
 import asyncio
@@ -75,14 +75,16 @@ class Caller:
         return (self.place.until - deltat.now()) / 1000
 
     async def run(self) -> None:
-        async with deltat.AsyncUdp(self.opened(), (HOST, self.place.port), {self.place.next_hop: (HOST, self.place.to)}) as udp:
-            calls = service.AsyncCalls(udp)
-            await (self.serve(calls) if self.place.number == SERVICE else self.ask(calls))
+        while self.left() > 0:
+            async with deltat.AsyncUdp(self.opened(), (HOST, self.place.port), {self.place.next_hop: (HOST, self.place.to)}) as udp:
+                calls = service.AsyncCalls(udp)
+                await (self.serve(calls) if self.place.number == SERVICE else self.ask(calls))
         self.notes.note("over")
 
     async def serve(self, calls: service.AsyncCalls) -> None:
+        seconds = self.chance.uniform(0.4, 1) if self.place.spoilt == "first" else self.left()
         with contextlib.suppress(TimeoutError):
-            async with asyncio.timeout(self.left()), asyncio.TaskGroup() as replies:
+            async with asyncio.timeout(seconds), asyncio.TaskGroup() as replies:
                 async for request in calls.requests():
                     answer = self.served(number_in(request.payload))
                     replies.create_task(self.reply(calls, request.token, answer))

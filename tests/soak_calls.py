@@ -32,8 +32,10 @@ SPURS = {SERVICE: 1, 7: 2, 8: 5}
 # a client's ports, and how many calls of each may wait at once
 PORTS, EACH = (10, 11), 2
 ENDS = ("answered", "unsure", "declined")
-# seconds after which a client, and the service, is killed, and for which they stay away
-LIVES, SERVICE_LIVES, AWAY = (4.0, 20.0), (8.0, 25.0), 0.3
+# seconds after which a client, and the service, is killed
+LIVES, SERVICE_LIVES = (4.0, 20.0), (8.0, 25.0)
+# the most ms for which one that was killed stays away; half of them are started again at once
+AWAY = 300
 # a round of fewer seconds needn't have kills, nor answers
 LONG = 30
 MOST_GROWN = 1024
@@ -177,10 +179,7 @@ class Callers:
         self.faults: list[str] = []
 
     def look_after(self) -> None:
-        """Starts those that are due, kills those whose time has come, and sees who has ended."""
-        for number in [it for it, at in self.due.items() if at <= now()]:
-            del self.due[number]
-            self.start(number)
+        """Sees who has ended, kills those whose time has come, and starts those that are due."""
         for number, process in list(self.running.items()):
             status = process.poll()
             if status is None and now() >= self.kill_at[number]:
@@ -188,12 +187,16 @@ class Callers:
                 process.wait()
                 del self.running[number]
                 self.counts["kills of the service" if number == SERVICE else "kills of clients"] += 1
-                self.due[number] = now() + self.chance.randrange(round(AWAY * 1000))
+                self.due[number] = now() + max(0, self.chance.randrange(-AWAY, AWAY))
             elif status is not None:
                 del self.running[number]
                 self.faults += [f"node {number} ended with {status}: {self.places[number].notes}.err"] if status else []
             elif number == SERVICE and self.runs_on:
-                self.sizes.append(memory_of(process.pid))
+                # (one that has just ended has no memory any more)
+                self.sizes += [it] if (it := memory_of(process.pid)) else []
+        for number in [it for it, at in self.due.items() if at <= now()]:
+            del self.due[number]
+            self.start(number)
 
     def start(self, number: int) -> None:
         place = replace(self.places[number], seed=self.chance.randrange(1 << 32))
