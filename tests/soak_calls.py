@@ -238,7 +238,7 @@ class Callers:
         return self.faults + faults
 
     def told(self) -> str:
-        it = self.counts
+        it, last = self.counts, self.sizes[-1] if self.sizes else 0
+        kills = f"none of the service, which has {last} KiB, {growth(self.sizes)} more than at a third" if self.runs_on else f"{it['kills of the service']} of the service"
         return (f"{it['made']} calls made, {it['answered']} answered, {it['unsure']} unsure, {it['declined']} declined, {it['waited']} whose client was killed; "
-                f"{it['served']} served; {it['kills of clients']} kills of clients, "
-                + (f"none of the service, which has {self.sizes[-1] if self.sizes else 0} KiB" if self.runs_on else f"{it['kills of the service']} of the service"))
+                f"{it['served']} served; {it['kills of clients']} kills of clients, {kills}")
