@@ -13,8 +13,9 @@ messages go and are read at moments that are drawn.
 A service and two clients over the library (tests/soak_calls.py) have a link to a node of the ring each, so two of the ring
 relay each of their packets, over three of the links. A client has four calls under way on two flows, each of another number,
 which the service writes down before it replies. Clients are killed after 4 to 20 seconds, the service after 8 to 25, and
-started `again` in a new life; in half of the rounds the service runs on. They write no log, so flows of calls are judged by
-what both sides wrote down. Where `make -C lib` hasn't made the library the round goes without calls, which is said.
+started `again` in a new life; in half of the rounds of two minutes or more the service runs on. They write no log, so flows
+of calls are judged by what both sides wrote down. Where `make -C lib` hasn't made the library the round goes without calls,
+which is said.
 
 It ends with 1 where, in a round,
 

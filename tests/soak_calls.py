@@ -38,6 +38,8 @@ LIVES, SERVICE_LIVES = (4.0, 20.0), (8.0, 25.0)
 AWAY = 300
 # a round of fewer seconds needn't have kills, nor answers
 LONG = 30
+# in rounds of so many seconds or more the service may run on
+GROWING = 120
 MOST_GROWN = 1024
 SPOILS = ("first", "twice")
 
@@ -169,8 +171,8 @@ class Callers:
         self.chance, self.seconds = chance, seconds
         end = now() + round(seconds * 1000)
         self.places = {it.number: replace(it, until=end if it.number == SERVICE else end - round(it.patience * 1000) - 1_000) for it in places}
-        # in half of the rounds the service isn't killed
-        self.runs_on = chance.random() < 0.5 and not any(it.spoilt for it in places)
+        # in half of those rounds that are long enough to see it grow the service isn't killed
+        self.runs_on = seconds >= GROWING and chance.random() < 0.5 and not any(it.spoilt for it in places)
         self.running: dict[int, "subprocess.Popen[bytes]"] = {}
         self.kill_at: dict[int, float] = {}
         self.due = dict.fromkeys(self.places, 0)
