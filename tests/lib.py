@@ -144,6 +144,31 @@ def wait_for(path: pathlib.Path, word: str, seconds: float) -> bool:
     return False
 
 
+def body(number: int, size: int) -> bytes:
+    """The octets of a message, 8 or more, which its number decides."""
+    return number.to_bytes(8, "big") + Random(number).randbytes(size - 8)
+
+
+def number_in(octets: bytes) -> int:
+    """The number of such octets, or 0 where they are none."""
+    number = int.from_bytes(octets[:8], "big")
+    return number if len(octets) >= 8 and body(number, len(octets)) == octets else 0
+
+
+def memory_of(pid: int) -> int:
+    """The resident memory of a process, in KiB, or 0."""
+    try:
+        text = pathlib.Path(f"/proc/{pid}/status").read_text()
+    except OSError:
+        return 0
+    return next((int(it.split()[1]) for it in text.splitlines() if it.startswith("VmRSS:")), 0)
+
+
+def growth(sizes: Sequence[int]) -> int:
+    """By how much the last size is more than that at a third of them."""
+    return sizes[-1] - sizes[len(sizes) // 3] if sizes else 0
+
+
 HANDED_OUT: set[int] = set()
 
 

@@ -1,27 +1,41 @@
 #!/usr/bin/env python3
-"""Five nodes in a ring for a long time: relays, losses, repeats, late packets, kills and starts, outside the gate.
+"""Five nodes in a ring for a long time, and calls through it: relays, losses, repeats, late packets, kills and starts, outside
+the gate.
 
-`tests/soak.py MINUTES [PROGRAM] [--seed N] [--keep FOLDER] [--first]`. Each node has a link to either neighbour and
-sends to all four others, so half of what it sends is relayed. Links are sockets of this process: it drops a tenth of
+`tests/soak.py MINUTES [PROGRAM] [--seed N] [--keep FOLDER] [--first] [--spoil HOW]`. Each node has a link to either neighbour
+and sends to all four others, so half of what it sends is relayed. Links are sockets of this process: it drops a tenth of
 the datagrams, passes one of seven twice, and holds some up, but none for longer than the links' charges say. Nodes
 end, or are killed, after 3 to 25 seconds, and are started `again`; one a round, drawn by chance, runs on to its end. A
 node is killed where its log has all that it sent: of a turn that is broken off no log could be judged. A round takes 5
 minutes at most; the next one begins when nothing of it can be left. Scripts know their moments before they start, so
 messages go and are read at moments that are drawn.
 
+A service and two clients over the library (tests/soak_calls.py) have a link to a node of the ring each, so two of the ring
+relay each of their packets, over three of the links. A client has four calls under way on two flows, each of another number,
+which the service writes down before it replies. Clients are killed after 4 to 20 seconds, the service after 8 to 25, and
+started `again` in a new life; in half of the rounds of two minutes or more the service runs on. They write no log, so flows
+of calls are judged by what both sides wrote down. Where `make -C lib` hasn't made the library the round goes without calls,
+which is said.
+
 It ends with 1 where, in a round,
 
 - the logs of all nodes have no order, or `deltat audit` finds a flaw in them (tools/fieldaudit.py);
 - a message is read twice, by whatever lives of its receiver, or isn't one that was sent on its flow, octet for octet;
 - a node ends otherwise than by its stop or by a kill;
-- the node that runs on has grown by more than 1 MiB since its first third;
-- too little happened: no kill, no loss, no repeat, nothing relayed, or less than half of the messages read. The last isn't
-  asked of a round in which this process itself held more than a tenth of the datagrams too long, since the machine was
-  busy: those are dropped, as the links' charges say, and the round's line says so.
+- the node that runs on has grown by more than 1 MiB since its first third, or the service has where it runs on;
+- a call is served twice, by whatever lives of the service, or was made by nobody; the calls of a flow aren't served in the
+  order in which they were made; an answer isn't what the service gave for that very call; a call that was declined is
+  served; a call ends twice, or has no end though its client wasn't killed while it waited;
+- too little happened: no kill, no loss, no repeat, nothing relayed, or less than half of the messages read; or, in a round of
+  30 seconds or more, no client killed, no service where it doesn't run on, or less than half of the calls answered that
+  weren't declined. Halves aren't asked of a round in which this process itself held more than a tenth of the datagrams too
+  long, since the machine was busy: those are dropped, as the links' charges say, and the round's line says so.
 
-With --first nodes are started as `first` each time, which breaks a premise of the promise: it then ends with 1 within
-a minute or two, and so shows that these checks see what is broken. Logs are kept in FOLDER, or where something failed in
-a new folder, which is named. One line a round tells what happened.
+With --first the nodes of the ring are started as `first` each time, and with `--spoil first` those of calls, in the same life
+too, which breaks a premise of the promise; with `--spoil twice` the service serves some calls twice. Each then ends with 1
+within a minute or two, and so shows that these checks see what is broken; of calls they are tried on written lines too
+before the first round. Logs and what was written down are kept in FOLDER, or where something failed in a new folder, which
+is named. Two lines a round tell what happened.
 
 In tests/all: 1 PROGRAM, 240 s."""
 import argparse
@@ -39,9 +53,11 @@ import sys
 import tempfile
 import time
 from collections import Counter, defaultdict
-from dataclasses import dataclass, field
+from collections.abc import Mapping
+from dataclasses import astuple, dataclass, field
 
-from lib import HOST, PROGRAM, TOP, own_port
+from lib import HOST, PROGRAM, TOP, body, growth, memory_of, own_port
+from soak_calls import LIBRARY, SPOILS, SPURS, Callers, Place, unseen
 
 sys.path[:0] = [str(TOP / "tools")]
 from deltat_tools.parameters import Hop, Wishes, link_charge, suited  # noqa: E402
@@ -62,7 +78,8 @@ LOSS, REPEAT, LATE = 0.1, 0.14, 0.2
 MOST_GROWN = 1024
 SO_TIMESTAMPNS = 35
 HOP = Hop(DELAY, 2, 100)
-PARAMS = suited([[HOP, HOP]], Wishes(ROUND_TRIP, room=16_384, shelved=2))
+# in the ring itself a packet goes over two links at most, and between nodes of calls over three
+PARAMS = suited([[HOP, HOP, HOP]], Wishes(ROUND_TRIP, room=16_384, shelved=2))
 CHARGE = link_charge(HOP, PARAMS)
 
 
@@ -71,11 +88,17 @@ def neighbour(node: int, step: int) -> int:
 
 
 class Ring:
-    """The links: for each of them and each end a socket that stands for the other end."""
+    """The links: for each of them and each end a socket that stands for the other end. Spurs are links of further nodes,
+    each to one of the ring."""
 
-    def __init__(self, chance: random.Random) -> None:
-        self.chance = chance
-        self.ports = {node: own_port() for node in NODES}
+    def __init__(self, chance: random.Random, spurs: Mapping[int, int]) -> None:
+        self.chance, self.spurs = chance, spurs
+        # by each node those that it has a link to, in the order of their numbers at a node of the ring
+        self.neighbours = {node: [neighbour(node, 1), neighbour(node, -1)] for node in NODES}
+        for far, at in spurs.items():
+            self.neighbours[far] = [at]
+            self.neighbours[at].append(far)
+        self.ports = {node: own_port() for node in self.neighbours}
         self.counts: Counter[str] = Counter()
         self.waiting: list[tuple[float, int, socket.socket, int, bytes]] = []
         self.selector = selectors.DefaultSelector()
@@ -83,14 +106,14 @@ class Ring:
         self.from_node: Counter[int] = Counter()
         # by a node and its neighbour: what the node takes the neighbour for
         self.ends: dict[tuple[int, int], socket.socket] = {}
-        for node in NODES:
-            for step in (1, -1):
+        for node, others in self.neighbours.items():
+            for other in others:
                 it = socket.socket(socket.AF_INET, socket.SOCK_DGRAM)
                 it.setsockopt(socket.SOL_SOCKET, SO_TIMESTAMPNS, 1)
                 it.setsockopt(socket.SOL_SOCKET, socket.SO_RCVBUF, 1 << 21)
                 it.setblocking(False)
                 it.bind((HOST, 0))
-                self.ends[node, neighbour(node, step)] = it
+                self.ends[node, other] = it
         for (node, other), it in self.ends.items():
             self.selector.register(it, selectors.EVENT_READ, (node, self.ends[other, node], self.ports[other]))
 
@@ -98,10 +121,15 @@ class Ring:
         """Where a node sends what goes to its neighbour."""
         return self.ends[node, other].getsockname()[1]
 
+    def routes(self, node: int) -> dict[int, int]:
+        """At a node of the ring, by each other node the link that leads to it."""
+        routes = {neighbour(node, step): 1 if step > 0 else 2 for step in (1, 2, -1, -2)}
+        return routes | {far: self.neighbours[node].index(far) + 1 if at == node else routes[at] for far, at in self.spurs.items()}
+
     def take_all(self, node: int) -> None:
         """Takes all that came from a node."""
-        for step in (1, -1):
-            end = self.ends[node, neighbour(node, step)]
+        for other in self.neighbours[node]:
+            end = self.ends[node, other]
             self.take(end, *self.selector.get_key(end).data)
 
     def take(self, come_in: socket.socket, node: int, out: socket.socket, to: int) -> None:
@@ -143,11 +171,6 @@ class Ring:
             it.close()
 
 
-def body(number: int, size: int) -> bytes:
-    """The octets of a message, which its number decides."""
-    return number.to_bytes(8, "big") + random.Random(number).randbytes(size - 8)
-
-
 @dataclass
 class Life:
     """A run of a node."""
@@ -164,12 +187,15 @@ class Life:
 class Round:
     """A round: its nodes, what they sent, and their logs."""
 
-    # how a node is started once more
+    # how a node is started once more; the nodes of calls, and how they are spoilt
     anew = "again"
+    spurs: Mapping[int, int] = SPURS
+    spoilt: str | None = None
 
     def __init__(self, path: str, chance: random.Random, seconds: float, folder: pathlib.Path) -> None:
         self.path, self.chance, self.seconds, self.folder = path, chance, seconds, folder
-        self.ring = Ring(chance)
+        self.ring = Ring(chance, self.spurs)
+        self.callers = Callers([self.place(node, at) for node, at in self.spurs.items()], chance, seconds)
         self.steady = chance.choice(NODES)
         self.lives: dict[int, Life] = {}
         self.logs: dict[int, list[pathlib.Path]] = {node: [] for node in NODES}
@@ -178,6 +204,11 @@ class Round:
         self.count = chance.randrange(1 << 32) << 24
         self.counts: Counter[str] = Counter()
         self.faults: list[str] = []
+
+    def place(self, node: int, at: int) -> Place:
+        """What a node of calls is told."""
+        ports = self.ring.ports[node], self.ring.port(node, at)
+        return Place(node, at, *ports, str(self.folder / f"calls-{node}"), astuple(PARAMS), CHARGE, spoilt=self.spoilt)
 
     def commands(self, node: int, seconds: float) -> list[str]:
         """What a life of a node does: messages to all others, and reads of all that may come."""
@@ -194,11 +225,9 @@ class Round:
 
     def script(self, node: int, seconds: float) -> str:
         how = self.anew if self.logs[node] else "first"
-        peers = [neighbour(node, 1), neighbour(node, -1)]
-        routes = {neighbour(node, step): 1 if step > 0 else 2 for step in (1, 2, -1, -2)}
         head = [PARAMS.line(), f"me {node} {how}", f"local {HOST}:{self.ring.ports[node]}"]
-        head += [f"peer {link} {HOST}:{self.ring.port(node, other)} {CHARGE} 0" for link, other in enumerate(peers, 1)]
-        return "".join(f"{it}\n" for it in [*head, *(f"route {to} {link}" for to, link in routes.items()), "shelf 64", "go", *self.commands(node, seconds)])
+        head += [f"peer {link} {HOST}:{self.ring.port(node, other)} {CHARGE} 0" for link, other in enumerate(self.ring.neighbours[node], 1)]
+        return "".join(f"{it}\n" for it in [*head, *(f"route {to} {link}" for to, link in self.ring.routes(node).items()), "shelf 64", "go", *self.commands(node, seconds)])
 
     def start(self, node: int, left: float) -> None:
         """Starts a life of a node."""
@@ -259,28 +288,30 @@ class Round:
                 self.ring.run(0.25)
                 for node in NODES:
                     self.look_after(node, end - time.monotonic())
+                self.callers.look_after()
             self.finish()
         finally:
             for life in self.lives.values():
                 if life.process.poll() is None:
                     life.process.kill()
                     life.process.wait()
+            self.callers.close()
             self.ring.close()
 
     def finish(self) -> None:
         """Waits for those that haven't met their stop yet."""
         until = time.monotonic() + 20
-        while any(it.process.poll() is None for it in self.lives.values()) and time.monotonic() < until:
+        while (any(it.process.poll() is None for it in self.lives.values()) or not self.callers.is_over()) and time.monotonic() < until:
             self.ring.run(0.25)
+            self.callers.look_after()
         for node, life in self.lives.items():
             # one that was killed and not started any more has -9
             if life.process.poll() not in (0, -9):
                 self.faults.append(f"node {node} doesn't meet its stop")
         sizes = [it for it in self.lives[self.steady].sizes if it]
-        first = sizes[len(sizes) // 3: len(sizes) // 3 + 1]
         self.counts["KiB"] = sizes[-1] if sizes else 0
-        if first and sizes[-1] - first[0] > MOST_GROWN:
-            self.faults.append(f"node {self.steady} grew from {first[0]} to {sizes[-1]} KiB")
+        if growth(sizes) > MOST_GROWN:
+            self.faults.append(f"node {self.steady} grew by {growth(sizes)} KiB, to {sizes[-1]}")
 
     def judge(self) -> None:
         """Looks at the logs."""
@@ -299,6 +330,7 @@ class Round:
         happened = {"kills": self.counts["killed"], "losses": self.ring.counts["dropped"], "repeats": self.ring.counts["repeated"],
                     "relayed packets": self.counts["relayed"], "half of the messages": self.is_busy() or self.counts["read"] * 2 >= self.counts["taken"]}
         self.faults += [f"too little happened: {name}" for name, it in happened.items() if not it]
+        self.faults += self.callers.judge(self.is_busy())
 
     def is_busy(self) -> bool:
         """Whether the machine left this process too little time to pass datagrams on."""
@@ -344,16 +376,7 @@ class Round:
                 f"{mine['killed']} kills, {mine['started again']} starts; {passed['passed'] + passed['repeated']} datagrams passed, "
                 f"{passed['dropped']} dropped, {passed['repeated']} twice, {passed['held too long']} held too long and dropped; "
                 f"{mine['relayed']} packets relayed; the node that ran on has {mine['KiB']} KiB"
-                + ("; the machine was too busy to ask for half of the messages" if self.is_busy() else ""))
-
-
-def memory_of(pid: int) -> int:
-    """The resident memory of a process, in KiB, or 0."""
-    try:
-        text = pathlib.Path(f"/proc/{pid}/status").read_text()
-    except OSError:
-        return 0
-    return next((int(it.split()[1]) for it in text.splitlines() if it.startswith("VmRSS:")), 0)
+                + ("; the machine was too busy to ask for half of the messages and of the calls" if self.is_busy() else ""))
 
 
 def minutes(word: str) -> float:
@@ -366,35 +389,54 @@ def minutes(word: str) -> float:
     return value
 
 
-def main() -> int:
+def arguments() -> argparse.Namespace:
     reads = argparse.ArgumentParser(description=__doc__, formatter_class=argparse.RawDescriptionHelpFormatter)
     reads.add_argument("minutes", type=minutes)
     reads.add_argument("program", nargs="?", default=str(PROGRAM))
     reads.add_argument("--seed", type=int, default=1)
     reads.add_argument("--keep", type=pathlib.Path, metavar="FOLDER")
     reads.add_argument("--first", action="store_true")
+    reads.add_argument("--spoil", choices=SPOILS, metavar="HOW", help=" or ".join(SPOILS))
     given = reads.parse_args()
-    Round.anew = "first" if given.first else "again"
     if not os.access(given.program, os.X_OK):
         reads.error(f"there is no program {given.program}: ./build makes it")
-    chance, left, number, faults = random.Random(given.seed), given.minutes * 60, 0, []
+    if given.spoil and not LIBRARY.exists():
+        reads.error(f"there is no library {LIBRARY}: make -C lib makes it")
+    return given
+
+
+def judged_round(number: int, it: Round, keep: pathlib.Path | None) -> list[str]:
+    """Runs a round, tells of it, keeps its logs where they are wanted, and returns what is wrong."""
+    it.run()
+    it.judge()
+    print(f"round {number}: {it.told()}", flush=True)
+    if it.spurs:
+        print(f"round {number}: {it.callers.told()}", flush=True)
+    for fault in it.faults:
+        print(f"round {number}: {fault}", flush=True)
+    if keep or it.faults:
+        kept = (keep or pathlib.Path(tempfile.mkdtemp(prefix="deltat-soak-kept-"))) / f"round-{number}"
+        shutil.copytree(it.folder, kept, dirs_exist_ok=True)
+        print(f"its logs are in {kept}")
+    return it.faults
+
+
+def main() -> int:
+    given = arguments()
+    Round.anew, Round.spoilt = "first" if given.first else "again", given.spoil
+    chance, left, number, faults = random.Random(given.seed), given.minutes * 60, 0, unseen()
     print(f"{PARAMS.line()}, charges {CHARGE}; silent for {PARAMS.quiet} ms after a restart", flush=True)
+    if not LIBRARY.exists():
+        Round.spurs = {}
+        print(f"without calls: {LIBRARY} isn't there, make -C lib makes it", flush=True)
+    for fault in faults:
+        print(f"the checks of calls: {fault}", flush=True)
     while left > 1 and not faults:
         number += 1
-        folder = pathlib.Path(tempfile.mkdtemp(prefix="deltat-soak-"))
-        it = Round(os.path.abspath(given.program), chance, min(left, ROUND_SECONDS), folder)
-        it.run()
-        it.judge()
-        faults = it.faults
-        print(f"round {number}: {it.told()}", flush=True)
-        for fault in faults:
-            print(f"round {number}: {fault}", flush=True)
+        with tempfile.TemporaryDirectory(prefix="deltat-soak-") as folder:
+            it = Round(os.path.abspath(given.program), chance, min(left, ROUND_SECONDS), pathlib.Path(folder))
+            faults = judged_round(number, it, given.keep)
         left -= ROUND_SECONDS
-        if given.keep or faults:
-            kept = given.keep or pathlib.Path(tempfile.mkdtemp(prefix="deltat-soak-kept-"))
-            shutil.copytree(folder, kept / f"round-{number}", dirs_exist_ok=True)
-            print(f"its logs are in {kept / f'round-{number}'}")
-        shutil.rmtree(folder)
         time.sleep(PARAMS.quiet / 1000)
     print(f"{number} rounds, {len(faults)} faults; seed {given.seed}")
     return 1 if faults else 0
