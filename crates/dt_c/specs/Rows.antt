@@ -259,7 +259,7 @@ until_moment row moment = record row { moment = moment }
 abbrev pub released : Flow → Bool → ReportRow
 released flow sending = record (about 8 (flow_row flow)) { sending = sending }
 
--- what a station tells; what only others tell is of kind 0
+-- what a station reports; what only others tell is of kind 0
 abbrev pub report_row : Told → ReportRow
 report_row (reports.Took flow count) = numbered 1 flow 0 count 0
 report_row (reports.Refused flow (refusal.Quiet until)) = until_moment (numbered 2 flow 0 0 0) until

@@ -72,7 +72,7 @@ module _ {L : Type 0} (tells : L → CallEntry → L → Type 0) (answer : List 
       pub event_stopped : HasStopped tells (finish answer) (after w) l m → IsStopped tells answer c (Happens e) l m
       event_stopped stop = record { part = stop.part; rest = stop.rest; then = read.calls; step = went ∙ ap (λ (ls : List CallEntry). Stepped ls read.calls) (sym stop.told); lines = stop.lines }
 
-    -- memory was wanted within the event
+    -- memory ran out within the event
     pub event_stops : first_refusal (refusals c.world e) ≡ None → m ≡ l → IsStopped tells answer c (Happens e) l m
     event_stops begun still =
         let r = after_event c.world e in

@@ -90,7 +90,7 @@ pub record Answers {L H U : Type 0} (tells : L → CallEntry → L → Type 0) (
   pub steps : StepsTo tells (answer c.handler) c.calls e before after result new.calls
   pub handler : new.handler ≡ c.handler
   pub spent : new.spent ≡ lacks_memory result
-  -- Each call is served at most once, also where memory was wanted.
+  -- Each call is served at most once, also where memory ran out.
   pub once : AreServedOnce new.calls
   -- Whatever the calls were made with, and the one that is made: so they still are, and each answer that the step tells is the handler's to what its call was made with.
   pub answers : (payloads : List (List ℕ)) → AreMadeWith payloads c.calls → (told : List CallEntry) (after : Calls) → call_step (answer c.handler) c.calls e ≡ Stepped told after

@@ -14,7 +14,7 @@ pub record HasHappened (e : WorldEvent) (w : WorldValue) (h : HeardValue) (after
   pub heard_is : heard ≡ heard_all (happens e w.state).0 (for_event h)
   pub whole : heard.failed ≡ false
 
--- Where memory was wanted nothing is said: what the event belongs to is used no more.
+-- Where memory ran out nothing is said: what the event belongs to is used no more.
 abbrev pub Happens : {U E : Type 0} → Result U E → WorldEvent → WorldValue → HeardValue → WorldValue → HeardValue → Type 0
 Happens (Ok done) e w h after heard = HasHappened e w h after heard
 Happens (Err fault) e w h after heard = Unit {0}

@@ -45,7 +45,7 @@ module _ {H : Type 0} where
     pub waiting : Covers 0 p.waiting.items p.calls.items
     pub requests : AreShort p.calls.items
 
-  -- A MESSAGE WAS HANDED IN: only the world and what was heard of it have changed. Where memory was wanted the calls are what they were.
+  -- A MESSAGE WAS HANDED IN: only the world and what was heard of it have changed. Where memory ran out the calls are what they were.
   pub record HasPosted (flow : Flow) (p : Parts H) (posted : Posted) (after : Parts H) : Type 0 where
     pub posts : reads.post flow p.message.items p.world.state ≡ (posted, after.world.state)
     pub same : after ≡ record p { world = after.world; heard = after.heard }

@@ -57,7 +57,7 @@ module _ {S : Type 0} (all : Folded S) (a mid end : SinkSight) (waiting : List �
   after_all accepted (Err stops.WriteFault) f p =
       ((length f.1.0 + p.0.0, part_put a.held mid.held end.held waiting all.text p.0.0 f.1 (from_empty a.held _ _ f.0.1) p.0.1), risen_from a.faults mid.faults end.faults f.0.2 p.1)
 
-  -- the rest was put after memory was wanted
+  -- the rest was put after memory ran out
   after_want : (result : Result Bool Stop) → FillsBehind all (Err stops.NoMemory) a [] mid waiting → Passes (Err stops.NoMemory) result waiting mid end → Fills all result a end
   after_want (Ok b) f p = cc
   after_want (Err stops.NoMemory) f p = ((f.0.0.0, all_put a.held mid.held end.held waiting (take f.0.0.0 all.text) (from_empty a.held _ _ f.0.0.1) p.1), p.2 ∙ f.0.1)

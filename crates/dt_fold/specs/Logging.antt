@@ -8,7 +8,7 @@ use Rattle.dt_fold.specs.declared.stops.Stop.{Stop}
 use Rattle.dt_fold.specs.declared.stops.Stop.TheVariants as stops
 use Rattle.dt_fold.specs.Folds.{Folded, Turned, refusal}
 
--- A call that stops has put a first part of its text. Where memory was wanted no put failed; else the sink's count of faults rose.
+-- A call that stops has put a first part of its text. Where memory ran out no put failed; else the sink's count of faults rose.
 abbrev pub StopsIn : List ℕ → Stop → SinkSight → SinkSight → Type 0
 StopsIn text stops.NoMemory before after = (count : ℕ) × Takes (take count text) before after
 StopsIn text stops.WriteFault before after = TakesPart text before after

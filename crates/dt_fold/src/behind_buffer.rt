@@ -10,7 +10,7 @@ use std::alloc::Global;
 
 /// Reads an input of at most 16,777,216 octets line by line, as [`fold_input`] does, and gathers what
 /// is logged in a buffer of 8,192 octets, so that a put takes many lines. What stands in the buffer is
-/// put at the end, also where memory was wanted. Takes memory for the buffer.
+/// put at the end, also where memory ran out. Takes memory for the buffer.
 ///
 /// - `Ok`: the sink has exactly the text of the whole input. It says whether no line was refused.
 /// - `NoMemory`: the sink has a first part of it, and no put failed.

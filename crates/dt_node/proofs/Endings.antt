@@ -329,7 +329,7 @@ module _ (form : Form) (o : Orders) (b : Edges) where
     planned_fates = some_any b.wire.plan (λ p. IsFresh b.wire → IsWhole WireFault → length {A = Bool} [] < 2 ^ 64 → FatesFrom p.failing_gives 0 []) (λ p fresh whole few. tt);
   })
 
-  -- ENDINGS THAT CUT A RUN OFF: memory was wanted, or a put failed. A first part of the text stands there, and the wire was given some of the frames
+  -- ENDINGS THAT CUT A RUN OFF: memory ran out, or a put failed. A first part of the text stands there, and the wire was given some of the frames
   cut : (stop : Stop) (rs : List ℕ) (ts : List (Option Datagram)) (deeds : List Deed) (text : List ℕ) (n : Edges) → Ran rs ts deeds n.wire n.clock → Written form o (answer_by stop) rs ts deeds text → AppendsPart text b.held n.held → Asks o (answer_by stop) rs ts b.wire n.wire
       → TakeFaults form (answer_by stop) b.wire.take_faults n.wire.take_faults → FaultsBy stop b.faults n.faults → GivesSome deeds b.wire.given n.wire.given → Serves form o (answer_by stop) b n
   cut stop rs ts deeds text n ran written log asks take_faults faults frames =
@@ -411,7 +411,7 @@ module _ (form : Form) (o : Orders) (b : Edges) where
         given = notes_then (sent_frames h.deeds) some.wire.frames b.wire.given n.wire.given t.wire.given k.given.given some.wire.given;
       })
 
-  -- memory was wanted, or a put failed, before the wire was opened
+  -- memory ran out, or a put failed, before the wire was opened
   pub serve_early : (stop : Stop) (held : Option (List ℕ)) (faults : ℕ) → AppendsPart [] b.held held → FaultsBy stop b.faults faults → Serves form o (answer_by stop) b (record b { held = held; faults = faults })
   serve_early stop held faults h same =
       cut stop [] [] [] [] (record b { held = held; faults = faults }) ran_nothing (written_far form o [] (answer_by stop) [] [] [] [] (cut_by stop).unfailed (no_list o) (far_none form o.setup.me)) h

@@ -1,4 +1,4 @@
--- What was done of a node's acts, and what was told of it.
+-- What was done of a node's acts, and what was reported of it.
 use Rattle.std.specs.Prelude.{◌≡◌, ℕ, ◌+◌, ◌≤◌, Bool, true, false, List, [], ◌∷◌, ◌++◌, length, map, take, IfSome, min, Option, Result, Ok, Err}
 use Rattle.std.specs.Io.KnownBytes.{Appends}
 use Rattle.dt_edges.specs.Counts.{HasRisen, is_planned, last_count, next_count}
@@ -79,7 +79,7 @@ pub record Did (deeds : List Deed) (s t : LogSight) : Type 0 where
   pub out : Takes (deeds_text s.fixed.form s.gives s.fixed.me deeds) s.out t.out
   pub wire : Gave deeds s.wire t.wire
 
--- why nothing more is done: a line couldn't be written, or memory was wanted
+-- why nothing more is done: a line couldn't be written, or memory ran out
 abbrev pub stop_by : Bool → Stop
 stop_by true = stops.WriteFault
 stop_by false = stops.NoMemory

@@ -72,7 +72,7 @@ abbrev pub TellsIf : Bool → Told → LogSight → LogSight → Type 0
 TellsIf true told s t = t ≡ s
 TellsIf false told s t = (t.fixed ≡ s.fixed) × (t.gives ≡ s.gives) × (t.wire ≡ s.wire) × WroteBy t.failed (told_text s.fixed.form s.fixed told) s.out t.out
 
--- A report is told: its line is written, if it has one. After a line that couldn't be written nothing is done any more.
+-- A report is made: its line is written, if it has one. After a line that couldn't be written nothing is done any more.
 abbrev pub LogTells : LogSight → Told → LogSight → Type 0
 LogTells s told t = TellsIf s.failed told s t
 
@@ -115,7 +115,7 @@ log_hands view v link parcel w = LogHands (view v) link parcel.octets (view w)
 abbrev pub log_fails : {V : Type 0} → V → V → Type 0
 log_fails v w = ⊥
 
--- Why a turn stops before its end: memory was wanted, or a line couldn't be written.
+-- Why a turn stops before its end: memory ran out, or a line couldn't be written.
 abbrev pub wants_memory : {U : Type 0} → Result U Stop → Bool
 wants_memory (Ok done) = false
 wants_memory (Err stops.NoMemory) = true

@@ -27,7 +27,7 @@ ended_by false (Err fault) = Err stops.NoMemory
 abbrev pub turned : Result Bool Stop → model.Node → Option model.Node
 turned result node = codes.turned {E = Stop} result node
 
--- what a turn at a moment leaves of its node: one that can take the next turn, before the stop where the run goes on; and where memory was wanted, one that is used no more
+-- what a turn at a moment leaves of its node: one that can take the next turn, before the stop where the run goes on; and where memory ran out, one that is used no more
 pub record Leaves (o : Orders) (now : ℕ) (result : Result Bool Stop) (node : Node) : Type 0 where
   pub ready : OnOk result (IsReady o now node)
   pub going : IfOk result (λ stopped. stopped ≡ false → now < o.stop)

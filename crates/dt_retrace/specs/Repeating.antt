@@ -18,7 +18,7 @@ pub record Writes (text : List ℕ) (outcome again : NodeOutcome) (before after 
   pub log : Appends before.held after.held text
   pub faults : after.faults ≡ before.faults
 
--- A run that left this answer and this log was run again: it leaves the same, unless memory was wanted or a put failed.
+-- A run that left this answer and this log was run again: it leaves the same, unless memory ran out or a put failed.
 abbrev pub Repeats : (log : List ℕ) → (outcome again : NodeOutcome) → (before after : SinkSight) → Type 0
 Repeats log outcome Done before after = Writes log outcome Done before after
 Repeats log outcome WireFault before after = Writes log outcome WireFault before after

@@ -17,7 +17,7 @@ pub record IsInput (octets : List ℕ) (before after : SourceSight) : Type 0 whe
   pub faults : after.faults ≡ before.faults
   pub within : length octets ≤ limit
 
--- Why no input is had: there is too much of it, memory was wanted, or the source failed.
+-- Why no input is had: there is too much of it, memory ran out, or the source failed.
 abbrev pub LacksInput : InputFault → SourceSight → SourceSight → Type 0
 LacksInput faults.TooLong before after = IfSome before.left (λ all. limit < length all)
 LacksInput faults.NoMemory before after = Unit {0}

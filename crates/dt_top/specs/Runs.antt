@@ -38,7 +38,7 @@ PutFailed r = HasRisen r.streams.effects.out_before.faults r.streams.effects.out
 abbrev pub WireTakeFailed : Run → Type 0
 WireTakeFailed r = HasRisen r.streams.effects.wire_before.take_faults r.streams.effects.wire_after.take_faults
 
--- all was served, or memory was wanted
+-- all was served, or memory ran out
 abbrev pub IsServedOrLacksMemory : Run → Type 0
 IsServedOrLacksMemory r = (r.status ≡ 0) ⊎ (r.status ≡ 4)
 

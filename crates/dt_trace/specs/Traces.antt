@@ -91,13 +91,13 @@ clock_of t = record { plan = or_zero t.readings; taken = 0 }
 abbrev pub taken_seen : code.Taken → Datagram
 taken_seen t = record { link = t.link; octets = t.octets.items }
 
--- A line was noted, or refused for its fault and changed nothing. Where memory was wanted nothing more is said.
+-- A line was noted, or refused for its fault and changed nothing. Where memory ran out nothing more is said.
 abbrev pub Notes : ℕ → Result Input LineFault → Result (Unit {0}) Refusal → Recorded → Recorded → Type 0
 Notes line input (Ok done) before after = (rest : Recorded → Result Recorded (ℕ × LineFault)) → note_then line before input rest ≡ rest after
 Notes line input (Err (refusals.Line fault)) before after = (rest : Recorded → Result Recorded (ℕ × LineFault)) → note_then line before input rest ≡ Err (line, fault)
 Notes line input (Err refusals.NoMemory) before after = Unit {0}
 
--- A trace was read, or is refused. Memory may be wanted with any.
+-- A trace was read, or is refused. Memory may run out with any.
 abbrev pub Reads : {T : Type 0} → (T → Recorded) → Result T TraceFault → Result Recorded (ℕ × LineFault) → Type 0
 Reads seen (Ok trace) said = said ≡ Ok (seen trace)
 Reads seen (Err (trace_faults.Line line fault)) said = said ≡ Err (line, fault)

@@ -1,4 +1,4 @@
-//! The run of each flow: what the ledger's places and an acknowledgement's number are told by.
+//! The run of each flow: what the ledger's places and an acknowledgement's number are known by.
 ghost use Rattle.std.specs.Prelude.{◌≡◌, ◌<◌};
 ghost use Rattle.dt_units.specs.Numbers.{quantum};
 ghost use Rattle.dt_flow_model.specs.Flow.{base_in, begins_run, crossings_told, run_goes_on, run_told};
