@@ -1,4 +1,4 @@
--- The lines that are written of reports are read as the facts that they tell.
+-- The lines that are written of reports are read as the facts that they state.
 use Rattle.std.proofs.Common.{ℕ, suc, ◌≡◌, ◌<◌, ◌^◌, ◌==◌, Bool, true, false, List, [], ◌∷◌, ◌++◌, map, length, codes, decimal, Option, Some, None, Result, Ok, Err, is_some, refl, sym, ap, ◌∙◌, inl, inr, arith}
 use Rattle.std.specs.Prelude.{nat_le, nat_lt}
 use Rattle.std.specs.List.{onto_first, slice_split}
@@ -21,7 +21,7 @@ use Rattle.dt_audit.specs.Books.{Book, Keeping, begun, follow_fact, follow_lines
 use Rattle.dt_audit.specs.Facts.{fact_of, is_told, letters_read, named_fact, told_fact}
 use Rattle.dt_audit.specs.Telling.{AreWritten, IsInRange, IsWritten, NodeInRange, fact_by, fact_in, fact_told, follow_facts}
 
--- a line that no node tells, or that has another name
+-- a line that no node reports, or that has another name
 other_named : (ws : List Text) → named_fact ws ≡ Ok Other → told_fact ws ≡ Ok Other
 other_named ws h =
     elim (cases_Bool (nat_lt (length ws) 3)) [
@@ -52,7 +52,7 @@ letters false true false = refl
 letters false false true = refl
 letters false false false = refl
 
--- WHAT EACH REPORT'S LINE TELLS, where no node tells it
+-- WHAT EACH REPORT'S LINE TELLS, where no node reports it
 by_none : (moment : ℕ) (told : Told) → told_fact (line_words moment None told) ≡ Ok Other
 unfolding numeral digits_number
 by_none moment (report.FlowTotals f taken acked uncertain unsettled given read) = not_told (line_words moment None (report.FlowTotals f taken acked uncertain unsettled given read)) (and_left (is_some (numeral 18446744073709551615 (codes "flow"))) (is_some (numeral 4294967295 (flow_text f))) refl)

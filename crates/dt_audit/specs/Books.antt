@@ -1,4 +1,4 @@
--- How a log is read: each line that tells a fact changes what is kept of its flow or of the lives of nodes, or has a flaw. What is kept of a flow may be one thing or another; the rule of the lines is the same.
+-- How a log is read: each line that states a fact changes what is kept of its flow or of the lives of nodes, or has a flaw. What is kept of a flow may be one thing or another; the rule of the lines is the same.
 use Rattle.std.specs.Prelude.{ℕ, suc, ◌+◌, ◌==◌, if◌then◌else◌, unwrap_or, List, [], ◌∷◌, Option, Some, None, Result, Ok, Err}
 use Rattle.dt_reports.specs.declared.faults.LineFault.{LineFault}
 use Rattle.dt_text.specs.InputLines.{lines_of}

@@ -1,4 +1,4 @@
--- Which fact a line of a log tells.
+-- Which fact a line of a log states.
 use Rattle.std.specs.Prelude.{ℕ, Bool, true, false, ◌&&◌, ◌||◌, ◌==◌, if◌then◌else◌, nat_lt, codes, is_some, List, length, Result, Ok, Err}
 use Rattle.std.specs.Str.{bytes_eq}
 use Rattle.dt_units.specs.declared.endpoints.Flow.{Flow}

@@ -38,7 +38,7 @@ fact_in (Some node) told = fact_by node told
 abbrev pub fact_told : Entry → Fact
 fact_told entry = fact_in entry.node entry.told
 
--- the numbers of a report that tells a fact are those of the code
+-- the numbers of a report that states a fact are those of the code
 abbrev pub IsMatterInRange : Matter → Type 0
 IsMatterInRange (matter.Taken f count) = IsFlow f × (count < 2 ^ 32)
 IsMatterInRange (matter.Refused f fault) = Unit {0}

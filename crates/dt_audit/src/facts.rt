@@ -5,7 +5,7 @@ use dt_units::Flow;
 /// says nothing of them.
 #[derive(Clone, Copy, Debug, PartialEq, Eq)]
 pub enum Fact {
-    /// A send was taken: so many octets.
+    /// A send was taken: `count` octets.
     Took {
         flow: Flow,
         count: u32,
@@ -16,12 +16,12 @@ pub enum Fact {
         number: u32,
         length: u32,
     },
-    /// So many octets were acknowledged.
+    /// `count` octets were acknowledged.
     Settled {
         flow: Flow,
         count: u32,
     },
-    /// So many octets were given up.
+    /// `count` octets were given up.
     Uncertain {
         flow: Flow,
         count: u32,

@@ -19,11 +19,11 @@ pub enum Promise {
 /// What is wrong with a line of a log.
 #[derive(Clone, Copy, Debug, PartialEq, Eq)]
 pub enum Flaw {
-    /// It tells a fact and isn't written as the log writes it.
+    /// It states a fact and isn't written as the log writes it.
     Line(LineFault),
     /// It speaks of octets that aren't there, or of a life that doesn't come next.
     Stray,
-    /// What it tells breaks a promise.
+    /// What it states breaks a promise.
     Breaks(Promise),
 }
 

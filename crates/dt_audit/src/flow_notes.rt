@@ -83,7 +83,7 @@ impl FlowNotes {
         Ok(())
     }
 
-    /// So many octets more are taken.
+    /// `count` octets more are taken.
     fn count_taken(&mut self, count: u32)
         requires { self.old.taken + count ≤ 2 ^ 62 }
         ensures { self.new ≡ record self.old { taken = self.old.taken + count } }
@@ -91,7 +91,7 @@ impl FlowNotes {
         self.taken += u64::from(count);
     }
 
-    /// So many octets go out for the first time, from this sequence number on.
+    /// `length` octets go out for the first time, from this sequence number on.
     fn send(&mut self, number: u32, length: u32) -> Option<Flaw>
         ensures notes { NotesTo (note_sent number length self.old) (Ok result) self.new }
         ensures taken { self.new.taken ≡ self.old.taken }
@@ -107,7 +107,7 @@ impl FlowNotes {
         None
     }
 
-    /// So many octets are given up.
+    /// `count` octets are given up.
     fn give_up(&mut self, count: u32) -> Option<Flaw>
         ensures notes { NotesTo (note_given_up count self.old) (Ok result) self.new }
         ensures taken { self.new.taken ≡ self.old.taken }
@@ -119,7 +119,7 @@ impl FlowNotes {
         None
     }
 
-    /// So many octets are acknowledged: each of them was accepted.
+    /// `count` octets are acknowledged: each of them was accepted.
     fn acknowledge(&mut self, count: u32) -> Option<Flaw>
         ensures notes { NotesTo (note_acknowledged count self.old) (Ok result) self.new }
         ensures taken { self.new.taken ≡ self.old.taken }
@@ -159,7 +159,7 @@ impl FlowNotes {
         self.top > 0 && self.top == place && self.given_life == life
     }
 
-    /// So many octets are accepted, from a place on that was sent.
+    /// `length` octets are accepted, from a place on that was sent.
     fn accept(&mut self, life: u32, run: bool, place: u64, length: u32) -> Option<Flaw>
         requires { place ≤ 2 ^ 62 }
         ensures notes { NotesTo (note_accepted life run place length self.old) (Ok result) self.new }
@@ -181,7 +181,7 @@ impl FlowNotes {
         None
     }
 
-    /// So many octets are accepted, the first of them with this sequence number.
+    /// `length` octets are accepted, the first of them with this sequence number.
     fn accept_number(&mut self, life: u32, number: u32, length: u32, run: bool) -> Option<Flaw>
         ensures notes { NotesTo (note life (Change.Accepted number length run) self.old) (Ok result) self.new }
         ensures taken { self.new.taken ≡ self.old.taken }

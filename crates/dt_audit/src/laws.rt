@@ -10,7 +10,7 @@ ghost use Rattle.dt_audit.specs.Facts.{fact_of};
 ghost use Rattle.dt_audit.specs.LogRows.{by_rows};
 ghost use Rattle.dt_audit.specs.Telling.{AreWritten, IsWritten, fact_told, follow_facts};
 
-/// The line that the log writes of a report is read as the fact that the report tells, whatever the
+/// The line that the log writes of a report is read as the fact that the report states, whatever the
 /// report; and the ledger of a log that was written of reports is what their facts lead to, one after
 /// another.
 pub fn logs_tell_the_facts_of_their_reports()

@@ -1,4 +1,4 @@
-//! Which fact a line of a log tells.
+//! Which fact a line of a log states.
 ghost use Rattle.std.specs.Prelude.{◌≡◌, ◌≤◌, length};
 ghost use Rattle.dt_audit.specs.Facts.{accepted_said, fact_of, is_told, named_fact, restarted_said, sent_said, settled_said, stretch_said, took_said, uncertain_said};
 
@@ -90,7 +90,7 @@ fn restarted(words: &Words<'_>) -> Result<Fact, LineFault>
     Ok(Fact::Restarted { node, life })
 }
 
-/// Whether a node tells the line: it begins with a moment and the number of a node.
+/// Whether a node reports the line: it begins with a moment and the number of a node.
 fn is_told(words: &Words<'_>) -> bool
     requires { 3 ≤ length words.now }
     ensures { result ≡ is_told words.now }
@@ -99,7 +99,7 @@ fn is_told(words: &Words<'_>) -> bool
         && read_number(words.word(1), u64::from(u32::MAX)).is_some()
 }
 
-/// What a line says that a node tells, by its third word.
+/// What a line says that a node reports, by its third word.
 fn named(words: &Words<'_>) -> Result<Fact, LineFault>
     requires { 3 ≤ length words.now }
     ensures { result ≡ named_fact words.now }
@@ -122,10 +122,10 @@ fn named(words: &Words<'_>) -> Result<Fact, LineFault>
     }
 }
 
-/// What a line of a log says of octets and of lives, without the line feed after it. A line tells a
+/// What a line of a log says of octets and of lives, without the line feed after it. A line states a
 /// fact where its first word is a moment, which is a number of 64 bits, its second word is the number
 /// of a node, and its third word is `took`, `sent`, `settled`, `uncertain`, `accepted` or
-/// `restarted`; every other line is [`Fact::Other`]. A line that tells a fact and isn't written as
+/// `restarted`; every other line is [`Fact::Other`]. A line that states a fact and isn't written as
 /// the log writes it has its first fault: [`LineFault::Count`] for the number of its words, and then
 /// that of the first wrong word from the left, which is `Flow`, `Number`, or `Word` for letters and
 /// for `run`; never `Hex` or `Order`. The cost is the line, and no memory is taken.

@@ -1,4 +1,4 @@
--- What a station tells in one event passes: each act of its host, while it settles.
+-- What a station reports in one event passes: each act of its host, while it settles.
 use Rattle.std.proofs.Common.{ℕ, zero, suc, ◌≡◌, ◌==◌, false, List, [], map, Option, Some, None, refl, sym, ap, subst, inl, inr, ◌∙◌, arith}
 use Rattle.std.proofs.lemmas.Bool.{cases_Bool}
 use Rattle.dt_units.specs.declared.parameters.Params.{Params}
@@ -123,7 +123,7 @@ said_of_flow p f n x (resend before g after) = tt
 said_of_flow p f n x (send cut rest) = refl
 said_of_flow p f n x meet = tt
 
--- the numbers of what is told of an act
+-- the numbers of what is reported of an act
 act_in_range : (p : Params) → IsWithinLimits p → (me : ℕ) (f : Flow) (x : SendRecord) (now : ℕ) (act : Act) → IsSender p me f x → IsDue p now x act → IsInRange (told_send f (told_of p x act))
 act_in_range p limits me f x now (give_up g rest) h due =
     let first : IsSegment p g = all_at (IsSegment p) [] rest g (subst (λ (gs : List Segment). All (IsSegment p) gs) due.0 h.kept.segments) in

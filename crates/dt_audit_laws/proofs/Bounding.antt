@@ -77,7 +77,7 @@ module _ (count : ℕ) (w : World) (within : IsWithin count w) where
   effect_within (Loses k) short = record { stations = all_young count w.stations within.stations; now = later }
   effect_within (Restarts n) short = restart_within n (look ◌==◌ n w.stations) refl
 
-  -- its lines are told at its moment
+  -- its lines are reported at its moment
   event_told : (n : ℕ) (e : Event Mark) (o : Option Placed) → look ◌==◌ n w.stations ≡ o → AreToldAt w.now (event_at w n e o).0
   event_told n e None is = tt
   event_told n e (Some at) is =

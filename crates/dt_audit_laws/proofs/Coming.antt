@@ -1,4 +1,4 @@
--- What is told of a packet that comes passes.
+-- What is reported of a packet that comes passes.
 use Rattle.std.proofs.Common.{ℕ, ◌+◌, ◌-◌, ◌^◌, ◌<◌, ◌≤◌, ◌≡◌, ◌==◌, Bool, true, false, List, ◌++◌, length, Option, Some, None, Ok, Result, refl, sym, ap, subst, inl, inr, ◌∙◌, arith}
 use Rattle.std.specs.Prelude.{nat_le, nat_lt, option_and_then}
 use Rattle.std.proofs.lemmas.Bool.{cases_Bool}

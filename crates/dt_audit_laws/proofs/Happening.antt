@@ -1,4 +1,4 @@
--- What is told of octets that are sent and read at a station passes.
+-- What is reported of octets that are sent and read at a station passes.
 use Rattle.std.proofs.Common.{ℕ, suc, ◌≡◌, ◌==◌, Bool, true, false, List, [], ◌∷◌, length, Some, refl, sym, ap, subst, inl, inr, ◌∙◌, ◌<◌, ◌^◌, arith}
 use Rattle.std.specs.Prelude.{nat_lt}
 use Rattle.std.proofs.lemmas.Bool.{cases_Bool}

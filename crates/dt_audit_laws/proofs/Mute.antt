@@ -1,4 +1,4 @@
--- What a relay tells says nothing of octets and lives, and changes no ledger.
+-- What a relay reports says nothing of octets and lives, and changes no ledger.
 use Rattle.std.proofs.Common.{ℕ, ◌≡◌, List, length, Option, refl, ◌∙◌}
 use Rattle.dt_units.specs.declared.parameters.Params.{Params}
 use Rattle.dt_units.specs.declared.endpoints.Flow.{Flow}

@@ -1,4 +1,4 @@
--- What a station tells of a flow passes, report by report.
+-- What a station reports of a flow passes, report by report.
 use Rattle.std.proofs.Common.{ℕ, ◌≡◌, ◌≤◌, Bool, true, false, List, [], ◌++◌, length, Option, Some, None, refl, ap, arith, length-append}
 use Rattle.dt_items.specs.declared.item.Item.{Item}
 use Rattle.dt_units.specs.declared.parameters.Params.{Params}

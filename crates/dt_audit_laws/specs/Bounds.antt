@@ -24,7 +24,7 @@ IsShort (Arrives copy) = Unit {0}
 IsShort (Loses copy) = Unit {0}
 IsShort (Restarts station) = Unit {0}
 
--- lines that were told at one moment, each by a node whose number has 32 bits or by none
+-- lines that were reported at one moment, each by a node whose number has 32 bits or by none
 abbrev pub AreToldAt : ℕ → List Entry → Type 0
 AreToldAt now [] = Unit {0}
 AreToldAt now (entry ∷ entries) = (entry.moment ≡ now) × NodeInRange entry.node × AreToldAt now entries

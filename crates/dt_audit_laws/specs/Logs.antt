@@ -15,12 +15,12 @@ abbrev pub FactsPass : List Fact → Book FlowLog → Book FlowLog → Type 0
 FactsPass [] book next = next ≡ book
 FactsPass (fact ∷ facts) book next = (between : Book FlowLog) × (follow_fact by_rows fact book ≡ Ok between) × FactsPass facts between next
 
--- the numbers of each report that tells a fact are those of the code
+-- the numbers of each report that states a fact are those of the code
 abbrev pub AreInRange : List Entry → Type 0
 AreInRange [] = Unit {0}
 AreInRange (entry ∷ entries) = IsInRange entry.told × AreInRange entries
 
--- THE LOG OF ALL FLOWS: the lines that were told pass, and what they lead to follows all flows as they are
+-- THE LOG OF ALL FLOWS: the lines that were reported pass, and what they lead to follows all flows as they are
 pub record LogOf (p : Params) (views : Flow → FlowState) (start : Book FlowLog) (lines : List Entry) : Type 0 where
   pub book : Book FlowLog
   pub passes : FactsPass (map fact_told lines) start book

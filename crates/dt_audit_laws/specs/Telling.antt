@@ -14,7 +14,7 @@ use Rattle.dt_audit.specs.declared.facts.Fact.TheVariants as facts
 use Rattle.dt_audit.specs.Telling.{fact_by}
 use Rattle.dt_audit.specs.LogRows.{FlowLog, rows_after}
 
--- of the facts that a log tells of a flow, those of a small step
+-- of the facts that a log states of a flow, those of a small step
 abbrev pub changes_of : (p : Params) (s after : FlowState) (ins made : List Packet) → Step p s ins made after → List Change
 changes_of p s after ins made (passes t by) = []
 changes_of p s after ins made (sender_restarts t a) = []
@@ -50,6 +50,6 @@ changes_in (facts.Accepted f number count run) = Accepted number count run ∷ [
 changes_in (facts.Restarted node life) = []
 changes_in facts.Other = []
 
--- of a report that a node tells, what its line says of its flow
+-- of a report that a node makes, what its line says of its flow
 abbrev pub changes_told : ℕ → Told → List Change
 changes_told node told = changes_in (fact_by node told)

@@ -82,9 +82,9 @@ pub fn log_follows_each_small_step()
     ensures begun { (p : Params) (sender_zero receiver_zero : ℕ) → FollowsFlow p (new_flow sender_zero receiver_zero) no_rows }
 {}
 
-/// Each report that a station tells of a flow passes, with the state of the flow that it leads to: an act
+/// Each report that a station makes of a flow passes, with the state of the flow that it leads to: an act
 /// of the sender, octets that are taken, an acknowledgement that is used, and data that comes. What a
-/// station tells of a flow beside these says nothing of octets.
+/// station reports of a flow beside these says nothing of octets.
 pub fn reports_of_a_flow_pass()
     ensures act { (p : Params) (s : FlowState) (f : Flow) (node : ℕ) (x : SendRecord) (act : Act) (log : FlowLog) → s.sender ≡ Some x → Facts p s → act_of p (sender_reading s) x ≡ Some act → FollowsFlow p s log
         → Followed p s (after_act p s x act) (changes_told node (told_send f (told_of p x act))) log }

@@ -195,7 +195,7 @@ slot_counts (Some e) = counts_row e.counts.node
 abbrev pub Counting : CountsRow → Slot → Slot → Type 0
 Counting row s t = (row ≡ slot_counts s.endpoint) × (t ≡ s)
 
--- A FLOW IS FOLLOWED from now on, and what was told of it since
+-- A FLOW IS FOLLOWED from now on, and what was reported of it since
 abbrev pub FollowsIn : (status : ℕ) → FlowRow → (e f : EndpointValue) → Type 0
 FollowsIn status flow e f = ((status ≡ done) × (f ≡ with_followed (flow_of flow) e)) ⊎ ((status ≡ no_memory) × (f ≡ e))
 

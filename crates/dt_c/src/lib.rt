@@ -153,7 +153,7 @@ pub unsafe extern "C" fn dt_counts(node: *mut Handle) -> CountsRow
     counts_in(unsafe { &mut *(node as *mut Slot) })
 }
 
-/// From now on it is counted what is told of the octets of a flow.
+/// From now on it is counted what is reported of the octets of a flow.
 #[unsafe(no_mangle)]
 pub unsafe extern "C" fn dt_follow(node: *mut Handle, flow: &FlowRow) -> u8
     ghost g: { Slot }
@@ -163,7 +163,7 @@ pub unsafe extern "C" fn dt_follow(node: *mut Handle, flow: &FlowRow) -> u8
     follow_in(unsafe { &mut *(node as *mut Slot) }, flow)
 }
 
-/// What was told of the octets of a flow since it is followed.
+/// What was reported of the octets of a flow since it is followed.
 #[unsafe(no_mangle)]
 pub unsafe extern "C" fn dt_totals(node: *mut Handle, flow: &FlowRow) -> TotalsRow
     ghost g: { Slot }
@@ -319,7 +319,7 @@ pub extern "C" fn dt_quiet(params: &ParamsRow) -> u64
     quiet_of(params)
 }
 
-/// A number that tells whether two programs have the same parameters.
+/// A number that says whether two programs have the same parameters.
 #[unsafe(no_mangle)]
 pub extern "C" fn dt_fingerprint(params: &ParamsRow) -> FingerprintRow
     ensures { FingerprintIs result params.now }

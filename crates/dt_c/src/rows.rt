@@ -136,7 +136,7 @@ pub struct FingerprintRow {
 }
 
 /// What a node has counted since it was opened: datagrams that came and that were refused, frames that
-/// left, and octets of all flows by what was told of them.
+/// left, and octets of all flows by what was reported of them.
 #[repr(C)]
 #[derive(Clone, Copy)]
 pub struct CountsRow {
@@ -147,7 +147,7 @@ pub struct CountsRow {
     pub told: TotalsRow,
 }
 
-/// What was told of octets: of a flow since it is followed, or of all.
+/// What was reported of octets: of a flow since it is followed, or of all.
 #[repr(C)]
 #[derive(Clone, Copy)]
 pub struct TotalsRow {
@@ -444,7 +444,7 @@ fn told_row(octets: Octets) -> TotalsRow
     }
 }
 
-/// Of a flow that isn't followed nothing is told.
+/// Of a flow that isn't followed nothing is known.
 pub fn totals_row(totals: Option<Octets>) -> TotalsRow
     ensures { result ≡ totals_row totals }
 {
@@ -454,7 +454,7 @@ pub fn totals_row(totals: Option<Octets>) -> TotalsRow
     told_row(octets)
 }
 
-/// An answer where there is nothing that was told.
+/// An answer where there is nothing that was reported.
 pub fn no_totals_row(status: u8) -> TotalsRow
     ensures { result ≡ no_totals_row status }
 {

@@ -1,4 +1,4 @@
--- A call that is made: its request is handed in, its lines are told, and it gets its number.
+-- A call that is made: its request is handed in, its lines are reported, and it gets its number.
 use Rattle.std.proofs.Common.{ℕ, ◌≡◌, List, [], ◌∷◌, ◌++◌, length, None, Result, Ok, Err, refl, ap, sym, subst, ◌∙◌, append-nil}
 use Rattle.std.specs.Prelude.{OnOk}
 use Rattle.dt_units.specs.declared.endpoints.Flow.{Flow}
@@ -45,7 +45,7 @@ calls_added f count (Taken place many) c = refl
 calls_added f count Refused c = refl
 
 module _ {L : Type 0} (tells : L → CallEntry → L → Type 0) (f : Flow) (count : ℕ) (posted : Posted) (c : Calls) (l m : L) (lines : TellsCalls tells (make_with f count (posted, c.world) c).told l m) where
-  -- all of its lines were told, and then memory was wanted
+  -- all of its lines were reported, and then memory ran out
   pub adding_stops : HasStopped tells (Adding f count posted) c l m
   adding_stops = record { part = (make_with f count (posted, c.world) c).told; rest = []; told = append-nil (make_with f count (posted, c.world) c).told; lines = lines }
 

@@ -1,4 +1,4 @@
--- What a part of a step leaves: the calls go on as the definition says, and its lines are told.
+-- What a part of a step leaves: the calls go on as the definition says, and its lines are reported.
 use Rattle.std.specs.Prelude.{◌≡◌, List, [], ◌++◌, Result, Ok, Err}
 use Rattle.dt_calls_model.specs.Calls.{Calls}
 use Rattle.dt_calls_model.specs.CallTold.{CallEntry}
@@ -15,7 +15,7 @@ module _ {L : Type 0} (tells : L → CallEntry → L → Type 0) (does : Course 
     pub lines : TellsCalls tells (does (from_calls c)).told l m
     pub calls : after ≡ (does (from_calls c)).calls
 
-  -- it stopped for want of memory: a first part of its lines was told
+  -- it stopped for want of memory: a first part of its lines was reported
   pub record HasStopped : Type 0 where
     pub part : List CallEntry
     pub rest : List CallEntry

@@ -1,4 +1,4 @@
--- What is told of calls, as a value without loans.
+-- What is reported of calls, as a value without loans.
 use Rattle.std.specs.Prelude.{ℕ, ◌≡◌, List, [], ◌∷◌}
 use Rattle.dt_calls_model.specs.CallTold.{CallEntry, CallTold}
 use Rattle.dt_calls_model.specs.CallTold as told

@@ -1,10 +1,10 @@
-//! What is told of calls.
+//! What is reported of calls.
 use dt_units::Flow;
 
-/// What is told of a call, which has this number.
+/// What is reported of a call, which has this number.
 #[derive(Clone, Copy, Debug, PartialEq, Eq)]
 pub enum CallLine<'a> {
-    /// It is made, with a payload of so many octets.
+    /// It is made, with a payload of `count` octets.
     Call { call: u64, flow: Flow, count: u32 },
     /// The client's host refused it.
     Declined { call: u64 },
@@ -16,14 +16,14 @@ pub enum CallLine<'a> {
     Unsure { call: u64 },
 }
 
-/// Is told the lines of calls, in order.
+/// Receives the lines of calls, in order.
 pub trait CallLines {
     ghost use Rattle.dt_calls_model.specs.CallTold.{CallEntry};
     ghost use Rattle.dt_calls.specs.Telling.{call_entry};
 
     ghost tells: { Self → CallEntry → Self → Type 0 };
 
-    /// The next line, told at this moment of the world, in ms.
+    /// The next line, reported at this moment of the world, in ms.
     fn line(&mut self, moment: u64, line: &CallLine<'_>)
         ensures { tells self.old (call_entry moment line.now) self.new };
 }

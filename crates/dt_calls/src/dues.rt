@@ -11,7 +11,7 @@ use dt_units::Flow;
 use dt_world::Event;
 
 /// Which sides must be read. At all others nothing is unread, and their stations have done what is due,
-/// so that a read would tell nothing and change nothing.
+/// so that a read would report nothing and change nothing.
 #[derive(Clone, Copy, Debug, PartialEq, Eq)]
 pub enum Due {
     Nothing,

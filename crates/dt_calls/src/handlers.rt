@@ -3,7 +3,7 @@ ghost use Rattle.std.specs.Prelude.{ℕ, ◌≡◌, ◌≤◌, List, OnOk, lengt
 
 use dt_items::NoMemory;
 
-/// Answers calls. The answer is told by the payload alone.
+/// Answers calls. The answer is known by the payload alone.
 pub trait Handler {
     ghost answer: { Self → List ℕ → List ℕ };
 

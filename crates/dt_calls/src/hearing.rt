@@ -34,7 +34,7 @@ impl Model for Heard {
 }
 
 impl Heard {
-    /// Nothing was told yet.
+    /// Nothing was reported yet.
     pub fn new(alloc: Global) -> Heard
         ensures { result ≡ record { piece = None; refused = false; accepted = None; several = false; failed = false } }
     {

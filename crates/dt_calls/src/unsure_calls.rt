@@ -1,4 +1,4 @@
-//! At the end of a step the calls that wait are doubted whose answers may never come.
+//! At the end of a step the calls that wait become unsure whose answers may never come.
 ghost use Rattle.std.specs.Prelude.{◌≡◌};
 ghost use Rattle.dt_calls_model.specs.CallStep.{becomes_unsure, doubt_all, is_doubtful, is_posted_in_vain, is_replied_in_vain};
 ghost use Rattle.dt_calls_model.specs.Messages.{reversed};

@@ -50,7 +50,7 @@ pub struct Parts<H> {
     pub handler: H,
     /// By their numbers.
     pub calls: Vec<Call>,
-    /// The numbers of those that wait are among these, in their order: a step doubts no others.
+    /// The numbers of those that wait are among these, in their order: a step judges no others.
     pub waiting: Vec<usize>,
     pub flows: Flows,
     pub heard: Heard,
@@ -103,12 +103,12 @@ impl<H: Handler> Calls<H> {
     }
 
     /// A call is made, or an event of the world comes; then all messages are read, and the calls that
-    /// wait are doubted. The payload has 1 to 65,528 octets.
+    /// wait are judged. The payload has 1 to 65,528 octets.
     ///
-    /// Refused, and then nothing is told or changed: `BadFlow`, a call whose flow begins where it ends,
+    /// Refused, and then nothing is reported or changed: `BadFlow`, a call whose flow begins where it ends,
     /// or goes on the way of an earlier call's replies; then `NoStation`, of a call the flow's first
     /// station isn't there, or else its last; and what the world refuses. `NoMemory` comes for want of
-    /// memory, and where a count would pass its end. Then the first of the lines were told, and the
+    /// memory, and where a count would pass its end. Then the first of the lines were reported, and the
     /// calls are used no more; each was still served at most once.
     ///
     /// The cost is that of the world's events, the octets that are read, and the octets of the calls
@@ -249,7 +249,7 @@ fn step_world<H: Handler, L: CallLines>(
     Ok(())
 }
 
-/// What is due is read, and then the calls that wait are doubted.
+/// What is due is read, and then the calls that wait are judged.
 fn finish<H: Handler, L: CallLines>(
     parts: &mut Parts<H>,
     due: Due,
@@ -319,7 +319,7 @@ fn make<H, L: CallLines>(
     add_call(parts, flow, count, request, lines)
 }
 
-/// A call whose request was handed in, and came to this, is told, and gets its number, and its flow an
+/// A call whose request was handed in, and came to this, is reported, and gets its number, and its flow an
 /// entry.
 fn add_call<H, L: CallLines>(
     parts: &mut Parts<H>,
@@ -348,7 +348,7 @@ fn add_call<H, L: CallLines>(
     add_flow(&mut parts.flows, flow)
 }
 
-/// A call that is made is told, and that it is declined where its request was refused.
+/// A call that is made is reported, and that it is declined where its request was refused.
 fn tell_made<H, L: CallLines>(
     parts: &Parts<H>,
     flow: Flow,

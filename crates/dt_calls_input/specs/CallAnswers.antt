@@ -61,7 +61,7 @@ pub record TellsOwnAnswers (octets : List ℕ) : Type 0 where
   pub text : calls_text octets ≡ entries_text told ++ text_of_last last
   pub answers : AreItsAnswers reverse (calls_of octets) told
 
--- whatever comes next: each answer that is told of it is the payload of its call in reversed order, of these calls or of the one that comes
+-- whatever comes next: each answer that is reported of it is the payload of its call in reversed order, of these calls or of the one that comes
 abbrev pub AnswersAreReversed : List (List ℕ) → Calls → Type 0
 AnswersAreReversed payloads c = (e : CallEvent) (told : List CallEntry) (after : Calls) → MayCome e → call_step reverse c e ≡ Stepped told after → AreItsAnswers reverse (payloads ++ payloads_in e) told
 

@@ -43,7 +43,7 @@ simulates_calls = record { form = forms.Calls; starts = new_calls; does = does; 
 unfoldable pub calls_read : List ℕ → Folded (Scene Calls)
 calls_read octets = fold_input (scenario_turns simulates_calls) Empty octets
 
--- the text of all that is told
+-- the text of all that is reported
 abbrev pub calls_text : List ℕ → List ℕ
 calls_text octets = (calls_read octets).text
 

@@ -1,4 +1,4 @@
-//! An input of calls: its lines set up a world and make calls in it, and what is told of these is written.
+//! An input of calls: its lines set up a world and make calls in it, and what is reported of these is written.
 #![tactic(auto)]
 
 mod calling;

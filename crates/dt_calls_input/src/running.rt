@@ -14,16 +14,16 @@ use dt_scenario::Scenario;
 use std::alloc::Global;
 
 /// Reads an input of at most 16,777,216 octets: its lines set up a world, calls are made in it and
-/// answered with their payloads in reversed order, and what is told of them is written on `out`,
+/// answered with their payloads in reversed order, and what is reported of them is written on `out`,
 /// after a buffer. The input isn't copied.
 ///
-/// - `Done`: no line is refused, and `out` has all that is told, the totals and the end.
-/// - `Refused`: a line is refused. `out` has what is told up to it, and then its fault.
-/// - `NoMemory`: there was none. `out` has a first part of what is told, and no put failed.
-/// - `WriteFault`: a put on `out` failed. It has a first part of what is told.
+/// - `Done`: no line is refused, and `out` has all that is reported, the totals and the end.
+/// - `Refused`: a line is refused. `out` has what is reported up to it, and then its fault.
+/// - `NoMemory`: there was none. `out` has a first part of what is reported, and no put failed.
+/// - `WriteFault`: a put on `out` failed. It has a first part of what is reported.
 ///
 /// After each line each call was served at most once, and the calls are those of the `call` lines up to
-/// there. Each answer that is told is that of its own call: `answered N` has the octets of the `call` line
+/// there. Each answer that is reported is that of its own call: `answered N` has the octets of the `call` line
 /// N, counted from 0, in reversed order, and there is such a line.
 pub fn calls<K: Sink>(alloc: Global, bytes: &[u8], out: &mut K) -> CallsOutcome
     requires few { length bytes.now ≤ most_input }

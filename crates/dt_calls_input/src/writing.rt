@@ -31,7 +31,7 @@ impl<'a, K: Sink> CallLines for CallLog<'a, K> {
     }
 }
 
-/// Puts the line that is told at this moment, in ms: one row a line. `Ok` has appended exactly its
+/// Puts the line that is reported at this moment, in ms: one row a line. `Ok` has appended exactly its
 /// text. `Failed` has appended a first part of it, and comes only where the sink's count of faults rose.
 pub fn put_line<K: Sink>(moment: u64, line: &CallLine<'_>, out: &mut K) -> Result<(), Failed>
     ensures { Puts K.sight (call_text (call_entry moment line.now)) result out.old out.new }

@@ -1,4 +1,4 @@
--- What a station tells that tells no message leaves what was given and read, and the octets that were taken with their marks.
+-- What a station reports that tells no message leaves what was given and read, and the octets that were taken with their marks.
 use Rattle.std.proofs.Common.{ℕ, zero, suc, ◌≡◌, Bool, true, false, if◌then◌else◌, List, [], ◌∷◌, map, refl, ap, sym, subst, ◌∙◌}
 use Rattle.dt_items.specs.declared.item.Item.{Item}
 use Rattle.dt_units.specs.declared.endpoints.Flow.{Flow}

@@ -1,4 +1,4 @@
--- What a read of the world tells is the first piece of what was unread.
+-- What a read of the world reports is the first piece of what was unread.
 use Rattle.std.proofs.Common.{ℕ, ◌+◌, ◌≡◌, ◌==◌, List, [], ◌∷◌, ◌++◌, length, Option, Some, None, refl, ap, ◌∙◌, append_assoc}
 use Rattle.dt_items.specs.declared.item.Item.{Item}
 use Rattle.dt_items.specs.Unread.{first_piece, octets_of, piece_told}

@@ -1,4 +1,4 @@
--- States of calls change: a reply answers its call, and doubts are told.
+-- States of calls change: a reply answers its call, and doubts are reported.
 use Rattle.std.proofs.Common.{ℕ, zero, suc, ◌≡◌, Bool, true, false, if◌then◌else◌, List, [], ◌∷◌, ◌++◌, length, map, set, refl, ap, sym, ◌∙◌, arith, append-nil}
 use Rattle.std.specs.Prelude.{nat_lt, ◌&&◌, ◌||◌}
 use Rattle.std.specs.List.{All}

@@ -35,7 +35,7 @@ use Rattle.dt_calls_laws.proofs.SideReads.{all_read}
 use Rattle.dt_calls_laws.proofs.Starting.{new_calls_facts}
 use Rattle.dt_calls_laws.proofs.States.{all_entries_on, doubt_course, doubt_onward, doubts_sure}
 
--- doubts are told of no answer
+-- doubts are reported of no answer
 doubt_told : (answer : List ℕ → List ℕ) (after : Calls) (b : Bool) (moment n : ℕ) → AreTold answer after (if b then record { moment = moment; told = told.Unsure n } ∷ [] else [])
 doubt_told answer after true moment n = All-cons (λ (e : CallEntry). IsTold answer after e.told) (record { moment = moment; told = told.Unsure n }) [] tt (All-nil (λ (e : CallEntry). IsTold answer after e.told))
 doubt_told answer after false moment n = All-nil (λ (e : CallEntry). IsTold answer after e.told)
@@ -131,7 +131,7 @@ module _ (answer : List ℕ → List ℕ) where
   pub doubted_on : (d : Course) → IsOn answer d → IsOn answer (doubt_all d)
   doubted_on d on = (doubts_on d on).0
 
-  -- ITS END: all sides are read, and doubts are told
+  -- ITS END: all sides are read, and doubts are reported
   finished : (c : Calls) (d : Course) (more : List (List ℕ)) → Onward c d.calls → length d.calls.calls ≤ length c.calls + 1 → GainsPayloads c more d.calls → IsOn answer d → ComesTo c (finish answer d).calls more (finish answer d).told
   finished c d more onward few gains on =
       let read = read_all answer d in

@@ -1,4 +1,4 @@
--- What was told of calls, while calls go on.
+-- What was reported of calls, while calls go on.
 use Rattle.std.specs.Prelude.{ℕ, ◌<◌, ◌≤◌, ◌≡◌, ◌≢◌, ◌^◌, List, length}
 use Rattle.std.specs.List.{All}
 use Rattle.dt_calls_model.specs.declared.calls.Posted.TheVariants.{Refused}

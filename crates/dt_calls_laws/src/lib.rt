@@ -66,7 +66,7 @@ pub fn no_packet_may_leave_after_an_event<T>()
     ensures { (p : Params) (now : ℕ) (event : Event T) (station : Station T) → Answers (λ (after : Station T). LinksRest now after.relay.outs) (station_event p now event station) }
 {}
 
-/// What a read of the world tells is the first piece of what was unread there: the most of it, up to a
+/// What a read of the world reports is the first piece of what was unread there: the most of it, up to a
 /// count, in which an end mark stands only on the last octet and a begin mark or a run mark only on the
 /// first.
 #[tactic(auto, using(crate::proofs::Reading::read_tells_the_next))]
@@ -86,7 +86,7 @@ pub fn read_takes_the_next_piece()
     ensures { (w : World) (f : Flow) (most : ℕ) (at : Placed) → IsWithinLimits w.params → IsFlow f → f.to.0 ≡ at.station.host.me → (now : ℕ) → IsHost w.params at.station.host → HasRead f most at.station.host (play (world_handler (occasion w f.to.0 (Read f most))) (station_event w.params now (Read f most) at.station) (noted_at w)).1.host }
 {}
 
-/// What a station tells that tells no message leaves of each flow what was given and read, and the
+/// What a station reports that tells no message leaves of each flow what was given and read, and the
 /// octets that were taken.
 pub fn silence_leaves_all_octets<A>()
     ensures { (o : Occasion) (script : Script Mark A) (d : Noted) (g : Flow) → TellsNoMessage script → SameOctets (ledger_of d.ledgers g) (ledger_of (play (world_handler o) script d).0.ledgers g) }

@@ -54,7 +54,7 @@ pub fn event_keeps_the_facts()
     ensures { (answer : List ℕ → List ℕ) (c : Calls) (e : WorldEvent) → CourseFacts answer c → IsNoSendOrRead e → first_refusal (refusals c.world e) ≡ None → CourseFacts answer (record { world = (after_event c.world e).1; calls = c.calls; flows = flows_after e c.flows }) }
 {}
 
-/// Doubts are told.
+/// Doubts are reported.
 pub fn doubts_keep_the_facts()
     ensures { (answer : List ℕ → List ℕ) (c : Course) → IsOn answer c → IsOn answer (doubt_all c) }
 {}

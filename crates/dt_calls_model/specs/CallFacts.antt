@@ -39,7 +39,7 @@ pub record IsMessage (w : World) (f : Flow) (carried : List ℕ) (s : Span) : Ty
   pub count : length (message_of s.call carried) ≡ s.count
   pub items : map item_of (take s.count (drop s.place (taken_rows w f))) ≡ marked (message_of s.call carried) true true false
 
--- THE MESSAGES OF A FLOW lie side by side, from a place on, and it took nothing else. What each carries is told by its span.
+-- THE MESSAGES OF A FLOW lie side by side, from a place on, and it took nothing else. What each carries is known by its span.
 abbrev pub LieSideBySide : World → Flow → (Span → List ℕ) → ℕ → List Span → Type 0
 LieSideBySide w f carried place [] = length (taken_rows w f) ≡ place
 LieSideBySide w f carried place (s ∷ spans) = (s.place ≡ place) × IsMessage w f (carried s) s × LieSideBySide w f carried (place + s.count) spans

@@ -8,7 +8,7 @@ use Rattle.dt_calls_model.specs.CallTold.{CallEntry}
 use Rattle.dt_calls_model.specs.CallStep.{CallEvent, Faulty, Outcome, Stepped, call_step, is_waiting}
 use Rattle.dt_calls_model.specs.Promises.{payloads_by}
 
--- A RUN: what is told of the events in order, and the calls after them. An event that is refused tells nothing and changes nothing.
+-- A RUN: what is reported of the events in order, and the calls after them. An event that is refused tells nothing and changes nothing.
 abbrev pub then_call : List CallEntry × Calls → Outcome → List CallEntry × Calls
 then_call r (Faulty fault) = r
 then_call r (Stepped lines after) = (r.0 ++ lines, after)

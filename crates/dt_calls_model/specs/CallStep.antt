@@ -109,7 +109,7 @@ make_with f count request c =
 abbrev pub make : Flow → List ℕ → Calls → Course
 make f payload c = make_with f (length payload) (post f (message_of (length c.calls) payload) c.world) c
 
--- THE STEP: what happens, and then all sides are read, and doubts are told.
+-- THE STEP: what happens, and then all sides are read, and doubts are reported.
 pub data Outcome : Type 0 where
   Faulty : (fault : StepFault) → Outcome
   Stepped : (lines : List CallEntry) → (after : Calls) → Outcome

@@ -1,4 +1,4 @@
--- What is told of calls.
+-- What is reported of calls.
 use Rattle.std.specs.Prelude.{ℕ, List}
 use Rattle.dt_units.specs.declared.endpoints.Flow.{Flow}
 

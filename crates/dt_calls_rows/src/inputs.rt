@@ -1,4 +1,4 @@
-//! Inputs of calls and what is told of them.
+//! Inputs of calls and what is reported of them.
 use dt_calls_input::{CallsOutcome, calls};
 use dt_edges::MemSink;
 use std::alloc::Global;
@@ -11,7 +11,7 @@ const ROOM: usize = 65_536;
 const SETUP: &str =
     "params 1000 3000 200 500 800 100 4096 4096 512 2147483648\nstation 1 0\nstation 2 0\nlink 1 1 2 50 0\nlink 2 2 1 50 0\nroute 1 2 1\nroute 2 1 2\ngo\n";
 
-/// What is told of the lines after this setup is this text, and they end so.
+/// What is reported of the lines after this setup is this text, and they end so.
 fn tells_after(
     rt: &impl Abort,
     alloc: Global,

@@ -1,4 +1,4 @@
-//! Tests of calls: inputs of calls, and what is told of them.
+//! Tests of calls: inputs of calls, and what is reported of them.
 #![tactic(auto)]
 
 #[cfg(test)]

@@ -1,4 +1,4 @@
--- Takes of a wire in memory: the entry that they use, and what is told of them.
+-- Takes of a wire in memory: the entry that they use, and what is known of them.
 use Rattle.std.proofs.Common.{◌≡◌, ℕ, ◌+◌, ◌-◌, ◌<◌, ◌≤◌, min, List, [], ◌∷◌, ◌++◌, map, take, drop, slice_get, Option, Some, None, if◌then◌else◌, nat_lt, refl, ap, sym, subst, ◌∙◌, arith, inl, inr, lt-ltb, take_all}
 use borrow.Author.Tests.{ltb-true}
 use Rattle.std.proofs.lemmas.Bool.Decides.{nat_tests}

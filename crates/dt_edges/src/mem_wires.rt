@@ -195,7 +195,7 @@ impl Wire for MemWire {
 
     /// Fails exactly where the number of this call is listed. Else it uses the next entry, and hands
     /// its datagram over, cut to the buffer; `None` comes where that entry is nothing or the entries
-    /// are used up. It doesn't wait, and tells how long it was to.
+    /// are used up. It doesn't wait, and says how long it was to.
     fn take(&mut self, wait_ms: u32, buf: &mut [u8]) -> Result<Option<(u16, usize)>, Failed>
         requires some_wait { 1 ≤ wait_ms }
         requires short_wait { wait_ms ≤ 1000 }

@@ -98,7 +98,7 @@ send_refusals flow octets e =
     ∷ (nat_le octets_below (e.asked + length octets), sent.TooMany)
     ∷ []
 
--- the station once it has settled at a moment that is told: what is sent or read is sent or read then
+-- the station once it has settled at a moment that is given: what is sent or read is sent or read then
 abbrev pub settled : ℕ → EndpointValue → Station (Unit {0})
 settled now e = answer_of (settle_station e.rules (moment_of now e) e.state)
 

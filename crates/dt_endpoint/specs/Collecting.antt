@@ -19,7 +19,7 @@ pub record Collected : Type 0 where
   pub counts : Counted
   pub failed : Bool
 
--- a report is told, and a frame handed out
+-- a report is made, and a frame handed out
 abbrev pub with_told : Told → Collected → Collected
 with_told told s = record { frames = s.frames; reports = s.reports ++ kept told ∷ []; heard = hears told s.heard; piece = piece_after told s.piece; counts = counts_act (Tells told) s.counts; failed = s.failed }
 

@@ -1,4 +1,4 @@
--- What an endpoint counts: datagrams, frames, and octets by what is told of them. No count passes 2^64 - 1.
+-- What an endpoint counts: datagrams, frames, and octets by what is reported of them. No count passes 2^64 - 1.
 use Rattle.std.specs.Prelude.{ℕ, ◌+◌, ◌-◌, ◌^◌, min, List, [], ◌∷◌, length, Option, Some, None, option_map}
 use Rattle.dt_units.specs.declared.endpoints.Flow.{Flow}
 use Rattle.dt_reports.specs.Told.{Told}

@@ -32,7 +32,7 @@ pub record EndpointValue : Type 0 where
   -- what was counted since it opened
   pub counts : Counted
 
--- a moment that is told: one above 2^62 counts as 2^62, and one before the greatest as that
+-- a moment that is given: one above 2^62 counts as 2^62, and one before the greatest as that
 abbrev pub capped : ℕ → ℕ
 capped now = min now most_moment
 
@@ -45,7 +45,7 @@ opened p me again outs ins routes =
     let started = station_started p me (option_map capped again) outs ins routes in
     record { rules = p; latest = started.latest; spent = false; asked = 0; state = started.state; frames = []; reports = []; counts = none_counted }
 
--- AN EVENT, at a moment that is told
+-- AN EVENT, at a moment that is given
 abbrev pub script_of : ℕ → Event (Unit {0}) → EndpointValue → Script (Unit {0}) (Station (Unit {0}))
 script_of now event e = station_event e.rules (moment_of now e) event e.state
 

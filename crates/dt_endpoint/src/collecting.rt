@@ -1,4 +1,4 @@
-//! Who sees the events of an endpoint's station: it collects what leaves and what is told.
+//! Who sees the events of an endpoint's station: it collects what leaves and what is reported.
 ghost use Rattle.std.specs.Prelude.{◌≡◌, ◌≤◌, [], IfOk, OnErr, OnOk, drop, false, option_map, option_to_list, ◌++◌};
 ghost use Rattle.dt_reports.specs.Told.{told};
 ghost use Rattle.dt_endpoint.specs.declared.noting.Heard.TheVariants.{Nothing};
@@ -91,7 +91,7 @@ impl Collector {
         self.counts
     }
 
-    /// What was told of a flow since it is followed, or none where it isn't.
+    /// What was reported of a flow since it is followed, or none where it isn't.
     pub fn totals(&self, flow: &Flow) -> Option<Octets>
         ensures { result ≡ look same_flow flow.now self.now.counts.flows }
     {
@@ -141,7 +141,7 @@ impl Collector {
         self.frames.pop_front()
     }
 
-    /// The report that was told first goes.
+    /// The report that was made first goes.
     pub fn next_report(&mut self) -> Option<Report<'static>>
         ensures first { self.old.reports ≡ option_to_list (option_map told result) ++ self.new.reports }
         ensures others { self.new ≡ record self.old { reports = drop 1 self.old.reports } }

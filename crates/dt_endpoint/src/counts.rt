@@ -7,7 +7,7 @@ ghost use Rattle.dt_endpoint.specs.Counts.{addition_by, counted, no_counts, no_o
 use dt_reports::{Matter, Report};
 use dt_units::Flow;
 
-/// Octets by what was told of them, since the endpoint opened. Each number stays at 2^64 - 1 once it is
+/// Octets by what was reported of them, since the endpoint opened. Each number stays at 2^64 - 1 once it is
 /// there.
 #[derive(Clone, Copy, Debug, PartialEq, Eq)]
 pub struct Octets {

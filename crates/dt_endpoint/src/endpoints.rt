@@ -36,7 +36,7 @@ const MOST_OCTETS: u64 = 1 << 62;
 /// A node without a socket, a clock or a thread of its own.
 ///
 /// Each event is handed the moment in milliseconds. One that is before that of an earlier event counts as
-/// that, and one above 2^62 as 2^62. What leaves and what is told waits until it is pulled.
+/// that, and one above 2^62 as 2^62. What leaves and what is reported waits until it is pulled.
 ///
 /// After an event that found no memory the endpoint is spent: no further event is done. What waits can be
 /// pulled.
@@ -196,7 +196,7 @@ impl Endpoint {
 
     /// From now on packets to the route's node go by its link, as they do by a route of the opening. The
     /// cause of each refusal is that of its name, the first of `Spent`, `NoLink` and `Known`.
-    /// [`Endpoint::has_route`] tells whether there is a route. Its cost is that of two look-ups. A node
+    /// [`Endpoint::has_route`] says whether there is a route. Its cost is that of two look-ups. A node
     /// that opens again begins with the routes that are handed in then.
     pub fn add_route(&mut self, route: Route) -> Routed
         ensures { AddsRoute result route self.old self.new }
@@ -224,7 +224,7 @@ impl Endpoint {
     }
 
     /// Octets are sent on a flow from this node to another. The first begins a message and the last ends
-    /// one, where that is asked for. All of them are taken or none. What came of them is told by reports:
+    /// one, where that is asked for. All of them are taken or none. What came of them is said by reports:
     /// `Settled` that they are acknowledged, `Uncertain` that it isn't known whether they came.
     pub fn send(&mut self, now: u64, flow: Flow, octets: &[u8], begin: bool, end: bool) -> Sent
         ensures { Sends result now flow octets.now begin end self.old self.new }
@@ -292,7 +292,7 @@ impl Endpoint {
         self.collector.next_frame()
     }
 
-    /// The report that was told first of those that wait. It waits no more. A piece that was read is told
+    /// The report that was made first of those that wait. It waits no more. A piece that was read is reported
     /// without its octets.
     pub fn next_report(&mut self) -> Option<Report<'static>>
         ensures first { self.old.reports ≡ option_to_list (option_map told result) ++ self.new.reports }
@@ -334,7 +334,7 @@ impl Endpoint {
         self.latest
     }
 
-    /// The moment in milliseconds that an event has to which this one is told: no less than that of an
+    /// The moment in milliseconds that an event has to which this one is given: no less than that of an
     /// earlier event, and 2^62 at most.
     pub fn moment_at(&self, now: u64) -> u64
         ensures moment { result ≡ moment_of now self.now }
@@ -379,7 +379,7 @@ impl Endpoint {
         self.collector.counts()
     }
 
-    /// From now on it is counted what is told of the octets of a flow, from this node or to it:
+    /// From now on it is counted what is reported of the octets of a flow, from this node or to it:
     /// [`Endpoint::totals`]. A flow that is followed already stays as it is. What is followed is the
     /// program's choice, so that strangers don't make the endpoint grow; it is followed until the
     /// endpoint goes. `NoMemory` changes nothing, and the endpoint isn't spent.
@@ -390,7 +390,7 @@ impl Endpoint {
         self.collector.follow(flow)
     }
 
-    /// The octets of a flow, by what was told of them since it is followed, or none where it isn't. Its
+    /// The octets of a flow, by what was reported of them since it is followed, or none where it isn't. Its
     /// cost is that of a look-up.
     pub fn totals(&self, flow: &Flow) -> Option<Octets>
         ensures { result ≡ look same_flow flow.now self.now.counts.flows }

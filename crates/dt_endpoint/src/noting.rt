@@ -6,7 +6,7 @@ ghost use Rattle.dt_endpoint.specs.Hearing.{hears, hears_by, kept};
 
 use dt_reports::{Matter, Refusal, Report};
 
-/// What the station answered to the call, as far as it was told.
+/// What the station answered to the call, as far as it was reported.
 #[derive(Clone, Copy, Debug, PartialEq, Eq)]
 pub enum Heard {
     /// Nothing yet.

@@ -12,7 +12,7 @@ use indexmap::IndexMap;
 use std::alloc::Global;
 use std::marker::Model;
 
-/// What is told of the octets of some flows: of those that are followed. A flow is found in constant
+/// What is reported of the octets of some flows: of those that are followed. A flow is found in constant
 /// time.
 #[derive(Drop)]
 pub struct Totals {
@@ -39,7 +39,7 @@ impl Totals {
         }
     }
 
-    /// What was told of a flow since it is followed, or none where it isn't.
+    /// What was reported of a flow since it is followed, or none where it isn't.
     pub fn of(&self, flow: &Flow) -> Option<Octets>
         ensures { result ≡ look same_flow flow.now self.now }
     {

@@ -1,4 +1,4 @@
-//! A number that tells whether two programs have the same parameters.
+//! A number that says whether two programs have the same parameters.
 #![tactic(auto)]
 
 ghost use Rattle.std.specs.Prelude.{◌≡◌};

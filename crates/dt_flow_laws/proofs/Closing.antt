@@ -1,4 +1,4 @@
--- A closing packet changes nothing, and is told exactly where a record stands that expects its number.
+-- A closing packet changes nothing, and is reported exactly where a record stands that expects its number.
 use Rattle.std.proofs.Common.{ℕ, ◌≡◌, ◌≢◌, Bool, true, false, [], Option, Some, None, refl, ap, ◌∙◌, inl, inr, arith}
 use Rattle.std.specs.Prelude.{◌==◌, nat_lt}
 use Rattle.std.proofs.lemmas.Bool.{cases_Bool}

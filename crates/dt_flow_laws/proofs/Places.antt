@@ -55,7 +55,7 @@ unsent_is_place p s x is some f =
     let e = first_waiting s.sender_life x.waiting some in
     omega (arith, len, a, b, c, e)
 
--- THE TAG OF A PACKET THAT AN ACT MADE, told from the flow and the record after the act
+-- THE TAG OF A PACKET THAT AN ACT MADE, known from the flow and the record after the act
 
 tag_resent : (p : Params) (s : FlowState) (x : SendRecord) (before after : List Segment) (g : Segment) (last : ℕ) → x.outstanding ≡ before ++ g ∷ after
     → next_from x.left (before ++ (record g { last = last }) ∷ after) ≡ next_of x
@@ -104,7 +104,7 @@ tag_after p s x x' act q limits is f chosen e made =
     let k : TagIs p (after_act p s x act) x' (q ∷ []) = subst (λ qs. TagIs p (after_act p s x act) x' qs) made h in
     k.0
 
--- THE TAG OF AN ACKNOWLEDGEMENT, told from the receiver after it
+-- THE TAG OF AN ACKNOWLEDGEMENT, known from the receiver after it
 
 replied_place : (p : Params) (now : ℕ) (unread : List Item) (standing : Option ReceiveRecord) (number : ℕ) (items : List Item) (count free n w : ℕ) (action : Action) (given : List Given) (answered : ℕ) → answer_to standing number count free action ≡ Replied n w
     → ack_place (after_action p now unread standing number items action).standing given n answered ≡ ack_place standing given n answered

@@ -111,7 +111,7 @@ taken_is_counted p s x is f =
       | inr none ↦ omega (arith, len, next)
     ]
 
--- THE RECEIVER: what is unread fits, the expected number has 32 bits, and the window that was told is at most the queue
+-- THE RECEIVER: what is unread fits, the expected number has 32 bits, and the window that was advertised is at most the queue
 abbrev IsStanding : Params → Option ReceiveRecord → Type 0
 IsStanding p standing = HasNumber standing × HasTold p standing
 

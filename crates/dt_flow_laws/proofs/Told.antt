@@ -1,4 +1,4 @@
--- What is told of a first transmission from the ledger, the run and the crossings alone is what the send record says: its place, the run after it, and the crossings.
+-- What is reported of a first transmission from the ledger, the run and the crossings alone is what the send record says: its place, the run after it, and the crossings.
 use Rattle.dt_flow_laws.proofs.Transmissions.{segment_row}
 use Rattle.std.proofs.Common.{ℕ, zero, suc, ◌+◌, ◌-◌, ◌<◌, ◌≤◌, ◌≡◌, true, false, List, [], ◌∷◌, ◌++◌, length, map, Option, Some, None, refl, sym, ap, ◌∙◌, arith, append_assoc, length-append, inl, inr}
 use Rattle.std.specs.Prelude.{nat_le}

@@ -51,7 +51,7 @@ segment_at offset items now = record { offset = offset; items = items; first = n
 abbrev pub taking : Params → List Item → Option SendRecord
 taking p items = Some (put items (new_record p 0 []))
 
--- at most `most` acts at now, one after another: what is told of them, and the record after them
+-- at most `most` acts at now, one after another: what is reported of them, and the record after them
 abbrev pub acts : ℕ → Params → ℕ → Option SendRecord → List SendAct
 acts zero p now x = []
 acts (suc most) p now None = []

@@ -1,4 +1,4 @@
-//! The functions that say what the records do are small steps of the flow, and what is told of them
+//! The functions that say what the records do are small steps of the flow, and what is reported of them
 //! is so.
 ghost use Rattle.std.specs.Prelude.{ℕ, Bool, true, ◌/◌, ◌≡◌, ◌≢◌, ◌<◌, ◌≤◌, List, [], ◌∷◌, length, Some, None};
 ghost use Rattle.dt_items.specs.declared.item.Item.{Item};
@@ -51,7 +51,7 @@ pub fn time_and_restarts_are_steps()
     ensures receiver { (p : Params) (s : FlowState) → Step p s [] [] (receiver_again p s) }
 {}
 
-/// What is told of a first transmission from the ledger, the run and the crossings alone is what the
+/// What is reported of a first transmission from the ledger, the run and the crossings alone is what the
 /// send record says: its place, the run after it and the crossings. It goes by no number.
 #[tactic(auto, using(crate::proofs::Told::told_place))]
 pub fn first_transmission_is_told()
@@ -66,14 +66,14 @@ pub fn other_transmission_goes_on()
     ensures { (p : Params) (s : FlowState) (x : SendRecord) → s.sender ≡ Some x → Facts p s → 0 < next_of x → run_goes_on s.now s.run ≡ run_after s.run (place_of s x 0) s.now (next_of x) }
 {}
 
-/// The place of a packet that an act made is its tag, told by its number from the flow and the send
+/// The place of a packet that an act made is its tag, known by its number from the flow and the send
 /// record as they are after the act.
 #[tactic(auto, using(crate::proofs::Places::tag_after))]
 pub fn tag_is_told_after_the_act()
     ensures { (p : Params) (s : FlowState) (x after : SendRecord) (act : Act) (q : Packet) → IsWithinLimits p → s.sender ≡ Some x → Facts p s → act_of p (sender_reading s) x ≡ Some act → record_after p (sender_reading s) x act ≡ Some after → made_by_act p s x act ≡ q ∷ [] → q.place ≡ tag_of p (after_act p s x act) after q.number }
 {}
 
-/// The place of an acknowledgement is the same, told from the receiver before it or after it.
+/// The place of an acknowledgement is the same, known from the receiver before it or after it.
 pub fn acknowledgement_tag_is_told_after()
     ensures data_packet { (p : Params) (now : ℕ) (r : Receiver) (drf : Bool) (number : ℕ) (items : List Item) (n w : ℕ) (given : List Given) (answered : ℕ) → answer_to_data p r drf number items ≡ Replied n w → ack_place (after_data p now r drf number items).standing given n answered ≡ ack_place r.standing given n answered }
     ensures own_act { (p : Params) (r : Receiver) (n : ℕ) (given : List Given) (answered : ℕ) → ack_place (after_meet p r).standing given n answered ≡ ack_place r.standing given n answered }
@@ -91,7 +91,7 @@ pub fn closing_packet_changes_nothing()
     ensures flow { (p : Params) (s : FlowState) (number : ℕ) → after_close_packet p s number ≡ s }
 {}
 
-/// A closing packet is told where a record stands that expects its number, and dropped else.
+/// A closing packet is reported where a record stands that expects its number, and dropped else.
 #[tactic(auto, using(crate::proofs::Closing::close_told, crate::proofs::Closing::close_dropped, crate::proofs::Closing::close_nowhere))]
 pub fn closing_packet_is_told_or_dropped()
     ensures told { (r : Receiver) (y : ReceiveRecord) (number : ℕ) → r.standing ≡ Some y → number ≡ y.expected → answer_to_close r number ≡ Closing number }

@@ -26,7 +26,7 @@ pub fn send_record_stays_within()
     ensures acts { (p : Params) → IsWithinLimits p → (x : SendRecord) → IsSendRecord p x → (now : ℕ) (act : Act) (after : SendRecord) → IsDue p now x act → record_after p now x act ≡ Some after → IsSendRecord p after }
 {}
 
-/// A receiver's unread octets fit, the number that it expects has 32 bits, and the window that it told
+/// A receiver's unread octets fit, the number that it expects has 32 bits, and the window that it advertised
 /// is at most the whole queue.
 #[tactic(auto, using(crate::proofs::Records::none_kept, crate::proofs::Records::data_kept, crate::proofs::Records::meet_kept, crate::proofs::Records::read_kept, crate::proofs::Records::recv_act_kept))]
 pub fn receiver_stays_within()

@@ -89,7 +89,7 @@ pub fn window_is_asked_for()
     ensures nothing { acked_count narrow 4 0 (acted 9 narrow 800 six_sent) ≡ Some 0 }
 {}
 
-/// A read of the four octets opens the window, which is told at once; and once the sender has heard
+/// A read of the four octets opens the window, which is advertised at once; and once the sender has heard
 /// of it the rest goes out.
 pub fn read_opens_window()
     ensures due { recv_due_of narrow 800 four_read.standing ≡ Some (Ack, 800) }

@@ -119,7 +119,7 @@ crossings_after p offset place now crossings = crossings_if (is_crossing p offse
 abbrev pub place_of : FlowState → SendRecord → ℕ → ℕ
 place_of s x offset = length s.taken - length x.waiting - (next_of x - offset)
 
--- The tag of a data or rendezvous packet, told by its number: the count taken, less the count waiting, less how far the number is before the next one. That it is the packet's place is a law.
+-- The tag of a data or rendezvous packet, known by its number: the count taken, less the count waiting, less how far the number is before the next one. That it is the packet's place is a law.
 abbrev pub tag_of : Params → FlowState → SendRecord → ℕ → ℕ
 tag_of p s x number = length s.taken - length x.waiting - number_distance (number_of p (next_of x)) number
 
@@ -128,7 +128,7 @@ abbrev pub ack_place : Option ReceiveRecord → List Given → ℕ → ℕ → �
 ack_place None given number answered = answered
 ack_place (Some y) given number answered = if number == y.expected then top given else answered
 
--- What is told of a first transmission at now, from the ledger, the run and the crossings alone. Its place is that of the leftmost Open octet of the present life that has no first moment.
+-- What is reported of a first transmission at now, from the ledger, the run and the crossings alone. Its place is that of the leftmost Open octet of the present life that has no first moment.
 -- It begins a run where there was none, or where `send` has passed since the last transmission. Any other transmission goes on with the run.
 abbrev pub begins_run : Params → ℕ → Option Run → Bool
 begins_run p now None = true

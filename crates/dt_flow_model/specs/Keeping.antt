@@ -64,7 +64,7 @@ abbrev pub HasNumber : Option ReceiveRecord → Type 0
 HasNumber None = Unit {0}
 HasNumber (Some y) = y.expected < 2 ^ 32
 
--- the window that was told last is at most the whole queue
+-- the window that was advertised last is at most the whole queue
 abbrev pub HasTold : Params → Option ReceiveRecord → Type 0
 HasTold p None = Unit {0}
 HasTold p (Some y) = y.told ≤ p.rcap

@@ -1,5 +1,5 @@
 -- Offsets and sequence numbers. An offset counts the octets of a send record since the record began, and has no bound. A packet carries the number of an offset, which goes round at 2^32.
--- How numbers are counted on and compared is told in dt_units (`number_after`, `number_distance`, `relation_of`).
+-- How numbers are counted on and compared is said in dt_units (`number_after`, `number_distance`, `relation_of`).
 use Rattle.std.specs.Prelude.{ℕ, ◌+◌, ◌-◌, ◌%◌, ◌^◌, ◌==◌, Bool, if◌then◌else◌, nat_lt}
 use Rattle.dt_units.specs.declared.parameters.Params.{Params}
 use Rattle.dt_units.specs.declared.order.Relation.{Relation}

@@ -26,7 +26,7 @@ pub record ReceiveRecord : Type 0 where
   pub touched : ℕ
   -- the moment at which an acknowledgement that is owed goes out, or none
   pub due : Option ℕ
-  -- the window that was told last
+  -- the window that was advertised last
   pub told : ℕ
 
 pub record Receiver : Type 0 where
@@ -99,7 +99,7 @@ abbrev pub owed_after : Params → ℕ → Option ℕ → Bool → Option ℕ
 owed_after p now (Some due) message_ends = Some now
 owed_after p now None message_ends = if message_ends then Some now else Some (now + p.a)
 
--- what a record owes and told; one that is made owes nothing, and its last told window is the whole queue
+-- what a record owes and told; one that is made owes nothing, and its last advertised window is the whole queue
 abbrev pub due_in : Option ReceiveRecord → Option ℕ
 due_in None = None
 due_in (Some y) = y.due
@@ -116,7 +116,7 @@ record_accepted p now number items due told = record { expected = number_after n
 abbrev pub receiver_accepted : Params → ℕ → List Item → Option ReceiveRecord → ℕ → List Item → Bool → Receiver
 receiver_accepted p now unread standing number items run = record { unread = unread ++ unread_items run items; standing = Some (record_accepted p now number items (due_in standing) (told_in p standing)) }
 
--- A reply with the expected number pays what is owed, and any reply of a standing record tells its window. Without a record nothing changes.
+-- A reply with the expected number pays what is owed, and any reply of a standing record advertises its window. Without a record nothing changes.
 abbrev pub record_told : ReceiveRecord → ℕ → ReceiveRecord
 record_told y free = record y { due = None; told = free }
 
@@ -163,7 +163,7 @@ after_data p now r drf number items = after_action p now r.unread r.standing num
 abbrev pub answer_to_data : Params → Receiver → Bool → ℕ → List Item → Arrived
 answer_to_data p r drf number items = answer_to r.standing number (length items) (free_of p r.unread) (action_on p r drf number items)
 
--- A closing packet comes: it is told or dropped. That it changes nothing is a law.
+-- A closing packet comes: it is reported or dropped. That it changes nothing is a law.
 abbrev pub close_on : Receiver → ℕ → Action
 close_on r number = close_action (expected_of r.standing) number
 
@@ -180,7 +180,7 @@ after_meet p r = record { unread = r.unread; standing = standing_told r.standing
 abbrev pub answer_to_meet : Params → Receiver → ℕ → Arrived
 answer_to_meet p r number = expected_told r.standing number (free_of p r.unread)
 
--- A read that raises the free room from below the least of `seg` and `rcap` to at least that, where a record stands that told less, makes an acknowledgement due at once.
+-- A read that raises the free room from below the least of `seg` and `rcap` to at least that, where a record stands that advertised less, makes an acknowledgement due at once.
 abbrev pub worth_telling : Params → ℕ
 worth_telling p = min p.seg p.rcap
 
@@ -214,7 +214,7 @@ abbrev pub after_recv_act : Params → Receiver → RecvKind → Receiver
 after_recv_act p r Release = record r { standing = None }
 after_recv_act p r Ack = after_meet p r
 
--- what is told of it
+-- what is reported of it
 abbrev pub recv_told_of : Params → List Item → ReceiveRecord → RecvKind → RecvAct
 recv_told_of p unread y Release = T.Released
 recv_told_of p unread y Ack = T.Acked y.expected (free_of p unread)

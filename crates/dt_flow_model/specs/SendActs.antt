@@ -157,7 +157,7 @@ record_after p now x (resend before g after) = Some (record x { touched = now; o
 record_after p now x (send cut rest) = Some (record x { touched = now; crossed = crossed_after p now x; outstanding = x.outstanding ++ (record { offset = next_of x; items = cut; first = now; last = now }) ∷ []; waiting = rest })
 record_after p now x meet = Some (record x { touched = now })
 
--- what is told of an act
+-- what is reported of an act
 abbrev pub told_of : Params → SendRecord → Act → SendAct
 told_of p x (give_up g rest) = GaveUp (length g.items)
 told_of p x release = Released

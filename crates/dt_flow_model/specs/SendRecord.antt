@@ -124,7 +124,7 @@ abbrev pub ends : List Item → Bool
 ends [] = false
 ends (i ∷ is) = i.end || ends is
 
--- what is told of a segment that goes out
+-- what is reported of a segment that goes out
 abbrev pub cut_told : Params → SendRecord → ℕ → List Item → Cut
 cut_told p x offset items = record { number = number_of p offset; length = length items; drf = leads x offset; begin = begins items; end = ends items }
 

@@ -22,16 +22,16 @@ pub enum Action {
 pub enum Arrived {
     /// Nothing: the host is silent until this moment of its clock, in milliseconds.
     Quiet { until: u64 },
-    /// So many octets were accepted, 1 to 8,192, as a new run or following the ones before.
+    /// `count` octets were accepted, 1 to 8,192, as a new run or following the ones before.
     Accepted { run: bool, count: u32 },
     /// An acknowledgement goes out at once, with this number and the free room of the queue, 0 to
     /// 65,536 octets.
     Replied { number: u32, window: u32 },
     /// Nothing.
     Dropped,
-    /// So many octets were acknowledged, 0 to 65,536.
+    /// `count` octets were acknowledged, 0 to 65,536.
     Acked { count: u32 },
-    /// A closing packet tells that no more octets of its run follow: its number is the one that is
+    /// A closing packet says that no more octets of its run follow: its number is the one that is
     /// expected. Nothing changes.
     Closing { number: u32 },
 }

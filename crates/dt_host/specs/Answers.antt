@@ -58,7 +58,7 @@ IsMade p f (Ack from_port to_port number window) host = ⊥
 IsMade p f (Meet from_port to_port number) host = ⊥
 IsMade p f (Close from_port to_port number) host = ⊥
 
--- what is told of an act, the frame that it made, and the host after it or as it was
+-- what is reported of an act, the frame that it made, and the host after it or as it was
 abbrev pub told_act : Flow → Act → Told
 told_act f (act.Send done) = told_send f done
 told_act f (act.Recv done) = told_recv f done

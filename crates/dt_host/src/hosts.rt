@@ -103,7 +103,7 @@ impl Host {
     /// Octets are sent at `now` on a flow from this node to another: 1 or more, where the host is
     /// current. The first begins a message and the last ends one, where that is asked for.
     ///
-    /// - `Quiet`: the host is silent, until the moment that is told.
+    /// - `Quiet`: the host is silent, until the moment that is given.
     /// - `Full`: the octets don't fit into the flow's sender, of whose capacity so much is free. That is
     ///   all of it where the flow has no sender.
     /// - `NoMemory`: there was none for the sender, which the flow doesn't have yet.
@@ -253,7 +253,7 @@ impl Host {
         self.receivers.reach(now);
     }
 
-    /// Does the act that comes next at `now`, and tells whose it was. None comes exactly where no act is
+    /// Does the act that comes next at `now`, and says whose it was. None comes exactly where no act is
     /// due, and then nothing changes.
     ///
     /// The classes of acts come in this order: a segment is given up; a sender is released or renewed; a

@@ -218,7 +218,7 @@ impl RecvSide {
         arrived
     }
 
-    /// A closing packet is told or dropped.
+    /// A closing packet is reported or dropped.
     pub fn on_close<L: Ledger>(&self, flow: &Flow, number: u32, steps: &mut Steps<L>) -> Arrived
         ensures answer { (host : Host) → result ≡ answer_to_close (receiver_at (record host { receivers = receivers_of self.now.entries }) flow.now) number }
         ensures looks { steps.new ≤ steps.old + 1 }

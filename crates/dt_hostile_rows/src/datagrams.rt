@@ -141,7 +141,7 @@ const HEARD: &str = "10 2 accepted 1:10>2:20 0 5 run
 end 100
 ";
 
-/// Whether the node tells each frame that is refused for this octet, and then hears the frame itself as
+/// Whether the node reports each frame that is refused for this octet, and then hears the frame itself as
 /// if none had come.
 fn refuses_at(alloc: Global, place: usize) -> Result<bool, Fail> {
     let mut wire = calm_wire(alloc)?;

@@ -71,7 +71,7 @@ impl Model for FlowInboxes {
 }
 
 impl FlowInboxes {
-    /// No flow was heard of. A message has so many octets at most, or as many as there is memory for.
+    /// No flow was heard of. A message has `longest` octets at most, or as many as there is memory for.
     pub fn new(alloc: Global, longest: Option<usize>) -> FlowInboxes
         ensures { result ≡ no_inboxes longest }
     {

@@ -21,7 +21,7 @@ pub enum Taken {
     /// Nothing is unread, and no message is whole.
     Nothing,
     /// There was no memory for octets that were read. They are lost with the message that they are of,
-    /// and a gap is told with the next one. More may be unread.
+    /// and a gap is reported with the next one. More may be unread.
     Lost,
     /// So many pieces were read that the call ends, and no message is whole. More may be unread.
     Unfinished,
@@ -51,7 +51,7 @@ impl Model for Inbox {
 }
 
 impl Inbox {
-    /// The inbox of a flow, of which nothing was read. A message has so many octets at most, or as many as
+    /// The inbox of a flow, of which nothing was read. A message has `longest` octets at most, or as many as
     /// there is memory for: one that is longer is dropped and counted.
     pub fn new(flow: Flow, longest: Option<usize>) -> Inbox
         ensures { result ≡ new_inbox flow longest }
@@ -131,7 +131,7 @@ impl Inbox {
         self.flow
     }
 
-    /// Whether nothing is begun and no gap is to be told.
+    /// Whether nothing is begun and no gap is to be reported.
     pub fn is_idle(&self) -> bool
         ensures { result ≡ is_idle self.now.joiner }
     {

@@ -22,7 +22,7 @@ pub struct Letter {
 /// The answer where a message is to be put into a buffer.
 #[derive(Clone, Copy, Debug, PartialEq, Eq)]
 pub enum Handed {
-    /// So many octets stand at the head of the buffer: a whole message of this flow. `gap`: octets before
+    /// `len` octets stand at the head of the buffer: a whole message of this flow. `gap`: octets before
     /// it are lost, or may be.
     Done { flow: Flow, len: usize, gap: bool },
     /// The buffer has no room for the message, which waits.
@@ -32,7 +32,7 @@ pub enum Handed {
     /// So many flows without one were looked at that the call ends. Others may have one.
     More,
     /// There was no memory for octets of this flow that were read. They are lost with the message that they
-    /// are of, and a gap is told with the next one.
+    /// are of, and a gap is reported with the next one.
     Lost { flow: Flow },
     /// The endpoint found no memory, and is spent.
     NoMemory,
@@ -57,7 +57,7 @@ impl Model for Mailbox {
 }
 
 impl Mailbox {
-    /// No flow was heard of. A message has so many octets at most, or as many as there is memory for: one
+    /// No flow was heard of. A message has `longest` octets at most, or as many as there is memory for: one
     /// that is longer is dropped and counted.
     pub fn new(alloc: Global, longest: Option<usize>) -> Mailbox
         ensures { result ≡ new_mailbox longest }

@@ -96,7 +96,7 @@ fn copy_run(items: &[Item], room: &mut [u8])
     }
 }
 
-/// Copies the octets of so many items from a place on to the front of the room, and leaves its rest.
+/// Copies the octets of `count` items from a place on to the front of the room, and leaves its rest.
 /// The cost is that of the items.
 pub fn copy_octets(items: &HeapCircularBuffer<Item>, from: usize, count: usize, room: &mut [u8])
     requires there { from + count ≤ length items.now.items }

@@ -53,7 +53,7 @@ fn following_len(before: &Item, items: &HeapCircularBuffer<Item>, most: usize) -
     }
 }
 
-/// The last of the first item and of so many after it.
+/// The last of the first item and of `more` after it.
 fn last_of(first: &Item, items: &HeapCircularBuffer<Item>, more: usize) -> Item
     requires { more ≤ length items.now.items }
     ensures { result ≡ last_item first.now (take more items.now.items) }
@@ -66,7 +66,7 @@ fn last_of(first: &Item, items: &HeapCircularBuffer<Item>, more: usize) -> Item
 }
 
 /// Copies the octets of the first item, and of those after it that go on its piece, as many as fit, to
-/// the front of the buffer, and tells the piece.
+/// the front of the buffer, and answers the piece.
 fn copy_piece(first: &Item, items: &HeapCircularBuffer<Item>, buf: &mut [u8]) -> Piece
     requires { 0 < length buf.old }
     ensures copied { let left = drop (result.len - 1) items.now.items in
@@ -213,7 +213,7 @@ impl Queue {
     }
 
     /// Appends the octets. The first gets the begin and run marks, the last gets the end mark, and
-    /// all other marks are off. There is at least one octet, and no more than [`Queue::free`] tells.
+    /// all other marks are off. There is at least one octet, and no more than [`Queue::free`] says.
     /// The cost is that of the octets, and no memory is taken.
     pub fn push_all(&mut self, octets: &[u8], begin: bool, end: bool, run: bool)
         requires some { 0 < length octets.now }

@@ -68,7 +68,7 @@ impl FlowRows {
         self.taken.push_taken(life, octets, begin, end)
     }
 
-    /// So many taken rows from a place on, which are there, get their first moment. The cost is that of
+    /// `count` taken rows from a place on, which are there, get their first moment. The cost is that of
     /// the rows.
     pub fn note_first(&mut self, place: u64, count: u32, at: u64)
         requires there { place + count ≤ length self.old.taken }
@@ -79,7 +79,7 @@ impl FlowRows {
         self.taken.note_first(place, count, at);
     }
 
-    /// So many taken rows from a place on, which are there, get the fate. The cost is that of the rows.
+    /// `count` taken rows from a place on, which are there, get the fate. The cost is that of the rows.
     pub fn settle(&mut self, place: u64, count: u32, fate: Fate)
         requires there { place + count ≤ length self.old.taken }
         ensures { self.new ≡ record self.old { taken = settle_at fate place count self.old.taken } }
@@ -87,7 +87,7 @@ impl FlowRows {
         self.taken.settle(place, count, fate);
     }
 
-    /// The leftmost taken rows without a fate that are of a life, so many, get the fate; all of them do
+    /// The `count` leftmost taken rows of a life without a fate get the fate; all of them do
     /// where there are fewer. No row is looked at twice as long as each call is for the latest life in
     /// which octets were taken and no row gets the fate Open. A call for another life begins at place 0,
     /// and so does the next one for the latest.
@@ -97,7 +97,7 @@ impl FlowRows {
         self.taken.settle_open(life, count, fate);
     }
 
-    /// So many taken rows get their first moment, from the leftmost one on that is of a life and has
+    /// `count` taken rows get their first moment, from the leftmost one on that is of a life and has
     /// neither a fate nor a first moment; fewer do where the rows end before. The answer is the place of
     /// that one, or the number of taken rows where there is none. The cost is as [`FlowRows::settle_open`]
     /// says, and that of the rows.
@@ -119,7 +119,7 @@ impl FlowRows {
         self.given.give(given)
     }
 
-    /// So many octets more were read in a life of the receiving station. `NoMemory` comes only at the
+    /// `count` octets more were read in a life of the receiving station. `NoMemory` comes only at the
     /// first read of a life, and leaves the ledger as it was.
     pub fn note_read(&mut self, life: u32, count: u64) -> Result<(), NoMemory>
         requires { read_of_all self.old.reads + count < 2 ^ 62 }

@@ -108,7 +108,7 @@ impl Ledger {
         Ok(())
     }
 
-    /// So many taken rows of the flow from a place on, which are there, get their first moment.
+    /// `count` taken rows of the flow from a place on, which are there, get their first moment.
     pub fn note_first(&mut self, flow: &Flow, place: u64, count: u32, at: u64)
         requires flow { IsSome (look same_flow flow.now self.old) }
         requires there { place + count ≤ length (ledger_in self.old flow.now).taken }
@@ -122,7 +122,7 @@ impl Ledger {
         }
     }
 
-    /// So many taken rows of the flow from a place on, which are there, get the fate.
+    /// `count` taken rows of the flow from a place on, which are there, get the fate.
     pub fn settle(&mut self, flow: &Flow, place: u64, count: u32, fate: Fate)
         requires flow { IsSome (look same_flow flow.now self.old) }
         requires there { place + count ≤ length (ledger_in self.old flow.now).taken }
@@ -171,7 +171,7 @@ impl Ledger {
         Ok(())
     }
 
-    /// So many octets more of the flow were read in a life of the receiving station. A flow that isn't
+    /// `count` octets more of the flow were read in a life of the receiving station. A flow that isn't
     /// there comes after all others. `NoMemory` comes only at the first read of a life, and leaves the
     /// ledger as it was.
     pub fn note_read(&mut self, flow: &Flow, life: u32, count: u64) -> Result<(), NoMemory>

@@ -54,7 +54,7 @@ pub struct Progress {
 }
 
 impl Progress {
-    /// Rows of this life come next, after so many. A life that is later than all before begins there.
+    /// Rows of this life come next, after `count` others. A life that is later than all before begins there.
     pub fn begin(&mut self, life: u32, count: usize)
         ensures { self.new ≡ progress_in life count self.old }
     {

@@ -33,7 +33,7 @@ impl Model for ReadCounts {
     ghost invariant = { λ r. AreReads r.first (reads_in r.later.entries) r.all };
 }
 
-/// So many more octets were read in a life.
+/// `count` more octets were read in a life.
 fn add(by_life: &mut IndexMap<u32, u64>, life: u32, count: u64) -> Result<(), NoMemory>
     requires { read_of_all (reads_in by_life.old.entries) + count < 2 ^ 62 }
     ensures ok { OnOk result (reads_in by_life.new.entries ≡ note_read life count (reads_in by_life.old.entries)) }
@@ -48,7 +48,7 @@ fn add(by_life: &mut IndexMap<u32, u64>, life: u32, count: u64) -> Result<(), No
     Ok(())
 }
 
-/// So many more octets were read in a life: in the first one or in another.
+/// `count` more octets were read in a life: in the first one or in another.
 fn add_in(
     first: &mut ReadCount,
     later: &mut IndexMap<u32, u64>,
@@ -86,7 +86,7 @@ impl ReadCounts {
         self.all
     }
 
-    /// So many more octets were read in a life. `NoMemory` comes only where nothing was read in it yet,
+    /// `count` more octets were read in a life. `NoMemory` comes only where nothing was read in it yet,
     /// and leaves the counts as they were.
     pub fn note(&mut self, life: u32, count: u64) -> Result<(), NoMemory>
         requires { read_of_all self.old + count < 2 ^ 62 }

@@ -42,7 +42,7 @@ fn append(rows: &mut Vec<TakenRow>, life: u32, octets: &[u8], begin: bool, end: 
     }
 }
 
-/// So many rows from a place on get their first moment.
+/// `count` rows from a place on get their first moment.
 fn note_first_at(rows: &mut [TakenRow], place: usize, count: u32, at: Instant)
     requires { place + count ≤ length rows.old }
     ensures { rows.new ≡ note_first at.milliseconds place count rows.old }
@@ -53,7 +53,7 @@ fn note_first_at(rows: &mut [TakenRow], place: usize, count: u32, at: Instant)
     }
 }
 
-/// So many rows from a place on get the fate.
+/// `count` rows from a place on get the fate.
 fn settle_from_place(
     rows: &mut [TakenRow],
     counts: &mut FateCounts,
@@ -73,7 +73,7 @@ fn settle_from_place(
     }
 }
 
-/// The leftmost open rows of a life, so many, get the fate, which isn't Open. They are sought from
+/// The `count` leftmost open rows of a life get the fate, which isn't Open. They are sought from
 /// where open rows of the life may stand; the answer is from where on they may stand then.
 fn settle_leftmost(
     rows: &mut [TakenRow],
@@ -183,7 +183,7 @@ impl TakenRows {
         Ok(())
     }
 
-    /// So many rows from a place on get their first moment.
+    /// `count` rows from a place on get their first moment.
     pub fn note_first(&mut self, place: u64, count: u32, at: Instant)
         requires { place + count ≤ length self.old }
         ensures { self.new ≡ note_first at.milliseconds place count self.old }
@@ -191,7 +191,7 @@ impl TakenRows {
         note_first_at(&mut self.rows, place as usize, count, at);
     }
 
-    /// So many rows from a place on get the fate.
+    /// `count` rows from a place on get the fate.
     pub fn settle(&mut self, place: u64, count: u32, fate: Fate)
         requires { place + count ≤ length self.old }
         ensures { self.new ≡ settle_at fate place count self.old }
@@ -202,7 +202,7 @@ impl TakenRows {
         self.progress.sent = self.progress.sent.reopened(fate, place);
     }
 
-    /// The leftmost open rows of a life, so many, get the fate.
+    /// The `count` leftmost open rows of a life get the fate.
     pub fn settle_open(&mut self, life: u32, count: u32, fate: Fate)
         ensures { self.new ≡ settle life fate count self.old }
     {
@@ -219,7 +219,7 @@ impl TakenRows {
         );
     }
 
-    /// The rows of a life that wait for their first transmission get their first moment: so many rows
+    /// The rows of a life that wait for their first transmission get their first moment: `count` rows
     /// from the leftmost on. The answer is its place.
     pub fn note_next(&mut self, life: u32, count: u32, at: Instant) -> u64
         ensures place { result ≡ first_unsent life self.old }

@@ -225,7 +225,7 @@ none = record { are = tt }
 some : (word : Text) (words : List Text) → Word word → Words words → Words (word ∷ words)
 some word words h more = record { are = (h.is, more.are) }
 
--- after the word of the node, where a node tells the line
+-- after the word of the node, where a node reports the line
 behind : (reporter : Option ℕ) (words : List Text) → Words words → Words (node_words reporter ++ words)
 behind None words h = h
 behind (Some node) words h = record { are = (number_word node, h.are) }

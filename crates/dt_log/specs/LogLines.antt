@@ -7,16 +7,16 @@ use Rattle.dt_reports.specs.Told.{Told}
 use Rattle.dt_log.specs.Words.{Text, flow_text, hex_text, sent_letters, read_letters, record_text, run_text}
 use Rattle.dt_log.specs.FaultWords.{refusal_words, layout_fault_words, fault_words}
 
--- the word of the node, where a node tells the line
+-- the word of the node, where a node reports the line
 abbrev pub node_words : Option ℕ → List Text
 node_words (Some node) = decimal node ∷ []
 node_words None = []
 
--- what a node tells: the moment, the node, and then these words
+-- what a node reports: the moment, the node, and then these words
 abbrev pub at_node : ℕ → Option ℕ → List Text → List Text
 at_node moment reporter words = decimal moment ∷ node_words reporter ++ words
 
--- what is told of a line of an input: its number, and then these words
+-- what is reported of a line of an input: its number, and then these words
 abbrev pub at_line : ℕ → List Text → List Text
 at_line line words = codes "line" ∷ (decimal line ++ codes ":") ∷ words
 

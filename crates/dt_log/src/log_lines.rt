@@ -60,7 +60,7 @@ fn run_name(run: bool) -> &'static str
     if run { "run" } else { "on" }
 }
 
-/// Puts the line of what a node tells: the moment, the node where there is one, and these words.
+/// Puts the line of what a node reports: the moment, the node where there is one, and these words.
 pub(crate) fn put_told<K: Sink>(
     line: &LogLine<'_>,
     words: &[Word<'_>],
@@ -100,7 +100,7 @@ fn put_totals<K: Sink>(flow: dt_units::Flow, totals: Totals, out: &mut K) -> Res
     )
 }
 
-/// Puts the line of a word and a number that a node tells.
+/// Puts the line of a word and a number that a node reports.
 fn put_number_told<K: Sink>(
     line: &LogLine<'_>,
     name: &'static str,
@@ -112,7 +112,7 @@ fn put_number_told<K: Sink>(
     put_told(line, &[Text(name), Long(n)], out)
 }
 
-/// Puts the line of a word and a flow that a node tells.
+/// Puts the line of a word and a flow that a node reports.
 fn put_flow_told<K: Sink>(
     line: &LogLine<'_>,
     name: &'static str,
@@ -137,7 +137,7 @@ fn put_flow_and_word<K: Sink>(
     put_told(line, &[Text(name), Flow(flow), Text(last)], out)
 }
 
-/// Puts the line of a word, a flow and a number that a node tells.
+/// Puts the line of a word, a flow and a number that a node reports.
 fn put_flow_and_number<K: Sink>(
     line: &LogLine<'_>,
     name: &'static str,
@@ -150,7 +150,7 @@ fn put_flow_and_number<K: Sink>(
     put_told(line, &[Text(name), Flow(flow), Number(n)], out)
 }
 
-/// Puts the line of a word, a flow and two numbers that a node tells.
+/// Puts the line of a word, a flow and two numbers that a node reports.
 fn put_flow_and_two<K: Sink>(
     line: &LogLine<'_>,
     name: &'static str,
@@ -175,7 +175,7 @@ struct Span {
     length: u32,
 }
 
-/// Puts the line of a word, octets and a last word that a node tells.
+/// Puts the line of a word, octets and a last word that a node reports.
 fn put_span<K: Sink>(
     line: &LogLine<'_>,
     name: &'static str,

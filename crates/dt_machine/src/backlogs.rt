@@ -85,7 +85,7 @@ impl Backlog {
         self.handed == self.places.len()
     }
 
-    /// Whether there is room for one more datagram of at most so many octets.
+    /// Whether there is room for one more datagram of at most `octets` octets.
     pub fn has_room(&self, octets: usize) -> bool
         ensures { result ≡ has_room octets self.now }
     {

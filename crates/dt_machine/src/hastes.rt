@@ -53,7 +53,7 @@ impl Haste {
         0 < self.soon
     }
 
-    /// After looks that found something so many nanoseconds after the take's begin. Where the waits were
+    /// After looks that found something `took` nanoseconds after the take's begin. Where the waits were
     /// longer, looks in vain weigh half as much.
     pub fn met(self, took: u64) -> Self
         ensures { result ≡ met took self }
@@ -80,7 +80,7 @@ impl Haste {
         }
     }
 
-    /// After a wait that a datagram ended so many nanoseconds after the take's begin. Where it didn't come
+    /// After a wait that a datagram ended `took` nanoseconds after the take's begin. Where it didn't come
     /// soon, looks aren't tried.
     pub fn waited(self, took: u64) -> Self
         ensures follows { result ≡ waited took self }

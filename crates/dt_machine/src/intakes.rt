@@ -314,7 +314,7 @@ impl Intake {
         look
     }
 
-    /// Waits for a datagram, so many milliseconds, which aren't 0: the moment at which it is handed over,
+    /// Waits for a datagram, `wait_ms` milliseconds, which aren't 0: the moment at which it is handed over,
     /// in nanoseconds, its link, and how many of its octets stand first in the buffer. None where none
     /// came, where a stranger's came, or where all that came may have waited longer than 20 ms. Fails
     /// where the machine's call does.

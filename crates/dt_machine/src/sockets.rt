@@ -45,7 +45,7 @@ pub struct Socket<'a, R> {
     socket: UdpSocket,
 }
 
-/// Asks the kernel to keep so many octets for a socket. Where it refuses, it keeps as many as before.
+/// Asks the kernel to keep `count` octets for a socket. Where it refuses, it keeps as many as before.
 fn keep_octets(fd: i32, count: i32) {
     let mut value = [0u8; 16];
     value[..4].copy_from_slice(&count.to_ne_bytes());
@@ -67,7 +67,7 @@ impl<'a, R: Net + time::Clock> Socket<'a, R> {
     }
 
     /// Looks for a datagram without waiting. A longer one is cut to the buffer. A call that fails finds
-    /// nothing: why it failed is told by a sleep.
+    /// nothing: why it failed is learned by a sleep.
     pub fn look(&self, buf: &mut [u8]) -> Look
         ensures within { IsLook (length buf.old) result }
         ensures same_room { length buf.new ≡ length buf.old }
@@ -107,7 +107,7 @@ impl<'a, R: Net + time::Clock> Socket<'a, R> {
         }
     }
 
-    /// Waits until the socket is ready for what is asked, at most so many milliseconds. False says that
+    /// Waits until the socket is ready for what is asked, at most `wait_ms` milliseconds. False says that
     /// it wasn't at their end.
     fn wait_for(&self, events: i16, wait_ms: i32) -> bool {
         let mut asked = [pollfd {
@@ -118,7 +118,7 @@ impl<'a, R: Net + time::Clock> Socket<'a, R> {
         poll(&mut asked, wait_ms) != 0
     }
 
-    /// Waits for a datagram, at most so many milliseconds. False says that the socket was empty at
+    /// Waits for a datagram, at most `wait_ms` milliseconds. False says that the socket was empty at
     /// their end. True comes where there is something to take, or a signal ended the wait.
     pub fn wait(&self, wait_ms: u16) -> bool {
         self.wait_for(POLLIN, i32::from(wait_ms))

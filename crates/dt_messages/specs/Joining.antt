@@ -56,7 +56,7 @@ begun_within longest begun p = if p.end then None else joined_within longest beg
 abbrev pub counted_up : ℕ → ℕ
 counted_up n = min (n + 1) (2 ^ 64 - 1)
 
--- A PIECE GOES ON IT: the message that it makes whole, and the joiner after it. A gap is told once, with the next whole message.
+-- A PIECE GOES ON IT: the message that it makes whole, and the joiner after it. A gap is reported once, with the next whole message.
 abbrev pub message_with : JoinerValue → Piece → Option MessageValue
 message_with j p = option_map (λ octets. record { octets = octets; gap = j.gap || p.run }) (whole_within j.longest j.begun p)
 
@@ -79,10 +79,10 @@ grown j p =
       dropped = if outgrows j.longest j.begun p then counted_up j.dropped else j.dropped;
     }
 
--- Octets that were read are lost with what was begun, and that is told as a gap.
+-- Octets that were read are lost with what was begun, and that is reported as a gap.
 abbrev pub lost : JoinerValue → JoinerValue
 lost j = record j { begun = None; gap = true }
 
--- Nothing is begun and no gap is to be told: but for its count it is as a new one.
+-- Nothing is begun and no gap is to be reported: but for its count it is as a new one.
 abbrev pub is_idle : JoinerValue → Bool
 is_idle j = not (is_some j.begun) && not j.gap

@@ -52,7 +52,7 @@ impl Model for Joiner {
 }
 
 impl Joiner {
-    /// No message has begun. A message has so many octets at most, or as many as there is memory for.
+    /// No message has begun. A message has `longest` octets at most, or as many as there is memory for.
     pub fn new(longest: Option<usize>) -> Joiner
         ensures { result ≡ new_joiner longest }
     {
@@ -88,7 +88,7 @@ impl Joiner {
         Ok(Some(Message { octets, gap }))
     }
 
-    /// Octets that were read are lost: what was begun is dropped, and a gap is told with the next whole
+    /// Octets that were read are lost: what was begun is dropped, and a gap is reported with the next whole
     /// message.
     pub fn lose(&mut self)
         ensures { self.new ≡ lost self.old }
@@ -97,7 +97,7 @@ impl Joiner {
         self.gap = true;
     }
 
-    /// Whether nothing is begun and no gap is to be told: but for its count it is as a new one.
+    /// Whether nothing is begun and no gap is to be reported: but for its count it is as a new one.
     pub fn is_idle(&self) -> bool
         ensures { result ≡ is_idle self.now }
     {
@@ -166,7 +166,7 @@ impl Joiner {
         self.dropped = self.dropped.saturating_add(1);
     }
 
-    /// Whether a message may have so many octets.
+    /// Whether a message may have `count` octets.
     fn fits(&self, count: usize) -> bool
         ensures { result ≡ fits self.now.longest count }
     {

@@ -39,7 +39,7 @@ more_lines : (xs : List Entry) (e : Entry) → tells_refusal (xs ++ e ∷ []) �
 more_lines [] e = or_none (is_refusal (heard.heard e.told))
 more_lines (x ∷ xs) e = ap (λ (b : Bool). is_refusal (heard.heard x.told) || b) (more_lines xs e) ∙ sym (or_assoc (is_refusal (heard.heard x.told)) (tells_refusal xs) (is_refusal (heard.heard e.told)))
 
--- where a packet leaves, the world tells the number of its copy too, and neither is a refusal
+-- where a packet leaves, the world reports the number of its copy too, and neither is a refusal
 as_told : (copies : ℕ) (r : Told) → is_refusal (heard.heard (world_told copies r (effect_of r))) ≡ is_refusal (heard.heard r)
 as_told copies (report.Put link life) = refl
 as_told copies other = search

@@ -12,7 +12,7 @@ ghost use Rattle.dt_network.specs.Steps.{AreSteps};
 ghost use Rattle.dt_network.specs.Worked.{exchange, message};
 
 /// Two nodes keep the duties in seven steps: a message is sent, comes, is read and is acknowledged, and
-/// a route is added. So the premises of the laws can be met; what is read is the message, and its octets are told as acknowledged.
+/// a route is added. So the premises of the laws can be met; what is read is the message, and its octets are reported as acknowledged.
 pub fn exchange_keeps_the_duties()
     ensures steps { AreSteps two_ways exchange (new_network two_ways) }
     ensures duties { KeepsDuties two_ways exchange (new_network two_ways) }

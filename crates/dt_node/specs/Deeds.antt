@@ -1,4 +1,4 @@
--- What was done of a node's acts, and what was told of it.
+-- What was done of a node's acts, and what was reported of it.
 use Rattle.std.specs.Prelude.{◌≡◌, ℕ, ◌+◌, ◌≤◌, Bool, true, false, List, [], ◌∷◌, ◌++◌, length, map, take, IfSome, min, Option, Result, Ok, Err}
 use Rattle.std.specs.Io.KnownBytes.{Appends}
 use Rattle.dt_edges.specs.Counts.{HasRisen, is_planned, last_count, next_count}

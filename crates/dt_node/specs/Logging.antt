@@ -70,7 +70,7 @@ abbrev pub TellsIf : Bool → Told → LogSight → LogSight → Type 0
 TellsIf true told s t = t ≡ s
 TellsIf false told s t = (t.fixed ≡ s.fixed) × (t.gives ≡ s.gives) × (t.wire ≡ s.wire) × WroteBy t.failed (told_text s.fixed.form s.fixed told) s.out t.out
 
--- A report is told: its line is written, if it has one. After a line that couldn't be written nothing is done any more.
+-- A report is made: its line is written, if it has one. After a line that couldn't be written nothing is done any more.
 abbrev pub LogTells : LogSight → Told → LogSight → Type 0
 LogTells s told t = TellsIf s.failed told s t
 

@@ -69,7 +69,7 @@ CountsPauses Refused readings takes pauses = pauses ≡ takes
 CountsPauses WireFault readings takes pauses = ((readings ≡ 0) × (pauses ≡ 0)) ⊎ ((0 < readings) × (pauses ≡ takes + 1))
 CountsPauses WriteFault readings takes pauses = (pauses ≡ takes) ⊎ ((0 < readings) × (pauses ≡ takes + 1))
 
--- The wire was opened once. Where there was no reading, memory may have been wanted or a put may have failed before that.
+-- The wire was opened once. Where there was no reading, memory may have run out or a put may have failed before that.
 abbrev pub OpensOnce : NodeOutcome → (readings before after : ℕ) → Type 0
 OpensOnce Done readings before after = after ≡ next_count before
 OpensOnce ClockStill readings before after = after ≡ next_count before

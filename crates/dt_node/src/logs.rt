@@ -15,7 +15,7 @@ use dt_station::Visitor;
 use dt_trace::{Input, put_input};
 
 /// Writes a line for each report, where the form is that of a log, and gives each frame to the wire. A
-/// give that fails is a loss: a log tells it by an `unsent` line, and a trace by the number of the give.
+/// give that fails is a loss: a log reports it by an `unsent` line, and a trace by the number of the give.
 /// After a put that failed it writes and gives nothing more.
 #[derive(Drop)]
 pub struct Log<'w, 'o, W, K> {

@@ -109,7 +109,7 @@ impl Job {
 /// Where no open, take or put fails, and the clock reaches the stop before 100,000 turns running have
 /// the same moment, an accepted script ends with `Done` or `NoMemory`.
 ///
-/// A give that fails is a loss: an `unsent` line tells it, after the `put` line of the frame. The run
+/// A give that fails is a loss: an `unsent` line reports it, after the `put` line of the frame. The run
 /// ends after at most 100,000 turns for each ms up to the stop, and one.
 pub fn serve<W: Wire, C: Clock, K: Sink>(
     alloc: Global,

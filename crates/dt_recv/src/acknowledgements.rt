@@ -8,7 +8,7 @@ use dt_flow_model::{Arrived, RecvAct};
 use dt_layout::{Frame, Packet, write_frame};
 use dt_units::{Flow, Rules};
 
-/// What an acknowledgement tells.
+/// What an acknowledgement says.
 #[derive(Clone, Copy)]
 pub struct Acknowledgement {
     /// The number that is acknowledged, which the sender's next octet is to have.
@@ -43,7 +43,7 @@ impl Acknowledgement {
         }
     }
 
-    /// What is told of it as an act.
+    /// What is reported of it as an act.
     pub fn acknowledged(&self) -> RecvAct
         ensures { result ≡ Acked self.now.number self.now.window }
     {

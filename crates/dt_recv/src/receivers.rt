@@ -197,7 +197,7 @@ impl Receiver {
     /// changes.
     ///
     /// Where the read raises the free room of the queue to at least the lesser of `seg` and `rcap` from
-    /// below that, and a record stands that told less, an acknowledgement is due at once. The cost is
+    /// below that, and a record stands that advertised less, an acknowledgement is due at once. The cost is
     /// that of the octets.
     pub fn read<L: Ledger>(
         &mut self,
@@ -235,7 +235,7 @@ impl Receiver {
         records::due(self.standing, &self.rules, now)
     }
 
-    /// Does the act that is due at `now`, as [`Receiver::due`] tells it.
+    /// Does the act that is due at `now`, as [`Receiver::due`] says.
     ///
     /// - `Released`: the record goes with what it owes, and what is unread stays. The frame is as it
     ///   was.
@@ -321,7 +321,7 @@ impl Receiver {
         }
     }
 
-    /// What is told with this number: the free room of the queue beside it.
+    /// What is advertised with this number: the free room of the queue beside it.
     fn acknowledgement(&self, number: u32) -> Acknowledgement
         ensures told { result ≡ record { number = number; window = free_of self.now.rules self.now.state.unread } }
         ensures within { result.window ≤ self.now.rules.rcap }

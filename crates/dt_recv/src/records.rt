@@ -20,7 +20,7 @@ pub struct Record {
     pub touched: u64,
     /// The moment at which an acknowledgement that is owed goes out, or none.
     pub due: Option<u64>,
-    /// The window that was told last, in octets.
+    /// The window that was advertised last, in octets.
     pub told: u32,
 }
 
@@ -109,7 +109,7 @@ pub fn read(
 }
 
 impl Record {
-    /// Whether a read that raised the free room so opened the window far enough that it is worth telling.
+    /// Whether a read that raised the free room so opened the window far enough that it is worth advertising.
     fn is_opened(&self, rules: &Rules, before: u32, after: u32) -> bool
         ensures { result ≡ opens_window rules.now before after (receive_record_of self.now) }
     {

@@ -198,7 +198,7 @@ fn has_moments<L: Ledger>(
     receiver.moments(steps) == RecvMoments { release, ack } && receiver.wake(steps) == wake
 }
 
-// Whether an event goes as it tells.
+// Whether an event goes as it says.
 fn happens<L: Ledger>(
     receiver: &mut Receiver,
     now: u64,

@@ -26,6 +26,6 @@ module _ {T : Type 0} (parcel : Parcel T) (now : ℕ) where
   by_cause None relay = refl
   by_cause (Some link) relay = on_cause (to_of parcel.octets) link relay.outs
 
-  -- the answer is told by the queue to which the packet's route leads
+  -- the answer is known by the queue to which the packet's route leads
   pub enter_cause : (relay : Relay T) → (enter parcel now relay).0 ≡ entered_by (to_of parcel.octets) (way_to (to_of parcel.octets) relay)
   enter_cause relay = by_cause (route_to (to_of parcel.octets) relay.routes) relay

@@ -13,7 +13,7 @@ pub trait Carry: Drop {
 
     ghost label: { Self → Self.Tag };
 
-    /// The life in milliseconds that the octets tell. They must read as a Deltagram.
+    /// The life in milliseconds that the octets have. They must read as a Deltagram.
     fn life(&self) -> u32
         requires { IsGram (octets self.now) }
         ensures { result ≡ life_of (octets self.now) };
@@ -23,7 +23,7 @@ pub trait Carry: Drop {
         requires { IsGram (octets self.now) }
         ensures { result ≡ to_of (octets self.now) };
 
-    /// Makes the life less by so many milliseconds, and changes no other octet, nor the tag. The
+    /// Makes the life less by `by` milliseconds, and changes no other octet, nor the tag. The
     /// octets must read as a Deltagram with a life above that.
     fn lower(&mut self, by: u32)
         requires gram { IsGram (octets self.old) }

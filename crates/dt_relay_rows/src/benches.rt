@@ -96,7 +96,7 @@ impl Bench {
             && self.relay.leave_at(place, self.now).is_some() == wanted
     }
 
-    /// Whether a step is as it tells.
+    /// Whether a step is as it says.
     pub fn is_done(&mut self, rt: &impl Abort, step: Step) -> bool {
         match step {
             Step::GoesOn(life, to, wanted) => self.goes_on(life, to, wanted),

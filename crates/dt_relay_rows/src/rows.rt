@@ -6,7 +6,7 @@ use dt_relay::{Entered, Passage, Relay};
 use std::process::Abort;
 use std::test::Fail;
 
-/// Each step is as it tells.
+/// Each step is as it says.
 fn are_done(rt: &impl Abort, bench: &mut Bench, steps: &[Step]) {
     for (number, step) in steps.iter().enumerate() {
         let is = bench.is_done(rt, *step);

@@ -38,7 +38,7 @@ simulates_world = record { form = Schedule; starts = λ w. w; does = does; close
 unfoldable pub replayed : List ℕ → Folded (Scene World)
 replayed octets = fold_input (scenario_turns simulates_world) Empty octets
 
--- its log: the texts of all that is told
+-- its log: the texts of all that is reported
 abbrev pub replay_text : List ℕ → List ℕ
 replay_text octets = (replayed octets).text
 

@@ -178,7 +178,7 @@ record FoldPasses (book : Book FlowLog) (text : List ℕ) : Type 0 where
   passes : FactsPass (map fact_told told) book next
   written : AreWritten told
 
--- what is told of a refused line says nothing of octets and lives
+-- what is reported of a refused line says nothing of octets and lives
 refused_passes : (number : ℕ) (book : Book FlowLog) (scene : Scene World) (fault : Fault) → FoldPasses book (refused number scene fault).text
 refused_passes number book scene fault =
     record {

@@ -1,4 +1,4 @@
--- Entries of a log: when something was told, by which node, and what.
+-- Entries of a log: when something was reported, by which node, and what.
 use Rattle.std.specs.Prelude.{ℕ, Option}
 use Rattle.dt_reports.specs.declared.log_lines.LogLine.{LogLine}
 use Rattle.dt_reports.specs.Told.{Told, told}

@@ -13,7 +13,7 @@ pub struct Totals {
     pub acked: u64,
     /// Those of them that were given up.
     pub uncertain: u64,
-    /// Those of them that are neither: nothing was told of them yet.
+    /// Those of them that are neither: nothing was reported of them yet.
     pub unsettled: u64,
     /// Those that were put into the unread queue of the receiver.
     pub given: u64,

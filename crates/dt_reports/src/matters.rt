@@ -6,7 +6,7 @@ use dt_units::Flow;
 /// milliseconds.
 #[derive(Clone, Copy, Debug, PartialEq, Eq)]
 pub enum Matter<'a> {
-    /// So many octets of a send were taken.
+    /// `count` octets of a send were taken.
     Taken {
         flow: Flow,
         count: u32,
@@ -26,12 +26,12 @@ pub enum Matter<'a> {
     Retransmitted {
         flow: Flow,
     },
-    /// So many octets were given up.
+    /// `count` octets were given up.
     GivenUp {
         flow: Flow,
         count: u32,
     },
-    /// So many octets were acknowledged.
+    /// `count` octets were acknowledged.
     Acknowledged {
         flow: Flow,
         count: u32,

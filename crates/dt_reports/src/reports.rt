@@ -1,4 +1,4 @@
-//! What is told in the log, and what each report says of octets, packets and lives: one row a report.
+//! What is reported in the log, and what each report says of octets, packets and lives: one row a report.
 ghost use Rattle.std.specs.Prelude.{◌≡◌};
 ghost use Rattle.dt_reports.specs.Matters.{matter_of, matter_seen};
 ghost use Rattle.dt_reports.specs.Told.{told, without_octets};
@@ -8,7 +8,7 @@ use crate::matters::Matter;
 use dt_layout::LayoutFault;
 use dt_units::Flow;
 
-/// What is told in the log. Counts, lengths and windows are octets.
+/// What is reported in the log. Counts, lengths and windows are octets.
 #[derive(Clone, Copy, Debug, PartialEq, Eq)]
 pub enum Report<'a> {
     /// A send was taken.
@@ -83,7 +83,7 @@ pub enum Report<'a> {
         flow: Flow,
         number: u32,
     },
-    /// A closing packet tells that no more data of its run follows. The number is the one after the
+    /// A closing packet says that no more data of its run follows. The number is the one after the
     /// run's last octet.
     Closing {
         flow: Flow,
@@ -122,7 +122,7 @@ pub enum Report<'a> {
         link: u16,
         life: u32,
     },
-    /// The same in the world, which numbers the copies and tells this in place of `Put`.
+    /// The same in the world, which numbers the copies and reports this in place of `Put`.
     PutAs {
         link: u16,
         life: u32,

@@ -52,6 +52,6 @@ abbrev pub RetracesBy : (lines : ℕ) → Option (List (List ℕ) × List (List 
 RetracesBy lines None outcome before after = RefusesWith outcome (refused_text (lines + 1) Order) before after
 RetracesBy lines (Some (script, trace)) outcome before after = RerunsBy (length script + 1) (text_of script) (read_from 1 nothing trace) outcome before after
 
--- An input without a line `trace` is refused after its last line; then the trace's lines are tested, and then the script's. Memory may be wanted with any.
+-- An input without a line `trace` is refused after its last line; then the trace's lines are tested, and then the script's. Memory may run out with any.
 abbrev pub Retraces : List ℕ → NodeOutcome → SinkSight → SinkSight → Type 0
 Retraces octets outcome before after = RetracesBy (length (lines_of octets)) (cut_lines (lines_of octets)) outcome before after ⊎ Wants outcome before after

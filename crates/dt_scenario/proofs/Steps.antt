@@ -50,7 +50,7 @@ module _ {K E S : Type 0} (sight : K → SinkSight) (text : E → List ℕ) (Tol
       let said : Says turn (Ok (Some (faults.Step f))) = (is, same, ap (λ (r : Log K). sight r.out.now) lines) in
       subst (λ (b : Bool). Says turn (stepped (Err f) b)) (sym still) (subst (λ (a : Result (Option Fault) Stop). Says turn a) (sym shape) said)
 
-  -- it found no memory, and first lines were told
+  -- it found no memory, and first lines were reported
   pub stopped_says : (part rest : List E) (then : S) → turn ≡ turned_to (flat_map text (part ++ rest)) then → Told part s t → Says turn (stepped (Err fault.NoMemory) t.failed)
   stopped_says part rest then is lines =
       subst (λ (r : Result (Turned S) Fault). Says r (stepped (Err fault.NoMemory) t.failed)) (sym (is ∙ ap (λ (l : List ℕ). turned_to l then) (flat_map-append text part rest)))

@@ -51,7 +51,7 @@ added (Err (setup_fault.Twice n)) = Ok (Some (faults.Setup (setup_fault.Twice n)
 added (Err (setup_fault.Unknown n)) = Ok (Some (faults.Setup (setup_fault.Unknown n)))
 added (Err (setup_fault.Stray n)) = Ok (Some (faults.Setup (setup_fault.Stray n)))
 
--- A line of which nothing is logged: it leads to the state that the turn says, or is refused and changes nothing. Where memory is wanted nothing more is said.
+-- A line of which nothing is logged: it leads to the state that the turn says, or is refused and changes nothing. Where memory runs out nothing more is said.
 abbrev pub LeadsTo : {S : Type 0} → Result (Turned S) Fault → Result (Option Fault) NoMemory → S → S → Type 0
 LeadsTo turn (Ok None) before after = IsOkAnd turn (λ t. (t.state ≡ after) × (t.text ≡ []))
 LeadsTo turn (Ok (Some fault)) before after = (turn ≡ Err fault) × (after ≡ before)

@@ -76,7 +76,7 @@ adds scene call = in_setup scene (λ setup. by_setup (setup_call setup call))
 abbrev pub goes : {S : Type 0} → Simulates S → Scene S → Result (Turned (Scene S)) Fault
 goes sim scene = in_setup scene (λ setup. to_scene (Runs (sim.starts (new_world setup))))
 
--- BEHIND `go`: what a line makes happen
+-- AFTER `go`: what a line makes happen
 abbrev pub by_run : {S : Type 0} → Result (Turned S) Fault → Result (Turned (Scene S)) Fault
 by_run (Ok turned) = Ok (record { text = turned.text; state = Runs turned.state })
 by_run (Err fault) = Err fault

@@ -1,5 +1,5 @@
 //! An input that sets up a world, and then simulates something in it line by line: the lines of the
-//! setup, `go`, and who logs what is told after it.
+//! setup, `go`, and who logs what is reported after it.
 #![tactic(auto)]
 
 mod logs;

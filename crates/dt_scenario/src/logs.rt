@@ -1,4 +1,4 @@
-//! Who is told lines and logs them, and what a step says of its line.
+//! Who receives lines and logs them, and what a step says of its line.
 ghost use Rattle.std.specs.Prelude.{◌≡◌};
 ghost use Rattle.dt_scenario.specs.Parts.{stepped};
 
@@ -28,8 +28,8 @@ impl<'a, K: Sink> Lines for Log<'a, K> {
     }
 }
 
-/// What a step says of its line. Where a put failed that is what is answered, also where memory was
-/// wanted after it.
+/// What a step says of its line. Where a put failed that is what is answered, also where memory ran
+/// out after it.
 pub fn stepped(answer: Result<(), StepFault>, failed: bool) -> Result<Option<Fault>, Stop>
     ensures { result ≡ stepped answer failed }
 {

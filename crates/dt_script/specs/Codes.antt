@@ -47,7 +47,7 @@ draft_seen (part.Preparing setup) = Prepares (setup_seen setup)
 draft_seen (part.Collecting setup commands last) = Collects (setup_seen setup) (map command_seen commands.items) last
 draft_seen (part.Complete orders) = Complete (orders_seen orders)
 
--- A line leads to the draft that its turn says, or is refused and changes nothing. Where memory is wanted nothing more is said.
+-- A line leads to the draft that its turn says, or is refused and changes nothing. Where memory runs out nothing more is said.
 abbrev pub LeadsTo : Result (Turned Draft) Fault → Result (Option Fault) NoMemory → Draft → Draft → Type 0
 LeadsTo turn (Ok None) before after = IsOkAnd turn (λ t. (t.state ≡ after) × (t.text ≡ []))
 LeadsTo turn (Ok (Some fault)) before after = (turn ≡ Err fault) × (after ≡ before)

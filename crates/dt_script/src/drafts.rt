@@ -264,7 +264,7 @@ fn add_route(part: &mut Part, route: Route) -> Result<Option<Fault>, NoMemory>
     }
 }
 
-/// A shelf for so many packets. There is one at most.
+/// A shelf for `room` packets. There is one at most.
 fn add_shelf(part: &mut Part, room: u32) -> Option<Fault>
     ensures { LeadsTo (in_setup (draft_seen part.old) (by_shelf room)) (Ok result) (draft_seen part.old) (draft_seen part.new) }
 {

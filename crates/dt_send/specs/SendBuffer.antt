@@ -58,7 +58,7 @@ pub record IsChosen (p : Params) (now : ℕ) (x : SendRecord) (kind : SendKind) 
   pub chosen : act_of p now x ≡ Some act
   pub of_kind : kind_of act ≡ kind
 
--- The act that is chosen at now was done: what is told of it, the frame that it makes or else the one that was there, and the record after it or, where it was released, as it was.
+-- The act that is chosen at now was done: what is reported of it, the frame that it makes or else the one that was there, and the record after it or, where it was released, as it was.
 pub record Acts (p : Params) (f : Flow) (now : ℕ) (x : SendRecord) (told : SendAct) (after : SendRecord) (was frame : List ℕ) : Type 0 where
   pub told_is : IfSome (act_of p now x) (λ act. told ≡ told_of p x act)
   pub frame_is : IfSome (act_of p now x) (λ act. frame ≡ unwrap_or (frame_of_act p f x act) was)

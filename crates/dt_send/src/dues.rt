@@ -1,4 +1,4 @@
-//! Which kind of act is due, told by the moments of all kinds.
+//! Which kind of act is due, known by the moments of all kinds.
 ghost use Rattle.std.specs.Prelude.{◌≡◌};
 ghost use Rattle.dt_flow_model.specs.SendActs.{least_moment};
 ghost use Rattle.dt_send.specs.Senders.{due_if, first_due};

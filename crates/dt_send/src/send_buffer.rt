@@ -246,7 +246,7 @@ impl SendBuffer {
         self.left = end;
     }
 
-    /// Takes an acknowledgement with this number and this window, and tells how many octets it
+    /// Takes an acknowledgement with this number and this window, and says how many octets it
     /// acknowledges. None says that it changes nothing.
     pub fn on_ack(&mut self, rules: &Rules, number: u32, window: u32) -> Option<u32>
         requires rings { IsSendBuffer rules.now self.old }
@@ -490,7 +490,7 @@ impl SendBuffer {
     }
 }
 
-/// The one of two segments, each told by its place and its last transmission, that goes out again
+/// The one of two segments, each known by its place and its last transmission, that goes out again
 /// first: the one that went out longest ago, or else the first of the two.
 fn earlier_of(place: (usize, u64), other: Option<(usize, u64)>) -> Option<(usize, u64)>
     ensures { result ≡ earlier_place place other }

@@ -71,7 +71,7 @@ impl Sender {
 
     /// Puts octets after those that wait: the first gets the begin mark and the last the end mark,
     /// where they are asked for. `Full` comes exactly where more than `cap` octets would be held; it
-    /// tells how many more are taken, and the record is as it was. The cost is that of the octets, and
+    /// says how many more are taken, and the record is as it was. The cost is that of the octets, and
     /// no memory is taken.
     pub fn put<L: Ledger>(
         &mut self,
@@ -126,7 +126,7 @@ impl Sender {
         due_first(now, &self.buffer.moments(&self.rules, now))
     }
 
-    /// Does the act that is due at now; [`Sender::due`] tells whether there is one. `Resent`, `Sent`
+    /// Does the act that is due at now; [`Sender::due`] says whether there is one. `Resent`, `Sent`
     /// and `Met` leave their packet in the frame, with the life `mpl`; the other acts leave the frame
     /// alone. After `Released` the record is as it was, and is used no more. The cost is that of the
     /// outstanding segments and of the octets that go out.

@@ -12,7 +12,7 @@ fn packet_head(kind: u8, flags: u8, number: [u8; 4]) -> [u8; 14] {
     [kind, flags, 0, 10, 0, 20, a, b, c, d, 0, 0, 0, 0]
 }
 
-/// Whether a mark of a packet is told as the log tells it: `d` data-run flag, `b` begin, `e` end.
+/// Whether a mark of a packet is written as the log writes it: `d` data-run flag, `b` begin, `e` end.
 pub fn has(marks: &[u8], mark: u8) -> bool {
     marks.contains(&mark)
 }

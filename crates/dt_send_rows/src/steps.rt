@@ -88,7 +88,7 @@ fn has_ring(sender: &Sender, len: usize, capacity: usize) -> bool {
     ring.len() == len && ring.capacity() == capacity
 }
 
-/// Whether the act that a step tells is done as it tells.
+/// Whether the act that a step says is done as it says.
 fn is_act<L: Ledger>(
     sender: &mut Sender,
     now: u64,
@@ -115,7 +115,7 @@ fn is_act<L: Ledger>(
     acts(sender, now, (kind, due), act, frame, steps)
 }
 
-/// Whether what a step tells of the sender or the frame is so.
+/// Whether what a step says of the sender or the frame is so.
 fn is_seen<L: Ledger>(
     sender: &Sender,
     now: u64,
@@ -155,7 +155,7 @@ fn puts<L: Ledger>(
     sender.put(octets, true, true, steps) == answer
 }
 
-/// Whether a step is as it tells.
+/// Whether a step is as it says.
 pub fn is_done<L: Ledger>(
     sender: &mut Sender,
     taken: &mut u64,

@@ -17,7 +17,7 @@ use Rattle.dt_service_model.specs.Stopping.{ArriveStops, CallStops, Closed, Forg
 use Rattle.dt_service_model.specs.Turns.{Node}
 use Rattle.dt_service.specs.Nodes.{Ends}
 
--- A CALL. Where there was no memory its request may have been made before that, and then its end is told too
+-- A CALL. Where there was no memory its request may have been made before that, and then its end is reported too
 pub record Calls (answer : Made) (now : ℕ) (flow : Flow) (payload : List ℕ) (patience : ℕ) (n m : Node) : Type 0 where
   pub ends : Ends answer made.NoMemory m (call now flow payload patience n) (Closed (CallStops now flow payload patience n) m)
 

@@ -27,7 +27,7 @@ pub struct Parts {
 }
 
 impl Parts {
-    /// What the endpoint has told is heard, and waits no more.
+    /// What the endpoint has reported is heard, and waits no more.
     pub fn hear_reports(&mut self) -> Result<(), NoMemory>
         ensures heard { OnOk result (node_in self.new ≡ hears (node_in self.old)) }
         ensures room { self.new.room.value ≡ self.old.room.value }
@@ -66,7 +66,7 @@ impl Parts {
         Ok(true)
     }
 
-    /// Reads a flow so many times, or until nothing is there or it may be read no more.
+    /// Reads a flow `most` times, or until nothing is there or it may be read no more.
     fn read_times(&mut self, most: u32, now: u64, flow: &Flow) -> Result<(), NoMemory>
         ensures read { OnOk result (node_in self.new ≡ read_times most now flow.now (node_in self.old)) }
         ensures stops { OnErr result (FlowStops now flow.now (node_in self.old) (node_in self.new)) }

@@ -13,7 +13,7 @@ use dt_units::Flow;
 /// So many octets are read at once, at most.
 pub const ROOM: usize = 65_536;
 
-/// A piece that was read: so many octets at the head of the buffer.
+/// A piece that was read: `len` octets at the head of the buffer.
 #[derive(Clone, Copy)]
 pub struct Found {
     pub marks: Marks,

@@ -34,10 +34,10 @@ pub struct Start {
 /// that it was handed.
 ///
 /// Each call that is a turn is an event of the endpoint, or none, and then its end: what is unread is read,
-/// replies and requests are told, and calls are judged. Moments and frames are as the endpoint has them.
+/// replies and requests are reported, and calls are judged. Moments and frames are as the endpoint has them.
 /// What happens waits until [`Service::next`] takes it.
 ///
-/// After a call that found no memory the node is closed: no turn is done any more. What was told can be
+/// After a call that found no memory the node is closed: no turn is done any more. What was reported can be
 /// taken, and after it that each call that waited is unsure.
 #[derive(Drop)]
 pub struct Service {
@@ -156,7 +156,7 @@ impl Service {
         }
     }
 
-    /// What was told first of all that wasn't taken: a request, or how a call ended. It is taken with this.
+    /// What was reported first of all that wasn't taken: a request, or how a call ended. It is taken with this.
     /// It is no turn. Once all is taken, a closed node hands out that each call that waited is unsure.
     pub fn next(&mut self) -> Option<Happening>
         ensures first { result ≡ (next self.old.halves).0 }
@@ -199,7 +199,7 @@ impl Service {
         earlier(self.parts.endpoint.wake(), self.parts.halves.deadline())
     }
 
-    /// The node closes: each call that waits is unsure, and what else isn't told is forgotten. It takes no
+    /// The node closes: each call that waits is unsure, and what else isn't reported is forgotten. It takes no
     /// memory.
     pub fn close(&mut self)
         ensures { self.new ≡ with_halves close self.old }

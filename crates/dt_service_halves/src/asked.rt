@@ -183,7 +183,7 @@ impl Halves {
         self.closed
     }
 
-    /// What was told first of all that wasn't taken. It is taken with this. Once all is, a closed node
+    /// What was reported first of all that wasn't taken. It is taken with this. Once all is, a closed node
     /// hands out that each call that waited is unsure.
     pub fn next_happening(&mut self) -> Option<Happening>
         ensures first { result ≡ (next self.old).0 }

@@ -55,7 +55,7 @@ fn drop_ended(calls: &mut Vec<Call>)
     calls.retain(|call| is_kept(call));
 }
 
-/// The calls that are unsure at a moment are told so. There is room for them.
+/// The calls that are unsure at a moment are reported so. There is room for them.
 fn tell_unsure(now: u64, calls: &[Call], happenings: &mut VecDeque<Happening>)
     requires { deque_len happenings.old + length calls.now ≤ deque_capacity happenings.old }
     ensures { happenings.new.items ≡ happenings.old.items ++ filter_map (unsure_of now) calls.now }
@@ -68,7 +68,7 @@ fn tell_unsure(now: u64, calls: &[Call], happenings: &mut VecDeque<Happening>)
     }
 }
 
-/// Each call is judged at a moment: those that are unsure are told, and what has come to its end is kept
+/// Each call is judged at a moment: those that are unsure are reported, and what has come to its end is kept
 /// no more. `NoMemory` leaves all as it was. The cost is a look at each call.
 pub fn judge(
     now: u64,

@@ -13,7 +13,7 @@ use Rattle.dt_service_laws.specs.Histories.{Message, at_the, calls_on, count_of,
 use Rattle.dt_service_laws.specs.Services.{Services, Turn, services_by}
 use Rattle.dt_service_laws.specs.Tie.{AreSentOf, TakesCallsAlone}
 
--- THE CALLS OF A NODE, each by its name: each that was made has one end that was told, or waits, or was lost with its program. Those are all of them, and only of one that found no memory it isn't known whether it was made: if it was, it has its end
+-- THE CALLS OF A NODE, each by its name: each that was made has one end that was reported, or waits, or was lost with its program. Those are all of them, and only of one that found no memory it isn't known whether it was made: if it was, it has its end
 pub record AreAccounted (setup : Setup) (n : ℕ) (turns : List Turn) (s : Services) : Type 0 where
   pub made : List Message
   pub are : AreSentOf (at_the n (λ m. all_by)) setup turns s made
@@ -28,7 +28,7 @@ pub record HasOneFate (setup : Setup) (f : Flow) (turns : List Turn) (s : Servic
   -- it is made once at most; a call that is declined or refused is none, and no octet is taken of the flow but of calls that were made
   pub made : count_of name (calls_at f.from.0 setup turns s) ≤ 1
   pub taken : TakesCallsAlone setup f turns s
-  -- where it was made it has one end that was told, or waits, or was lost with its program
+  -- where it was made it has one end that was reported, or waits, or was lost with its program
   pub accounts : AreAccounted setup f.from.0 turns s
   -- where it is answered, its service gave that answer to it
   pub answered : (answer : List ℕ) → Contains (told_at f.from.0 setup turns s) (Answered name answer) → 0 < count_of name (calls_on f setup turns s) → Contains (replies_on f setup turns s) (record { number = name; carried = answer })

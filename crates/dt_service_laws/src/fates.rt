@@ -20,8 +20,8 @@ use crate::requests::{
 
 /// EACH CALL ENDS ONCE. Where programs keep their duties, whichever turns find no memory, and however often
 /// nodes open again: of the calls that were made at a node each has, by its number, one end that the node
-/// told, or waits there, or was lost with its program, to whom nothing is told any more. Only of a call
-/// that found no memory it isn't known whether it was made; if it was, its end is told in that turn. Where
+/// reported, or waits there, or was lost with its program, to whom nothing is reported any more. Only of a call
+/// that found no memory it isn't known whether it was made; if it was, its end is reported in that turn. Where
 /// the lives of a node differ one call at most has a number: so it ends once at most, and what has ended
 /// neither waits nor ends again.
 pub fn calls_end_once()
@@ -31,9 +31,9 @@ pub fn calls_end_once()
 {}
 
 /// CALLS ARE UNSURE FOR THEIR CAUSES ALONE. Where programs keep their duties, however often nodes open again:
-/// where a turn tells a call unsure, an octet of its request was given up within that turn, as its node
+/// where a turn reports a call unsure, an octet of its request was given up within that turn, as its node
 /// heard; or it waited still and its deadline had come; or its node closed, as it does where a turn finds no
-/// memory. And each cause ends a call: one of whose request an octet is given up within a turn is told
+/// memory. And each cause ends a call: one of whose request an octet is given up within a turn is reported
 /// unsure in it unless it is answered there, none waits after a turn whose deadline has come, and none at
 /// a node that is closed.
 pub fn calls_are_unsure_for_their_causes()

@@ -32,7 +32,7 @@ fates_wait n given_up f count (call ∷ calls) =
     (ap (λ (k : ℕ). one_if (waits_with n call) + k) (fates_wait n given_up f (count - call.left) calls))
     (ap (λ (k : ℕ). one_if (waits_with n call) + k) (fates_wait n given_up f count calls))
 
--- A CALL IS JUDGED: it waits on, or its end is told
+-- A CALL IS JUDGED: it waits on, or its end is reported
 kept_if : (n : CallNumber) (call : Call) (w l : Bool) (calls : List Call) (k : ℕ) → waits_in n calls ≡ k
     → waits_in n (cond (w || l) (record call { waits = w } ∷ calls) calls) ≡ one_if (w && same_number call.number n) + k
 kept_if n call true l calls k e = ap (λ (m : ℕ). one_if (same_number call.number n) + m) e
@@ -43,7 +43,7 @@ kept_waits : (n : CallNumber) (calls : List Call) → waits_in n (filter is_kept
 kept_waits n [] = refl
 kept_waits n (call ∷ calls) = kept_if n call call.waits (nat_lt 0 call.left) (filter is_kept calls) (waits_in n calls) (kept_waits n calls)
 
--- what is told of one call, by whether it waits and its cause
+-- what is reported of one call, by whether it waits and its cause
 counted_as : (same w : Bool) → Option Cause → ℕ
 counted_as same w None = one_if (w && same)
 counted_as same w (Some cause) = one_if same

@@ -1,4 +1,4 @@
--- How often a number stands among the calls that wait and the ends that were told.
+-- How often a number stands among the calls that wait and the ends that were reported.
 use Rattle.std.specs.Prelude.{ℕ, ◌+◌, ◌&&◌, Bool, false, is_some, List}
 use Rattle.dt_world_model.specs.Host.{one_if}
 use Rattle.dt_world_model.specs.Tables.{total}

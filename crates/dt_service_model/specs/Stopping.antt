@@ -89,7 +89,7 @@ pub record Closed (Stops : Node → Type 0) (m : Node) : Type 0 where
   pub stops : Stops stopped
   pub closed : m ≡ with_halves close stopped
 
--- A FIRST PART OF A TURN: frames that left and happenings that were told stay, and others may stand after them. Each number has its account: where a call was made in it, one more
+-- A FIRST PART OF A TURN: frames that left and happenings that were reported stay, and others may stand after them. Each number has its account: where a call was made in it, one more
 pub record EndpointGoesOn (e f : EndpointValue) : Type 0 where
   pub rules : f.rules ≡ e.rules
   pub more : List OutFrameValue

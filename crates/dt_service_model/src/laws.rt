@@ -12,7 +12,7 @@ ghost use Rattle.dt_service_model.specs.Halves.{Halves};
 ghost use Rattle.dt_service_model.specs.Stopping.{ArriveStops, CallStops, ForgetStops, GoesOn, ReplyStops, TickStops};
 ghost use Rattle.dt_service_model.specs.Turns.{Node, turn, turn_end};
 
-/// A call that waits goes on waiting or has one end told, never more and never none: no turn changes the
+/// A call that waits goes on waiting or has one end reported, never more and never none: no turn changes the
 /// account of a number, whatever its event is and whatever is heard, read and judged in it, and neither does
 /// the end of a turn without an event. A call adds one to that of its number where it is made, and nothing
 /// where it is declined or refused.
@@ -29,7 +29,7 @@ pub fn no_cause_is_left()
 {}
 
 /// A turn that finds no memory is a first part of it, wherever it stops: frames that had left and happenings
-/// that were told stay, and each number has its account. A call may have been made before that, and then its
+/// that were reported stay, and each number has its account. A call may have been made before that, and then its
 /// number has one more. The close that follows keeps each account too, so that a call that waited ends once.
 pub fn turn_that_stops_is_a_first_part()
     ensures call { (now : ℕ) (f : Flow) (payload : List ℕ) (patience : ℕ) (n m : Node) → CallStops now f payload patience n m → (made : Bool) × GoesOn made n m }

@@ -102,7 +102,7 @@ fn first_of(octets: &[u8]) -> u8 {
     octets.first().copied().unwrap_or(0)
 }
 
-/// What a service tells next.
+/// What a service reports next.
 fn next(service: &mut Service) -> Told {
     match service.next() {
         None => Told::Nothing,
@@ -281,7 +281,7 @@ fn a_request_is_forgotten(rt: HostRuntime) -> Result<(), NoMemory> {
     Ok(())
 }
 
-/// Whether the service is closed for want of memory: each call that waited is told so, and none else.
+/// Whether the service is closed for want of memory: each call that waited is reported so, and none else.
 fn is_spent(client: &mut Service, waits: bool) -> bool {
     let unsure = Told::Unsure {
         count: 0,

@@ -35,7 +35,7 @@ impl Model for Shelf {
 }
 
 impl Shelf {
-    /// An empty shelf for so many packets. Takes their room, 8,264 octets for each; `NoMemory` where
+    /// An empty shelf for `room` packets. Takes their room, 8,264 octets for each; `NoMemory` where
     /// there is none. No later call takes memory.
     pub fn with_room(alloc: Global, room: u32) -> Result<Shelf, NoMemory>
         ensures { IfOk result (λ shelf. shelf ≡ empty_shelf room) }
@@ -107,7 +107,7 @@ fn is_of(held: &Held, flow: &Flow, number: u32) -> bool
     held.flow == *flow && held.number == number
 }
 
-/// The life that a frame tells, in ms.
+/// The life that a frame has, in ms.
 fn life(frame: &Frame) -> u32
     requires { IsGram frame.now }
     ensures { result ≡ life_of frame.now }

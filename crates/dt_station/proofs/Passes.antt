@@ -103,7 +103,7 @@ module _ {V T : Type 0} (tells : V → Told → V → Type 0) (tags : V → Host
       (ends_with tells tags hands fails (pass_on (record { octets = octets; tag = tag }) now relay) (station_with host) m w new (station_with host new) result
       (subst (λ (p : Parcel T). Concludes tells tags hands fails result (pass_on p now relay) m w new) parcel h) refl)
 
-  -- what leaves at once is told and handed out
+  -- what leaves at once is reported and handed out
   pub ends_at_once : {U E : Type 0} (r : Told) (link : ℕ) (given left : Parcel T) (v m w : V) (b : Relay T) (result : Result U E) → tells v r m → given ≡ left → OnOk result (hands m link given w) → OnErr result (fails m w) →
       Concludes tells tags hands fails result (Tell r (Hand link left (Done b))) v w b
   ends_at_once r link given left v m w b (Ok done) told same handed failed = (m, told, (w, subst (λ (p : Parcel T). hands m link p w) same handed, (refl, refl)))

@@ -5,7 +5,7 @@ use Rattle.dt_reports.specs.declared.reports.Report.TheVariants as report
 use Rattle.dt_world_model.specs.Relay.{Expired, Goes, Left, Out}
 use Rattle.dt_world_model.specs.Script.{Done, Hand, Script, Tell}
 
--- It is told, and handed out after its report; then these queues are left.
+-- It is reported, and handed out after its report; then these queues are left.
 abbrev pub let_out : {T : Type 0} → ℕ → Option (Left T) × List (Out T) → Script T (List (Out T))
 let_out link (None, outs) = Done outs
 let_out link (Some Expired, outs) = Tell (report.ExpiredOut link) (Done outs)

@@ -30,7 +30,7 @@ pub(crate) struct Arrival<'f, T> {
 }
 
 impl<P: Carry> Station<P> {
-    /// A packet comes. It is admitted first, and told where it isn't.
+    /// A packet comes. It is admitted first, and reported where it isn't.
     pub(crate) fn receive<V: Visitor<P>, L: Ledger>(
         &mut self,
         came: Arrival<'_, P::Tag>,
@@ -71,7 +71,7 @@ impl<P: Carry> Station<P> {
     }
 
     /// A packet for this node is read and given to the host, and its reply goes off. Octets that don't
-    /// read are told.
+    /// read are reported.
     fn deliver<V: Visitor<P>, L: Ledger>(
         &mut self,
         gram: &Deltagram<'_>,

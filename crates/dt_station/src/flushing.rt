@@ -11,7 +11,7 @@ use dt_items::NoMemory;
 use dt_relay::{Carry, Left, Reading, Relay};
 use dt_reports::Report;
 
-/// Lets the first that may leave on the out link at a place leave: it is told, and handed out after its
+/// Lets the first that may leave on the out link at a place leave: it is reported, and handed out after its
 /// report. It stands apart, so that only where something leaves a packet is among the locals.
 #[inline(never)]
 fn let_out<P: Carry, V: Visitor<P>>(
@@ -45,7 +45,7 @@ fn let_out<P: Carry, V: Visitor<P>>(
     }
 }
 
-/// Lets packets leave on the out link at a place until none does. Each is told, and handed out after its
+/// Lets packets leave on the out link at a place until none does. Each is reported, and handed out after its
 /// report.
 pub(crate) fn flush<P: Carry, V: Visitor<P>>(
     relay: &mut Relay<P>,

@@ -126,8 +126,8 @@ impl<P: Carry> Station<P> {
         }
     }
 
-    /// Octets are sent, and it is told whether they were taken. Want of memory is no refusal: nothing is
-    /// told.
+    /// Octets are sent, and it is reported whether they were taken. Want of memory is no refusal: nothing is
+    /// reported.
     fn send<V: Visitor<P>, L: Ledger>(
         &mut self,
         sent: &Sent<'_>,
@@ -169,7 +169,7 @@ impl<P: Carry> Station<P> {
         }
     }
 
-    /// Unread octets are read into the buffer and told, or that there are none.
+    /// Unread octets are read into the buffer and reported, or that there are none.
     fn read<V: Visitor<P>, L: Ledger>(
         &mut self,
         flow: &Flow,

@@ -15,7 +15,7 @@ use dt_relay::{Carry, Entered, Passage, Reading, Relay};
 use dt_reports::Report;
 
 /// A packet whose octets are in the frame is passed on: it goes straight on from there, or enters the
-/// relay and its link is flushed. One that can't be passed on is told.
+/// relay and its link is flushed. One that can't be passed on is reported.
 pub(crate) fn pass_on<P: Carry, V: Visitor<P>>(
     relay: &mut Relay<P>,
     frame: &mut Frame,
@@ -74,7 +74,7 @@ fn wait<P: Carry, V: Visitor<P>>(
     line_up(relay, P::make(frame, tag), now, visitor)
 }
 
-/// A packet enters the relay, and its link is flushed. One that doesn't enter is told.
+/// A packet enters the relay, and its link is flushed. One that doesn't enter is reported.
 fn line_up<P: Carry, V: Visitor<P>>(
     relay: &mut Relay<P>,
     packet: P,

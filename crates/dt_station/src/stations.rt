@@ -87,19 +87,19 @@ impl<P: Carry> Station<P> {
 
     /// Settles, does the event at `now`, and settles again.
     ///
-    /// 1. To flush a link is to let packets leave it until none does. Each is told, and handed to the
-    ///    visitor after its report; one that has expired is told.
+    /// 1. To flush a link is to let packets leave it until none does. Each is reported, and handed to the
+    ///    visitor after its report; one that has expired is reported.
     /// 2. To settle is to flush each out link, in their order, and then to do the acts of the host until
-    ///    none is due. Each act is told; then the frame that it made, if it made one, is tagged by the
-    ///    visitor, enters the relay, and its link is flushed. One that doesn't enter is told.
-    /// 3. Octets to send are given to the host, and it is told whether it took them.
-    /// 4. Octets that are read are told, with at most as many as `buf` holds. They stand at its head
+    ///    none is due. Each act is reported; then the frame that it made, if it made one, is tagged by the
+    ///    visitor, enters the relay, and its link is flushed. One that doesn't enter is reported.
+    /// 3. Octets to send are given to the host, and it is reported whether it took them.
+    /// 4. Octets that are read are reported, with at most as many as `buf` holds. They stand at its head
     ///    afterwards, and after them what stood there. Only a read needs room there, and only a read
     ///    writes to it.
-    /// 5. A packet that comes pays the charge of its link first; where it can't, that is told.
+    /// 5. A packet that comes pays the charge of its link first; where it can't, that is reported.
     /// 6. One that isn't for this node enters the relay, and its link is flushed. It keeps its tag.
-    /// 7. One for this node is read and given to the host; the answer is told, and a reply goes as the
-    ///    frame of an act does. Octets that don't read are told, and change nothing.
+    /// 7. One for this node is read and given to the host; the answer is reported, and a reply goes as the
+    ///    frame of an act does. Octets that don't read are reported, and change nothing.
     ///
     /// What the visitor is told, asked and handed, and the station after it, is in this order that of
     /// the definition `station_event`. After `NoMemory` it was told, asked and handed a first part of
@@ -229,7 +229,7 @@ impl<P: Carry> Station<P> {
     }
 
     /// The least moment at which an act of the host is due or a packet may leave, or none where there
-    /// is no such moment. A tick before it tells nothing, hands out nothing and changes no record and no
+    /// is no such moment. A tick before it reports nothing, hands out nothing and changes no record and no
     /// queue. It looks at no record, goes over the out links, and takes no memory.
     pub fn wake(&self) -> Option<u64>
         ensures { result ≡ station_wake self.now.rules self.now.state }

@@ -12,7 +12,7 @@ use dt_layout::Packet;
 use dt_reports::Report;
 use dt_units::Flow;
 
-/// What is told of an act of a host.
+/// What is reported of an act of a host.
 pub(crate) fn report_of_act(done: &Done) -> Report<'static>
     ensures { told result ≡ told_done done.now }
 {
@@ -69,7 +69,7 @@ fn report_of_recv_act(flow: Flow, act: RecvAct) -> Report<'static>
     }
 }
 
-/// What is told of a packet that came to a host, and of its answer.
+/// What is reported of a packet that came to a host, and of its answer.
 pub(crate) fn report_of_arrival(flow: Flow, packet: &Packet<'_>, answer: Arrived) -> Report<'static>
     ensures { told result ≡ told_arrival flow (packet_of packet.now) answer }
 {

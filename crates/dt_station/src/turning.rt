@@ -18,7 +18,7 @@ use dt_units::Steps;
 use std::sync::ledger::Ledger;
 
 impl<P: Carry> Station<P> {
-    /// Does the acts of the host until none is due. Each is told, and then its frame goes off, which is
+    /// Does the acts of the host until none is due. Each is reported, and then its frame goes off, which is
     /// made in the station's.
     pub(crate) fn do_turns<V: Visitor<P>, L: Ledger>(
         &mut self,

@@ -32,7 +32,7 @@ pub trait Visitor<P: Carry> {
         requires gram { IsGram frame.now }
         ensures { tags now self.old host.now.state frame.now result self.new };
 
-    /// Is told a report. It can't refuse: a visitor that found no memory for it, or couldn't write it,
+    /// Receives a report. It can't refuse: a visitor that found no memory for it, or couldn't write it,
     /// keeps that fact, does nothing with later reports, and its owner answers it when the event has
     /// ended.
     fn tell(&mut self, report: &Report<'_>)

@@ -1,4 +1,4 @@
-//! Stations and frames, and an event that is told as wanted.
+//! Stations and frames, and an event that is reported as wanted.
 ghost use Rattle.std.specs.Prelude.{◌≡◌, ◌≤◌, ◌^◌, false, IfOk, IfSome, OnOk};
 ghost use Rattle.dt_layout.specs.Carried.{IsGram};
 ghost use Rattle.dt_station.specs.Events.{MayHappen};
@@ -91,7 +91,7 @@ pub fn framed(octets: &[u8]) -> Option<Frame>
     }
 }
 
-/// The event is told as wanted, and nothing else is.
+/// The event is reported as wanted, and nothing else is.
 pub fn play(
     rt: &impl Abort,
     station: &mut Station<Frame>,

@@ -111,7 +111,7 @@ static GOING_NOWHERE: [Row; 3] = [
     ),
 ];
 
-/// What can't be passed on is told.
+/// What can't be passed on is reported.
 pub fn going_nowhere() -> &'static [Row] {
     &GOING_NOWHERE
 }
@@ -187,7 +187,7 @@ static NOT_READ: [Row; 6] = [
     ),
 ];
 
-/// Octets for the station that don't read are told by their fault.
+/// Octets for the station that don't read are reported by their fault.
 pub fn not_read() -> &'static [Row] {
     &NOT_READ
 }

@@ -72,14 +72,14 @@ pub record RanAgain (r : Run) : Type 0 where
   -- An input without a refused line, whose trace reaches the stop of its script and lists neither an open nor a take that failed, is served.
   pub complete_retrace : Serves Retrace GoesToStop r
 
--- `make`: the generator's schedule, whole, or a first part of it, where a put failed. No memory is wanted but for the words, before anything is written.
+-- `make`: the generator's schedule, whole, or a first part of it, where a put failed. No memory is taken but for the words, before anything is written.
 pub record IsMade (r : Run) : Type 0 where
   pub made : (n : ℕ) → r.command ≡ Some (Make n) → r.status ≡ 0 → Leaves Takes (make_text n) r
   pub part_of_schedule : (n : ℕ) → r.command ≡ Some (Make n) → r.status ≡ 8 → Leaves HasPart (make_text n) r
   pub complete_make : (n : ℕ) → r.command ≡ Some (Make n) → (PutFailed r → ⊥)
       → (r.status ≡ 0) ⊎ ((r.status ≡ 4) × (r.streams.effects.out_after ≡ r.streams.effects.out_before))
 
--- `calls`: all that is told of those of an accepted input, and that it is served. Whatever the status, `answered N` in the text has the octets of the `call` line N in reversed order, and there is such a line.
+-- `calls`: all that is reported of those of an accepted input, and that it is served. Whatever the status, `answered N` in the text has the octets of the `call` line N in reversed order, and there is such a line.
 pub record IsCalled (r : Run) : Type 0 where
   pub called : After Calls 0 (λ octets. (are_calls_accepted octets ≡ true) × Leaves HasAll (calls_text octets) r) r
   pub own_answers : IsFor Calls r → OfInput (λ octets. length octets ≤ limit → TellsOwnAnswers octets) r

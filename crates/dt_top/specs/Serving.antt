@@ -74,7 +74,7 @@ retrace_owes ClockStill octets e = Retraces octets node.ClockStill e.out_before 
 retrace_owes ReadFault octets e = ⊥
 retrace_owes WriteFault octets e = Retraces octets node.WriteFault e.out_before e.out_after
 
--- for an input of calls: what is told of them
+-- for an input of calls: what is reported of them
 abbrev pub calls_owes : Ending → List ℕ → Effects → Type 0
 calls_owes Done octets e = CallsEnd called.Done octets e.out_before e.out_after
 calls_owes Usage octets e = ⊥
@@ -153,7 +153,7 @@ OwesNothing ClockStill s = ⊥
 OwesNothing ReadFault s = ⊥
 OwesNothing WriteFault s = ⊥
 
--- HOW A RUN ENDS, and why. Memory may be wanted with any words, before anything is read.
+-- HOW A RUN ENDS, and why. Memory may run out with any words, before anything is read.
 abbrev pub Ends : Option Command → Ending → Streams → Type 0
 Ends None ending s = OwesNothing ending s
 Ends (Some command) ending s = Owes command ending s ⊎ ((ending ≡ NoMemory) × Untouched s)

@@ -42,7 +42,7 @@ impl Ending {
         }
     }
 
-    /// What is told on standard error.
+    /// What is printed on standard error.
     pub fn text(self) -> &'static [u8]
         ensures { result.now ≡ text_of self }
     {

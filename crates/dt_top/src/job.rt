@@ -12,7 +12,7 @@ pub enum Job {
     Trace,
     /// It is a script and a trace, whose run is run again.
     Retrace,
-    /// It is a setup and calls, and what is told of them is written.
+    /// It is a setup and calls, and what is reported of them is written.
     Calls,
     /// It is a log, which is checked.
     Audit,

@@ -23,7 +23,7 @@ use dt_edges::{Clock, Sink, Source, Wire, put_all};
 pub use dt_make::make;
 use std::alloc::Global;
 
-/// The exit status of an ending, whose text is told.
+/// The exit status of an ending, whose text is printed.
 fn status_told<E: Sink>(ending: Ending, err: &mut E) -> u8
     ensures status { result ≡ status_of ending }
     ensures says { Says (text_of ending) (E.sight err.old) (E.sight err.new) }
@@ -44,7 +44,7 @@ fn status_told<E: Sink>(ending: Ending, err: &mut E) -> u8
 ///   that again, and writes the log.
 /// - `make` and a decimal number from 1 to 50,000 without a leading zero: writes the generator's
 ///   schedule of so many rounds on `out`, and leaves the source as it was.
-/// - `calls`: reads a setup and calls from the source to its end, and writes what is told of the calls on
+/// - `calls`: reads a setup and calls from the source to its end, and writes what is reported of the calls on
 ///   `out`. A call is answered with its payload in reversed order.
 /// - `audit`: reads a log of `replay` from the source to its end, checks it, and writes the verdict.
 ///

@@ -468,7 +468,7 @@ const CALL: &str = "call 1:10>2:20 010203\narrive 0\narrive 2\n";
 
 const CALL_TEXT: &str = "0 call 0 1:10>2:20 3\n0 served 0\n0 answered 0 030201\n";
 
-/// What stands after these, what is told of it, and the status.
+/// What stands after these, what is reported of it, and the status.
 const CALLS: [(&str, &str, u8); 3] = [
     (
         "",

@@ -97,7 +97,7 @@ Notes line input (Ok done) before after = (rest : Recorded → Result Recorded (
 Notes line input (Err (refusals.Line fault)) before after = (rest : Recorded → Result Recorded (ℕ × LineFault)) → note_then line before input rest ≡ Err (line, fault)
 Notes line input (Err refusals.NoMemory) before after = Unit {0}
 
--- A trace was read, or is refused. Memory may be wanted with any.
+-- A trace was read, or is refused. Memory may run out with any.
 abbrev pub Reads : {T : Type 0} → (T → Recorded) → Result T TraceFault → Result Recorded (ℕ × LineFault) → Type 0
 Reads seen (Ok trace) said = said ≡ Ok (seen trace)
 Reads seen (Err (trace_faults.Line line fault)) said = said ≡ Err (line, fault)

@@ -80,7 +80,7 @@ fn early_number(replied: Option<u32>, frame: &Frame) -> Option<u32>
     }
 }
 
-/// Holds a packet that came too early, and tells whether there was room.
+/// Holds a packet that came too early, and says whether there was room.
 fn hold_if<V: Visitor<Frame>>(
     shelf: &mut Shelf,
     came: &Came,

@@ -131,7 +131,7 @@ fn listen<V: Visitor<Frame>>(
 }
 
 /// The packet in a dock's frame, which came on a link, arrives at its station. It answers what the
-/// station told, as far as that concerns a shelf. The frame must read as a Deltagram.
+/// station reported, as far as that concerns a shelf. The frame must read as a Deltagram.
 pub fn hear_arrival<V: Visitor<Frame>>(
     dock: &mut Dock,
     link: u16,

@@ -1,4 +1,4 @@
-//! A node's turn: a station with its shelf, what a turn hands in and does, and who is told of it.
+//! A node's turn: a station with its shelf, what a turn hands in and does, and who hears of it.
 #![tactic(auto)]
 
 mod arrivals;

@@ -188,7 +188,7 @@ fn is_due(moment: Option<u64>, now: u64) -> bool
     }
 }
 
-/// Lets the station tick where something is due. Before its wake a tick would tell nothing and change
+/// Lets the station tick where something is due. Before its wake a tick would report nothing and change
 /// nothing.
 #[tactic(auto, using(crate::proofs::Readying::goes_first))]
 fn tick<V: Visitor<Frame>>(

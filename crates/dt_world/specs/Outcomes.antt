@@ -14,7 +14,7 @@ use Rattle.dt_world.specs.Reporters.{TellsAll}
 use Rattle.dt_world.specs.Worlds.{WorldValue}
 
 module _ {L : Type 0} (tells : L → Entry → L → Type 0) where
-  -- WHAT HAPPENS: all lines are told and the world is the one after; or, for want of memory, it came to some point. Then the lines up to there are told, the world has what was noted up to there, and its ledgers are safe.
+  -- WHAT HAPPENS: all lines are reported and the world is the one after; or, for want of memory, it came to some point. Then the lines up to there are reported, the world has what was noted up to there, and its ledgers are safe.
   pub record HasHappened (r : List Entry × World) (before after : L) (world : World) : Type 0 where
     pub lines : TellsAll tells r.0 before after
     pub world_is : world ≡ r.1

@@ -240,7 +240,7 @@ pub fn restart<L: Lines>(parts: &mut Parts, node: u32, lines: &mut L) -> Result<
 /// The greatest moment of a world.
 const MOST_NOW: u64 = 1 << 61;
 
-/// So many milliseconds pass. `NoMemory` comes exactly where the moment would be above 2^61, and changes
+/// `by` milliseconds pass. `NoMemory` comes exactly where the moment would be above 2^61, and changes
 /// nothing.
 pub fn pass(parts: &mut Parts, by: u32) -> Result<(), NoMemory>
     requires whole { IsWhole parts.old }

@@ -14,17 +14,17 @@ use dt_units::Flow;
 pub enum Change {
     /// Octets were taken.
     Takes,
-    /// So many octets went out for the first time.
+    /// `count` octets went out for the first time.
     Transmits { count: u32 },
     /// A segment went out again, or a rendezvous packet did.
     TransmitsAgain,
-    /// So many octets were given up.
+    /// `count` octets were given up.
     GivesUp { count: u32 },
-    /// So many octets were acknowledged.
+    /// `count` octets were acknowledged.
     Settles { count: u32 },
     /// Octets were accepted, as a new run or not.
     Accepts { run: bool },
-    /// So many octets were read.
+    /// `count` octets were read.
     ReadsOut { count: u64 },
 }
 

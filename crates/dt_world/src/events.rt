@@ -4,7 +4,7 @@ use dt_units::{Flow, NodeId};
 /// What happens to a world.
 #[derive(Clone, Copy)]
 pub enum Event<'a> {
-    /// So many milliseconds pass.
+    /// `by` milliseconds pass.
     Pass {
         by: u32,
     },
@@ -16,7 +16,7 @@ pub enum Event<'a> {
         begin: bool,
         end: bool,
     },
-    /// At most so many unread octets are read at the station where the flow ends.
+    /// At most `max` unread octets are read at the station where the flow ends.
     Read {
         flow: Flow,
         max: u32,

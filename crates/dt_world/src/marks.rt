@@ -20,7 +20,7 @@ use dt_layout::{Frame, Packet, read_deltagram, read_packet};
 use dt_ledger::Ledger;
 use dt_units::{Flow, NodeId};
 
-/// The mark of a frame that the host made: it is born now, and its place is told from the ledger and
+/// The mark of a frame that the host made: it is born now, and its place is known from the ledger and
 /// from the host after the act or the reply that made it. None comes exactly where the frame carries no
 /// packet, or one that a sender made, of a host whose numbers begin elsewhere than the event's.
 pub fn mark_of(notes: &Notes, occasion: &Occasion<'_>, host: &Host, frame: &Frame) -> Option<Mark>

@@ -128,7 +128,7 @@ fn take_octets(notes: &mut Notes, occasion: &Occasion<'_>, flow: &Flow) -> Resul
     Ok(())
 }
 
-/// Octets of the flow, so many, go out for the first time.
+/// `count` octets of the flow go out for the first time.
 fn transmit(notes: &mut Notes, occasion: &Occasion<'_>, flow: &Flow, count: u32)
     requires there { IsThere flow.now (ledgers_seen notes.old) }
     ensures becomes { ledgers_seen notes.new ≡ ledgers_by (occasion_seen occasion.entry.now) (Changes flow.now (Transmits count)) (ledgers_seen notes.old) }
@@ -156,7 +156,7 @@ fn retransmit(notes: &mut Notes, occasion: &Occasion<'_>, flow: &Flow)
     run.retransmit(occasion.now);
 }
 
-/// The leftmost open octets of the present life, so many, are given up.
+/// The `count` leftmost open octets of the present life are given up.
 fn give_up(notes: &mut Notes, occasion: &Occasion<'_>, flow: &Flow, count: u32)
     requires there { IsThere flow.now (ledgers_seen notes.old) }
     ensures becomes { ledgers_seen notes.new ≡ ledgers_by (occasion_seen occasion.entry.now) (Changes flow.now (GivesUp count)) (ledgers_seen notes.old) }
@@ -168,7 +168,7 @@ fn give_up(notes: &mut Notes, occasion: &Occasion<'_>, flow: &Flow, count: u32)
     rows.settle_open(occasion.life, count, Fate::Uncertain);
 }
 
-/// The leftmost open octets of the present life, so many, are acknowledged.
+/// The `count` leftmost open octets of the present life are acknowledged.
 fn acknowledge(notes: &mut Notes, occasion: &Occasion<'_>, flow: &Flow, count: u32)
     requires there { IsThere flow.now (ledgers_seen notes.old) }
     ensures becomes { ledgers_seen notes.new ≡ ledgers_by (occasion_seen occasion.entry.now) (Changes flow.now (Settles count)) (ledgers_seen notes.old) }
@@ -212,7 +212,7 @@ fn accept(
     Ok(())
 }
 
-/// So many unread octets of the flow are read.
+/// `count` unread octets of the flow are read.
 fn read(notes: &mut Notes, occasion: &Occasion<'_>, flow: &Flow, count: u64) -> Result<(), NoMemory>
     ensures ok { OnOk result (ledgers_seen notes.new ≡ ledgers_by (occasion_seen occasion.entry.now) (Changes flow.now (ReadsOut count)) (ledgers_seen notes.old)) }
     ensures err { OnErr result (ledgers_seen notes.new ≡ ledgers_seen notes.old) }
@@ -232,7 +232,7 @@ fn read(notes: &mut Notes, occasion: &Occasion<'_>, flow: &Flow, count: u64) -> 
 /// Octets of a flow are fewer than this.
 const OCTETS_BELOW: u64 = 1 << 62;
 
-/// Whether so many octets from the place on end below 2^62.
+/// Whether `count` octets from the place on end below 2^62.
 pub fn stays_below(place: u64, count: u64) -> bool
     ensures { IsTrue result ↔ (place + count < 2 ^ 62) }
 {

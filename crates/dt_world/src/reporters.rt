@@ -19,7 +19,7 @@ use dt_layout::Frame;
 use dt_reports::{LogLine, Report};
 use dt_station::Visitor;
 
-/// Is told the lines of the log, in order.
+/// Receives the lines of the log, in order.
 pub trait Lines {
     ghost tells: { Self → Entry → Self → Type 0 };
 
@@ -28,8 +28,8 @@ pub trait Lines {
         ensures { tells self.old (entry_of line.now) self.new };
 }
 
-/// What the world notes of one event, and who is told its lines. Where something finds no memory, it
-/// has failed: from then on it notes nothing, tells nothing and takes no packet.
+/// What the world notes of one event, and who receives its lines. Where something finds no memory, it
+/// has failed: from then on it notes nothing, reports nothing and takes no packet.
 #[derive(Drop)]
 pub struct Reporter<'a, 'o, L> {
     pub notes: &'a mut Notes,
@@ -103,8 +103,8 @@ fn note(notes: &mut Notes, occasion: &Occasion<'_>, effect: &Effect) -> Result<(
     }
 }
 
-/// The report as the world tells it, by what it says of the world: where a packet leaves, the number of
-/// the copy is told too.
+/// The report as the world reports it, by what it says of the world: where a packet leaves, the number of
+/// the copy is reported too.
 fn world_report<'a>(report: &Report<'a>, effect: &Effect, copies: u64) -> Report<'a>
     ensures { told result ≡ world_told copies (told report.now) (effect_seen effect.now) }
 {

@@ -69,7 +69,7 @@ pub fn apply_event<L: Lines>(
     }
 }
 
-/// Whether the flow can take so many octets more.
+/// Whether the flow can take `count` octets more.
 fn can_take(parts: &Parts, flow: Flow, count: u64) -> bool
     ensures can { IsTrue result ↔ (length (ledger_of (world_seen parts.entry.now).ledgers flow).taken + count < octets_below) }
     ensures flow { IsFlow flow }

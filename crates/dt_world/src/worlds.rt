@@ -108,16 +108,16 @@ impl World {
         }
     }
 
-    /// An event happens to the world, which isn't spent, and its lines are told in order. Octets of a
+    /// An event happens to the world, which isn't spent, and its lines are reported in order. Octets of a
     /// send are 1 at least, `max` is 1 to 65,536.
     ///
-    /// Refused, in this order, and then nothing is told or changed: `BadFlow`, a send or read whose flow
+    /// Refused, in this order, and then nothing is reported or changed: `BadFlow`, a send or read whose flow
     /// begins where it ends; `NoStation`, the event's station isn't there; `NoCopy`, no copy has that
     /// number; `Lost`, that copy was lost before; `TooLate`, an arrival after more milliseconds on the
     /// link than its charge. `NoMemory` comes for want of memory, and always where a count would pass its
     /// end: 2^62 octets of a flow, 2^32 lives of a station, 2^61 ms. Time that passes and a copy that is
     /// lost take no memory, so they answer it exactly there, and never. Then the first of the lines were
-    /// told, and the world is spent; its ledger stays safe.
+    /// reported, and the world is spent; its ledger stays safe.
     ///
     /// The cost is that of the lines and their octets, and of the station's event: for each act of its host
     /// 4 looks at a record at most, and one at each sender that holds a segment whose resend was missed.

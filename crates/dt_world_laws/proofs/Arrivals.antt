@@ -98,7 +98,7 @@ module _ (w : World) (n : ℕ) (q : Packet) (limits : IsWithinLimits w.params) (
       ap (λ (r : Receiver). ack_place r.standing (book_of noted.ledgers f).given number q.place) (receiver_set st.host f after good.host.one_receiver) ∙ at in
       can_go w n (Brought q) host noted f.to.0 f.from.0 (ack_packet f number (free_of p unread)) place (ack_spelled p f unread number limits flow le) tag fit.0
 
-  -- a packet's answer is told, and the reply goes off
+  -- a packet's answer is reported, and the reply goes off
   answered : (v : PacketValue) (a : Arrived) (after : Receiver) (s' : FlowState) (made : List Packet) → IsAbout f (told_arrival f v a) → IsReceiver p st.host.me f after
       → receiver_moves s after (book_after w.params w.now (placed w n).life (Brought q) (told_arrival f v a) (book_in s)) ≡ s' → Kept p s s' made
       → (AllFit p (views w n (H.host_with_receiver st.host f after) (note_told (stage w n (Brought q)) (told_arrival f v a) d).ledgers f) made → CanGo w n (Brought q) (H.host_with_receiver st.host f after) (note_told (stage w n (Brought q)) (told_arrival f v a) d) (reply_frame p f a))

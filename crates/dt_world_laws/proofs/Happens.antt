@@ -42,7 +42,7 @@ use Rattle.dt_world_laws.proofs.Good.{Good, Kept, Leads, Moves, good_moves, move
 use Rattle.dt_world_laws.proofs.Turns.{given_state, given_facts_now, receiver_steps}
 
 module _ (w : World) (n : ℕ) (cause : Cause) where
-  -- what is told of no flow's ledger changes nothing
+  -- what is reported of no flow's ledger changes nothing
   pub silent : (st : Station Mark) (d : Noted) (told : Told) → Good w n cause st d → effect_of told ≡ Neither → Leads w n cause st d (note_told (stage w n cause) told d, st)
   silent st d told good e =
       let d' = note_told (stage w n cause) told d in

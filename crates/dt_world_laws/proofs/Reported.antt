@@ -163,7 +163,7 @@ module _ (p : Params) (s : FlowState) (f : Flow) (me : ℕ) (x after : SendRecor
       (tag_by p f o all host f.from.0 f.to.0 (meet_packet f (number_of p x.left)) q.place (meet_spelled p limits me f x sender) refl (sent_by meet q (number_of p x.left) chosen later made stands rows (sym (ap (λ (k : Packet). k.number) what)))
       ∙ ap (λ (b : ℕ). let m : Mark = record { birth = b; place = q.place } in m) (ap (λ (k : Packet). k.birth) what))
 
--- an acknowledgement has the place that is told from the receiver as it stands then
+-- an acknowledgement has the place that is known from the receiver as it stands then
 pub ack_tag : (p : Params) (f : Flow) (o : Occasion) (all : Ledgers) (host : Host) (unread : List Item) (number : ℕ) → IsWithinLimits p → IsFlow f → number < 2 ^ 32
     → mark_of o all host (back p f (ack_packet f number (free_of p unread))) ≡ record { birth = o.now; place = ack_place (receiver_at host f).standing (ledger_of all f).given number o.place }
 ack_tag p f o all host unread number limits flow small = tag_by p f o all host f.to.0 f.from.0 (ack_packet f number (free_of p unread)) _ (ack_spelled p f unread number limits flow small) refl refl

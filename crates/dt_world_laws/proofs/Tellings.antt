@@ -1,4 +1,4 @@
--- What holds of each report that a script tells: of scripts in a row, and of what relays tell.
+-- What holds of each report that a script tells: of scripts in a row, and of what relays report.
 use Rattle.std.proofs.Common.{ℕ, zero, suc, ◌==◌, Bool, true, false, if◌then◌else◌, List, [], ◌∷◌, length, Option, Some, None, Result, Ok, Err}
 use Rattle.dt_units.specs.declared.parameters.Params.{Params}
 use Rattle.dt_units.specs.declared.endpoints.Flow.{Flow}
@@ -31,7 +31,7 @@ told_weaker P Q (Tell r s) weaker h = (weaker r h.0, told_weaker P Q s weaker h.
 told_weaker P Q (Ask host octets s) weaker h = λ t. told_weaker P Q (s t) weaker (h t)
 told_weaker P Q (Hand link parcel s) weaker h = told_weaker P Q s weaker h
 
--- it holds of all that a relay tells
+-- it holds of all that a relay reports
 pub record OfRelays (P : Told → Type 0) : Type 0 where
   pub put : (link life : ℕ) → P (report.Put link life)
   pub expired : (link : ℕ) → P (report.ExpiredOut link)
@@ -76,7 +76,7 @@ module _ {T : Type 0} (P : Told → Type 0) (relays : OfRelays P) where
   off_told now host None relay = tt
   off_told now host (Some octets) relay = λ t. passed_with_told now (record { octets = octets; tag = t }) host relay
 
--- IT HOLDS OF ALL that a station tells of a packet that comes
+-- IT HOLDS OF ALL that a station reports of a packet that comes
 pub record OfArrivals (P : Told → Type 0) : Type 0 where
   pub relays : OfRelays P
   pub expired : (link : ℕ) → P (report.ExpiredIn link)

@@ -47,7 +47,7 @@ use Rattle.dt_world_laws.proofs.Good.{CanGo, Good, Kept, Leads, Moves, good_move
 use Rattle.dt_world_laws.proofs.Flushing.{flush_links_keeps}
 use Rattle.dt_world_laws.proofs.Plays.{do_turn, link_of, play_then}
 
--- what is told of an act is about its flow
+-- what is reported of an act is about its flow
 pub about_send : (p : Params) (f : Flow) (x : SendRecord) (act : Act) → IsAbout f (told_send f (told_of p x act))
 about_send p f x (give_up g rest) = inl (_, refl)
 about_send p f x release = inr refl
@@ -97,7 +97,7 @@ module _ (w : World) (n : ℕ) (cause : Cause) (limits : IsWithinLimits w.params
   pub sent_facts : Facts p sent_state
   sent_facts = subst (λ (s : FlowState). Facts p s) state_is (good.flows f)
 
-  -- the flow when the host has another record of it, or none, and something was told about it
+  -- the flow when the host has another record of it, or none, and something was reported about it
   pub sender_moved : (after : Option SendRecord) (told : Told) → IsAbout f told
       → views w n (host_with_sender st.host f after) (note_told (stage w n cause) told d).ledgers f ≡ sender_moves sent_state after (book_after w.params w.now (placed w n).life cause told (book_in sent_state))
   sender_moved after told about =

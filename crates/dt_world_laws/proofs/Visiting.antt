@@ -26,7 +26,7 @@ module _ {S T : Type 0} (handler : Handler S T) where
   first_on_the_way (Ask host octets script) s t e = inl e
   first_on_the_way (Hand link q script) s t e = inl e
 
-  -- what only grows, as the lines that are told, is there a prefix of what it is at the end
+  -- what only grows, as the lines that are reported, is there a prefix of what it is at the end
   module _ {E : Type 0} (lines : S → List E) (told : (r : Told) (s : S) → (more : List E) × (lines (handler.tell r s) ≡ lines s ++ more)) (handed : (link : ℕ) (q : Parcel T) (s : S) → lines (handler.hand link q s) ≡ lines s) where
     abbrev pub IsPrefix : List E → List E → Type 0
     IsPrefix xs ys = (rest : List E) × (xs ++ rest ≡ ys)

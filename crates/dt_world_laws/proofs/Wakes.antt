@@ -1,4 +1,4 @@
--- The wake is the first moment at which something is due: a station that is told a tick before it does nothing.
+-- The wake is the first moment at which something is due: a station that ticks before it does nothing.
 use Rattle.std.proofs.Common.{ℕ, zero, suc, ◌+◌, ◌<◌, ◌≤◌, ◌≡◌, ◌==◌, true, false, List, [], ◌∷◌, ◌++◌, length, map, Option, Some, None, refl, ap, inl, inr, ◌∙◌, ◌⊎◌, arith, length-append}
 use Rattle.std.specs.Prelude.{min, nat_lt}
 use Rattle.std.proofs.lemmas.Bool.{cases_Bool}

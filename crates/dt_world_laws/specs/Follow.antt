@@ -1,4 +1,4 @@
--- How the ledger of a flow follows what is told of it.
+-- How the ledger of a flow follows what is reported of it.
 use Rattle.std.specs.Prelude.{ℕ, ◌≡◌, List}
 use Rattle.dt_items.specs.declared.item.Item.{Item}
 use Rattle.dt_units.specs.declared.parameters.Params.{Params}

@@ -68,7 +68,7 @@ pub fn new_world_has_facts()
     ensures { (setup : Setup) → WorldFacts (new_world setup) }
 {}
 
-/// What is written on packets changes nothing that a station tells, and no octet that it hands out:
+/// What is written on packets changes nothing that a station reports, and no octet that it hands out:
 /// so a station in the world and a station over a wire do the same.
 pub fn tags_change_nothing()
     ensures { (p : Params) (now : ℕ) (e : Event Mark) (station : Station Mark) → Alike (λ a b. b ≡ bare_station a) (station_event p now e station) (station_event p now (bare_event e) (bare_station station)) }

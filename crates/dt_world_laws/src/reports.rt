@@ -43,7 +43,7 @@ pub fn ledgers_follow_the_small_steps()
     ensures receiver { (p : Params) (s : FlowState) (f : Flow) (node place : ℕ) (items : List Item) (y : ReceiveRecord) (kind : RecvKind) → IsFollowed (at_receiver p s node items place) (told_recv f (recv_told_of p s.unread y kind)) s (after_receiver_act p s kind) }
 {}
 
-/// The tag that is told for the frame of a send record's act is the place and the birth of the packet that
+/// The tag that is answered for the frame of a send record's act is the place and the birth of the packet that
 /// the act made: from the octets of the frame, the host after the act and the ledger after its report. An
 /// acknowledgement's is the place after the last given octet where its number is the expected one, else
 /// that of the packet that it answers.

@@ -26,7 +26,7 @@ pub fn settled_station_has_no_act_due<T>()
     ensures { (p : Params) (now : ℕ) (station : Station T) → IsWithinLimits p → IsHost p station.host → Answers (λ (after : Station T). IsHost p after.host × IsCurrentHost p now after.host) (settle_station p now station) }
 {}
 
-/// The wake is the first moment at which something is due: a tick before it tells nothing, hands out
+/// The wake is the first moment at which something is due: a tick before it reports nothing, hands out
 /// nothing and leaves the station as it was.
 ///
 /// Each wake is the first moment, both ways: nothing is due before it and something is due at it. Of a

@@ -99,13 +99,13 @@ comes p now f (Data from_port to_port number drf begin end octets) host =
     (answer_to_data p (receiver_at host f) drf number items, host_with_receiver host f (after_data p now (receiver_at host f) drf number items))
 comes p now f (Ack from_port to_port number window) host = ack_answer host f (option_and_then (λ x. on_ack p x number window) (sender_at host f))
 comes p now f (Meet from_port to_port number) host = (answer_to_meet p (receiver_at host f) number, host_with_receiver host f (after_meet p (receiver_at host f)))
--- a closing packet is told or dropped, and changes nothing
+-- a closing packet is reported or dropped, and changes nothing
 comes p now f (Close from_port to_port number) host = (answer_to_close (receiver_at host f) number, host)
 
 abbrev pub arrive : Params → ℕ → ℕ → PacketValue → Host → Arrived × Host
 arrive p now from v host = if nat_lt now host.until then (arrived.Quiet host.until, host) else comes p now (flow_of from host.me v) v host
 
--- what is told of it. A dropped acknowledgement is told as ignored
+-- what is reported of it. A dropped acknowledgement is reported as ignored
 abbrev pub told_dropped : Flow → PacketValue → Told
 told_dropped f (Data from_port to_port number drf begin end octets) = report.Dropped f number
 told_dropped f (Ack from_port to_port number window) = report.Ignored f number window
@@ -175,7 +175,7 @@ abbrev pub least : List Offer → Option Offer
 least [] = None
 least (o ∷ rest) = Some (fold (λ best other. if goes_before other best then other else best) o rest)
 
--- an act that was done: what is told of it, the frame that it made, and the host after it
+-- an act that was done: what is reported of it, the frame that it made, and the host after it
 pub record Turn : Type 0 where
   pub told : Told
   pub frame : Option (List ℕ)

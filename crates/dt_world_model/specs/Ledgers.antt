@@ -126,7 +126,7 @@ ledgers_by o Neither all = all
 abbrev pub ledgers_after : Occasion → Told → Ledgers → Ledgers
 ledgers_after o told all = ledgers_by o (effect_of told) all
 
--- THE TAG OF A FRAME: its birth is now, and its place is told from the ledger and from the host after the act or the reply that made the frame.
+-- THE TAG OF A FRAME: its birth is now, and its place is known from the ledger and from the host after the act or the reply that made the frame.
 -- of the flow the tag of what a sender makes reads the taken rows alone. No act makes a frame without a send record
 abbrev pub place_sent : Params → FlowLedger → ℕ → Option SendRecord → ℕ
 place_sent p l number None = 0

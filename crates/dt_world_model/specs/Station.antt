@@ -26,7 +26,7 @@ pub record Station (T : Type 0) : Type 0 where
 abbrev pub station_with : {T : Type 0} → Host → Relay T → Station T
 station_with host relay = record { host = host; relay = relay }
 
--- A QUEUE IS FLUSHED: packets leave it until none does. Each is told, and handed out after its line. One that waits is taken each time, so there are no more turns than packets that wait.
+-- A QUEUE IS FLUSHED: packets leave it until none does. Each is reported, and handed out after its line. One that waits is taken each time, so there are no more turns than packets that wait.
 abbrev pub flush_on : {T : Type 0} → (Out T → Script T (Out T)) → Option (Left T) × Out T → Script T (Out T)
 flush_on again (None, out) = Done out
 flush_on again (Some Expired, out) = Tell (report.ExpiredOut out.link) (again out)
@@ -50,7 +50,7 @@ abbrev pub flush_links : {T : Type 0} → ℕ → List ℕ → List (Out T) → 
 flush_links now [] outs = Done outs
 flush_links now (link ∷ links) outs = flush_at link now outs >>= λ rest. flush_links now links rest
 
--- A PACKET IS PASSED ON: it enters the relay, and its link is flushed. One that doesn't enter is told.
+-- A PACKET IS PASSED ON: it enters the relay, and its link is flushed. One that doesn't enter is reported.
 abbrev pub flush_entered : {T : Type 0} → ℕ → Entered × Relay T → Script T (Relay T)
 flush_entered now (Queued link, relay) = flush_at link now relay.outs >>= λ outs. Done (with_outs relay outs)
 flush_entered now (NoRoute to, relay) = Tell (report.NoRoute to) (Done relay)
@@ -64,7 +64,7 @@ abbrev pub send_off : {T : Type 0} → ℕ → Host → Option (List ℕ) → Re
 send_off now host None relay = Done (station_with host relay)
 send_off now host (Some octets) relay = Ask host octets (λ tag. pass_on (record { octets = octets; tag = tag }) now relay >>= λ after. Done (station_with host after))
 
--- THE HOST ACTS until no act is due. Each act is told, and then its frame goes off. Each lowers the work that is left, so there are no more acts than that.
+-- THE HOST ACTS until no act is due. Each act is reported, and then its frame goes off. Each lowers the work that is left, so there are no more acts than that.
 abbrev pub go_on : {T : Type 0} → (Station T → Script T (Station T)) → ℕ → Option Turn → Station T → Script T (Station T)
 go_on again now None station = Done station
 go_on again now (Some turn) station = Tell turn.told (send_off now turn.host turn.frame station.relay) >>= again
@@ -96,7 +96,7 @@ abbrev pub told_piece : Flow → List ℕ → Option Piece → Told
 told_piece f octets None = report.Nothing f
 told_piece f octets (Some piece) = read_told f piece.run piece.begin piece.end octets
 
--- a packet for the host's own node is read and given to the host. Octets that don't read are told
+-- a packet for the host's own node is read and given to the host. Octets that don't read are reported
 abbrev pub deliver : {T : Type 0} → Params → ℕ → ℕ → Result PacketValue LayoutFault → Station T → Script T (Station T)
 deliver p now from (Err fault) station = Tell (report.Bad fault) (Done station)
 deliver p now from (Ok v) station =

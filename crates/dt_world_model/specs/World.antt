@@ -43,13 +43,13 @@ pub record World : Type 0 where
 abbrev pub placed : World → ℕ → Placed
 placed w n = unwrap_or (look ◌==◌ n w.stations) (record { zero = 0; life = 0; station = station_with (first_host n) (new_relay [] [] []) })
 
--- WHAT THE WORLD NOTES while a station's event is played: the ledgers, the copies, and the lines told
+-- WHAT THE WORLD NOTES while a station's event is played: the ledgers, the copies, and the lines reported
 pub record Noted : Type 0 where
   pub ledgers : Ledgers
   pub copies : List Copy
   pub lines : List Entry
 
--- where a packet leaves, the world tells the number of the copy too
+-- where a packet leaves, the world reports the number of the copy too
 abbrev pub world_told : ℕ → Told → Effect → Told
 world_told copies told (Changes f change) = told
 world_told copies told (Leaves link life) = report.PutAs link life copies

@@ -67,12 +67,12 @@ pub fn no_route_to_a_node()
 {}
 
 /// A station settles, takes the octets of a send, and settles again: two segments that are due are
-/// given up before the send is told, and the new segment goes out after it.
+/// given up before the send is reported, and the new segment goes out after it.
 pub fn station_settles_before_and_after()
     ensures { told_at 5201 (Send main_flow (98 ∷ []) true true) (station_of (host_two 1)) ≡ report.Uncertain main_flow 1 ∷ report.Uncertain other_flow 1 ∷ report.Took main_flow 1 ∷ report.Sent main_flow 1 1 true true true ∷ report.Put 1 999 ∷ [] }
 {}
 
-/// A closing packet with the number that is expected is told, any other is dropped, and without a
+/// A closing packet with the number that is expected is reported, any other is dropped, and without a
 /// record it is dropped too.
 pub fn closing_packet_comes()
     ensures told { told_at 20 (Arrive 1 (parcel_of 999 (Close 10 20 5))) station_greeted ≡ report.Closing main_flow 5 ∷ [] }
