@@ -1,7 +1,6 @@
 //! The act of a host that comes next: the least by class, then by the moment since when it is due. Of
 //! equals the one of the record that was made first comes first.
 ghost use Rattle.std.specs.Prelude.{◌≡◌, Some};
-ghost use Rattle.dt_flow_model.specs.SendActs.{earlier};
 ghost use Rattle.dt_host.specs.Dues.{class_of, goes_first, sooner_of};
 
 use dt_flow_model::{RecvKind, SendKind};
@@ -58,16 +57,5 @@ impl DueAct {
             Some(best) if !self.goes_before(best) => Some(best),
             Some(_) | None => Some(self),
         }
-    }
-}
-
-/// The lesser of two moments, of which each may be none.
-pub fn earlier(moment: Option<u64>, other: Option<u64>) -> Option<u64>
-    ensures { result ≡ earlier moment other }
-{
-    match (moment, other) {
-        (Some(moment), Some(other)) => Some(moment.min(other)),
-        (Some(moment), None) => Some(moment),
-        (None, other) => other,
     }
 }

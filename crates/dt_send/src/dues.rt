@@ -1,9 +1,9 @@
 //! Which kind of act is due, known by the moments of all kinds.
 ghost use Rattle.std.specs.Prelude.{◌≡◌};
-ghost use Rattle.dt_flow_model.specs.SendActs.{earlier, least_moment};
+ghost use Rattle.dt_flow_model.specs.SendActs.{least_moment};
 ghost use Rattle.dt_send.specs.Senders.{due_if, first_due};
 
-use dt_flow_model::{SendKind, SendMoments};
+use dt_flow_model::{SendKind, SendMoments, earlier};
 
 /// A kind whose moment has come, with the moment.
 fn due_by(now: u64, kind: SendKind, moment: Option<u64>) -> Option<(SendKind, u64)>
@@ -24,17 +24,6 @@ pub fn due_first(now: u64, moments: &SendMoments) -> Option<(SendKind, u64)>
         .or(due_by(now, SendKind::Resend, moments.resend))
         .or(due_by(now, SendKind::Send, moments.send))
         .or(due_by(now, SendKind::Meet, moments.meet))
-}
-
-/// The lesser of two moments, of which each may be none.
-pub fn earlier(moment: Option<u64>, other: Option<u64>) -> Option<u64>
-    ensures { result ≡ earlier moment other }
-{
-    match (moment, other) {
-        (Some(moment), Some(other)) => Some(moment.min(other)),
-        (Some(moment), None) => Some(moment),
-        (None, other) => other,
-    }
 }
 
 /// The least of the moments.

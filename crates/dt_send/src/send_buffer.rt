@@ -14,13 +14,13 @@ ghost use Rattle.dt_send.specs.declared.sent_segments.SentSegment.{SentSegment};
 ghost use Rattle.dt_send.specs.SentSegments.{IsPlaceOf, earlier_place, octets_in, segment_of};
 ghost use Rattle.dt_send.specs.SendBuffer.{Acts, IsSendBuffer, IsChosen, IsEndAt, record_of};
 
-use crate::dues::{due_first, earlier};
+use crate::dues::due_first;
 use crate::numbering::{crosses, crossing_after, number_at};
 use crate::occasions::Occasion;
 use crate::octets::cut_at;
 use crate::sent_segments::{SentSegment, stretch_at};
 use circular_buffer::HeapCircularBuffer;
-use dt_flow_model::{Cut, SendAct, SendKind, SendMoments};
+use dt_flow_model::{Cut, SendAct, SendKind, SendMoments, earlier};
 use dt_items::{Item, NoMemory, append_marked, copy_octets, item_in};
 use dt_layout::{Frame, Packet, write_frame};
 use dt_units::{Flow, Rules};

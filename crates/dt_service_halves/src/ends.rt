@@ -1,11 +1,11 @@
 //! How calls end without an answer.
 ghost use Rattle.std.specs.Prelude.{◌≡◌, ◌+◌, ◌≤◌, ◌++◌, true, false, filter, filter_map, map, length, OnOk, OnErr};
 ghost use Rattle.std.specs.VecDeque.{deque_len, deque_capacity};
-ghost use Rattle.dt_flow_model.specs.SendActs.{earlier};
 ghost use Rattle.dt_world_model.specs.Tables.{earliest};
 ghost use Rattle.dt_service_model.specs.Turns.{deadline_of};
 ghost use Rattle.dt_service_model.specs.Ends.{cause_of, is_kept, judged_call, unsure_of};
 
+use dt_flow_model::earlier;
 use dt_items::NoMemory;
 use dt_service_model::{Call, Cause, Happening};
 use std::collections::VecDeque;
@@ -95,17 +95,6 @@ fn deadline_of(call: &Call) -> Option<u64>
         Some(call.deadline)
     } else {
         None
-    }
-}
-
-/// The lesser of two moments, of those that there are.
-pub fn earlier(one: Option<u64>, other: Option<u64>) -> Option<u64>
-    ensures { result ≡ earlier one other }
-{
-    match (one, other) {
-        (Some(one), Some(other)) => Some(one.min(other)),
-        (Some(one), None) => Some(one),
-        (None, other) => other,
     }
 }
 

@@ -12,7 +12,7 @@ mod numbers;
 mod whole;
 
 pub use asked::carried;
+pub use dt_flow_model::earlier;
 pub use dt_messages::reversed;
-pub use ends::earlier;
 pub use halves::Halves;
 pub use numbers::write_message;
