@@ -31,30 +31,190 @@ pub fn empty_slot() -> Slot
     }
 }
 
-pub fn close_in(slot: &mut Slot)
-    ensures { slot.new ≡ empty }
-{
-    *slot = empty_slot();
-}
-
-pub fn tick_in(slot: &mut Slot, now: u64) -> u8
-    ensures { Ticking result now slot.old slot.new }
-{
-    match &mut slot.endpoint {
-        Some(endpoint) => ticked_status(endpoint.tick(now)),
-        None => CLOSED,
+impl Slot {
+    pub(crate) fn close(&mut self)
+        ensures { self.new ≡ empty }
+    {
+        *self = empty_slot();
     }
-}
 
-pub fn arrive_in(slot: &mut Slot, now: u64, link: u16, datagram: &[u8], waited: u32) -> CameRow
-    ensures { Arriving result now link datagram.now waited slot.old slot.new }
-{
-    let Some(endpoint) = &mut slot.endpoint else {
-        return came_as(CLOSED);
-    };
-    match slot.guard.admits(endpoint, datagram) {
-        Admission::Admitted => came_row(endpoint.arrive(now, link, datagram, waited)),
-        Admission::ClosedPort | Admission::TooManyFlows => came_as(KEPT_OUT),
+    pub(crate) fn tick(&mut self, now: u64) -> u8
+        ensures { Ticking result now self.old self.new }
+    {
+        match &mut self.endpoint {
+            Some(endpoint) => ticked_status(endpoint.tick(now)),
+            None => CLOSED,
+        }
+    }
+
+    pub(crate) fn arrive(&mut self, now: u64, link: u16, datagram: &[u8], waited: u32) -> CameRow
+        ensures { Arriving result now link datagram.now waited self.old self.new }
+    {
+        let Some(endpoint) = &mut self.endpoint else {
+            return came_as(CLOSED);
+        };
+        match self.guard.admits(endpoint, datagram) {
+            Admission::Admitted => came_row(endpoint.arrive(now, link, datagram, waited)),
+            Admission::ClosedPort | Admission::TooManyFlows => came_as(KEPT_OUT),
+        }
+    }
+
+    pub(crate) fn limit(&mut self, alloc: Global, ports: &[u16], all: bool, most: u32) -> u8
+        ensures { Guarding result ports.now all most self.old self.new }
+    {
+        match &self.endpoint {
+            Some(_) => set_guard(&mut self.guard, alloc, ports, all, most),
+            None => CLOSED,
+        }
+    }
+
+    pub(crate) fn kept_out(&mut self) -> KeptOutRow
+        ensures { KeptOut result self.old self.new }
+    {
+        kept_out_row(&self.guard)
+    }
+
+    pub(crate) fn counts(&mut self) -> CountsRow
+        ensures { Counting result self.old self.new }
+    {
+        match &self.endpoint {
+            Some(endpoint) => counts_row(endpoint.counts()),
+            None => no_counts_row(CLOSED),
+        }
+    }
+
+    pub(crate) fn follow(&mut self, flow: &FlowRow) -> u8
+        ensures { Following result flow.now self.old self.new }
+    {
+        let Some(endpoint) = &mut self.endpoint else {
+            return CLOSED;
+        };
+        match endpoint.follow(&flow.flow()) {
+            Ok(()) => DONE,
+            Err(NoMemory) => NO_MEMORY,
+        }
+    }
+
+    pub(crate) fn totals(&mut self, flow: &FlowRow) -> TotalsRow
+        ensures { Totalling result flow.now self.old self.new }
+    {
+        match &self.endpoint {
+            Some(endpoint) => totals_row(endpoint.totals(&flow.flow())),
+            None => no_totals_row(CLOSED),
+        }
+    }
+
+    pub(crate) fn add_route(&mut self, route: &RouteRow) -> u8
+        ensures { AddingRoute result route.now self.old self.new }
+    {
+        match &mut self.endpoint {
+            Some(endpoint) => routed_status(endpoint.add_route(route.route())),
+            None => CLOSED,
+        }
+    }
+
+    pub(crate) fn send(
+        &mut self,
+        now: u64,
+        flow: &FlowRow,
+        octets: &[u8],
+        begin: bool,
+        end: bool,
+    ) -> SentRow
+        ensures { Sending result now flow.now octets.now begin end self.old self.new }
+    {
+        match &mut self.endpoint {
+            Some(endpoint) => sent_row(endpoint.send(now, flow.flow(), octets, begin, end)),
+            None => sent_as(CLOSED),
+        }
+    }
+
+    pub(crate) fn read(&mut self, now: u64, flow: &FlowRow, buf: &mut [u8]) -> PieceRow
+        ensures { Reading result now flow.now (length buf.old) buf.new self.old self.new }
+    {
+        match &mut self.endpoint {
+            Some(endpoint) => piece_row(endpoint.read(now, flow.flow(), buf)),
+            None => no_piece(CLOSED),
+        }
+    }
+
+    pub(crate) fn inbox(&mut self, alloc: Global, longest: usize) -> u8
+        ensures { MakesInbox result longest self.old self.new }
+    {
+        let Some(_) = &self.endpoint else {
+            return CLOSED;
+        };
+        if self.mailbox.is_some() {
+            return HELD;
+        }
+        self.mailbox = Some(Mailbox::new(alloc, Some(longest)));
+        DONE
+    }
+
+    pub(crate) fn hear(&mut self, flow: &FlowRow) -> u8
+        ensures { Hearing result flow.now self.old self.new }
+    {
+        let Some(mailbox) = &mut self.mailbox else {
+            return CLOSED;
+        };
+        match mailbox.hear(flow.flow()) {
+            Ok(()) => DONE,
+            Err(NoMemory) => NO_MEMORY,
+        }
+    }
+
+    pub(crate) fn take(&mut self, alloc: Global, now: u64, buf: &mut [u8]) -> MessageRow
+        ensures { Taking result now buf.old buf.new self.old self.new }
+    {
+        let Some(endpoint) = &mut self.endpoint else {
+            return no_message(CLOSED, 0);
+        };
+        let Some(mailbox) = &mut self.mailbox else {
+            return no_message(CLOSED, 0);
+        };
+        let answer = mailbox.take(alloc, endpoint, now, buf);
+        message_row(answer, mailbox.dropped())
+    }
+
+    pub(crate) fn next_frame(&mut self, buf: &mut [u8]) -> OutRow
+        ensures { NextFrame result buf.old buf.new self.old self.new }
+    {
+        match &mut self.endpoint {
+            Some(endpoint) => hand_out(endpoint, buf),
+            None => no_frame(CLOSED),
+        }
+    }
+
+    pub(crate) fn next_report(&mut self) -> ReportRow
+        ensures { NextReport result self.old self.new }
+    {
+        match &mut self.endpoint {
+            Some(endpoint) => take_report(endpoint),
+            None => no_report(CLOSED),
+        }
+    }
+
+    pub(crate) fn wake(&mut self) -> MomentRow
+        ensures { Waking result self.old self.new }
+    {
+        match &self.endpoint {
+            Some(endpoint) => moment_row(endpoint.wake()),
+            None => moment_row(None),
+        }
+    }
+
+    pub(crate) fn open(
+        &mut self,
+        alloc: Global,
+        params: &ParamsRow,
+        start: &StartRow,
+        links: &[LinkRow],
+        routes: &[RouteRow],
+    ) -> OpenedRow
+        ensures { Opening result params.now start.now links.now routes.now self.old self.new }
+    {
+        let around = Surroundings::of(params, links, routes);
+        opened_row(opens(self, alloc, start, &around))
     }
 }
 
@@ -67,123 +227,6 @@ pub fn set_guard(guard: &mut Guard, alloc: Global, ports: &[u16], all: bool, mos
         Ok(()) => DONE,
         Err(NoMemory) => NO_MEMORY,
     }
-}
-
-pub fn guard_in(slot: &mut Slot, alloc: Global, ports: &[u16], all: bool, most: u32) -> u8
-    ensures { Guarding result ports.now all most slot.old slot.new }
-{
-    match &slot.endpoint {
-        Some(_) => set_guard(&mut slot.guard, alloc, ports, all, most),
-        None => CLOSED,
-    }
-}
-
-pub fn kept_out_in(slot: &mut Slot) -> KeptOutRow
-    ensures { KeptOut result slot.old slot.new }
-{
-    kept_out_row(&slot.guard)
-}
-
-pub fn counts_in(slot: &mut Slot) -> CountsRow
-    ensures { Counting result slot.old slot.new }
-{
-    match &slot.endpoint {
-        Some(endpoint) => counts_row(endpoint.counts()),
-        None => no_counts_row(CLOSED),
-    }
-}
-
-pub fn follow_in(slot: &mut Slot, flow: &FlowRow) -> u8
-    ensures { Following result flow.now slot.old slot.new }
-{
-    let Some(endpoint) = &mut slot.endpoint else {
-        return CLOSED;
-    };
-    match endpoint.follow(&flow.flow()) {
-        Ok(()) => DONE,
-        Err(NoMemory) => NO_MEMORY,
-    }
-}
-
-pub fn totals_in(slot: &mut Slot, flow: &FlowRow) -> TotalsRow
-    ensures { Totalling result flow.now slot.old slot.new }
-{
-    match &slot.endpoint {
-        Some(endpoint) => totals_row(endpoint.totals(&flow.flow())),
-        None => no_totals_row(CLOSED),
-    }
-}
-
-pub fn add_route_in(slot: &mut Slot, route: &RouteRow) -> u8
-    ensures { AddingRoute result route.now slot.old slot.new }
-{
-    match &mut slot.endpoint {
-        Some(endpoint) => routed_status(endpoint.add_route(route.route())),
-        None => CLOSED,
-    }
-}
-
-pub fn send_in(
-    slot: &mut Slot,
-    now: u64,
-    flow: &FlowRow,
-    octets: &[u8],
-    begin: bool,
-    end: bool,
-) -> SentRow
-    ensures { Sending result now flow.now octets.now begin end slot.old slot.new }
-{
-    match &mut slot.endpoint {
-        Some(endpoint) => sent_row(endpoint.send(now, flow.flow(), octets, begin, end)),
-        None => sent_as(CLOSED),
-    }
-}
-
-pub fn read_in(slot: &mut Slot, now: u64, flow: &FlowRow, buf: &mut [u8]) -> PieceRow
-    ensures { Reading result now flow.now (length buf.old) buf.new slot.old slot.new }
-{
-    match &mut slot.endpoint {
-        Some(endpoint) => piece_row(endpoint.read(now, flow.flow(), buf)),
-        None => no_piece(CLOSED),
-    }
-}
-
-pub fn inbox_in(slot: &mut Slot, alloc: Global, longest: usize) -> u8
-    ensures { MakesInbox result longest slot.old slot.new }
-{
-    let Some(_) = &slot.endpoint else {
-        return CLOSED;
-    };
-    if slot.mailbox.is_some() {
-        return HELD;
-    }
-    slot.mailbox = Some(Mailbox::new(alloc, Some(longest)));
-    DONE
-}
-
-pub fn hear_in(slot: &mut Slot, flow: &FlowRow) -> u8
-    ensures { Hearing result flow.now slot.old slot.new }
-{
-    let Some(mailbox) = &mut slot.mailbox else {
-        return CLOSED;
-    };
-    match mailbox.hear(flow.flow()) {
-        Ok(()) => DONE,
-        Err(NoMemory) => NO_MEMORY,
-    }
-}
-
-pub fn take_in(slot: &mut Slot, alloc: Global, now: u64, buf: &mut [u8]) -> MessageRow
-    ensures { Taking result now buf.old buf.new slot.old slot.new }
-{
-    let Some(endpoint) = &mut slot.endpoint else {
-        return no_message(CLOSED, 0);
-    };
-    let Some(mailbox) = &mut slot.mailbox else {
-        return no_message(CLOSED, 0);
-    };
-    let answer = mailbox.take(alloc, endpoint, now, buf);
-    message_row(answer, mailbox.dropped())
 }
 
 /// The first frame that waits goes out, where the buffer has room for it.
@@ -201,15 +244,6 @@ fn hand_out(endpoint: &mut Endpoint, buf: &mut [u8]) -> OutRow
     row
 }
 
-pub fn next_frame_in(slot: &mut Slot, buf: &mut [u8]) -> OutRow
-    ensures { NextFrame result buf.old buf.new slot.old slot.new }
-{
-    match &mut slot.endpoint {
-        Some(endpoint) => hand_out(endpoint, buf),
-        None => no_frame(CLOSED),
-    }
-}
-
 /// The first report that waits goes out.
 fn take_report(endpoint: &mut Endpoint) -> ReportRow
     ensures { TakesReport result endpoint.old endpoint.new }
@@ -217,24 +251,6 @@ fn take_report(endpoint: &mut Endpoint) -> ReportRow
     match endpoint.next_report() {
         Some(report) => report_row(&report),
         None => no_report(NOTHING),
-    }
-}
-
-pub fn next_report_in(slot: &mut Slot) -> ReportRow
-    ensures { NextReport result slot.old slot.new }
-{
-    match &mut slot.endpoint {
-        Some(endpoint) => take_report(endpoint),
-        None => no_report(CLOSED),
-    }
-}
-
-pub fn wake_in(slot: &mut Slot) -> MomentRow
-    ensures { Waking result slot.old slot.new }
-{
-    match &slot.endpoint {
-        Some(endpoint) => moment_row(endpoint.wake()),
-        None => moment_row(None),
     }
 }
 
@@ -359,20 +375,6 @@ fn opens(slot: &mut Slot, alloc: Global, start: &StartRow, around: &Surroundings
         }
         Err(NoMemory) => Opened::NoMemory,
     }
-}
-
-pub fn open_in(
-    slot: &mut Slot,
-    alloc: Global,
-    params: &ParamsRow,
-    start: &StartRow,
-    links: &[LinkRow],
-    routes: &[RouteRow],
-) -> OpenedRow
-    ensures { Opening result params.now start.now links.now routes.now slot.old slot.new }
-{
-    let around = Surroundings::of(params, links, routes);
-    opened_row(opens(slot, alloc, start, &around))
 }
 
 /// How long a node is silent after it starts again, or 0 where a parameter is out of its range.

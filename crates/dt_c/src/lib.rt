@@ -20,21 +20,12 @@ ghost use Rattle.dt_c.specs.contracts.service_slots.ServiceSlot.{the_row as serv
 ghost use Rattle.dt_c.specs.declared.service_slots.ServiceSlot.{ServiceSlot};
 ghost use Rattle.dt_c.specs.Serving.{CallCounting, Calling, Forgetting, NextEvent, Porting, Raising, Replying, ServiceAddingRoute, ServiceArriving, ServiceCounting, ServiceGuarding, ServiceKeptOut, ServiceNextFrame, ServiceOpening, ServiceTicking, ServiceWaking, Stopping, empty_service};
 
-use calls::{
-    add_route_in, arrive_in, close_in, counts_in, empty_slot, fingerprint_in, follow_in, guard_in,
-    hear_in, inbox_in, kept_out_in, next_frame_in, next_report_in, open_in, quiet_of, read_in,
-    send_in, take_in, tick_in, totals_in, wake_in,
-};
+use calls::{empty_slot, fingerprint_in, quiet_of};
 pub use rows::{
     CameRow, CountsRow, FingerprintRow, FlowRow, KeptOutRow, LinkRow, MessageRow, MomentRow,
     OpenedRow, OutRow, ParamsRow, PieceRow, ReportRow, RouteRow, SentRow, StartRow, TotalsRow,
 };
-use service_calls::{
-    add_service_route_in, arrive_service_in, call_counts_in, call_in, close_service_in,
-    empty_service_slot, forget_in, guard_service_in, next_event_in, next_service_frame_in,
-    open_service_in, port_in, raise_in, reply_in, service_counts_in, service_kept_out_in, stop_in,
-    tick_service_in, wake_service_in,
-};
+use service_calls::empty_service_slot;
 pub use service_rows::{CallCountsRow, EventRow, MadeRow, RepliedRow, ServiceStartRow, TokenRow};
 pub use service_slots::{ServiceHandle, ServiceSlot};
 pub use slots::{Handle, Slot};
@@ -76,7 +67,7 @@ pub unsafe extern "C" fn dt_close(node: *mut Handle)
     requires* { sem 𝓛 (points_to the_row node g) }
     ensures* { sem 𝓛 (points_to the_row node empty) }
 {
-    close_in(unsafe { &mut *(node as *mut Slot) })
+    Slot::close(unsafe { &mut *(node as *mut Slot) })
 }
 
 /// What is due at `now` is done.
@@ -86,7 +77,7 @@ pub unsafe extern "C" fn dt_tick(node: *mut Handle, now: u64) -> u8
     requires* { sem 𝓛 (points_to the_row node g) }
     ensures* { ∃ₛ (λ h. sem 𝓛 (points_to the_row node h) ∗ ⌜ Ticking result now g h ⌝) }
 {
-    tick_in(unsafe { &mut *(node as *mut Slot) }, now)
+    Slot::tick(unsafe { &mut *(node as *mut Slot) }, now)
 }
 
 /// A datagram came on a link, and waited so many milliseconds until this call.
@@ -102,7 +93,7 @@ pub unsafe extern "C" fn dt_arrive(
     requires* { sem 𝓛 (points_to the_row node g) }
     ensures* { ∃ₛ (λ h. sem 𝓛 (points_to the_row node h) ∗ ⌜ Arriving result now link datagram.now waited g h ⌝) }
 {
-    arrive_in(
+    Slot::arrive(
         unsafe { &mut *(node as *mut Slot) },
         now,
         link,
@@ -124,7 +115,7 @@ pub unsafe extern "C" fn dt_guard(
     requires* { sem 𝓛 (points_to the_row node g) }
     ensures* { ∃ₛ (λ h. sem 𝓛 (points_to the_row node h) ∗ ⌜ Guarding result ports.now all flows g h ⌝) }
 {
-    guard_in(
+    Slot::limit(
         unsafe { &mut *(node as *mut Slot) },
         alloc,
         ports,
@@ -140,7 +131,7 @@ pub unsafe extern "C" fn dt_kept_out(node: *mut Handle) -> KeptOutRow
     requires* { sem 𝓛 (points_to the_row node g) }
     ensures* { ∃ₛ (λ h. sem 𝓛 (points_to the_row node h) ∗ ⌜ KeptOut result g h ⌝) }
 {
-    kept_out_in(unsafe { &mut *(node as *mut Slot) })
+    Slot::kept_out(unsafe { &mut *(node as *mut Slot) })
 }
 
 /// What the node counted since it was opened.
@@ -150,7 +141,7 @@ pub unsafe extern "C" fn dt_counts(node: *mut Handle) -> CountsRow
     requires* { sem 𝓛 (points_to the_row node g) }
     ensures* { ∃ₛ (λ h. sem 𝓛 (points_to the_row node h) ∗ ⌜ Counting result g h ⌝) }
 {
-    counts_in(unsafe { &mut *(node as *mut Slot) })
+    Slot::counts(unsafe { &mut *(node as *mut Slot) })
 }
 
 /// From now on it is counted what is reported of the octets of a flow.
@@ -160,7 +151,7 @@ pub unsafe extern "C" fn dt_follow(node: *mut Handle, flow: &FlowRow) -> u8
     requires* { sem 𝓛 (points_to the_row node g) }
     ensures* { ∃ₛ (λ h. sem 𝓛 (points_to the_row node h) ∗ ⌜ Following result flow.now g h ⌝) }
 {
-    follow_in(unsafe { &mut *(node as *mut Slot) }, flow)
+    Slot::follow(unsafe { &mut *(node as *mut Slot) }, flow)
 }
 
 /// What was reported of the octets of a flow since it is followed.
@@ -170,7 +161,7 @@ pub unsafe extern "C" fn dt_totals(node: *mut Handle, flow: &FlowRow) -> TotalsR
     requires* { sem 𝓛 (points_to the_row node g) }
     ensures* { ∃ₛ (λ h. sem 𝓛 (points_to the_row node h) ∗ ⌜ Totalling result flow.now g h ⌝) }
 {
-    totals_in(unsafe { &mut *(node as *mut Slot) }, flow)
+    Slot::totals(unsafe { &mut *(node as *mut Slot) }, flow)
 }
 
 /// From now on packets to the route's node leave on its link.
@@ -180,7 +171,7 @@ pub unsafe extern "C" fn dt_add_route(node: *mut Handle, route: &RouteRow) -> u8
     requires* { sem 𝓛 (points_to the_row node g) }
     ensures* { ∃ₛ (λ h. sem 𝓛 (points_to the_row node h) ∗ ⌜ AddingRoute result route.now g h ⌝) }
 {
-    add_route_in(unsafe { &mut *(node as *mut Slot) }, route)
+    Slot::add_route(unsafe { &mut *(node as *mut Slot) }, route)
 }
 
 /// Octets are sent on a flow from this node.
@@ -197,7 +188,7 @@ pub unsafe extern "C" fn dt_send(
     requires* { sem 𝓛 (points_to the_row node g) }
     ensures* { ∃ₛ (λ h. sem 𝓛 (points_to the_row node h) ∗ ⌜ Sending result now flow.now octets.now begin end g h ⌝) }
 {
-    send_in(
+    Slot::send(
         unsafe { &mut *(node as *mut Slot) },
         now,
         flow,
@@ -219,7 +210,7 @@ pub unsafe extern "C" fn dt_read(
     requires* { sem 𝓛 (points_to the_row node g) }
     ensures* { ∃ₛ (λ h. sem 𝓛 (points_to the_row node h) ∗ ⌜ Reading result now flow.now (length buf.old) buf.new g h ⌝) }
 {
-    read_in(unsafe { &mut *(node as *mut Slot) }, now, flow, buf)
+    Slot::read(unsafe { &mut *(node as *mut Slot) }, now, flow, buf)
 }
 
 /// From now on whole messages of at most so many octets are put together.
@@ -229,7 +220,7 @@ pub unsafe extern "C" fn dt_inbox(node: *mut Handle, alloc: Global, longest: usi
     requires* { sem 𝓛 (points_to the_row node g) }
     ensures* { ∃ₛ (λ h. sem 𝓛 (points_to the_row node h) ∗ ⌜ MakesInbox result longest g h ⌝) }
 {
-    inbox_in(unsafe { &mut *(node as *mut Slot) }, alloc, longest)
+    Slot::inbox(unsafe { &mut *(node as *mut Slot) }, alloc, longest)
 }
 
 /// Octets of a flow to this node may be unread.
@@ -239,7 +230,7 @@ pub unsafe extern "C" fn dt_hear(node: *mut Handle, flow: &FlowRow) -> u8
     requires* { sem 𝓛 (points_to the_row node g) }
     ensures* { ∃ₛ (λ h. sem 𝓛 (points_to the_row node h) ∗ ⌜ Hearing result flow.now g h ⌝) }
 {
-    hear_in(unsafe { &mut *(node as *mut Slot) }, flow)
+    Slot::hear(unsafe { &mut *(node as *mut Slot) }, flow)
 }
 
 /// A whole message of the first flow that was heard of and has one, where the buffer has room for it.
@@ -254,7 +245,7 @@ pub unsafe extern "C" fn dt_take(
     requires* { sem 𝓛 (points_to the_row node g) }
     ensures* { ∃ₛ (λ h. sem 𝓛 (points_to the_row node h) ∗ ⌜ Taking result now buf.old buf.new g h ⌝) }
 {
-    take_in(unsafe { &mut *(node as *mut Slot) }, alloc, now, buf)
+    Slot::take(unsafe { &mut *(node as *mut Slot) }, alloc, now, buf)
 }
 
 /// The first frame that waits, where the buffer has room for it.
@@ -264,7 +255,7 @@ pub unsafe extern "C" fn dt_next_frame(node: *mut Handle, buf: &mut [u8]) -> Out
     requires* { sem 𝓛 (points_to the_row node g) }
     ensures* { ∃ₛ (λ h. sem 𝓛 (points_to the_row node h) ∗ ⌜ NextFrame result buf.old buf.new g h ⌝) }
 {
-    next_frame_in(unsafe { &mut *(node as *mut Slot) }, buf)
+    Slot::next_frame(unsafe { &mut *(node as *mut Slot) }, buf)
 }
 
 /// The moment of the next tick that does something, or none.
@@ -274,7 +265,7 @@ pub unsafe extern "C" fn dt_wake(node: *mut Handle) -> MomentRow
     requires* { sem 𝓛 (points_to the_row node g) }
     ensures* { ∃ₛ (λ h. sem 𝓛 (points_to the_row node h) ∗ ⌜ Waking result g h ⌝) }
 {
-    wake_in(unsafe { &mut *(node as *mut Slot) })
+    Slot::wake(unsafe { &mut *(node as *mut Slot) })
 }
 
 /// A node starts, in a handle that holds none.
@@ -291,7 +282,7 @@ pub unsafe extern "C" fn dt_open(
     requires* { sem 𝓛 (points_to the_row node g) }
     ensures* { ∃ₛ (λ h. sem 𝓛 (points_to the_row node h) ∗ ⌜ Opening result params.now start.now links.now routes.now g h ⌝) }
 {
-    open_in(
+    Slot::open(
         unsafe { &mut *(node as *mut Slot) },
         alloc,
         params,
@@ -308,7 +299,7 @@ pub unsafe extern "C" fn dt_next_report(node: *mut Handle) -> ReportRow
     requires* { sem 𝓛 (points_to the_row node g) }
     ensures* { ∃ₛ (λ h. sem 𝓛 (points_to the_row node h) ∗ ⌜ NextReport result g h ⌝) }
 {
-    next_report_in(unsafe { &mut *(node as *mut Slot) })
+    Slot::next_report(unsafe { &mut *(node as *mut Slot) })
 }
 
 /// How long a node is silent after it starts again, or 0 where a parameter is out of its range.
@@ -343,7 +334,7 @@ pub unsafe extern "C" fn dt_service_close(service: *mut ServiceHandle)
     requires* { sem 𝓛 (points_to service_row service g) }
     ensures* { sem 𝓛 (points_to service_row service empty_service) }
 {
-    close_service_in(unsafe { &mut *(service as *mut ServiceSlot) })
+    ServiceSlot::close(unsafe { &mut *(service as *mut ServiceSlot) })
 }
 
 /// How many octets a handle of a service takes.
@@ -372,7 +363,7 @@ pub unsafe extern "C" fn dt_service_open(
     requires* { sem 𝓛 (points_to service_row service g) }
     ensures* { ∃ₛ (λ h. sem 𝓛 (points_to service_row service h) ∗ ⌜ ServiceOpening result params.now start.now links.now routes.now g h ⌝) }
 {
-    open_service_in(
+    ServiceSlot::open(
         unsafe { &mut *(service as *mut ServiceSlot) },
         alloc,
         params,
@@ -389,7 +380,7 @@ pub unsafe extern "C" fn dt_port(service: *mut ServiceHandle, port: u16, kind: u
     requires* { sem 𝓛 (points_to service_row service g) }
     ensures* { ∃ₛ (λ h. sem 𝓛 (points_to service_row service h) ∗ ⌜ Porting result port kind g h ⌝) }
 {
-    port_in(unsafe { &mut *(service as *mut ServiceSlot) }, port, kind)
+    ServiceSlot::port(unsafe { &mut *(service as *mut ServiceSlot) }, port, kind)
 }
 
 /// A call to a service of another node.
@@ -405,7 +396,7 @@ pub unsafe extern "C" fn dt_call(
     requires* { sem 𝓛 (points_to service_row service g) }
     ensures* { ∃ₛ (λ h. sem 𝓛 (points_to service_row service h) ∗ ⌜ Calling result now flow.now payload.now patience g h ⌝) }
 {
-    call_in(
+    ServiceSlot::call(
         unsafe { &mut *(service as *mut ServiceSlot) },
         now,
         flow,
@@ -426,7 +417,7 @@ pub unsafe extern "C" fn dt_reply(
     requires* { sem 𝓛 (points_to service_row service g) }
     ensures* { ∃ₛ (λ h. sem 𝓛 (points_to service_row service h) ∗ ⌜ Replying result now token.now payload.now g h ⌝) }
 {
-    reply_in(
+    ServiceSlot::reply(
         unsafe { &mut *(service as *mut ServiceSlot) },
         now,
         token,
@@ -441,7 +432,7 @@ pub unsafe extern "C" fn dt_forget(service: *mut ServiceHandle, now: u64, token:
     requires* { sem 𝓛 (points_to service_row service g) }
     ensures* { ∃ₛ (λ h. sem 𝓛 (points_to service_row service h) ∗ ⌜ Forgetting result now token.now g h ⌝) }
 {
-    forget_in(unsafe { &mut *(service as *mut ServiceSlot) }, now, token)
+    ServiceSlot::forget(unsafe { &mut *(service as *mut ServiceSlot) }, now, token)
 }
 
 /// What happened next, where the buffer has room for what it carries.
@@ -451,7 +442,7 @@ pub unsafe extern "C" fn dt_next_event(service: *mut ServiceHandle, buf: &mut [u
     requires* { sem 𝓛 (points_to service_row service g) }
     ensures* { ∃ₛ (λ h. sem 𝓛 (points_to service_row service h) ∗ ⌜ NextEvent result buf.old buf.new g h ⌝) }
 {
-    next_event_in(unsafe { &mut *(service as *mut ServiceSlot) }, buf)
+    ServiceSlot::next_event(unsafe { &mut *(service as *mut ServiceSlot) }, buf)
 }
 
 /// From now on calls have numbers of this life.
@@ -461,7 +452,7 @@ pub unsafe extern "C" fn dt_raise(service: *mut ServiceHandle, life: u32) -> u8
     requires* { sem 𝓛 (points_to service_row service g) }
     ensures* { ∃ₛ (λ h. sem 𝓛 (points_to service_row service h) ∗ ⌜ Raising result life g h ⌝) }
 {
-    raise_in(unsafe { &mut *(service as *mut ServiceSlot) }, life)
+    ServiceSlot::raise(unsafe { &mut *(service as *mut ServiceSlot) }, life)
 }
 
 /// Each call that waits is unsure, and no turn is done any more.
@@ -471,7 +462,7 @@ pub unsafe extern "C" fn dt_service_stop(service: *mut ServiceHandle) -> u8
     requires* { sem 𝓛 (points_to service_row service g) }
     ensures* { ∃ₛ (λ h. sem 𝓛 (points_to service_row service h) ∗ ⌜ Stopping result g h ⌝) }
 {
-    stop_in(unsafe { &mut *(service as *mut ServiceSlot) })
+    ServiceSlot::stop(unsafe { &mut *(service as *mut ServiceSlot) })
 }
 
 /// A datagram came on a link, and waited so many milliseconds until this call.
@@ -487,7 +478,7 @@ pub unsafe extern "C" fn dt_service_arrive(
     requires* { sem 𝓛 (points_to service_row service g) }
     ensures* { ∃ₛ (λ h. sem 𝓛 (points_to service_row service h) ∗ ⌜ ServiceArriving result now link datagram.now waited g h ⌝) }
 {
-    arrive_service_in(
+    ServiceSlot::arrive(
         unsafe { &mut *(service as *mut ServiceSlot) },
         now,
         link,
@@ -503,7 +494,7 @@ pub unsafe extern "C" fn dt_service_tick(service: *mut ServiceHandle, now: u64) 
     requires* { sem 𝓛 (points_to service_row service g) }
     ensures* { ∃ₛ (λ h. sem 𝓛 (points_to service_row service h) ∗ ⌜ ServiceTicking result now g h ⌝) }
 {
-    tick_service_in(unsafe { &mut *(service as *mut ServiceSlot) }, now)
+    ServiceSlot::tick(unsafe { &mut *(service as *mut ServiceSlot) }, now)
 }
 
 /// From now on the service receives at these ports, or at all, and of so many flows at most.
@@ -519,7 +510,7 @@ pub unsafe extern "C" fn dt_service_guard(
     requires* { sem 𝓛 (points_to service_row service g) }
     ensures* { ∃ₛ (λ h. sem 𝓛 (points_to service_row service h) ∗ ⌜ ServiceGuarding result ports.now all flows g h ⌝) }
 {
-    guard_service_in(
+    ServiceSlot::limit(
         unsafe { &mut *(service as *mut ServiceSlot) },
         alloc,
         ports,
@@ -538,7 +529,7 @@ pub unsafe extern "C" fn dt_service_next_frame(
     requires* { sem 𝓛 (points_to service_row service g) }
     ensures* { ∃ₛ (λ h. sem 𝓛 (points_to service_row service h) ∗ ⌜ ServiceNextFrame result buf.old buf.new g h ⌝) }
 {
-    next_service_frame_in(unsafe { &mut *(service as *mut ServiceSlot) }, buf)
+    ServiceSlot::next_frame(unsafe { &mut *(service as *mut ServiceSlot) }, buf)
 }
 
 /// From now on packets to the route's node leave on its link.
@@ -548,7 +539,7 @@ pub unsafe extern "C" fn dt_service_add_route(service: *mut ServiceHandle, route
     requires* { sem 𝓛 (points_to service_row service g) }
     ensures* { ∃ₛ (λ h. sem 𝓛 (points_to service_row service h) ∗ ⌜ ServiceAddingRoute result route.now g h ⌝) }
 {
-    add_service_route_in(unsafe { &mut *(service as *mut ServiceSlot) }, route)
+    ServiceSlot::add_route(unsafe { &mut *(service as *mut ServiceSlot) }, route)
 }
 
 /// The moment of the next tick that does something, or none.
@@ -558,7 +549,7 @@ pub unsafe extern "C" fn dt_service_wake(service: *mut ServiceHandle) -> MomentR
     requires* { sem 𝓛 (points_to service_row service g) }
     ensures* { ∃ₛ (λ h. sem 𝓛 (points_to service_row service h) ∗ ⌜ ServiceWaking result g h ⌝) }
 {
-    wake_service_in(unsafe { &mut *(service as *mut ServiceSlot) })
+    ServiceSlot::wake(unsafe { &mut *(service as *mut ServiceSlot) })
 }
 
 /// What the endpoint counted since it was opened.
@@ -568,7 +559,7 @@ pub unsafe extern "C" fn dt_service_counts(service: *mut ServiceHandle) -> Count
     requires* { sem 𝓛 (points_to service_row service g) }
     ensures* { ∃ₛ (λ h. sem 𝓛 (points_to service_row service h) ∗ ⌜ ServiceCounting result g h ⌝) }
 {
-    service_counts_in(unsafe { &mut *(service as *mut ServiceSlot) })
+    ServiceSlot::counts(unsafe { &mut *(service as *mut ServiceSlot) })
 }
 
 /// How many messages were dropped, by cause.
@@ -578,7 +569,7 @@ pub unsafe extern "C" fn dt_call_counts(service: *mut ServiceHandle) -> CallCoun
     requires* { sem 𝓛 (points_to service_row service g) }
     ensures* { ∃ₛ (λ h. sem 𝓛 (points_to service_row service h) ∗ ⌜ CallCounting result g h ⌝) }
 {
-    call_counts_in(unsafe { &mut *(service as *mut ServiceSlot) })
+    ServiceSlot::call_counts(unsafe { &mut *(service as *mut ServiceSlot) })
 }
 
 /// How many datagrams the guard kept out.
@@ -588,5 +579,5 @@ pub unsafe extern "C" fn dt_service_kept_out(service: *mut ServiceHandle) -> Kep
     requires* { sem 𝓛 (points_to service_row service g) }
     ensures* { ∃ₛ (λ h. sem 𝓛 (points_to service_row service h) ∗ ⌜ ServiceKeptOut result g h ⌝) }
 {
-    service_kept_out_in(unsafe { &mut *(service as *mut ServiceSlot) })
+    ServiceSlot::kept_out(unsafe { &mut *(service as *mut ServiceSlot) })
 }

@@ -36,10 +36,179 @@ pub fn empty_service_slot() -> ServiceSlot
     }
 }
 
-pub fn close_service_in(slot: &mut ServiceSlot)
-    ensures { slot.new ≡ empty_service }
-{
-    *slot = empty_service_slot();
+impl ServiceSlot {
+    pub(crate) fn close(&mut self)
+        ensures { self.new ≡ empty_service }
+    {
+        *self = empty_service_slot();
+    }
+
+    pub(crate) fn open(
+        &mut self,
+        alloc: Global,
+        params: &ParamsRow,
+        start: &ServiceStartRow,
+        links: &[LinkRow],
+        routes: &[RouteRow],
+    ) -> OpenedRow
+        ensures { ServiceOpening result params.now start.now links.now routes.now self.old self.new }
+    {
+        let around = Surroundings::of(params, links, routes);
+        opened_row(opens_service(self, alloc, start, &around))
+    }
+
+    pub(crate) fn port(&mut self, port: u16, kind: u8) -> u8
+        ensures { Porting result port kind self.old self.new }
+    {
+        match &mut self.service {
+            Some(service) => give_kind(service, port, kind_of(kind)),
+            None => CLOSED,
+        }
+    }
+
+    pub(crate) fn call(
+        &mut self,
+        now: u64,
+        flow: &FlowRow,
+        payload: &[u8],
+        patience: u32,
+    ) -> MadeRow
+        ensures { Calling result now flow.now payload.now patience self.old self.new }
+    {
+        match &mut self.service {
+            Some(service) => made_row(service.call(now, flow.flow(), payload, patience)),
+            None => made_as(CLOSED),
+        }
+    }
+
+    pub(crate) fn reply(&mut self, now: u64, token: &TokenRow, payload: &[u8]) -> RepliedRow
+        ensures { Replying result now token.now payload.now self.old self.new }
+    {
+        match &mut self.service {
+            Some(service) => replied_row(service.reply(now, token.token(), payload)),
+            None => replied_as(CLOSED),
+        }
+    }
+
+    pub(crate) fn forget(&mut self, now: u64, token: &TokenRow) -> u8
+        ensures { Forgetting result now token.now self.old self.new }
+    {
+        match &mut self.service {
+            Some(service) => forgot_status(service.forget(now, &token.token())),
+            None => CLOSED,
+        }
+    }
+
+    pub(crate) fn tick(&mut self, now: u64) -> u8
+        ensures { ServiceTicking result now self.old self.new }
+    {
+        match &mut self.service {
+            Some(service) => ticked_status(service.tick(now)),
+            None => CLOSED,
+        }
+    }
+
+    pub(crate) fn arrive(&mut self, now: u64, link: u16, datagram: &[u8], waited: u32) -> CameRow
+        ensures { ServiceArriving result now link datagram.now waited self.old self.new }
+    {
+        let Some(service) = &mut self.service else {
+            return came_as(CLOSED);
+        };
+        match self.guard.admits(service.endpoint(), datagram) {
+            Admission::Admitted => came_row(service.arrive(now, link, datagram, waited)),
+            Admission::ClosedPort | Admission::TooManyFlows => came_as(KEPT_OUT),
+        }
+    }
+
+    pub(crate) fn next_event(&mut self, buf: &mut [u8]) -> EventRow
+        ensures { NextEvent result buf.old buf.new self.old self.new }
+    {
+        match &mut self.service {
+            Some(service) => take_event(service, buf),
+            None => no_event(CLOSED),
+        }
+    }
+
+    pub(crate) fn raise(&mut self, life: u32) -> u8
+        ensures { Raising result life self.old self.new }
+    {
+        match &mut self.service {
+            Some(service) => raise_life(service, life),
+            None => CLOSED,
+        }
+    }
+
+    pub(crate) fn stop(&mut self) -> u8
+        ensures { Stopping result self.old self.new }
+    {
+        match &mut self.service {
+            Some(service) => {
+                service.close();
+                DONE
+            }
+            None => CLOSED,
+        }
+    }
+
+    pub(crate) fn next_frame(&mut self, buf: &mut [u8]) -> OutRow
+        ensures { ServiceNextFrame result buf.old buf.new self.old self.new }
+    {
+        match &mut self.service {
+            Some(service) => hand_frame(service, buf),
+            None => no_frame(CLOSED),
+        }
+    }
+
+    pub(crate) fn wake(&mut self) -> MomentRow
+        ensures { ServiceWaking result self.old self.new }
+    {
+        match &self.service {
+            Some(service) => moment_row(service.wake()),
+            None => moment_row(None),
+        }
+    }
+
+    pub(crate) fn add_route(&mut self, route: &RouteRow) -> u8
+        ensures { ServiceAddingRoute result route.now self.old self.new }
+    {
+        match &mut self.service {
+            Some(service) => routed_status(service.add_route(route.route())),
+            None => CLOSED,
+        }
+    }
+
+    pub(crate) fn limit(&mut self, alloc: Global, ports: &[u16], all: bool, most: u32) -> u8
+        ensures { ServiceGuarding result ports.now all most self.old self.new }
+    {
+        match &self.service {
+            Some(_) => set_guard(&mut self.guard, alloc, ports, all, most),
+            None => CLOSED,
+        }
+    }
+
+    pub(crate) fn kept_out(&mut self) -> KeptOutRow
+        ensures { ServiceKeptOut result self.old self.new }
+    {
+        kept_out_row(&self.guard)
+    }
+
+    pub(crate) fn counts(&mut self) -> CountsRow
+        ensures { ServiceCounting result self.old self.new }
+    {
+        match &self.service {
+            Some(service) => counts_row(service.endpoint().counts()),
+            None => no_counts_row(CLOSED),
+        }
+    }
+
+    pub(crate) fn call_counts(&mut self) -> CallCountsRow
+        ensures { CallCounting result self.old self.new }
+    {
+        match &self.service {
+            Some(service) => call_counts_row(service.counts()),
+            None => no_call_counts(),
+        }
+    }
 }
 
 fn new_service(
@@ -78,20 +247,6 @@ fn opens_service(
     Opened::Done
 }
 
-pub fn open_service_in(
-    slot: &mut ServiceSlot,
-    alloc: Global,
-    params: &ParamsRow,
-    start: &ServiceStartRow,
-    links: &[LinkRow],
-    routes: &[RouteRow],
-) -> OpenedRow
-    ensures { ServiceOpening result params.now start.now links.now routes.now slot.old slot.new }
-{
-    let around = Surroundings::of(params, links, routes);
-    opened_row(opens_service(slot, alloc, start, &around))
-}
-
 fn give_kind(service: &mut Service, port: u16, kind: Option<Kind>) -> u8
     ensures { GetsKind result port kind service.old service.new }
 {
@@ -102,75 +257,6 @@ fn give_kind(service: &mut Service, port: u16, kind: Option<Kind>) -> u8
         Ok(true) => DONE,
         Ok(false) => HELD,
         Err(NoMemory) => NO_MEMORY,
-    }
-}
-
-pub fn port_in(slot: &mut ServiceSlot, port: u16, kind: u8) -> u8
-    ensures { Porting result port kind slot.old slot.new }
-{
-    match &mut slot.service {
-        Some(service) => give_kind(service, port, kind_of(kind)),
-        None => CLOSED,
-    }
-}
-
-pub fn call_in(
-    slot: &mut ServiceSlot,
-    now: u64,
-    flow: &FlowRow,
-    payload: &[u8],
-    patience: u32,
-) -> MadeRow
-    ensures { Calling result now flow.now payload.now patience slot.old slot.new }
-{
-    match &mut slot.service {
-        Some(service) => made_row(service.call(now, flow.flow(), payload, patience)),
-        None => made_as(CLOSED),
-    }
-}
-
-pub fn reply_in(slot: &mut ServiceSlot, now: u64, token: &TokenRow, payload: &[u8]) -> RepliedRow
-    ensures { Replying result now token.now payload.now slot.old slot.new }
-{
-    match &mut slot.service {
-        Some(service) => replied_row(service.reply(now, token.token(), payload)),
-        None => replied_as(CLOSED),
-    }
-}
-
-pub fn forget_in(slot: &mut ServiceSlot, now: u64, token: &TokenRow) -> u8
-    ensures { Forgetting result now token.now slot.old slot.new }
-{
-    match &mut slot.service {
-        Some(service) => forgot_status(service.forget(now, &token.token())),
-        None => CLOSED,
-    }
-}
-
-pub fn tick_service_in(slot: &mut ServiceSlot, now: u64) -> u8
-    ensures { ServiceTicking result now slot.old slot.new }
-{
-    match &mut slot.service {
-        Some(service) => ticked_status(service.tick(now)),
-        None => CLOSED,
-    }
-}
-
-pub fn arrive_service_in(
-    slot: &mut ServiceSlot,
-    now: u64,
-    link: u16,
-    datagram: &[u8],
-    waited: u32,
-) -> CameRow
-    ensures { ServiceArriving result now link datagram.now waited slot.old slot.new }
-{
-    let Some(service) = &mut slot.service else {
-        return came_as(CLOSED);
-    };
-    match slot.guard.admits(service.endpoint(), datagram) {
-        Admission::Admitted => came_row(service.arrive(now, link, datagram, waited)),
-        Admission::ClosedPort | Admission::TooManyFlows => came_as(KEPT_OUT),
     }
 }
 
@@ -197,40 +283,10 @@ fn take_event(service: &mut Service, buf: &mut [u8]) -> EventRow
     }
 }
 
-pub fn next_event_in(slot: &mut ServiceSlot, buf: &mut [u8]) -> EventRow
-    ensures { NextEvent result buf.old buf.new slot.old slot.new }
-{
-    match &mut slot.service {
-        Some(service) => take_event(service, buf),
-        None => no_event(CLOSED),
-    }
-}
-
 fn raise_life(service: &mut Service, life: u32) -> u8
     ensures { Raises result life service.old service.new }
 {
     if service.raise(life) { DONE } else { HELD }
-}
-
-pub fn raise_in(slot: &mut ServiceSlot, life: u32) -> u8
-    ensures { Raising result life slot.old slot.new }
-{
-    match &mut slot.service {
-        Some(service) => raise_life(service, life),
-        None => CLOSED,
-    }
-}
-
-pub fn stop_in(slot: &mut ServiceSlot) -> u8
-    ensures { Stopping result slot.old slot.new }
-{
-    match &mut slot.service {
-        Some(service) => {
-            service.close();
-            DONE
-        }
-        None => CLOSED,
-    }
 }
 
 /// The first frame that waits goes out, where the buffer has room for it.
@@ -246,70 +302,4 @@ fn hand_frame(service: &mut Service, buf: &mut [u8]) -> OutRow
         let _ = service.next_frame();
     }
     row
-}
-
-pub fn next_service_frame_in(slot: &mut ServiceSlot, buf: &mut [u8]) -> OutRow
-    ensures { ServiceNextFrame result buf.old buf.new slot.old slot.new }
-{
-    match &mut slot.service {
-        Some(service) => hand_frame(service, buf),
-        None => no_frame(CLOSED),
-    }
-}
-
-pub fn wake_service_in(slot: &mut ServiceSlot) -> MomentRow
-    ensures { ServiceWaking result slot.old slot.new }
-{
-    match &slot.service {
-        Some(service) => moment_row(service.wake()),
-        None => moment_row(None),
-    }
-}
-
-pub fn add_service_route_in(slot: &mut ServiceSlot, route: &RouteRow) -> u8
-    ensures { ServiceAddingRoute result route.now slot.old slot.new }
-{
-    match &mut slot.service {
-        Some(service) => routed_status(service.add_route(route.route())),
-        None => CLOSED,
-    }
-}
-
-pub fn guard_service_in(
-    slot: &mut ServiceSlot,
-    alloc: Global,
-    ports: &[u16],
-    all: bool,
-    most: u32,
-) -> u8
-    ensures { ServiceGuarding result ports.now all most slot.old slot.new }
-{
-    match &slot.service {
-        Some(_) => set_guard(&mut slot.guard, alloc, ports, all, most),
-        None => CLOSED,
-    }
-}
-
-pub fn service_kept_out_in(slot: &mut ServiceSlot) -> KeptOutRow
-    ensures { ServiceKeptOut result slot.old slot.new }
-{
-    kept_out_row(&slot.guard)
-}
-
-pub fn service_counts_in(slot: &mut ServiceSlot) -> CountsRow
-    ensures { ServiceCounting result slot.old slot.new }
-{
-    match &slot.service {
-        Some(service) => counts_row(service.endpoint().counts()),
-        None => no_counts_row(CLOSED),
-    }
-}
-
-pub fn call_counts_in(slot: &mut ServiceSlot) -> CallCountsRow
-    ensures { CallCounting result slot.old slot.new }
-{
-    match &slot.service {
-        Some(service) => call_counts_row(service.counts()),
-        None => no_call_counts(),
-    }
 }

@@ -207,6 +207,25 @@ pub record WireInMemory : Type 0 where
   pub opens : ℕ
   pub last_wait : Option ℕ
 
+-- A wire in memory that isn't open, and on which no call was made: by what comes on it and what fails, and by what it keeps of gives.
+abbrev pub fresh_wire : Plan → Option Departures → WireInMemory
+fresh_wire plan departures = record {
+  opening = Some None;
+  open_fails = plan.open_fails;
+  failing_takes = plan.failing_takes;
+  failing_gives = plan.failing_gives;
+  entries = plan.entries;
+  used = 0;
+  taken = Some [];
+  departures = departures;
+  takes = 0;
+  gives = 0;
+  take_faults = 0;
+  give_faults = 0;
+  opens = 0;
+  last_wait = None;
+}
+
 -- how many octets these datagrams have
 abbrev pub octets_in : List Datagram → ℕ
 octets_in datagrams = sum_by (λ d. length d.octets) datagrams

@@ -2,7 +2,7 @@
 ghost use Rattle.std.specs.Prelude.{◌≡◌, ◌≢◌, ◌≤◌, ◌<◌, ◌↔◌, ◌||◌, ◌++◌, ◌∷◌, [], None, Some, length, slice_get, AllPairs, IfOk, OnOk, OnErr, IfSome, IsSome, IsErr, IsTrue, MatchOption};
 ghost use Rattle.std.specs.Option.{option_map};
 ghost use Rattle.dt_edges.specs.Counts.{is_planned, last_count};
-ghost use Rattle.dt_edges.specs.Wires.{handed, cut_to, entry_at, lacks_room, kept_given, opened_after, taken_after, given_after};
+ghost use Rattle.dt_edges.specs.Wires.{fresh_wire, handed, cut_to, entry_at, lacks_room, kept_given, opened_after, taken_after, given_after};
 
 use crate::addresses::{Address, Peer};
 use crate::failures::Failed;
@@ -83,22 +83,9 @@ impl MemWire {
         failing_gives: &[u64],
         room: Option<usize>,
     ) -> Result<Self, NoMemory>
-        ensures { IfOk result (λ wire. wire ≡ record {
-          opening = Some None;
-          open_fails = open_fails;
-          failing_takes = failing_takes.now;
-          failing_gives = failing_gives.now;
-          entries = [];
-          used = 0;
-          taken = Some [];
-          departures = option_map (λ room. record { room = room; given = [] }) room;
-          takes = 0;
-          gives = 0;
-          take_faults = 0;
-          give_faults = 0;
-          opens = 0;
-          last_wait = None;
-        }) }
+        ensures { IfOk result (λ wire. wire ≡ fresh_wire
+            (record { entries = []; failing_takes = failing_takes.now; failing_gives = failing_gives.now; open_fails = open_fails })
+            (option_map (λ room. record { room = room; given = [] }) room)) }
     {
         let outbox = match room {
             Some(room) => Some(Outbox::with_room(alloc, room)?),

@@ -2,6 +2,7 @@
 ghost use Rattle.std.specs.Prelude.{◌≡◌, OnOk, false, length};
 ghost use Rattle.dt_layout.specs.Carried.{IsGram};
 ghost use Rattle.dt_station.specs.Events.{MayHappenHere, local_seen};
+ghost use Rattle.dt_station.specs.Stations.{Stays};
 ghost use Rattle.dt_world_model.specs.Station.{Arrive, station_event};
 ghost use Rattle.dt_endpoint.specs.Acts.{plain};
 ghost use Rattle.dt_endpoint.specs.Collecting.{CollectEnds, begun};
@@ -9,6 +10,7 @@ ghost use Rattle.dt_endpoint.specs.Endpoints.{GoesOn, MayGo};
 ghost use Rattle.dt_world_laws.specs.Counting.{octets_sent};
 
 use crate::collecting::Collector;
+use dt_flow_model::Reading;
 use dt_items::NoMemory;
 use dt_layout::Frame;
 use dt_station::{LocalEvent, Station};
@@ -27,12 +29,11 @@ pub fn collect_event(
     ensures ends { let script = station_event station.old.rules now (local_seen (length buf.old) event.entry) station.old.state in
         CollectEnds result script (begun collector.old) collector.new station.new.state }
     ensures on { OnOk result (GoesOn now (octets_sent (local_seen (length buf.old) event.entry)) station.old station.new) }
-    ensures rules { station.new.rules ≡ station.old.rules }
-    ensures me { station.new.state.host.me ≡ station.old.state.host.me }
+    ensures stays { Stays (record station.old { latest = now }) station.new }
     ensures ins { station.new.state.relay.ins ≡ station.old.state.relay.ins }
-    ensures latest { station.new.latest ≡ now }
 {
     collector.begin();
+    let now = Reading { ms: now };
     let done = station.local_event(now, event, buf, collector);
     if collector.failed() {
         return Err(NoMemory);
@@ -55,12 +56,11 @@ pub fn receive(
     ensures ends { let script = station_event station.old.rules now (Arrive link (plain frame.old)) station.old.state in
         CollectEnds result script (begun collector.old) collector.new station.new.state }
     ensures on { OnOk result (GoesOn now 0 station.old station.new) }
-    ensures rules { station.new.rules ≡ station.old.rules }
-    ensures me { station.new.state.host.me ≡ station.old.state.host.me }
+    ensures stays { Stays (record station.old { latest = now }) station.new }
     ensures ins { station.new.state.relay.ins ≡ station.old.state.relay.ins }
-    ensures latest { station.new.latest ≡ now }
 {
     collector.begin();
+    let now = Reading { ms: now };
     let done = station.arrive(now, link, frame, (), collector);
     if collector.failed() {
         return Err(NoMemory);

@@ -1,6 +1,6 @@
 -- The tables of an agenda after a change of one: what is noted of each place.
-use Rattle.std.proofs.Common.{ℕ, zero, suc, ◌≡◌, ◌≢◌, ◌+◌, ◌<◌, ◌≤◌, ◌++◌, List, [], ◌∷◌, length, length-set, set, take, Option, None, refl, sym, ap, subst, ◌∙◌, arith, get_or-set_same, get_or-set_other}
-use Rattle.std.specs.Prelude.{slice_index_or}
+use Rattle.std.proofs.Common.{ℕ, zero, suc, ◌≡◌, ◌≢◌, ◌+◌, ◌<◌, ◌≤◌, ◌++◌, List, [], ◌∷◌, length, length-set, set, take, Option, None, Some, refl, sym, ap, subst, ◌∙◌, arith, get_or-set_same, get_or-set_other}
+use Rattle.std.specs.Prelude.{slice_get, slice_index_or, unwrap_or}
 use Rattle.dt_timers.specs.Deadlines.{HasNoMoment, IsFirst, moment_at}
 use Rattle.dt_host.specs.Agendas.{HasRoom, Note, Tables, moment_of_kind, no_note, note_at}
 use Rattle.dt_host.specs.Places.{slot}
@@ -52,6 +52,16 @@ room_set count (u ∷ ts) (suc k) t room longer = (room.0, room_set count ts k t
 pub room_less : (few many : ℕ) (ts : Tables) → few ≤ many → HasRoom many ts → HasRoom few ts
 room_less few many [] le room = tt
 room_less few many (t ∷ ts) le room = (let a = room.0 in omega arith, room_less few many ts le room.1)
+
+pub room_got : (count : ℕ) (ts : Tables) (k : ℕ) (t : List (Option ℕ)) → slice_get ts k ≡ Some t → HasRoom count ts → count ≤ length t
+room_got count [] k t e room = absurd cc
+room_got count (u ∷ ts) zero t e room = subst (λ (w : List (Option ℕ)). count ≤ length w) (ap (λ (o : Option (List (Option ℕ))). unwrap_or o []) e) room.0
+room_got count (u ∷ ts) (suc k) t e room = room_got count ts k t e room.1
+
+pub got_there : (ts : Tables) (k : ℕ) → k < length ts → slice_get ts k ≡ None → ⊥
+got_there [] k within e = omega arith
+got_there (t ∷ ts) zero within e = absurd cc
+got_there (t ∷ ts) (suc k) within e = got_there ts k (omega arith) e
 
 -- ONE MOMENT IS NOTED
 module _ (ts : Tables) (k place : ℕ) (t : List (Option ℕ)) (v : t ≡ slice_index_or ts k t) (within : k < length ts) (m : Option ℕ) where

@@ -1,10 +1,12 @@
 -- A packet that comes to a host that isn't silent.
-use Rattle.std.proofs.Common.{ℕ, ◌≡◌, ◌==◌, ◌≤◌, Bool, true, false, Option, Some, None, Result, Ok, Err, refl, arith}
+use Rattle.std.proofs.Common.{ℕ, ◌≡◌, ◌==◌, ◌≤◌, Bool, true, false, List, Option, Some, None, Result, Ok, Err, refl, sym, ap, subst, arith}
 use Rattle.std.proofs.lemmas.Bool.Decides.{nat_tests}
-use Rattle.std.specs.Prelude.{IfErr, IsErr, nat_lt}
+use Rattle.std.specs.Prelude.{IfErr, IfSome, IsErr, nat_lt, unwrap_or}
 use Rattle.dt_units.specs.declared.parameters.Params.{Params}
 use Rattle.dt_units.specs.declared.endpoints.Flow.{Flow}
+use Rattle.dt_layout.specs.Carried.{IsGram}
 use Rattle.dt_layout.specs.Spelling.{PacketValue}
+use Rattle.dt_flow_model.specs.declared.arrivals.Arrived.{Arrived}
 use Rattle.dt_flow_model.specs.Frames.{flow_of, reply_frame}
 use Rattle.dt_flow_model.specs.SendRecord.{SendRecord}
 use Rattle.dt_flow_model.specs.ReceiveRecord.{Receiver, answer_to, answer_to_close, close_action, close_if, expected_of}
@@ -36,3 +38,14 @@ close_has_no_reply p f r number = by (expected_of r.standing)
     by : (expected : Option ℕ) → reply_frame p f (answer_to r.standing number 0 0 (close_action expected number)) ≡ None
     by None = refl
     by (Some k) = at (number == k)
+
+-- an answer that isn't a reply leaves the frame as it was
+pub record LeavesFrame (p : Params) (f : Flow) (answer : Arrived) (old : List ℕ) : Type 0 where
+  pub reply : old ≡ unwrap_or (reply_frame p f answer) old
+  pub gram : IfSome (reply_frame p f answer) (λ octets. IsGram octets)
+
+pub leaves_frame : (p : Params) (f : Flow) (answer : Arrived) (old : List ℕ) → reply_frame p f answer ≡ None → LeavesFrame p f answer old
+leaves_frame p f answer old none = record {
+  reply = sym (ap (λ (o : Option (List ℕ)). unwrap_or o old) none);
+  gram = subst (λ (o : Option (List ℕ)). IfSome o (λ octets. IsGram octets)) (sym none) tt;
+}

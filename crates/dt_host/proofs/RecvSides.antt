@@ -70,7 +70,7 @@ now_noted p f u n entry e = record { entry = entry; noted = ap recv_note_in e �
     same : (m : RecvMoments) → recv_note_in (note_of_recv m) ≡ m
     same m = refl
 
-module _ (p : Params) (latest : ℕ) (flows : List (Option Flow)) (os : Places) (t : Tables) (side : IsRecvSide p latest flows os t) where
+module _ (p : Params) (flows : List (Option Flow)) (os : Places) (t : Tables) (side : IsRecvSide p flows os t) where
   abbrev Kept : Flow → ReceiverValue → Note → Type 0
   Kept = IsRecvKept p
 
@@ -78,32 +78,32 @@ module _ (p : Params) (latest : ℕ) (flows : List (Option Flow)) (os : Places) 
   NotedAs r n = IsRecvNoted p r (recv_note_in n)
 
   pub all_recv : AreReceiveEntries p (present os)
-  all_recv = all_entries Kept (no_note recv_kinds) (IsReceiveEntry p) (λ f s n is. is.entry) os (note_at t) side.table.kept.noted
+  all_recv = all_entries Kept (no_note recv_kinds) (IsReceiveEntry p) (λ f s n is. is.entry) os (note_at t) side.kept.noted
 
   are_noted_as : AreNoted NotedAs (receivers_of (present os)) (notes_in os (note_at t))
-  are_noted_as = are_noted Kept (no_note recv_kinds) receiver_in NotedAs (λ f s n is. is.noted) os (note_at t) side.table.kept.noted
+  are_noted_as = are_noted Kept (no_note recv_kinds) receiver_in NotedAs (λ f s n is. is.noted) os (note_at t) side.kept.noted
 
   -- A RECEIVER THAT IS READ
   module _ (f : Flow) (i : ℕ) (at : Read flows os f i) (u : ReceiverValue) where
     -- nothing changed
-    pub same_side : u ≡ at.value → IsRecvSide p latest flows (Written os i at.owner u) t
-    same_side same = record { reached = side.reached; table = table_same Kept recv_kinds flows os t side.table f i at u same }
+    pub same_side : u ≡ at.value → IsRecvSide p flows (Written os i at.owner u) t
+    same_side same = table_same Kept recv_kinds flows os t side f i at u same
 
     -- it stands, with its note
-    pub side_set : IsReceiveEntry p f u → (new : Tables) (n : Note) → (length n ≡ length t → note_at new i ≡ n) → n ≡ note_of_recv (recv_noted u.rules u.state) → ((j : ℕ) → j ≢ i → note_at new j ≡ note_at t j) → ((count : ℕ) → HasRoom count t → HasRoom count new) → IsRecvSide p latest flows (Written os i at.owner u) new
-    side_set entry new n given here others room = record { reached = side.reached; table = table_set Kept recv_kinds flows os t side.table f i at u new (now_noted p f u (note_at new i) entry (given (ap (λ (m : Note). length m) here ∙ sym side.table.counted) ∙ here)) others room }
+    pub side_set : IsReceiveEntry p f u → (new : Tables) (n : Note) → (length n ≡ length t → note_at new i ≡ n) → n ≡ note_of_recv (recv_noted u.rules u.state) → ((j : ℕ) → j ≢ i → note_at new j ≡ note_at t j) → ((count : ℕ) → HasRoom count t → HasRoom count new) → IsRecvSide p flows (Written os i at.owner u) new
+    side_set entry new n given here others room = table_set Kept recv_kinds flows os t side f i at u new (now_noted p f u (note_at new i) entry (given (ap (λ (m : Note). length m) here ∙ sym side.counted) ∙ here)) others room
 
     -- it goes, with its note
-    pub side_left : (more : List (Option Flow)) (ps : Places) (new : Tables) → IsPlaced (length t) more ps new → ps ≡ set (Written os i at.owner u) i None → ((j : ℕ) → j ≢ i → note_at new j ≡ note_at t j) → IsRecvSide p latest more ps new
-    side_left more ps new after e others = record { reached = side.reached; table = table_left Kept recv_kinds flows os t side.table f i at u more ps new after e others }
+    pub side_left : (more : List (Option Flow)) (ps : Places) (new : Tables) → IsPlaced (length t) more ps new → ps ≡ set (Written os i at.owner u) i None → ((j : ℕ) → j ≢ i → note_at new j ≡ note_at t j) → IsRecvSide p more ps new
+    side_left more ps new after e others = table_left Kept recv_kinds flows os t side f i at u more ps new after e others
 
   -- A RECEIVER IS ADDED, or none is
   module _ (more : List (Option Flow)) (ps : Places) (new : Tables) (after : IsPlaced (length t) more ps new) where
-    pub side_kept : rows ps (note_at new) ≡ rows os (note_at t) → IsRecvSide p latest more ps new
-    side_kept e = record { reached = side.reached; table = rows_kept Kept recv_kinds flows os t side.table more ps new after e }
+    pub side_kept : rows ps (note_at new) ≡ rows os (note_at t) → IsRecvSide p more ps new
+    side_kept e = rows_kept Kept recv_kinds flows os t side more ps new after e
 
-    pub side_more : (f : Flow) (u : ReceiverValue) (n : Note) → rows ps (note_at new) ≡ rows os (note_at t) ++ row_of (f, u) n ∷ [] → IsReceiveEntry p f u → n ≡ note_of_recv (recv_noted u.rules u.state) → IsRecvSide p latest more ps new
-    side_more f u n e entry is = record { reached = side.reached; table = rows_more Kept recv_kinds flows os t side.table more ps new after f u n e (now_noted p f u n entry is) }
+    pub side_more : (f : Flow) (u : ReceiverValue) (n : Note) → rows ps (note_at new) ≡ rows os (note_at t) ++ row_of (f, u) n ∷ [] → IsReceiveEntry p f u → n ≡ note_of_recv (recv_noted u.rules u.state) → IsRecvSide p more ps new
+    side_more f u n e entry is = rows_more Kept recv_kinds flows os t side more ps new after f u n e (now_noted p f u n entry is)
 
   -- THE FIRST of a kind, by places, is the first of the notes
   module _ (kind : RecvKind) where
@@ -116,8 +116,8 @@ module _ (p : Params) (latest : ℕ) (flows : List (Option Flow)) (os : Places) 
     later : (s : ReceiverValue) (n : Note) → NotedAs s.state n → (m : ℕ) → receiver_moment p kind s ≡ Some m → (v : ℕ) × (Moment n ≡ Some v) × (v ≤ m)
     later s n is m e = (m, exact s n is ∙ e, omega arith)
 
-    pub quiet_all : HasNoMoment (moment_of_kind t (recv_place kind)) → IsQuiet (receiver_moment p kind) latest (present os)
-    quiet_all none = quiet_none receiver_in NotedAs Moment (receiver_moment p kind) later latest (present os) (notes_in os (note_at t)) are_noted_as (none_in Moment os (note_at t) none)
+    pub quiet_all : (latest : ℕ) → HasNoMoment (moment_of_kind t (recv_place kind)) → IsQuiet (receiver_moment p kind) latest (present os)
+    quiet_all latest none = quiet_none receiver_in NotedAs Moment (receiver_moment p kind) later latest (present os) (notes_in os (note_at t)) are_noted_as (none_in Moment os (note_at t) none)
 
     earliest_noted : (es : List (Flow × ReceiverValue)) (ns : List Note) → AreNoted NotedAs (receivers_of es) ns → earliest Moment ns ≡ earliest (λ (e : Flow × ReceiverValue). receiver_moment p kind e.1) es
     earliest_noted [] [] all = refl
@@ -130,20 +130,20 @@ module _ (p : Params) (latest : ℕ) (flows : List (Option Flow)) (os : Places) 
 
     module _ (m i : ℕ) (first : IsFirst (moment_of_kind t (recv_place kind)) m i) where
       abbrev Here : IsFirstIn Moment (notes_in os (note_at t)) m (rank os i)
-      Here = first_noted Kept recv_kinds flows os t side.table (recv_place kind) (no_moment kind) m i first
+      Here = first_noted Kept recv_kinds flows os t side (recv_place kind) (no_moment kind) m i first
 
       pub wake_some : earliest (λ (e : Flow × ReceiverValue). receiver_moment p kind e.1) (present os) ≡ Some m
       wake_some = sym (earliest_noted (present os) (notes_in os (note_at t)) are_noted_as) ∙ some_earliest Moment (notes_in os (note_at t)) m (rank os i) Here
 
-      pub quiet_yet : latest < m → IsQuiet (receiver_moment p kind) latest (present os)
-      quiet_yet less = quiet_first receiver_in NotedAs Moment (receiver_moment p kind) later latest (present os) (notes_in os (note_at t)) are_noted_as m (rank os i) Here less
+      pub quiet_yet : (latest : ℕ) → latest < m → IsQuiet (receiver_moment p kind) latest (present os)
+      quiet_yet latest less = quiet_first receiver_in NotedAs Moment (receiver_moment p kind) later latest (present os) (notes_in os (note_at t)) are_noted_as m (rank os i) Here less
 
       -- as it is read from its place
       module _ (r : Option (Flow × ReceiverValue)) (v : r ≡ slice_index_or os i r) (g : Flow) (s : ReceiverValue) (is : r ≡ Some (g, s)) where
-        pub soonest_here : m ≤ latest → IsSoonest (receiver_moment p kind) latest (present os) (due.Recv kind) (record { kind = due.Recv kind; moment = m; flow = g })
-        soonest_here come =
-            let kept = first_kept Kept recv_kinds flows os t side.table (recv_place kind) (no_moment kind) m i first r v g s is in
-            let there = first_slot Kept recv_kinds flows os t side.table (recv_place kind) (no_moment kind) m i first r v g s is in
+        pub soonest_here : (latest : ℕ) → m ≤ latest → IsSoonest (receiver_moment p kind) latest (present os) (due.Recv kind) (record { kind = due.Recv kind; moment = m; flow = g })
+        soonest_here latest come =
+            let kept = first_kept Kept recv_kinds flows os t side (recv_place kind) (no_moment kind) m i first r v g s is in
+            let there = first_slot Kept recv_kinds flows os t side (recv_place kind) (no_moment kind) m i first r v g s is in
             soonest_of receiver_in NotedAs Moment (receiver_moment p kind) later latest (present os) (notes_in os (note_at t)) are_noted_as m (rank os i) Here (due.Recv kind) g s come (entry_there os i (g, s) there)
             (sym (exact s (note_at t i) kept.noted) ∙ first.there)
 
@@ -173,12 +173,12 @@ pub record ReadDone (p : Params) (latest : ℕ) (f : Flow) (es es' : List (Flow 
   pub after : (host : Host) → with_receivers host (receivers_of es') ≡ (read_octets p latest f (length old) (with_receivers host (receivers_of es))).1
 
 -- A RECEIVER THAT IS READ, and what it does then
-module _ {p : Params} {latest : ℕ} {flows : List (Option Flow)} {os : Places} {t : Tables} (side : IsRecvSide p latest flows os t) {f : Flow} {i : ℕ} (at : Read flows os f i) where
+module _ {p : Params} {flows : List (Option Flow)} {os : Places} {t : Tables} (side : IsRecvSide p flows os t) {f : Flow} {i : ℕ} (at : Read flows os f i) where
   pub found : lookup (equal_flows f) (present os) ≡ Some at.value
-  found = found_there (IsRecvKept p) recv_kinds flows os t side.table f i at
+  found = found_there (IsRecvKept p) recv_kinds flows os t side f i at
 
   pub all_here : AreReceiveEntries p (present os)
-  all_here = all_recv p latest flows os t side
+  all_here = all_recv p flows os t side
 
   pub value_here : at.value ≡ receiver_of p f at.value.state
   value_here = value_is f (present os) at.value found p all_here
@@ -187,10 +187,10 @@ module _ {p : Params} {latest : ℕ} {flows : List (Option Flow)} {os : Places} 
   answer_here answer = answered f (present os) at.value found p all_here answer
 
   pub written_here : (u : ReceiverValue) → present (Written os i at.owner u) ≡ set_value (equal_flows f) (present os) u
-  written_here u = written (IsRecvKept p) recv_kinds flows os t side.table f i at u
+  written_here u = written (IsRecvKept p) recv_kinds flows os t side f i at u
 
   pub gone_here : (u : ReceiverValue) (ps : Places) → ps ≡ set (Written os i at.owner u) i None → present ps ≡ remove_entry (equal_flows f) (set_value (equal_flows f) (present os) u)
-  gone_here u ps e = ap (λ (qs : Places). present qs) e ∙ gone (IsRecvKept p) recv_kinds flows os t side.table f i at u
+  gone_here u ps e = ap (λ (qs : Places). present qs) e ∙ gone (IsRecvKept p) recv_kinds flows os t side f i at u
 
   -- a reply is of its flow
   module _ (answer : Arrived) where
@@ -209,7 +209,7 @@ module _ {p : Params} {latest : ℕ} {flows : List (Option Flow)} {os : Places} 
     step_after host = stepped f (present os) at.value found p all_here step keeps u e (present (Written os i at.owner u)) (written_here u) host
 
   -- a read
-  module _ (most : ℕ) where
+  module _ (latest most : ℕ) where
     pub taken_here : (host : Host) → (read_octets p latest f most (with_receivers host (receivers_of (present os)))).0 ≡ first_piece most at.value.state.unread
     taken_here host = taken_is f (present os) at.value found p all_here latest most host
 
@@ -236,7 +236,7 @@ module _ {p : Params} {latest : ℕ} {flows : List (Option Flow)} {os : Places} 
         none_read host = read_none f (present os) at.value found p all_here latest most empty u e (present (Written os i at.owner u)) (written_here u) host
 
   -- an act that is due
-  module _ (r : Receiver) (y : ReceiveRecord) (kind : RecvKind) (moment : ℕ) (has : HasRecvDue p latest (look same_flow f (receivers_of (present os))) r y kind moment) where
+  module _ (latest : ℕ) (r : Receiver) (y : ReceiveRecord) (kind : RecvKind) (moment : ℕ) (has : HasRecvDue p latest (look same_flow f (receivers_of (present os))) r y kind moment) where
     pub due_here : recv_due_of at.value.rules latest at.value.state.standing ≡ Some (kind, moment)
     due_here = due_is f (present os) at.value found p all_here latest r y kind moment has
 
@@ -268,19 +268,19 @@ module _ {p : Params} {latest : ℕ} {flows : List (Option Flow)} {os : Places} 
     out_here h = subst (λ (w : ReceiverValue). IfSome (recv_frame w.rules w.flow act) (λ octets. IsGram octets)) value_here h
 
   -- all that an act leaves
-  module _ (act : RecvAct) (old new : List ℕ) (u : ReceiverValue)
+  module _ (latest : ℕ) (act : RecvAct) (old new : List ℕ) (u : ReceiverValue)
       (told : (kind : RecvKind) (moment : ℕ) (y : ReceiveRecord) → recv_due_of at.value.rules latest at.value.state.standing ≡ Some (kind, moment) → at.value.state.standing ≡ Some y → act ≡ recv_told_of at.value.rules at.value.state.unread y kind)
       (frame : new ≡ unwrap_or (recv_frame at.value.rules at.value.flow act) old) (gram : IfSome (recv_frame at.value.rules at.value.flow act) (λ octets. IsGram octets))
       (moved : (kind : RecvKind) (moment : ℕ) → recv_due_of at.value.rules latest at.value.state.standing ≡ Some (kind, moment) → u ≡ record at.value { state = after_recv_act at.value.rules at.value.state kind }) where
     act_told : (r : Receiver) (y : ReceiveRecord) (kind : RecvKind) (moment : ℕ) → HasRecvDue p latest (look same_flow f (receivers_of (present os))) r y kind moment → act ≡ recv_told_of p r.unread y kind
-    act_told r y kind moment due = told_here r y kind moment due act (told kind moment y (due_here r y kind moment due) (stands_here r y kind moment due))
+    act_told r y kind moment due = told_here latest r y kind moment due act (told kind moment y (due_here latest r y kind moment due) (stands_here latest r y kind moment due))
 
     pub act_gone : IsIdle u → (ps : Places) → ps ≡ set (Written os i at.owner u) i None → ActDone p latest f (present os) (present ps) act old new
     act_gone idle ps e = record {
       told = act_told;
       frame = frame_here act old new frame;
       gram = out_here act gram;
-      after = λ r y kind moment due host. act_goes r y kind moment due u (moved kind moment (due_here r y kind moment due)) idle ps e host;
+      after = λ r y kind moment due host. act_goes latest r y kind moment due u (moved kind moment (due_here latest r y kind moment due)) idle ps e host;
     }
 
     pub act_stayed : (IsIdle u → ⊥) → ActDone p latest f (present os) (present (Written os i at.owner u)) act old new
@@ -288,24 +288,24 @@ module _ {p : Params} {latest : ℕ} {flows : List (Option Flow)} {os : Places} 
       told = act_told;
       frame = frame_here act old new frame;
       gram = out_here act gram;
-      after = λ r y kind moment due host. act_stays r y kind moment due u (moved kind moment (due_here r y kind moment due)) busy host;
+      after = λ r y kind moment due host. act_stays latest r y kind moment due u (moved kind moment (due_here latest r y kind moment due)) busy host;
     }
 
   -- all that a read leaves
-  module _ (x : Piece) (old new : List ℕ) (u : ReceiverValue) (told : Some x ≡ piece_told (first_piece (length old) at.value.state.unread))
+  module _ (latest : ℕ) (x : Piece) (old new : List ℕ) (u : ReceiverValue) (told : Some x ≡ piece_told (first_piece (length old) at.value.state.unread))
       (octets : new ≡ octets_of (first_piece (length old) at.value.state.unread) ++ drop (length (first_piece (length old) at.value.state.unread)) old)
       (moved : u ≡ record at.value { state = after_read at.value.rules latest (length (first_piece (length old) at.value.state.unread)) at.value.state }) where
     read_told : (host : Host) → Some x ≡ piece_told (read_octets p latest f (length old) (with_receivers host (receivers_of (present os)))).0
-    read_told host = told ∙ ap piece_told (sym (taken_here (length old) host))
+    read_told host = told ∙ ap piece_told (sym (taken_here latest (length old) host))
 
     read_wrote : (host : Host) → new ≡ octets_of (read_octets p latest f (length old) (with_receivers host (receivers_of (present os)))).0 ++ drop (length (read_octets p latest f (length old) (with_receivers host (receivers_of (present os)))).0) old
-    read_wrote host = octets ∙ ap (λ (items : List Item). octets_of items ++ drop (length items) old) (sym (taken_here (length old) host))
+    read_wrote host = octets ∙ ap (λ (items : List Item). octets_of items ++ drop (length items) old) (sym (taken_here latest (length old) host))
 
     pub read_gone : IsIdle u → (ps : Places) → ps ≡ set (Written os i at.owner u) i None → ReadDone p latest f (present os) (present ps) (Some x) old new
-    read_gone idle ps e = record { told = read_told; octets = read_wrote; after = λ host. read_goes (length old) u moved x told host idle ps e }
+    read_gone idle ps e = record { told = read_told; octets = read_wrote; after = λ host. read_goes latest (length old) u moved x told host idle ps e }
 
     pub read_stayed : (IsIdle u → ⊥) → ReadDone p latest f (present os) (present (Written os i at.owner u)) (Some x) old new
-    read_stayed busy = record { told = read_told; octets = read_wrote; after = λ host. read_stays (length old) u moved x told host busy }
+    read_stayed busy = record { told = read_told; octets = read_wrote; after = λ host. read_stays latest (length old) u moved x told host busy }
 
 -- where there was no memory the receivers are as they were
 pub data_kept : (p : Params) (latest : ℕ) (f : Flow) (drf : Bool) (number : ℕ) (items : List Item) (es es' : List (Flow × ReceiverValue)) → es' ≡ es → (r : Result Arrived NoMemory) (why : NoMemory) → r ≡ Err why → IsDataTaken p latest f drf number items es es' r

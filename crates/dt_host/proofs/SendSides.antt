@@ -109,10 +109,10 @@ module _ (p : Params) (latest : ℕ) (flows : List (Option Flow)) (os : Places) 
   NotedAs x n = IsSendNoted p latest x (send_note_in n)
 
   pub all_send : AreSendEntries p (present os)
-  all_send = all_entries Kept (no_note send_kinds) (IsSendEntry p) (λ f s n is. is.entry) os (note_at t) side.table.kept.noted
+  all_send = all_entries Kept (no_note send_kinds) (IsSendEntry p) (λ f s n is. is.entry) os (note_at t) side.kept.noted
 
   are_noted_as : AreNoted NotedAs (send_records (present os)) (notes_in os (note_at t))
-  are_noted_as = are_noted Kept (no_note send_kinds) send_record NotedAs (λ f s n is. is.noted) os (note_at t) side.table.kept.noted
+  are_noted_as = are_noted Kept (no_note send_kinds) send_record NotedAs (λ f s n is. is.noted) os (note_at t) side.kept.noted
 
   abbrev IsKeptAs : Flow → SenderValue → SendNote → Type 0
   IsKeptAs f s n = IsSendEntry p f s × IsSendNoted p latest s.state n
@@ -122,7 +122,7 @@ module _ (p : Params) (latest : ℕ) (flows : List (Option Flow)) (os : Places) 
   notes = notes_in os (noted_in t)
 
   pub are_send_noted : AreNoted (IsSendNoted p latest) (send_records (present os)) notes
-  are_send_noted = are_noted IsKeptAs (send_note_in (no_note send_kinds)) send_record (IsSendNoted p latest) (λ f s n is. is.1) os (noted_in t) (λ i. by (slot os i) (note_at t i) (side.table.kept.noted i))
+  are_send_noted = are_noted IsKeptAs (send_note_in (no_note send_kinds)) send_record (IsSendNoted p latest) (λ f s n is. is.1) os (noted_in t) (λ i. by (slot os i) (note_at t i) (side.kept.noted i))
     where
       by : (o : Option (Flow × SenderValue)) (n : Note) → IsNotedAt Kept (no_note send_kinds) o n → IsNotedAt IsKeptAs (send_note_in (no_note send_kinds)) o (send_note_in n)
       by None n is = ap send_note_in is
@@ -132,19 +132,19 @@ module _ (p : Params) (latest : ℕ) (flows : List (Option Flow)) (os : Places) 
   module _ (f : Flow) (i : ℕ) (at : Read flows os f i) (u : SenderValue) where
     -- it stands, with its note
     pub side_set : IsSendEntry p f u → (new : Tables) (n : Note) → (length n ≡ length t → note_at new i ≡ n) → n ≡ note_of_send (send_noted u.rules latest u.state) → ((j : ℕ) → j ≢ i → note_at new j ≡ note_at t j) → ((count : ℕ) → HasRoom count t → HasRoom count new) → IsSendSide p latest flows (Written os i at.owner u) new
-    side_set entry new n given here others room = record { reached = side.reached; table = table_set Kept send_kinds flows os t side.table f i at u new (now_noted p latest f u (note_at new i) entry (given (ap (λ (m : Note). length m) here ∙ sym side.table.counted) ∙ here)) others room }
+    side_set entry new n given here others room = table_set Kept send_kinds flows os t side f i at u new (now_noted p latest f u (note_at new i) entry (given (ap (λ (m : Note). length m) here ∙ sym side.counted) ∙ here)) others room
 
     -- it goes, with its note
     pub side_left : (more : List (Option Flow)) (ps : Places) (new : Tables) → IsPlaced (length t) more ps new → ps ≡ set (Written os i at.owner u) i None → ((j : ℕ) → j ≢ i → note_at new j ≡ note_at t j) → IsSendSide p latest more ps new
-    side_left more ps new after e others = record { reached = side.reached; table = table_left Kept send_kinds flows os t side.table f i at u more ps new after e others }
+    side_left more ps new after e others = table_left Kept send_kinds flows os t side f i at u more ps new after e others
 
   -- A SENDER IS ADDED, or none is
   module _ (more : List (Option Flow)) (ps : Places) (new : Tables) (after : IsPlaced (length t) more ps new) where
     pub side_kept : rows ps (note_at new) ≡ rows os (note_at t) → IsSendSide p latest more ps new
-    side_kept e = record { reached = side.reached; table = rows_kept Kept send_kinds flows os t side.table more ps new after e }
+    side_kept e = rows_kept Kept send_kinds flows os t side more ps new after e
 
     pub side_more : (f : Flow) (u : SenderValue) (n : Note) → rows ps (note_at new) ≡ rows os (note_at t) ++ row_of (f, u) n ∷ [] → IsSendEntry p f u → n ≡ note_of_send (send_noted u.rules latest u.state) → IsSendSide p latest more ps new
-    side_more f u n e entry is = record { reached = side.reached; table = rows_more Kept send_kinds flows os t side.table more ps new after f u n e (now_noted p latest f u n entry is) }
+    side_more f u n e entry is = rows_more Kept send_kinds flows os t side more ps new after f u n e (now_noted p latest f u n entry is)
 
   -- THE FIRST of a kind, by places, is the first of the notes
   module _ (kind : SendKind) where
@@ -159,7 +159,7 @@ module _ (p : Params) (latest : ℕ) (flows : List (Option Flow)) (os : Places) 
 
     module _ (m i : ℕ) (first : IsFirst (moment_of_kind t (send_place kind)) m i) where
       abbrev Here : IsFirstIn Moment (notes_in os (note_at t)) m (rank os i)
-      Here = first_noted Kept send_kinds flows os t side.table (send_place kind) (no_moment kind) m i first
+      Here = first_noted Kept send_kinds flows os t side (send_place kind) (no_moment kind) m i first
 
       pub quiet_yet : latest < m → IsQuiet (sender_moment p latest kind) latest (present os)
       quiet_yet less = quiet_first send_record NotedAs Moment (sender_moment p latest kind) later latest (present os) (notes_in os (note_at t)) are_noted_as m (rank os i) Here less
@@ -167,10 +167,10 @@ module _ (p : Params) (latest : ℕ) (flows : List (Option Flow)) (os : Places) 
       -- as it is read from its place
       module _ (r : Option (Flow × SenderValue)) (v : r ≡ slice_index_or os i r) (g : Flow) (s : SenderValue) (is : r ≡ Some (g, s)) where
         pub its_slot : slot os i ≡ Some (g, s)
-        its_slot = first_slot Kept send_kinds flows os t side.table (send_place kind) (no_moment kind) m i first r v g s is
+        its_slot = first_slot Kept send_kinds flows os t side (send_place kind) (no_moment kind) m i first r v g s is
 
         pub its_kept : Kept g s (note_at t i)
-        its_kept = first_kept Kept send_kinds flows os t side.table (send_place kind) (no_moment kind) m i first r v g s is
+        its_kept = first_kept Kept send_kinds flows os t side (send_place kind) (no_moment kind) m i first r v g s is
 
         pub soonest_here : m ≤ latest → sender_moment p latest kind s ≡ Some m → IsSoonest (sender_moment p latest kind) latest (present os) (due.Send kind) (record { kind = due.Send kind; moment = m; flow = g })
         soonest_here come here = soonest_of send_record NotedAs Moment (sender_moment p latest kind) later latest (present os) (notes_in os (note_at t)) are_noted_as m (rank os i) Here (due.Send kind) g s come (entry_there os i (g, s) its_slot) here
@@ -195,7 +195,7 @@ module _ (p : Params) (latest : ℕ) (flows : List (Option Flow)) (os : Places) 
     righted_side room =
         let k = its_kept Resend m i first r v g s is in
         let own : Kept g s (note_at new i) = record { entry = k.entry; noted = subst (IsSendNoted p latest s.state) (sym righted_here) (righted_is p latest s.state (noted_in t i) k.noted) } in
-        record { reached = side.reached; table = noted_again Kept send_kinds flows os t side.table i g s stands new own others room }
+        noted_again Kept send_kinds flows os t side i g s stands new own others room
 
     pub less_stale : (resend ≡ Some m → ⊥) → stale p latest (send_records (present os)) (notes_in os (noted_in new)) + 1 ≡ stale p latest (send_records (present os)) (notes_in os (noted_in t))
     less_stale apart =
@@ -215,23 +215,23 @@ module _ (p : Params) (latest : ℕ) (flows : List (Option Flow)) (os : Places) 
 
   pub wake_some : (m i : ℕ) → IsFirst (moment_of_kind t wake_place) m i → earliest (λ (e : Flow × SendRecord). wake_of p e.1) (send_records (present os)) ≡ Some m
   wake_some m i first =
-      let e = first_taken Kept send_kinds flows os t side.table wake_place refl m i first in
+      let e = first_taken Kept send_kinds flows os t side wake_place refl m i first in
       sym (senders_wake p latest (send_records (present os)) notes are_send_noted)
       ∙ some_earliest (λ (n : SendNote). n.wake) notes m (rank os i) (first_in (λ (n : SendNote). n.wake) os (noted_in t) m i e.0 e.1 first)
 
 -- A SENDER THAT IS READ, and what it does then
 module _ {p : Params} {latest : ℕ} {flows : List (Option Flow)} {os : Places} {t : Tables} (side : IsSendSide p latest flows os t) {f : Flow} {i : ℕ} (at : Read flows os f i) where
   pub found : lookup (equal_flows f) (present os) ≡ Some at.value
-  found = found_there (IsSendKept p latest) send_kinds flows os t side.table f i at
+  found = found_there (IsSendKept p latest) send_kinds flows os t side f i at
 
   pub all_here : AreSendEntries p (present os)
   all_here = all_send p latest flows os t side
 
   pub written_here : (u : SenderValue) → present (Written os i at.owner u) ≡ set_value (equal_flows f) (present os) u
-  written_here u = written (IsSendKept p latest) send_kinds flows os t side.table f i at u
+  written_here u = written (IsSendKept p latest) send_kinds flows os t side f i at u
 
   pub gone_here : (u : SenderValue) (ps : Places) → ps ≡ set (Written os i at.owner u) i None → present ps ≡ remove_entry (equal_flows f) (set_value (equal_flows f) (present os) u)
-  gone_here u ps e = ap (λ (qs : Places). present qs) e ∙ gone (IsSendKept p latest) send_kinds flows os t side.table f i at u
+  gone_here u ps e = ap (λ (qs : Places). present qs) e ∙ gone (IsSendKept p latest) send_kinds flows os t side f i at u
 
   -- a step changes its record alone
   pub entry_here : (u : SenderValue) → u ≡ record at.value { state = u.state } → IsSendEntry p f u

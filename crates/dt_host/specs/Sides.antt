@@ -1,8 +1,7 @@
 -- The two sides of a host as it sees them: the parameters, the latest moment, and the records with their flows in the order of their making. And how the records stand in their places, each with its note.
-use Rattle.std.specs.Prelude.{ℕ, ◌≤◌, List, Option}
+use Rattle.std.specs.Prelude.{ℕ, List, Option}
 use Rattle.dt_units.specs.declared.parameters.Params.{Params}
 use Rattle.dt_units.specs.declared.endpoints.Flow.{Flow}
-use Rattle.dt_flow_model.specs.Keeping.{most_moment}
 use Rattle.dt_send.specs.Senders.{SenderValue}
 use Rattle.dt_recv.specs.Receivers.{ReceiverValue}
 use Rattle.dt_host.specs.Agendas.{Note, Tables, recv_kinds, recv_note_in, send_kinds, send_note_in}
@@ -29,10 +28,8 @@ pub record IsRecvKept (p : Params) (f : Flow) (r : ReceiverValue) (n : Note) : T
   pub entry : IsReceiveEntry p f r
   pub noted : IsRecvNoted p r.state (recv_note_in n)
 
-pub record IsSendSide (p : Params) (latest : ℕ) (flows : List (Option Flow)) (slots : List (Option (Flow × SenderValue))) (t : Tables) : Type 0 where
-  pub reached : latest ≤ most_moment
-  pub table : IsTable (IsSendKept p latest) send_kinds flows slots t
+abbrev pub IsSendSide : Params → ℕ → List (Option Flow) → List (Option (Flow × SenderValue)) → Tables → Type 0
+IsSendSide p latest flows slots t = IsTable (IsSendKept p latest) send_kinds flows slots t
 
-pub record IsRecvSide (p : Params) (latest : ℕ) (flows : List (Option Flow)) (slots : List (Option (Flow × ReceiverValue))) (t : Tables) : Type 0 where
-  pub reached : latest ≤ most_moment
-  pub table : IsTable (IsRecvKept p) recv_kinds flows slots t
+abbrev pub IsRecvSide : Params → List (Option Flow) → List (Option (Flow × ReceiverValue)) → Tables → Type 0
+IsRecvSide p flows slots t = IsTable (IsRecvKept p) recv_kinds flows slots t

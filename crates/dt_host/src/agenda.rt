@@ -1,4 +1,4 @@
-ghost use Rattle.std.specs.Prelude.{ℕ, suc, ◌≡◌, ◌≢◌, ◌<◌, length, set, IfOk, OnOk};
+ghost use Rattle.std.specs.Prelude.{ℕ, suc, ◌≡◌, ◌≢◌, ◌<◌, ◌≤◌, length, set, IfOk, OnErr, OnOk};
 ghost use Rattle.dt_host.specs.Agendas.{HasRoom, IsFirstPlace, moment_of_kind, no_note, note_at};
 ghost use Rattle.dt_host.specs.Places.{slot};
 
@@ -38,8 +38,11 @@ impl Agenda {
         Ok(Agenda { tables })
     }
 
-    /// How many places there are for notes, of all kinds. Only what calls cost rests on it.
-    pub fn room(&self) -> usize {
+    /// How many places there are for notes of the last kind: at least as many as all kinds have, where
+    /// there is a kind. Only what calls cost rests on it.
+    pub fn room(&self) -> usize
+        ensures { (count : ℕ) → 0 < length self.now → HasRoom count self.now → count ≤ result }
+    {
         match self.tables.last() {
             Some(table) => table.room(),
             None => 0,
@@ -47,12 +50,14 @@ impl Agenda {
     }
 
     /// Sees to it that there are more places than `count`, where there are `count` at least. Nothing is
-    /// noted in those that are made. After `NoMemory` no place is lost, and each note stands.
+    /// noted in those that are made. `NoMemory` comes only where a kind hasn't more yet; after it no
+    /// place is lost, and each note stands.
     pub fn hold(&mut self, count: usize) -> Result<(), NoMemory>
         requires { HasRoom count self.old }
         ensures ok { OnOk result (HasRoom (suc count) self.new) }
         ensures room { HasRoom count self.new }
         ensures same { (i : ℕ) → note_at self.new i ≡ note_at self.old i }
+        ensures memory { OnErr result (HasRoom (suc count) self.old → ⊥) }
     {
         for kind in 0..self.tables.len() {
             let table = &mut self.tables[kind];

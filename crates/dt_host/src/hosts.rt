@@ -22,7 +22,7 @@ use crate::faults::SendFault;
 use crate::octets::Octets;
 use crate::recv_side::RecvSide;
 use crate::send_side::SendSide;
-use dt_flow_model::{Arrived, RecvKind, SendKind};
+use dt_flow_model::{Arrived, Reading, RecvKind, SendKind};
 use dt_items::{NoMemory, Piece};
 use dt_layout::{Frame, Packet};
 use dt_recv::Segment;
@@ -67,11 +67,12 @@ impl Host {
     pub fn first(alloc: Global, rules: &Rules, me: NodeId) -> Result<Host, NoMemory>
         ensures { IfOk result (λ host. host ≡ record { rules = rules.now; latest = 0; state = first_host me.0 }) }
     {
+        let latest = Reading { ms: 0 };
         Ok(Host {
             me,
             until: 0,
-            senders: Box::new(alloc, SendSide::new(alloc, rules, 0)?)?,
-            receivers: Box::new(alloc, RecvSide::new(alloc, rules, 0)?)?,
+            senders: Box::new(alloc, SendSide::new(alloc, rules, latest)?)?,
+            receivers: Box::new(alloc, RecvSide::new(alloc, rules, latest)?)?,
         })
     }
 
@@ -82,11 +83,12 @@ impl Host {
         requires moment { now ≤ most_moment }
         ensures { IfOk result (λ host. host ≡ record { rules = rules.now; latest = now; state = restarted_host rules.now me.0 now }) }
     {
+        let latest = Reading { ms: now };
         Ok(Host {
             me,
             until: now + rules.times().quiet,
-            senders: Box::new(alloc, SendSide::new(alloc, rules, now)?)?,
-            receivers: Box::new(alloc, RecvSide::new(alloc, rules, now)?)?,
+            senders: Box::new(alloc, SendSide::new(alloc, rules, latest)?)?,
+            receivers: Box::new(alloc, RecvSide::new(alloc, rules, latest)?)?,
         })
     }
 
@@ -134,7 +136,7 @@ impl Host {
         ensures memory { IfErr result (λ fault. fault ≡ send_fault.NoMemory → sender_at self.old.state flow.now ≡ None) }
         ensures looks { steps.new ≤ steps.old + 4 }
     {
-        self.reach(now);
+        self.reach(Reading { ms: now });
         if now < self.until {
             return Err(SendFault::Quiet { until: self.until });
         }
@@ -168,7 +170,7 @@ impl Host {
             self.new ≡ record self.old { latest = now; state = taken.1 } }
         ensures looks { steps.new ≤ steps.old + 4 }
     {
-        self.reach(now);
+        self.reach(Reading { ms: now });
         self.receivers.read(flow, buf, steps)
     }
 
@@ -212,7 +214,7 @@ impl Host {
         ensures awake { IsErr result → self.old.state.until ≤ now }
         ensures looks { steps.new ≤ steps.old + 4 }
     {
-        self.reach(now);
+        self.reach(Reading { ms: now });
         if now < self.until {
             return Ok(Arrived::Quiet { until: self.until });
         }
@@ -244,10 +246,9 @@ impl Host {
     }
 
     /// Now becomes the latest moment.
-    fn reach(&mut self, now: u64)
-        requires moment { now ≤ most_moment }
-        requires past { self.old.latest ≤ now }
-        ensures { self.new ≡ record self.old { latest = now } }
+    fn reach(&mut self, now: Reading)
+        requires past { self.old.latest ≤ now.ms }
+        ensures { self.new ≡ record self.old { latest = now.ms } }
     {
         self.senders.reach(now);
         self.receivers.reach(now);
@@ -288,7 +289,7 @@ impl Host {
         ensures looks { steps.new ≤ steps.old + missed_senders self.old.rules now self.old.state.senders + 4 }
         ensures none { result ≡ None → steps.new ≤ steps.old + missed_senders self.old.rules now self.old.state.senders }
     {
-        self.reach(now);
+        self.reach(Reading { ms: now });
         let due = self.upcoming(steps)?;
         Some(self.act(due, frame, steps))
     }

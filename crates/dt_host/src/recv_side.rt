@@ -8,7 +8,6 @@ ghost use Rattle.dt_flow_model.specs.declared.acts.RecvKind.{RecvKind};
 ghost use Rattle.dt_flow_model.specs.declared.arrivals.Action.TheVariants.{Make};
 ghost use Rattle.dt_flow_model.specs.declared.arrivals.Arrived.TheVariants.{Replied};
 ghost use Rattle.dt_flow_model.specs.Frames.{recv_frame, reply_frame};
-ghost use Rattle.dt_flow_model.specs.Keeping.{most_moment};
 ghost use Rattle.dt_flow_model.specs.ReceiveRecord.{ReceiveRecord, Receiver as ReceiverState, action_on, after_data, after_meet, after_recv_act, answer_to_close, answer_to_data, answer_to_meet, recv_told_of, recv_wake_of};
 ghost use Rattle.dt_world_model.specs.Host.{Host, host_with_receiver, read_octets, receiver_at};
 ghost use Rattle.dt_world_model.specs.Tables.{Distinct, earliest, look, same_flow};
@@ -23,7 +22,7 @@ ghost use Rattle.dt_host.specs.Soonest.{IsQuiet, IsSoonest, receiver_moment};
 
 use crate::dues::{DueAct, DueKind};
 use crate::table::Table;
-use dt_flow_model::{Action, Arrived, RecvAct, RecvKind};
+use dt_flow_model::{Action, Arrived, Reading, RecvAct, RecvKind};
 use dt_items::{NoMemory, Piece};
 use dt_layout::{Frame, Packet, write_frame};
 use dt_recv::{Receiver, Segment, action};
@@ -42,7 +41,7 @@ const KINDS: usize = 2;
 pub struct RecvSide {
     rules: Rules,
     /// The greatest moment that it was given.
-    latest: u64,
+    latest: Reading,
     table: Table<Receiver>,
 }
 
@@ -52,16 +51,15 @@ impl Model for RecvSide {
 
     ghost Value = { RecvSideValue };
 
-    ghost view = { λ s. record { rules = s.rules; latest = s.latest; entries = present s.table.slots.items } };
+    ghost view = { λ s. record { rules = s.rules; latest = s.latest.ms; entries = present s.table.slots.items } };
 
-    ghost invariant = { λ s. IsRecvSide s.rules s.latest s.table.places s.table.slots.items s.table.agenda };
+    ghost invariant = { λ s. IsRecvSide s.rules s.table.places s.table.slots.items s.table.agenda };
 }
 
 impl RecvSide {
     /// No receivers. What later calls take is taken of `alloc`.
-    pub fn new(alloc: Global, rules: &Rules, latest: u64) -> Result<RecvSide, NoMemory>
-        requires { latest ≤ most_moment }
-        ensures { IfOk result (λ side. side ≡ record { rules = rules.now; latest = latest; entries = [] }) }
+    pub fn new(alloc: Global, rules: &Rules, latest: Reading) -> Result<RecvSide, NoMemory>
+        ensures { IfOk result (λ side. side ≡ record { rules = rules.now; latest = latest.ms; entries = [] }) }
     {
         Ok(RecvSide {
             rules: *rules,
@@ -71,10 +69,9 @@ impl RecvSide {
     }
 
     /// Now becomes the latest moment.
-    pub fn reach(&mut self, now: u64)
-        requires moment { now ≤ most_moment }
-        requires past { self.old.latest ≤ now }
-        ensures { self.new ≡ record self.old { latest = now } }
+    pub fn reach(&mut self, now: Reading)
+        requires past { self.old.latest ≤ now.ms }
+        ensures { self.new ≡ record self.old { latest = now.ms } }
     {
         self.latest = now;
     }
@@ -212,7 +209,7 @@ impl RecvSide {
         let Some((_, receiver)) = &mut self.table.slots[place] else {
             unreachable!();
         };
-        let arrived = receiver.on_meet(number, self.latest, reply, steps);
+        let arrived = receiver.on_meet(number, self.latest.ms, reply, steps);
         let note = note_of(receiver, steps);
         self.table.agenda.note(place, &note);
         arrived
@@ -250,7 +247,7 @@ impl RecvSide {
         let Some((_, receiver)) = &mut self.table.slots[place] else {
             unreachable!();
         };
-        let piece = receiver.read(buf, self.latest, steps)?;
+        let piece = receiver.read(buf, self.latest.ms, steps)?;
         let idle = receiver.is_idle();
         if idle {
             self.table.remove(place, flow);
@@ -285,7 +282,7 @@ impl RecvSide {
         let Some((_, receiver)) = &mut self.table.slots[place] else {
             unreachable!();
         };
-        let act = receiver.act(self.latest, frame, steps);
+        let act = receiver.act(self.latest.ms, frame, steps);
         let idle = receiver.is_idle();
         if idle {
             self.table.remove(place, flow);
@@ -302,7 +299,7 @@ impl RecvSide {
         ensures found { IfSome result (λ d. IsSoonest (receiver_moment self.now.rules kind) self.now.latest self.now.entries (due.Recv kind) d) }
     {
         let (moment, place) = self.table.agenda.first(place_of(kind))?;
-        if moment > self.latest {
+        if moment > self.latest.ms {
             return None;
         }
         let Some((flow, _)) = &self.table.slots[place] else {
@@ -357,15 +354,14 @@ fn note_of<L: Ledger>(receiver: &Receiver, steps: &mut Steps<L>) -> [Option<u64>
 fn hand_over<L: Ledger>(
     receiver: &mut Receiver,
     segment: &Segment<'_>,
-    now: u64,
+    now: Reading,
     reply: &mut Frame,
     steps: &mut Steps<L>,
 ) -> Arrived
     requires some { 1 ≤ length segment.now.octets.now }
     requires few { length segment.now.octets.now ≤ 8192 }
-    requires moment { now ≤ most_moment }
     ensures after { let items = marked segment.now.octets.now segment.now.begin segment.now.end false in
-        receiver.new ≡ record receiver.old { state = after_data receiver.old.rules now receiver.old.state segment.now.drf segment.now.number items } }
+        receiver.new ≡ record receiver.old { state = after_data receiver.old.rules now.ms receiver.old.state segment.now.drf segment.now.number items } }
     ensures answer { let items = marked segment.now.octets.now segment.now.begin segment.now.end false in
         result ≡ answer_to_data receiver.old.rules receiver.old.state segment.now.drf segment.now.number items }
     ensures reply { reply.new ≡ unwrap_or (reply_frame receiver.old.rules receiver.old.flow result) reply.old }
@@ -378,7 +374,7 @@ fn hand_over<L: Ledger>(
         segment.begin,
         segment.end,
         segment.octets,
-        now,
+        now.ms,
         reply,
         steps,
     )

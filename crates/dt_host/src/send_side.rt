@@ -7,7 +7,7 @@ ghost use Rattle.dt_layout.specs.Carried.{IsGram};
 ghost use Rattle.dt_flow_model.specs.declared.acts.SendKind.TheVariants.{Resend};
 ghost use Rattle.dt_flow_model.specs.Acting.{record_for};
 ghost use Rattle.dt_flow_model.specs.Frames.{frame_of_act};
-ghost use Rattle.dt_flow_model.specs.Keeping.{most_moment, octets_below, taken_by};
+ghost use Rattle.dt_flow_model.specs.Keeping.{octets_below, taken_by};
 ghost use Rattle.dt_flow_model.specs.SendRecord.{SendRecord, on_ack};
 ghost use Rattle.dt_flow_model.specs.SendActs.{Act, record_after, told_of, wake_of};
 ghost use Rattle.dt_world_model.specs.Host.{Host, ack_answer, sender_at};
@@ -26,7 +26,7 @@ use crate::dues::{DueAct, DueKind};
 use crate::faults::SendFault;
 use crate::octets::Octets;
 use crate::table::Table;
-use dt_flow_model::{Arrived, SendAct, SendKind};
+use dt_flow_model::{Arrived, Reading, SendAct, SendKind};
 use dt_items::NoMemory;
 use dt_layout::Frame;
 use dt_send::Sender;
@@ -51,7 +51,7 @@ const WAKE: usize = 5;
 pub struct SendSide {
     rules: Rules,
     /// The greatest moment that it was given.
-    latest: u64,
+    latest: Reading,
     table: Table<Sender>,
 }
 
@@ -61,16 +61,15 @@ impl Model for SendSide {
 
     ghost Value = { SendSideValue };
 
-    ghost view = { λ s. record { rules = s.rules; latest = s.latest; entries = present s.table.slots.items } };
+    ghost view = { λ s. record { rules = s.rules; latest = s.latest.ms; entries = present s.table.slots.items } };
 
-    ghost invariant = { λ s. IsSendSide s.rules s.latest s.table.places s.table.slots.items s.table.agenda };
+    ghost invariant = { λ s. IsSendSide s.rules s.latest.ms s.table.places s.table.slots.items s.table.agenda };
 }
 
 impl SendSide {
     /// No senders. What later calls take is taken of `alloc`.
-    pub fn new(alloc: Global, rules: &Rules, latest: u64) -> Result<SendSide, NoMemory>
-        requires { latest ≤ most_moment }
-        ensures { IfOk result (λ side. side ≡ record { rules = rules.now; latest = latest; entries = [] }) }
+    pub fn new(alloc: Global, rules: &Rules, latest: Reading) -> Result<SendSide, NoMemory>
+        ensures { IfOk result (λ side. side ≡ record { rules = rules.now; latest = latest.ms; entries = [] }) }
     {
         Ok(SendSide {
             rules: *rules,
@@ -80,10 +79,9 @@ impl SendSide {
     }
 
     /// Now becomes the latest moment.
-    pub fn reach(&mut self, now: u64)
-        requires moment { now ≤ most_moment }
-        requires past { self.old.latest ≤ now }
-        ensures { self.new ≡ record self.old { latest = now } }
+    pub fn reach(&mut self, now: Reading)
+        requires past { self.old.latest ≤ now.ms }
+        ensures { self.new ≡ record self.old { latest = now.ms } }
     {
         self.latest = now;
     }
@@ -159,7 +157,7 @@ impl SendSide {
             unreachable!();
         };
         let put = sender.put(asked.octets, asked.begin, asked.end, steps);
-        let note = note_of(sender, self.latest, steps);
+        let note = note_of(sender, self.latest.ms, steps);
         self.table.agenda.note(place, &note);
         put?;
         Ok(())
@@ -188,10 +186,10 @@ impl SendSide {
             *self.table.slots.allocator(),
             &self.rules,
             *flow,
-            self.latest,
+            self.latest.ms,
         )?;
         sender.put(asked.octets, asked.begin, asked.end, steps)?;
-        let note = note_of(&sender, self.latest, steps);
+        let note = note_of(&sender, self.latest.ms, steps);
         self.table.add(flow, sender, &note)?;
         Ok(())
     }
@@ -218,7 +216,7 @@ impl SendSide {
             unreachable!();
         };
         let acked = sender.on_ack(number, window, steps);
-        let note = note_of(sender, self.latest, steps);
+        let note = note_of(sender, self.latest.ms, steps);
         self.table.agenda.note(place, &note);
         let Some(count) = acked else {
             return Arrived::Dropped;
@@ -251,11 +249,11 @@ impl SendSide {
         let Some((_, sender)) = &mut self.table.slots[place] else {
             unreachable!();
         };
-        let act = sender.act(self.latest, frame, steps);
+        let act = sender.act(self.latest.ms, frame, steps);
         if let SendAct::Released = act {
             self.table.remove(place, flow);
         } else {
-            let note = note_of(sender, self.latest, steps);
+            let note = note_of(sender, self.latest.ms, steps);
             self.table.agenda.note(place, &note);
         }
         act
@@ -268,7 +266,7 @@ impl SendSide {
         ensures found { IfSome result (λ d. IsSoonest (sender_moment self.now.rules self.now.latest kind) self.now.latest self.now.entries (due.Send kind) d) }
     {
         let (moment, place) = self.table.agenda.first(place_of(kind))?;
-        if moment > self.latest {
+        if moment > self.latest.ms {
             return None;
         }
         let Some((flow, _)) = &self.table.slots[place] else {
@@ -292,13 +290,13 @@ impl SendSide {
         ensures none { result ≡ None → steps.new ≤ steps.old + missed_senders self.old.rules self.old.latest (send_records self.old.entries) }
     {
         while let Some((moment, place)) = self.table.agenda.first(RESEND) {
-            if moment > self.latest {
+            if moment > self.latest.ms {
                 return None;
             }
             let Some((flow, sender)) = &self.table.slots[place] else {
                 unreachable!();
             };
-            let resend = sender.moments(self.latest, steps).resend;
+            let resend = sender.moments(self.latest.ms, steps).resend;
             if resend == Some(moment) {
                 return Some(DueAct {
                     kind: DueKind::Send(SendKind::Resend),

@@ -1,6 +1,5 @@
 ghost use Rattle.std.specs.Prelude.{◌≡◌, ◌+◌, ◌^◌, ◌<◌, ◌≤◌, ◌↔◌, [], ◌++◌, false, length, IfSome, IsNone, OnErr, OnOk, slice_get, Some};
 ghost use Rattle.dt_items.specs.Unread.{marked};
-ghost use Rattle.dt_flow_model.specs.Keeping.{most_moment};
 ghost use Rattle.dt_flow_model.specs.Ledger.{HasNoEntry, first_unsent, note_first, note_read, settle, take_rows, top};
 ghost use Rattle.dt_world_model.specs.Ledgers.{totals_of};
 ghost use Rattle.dt_ledger.specs.Gives.{rows_given};
@@ -70,12 +69,10 @@ impl FlowRows {
 
     /// `count` taken rows from a place on, which are there, get their first moment. The cost is that of
     /// the rows.
-    pub fn note_first(&mut self, place: u64, count: u32, at: u64)
+    pub fn note_first(&mut self, place: u64, count: u32, at: Instant)
         requires there { place + count ≤ length self.old.taken }
-        requires moment { at ≤ most_moment }
-        ensures { self.new ≡ record self.old { taken = note_first at place count self.old.taken } }
+        ensures { self.new ≡ record self.old { taken = note_first at.milliseconds place count self.old.taken } }
     {
-        let at = Instant { milliseconds: at };
         self.taken.note_first(place, count, at);
     }
 
@@ -101,12 +98,10 @@ impl FlowRows {
     /// neither a fate nor a first moment; fewer do where the rows end before. The answer is the place of
     /// that one, or the number of taken rows where there is none. The cost is as [`FlowRows::settle_open`]
     /// says, and that of the rows.
-    pub fn note_next(&mut self, life: u32, count: u32, at: u64) -> u64
-        requires moment { at ≤ most_moment }
+    pub fn note_next(&mut self, life: u32, count: u32, at: Instant) -> u64
         ensures place { result ≡ first_unsent life self.old.taken }
-        ensures noted { self.new ≡ record self.old { taken = note_first at (first_unsent life self.old.taken) count self.old.taken } }
+        ensures noted { self.new ≡ record self.old { taken = note_first at.milliseconds (first_unsent life self.old.taken) count self.old.taken } }
     {
-        let at = Instant { milliseconds: at };
         self.taken.note_next(life, count, at)
     }
 

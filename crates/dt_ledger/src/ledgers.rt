@@ -12,6 +12,7 @@ ghost use Rattle.dt_ledger.specs.Rows.{settle_at};
 
 use crate::flow_rows::FlowRows;
 use crate::given_octets::GivenOctets;
+use crate::moments::Instant;
 use dt_flow_model::{Fate, Taken};
 use dt_items::NoMemory;
 use dt_reports::Totals;
@@ -117,7 +118,7 @@ impl Ledger {
             self.new ≡ write same_flow flow.now (record before { taken = note_first at place count before.taken }) self.old }
     {
         match self.rows_mut(flow) {
-            Some(rows) => rows.note_first(place, count, at),
+            Some(rows) => rows.note_first(place, count, Instant { milliseconds: at }),
             None => unreachable!(),
         }
     }

@@ -18,3 +18,4 @@ pub use dt_reports::Totals;
 pub use flow_rows::FlowRows;
 pub use given_octets::GivenOctets;
 pub use ledgers::Ledger;
+pub use moments::Instant;

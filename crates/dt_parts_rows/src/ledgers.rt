@@ -1,6 +1,6 @@
 ghost use Rattle.std.specs.Prelude.{◌<◌, length};
 
-use dt_ledger::{Fate, FlowRows, GivenOctets, Ledger, Totals};
+use dt_ledger::{Fate, FlowRows, GivenOctets, Instant, Ledger, Totals};
 use dt_units::{Flow, NodeId};
 use std::process::Abort;
 
@@ -34,7 +34,10 @@ fn is_taken(rows: &mut FlowRows, octets: &[u8]) -> bool {
 }
 
 fn goes_out(rows: &mut FlowRows, count: u32, at: u32, place: u64) -> bool {
-    rows.note_next(0, count, u64::from(at)) == place
+    let at = Instant {
+        milliseconds: u64::from(at),
+    };
+    rows.note_next(0, count, at) == place
 }
 
 fn is_given(rows: &mut FlowRows, place: u32, octets: &[u8], marks: &[u8], at: u64) -> bool

@@ -16,7 +16,7 @@ use crate::records;
 use crate::records::Record;
 use crate::segment::Segment;
 use circular_buffer::HeapCircularBuffer;
-use dt_flow_model::{Action, Arrived, RecvAct, RecvKind, RecvMoments};
+use dt_flow_model::{Action, Arrived, Reading, RecvAct, RecvKind, RecvMoments};
 use dt_items::{Item, NoMemory, Piece, Queue};
 use dt_layout::Frame;
 use dt_units::{Flow, Rules, Steps};
@@ -40,7 +40,7 @@ pub struct Receiver {
 
 impl Model for Receiver {
     ghost use Rattle.std.specs.Prelude.{◌≡◌};
-    ghost use Rattle.dt_recv.specs.Receivers.{IsTouched, ReceiverValue};
+    ghost use Rattle.dt_recv.specs.Receivers.{ReceiverValue};
     ghost use Rattle.dt_flow_model.specs.Keeping.{IsReceiverKept};
     ghost use Rattle.dt_recv.specs.Records.{standing_of};
 
@@ -48,7 +48,7 @@ impl Model for Receiver {
 
     ghost view = { λ r. record { rules = r.rules; flow = r.flow; state = record { unread = r.queue.items; standing = standing_of r.standing } } };
 
-    ghost invariant = { λ r. (r.queue.room ≡ r.rules.rcap) × IsReceiverKept r.rules (record { unread = r.queue.items; standing = standing_of r.standing }) × IsTouched (standing_of r.standing) };
+    ghost invariant = { λ r. (r.queue.room ≡ r.rules.rcap) × IsReceiverKept r.rules (record { unread = r.queue.items; standing = standing_of r.standing }) };
 }
 
 impl Receiver {
@@ -145,6 +145,7 @@ impl Receiver {
             end,
             octets,
         };
+        let now = Reading { ms: now };
         match self.action_on(drf, number, octets) {
             Action::Drop => Arrived::Dropped,
             Action::Make | Action::Skip => self.accept(&segment, true, now),
@@ -303,13 +304,12 @@ impl Receiver {
     }
 
     /// Accepts the octets of a segment that fit into the queue, at `now`, as a new run or following the ones before.
-    fn accept(&mut self, segment: &Segment<'_>, run: bool, now: u64) -> Arrived
+    fn accept(&mut self, segment: &Segment<'_>, run: bool, now: Reading) -> Arrived
         requires some { 0 < length segment.now.octets.now }
         requires few { length segment.now.octets.now ≤ 8192 }
         requires fits { length segment.now.octets.now ≤ free_of self.old.rules self.old.state.unread }
-        requires moment { now ≤ 2 ^ 62 }
         ensures after { let items = marked segment.now.octets.now segment.now.begin segment.now.end false in
-            self.new ≡ record self.old { state = receiver_accepted self.old.rules now self.old.state.unread self.old.state.standing segment.now.number items run } }
+            self.new ≡ record self.old { state = receiver_accepted self.old.rules now.ms self.old.state.unread self.old.state.standing segment.now.number items run } }
         ensures answer { result ≡ Accepted run (length segment.now.octets.now) }
     {
         self.queue

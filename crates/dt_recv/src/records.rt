@@ -1,14 +1,13 @@
 //! What becomes of a receive record. Moments are readings of the receiving station's clock, in
 //! milliseconds.
-ghost use Rattle.std.specs.Prelude.{◌≡◌, ◌≤◌, ◌+◌, ◌^◌, Some, length};
+ghost use Rattle.std.specs.Prelude.{◌≡◌, ◌≤◌, ◌+◌, Some, length};
 ghost use Rattle.dt_units.specs.Numbers.{number_after};
 ghost use Rattle.dt_units.specs.Times.{receive_time};
 ghost use Rattle.dt_flow_model.specs.ReceiveRecord.{due_in, expected_of, owed_after, opens_window, owing, recv_due_of, recv_moments, recv_wake_of, record_read, standing_told, told_in, window_told};
-ghost use Rattle.dt_recv.specs.Receivers.{IsTouched};
 ghost use Rattle.dt_recv.specs.Records.{receive_record_of, standing_of};
 
 use crate::segment::Segment;
-use dt_flow_model::{RecvKind, RecvMoments};
+use dt_flow_model::{Reading, RecvKind, RecvMoments};
 use dt_units::{Rules, earlier, later};
 
 /// A receive record.
@@ -17,7 +16,7 @@ pub struct Record {
     /// The number of the octet that comes next.
     pub expected: u32,
     /// The moment of the last acceptance.
-    pub touched: u64,
+    pub touched: Reading,
     /// The moment at which an acknowledgement that is owed goes out, or none.
     pub due: Option<u64>,
     /// The window that was advertised last, in octets.
@@ -25,14 +24,13 @@ pub struct Record {
 }
 
 /// When the acknowledgement of a packet goes out that is accepted at `now`, by what was owed before.
-fn owed_after(rules: &Rules, now: u64, due: Option<u64>, message_ends: bool) -> Option<u64>
-    requires { now ≤ 2 ^ 62 }
-    ensures { result ≡ owed_after rules.now now due message_ends }
+fn owed_after(rules: &Rules, now: Reading, due: Option<u64>, message_ends: bool) -> Option<u64>
+    ensures { result ≡ owed_after rules.now now.ms due message_ends }
 {
     if due.is_some() || message_ends {
-        Some(now)
+        Some(now.ms)
     } else {
-        Some(now + u64::from(rules.params().a))
+        Some(now.ms + u64::from(rules.params().a))
     }
 }
 
@@ -44,13 +42,17 @@ pub fn expected(standing: Option<Record>) -> Option<u32>
 }
 
 /// The record after the octets of a segment were accepted at `now`.
-pub fn accepted(standing: Option<Record>, rules: &Rules, now: u64, segment: &Segment<'_>) -> Record
-    requires moment { now ≤ 2 ^ 62 }
+pub fn accepted(
+    standing: Option<Record>,
+    rules: &Rules,
+    now: Reading,
+    segment: &Segment<'_>,
+) -> Record
     requires few { length segment.now.octets.now ≤ 8192 }
     ensures { receive_record_of result ≡ record {
       expected = number_after segment.now.number (length segment.now.octets.now);
-      touched = now;
-      due = owed_after rules.now now (due_in (standing_of standing)) segment.now.end;
+      touched = now.ms;
+      due = owed_after rules.now now.ms (due_in (standing_of standing)) segment.now.end;
       told = told_in rules.now (standing_of standing);
     } }
 {
@@ -119,10 +121,9 @@ impl Record {
 
     /// The moment at which it is due for release.
     fn release(&self, rules: &Rules) -> u64
-        requires { self.now.touched ≤ 2 ^ 62 }
-        ensures { result ≡ self.now.touched + receive_time rules.now }
+        ensures { result ≡ self.now.touched.ms + receive_time rules.now }
     {
-        self.touched + rules.times().receive
+        self.touched.ms + rules.times().receive
     }
 }
 
@@ -140,7 +141,6 @@ fn owing(now: u64, due: Option<u64>) -> Option<(RecvKind, u64)>
 
 /// The first kind of act that is due at `now`, with the moment from which it is.
 pub fn due(standing: Option<Record>, rules: &Rules, now: u64) -> Option<(RecvKind, u64)>
-    requires { IsTouched (standing_of standing) }
     ensures { result ≡ recv_due_of rules.now now (standing_of standing) }
 {
     let record = standing?;
@@ -154,7 +154,6 @@ pub fn due(standing: Option<Record>, rules: &Rules, now: u64) -> Option<(RecvKin
 
 /// From when on each kind of act is due.
 pub fn moments(standing: Option<Record>, rules: &Rules) -> RecvMoments
-    requires { IsTouched (standing_of standing) }
     ensures { result ≡ recv_moments rules.now (standing_of standing) }
 {
     match standing {
@@ -171,7 +170,6 @@ pub fn moments(standing: Option<Record>, rules: &Rules) -> RecvMoments
 
 /// The least moment at which an act is due.
 pub fn wake(standing: Option<Record>, rules: &Rules) -> Option<u64>
-    requires { IsTouched (standing_of standing) }
     ensures { result ≡ recv_wake_of rules.now (standing_of standing) }
 {
     let moments = moments(standing, rules);

@@ -5,12 +5,11 @@ mod carrying;
 mod passages;
 mod places;
 mod queues;
-mod readings;
 mod relays;
 
 pub use carrying::Carry;
+pub use dt_flow_model::Reading;
 pub use dt_world_model::{Entered, InLink, OutLink, Route};
 pub use passages::Passage;
 pub use queues::Left;
-pub use readings::Reading;
 pub use relays::Relay;

@@ -6,8 +6,8 @@ ghost use Rattle.dt_relay.specs.Passages.{HasLife, passage_on, passed_on};
 
 use crate::carrying::Carry;
 use crate::passages::Passage;
-use crate::readings::Reading;
 use circular_buffer::HeapCircularBuffer;
+use dt_flow_model::Reading;
 use dt_items::NoMemory;
 use dt_world_model::Entered;
 use std::alloc::Global;

@@ -12,7 +12,7 @@ use crate::carrying::Carry;
 use crate::passages::Passage;
 use crate::places::{Places, place_in, places_in};
 use crate::queues::{Left, Queue};
-use crate::readings::Reading;
+use dt_flow_model::Reading;
 use dt_items::NoMemory;
 use dt_layout::Frame;
 use dt_units::earlier;
@@ -145,8 +145,8 @@ impl<P: Carry> Relay<P> {
         }
     }
 
-    /// A packet to this node, with so many milliseconds of life, comes to its link at `now`, which is at
-    /// most 2^62, and goes straight on if it can. No packet is moved: this is [`Relay::enter`] and
+    /// A packet to this node, with so many milliseconds of life, comes to its link at `now` and
+    /// goes straight on if it can. No packet is moved: this is [`Relay::enter`] and
     /// then [`Relay::leave`] for any packet that tells this node and this life.
     ///
     /// - `NoRoute`, `Full`: as [`Relay::enter`] answers. Nothing changes.
@@ -157,15 +157,14 @@ impl<P: Carry> Relay<P> {
     ///   is `now`.
     ///
     /// Its cost is that of two look-ups.
-    pub fn pass(&mut self, to: u32, life: u32, now: u64) -> Passage
-        requires past { All (IsOutUpTo now) self.old.outs }
-        requires moment { now ≤ most_moment }
-        ensures passes { (parcel : Parcel P.Tag) → to_of parcel.octets ≡ to → life_of parcel.octets ≡ life → Passes parcel now result self.old self.new }
+    pub fn pass(&mut self, to: u32, life: u32, now: Reading) -> Passage
+        requires past { All (IsOutUpTo now.ms) self.old.outs }
+        ensures passes { (parcel : Parcel P.Tag) → to_of parcel.octets ≡ to → life_of parcel.octets ≡ life → Passes parcel now.ms result self.old self.new }
         // Which answer comes, and where: each cause exactly.
-        ensures cause { result ≡ passage_by to life now (way_to to self.old) }
+        ensures cause { result ≡ passage_by to life now.ms (way_to to self.old) }
         ensures life { HasLife life result }
         ensures others { self.new ≡ with_outs self.old self.new.outs }
-        ensures past { All (IsOutUpTo now) self.new.outs }
+        ensures past { All (IsOutUpTo now.ms) self.new.outs }
     {
         match self.route(to) {
             None => Passage::NoRoute { to },
@@ -173,7 +172,7 @@ impl<P: Carry> Relay<P> {
                 None => Passage::NoRoute { to },
                 Some(i) => {
                     let queue = &mut self.outs[i];
-                    queue.pass(life, Reading { ms: now })
+                    queue.pass(life, now)
                 }
             },
         }
@@ -197,7 +196,7 @@ impl<P: Carry> Relay<P> {
     {
         match self.place(link) {
             None => None,
-            Some(place) => self.leave_at(place, now),
+            Some(place) => self.leave_at(place, Reading { ms: now }),
         }
     }
 
@@ -219,22 +218,21 @@ impl<P: Carry> Relay<P> {
 
     /// [`Relay::leave`] on the out link at this place, counted from 0 in the order of `outs`. It looks no
     /// number up.
-    pub fn leave_at(&mut self, place: usize, now: u64) -> Option<Left<P>>
+    pub fn leave_at(&mut self, place: usize, now: Reading) -> Option<Left<P>>
         requires place { place < length self.old.outs }
-        requires past { All (IsOutUpTo now) self.old.outs }
-        requires moment { now ≤ most_moment }
+        requires past { All (IsOutUpTo now.ms) self.old.outs }
         ensures left { let link = link_in self.old.outs place in
-            left_seen P.octets P.label result ≡ (on_link link None (leave now) self.old.outs).0 }
+            left_seen P.octets P.label result ≡ (on_link link None (leave now.ms) self.old.outs).0 }
         ensures after { let link = link_in self.old.outs place in
-            self.new ≡ with_outs self.old (on_link link None (leave now) self.old.outs).1 }
-        ensures past { All (IsOutUpTo now) self.new.outs }
+            self.new ≡ with_outs self.old (on_link link None (leave now.ms) self.old.outs).1 }
+        ensures past { All (IsOutUpTo now.ms) self.new.outs }
         ensures gram { IfOut result (λ packet. IsGram (P.octets packet)) }
     {
         match self.first(place) {
             None => None,
             Some(i) => {
                 let queue = &mut self.outs[i];
-                queue.leave(Reading { ms: now })
+                queue.leave(now)
             }
         }
     }

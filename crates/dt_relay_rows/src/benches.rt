@@ -4,7 +4,7 @@ ghost use Rattle.std.specs.Prelude.{◌≤◌, ◌^◌};
 use crate::fixtures::packet;
 use dt_items::NoMemory;
 use dt_layout::Frame;
-use dt_relay::{Entered, InLink, Left, OutLink, Passage, Relay, Route};
+use dt_relay::{Entered, InLink, Left, OutLink, Passage, Reading, Relay, Route};
 use std::alloc::Global;
 use std::marker::Model;
 use std::process::Abort;
@@ -87,13 +87,15 @@ impl Bench {
     }
 
     fn goes_on(&mut self, life: u32, to: u32, wanted: Passage) -> bool {
-        self.relay.pass(to, life, self.now) == wanted
+        let now = Reading { ms: self.now };
+        self.relay.pass(to, life, now) == wanted
     }
 
     fn leaves_at(&mut self, place: usize, wanted: bool) -> bool {
+        let now = Reading { ms: self.now };
         place < self.relay.links()
             && self.relay.is_ready(place, self.now) == wanted
-            && self.relay.leave_at(place, self.now).is_some() == wanted
+            && self.relay.leave_at(place, now).is_some() == wanted
     }
 
     /// Whether a step is as it says.

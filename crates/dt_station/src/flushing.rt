@@ -29,7 +29,7 @@ fn let_out<P: Carry, V: Visitor<P>>(
     ensures past { All (IsOutUpTo now.ms) relay.new.outs }
 {
     let link = relay.link_at(place);
-    match relay.leave_at(place, now.ms) {
+    match relay.leave_at(place, now) {
         None => Ok(()),
         Some(Left::Expired) => {
             visitor.tell(&Report::ExpiredOut { link });

@@ -7,6 +7,7 @@ mod flushing;
 mod laws;
 mod local_events;
 mod passing;
+mod starts;
 mod stations;
 mod telling;
 mod turning;

@@ -30,7 +30,7 @@ pub(crate) fn pass_on<P: Carry, V: Visitor<P>>(
     ensures past { All (IsOutUpTo now.ms) relay.new.outs }
 {
     let life = Carry::life(frame);
-    match relay.pass(Carry::to(frame), life, now.ms) {
+    match relay.pass(Carry::to(frame), life, now) {
         Passage::Leaves { link } => {
             frame.lower(1);
             visitor.tell(&Report::Put {

@@ -6,13 +6,14 @@ ghost use Rattle.dt_relay.specs.Carrying.{parcel_seen};
 ghost use Rattle.dt_world_model.specs.Host.{IsCurrentHost};
 ghost use Rattle.dt_world_model.specs.Script.{Concludes};
 ghost use Rattle.dt_relay.specs.Places.{link_of, place_of};
-ghost use Rattle.dt_world_model.specs.Relay.{route_to, with_outs};
+ghost use Rattle.dt_world_model.specs.Relay.{route_to};
 ghost use Rattle.dt_world_model.specs.Station.{Arrive, station_event, station_wake};
 ghost use Rattle.dt_station.specs.Events.{LeavesBuffer, LeavesBufferHere, MayHappen, MayHappenHere, ReadsInto, ReadsIntoHere, event_seen, local_seen};
-ghost use Rattle.dt_station.specs.Stations.{host_started, is_spent_by, station_started, with_route};
+ghost use Rattle.dt_station.specs.Stations.{Stays, host_started, is_spent_by, station_started, with_route};
 
 use crate::arrivals::Arrival;
 use crate::events::{LocalEvent, StationEvent};
+use crate::starts::Start;
 use crate::visitor::Visitor;
 use dt_host::Host;
 use dt_items::NoMemory;
@@ -71,7 +72,7 @@ impl<P: Carry> Station<P> {
         requires moment { ForSome again (λ now. now ≤ most_moment) }
         ensures { IfOk result (λ station. station ≡ station_started rules.now me.0 again outs.now ins.now routes.now) }
     {
-        let host = start_host(alloc, rules, me, again)?;
+        let host = start_host(alloc, rules, me, Start { again })?;
         let latest = Reading {
             ms: again.unwrap_or(0),
         };
@@ -127,13 +128,10 @@ impl<P: Carry> Station<P> {
         ensures leaves { LeavesBuffer event.entry buf.old buf.new }
         ensures current { OnOk result (IsCurrentHost self.new.rules now self.new.state.host) }
         ensures spent { self.new.spent ≡ is_spent_by result }
-        // What never changes, after any answer.
-        ensures rules { self.new.rules ≡ self.old.rules }
-        ensures me { self.new.state.host.me ≡ self.old.state.host.me }
-        ensures links { self.new.state.relay ≡ with_outs self.old.state.relay self.new.state.relay.outs }
-        // What it keeps is past.
-        ensures latest { self.new.latest ≡ now }
+        // What never changes, after any answer, and that the moment is the latest one then.
+        ensures stays { Stays (record self.old { latest = now }) self.new }
     {
+        let now = Reading { ms: now };
         match event {
             StationEvent::Send {
                 flow,
@@ -164,29 +162,24 @@ impl<P: Carry> Station<P> {
     /// that of a read; any other event leaves it as it is, after any answer.
     pub fn local_event<V: Visitor<P>>(
         &mut self,
-        now: u64,
+        now: Reading,
         event: LocalEvent<'_>,
         buf: &mut [u8],
         visitor: &mut V,
     ) -> Result<(), NoMemory>
         requires unspent { self.old.spent ≡ false }
-        requires event { MayHappenHere self.old.rules now self.old.state (length buf.old) event }
-        requires past { self.old.latest ≤ now }
-        requires moment { now ≤ most_moment }
-        ensures script { Concludes V.tells (V.tags now) V.hands V.fails result (station_event self.old.rules now (local_seen (length buf.old) event.entry) self.old.state) visitor.old visitor.new self.new.state }
+        requires event { MayHappenHere self.old.rules now.ms self.old.state (length buf.old) event }
+        requires past { self.old.latest ≤ now.ms }
+        ensures script { Concludes V.tells (V.tags now.ms) V.hands V.fails result (station_event self.old.rules now.ms (local_seen (length buf.old) event.entry) self.old.state) visitor.old visitor.new self.new.state }
         // The buffer: what a read that ended well leaves in it, and that any other event leaves it.
-        ensures reads { OnOk result (ReadsIntoHere V.tells (V.tags now) V.hands self.old.rules now event.entry self.old.state visitor.old buf.old buf.new) }
+        ensures reads { OnOk result (ReadsIntoHere V.tells (V.tags now.ms) V.hands self.old.rules now.ms event.entry self.old.state visitor.old buf.old buf.new) }
         ensures leaves { LeavesBufferHere event.entry buf.old buf.new }
-        ensures current { OnOk result (IsCurrentHost self.new.rules now self.new.state.host) }
+        ensures current { OnOk result (IsCurrentHost self.new.rules now.ms self.new.state.host) }
         ensures spent { self.new.spent ≡ is_spent_by result }
-        // What never changes, after any answer.
-        ensures rules { self.new.rules ≡ self.old.rules }
-        ensures me { self.new.state.host.me ≡ self.old.state.host.me }
-        ensures links { self.new.state.relay ≡ with_outs self.old.state.relay self.new.state.relay.outs }
-        // What it keeps is past.
-        ensures latest { self.new.latest ≡ now }
+        // What never changes, after any answer, and that the moment is the latest one then.
+        ensures stays { Stays (record self.old { latest = now.ms }) self.new }
     {
-        self.latest = Reading { ms: now };
+        self.latest = now;
         let done = self.do_local_event::<V, Brand>(event, buf, Blank::new(1), visitor);
         self.spent = done.is_err();
         done
@@ -200,7 +193,7 @@ impl<P: Carry> Station<P> {
     /// before it is used again. A packet is made of it only where it has to wait for its link.
     pub fn arrive<V: Visitor<P>>(
         &mut self,
-        now: u64,
+        now: Reading,
         link: u16,
         frame: &mut Frame,
         tag: P::Tag,
@@ -208,20 +201,15 @@ impl<P: Carry> Station<P> {
     ) -> Result<(), NoMemory>
         requires unspent { self.old.spent ≡ false }
         requires gram { IsGram frame.old }
-        requires past { self.old.latest ≤ now }
-        requires moment { now ≤ most_moment }
+        requires past { self.old.latest ≤ now.ms }
         ensures script { let arrives = Arrive link (record { octets = frame.old; tag = tag }) in
-            Concludes V.tells (V.tags now) V.hands V.fails result (station_event self.old.rules now arrives self.old.state) visitor.old visitor.new self.new.state }
-        ensures current { OnOk result (IsCurrentHost self.new.rules now self.new.state.host) }
+            Concludes V.tells (V.tags now.ms) V.hands V.fails result (station_event self.old.rules now.ms arrives self.old.state) visitor.old visitor.new self.new.state }
+        ensures current { OnOk result (IsCurrentHost self.new.rules now.ms self.new.state.host) }
         ensures spent { self.new.spent ≡ is_spent_by result }
-        // What never changes, after any answer.
-        ensures rules { self.new.rules ≡ self.old.rules }
-        ensures me { self.new.state.host.me ≡ self.old.state.host.me }
-        ensures links { self.new.state.relay ≡ with_outs self.old.state.relay self.new.state.relay.outs }
-        // What it keeps is past.
-        ensures latest { self.new.latest ≡ now }
+        // What never changes, after any answer, and that the moment is the latest one then.
+        ensures stays { Stays (record self.old { latest = now.ms }) self.new }
     {
-        self.latest = Reading { ms: now };
+        self.latest = now;
         let came = Arrival { link, frame, tag };
         let ended = self.do_arrival::<V, Brand>(came, Blank::new(1), visitor);
         self.spent = ended.is_err();
@@ -279,16 +267,10 @@ impl<P: Carry> Station<P> {
 }
 
 /// The host of a node that starts for the first time, or again.
-fn start_host(
-    alloc: Global,
-    rules: &Rules,
-    me: NodeId,
-    again: Option<u64>,
-) -> Result<Host, NoMemory>
-    requires moment { ForSome again (λ now. now ≤ most_moment) }
-    ensures { IfOk result (λ host. host ≡ record { rules = rules.now; latest = unwrap_or again 0; state = host_started rules.now me.0 again }) }
+fn start_host(alloc: Global, rules: &Rules, me: NodeId, start: Start) -> Result<Host, NoMemory>
+    ensures { IfOk result (λ host. host ≡ record { rules = rules.now; latest = unwrap_or start.again 0; state = host_started rules.now me.0 start.again }) }
 {
-    match again {
+    match start.again {
         None => Host::first(alloc, rules, me),
         Some(now) => Host::restarted(alloc, rules, me, now),
     }

@@ -30,6 +30,11 @@ abbrev pub task_of : UserLine → Task
 task_of (users.Send flow begin end hex) = Sends flow begin end (octets_of_hex hex.now)
 task_of (users.Read flow max) = Reads flow max
 
+-- it lends digits of octets, for which memory is taken
+abbrev pub HasOctets : UserLine → Type 0
+HasOctets (users.Send flow begin end hex) = Unit {0}
+HasOctets (users.Read flow max) = ⊥
+
 -- the digits that it lends are pairs
 abbrev pub HasPairs : UserLine → Type 0
 HasPairs (users.Send flow begin end hex) = IsTrue (are_pairs hex.now)

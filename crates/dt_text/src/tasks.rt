@@ -1,8 +1,8 @@
 //! What a user of a node asks of it.
-ghost use Rattle.std.specs.Prelude.{◌≡◌, IfOk, IsTrue};
+ghost use Rattle.std.specs.Prelude.{◌≡◌, IfOk, IsTrue, OnErr};
 ghost use Rattle.dt_text.specs.Hexadecimal.{are_pairs, octets_of_hex};
 ghost use Rattle.dt_text.specs.Said.{user_said};
-ghost use Rattle.dt_text.specs.Tasks.{HasPairs, Sends, task_of, task_seen};
+ghost use Rattle.dt_text.specs.Tasks.{HasOctets, HasPairs, Sends, task_of, task_seen};
 
 use crate::hexadecimal::decode_hex;
 use crate::lines::UserLine;
@@ -30,10 +30,11 @@ pub enum Task {
 
 impl Task {
     /// What a line asks for. The octets that its digits spell are put into memory of `alloc`; `NoMemory`
-    /// comes only where there is none for them. The cost is the line.
+    /// comes only where there is none for them, so never for a read. The cost is the line.
     pub fn of(line: &UserLine<'_>, alloc: Global) -> Result<Task, NoMemory>
         requires pairs { HasPairs (user_said line.now) }
         ensures task { IfOk result (λ task. task_seen task ≡ task_of (user_said line.now)) }
+        ensures memory { OnErr result (HasOctets (user_said line.now)) }
     {
         match *line {
             UserLine::Send {

@@ -46,14 +46,16 @@ impl Deadlines {
     }
 
     /// Sees to it that there are more places than `count`, where there are `count` at least. Those that
-    /// are made have no moment. `NoMemory` leaves all as it was. The cost doesn't grow where there are
-    /// more already, and else is that of putting each moment into its place.
+    /// are made have no moment. `NoMemory` comes only where there aren't more yet, and leaves all as it
+    /// was. The cost doesn't grow where there are more already, and else is that of putting each moment
+    /// into its place.
     pub fn hold(&mut self, count: usize) -> Result<(), NoMemory>
         requires { count ≤ length self.old }
         ensures ok { OnOk result (count < length self.new) }
         ensures room { length self.old ≤ length self.new }
         ensures same { (i : ℕ) → moment_at self.new i ≡ moment_at self.old i }
         ensures err { OnErr result (self.new ≡ self.old) }
+        ensures memory { OnErr result (length self.old ≡ count) }
     {
         if count == self.tournament.room() {
             self.tournament.double()?;

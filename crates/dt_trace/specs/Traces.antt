@@ -1,7 +1,7 @@
 -- A trace as a whole: what its lines come to.
 use Rattle.std.specs.Prelude.{◌≡◌, ℕ, suc, ◌+◌, Bool, true, false, ◌==◌, if◌then◌else◌, nat_lt, List, [], ◌∷◌, ◌++◌, length, slice_index_or, Option, Some, None, Result, Ok, Err, ◌-◌}
 use Rattle.dt_edges.specs.Clocks.{ClockInMemory}
-use Rattle.dt_edges.specs.Wires.{Datagram, WireInMemory}
+use Rattle.dt_edges.specs.Wires.{Datagram, WireInMemory, fresh_wire}
 use Rattle.dt_reports.specs.declared.faults.LineFault.{LineFault}
 use Rattle.dt_reports.specs.declared.faults.LineFault.TheVariants.{Order}
 use Rattle.dt_text.specs.InputLines.{lines_of}
@@ -62,22 +62,7 @@ trace_of octets = read_from 1 nothing (lines_of octets)
 
 -- THE WIRE AND THE CLOCK of a trace, on which its run can be run again
 abbrev pub wire_of : Recorded → WireInMemory
-wire_of t = record {
-  opening = Some None;
-  open_fails = t.open_fails;
-  failing_takes = t.failing_takes;
-  failing_gives = t.failing_gives;
-  entries = t.takes;
-  used = 0;
-  taken = Some [];
-  departures = None;
-  takes = 0;
-  gives = 0;
-  take_faults = 0;
-  give_faults = 0;
-  opens = 0;
-  last_wait = None;
-}
+wire_of t = fresh_wire (record { entries = t.takes; failing_takes = t.failing_takes; failing_gives = t.failing_gives; open_fails = t.open_fails }) None
 
 -- the one reading 0 where there is none
 abbrev pub or_zero : List ℕ → List ℕ

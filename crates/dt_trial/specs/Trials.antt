@@ -4,7 +4,7 @@ use Rattle.std.specs.Borrow.{Bor}
 use Rattle.dt_edges.specs.Clocks.{ClockInMemory, ClockSight, clock_in_memory}
 use Rattle.dt_edges.specs.Sinks.{SinkInMemory, sink_in_memory}
 use Rattle.dt_edges.specs.Sources.{SourceInMemory, SourceSight, source_in_memory}
-use Rattle.dt_edges.specs.Wires.{Datagram, WireInMemory, wire_in_memory}
+use Rattle.dt_edges.specs.Wires.{Datagram, WireInMemory, fresh_wire, wire_in_memory}
 use Rattle.dt_top.specs.Answering.{Answers}
 use Rattle.dt_top.specs.Commands.{named, uses_wire}
 use Rattle.dt_top.specs.Runs.{Run}
@@ -23,22 +23,7 @@ entry_of (Some octets) = Some (record { link = 1; octets = octets.now })
 
 -- the wire of a trial, which isn't open and keeps nothing of what gives take
 abbrev pub wire_of : Trial → WireInMemory
-wire_of trial = record {
-  opening = Some None;
-  open_fails = trial.open_fails;
-  failing_takes = trial.failing_takes.now;
-  failing_gives = trial.failing_gives.now;
-  entries = map entry_of trial.takes.now;
-  used = 0;
-  taken = Some [];
-  departures = None;
-  takes = 0;
-  gives = 0;
-  take_faults = 0;
-  give_faults = 0;
-  opens = 0;
-  last_wait = None;
-}
+wire_of trial = fresh_wire (record { entries = map entry_of trial.takes.now; failing_takes = trial.failing_takes.now; failing_gives = trial.failing_gives.now; open_fails = trial.open_fails }) None
 
 -- a sink that is empty, with this much room, where no put is meant to fail
 abbrev pub empty_sink : ℕ → SinkInMemory

@@ -1,6 +1,5 @@
 //! Packets that arrive, and the shelf for those that came too early.
-ghost use Rattle.std.specs.Prelude.{◌≡◌, ◌<◌, ◌≤◌, IfOk, IfSome, None, OnErr, OnOk, length, option_map, suc, true};
-ghost use Rattle.dt_flow_model.specs.Keeping.{most_moment};
+ghost use Rattle.std.specs.Prelude.{◌≡◌, ◌<◌, IfOk, IfSome, None, OnErr, OnOk, length, option_map, suc, true};
 ghost use Rattle.dt_layout.specs.Carried.{IsGram};
 ghost use Rattle.dt_layout.specs.Reading.{gram_in};
 ghost use Rattle.dt_layout.specs.Spelling.{gram_of};
@@ -14,6 +13,7 @@ ghost use Rattle.dt_turn.specs.Shelving.{arrive, data_number, datagram, early_nu
 
 use crate::heard::{Heard, hear_arrival};
 use crate::nodes::Dock;
+use dt_flow_model::Reading;
 use dt_items::NoMemory;
 use dt_layout::{Deltagram, Frame, Packet, read_deltagram, read_packet};
 use dt_reports::Report;
@@ -109,16 +109,15 @@ fn fetch<V: Visitor<Frame>>(
     shelf: &mut Shelf,
     flow: Flow,
     number: u32,
-    now: u64,
+    now: Reading,
     visitor: &mut V,
 ) -> Option<Came>
-    requires past { IsShelfUpTo now shelf.old }
-    requires moment { now ≤ most_moment }
-    ensures plays { Plays V.tells (V.tags now) V.hands (fetch flow number now shelf.old) visitor.old visitor.new (option_map came_seen result, shelf.new) }
-    ensures past { IsShelfUpTo now shelf.new }
+    requires past { IsShelfUpTo now.ms shelf.old }
+    ensures plays { Plays V.tells (V.tags now.ms) V.hands (fetch flow number now.ms shelf.old) visitor.old visitor.new (option_map came_seen result, shelf.new) }
+    ensures past { IsShelfUpTo now.ms shelf.new }
     ensures fewer { IfSome result (λ came. IsGram came.frame × (length shelf.new.held < length shelf.old.held)) }
 {
-    'fetching: while let Some(taken) = shelf.take(&flow, number, now) {
+    'fetching: while let Some(taken) = shelf.take(&flow, number, now.ms) {
         match taken {
             Taken::Stale => visitor.tell(&Report::Stale { flow, number }),
             Taken::Again { link, frame } => {
@@ -178,7 +177,10 @@ fn round<V: Visitor<Frame>>(
 {
     match answer(dock, came, now, visitor)? {
         Heard::Nothing => Ok(None),
-        Heard::Accepted { flow, next } => Ok(fetch(shelf, flow, next, now, visitor)),
+        Heard::Accepted { flow, next } => {
+            let now = Reading { ms: now };
+            Ok(fetch(shelf, flow, next, now, visitor))
+        }
         Heard::Refused { flow, replied } => {
             let number = early_number(replied, &came.frame);
             hold_if(shelf, came, Early { flow, number }, now, visitor);
@@ -260,6 +262,7 @@ fn arrive_plain<V: Visitor<Frame>>(
     ensures on { OnOk result (GoesOn now 0 dock.old.station dock.new.station) }
     ensures memory { OnErr result (dock.new.station.spent ≡ true) }
 {
+    let now = Reading { ms: now };
     dock.station.arrive(now, link, &mut dock.frame, (), visitor)
 }
 

@@ -11,6 +11,7 @@ ghost use Rattle.dt_turn.specs.Hearing.{heard_in, hears, hears_by};
 ghost use Rattle.dt_turn.specs.Shelving.{plain};
 
 use crate::nodes::Dock;
+use dt_flow_model::Reading;
 use dt_host::Host;
 use dt_items::NoMemory;
 use dt_layout::Frame;
@@ -127,6 +128,7 @@ fn listen<V: Visitor<Frame>>(
     ensures on { OnOk result (GoesOn now 0 station.old station.new) }
     ensures memory { OnErr result (station.new.spent ≡ true) }
 {
+    let now = Reading { ms: now };
     station.arrive(now, link, frame, (), listener)
 }
 

@@ -17,6 +17,7 @@ ghost use Rattle.dt_turn.specs.Turns.{comes, do_due, event_of, finish, hand_in, 
 use crate::arrivals::Arrival;
 use crate::arriving::arrive;
 use crate::nodes::{Dock, Node};
+use dt_flow_model::Reading;
 use dt_items::NoMemory;
 use dt_layout::{Frame, read_deltagram};
 use dt_reports::Report;
@@ -40,6 +41,7 @@ fn do_event<V: Visitor<Frame>>(
     ensures on { OnOk result (GoesOn now (octets_sent (local_seen (length buf.old) event.entry)) station.old station.new) }
     ensures memory { OnErr result (station.new.spent ≡ true) }
 {
+    let now = Reading { ms: now };
     station.local_event(now, event, buf, visitor)
 }
 

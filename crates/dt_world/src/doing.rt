@@ -18,7 +18,8 @@ ghost use Rattle.dt_world.specs.Stopping.{ComesAt, ComesTo, IsLastLife};
 ghost use Rattle.dt_world.specs.Worlds.{IsStationOf, IsWhole, world_seen};
 
 use crate::marked::Mark;
-use crate::occasions::{Brought, MarkedOctets, Occasion};
+use crate::moments::Moment;
+use crate::occasions::{Brought, MarkedOctets};
 use crate::parts::{Parts, event_at};
 use crate::placed_events::PlacedEvent;
 use crate::placed_stations::start_again;
@@ -215,14 +216,8 @@ pub fn restart<L: Lines>(parts: &mut Parts, node: u32, lines: &mut L) -> Result<
     match parts.stations.get_mut(&node) {
         None => Ok(()),
         Some(placed) => {
-            let occasion = Occasion {
-                rules: &parts.rules,
-                now: parts.now,
-                node,
-                life: placed.life,
-                brought: no_octets(0),
-            };
-            match start_again(alloc, placed, &occasion) {
+            let now = Moment { ms: parts.now };
+            match start_again(alloc, placed, &parts.rules, node, now) {
                 Err(NoMemory) => Err(NoMemory),
                 Ok(()) => {
                     lines.line(&LogLine {

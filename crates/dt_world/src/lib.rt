@@ -7,6 +7,7 @@ mod effects;
 mod events;
 mod marked;
 mod marks;
+mod moments;
 mod notes;
 mod occasions;
 mod parts;

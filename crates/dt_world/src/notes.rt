@@ -15,7 +15,7 @@ use crate::effects::Change;
 use crate::occasions::Occasion;
 use crate::runs::FlowRun;
 use dt_items::NoMemory;
-use dt_ledger::{Fate, Ledger};
+use dt_ledger::{Fate, Instant, Ledger};
 use dt_units::Flow;
 use indexmap::IndexMap;
 
@@ -140,7 +140,10 @@ fn transmit(notes: &mut Notes, occasion: &Occasion<'_>, flow: &Flow, count: u32)
     let Some(rows) = notes.ledger.rows_mut(flow) else {
         unreachable!();
     };
-    let place = rows.note_next(occasion.life, count, occasion.now);
+    let now = Instant {
+        milliseconds: occasion.now,
+    };
+    let place = rows.note_next(occasion.life, count, now);
     run.transmit(occasion.rules, place, occasion.now);
 }
 

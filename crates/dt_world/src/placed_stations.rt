@@ -10,11 +10,13 @@ ghost use Rattle.dt_world.specs.Steps.{Happened, Played, noted_first};
 ghost use Rattle.dt_world.specs.Reporters.{Ends, occasion_of};
 
 use crate::marked::MarkedFrame;
+use crate::moments::Moment;
 use crate::notes::Notes;
 use crate::occasions::Occasion;
 use crate::placed_events::PlacedEvent;
-use crate::readings::{Reading, read_clock};
+use crate::readings::read_clock;
 use crate::reporters::{Lines, Reporter};
+use dt_flow_model::Reading;
 use dt_items::NoMemory;
 use dt_station::{InLink, LocalEvent, OutLink, Route, Station};
 use dt_units::{NodeId, Rules};
@@ -50,16 +52,15 @@ fn take_part<L: Lines>(
     reporter: &mut Reporter<'_, '_, L>,
 ) -> Result<(), NoMemory>
     requires unspent { station.old.spent ≡ false }
-    requires may { MayCome station.old.rules now.milliseconds station.old.state event }
-    requires past { station.old.latest ≤ now.milliseconds }
-    ensures script { Ends L.tells result (station_event station.old.rules now.milliseconds (event_seen event.entry) station.old.state) reporter.old reporter.new station.new.state }
+    requires may { MayCome station.old.rules now.ms station.old.state event }
+    requires past { station.old.latest ≤ now.ms }
+    ensures script { Ends L.tells result (station_event station.old.rules now.ms (event_seen event.entry) station.old.state) reporter.old reporter.new station.new.state }
     ensures rules { station.new.rules ≡ station.old.rules }
-    ensures latest { station.new.latest ≡ now.milliseconds }
+    ensures latest { station.new.latest ≡ now.ms }
     ensures spent { station.new.spent ≡ is_spent_by result }
     ensures me { station.new.state.host.me ≡ station.old.state.host.me }
     ensures links { station.new.state.relay ≡ with_outs station.old.state.relay station.new.state.relay.outs }
 {
-    let now = now.milliseconds;
     match event {
         PlacedEvent::Send {
             flow,
@@ -95,14 +96,14 @@ pub fn play<L: Lines>(
 ) -> Result<(), NoMemory>
     requires fresh { reporter.old.failed ≡ false }
     requires unspent { station.old.spent ≡ false }
-    requires may { MayCome station.old.rules now.milliseconds station.old.state event }
-    requires past { station.old.latest ≤ now.milliseconds }
+    requires may { MayCome station.old.rules now.ms station.old.state event }
+    requires past { station.old.latest ≤ now.ms }
     ensures notes { reporter.new.notes.ghost_name ≡ reporter.old.notes.ghost_name }
     ensures lines { reporter.new.lines.ghost_name ≡ reporter.old.lines.ghost_name }
-    ensures played { let script = station_event station.old.rules now.milliseconds (event_seen event.entry) station.old.state in
+    ensures played { let script = station_event station.old.rules now.ms (event_seen event.entry) station.old.state in
         Played L.tells result (occasion_of reporter.old) script (noted_first reporter.old) reporter.old.lines.now reporter.new station.new.state }
     ensures rules { station.new.rules ≡ station.old.rules }
-    ensures latest { station.new.latest ≡ now.milliseconds }
+    ensures latest { station.new.latest ≡ now.ms }
     ensures spent { OnOk result (station.new.spent ≡ false) }
     ensures relay { OnOk result (emptied station.new.state.relay ≡ emptied station.old.state.relay) }
     ensures me { station.new.state.host.me ≡ station.old.state.host.me }
@@ -136,7 +137,8 @@ pub fn deliver_to_station<'a, 'o, L: Lines>(
     ensures latest { placed.new.station.latest ≡ occasion.entry.now + placed.old.zero }
     ensures spent { OnOk result (placed.new.station.spent ≡ false) }
 {
-    let reading = read_clock(&occasion, placed.zero);
+    let now = Moment { ms: occasion.now };
+    let reading = read_clock(now, placed.zero);
     let mut reporter = Reporter {
         notes,
         lines,
@@ -175,29 +177,31 @@ pub fn start_first(
 pub fn start_again(
     alloc: Global,
     placed: &mut PlacedStation,
-    occasion: &Occasion<'_>,
+    rules: &Rules,
+    node: u32,
+    now: Moment,
 ) -> Result<(), NoMemory>
     ensures station { let relay = new_relay placed.old.plan.outs.items placed.old.plan.ins.items placed.old.plan.routes.items in
-        OnOk result (placed.new.station.state ≡ station_with (restarted_host occasion.entry.now.rules.now occasion.entry.now.node (occasion.entry.now.now + placed.old.zero)) relay) }
+        OnOk result (placed.new.station.state ≡ station_with (restarted_host rules.now node (now.ms + placed.old.zero)) relay) }
     ensures err { OnErr result (placed.new ≡ placed.old) }
     ensures within { OnOk result (placed.old.life + 1 < 2 ^ 32) }
     ensures life { OnOk result (placed.new.life ≡ placed.old.life + 1) }
-    ensures rules { OnOk result (placed.new.station.rules ≡ occasion.entry.now.rules.now) }
+    ensures rules { OnOk result (placed.new.station.rules ≡ rules.now) }
     ensures unspent { OnOk result (placed.new.station.spent ≡ false) }
-    ensures latest { OnOk result (placed.new.station.latest ≡ occasion.entry.now.now + placed.old.zero) }
+    ensures latest { OnOk result (placed.new.station.latest ≡ now.ms + placed.old.zero) }
     ensures zero { placed.new.zero ≡ placed.old.zero }
     ensures plan { placed.new.plan ≡ placed.old.plan }
 {
     if placed.life == u32::MAX {
         return Err(NoMemory);
     }
-    let reading = read_clock(occasion, placed.zero);
+    let reading = read_clock(now, placed.zero);
     let plan = &placed.plan;
-    let again = Some(reading.milliseconds);
+    let again = Some(reading.ms);
     let station = Station::new(
         alloc,
-        occasion.rules,
-        NodeId(occasion.node),
+        rules,
+        NodeId(node),
         again,
         &plan.outs,
         &plan.ins,

@@ -1,21 +1,14 @@
 //! What the clock of a station reads.
-ghost use Rattle.std.specs.Prelude.{◌≡◌, ◌+◌, ◌≤◌};
-ghost use Rattle.dt_flow_model.specs.Keeping.{most_moment};
+ghost use Rattle.std.specs.Prelude.{◌≡◌, ◌+◌};
 
-use crate::occasions::Occasion;
+use crate::moments::Moment;
+use dt_flow_model::Reading;
 
-/// What a station's clock reads, in ms: 0 to 2^62.
-#[derive(Clone, Copy)]
-pub struct Reading {
-    pub milliseconds: u64,
-    ghost within: { milliseconds ≤ most_moment },
-}
-
-/// What the clock of a station reads that is ahead of the world's moment by `zero` ms.
-pub fn read_clock(occasion: &Occasion<'_>, zero: u32) -> Reading
-    ensures { result.milliseconds ≡ occasion.entry.now.now + zero }
+/// What a station's clock reads that is ahead of the world's moment by `zero` ms.
+pub fn read_clock(now: Moment, zero: u32) -> Reading
+    ensures { result.ms ≡ now.ms + zero }
 {
     Reading {
-        milliseconds: occasion.now + u64::from(zero),
+        ms: now.ms + u64::from(zero),
     }
 }

@@ -1,4 +1,4 @@
--- `dt_forget` lends what lies at the handle to `forget_in`.
+-- `dt_forget` lends what lies at the handle to `ServiceSlot::forget`.
 use Rattle.std.proofs.Common.{w64}
 use mir.Syntax.{named}
 use Rattle.dt_c.proofs.Exports.{exported, status}
@@ -8,8 +8,8 @@ use Rattle.dt_c.specs.contracts.service_rows.TokenRow.{the_row as TokenRow}
 use Rattle.dt_c.specs.contracts.service_slots.ServiceSlot.{the_row as R}
 use Rattle.dt_c.proofs.dt_forget.Statement.{statement}
 use Rattle.dt_c.proofs.dt_forget.Code as code
-use Rattle.dt_c.proofs.service_calls.forget_in.Met.{met}
+use Rattle.dt_c.proofs.service_slots.ServiceSlot.forget.Met.{met}
 
 pub dt_forget_spec : {M : Type 1} → statement M
 dt_forget_spec 𝓤 𝓛 𝓜 𝓡 wired = exported 𝓛 𝓜 𝓡 R (status 𝓛) 1 (λ κs. number w64 & shared (named 0) κs.0 TokenRow & none)
-    (λ κs a x told h ws. Forgetting told a.0 a.1.0.now x h) (λ κs. tt) (λ κs. code.unfolded 𝓤 𝓛.H 𝓜 𝓡 wired) (met 𝓤 𝓛 𝓜 𝓡 (code.calls-dt_c::service_calls::forget_in 𝓡.env wired))
+    (λ κs a x told h ws. Forgetting told a.0 a.1.0.now x h) (λ κs. tt) (λ κs. code.unfolded 𝓤 𝓛.H 𝓜 𝓡 wired) (met 𝓤 𝓛 𝓜 𝓡 (code.calls-dt_c::service_slots::ServiceSlot::forget 𝓡.env wired))

@@ -1,4 +1,4 @@
--- `dt_service_open` lends what lies at the handle to `open_service_in`.
+-- `dt_service_open` lends what lies at the handle to `ServiceSlot::open`.
 use Rattle.std.proofs.Common.{refl}
 use mir.Syntax.{named}
 use Rattle.dt_c.proofs.Exports.{exported}
@@ -13,8 +13,8 @@ use Rattle.dt_c.proofs.rows.OpenedRow.TheLaws.{the_row_laws}
 use Rattle.dt_c.specs.contracts.service_slots.ServiceSlot.{the_row as R}
 use Rattle.dt_c.proofs.dt_service_open.Statement.{statement}
 use Rattle.dt_c.proofs.dt_service_open.Code as code
-use Rattle.dt_c.proofs.service_calls.open_service_in.Met.{met}
+use Rattle.dt_c.proofs.service_slots.ServiceSlot.open.Met.{met}
 
 pub dt_service_open_spec : {M : Type 1} → statement M
 dt_service_open_spec 𝓤 𝓛 𝓜 𝓡 wired = exported 𝓛 𝓜 𝓡 R (record { row = Q; lawful = the_row_laws.lawful 𝓛; one = refl }) 4 (λ κs. allocator 𝓛 & shared (named 0) κs.0 ParamsRow & shared (named 1) κs.1.0 ServiceStartRow & items (named 2) κs.1.1.0 LinkRow & items (named 3) κs.1.1.1.0 RouteRow & none)
-    (λ κs a x row h ws. ServiceOpening row a.1.0.now a.1.1.0.now a.1.1.1.0.now a.1.1.1.1.0.now x h) (λ κs. tt) (λ κs. code.unfolded 𝓤 𝓛.H 𝓜 𝓡 wired) (met 𝓤 𝓛 𝓜 𝓡 (code.calls-dt_c::service_calls::open_service_in 𝓡.env wired))
+    (λ κs a x row h ws. ServiceOpening row a.1.0.now a.1.1.0.now a.1.1.1.0.now a.1.1.1.1.0.now x h) (λ κs. tt) (λ κs. code.unfolded 𝓤 𝓛.H 𝓜 𝓡 wired) (met 𝓤 𝓛 𝓜 𝓡 (code.calls-dt_c::service_slots::ServiceSlot::open 𝓡.env wired))

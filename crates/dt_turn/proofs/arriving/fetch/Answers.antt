@@ -8,7 +8,7 @@ use Rattle.dt_turn.proofs.arriving.fetch.Goals as goal
 
 pub fetching-smaller : goal.fetching-smaller
 fetching-smaller g c =
-    let less = take_falls c.args.flow c.args.number c.args.now c.fetching.shelf c.take.new.self c.in-Some.taken c.in-Some.ensures.taken c.take.ensures.left in
+    let less = take_falls c.args.flow c.args.number c.args.now.ms c.fetching.shelf c.take.new.self c.in-Some.taken c.in-Some.ensures.taken c.take.ensures.left in
     omega (arith, less)
 
 pub fetching-preserved : goal.fetching-preserved
@@ -17,7 +17,7 @@ fetching-preserved g c =
     let i = c.fetching.invariant in
     let flow = c.args.flow in
     let n = c.args.number in
-    let now = c.args.now in
+    let now = c.args.now.ms in
     let left = c.take.ensures.left in
     let is : Some taken.Stale ≡ (take_held flow n now c.fetching.shelf).0 = cc (c.in-Some.ensures.taken, c.in-Stale.is) in
     let less = take_falls flow n now c.fetching.shelf c.take.new.self taken.Stale is left in
@@ -36,20 +36,20 @@ returns-in-Again-clause-plays g c =
     let i = c.fetching.invariant in
     let flow = c.args.flow in
     let n = c.args.number in
-    let now = c.args.now in
+    let now = c.args.now.ms in
     let link = c.in-Again.link in
     let octets = c.in-Again.frame in
     let is : Some (taken.Again link octets) ≡ (take_held flow n now c.fetching.shelf).0 = cc (c.in-Some.ensures.taken, c.in-Again.is) in
     again_plays v.tells (v.tags now) v.hands v.fails (fetch flow n now c.args.shelf.now) c.args.visitor.now flow n now i.most c.fetching.shelf c.take.new.self c.fetching.visitor i.enough i.leads c.take.ensures.left c.tell-in-Again.new.self link octets is c.tell-in-Again.ensures
 
 pub returns-in-Again-clause-past : goal.returns-in-Again-clause-past
-returns-in-Again-clause-past g c = take_past c.args.flow c.args.number c.args.now c.args.now c.fetching.shelf c.take.new.self c.take.ensures.left c.fetching.invariant.past
+returns-in-Again-clause-past g c = take_past c.args.flow c.args.number c.args.now.ms c.args.now.ms c.fetching.shelf c.take.new.self c.take.ensures.left c.fetching.invariant.past
 
 pub returns-in-Again-clause-fewer : goal.returns-in-Again-clause-fewer
 returns-in-Again-clause-fewer g c =
     let i = c.fetching.invariant in
-    let less = take_falls c.args.flow c.args.number c.args.now c.fetching.shelf c.take.new.self c.in-Some.taken c.in-Some.ensures.taken c.take.ensures.left in
+    let less = take_falls c.args.flow c.args.number c.args.now.ms c.fetching.shelf c.take.new.self c.in-Some.taken c.in-Some.ensures.taken c.take.ensures.left in
     (rw c.in-Again.is at c.in-Some.ensures.gram, omega (arith, less, i.fewer))
 
 pub returns-clause-past : goal.returns-clause-past
-returns-clause-past g c = take_past c.args.flow c.args.number c.args.now c.args.now c.fetching.shelf c.take.new.self c.take.ensures.left c.fetching.invariant.past
+returns-clause-past g c = take_past c.args.flow c.args.number c.args.now.ms c.args.now.ms c.fetching.shelf c.take.new.self c.take.ensures.left c.fetching.invariant.past

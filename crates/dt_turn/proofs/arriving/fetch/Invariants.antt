@@ -11,8 +11,8 @@ invariant-fetching g l =
     record {
       most : ℕ;
       enough : length l.shelf.held ≤ most;
-      leads : Leads v.tells (v.tags l.now) v.hands v.fails (fetch l.flow l.number l.now l.fn.shelf) l.fn.visitor (fetch_turns most l.flow l.number l.now l.shelf) l.visitor;
-      past : IsShelfUpTo l.now l.shelf;
+      leads : Leads v.tells (v.tags l.now.ms) v.hands v.fails (fetch l.flow l.number l.now.ms l.fn.shelf) l.fn.visitor (fetch_turns most l.flow l.number l.now.ms l.shelf) l.visitor;
+      past : IsShelfUpTo l.now.ms l.shelf;
       fewer : length l.shelf.held ≤ length l.fn.shelf.held;
     }
 

@@ -24,4 +24,4 @@ pub returns-clause-on : goal.returns-clause-on
 returns-clause-on g c =
     let v = g.V.Visitor in
     event_goes (listens_tells v.tells) (listens_tags (v.tags c.args.now)) (listens_hands v.hands) (listens_fails v.fails) c.arrive.result c.args.now (Arrive c.args.link (plain c.args.frame.now)) c.args.station.now c.arrive.new.self c.args.listener.now c.arrive.new.visitor
-    c.arrive.ensures.script c.arrive.ensures.rules c.arrive.ensures.spent c.arrive.ensures.me c.arrive.ensures.links c.arrive.ensures.latest
+    c.arrive.ensures.script c.arrive.ensures.stays.rules c.arrive.ensures.spent c.arrive.ensures.stays.me c.arrive.ensures.stays.links c.arrive.ensures.stays.latest

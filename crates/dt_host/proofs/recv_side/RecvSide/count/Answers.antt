@@ -10,14 +10,14 @@ use Rattle.dt_host.proofs.recv_side.RecvSide.count.Goals as goal
 pub returns-clause-count : goal.returns-clause-count
 returns-clause-count c =
     let h = c.self.inside in
-    subst (λ (v : RecvSideValue). c.count.result ≡ length v.entries) c.self.view_is (c.count.ensures.count ∙ as_many (IsRecvKept h.rules) recv_kinds h.table.places h.table.slots.items h.table.agenda c.self.invariant.table)
+    subst (λ (v : RecvSideValue). c.count.result ≡ length v.entries) c.self.view_is (c.count.ensures.count ∙ as_many (IsRecvKept h.rules) recv_kinds h.table.places h.table.slots.items h.table.agenda c.self.invariant)
 
 pub returns-clause-entries : goal.returns-clause-entries
 returns-clause-entries c =
     let h = c.self.inside in
-    subst (λ (v : RecvSideValue). AreReceiveEntries v.rules v.entries) c.self.view_is (all_recv h.rules h.latest h.table.places h.table.slots.items h.table.agenda c.self.invariant)
+    subst (λ (v : RecvSideValue). AreReceiveEntries v.rules v.entries) c.self.view_is (all_recv h.rules h.table.places h.table.slots.items h.table.agenda c.self.invariant)
 
 pub returns-clause-distinct : goal.returns-clause-distinct
 returns-clause-distinct c =
     let h = c.self.inside in
-    subst (λ (v : RecvSideValue). Distinct same_flow (receivers_of v.entries)) c.self.view_is (each_once (IsRecvKept h.rules) recv_kinds h.table.places h.table.slots.items h.table.agenda c.self.invariant.table receiver_in c.count.ensures.once)
+    subst (λ (v : RecvSideValue). Distinct same_flow (receivers_of v.entries)) c.self.view_is (each_once (IsRecvKept h.rules) recv_kinds h.table.places h.table.slots.items h.table.agenda c.self.invariant receiver_in c.count.ensures.once)

@@ -16,12 +16,12 @@ use Rattle.dt_host.proofs.recv_side.RecvSide.make.Goals as goal
 pub add-requires-clause-placed : goal.add-requires-clause-placed
 add-requires-clause-placed g c =
     let h = c.self.inside in
-    whole (IsRecvKept h.rules) recv_kinds h.table.places h.table.slots.items h.table.agenda c.self.invariant.table
+    whole (IsRecvKept h.rules) recv_kinds h.table.places h.table.slots.items h.table.agenda c.self.invariant
 
 pub add-requires-clause-kinds : goal.add-requires-clause-kinds
 add-requires-clause-kinds g c =
     let h = c.self.inside in
-    ap (λ (n : Note). length n) c.note_of-note.ensures.note ∙ sym c.self.invariant.table.counted
+    ap (λ (n : Note). length n) c.note_of-note.ensures.note ∙ sym c.self.invariant.counted
 
 pub add-requires-clause-none : goal.add-requires-clause-none
 add-requires-clause-none g c =
@@ -32,7 +32,7 @@ add-requires-clause-none g c =
 pub invariant_of-self : goal.invariant_of-self
 invariant_of-self g c =
     let h = c.self.inside in
-    side_kept h.rules h.latest h.table.places h.table.slots.items h.table.agenda c.self.invariant c.add.new.self.places c.add.new.self.slots.items c.add.new.self.agenda c.add.ensures.placed c.in_err-add.ensures.err
+    side_kept h.rules h.table.places h.table.slots.items h.table.agenda c.self.invariant c.add.new.self.places c.add.new.self.slots.items c.add.new.self.agenda c.add.ensures.placed c.in_err-add.ensures.err
 
 pub invariant_of-self-2 : goal.invariant_of-self-2
 invariant_of-self-2 g c =
@@ -41,7 +41,7 @@ invariant_of-self-2 g c =
     let k = c.args.segment.now in
     let items = marked k.octets.now k.begin k.end false in
     let makes = subst (λ (v : RecvSideValue). action_on v.rules (record { unread = []; standing = None }) k.drf k.number items ≡ Make) (sym c.self.view_is) c.requires.makes in
-    side_more h.rules h.latest h.table.places h.table.slots.items h.table.agenda c.self.invariant c.add.new.self.places c.add.new.self.slots.items c.add.new.self.agenda c.add.ensures.placed c.args.flow.now c.hand_over-arrived.new.receiver c.note_of-note.result c.in_ok-add.ensures.ok (made_entry h.rules h.latest (present h.table.slots.items) (all_recv h.rules h.latest h.table.places h.table.slots.items h.table.agenda c.self.invariant) c.args.flow.now absent k.drf k.number items makes c.in_ok-receiver.receiver c.hand_over-arrived.new.receiver c.in_ok-receiver.ensures c.hand_over-arrived.ensures.after) c.note_of-note.ensures.note
+    side_more h.rules h.table.places h.table.slots.items h.table.agenda c.self.invariant c.add.new.self.places c.add.new.self.slots.items c.add.new.self.agenda c.add.ensures.placed c.args.flow.now c.hand_over-arrived.new.receiver c.note_of-note.result c.in_ok-add.ensures.ok (made_entry h.rules h.latest.ms (present h.table.slots.items) (all_recv h.rules h.table.places h.table.slots.items h.table.agenda c.self.invariant) c.args.flow.now absent k.drf k.number items makes c.in_ok-receiver.receiver c.hand_over-arrived.new.receiver c.in_ok-receiver.ensures c.hand_over-arrived.ensures.after) c.note_of-note.ensures.note
 
 pub returns-in_err-add-clause-after : goal.returns-in_err-add-clause-after
 returns-in_err-add-clause-after g c =
@@ -50,7 +50,7 @@ returns-in_err-add-clause-after g c =
     let items = marked k.octets.now k.begin k.end false in
     let err = err_from_is_err_and c.from_residual-in_err-add.result c.from_residual-in_err-add.ensures.1 in
     subst (λ (v : RecvSideValue). IsDataTaken v.rules v.latest c.args.flow.now k.drf k.number items v.entries (present c.add.new.self.slots.items) c.from_residual-in_err-add.result) c.self.view_is
-    (data_kept h.rules h.latest c.args.flow.now k.drf k.number items (present h.table.slots.items) (present c.add.new.self.slots.items) (present_kept (IsRecvKept h.rules) recv_kinds h.table.places h.table.slots.items h.table.agenda c.self.invariant.table c.add.new.self.places c.add.new.self.slots.items c.add.new.self.agenda c.add.ensures.placed c.in_err-add.ensures.err) c.from_residual-in_err-add.result err.0 err.1)
+    (data_kept h.rules h.latest.ms c.args.flow.now k.drf k.number items (present h.table.slots.items) (present c.add.new.self.slots.items) (present_kept (IsRecvKept h.rules) recv_kinds h.table.places h.table.slots.items h.table.agenda c.self.invariant c.add.new.self.places c.add.new.self.slots.items c.add.new.self.agenda c.add.ensures.placed c.in_err-add.ensures.err) c.from_residual-in_err-add.result err.0 err.1)
 
 pub returns-clause-answer : goal.returns-clause-answer
 returns-clause-answer g c =
@@ -60,7 +60,7 @@ returns-clause-answer g c =
     let items = marked k.octets.now k.begin k.end false in
     let makes = subst (λ (v : RecvSideValue). action_on v.rules (record { unread = []; standing = None }) k.drf k.number items ≡ Make) (sym c.self.view_is) c.requires.makes in
     subst (λ (v : RecvSideValue). IsDataAnswer v.rules c.args.flow.now k.drf k.number items v.entries (Ok c.hand_over-arrived.result)) c.self.view_is
-    (λ host. made_answer h.rules h.latest (present h.table.slots.items) (all_recv h.rules h.latest h.table.places h.table.slots.items h.table.agenda c.self.invariant) c.args.flow.now absent k.drf k.number items makes c.in_ok-receiver.receiver c.hand_over-arrived.new.receiver c.in_ok-receiver.ensures c.hand_over-arrived.ensures.after c.hand_over-arrived.result c.hand_over-arrived.ensures.answer)
+    (λ host. made_answer h.rules h.latest.ms (present h.table.slots.items) (all_recv h.rules h.table.places h.table.slots.items h.table.agenda c.self.invariant) c.args.flow.now absent k.drf k.number items makes c.in_ok-receiver.receiver c.hand_over-arrived.new.receiver c.in_ok-receiver.ensures c.hand_over-arrived.ensures.after c.hand_over-arrived.result c.hand_over-arrived.ensures.answer)
 
 pub returns-clause-after : goal.returns-clause-after
 returns-clause-after g c =
@@ -70,4 +70,4 @@ returns-clause-after g c =
     let items = marked k.octets.now k.begin k.end false in
     let makes = subst (λ (v : RecvSideValue). action_on v.rules (record { unread = []; standing = None }) k.drf k.number items ≡ Make) (sym c.self.view_is) c.requires.makes in
     subst (λ (v : RecvSideValue). IsDataTaken v.rules v.latest c.args.flow.now k.drf k.number items v.entries (present c.add.new.self.slots.items) (Ok c.hand_over-arrived.result)) c.self.view_is
-    (λ host. made_after h.rules h.latest (present h.table.slots.items) (all_recv h.rules h.latest h.table.places h.table.slots.items h.table.agenda c.self.invariant) c.args.flow.now absent k.drf k.number items makes c.in_ok-receiver.receiver c.hand_over-arrived.new.receiver c.in_ok-receiver.ensures c.hand_over-arrived.ensures.after (present c.add.new.self.slots.items) (present_more (IsRecvKept h.rules) recv_kinds h.table.places h.table.slots.items h.table.agenda c.self.invariant.table c.add.new.self.places c.add.new.self.slots.items c.add.new.self.agenda c.add.ensures.placed c.args.flow.now c.hand_over-arrived.new.receiver c.note_of-note.result c.in_ok-add.ensures.ok absent) host)
+    (λ host. made_after h.rules h.latest.ms (present h.table.slots.items) (all_recv h.rules h.table.places h.table.slots.items h.table.agenda c.self.invariant) c.args.flow.now absent k.drf k.number items makes c.in_ok-receiver.receiver c.hand_over-arrived.new.receiver c.in_ok-receiver.ensures c.hand_over-arrived.ensures.after (present c.add.new.self.slots.items) (present_more (IsRecvKept h.rules) recv_kinds h.table.places h.table.slots.items h.table.agenda c.self.invariant c.add.new.self.places c.add.new.self.slots.items c.add.new.self.agenda c.add.ensures.placed c.args.flow.now c.hand_over-arrived.new.receiver c.note_of-note.result c.in_ok-add.ensures.ok absent) host)

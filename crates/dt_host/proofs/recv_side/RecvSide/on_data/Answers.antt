@@ -27,10 +27,10 @@ if_err (Ok done) h = tt
 if_err (Err why) h = h
 
 pub place-requires : goal.place-requires
-place-requires g c = whole (IsRecvKept c.self.inside.rules) recv_kinds c.self.inside.table.places c.self.inside.table.slots.items c.self.inside.table.agenda c.self.invariant.table
+place-requires g c = whole (IsRecvKept c.self.inside.rules) recv_kinds c.self.inside.table.places c.self.inside.table.slots.items c.self.inside.table.agenda c.self.invariant
 
 pub unreachable-requires : goal.unreachable-requires
-unreachable-requires g c = never_empty (IsRecvKept c.self.inside.rules) recv_kinds c.self.inside.table.places c.self.inside.table.slots.items c.self.inside.table.agenda c.self.invariant.table c.place.ensures.once c.args.flow.now c.in-Some.place (sym c.in-Some.ensures.here) c.index_mut.result.now c.index_mut.ensures.value c.in_default-index_mut.is
+unreachable-requires g c = never_empty (IsRecvKept c.self.inside.rules) recv_kinds c.self.inside.table.places c.self.inside.table.slots.items c.self.inside.table.agenda c.self.invariant c.place.ensures.once c.args.flow.now c.in-Some.place (sym c.in-Some.ensures.here) c.index_mut.result.now c.index_mut.ensures.value c.in_default-index_mut.is
 
 pub invariant_of-self : goal.invariant_of-self
 invariant_of-self g c =
@@ -38,8 +38,8 @@ invariant_of-self g c =
     let at : Read h.table.places h.table.slots.items c.args.flow.now c.in-Some.place = record { once = c.place.ensures.once; place = c.in-Some.ensures.here; read = c.index_mut.result.now; from = c.index_mut.ensures.value; owner = c.in-Some-index_mut.field-0-0; value = c.in-Some-index_mut.receiver; is = c.in-Some-index_mut.is } in
     let k = c.args.segment.now in
     let items = marked k.octets.now k.begin k.end false in
-    let entry = step_entry c.self.invariant at (λ (q : Params) (r : Receiver). after_data q h.latest r k.drf k.number items) (kept_data h.rules h.latest k.drf k.number items) c.hand_over-arrived.new.receiver c.hand_over-arrived.ensures.after in
-    side_set h.rules h.latest h.table.places h.table.slots.items h.table.agenda c.self.invariant c.args.flow.now c.in-Some.place at c.hand_over-arrived.new.receiver entry c.note.new.self c.note_of-note.result c.note.ensures.here c.note_of-note.ensures.note c.note.ensures.others c.note.ensures.room
+    let entry = step_entry c.self.invariant at (λ (q : Params) (r : Receiver). after_data q h.latest.ms r k.drf k.number items) (kept_data h.rules h.latest.ms k.drf k.number items) c.hand_over-arrived.new.receiver c.hand_over-arrived.ensures.after in
+    side_set h.rules h.table.places h.table.slots.items h.table.agenda c.self.invariant c.args.flow.now c.in-Some.place at c.hand_over-arrived.new.receiver entry c.note.new.self c.note_of-note.result c.note.ensures.here c.note_of-note.ensures.note c.note.ensures.others c.note.ensures.room
 
 pub returns-in-Some : goal.returns-in-Some
 returns-in-Some g c =
@@ -53,7 +53,7 @@ returns-in-Some g c =
           (λ host. c.hand_over-arrived.ensures.answer ∙ answer_here c.self.invariant at (λ (q : Params) (r : Receiver). answer_to_data q r k.drf k.number items));
       after =
           subst (λ (v : RecvSideValue). IsDataTaken v.rules v.latest c.args.flow.now k.drf k.number items v.entries (present (Written h.table.slots.items c.in-Some.place at.owner c.hand_over-arrived.new.receiver)) (Ok c.hand_over-arrived.result)) c.self.view_is
-          (λ host. step_after c.self.invariant at (λ (q : Params) (r : Receiver). after_data q h.latest r k.drf k.number items) (kept_data h.rules h.latest k.drf k.number items) c.hand_over-arrived.new.receiver c.hand_over-arrived.ensures.after host);
+          (λ host. step_after c.self.invariant at (λ (q : Params) (r : Receiver). after_data q h.latest.ms r k.drf k.number items) (kept_data h.rules h.latest.ms k.drf k.number items) c.hand_over-arrived.new.receiver c.hand_over-arrived.ensures.after host);
       reply =
           subst (λ (v : RecvSideValue). c.hand_over-arrived.new.reply ≡ unwrap_or (reply_frame v.rules c.args.flow.now c.hand_over-arrived.result) c.args.reply.now) c.self.view_is
           (reply_here c.self.invariant at c.hand_over-arrived.result c.args.reply.now c.hand_over-arrived.new.reply c.hand_over-arrived.ensures.reply);
@@ -96,7 +96,7 @@ returns-in-TellNumber-clause-answer g c =
     let absent = c.in_default.ensures.none in
     let looked = looked_without h.rules k.drf k.number k.octets.now k.begin k.end c.params.result.now c.action.result c.params.ensures.same c.action.ensures in
     subst (λ (v : RecvSideValue). IsDataAnswer v.rules c.args.flow.now k.drf k.number items v.entries (Ok c.reply_without.result)) c.self.view_is
-    (λ host. c.reply_without.ensures.answer ∙ (told_alone c.args.flow.now (present h.table.slots.items) absent h.rules h.latest k.drf k.number items (sym looked ∙ c.in-TellNumber.is) host).0)
+    (λ host. c.reply_without.ensures.answer ∙ (told_alone c.args.flow.now (present h.table.slots.items) absent h.rules h.latest.ms k.drf k.number items (sym looked ∙ c.in-TellNumber.is) host).0)
 
 pub returns-in-TellNumber-clause-after : goal.returns-in-TellNumber-clause-after
 returns-in-TellNumber-clause-after g c =
@@ -106,7 +106,7 @@ returns-in-TellNumber-clause-after g c =
     let absent = c.in_default.ensures.none in
     let looked = looked_without h.rules k.drf k.number k.octets.now k.begin k.end c.params.result.now c.action.result c.params.ensures.same c.action.ensures in
     subst (λ (v : RecvSideValue). IsDataTaken v.rules v.latest c.args.flow.now k.drf k.number items v.entries v.entries (Ok c.reply_without.result)) c.self.view_is
-    (λ host. (told_alone c.args.flow.now (present h.table.slots.items) absent h.rules h.latest k.drf k.number items (sym looked ∙ c.in-TellNumber.is) host).1)
+    (λ host. (told_alone c.args.flow.now (present h.table.slots.items) absent h.rules h.latest.ms k.drf k.number items (sym looked ∙ c.in-TellNumber.is) host).1)
 
 pub returns-in_default-action : goal.returns-in_default-action
 returns-in_default-action g c =
@@ -116,7 +116,7 @@ returns-in_default-action g c =
     let absent = c.in_default.ensures.none in
     let looked = looked_without h.rules k.drf k.number k.octets.now k.begin k.end c.params.result.now c.action.result c.params.ensures.same c.action.ensures in
     let is = sym looked ∙ drops k.drf (nat_le (length k.octets.now) c.params.result.now.rcap) c.action.result c.action.ensures c.in_default-action.not-Make c.in_default-action.not-TellNumber in
-    let alone = dropped_alone c.args.flow.now (present h.table.slots.items) absent h.rules h.latest k.drf k.number items is in
+    let alone = dropped_alone c.args.flow.now (present h.table.slots.items) absent h.rules h.latest.ms k.drf k.number items is in
     record {
       answer = subst (λ (v : RecvSideValue). IsDataAnswer v.rules c.args.flow.now k.drf k.number items v.entries (Ok Dropped)) c.self.view_is (λ host. (alone host).0);
       after = subst (λ (v : RecvSideValue). IsDataTaken v.rules v.latest c.args.flow.now k.drf k.number items v.entries v.entries (Ok Dropped)) c.self.view_is (λ host. (alone host).1);

@@ -22,13 +22,13 @@ returns-in_default-clause-met g c =
     (λ host. (c.reply_without.ensures.answer ∙ met_without h.rules c.args.number ∙ ap (λ (r : Receiver). answer_to_meet h.rules r c.args.number) (sym (nothing c.args.flow.now (present h.table.slots.items) none)), unchanged c.args.flow.now (present h.table.slots.items) none (λ (r : Receiver). after_meet h.rules r) refl host))
 
 pub place-requires : goal.place-requires
-place-requires g c = whole (IsRecvKept c.self.inside.rules) recv_kinds c.self.inside.table.places c.self.inside.table.slots.items c.self.inside.table.agenda c.self.invariant.table
+place-requires g c = whole (IsRecvKept c.self.inside.rules) recv_kinds c.self.inside.table.places c.self.inside.table.slots.items c.self.inside.table.agenda c.self.invariant
 
 pub invariant_of-self : goal.invariant_of-self
 invariant_of-self g c =
     let h = c.self.inside in
     let at : Read h.table.places h.table.slots.items c.args.flow.now c.in-Some.place = record { once = c.place.ensures.once; place = c.in-Some.ensures.here; read = c.index_mut.result.now; from = c.index_mut.ensures.value; owner = c.in-Some-index_mut.field-0-0; value = c.in-Some-index_mut.receiver; is = c.in-Some-index_mut.is } in
-    side_set h.rules h.latest h.table.places h.table.slots.items h.table.agenda c.self.invariant c.args.flow.now c.in-Some.place at c.on_meet-arrived.new.self (step_entry c.self.invariant at (λ (q : Params) (r : Receiver). after_meet q r) (kept_meet h.rules) c.on_meet-arrived.new.self c.on_meet-arrived.ensures.after) c.note.new.self c.note_of-note.result c.note.ensures.here c.note_of-note.ensures.note c.note.ensures.others c.note.ensures.room
+    side_set h.rules h.table.places h.table.slots.items h.table.agenda c.self.invariant c.args.flow.now c.in-Some.place at c.on_meet-arrived.new.self (step_entry c.self.invariant at (λ (q : Params) (r : Receiver). after_meet q r) (kept_meet h.rules) c.on_meet-arrived.new.self c.on_meet-arrived.ensures.after) c.note.new.self c.note_of-note.result c.note.ensures.here c.note_of-note.ensures.note c.note.ensures.others c.note.ensures.room
 
 pub returns-clause-met : goal.returns-clause-met
 returns-clause-met g c =
@@ -52,4 +52,4 @@ returns-clause-gram g c =
     (gram_here c.self.invariant at c.on_meet-arrived.result c.on_meet-arrived.ensures.gram)
 
 pub unreachable-requires : goal.unreachable-requires
-unreachable-requires g c = never_empty (IsRecvKept c.self.inside.rules) recv_kinds c.self.inside.table.places c.self.inside.table.slots.items c.self.inside.table.agenda c.self.invariant.table c.place.ensures.once c.args.flow.now c.in-Some.place (sym c.in-Some.ensures.here) c.index_mut.result.now c.index_mut.ensures.value c.in_default-index_mut.is
+unreachable-requires g c = never_empty (IsRecvKept c.self.inside.rules) recv_kinds c.self.inside.table.places c.self.inside.table.slots.items c.self.inside.table.agenda c.self.invariant c.place.ensures.once c.args.flow.now c.in-Some.place (sym c.in-Some.ensures.here) c.index_mut.result.now c.index_mut.ensures.value c.in_default-index_mut.is

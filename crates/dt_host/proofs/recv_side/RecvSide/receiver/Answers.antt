@@ -10,7 +10,7 @@ use Rattle.dt_host.proofs.recv_side.RecvSide.receiver.Goals as goal
 pub find-requires : goal.find-requires
 find-requires c =
     let h = c.self.inside in
-    whole (IsRecvKept h.rules) recv_kinds h.table.places h.table.slots.items h.table.agenda c.self.invariant.table
+    whole (IsRecvKept h.rules) recv_kinds h.table.places h.table.slots.items h.table.agenda c.self.invariant
 
 pub returns : goal.returns
 returns c = record { value = subst (λ (v : RecvSideValue). option_copied c.find.result ≡ lookup (equal_flows c.args.flow.now) v.entries) c.self.view_is c.find.ensures }

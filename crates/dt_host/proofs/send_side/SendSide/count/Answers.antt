@@ -10,14 +10,14 @@ use Rattle.dt_host.proofs.send_side.SendSide.count.Goals as goal
 pub returns-clause-count : goal.returns-clause-count
 returns-clause-count c =
     let h = c.self.inside in
-    subst (λ (v : SendSideValue). c.count.result ≡ length v.entries) c.self.view_is (c.count.ensures.count ∙ as_many (IsSendKept h.rules h.latest) send_kinds h.table.places h.table.slots.items h.table.agenda c.self.invariant.table)
+    subst (λ (v : SendSideValue). c.count.result ≡ length v.entries) c.self.view_is (c.count.ensures.count ∙ as_many (IsSendKept h.rules h.latest.ms) send_kinds h.table.places h.table.slots.items h.table.agenda c.self.invariant)
 
 pub returns-clause-entries : goal.returns-clause-entries
 returns-clause-entries c =
     let h = c.self.inside in
-    subst (λ (v : SendSideValue). AreSendEntries v.rules v.entries) c.self.view_is (all_send h.rules h.latest h.table.places h.table.slots.items h.table.agenda c.self.invariant)
+    subst (λ (v : SendSideValue). AreSendEntries v.rules v.entries) c.self.view_is (all_send h.rules h.latest.ms h.table.places h.table.slots.items h.table.agenda c.self.invariant)
 
 pub returns-clause-distinct : goal.returns-clause-distinct
 returns-clause-distinct c =
     let h = c.self.inside in
-    subst (λ (v : SendSideValue). Distinct same_flow (send_records v.entries)) c.self.view_is (each_once (IsSendKept h.rules h.latest) send_kinds h.table.places h.table.slots.items h.table.agenda c.self.invariant.table send_record c.count.ensures.once)
+    subst (λ (v : SendSideValue). Distinct same_flow (send_records v.entries)) c.self.view_is (each_once (IsSendKept h.rules h.latest.ms) send_kinds h.table.places h.table.slots.items h.table.agenda c.self.invariant send_record c.count.ensures.once)

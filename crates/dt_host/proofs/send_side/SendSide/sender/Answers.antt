@@ -12,7 +12,7 @@ use Rattle.dt_host.proofs.send_side.SendSide.sender.Goals as goal
 pub find-requires : goal.find-requires
 find-requires c =
     let h = c.self.inside in
-    whole (IsSendKept h.rules h.latest) send_kinds h.table.places h.table.slots.items h.table.agenda c.self.invariant.table
+    whole (IsSendKept h.rules h.latest.ms) send_kinds h.table.places h.table.slots.items h.table.agenda c.self.invariant
 
 pub returns-clause-value : goal.returns-clause-value
 returns-clause-value c = subst (λ (v : SendSideValue). option_copied c.find.result ≡ lookup (equal_flows c.args.flow.now) v.entries) c.self.view_is c.find.ensures
@@ -20,4 +20,4 @@ returns-clause-value c = subst (λ (v : SendSideValue). option_copied c.find.res
 pub returns-clause-entries : goal.returns-clause-entries
 returns-clause-entries c =
     let h = c.self.inside in
-    subst (λ (v : SendSideValue). AreSendEntries v.rules v.entries) c.self.view_is (all_send h.rules h.latest h.table.places h.table.slots.items h.table.agenda c.self.invariant)
+    subst (λ (v : SendSideValue). AreSendEntries v.rules v.entries) c.self.view_is (all_send h.rules h.latest.ms h.table.places h.table.slots.items h.table.agenda c.self.invariant)
