@@ -4,7 +4,7 @@
 //! input is `NAME WORD STATUS`.
 #![tactic(auto)]
 
-use dt_trial::{FREELY, Trial, is_cut_at, tried};
+use dt_trial::{FREELY, Trial, Untried, is_cut_short, tried};
 use std::alloc::Global;
 use std::{fs, io};
 
@@ -16,7 +16,11 @@ const ROOM: usize = 65_536;
 fn is_cut_at_each_room(alloc: Global, trial: &Trial<'_>, log: &[u8]) -> bool {
     for room in 0..log.len() {
         let is_tried = log.len() <= 1_200 || room % 3 == 0;
-        if is_tried && !is_cut_at(alloc, trial, log, room) {
+        let less = Trial {
+            out_room: room,
+            ..*trial
+        };
+        if is_tried && is_cut_short(alloc, &less, log) != Ok(true) {
             return false;
         }
     }
@@ -39,9 +43,10 @@ fn said<'a>(
         ..FREELY
     };
     match tried(alloc, &trial) {
-        None => "no memory",
-        Some(left) if left.out.as_slice() != log => "another log",
-        Some(left) => match (left.status, status) {
+        Err(Untried::NoReading) => "no reading",
+        Err(Untried::NoMemory) => "no memory",
+        Ok(left) if left.out.as_slice() != log => "another log",
+        Ok(left) => match (left.status, status) {
             (0, "0") | (3, "3") | (5, "5") | (6, "6") if is_cut_at_each_room(alloc, &trial, log) =>
                 { "holds" }
             (0, "0") | (3, "3") | (5, "5") | (6, "6") => "another log in less room",

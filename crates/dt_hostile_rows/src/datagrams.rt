@@ -1,6 +1,6 @@
 //! Datagrams of any octets: node 2 hears a frame of node 1 with one octet changed, or cut short.
 use dt_edges::MemWire;
-use dt_trial::{FREELY, Trial, tried_over};
+use dt_trial::{FREELY, Trial, Untried, tried_over};
 use std::alloc::Global;
 use std::test::Fail;
 
@@ -38,19 +38,17 @@ fn calm_wire(alloc: Global) -> Result<MemWire, Fail> {
 }
 
 /// Whether the node writes this log over a wire and by readings, and nothing fails.
-fn writes(alloc: Global, wire: &mut MemWire, readings: &[u64], log: &str) -> bool {
+fn writes(alloc: Global, wire: &mut MemWire, readings: &[u64], log: &str) -> Result<bool, Untried> {
     let trial = Trial { readings, ..NODE };
-    match tried_over(alloc, &trial, wire) {
-        Some(left) => left.status == 0 && left.out.as_slice() == log.as_bytes(),
-        None => false,
-    }
+    let left = tried_over(alloc, &trial, wire)?;
+    Ok(left.has(0, log.as_bytes(), b""))
 }
 
 /// Whether the node that finds these octets at 10 writes this log.
 fn hears(alloc: Global, octets: &[u8], log: &str) -> Result<bool, Fail> {
     let mut wire = calm_wire(alloc)?;
     wire.add_take(1, octets).ok().ok_or("memory")?;
-    Ok(writes(alloc, &mut wire, &[1000, 1010, 1100], log))
+    Ok(writes(alloc, &mut wire, &[1000, 1010, 1100], log)?)
 }
 
 /// One octet that is changed: its place in the frame, and its value.
@@ -162,7 +160,7 @@ fn refuses_at(alloc: Global, place: usize) -> Result<bool, Fail> {
     readings.push(1010)?;
     readings.push(1100)?;
     log.push_str(HEARD)?;
-    Ok(writes(alloc, &mut wire, &readings, log.as_str()))
+    Ok(writes(alloc, &mut wire, &readings, log.as_str())?)
 }
 
 #[test]

@@ -1,5 +1,6 @@
 //! Each failure, and what the program does then.
-use dt_trial::{FREELY, Trial, ends, is_cut_at};
+use dt_trial::{FREELY, Trial, ends, is_cut_short};
+use std::test::Fail;
 
 /// A message is sent, acknowledged and read.
 const SHORT: &[u8] = b"params 1000 3000 200 500 800 100 4096 4096 512 2147483648
@@ -122,16 +123,17 @@ const AUDIT: Trial<'static> = Trial {
 };
 
 #[test]
-fn nothing_fails(rt: HostRuntime) {
+fn nothing_fails(rt: HostRuntime) -> Result<(), Fail> {
     let alloc = rt.alloc();
-    assert!(rt; ends(alloc, &REPLAY, 0, SHORT_LOG, b""));
-    assert!(rt; ends(alloc, &NODE, 0, NODE_LOG, b""));
-    assert!(rt; ends(alloc, &CALLS, 0, ANSWERS, b""));
-    assert!(rt; ends(alloc, &AUDIT, 0, b"audit yes\n", b""));
+    assert!(rt; ends(alloc, &REPLAY, 0, SHORT_LOG, b"")?);
+    assert!(rt; ends(alloc, &NODE, 0, NODE_LOG, b"")?);
+    assert!(rt; ends(alloc, &CALLS, 0, ANSWERS, b"")?);
+    assert!(rt; ends(alloc, &AUDIT, 0, b"audit yes\n", b"")?);
+    Ok(())
 }
 
 #[test]
-fn a_read_fails(rt: HostRuntime) {
+fn a_read_fails(rt: HostRuntime) -> Result<(), Fail> {
     for trial in &[REPLAY, NODE, CALLS, AUDIT] {
         for read in 1..=2 {
             let failing = Trial {
@@ -139,15 +141,16 @@ fn a_read_fails(rt: HostRuntime) {
                 ..*trial
             };
             assert!(rt;
-                ends(rt.alloc(), &failing, 7, b"", b"read failed\n"),
+                ends(rt.alloc(), &failing, 7, b"", b"read failed\n")?,
                 "{read}"
             );
         }
     }
+    Ok(())
 }
 
 #[test]
-fn a_log_finds_no_room(rt: HostRuntime) {
+fn a_log_finds_no_room(rt: HostRuntime) -> Result<(), Fail> {
     let rows = [
         (REPLAY, SHORT_LOG),
         (NODE, NODE_LOG),
@@ -156,51 +159,59 @@ fn a_log_finds_no_room(rt: HostRuntime) {
     ];
     for (trial, log) in &rows {
         for room in 0..log.len() {
-            assert!(rt; is_cut_at(rt.alloc(), trial, log, room), "{room}");
+            let less = Trial {
+                out_room: room,
+                ..*trial
+            };
+            assert!(rt; is_cut_short(rt.alloc(), &less, log)?, "{room}");
         }
     }
+    Ok(())
 }
 
 #[test]
-fn the_text_of_the_status_finds_no_room(rt: HostRuntime) {
+fn the_text_of_the_status_finds_no_room(rt: HostRuntime) -> Result<(), Fail> {
     let empty = Trial {
         err_room: 0,
         ..FREELY
     };
-    assert!(rt; ends(rt.alloc(), &empty, 3, b"line 1: order\n", b""));
+    assert!(rt; ends(rt.alloc(), &empty, 3, b"line 1: order\n", b"")?);
+    Ok(())
 }
 
 #[test]
-fn the_wire_fails(rt: HostRuntime) {
+fn the_wire_fails(rt: HostRuntime) -> Result<(), Fail> {
     let alloc = rt.alloc();
     let closed = Trial {
         open_fails: true,
         ..NODE
     };
-    assert!(rt; ends(alloc, &closed, 5, b"", b"wire failed\n"));
+    assert!(rt; ends(alloc, &closed, 5, b"", b"wire failed\n")?);
     let first = Trial {
         failing_takes: &[1],
         ..NODE
     };
-    assert!(rt; ends(alloc, &first, 5, SENT, b"wire failed\n"));
+    assert!(rt; ends(alloc, &first, 5, SENT, b"wire failed\n")?);
     let second = Trial {
         failing_takes: &[2],
         ..NODE
     };
-    assert!(rt; ends(alloc, &second, 5, SETTLED, b"wire failed\n"));
+    assert!(rt; ends(alloc, &second, 5, SETTLED, b"wire failed\n")?);
     let lost = Trial {
         failing_gives: &[1],
         ..NODE
     };
-    assert!(rt; ends(alloc, &lost, 0, UNSENT_LOG, b""));
+    assert!(rt; ends(alloc, &lost, 0, UNSENT_LOG, b"")?);
+    Ok(())
 }
 
 #[test]
-fn the_clock_stands_still(rt: HostRuntime) {
+fn the_clock_stands_still(rt: HostRuntime) -> Result<(), Fail> {
     let still = Trial {
         readings: &[1000],
         takes: &[],
         ..NODE
     };
-    assert!(rt; ends(rt.alloc(), &still, 6, SENT, b"clock stands still\n"));
+    assert!(rt; ends(rt.alloc(), &still, 6, SENT, b"clock stands still\n")?);
+    Ok(())
 }

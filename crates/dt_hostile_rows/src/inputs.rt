@@ -32,13 +32,13 @@ fn a_message_is_too_long(rt: HostRuntime) -> Result<(), Fail> {
         ..FREELY
     };
     let log = b"0 1 refused 1:10>2:20 full 4096\nend 0\n";
-    assert!(rt; ends(rt.alloc(), &trial, 0, log, b""));
+    assert!(rt; ends(rt.alloc(), &trial, 0, log, b"")?);
     let longer = sends(rt.alloc(), 65_537)?;
     let trial = Trial {
         input: longer.as_bytes(),
         ..FREELY
     };
-    assert!(rt; ends(rt.alloc(), &trial, 3, b"line 9: hex\n", b"input refused\n"));
+    assert!(rt; ends(rt.alloc(), &trial, 3, b"line 9: hex\n", b"input refused\n")?);
     Ok(())
 }
 
@@ -52,7 +52,7 @@ fn an_input_is_too_long(rt: HostRuntime) -> Result<(), Fail> {
             ..FREELY
         };
         let said = b"input longer than 16777216 octets\n";
-        assert!(rt; ends(rt.alloc(), &trial, 3, b"", said), "{word}");
+        assert!(rt; ends(rt.alloc(), &trial, 3, b"", said)?, "{word}");
     }
     let longest = Trial {
         input: input.get(1..).unwrap_or(b""),
@@ -65,7 +65,7 @@ fn an_input_is_too_long(rt: HostRuntime) -> Result<(), Fail> {
             3,
             b"line 1: word\n",
             b"input refused\n"
-        )
+        )?
     );
     Ok(())
 }
@@ -102,7 +102,7 @@ fn refuses(log: &[u8], line: &[u8]) -> bool {
 /// A cut input is accepted, or refused at its last line or after it.
 fn is_cut(alloc: Global, input: &[u8]) -> Result<bool, Fail> {
     let trial = Trial { input, ..FREELY };
-    let left = tried(alloc, &trial).ok_or("memory")?;
+    let left = tried(alloc, &trial)?;
     let feeds = input.iter().filter(|octet| **octet == b'\n').count();
     let at_last = format!(in alloc; "line {}: ", feeds.wrapping_add(1))?;
     let behind = format!(in alloc; "line {}: order", feeds.wrapping_add(2))?;

@@ -35,7 +35,7 @@ use Rattle.dt_top.specs.Endings.{status_of, text_of}
 use Rattle.dt_top.specs.Inputs.{limit}
 use Rattle.dt_top.specs.Runs.{After, IsFor, IsServedOrLacksMemory, Leaves, PutFailed, Run, Serves, TakeFailed}
 use Rattle.dt_top.specs.Serving.{Ends, MakeOwes, NodeAnswers, OwesNothing, RefusesInput, Says, WireFailed, after, before, job_owes}
-use Rattle.dt_top.specs.Streams.{Effects, NoEffects, OwesFor, Served, Streams}
+use Rattle.dt_top.specs.Streams.{Effects, NoEffects, OwesFor, Served, StreamSights}
 use Rattle.dt_top.proofs.NodeRuns.{node_completes, trace_completes}
 use Rattle.dt_top.proofs.Reruns.{retrace_completes, runs_again}
 
@@ -77,14 +77,14 @@ is_write_fault _ h = absurd (omega arith)
 -- OF THE INPUT
 
 -- what is true of an input that was read is true of what the source had left
-of_left : (owed : List ℕ → Effects → Type 0) (s : Streams) → Served owed s → (left : Option (List ℕ)) → s.source_before.left ≡ left → IfSome left (λ octets. owed octets s.effects)
+of_left : (owed : List ℕ → Effects → Type 0) (s : StreamSights) → Served owed s → (left : Option (List ℕ)) → s.source_before.left ≡ left → IfSome left (λ octets. owed octets s.effects)
 of_left owed s h None e = tt
 of_left owed s h (Some octets) e =
     let is : octets ≡ h.octets = subst (λ l. IfSome l (λ all. all ≡ h.octets)) e h.input.whole in
     subst (λ xs. owed xs s.effects) (sym is) h.owes
 
 -- that, and that it is within the limit
-with_limit : (owed : List ℕ → Effects → Type 0) (s : Streams) → Served owed s → Served (λ octets e. (length octets ≤ limit) × owed octets e) s
+with_limit : (owed : List ℕ → Effects → Type 0) (s : StreamSights) → Served owed s → Served (λ octets e. (length octets ≤ limit) × owed octets e) s
 with_limit owed s h = record { octets = h.octets; input = h.input; owes = (h.input.within, h.owes) }
 
 of_any : (P : List ℕ → Type 0) → ((octets : List ℕ) → P octets) → (left : Option (List ℕ)) → IfSome left P
@@ -104,16 +104,16 @@ told r h status e = sym h.status ∙ e
 
 -- AFTER 0, 5, 6 AND 8 a job has had its input
 
-done_served : (job : Job) (s : Streams) → Ends (Some (Serve job)) Done s → Served (job_owes job Done) s
+done_served : (job : Job) (s : StreamSights) → Ends (Some (Serve job)) Done s → Served (job_owes job Done) s
 done_served job s h = elim h [ inl owes ↦ owes | inr lacks ↦ absurd (let e = lacks.0 in cc) ]
 
-wire_served : (job : Job) (s : Streams) → Ends (Some (Serve job)) WireFault s → Served (job_owes job WireFault) s
+wire_served : (job : Job) (s : StreamSights) → Ends (Some (Serve job)) WireFault s → Served (job_owes job WireFault) s
 wire_served job s h = elim h [ inl owes ↦ owes | inr lacks ↦ absurd (let e = lacks.0 in cc) ]
 
-still_served : (job : Job) (s : Streams) → Ends (Some (Serve job)) ClockStill s → Served (job_owes job ClockStill) s
+still_served : (job : Job) (s : StreamSights) → Ends (Some (Serve job)) ClockStill s → Served (job_owes job ClockStill) s
 still_served job s h = elim h [ inl owes ↦ owes | inr lacks ↦ absurd (let e = lacks.0 in cc) ]
 
-write_served : (job : Job) (s : Streams) → Ends (Some (Serve job)) WriteFault s → Served (job_owes job WriteFault) s
+write_served : (job : Job) (s : StreamSights) → Ends (Some (Serve job)) WriteFault s → Served (job_owes job WriteFault) s
 write_served job s h = elim h [ inl owes ↦ owes | inr lacks ↦ absurd (let e = lacks.0 in cc) ]
 
 after_done : (job : Job) (r : Run) → IsEnded r → After job 0 (λ octets. job_owes job Done octets r.streams.effects) r
@@ -141,7 +141,7 @@ record Excuses (owed : Ending → List ℕ → Effects → Type 0) (Accepted : L
   write_fault : (octets : List ℕ) (e : Effects) → owed WriteFault octets e → HasRisen e.out_before.faults e.out_after.faults
 
 -- an accepted input, and nothing fails
-record IsFree (Accepted : List ℕ → Type 0) (octets : List ℕ) (s : Streams) : Type 0 where
+record IsFree (Accepted : List ℕ → Type 0) (octets : List ℕ) (s : StreamSights) : Type 0 where
   left : s.source_before.left ≡ Some octets
   fits : length octets ≤ limit
   accepted : Accepted octets
@@ -151,12 +151,12 @@ record IsFree (Accepted : List ℕ → Type 0) (octets : List ℕ) (s : Streams)
 abbrev IsServed : ℕ → Type 0
 IsServed status = (status ≡ 0) ⊎ (status ≡ 4)
 
-free_input : (Accepted : List ℕ → Type 0) (octets : List ℕ) (s : Streams) (owed : List ℕ → Effects → Type 0) → IsFree Accepted octets s → (h : Served owed s) → Accepted h.octets
+free_input : (Accepted : List ℕ → Type 0) (octets : List ℕ) (s : StreamSights) (owed : List ℕ → Effects → Type 0) → IsFree Accepted octets s → (h : Served owed s) → Accepted h.octets
 free_input Accepted octets s owed free h =
     let is : octets ≡ h.octets = subst (λ l. IfSome l (λ all. all ≡ h.octets)) free.left h.input.whole in
     subst Accepted is free.accepted
 
-by_owes : (owed : Ending → List ℕ → Effects → Type 0) (Accepted : List ℕ → Type 0) (excuses : Excuses owed Accepted) (ending : Ending) (octets : List ℕ) (s : Streams) → IsFree Accepted octets s → OwesFor owed ending s → IsServed (status_of ending)
+by_owes : (owed : Ending → List ℕ → Effects → Type 0) (Accepted : List ℕ → Type 0) (excuses : Excuses owed Accepted) (ending : Ending) (octets : List ℕ) (s : StreamSights) → IsFree Accepted octets s → OwesFor owed ending s → IsServed (status_of ending)
 by_owes owed Accepted excuses Done octets s free h = inl refl
 by_owes owed Accepted excuses Usage octets s free h = absurd h
 by_owes owed Accepted excuses TooLong octets s free h =
@@ -170,7 +170,7 @@ by_owes owed Accepted excuses ClockStill octets s free h = absurd (excuses.clock
 by_owes owed Accepted excuses ReadFault octets s free h = absurd (free.source h.0)
 by_owes owed Accepted excuses WriteFault octets s free h = absurd (free.out (excuses.write_fault h.octets s.effects h.owes))
 
-by_ends : (job : Job) (Accepted : List ℕ → Type 0) → Excuses (job_owes job) Accepted → (ending : Ending) (octets : List ℕ) (s : Streams) → IsFree Accepted octets s → Ends (Some (Serve job)) ending s → IsServed (status_of ending)
+by_ends : (job : Job) (Accepted : List ℕ → Type 0) → Excuses (job_owes job) Accepted → (ending : Ending) (octets : List ℕ) (s : StreamSights) → IsFree Accepted octets s → Ends (Some (Serve job)) ending s → IsServed (status_of ending)
 by_ends job Accepted excuses ending octets s free h = elim h [
   | inl owes ↦ by_owes (job_owes job) Accepted excuses ending octets s free owes
   | inr lacks ↦ subst (λ e. IsServed (status_of e)) (sym lacks.0) (inr refl)
@@ -252,13 +252,13 @@ is_audited r h = record {
 
 -- `make`
 
-make_done : (n : ℕ) (s : Streams) → Ends (Some (Make n)) Done s → Takes (make_text n) s.effects.out_before s.effects.out_after
+make_done : (n : ℕ) (s : StreamSights) → Ends (Some (Make n)) Done s → Takes (make_text n) s.effects.out_before s.effects.out_after
 make_done n s h = elim h [ inl owes ↦ owes.1 | inr lacks ↦ absurd (let e = lacks.0 in cc) ]
 
-make_cut_off : (n : ℕ) (s : Streams) → Ends (Some (Make n)) WriteFault s → HasPart (make_text n) s.effects.out_before s.effects.out_after
+make_cut_off : (n : ℕ) (s : StreamSights) → Ends (Some (Make n)) WriteFault s → HasPart (make_text n) s.effects.out_before s.effects.out_after
 make_cut_off n s h = elim h [ inl owes ↦ let part = owes.1 in (part.count, part.held) | inr lacks ↦ absurd (let e = lacks.0 in cc) ]
 
-abbrev IsMadeOrUntouched : ℕ → Streams → Type 0
+abbrev IsMadeOrUntouched : ℕ → StreamSights → Type 0
 IsMadeOrUntouched status s = (status ≡ 0) ⊎ ((status ≡ 4) × (s.effects.out_after ≡ s.effects.out_before))
 
 make_owes : (n : ℕ) (ending : Ending) (e : Effects) → (HasRisen e.out_before.faults e.out_after.faults → ⊥) → MakeOwes n ending e → status_of ending ≡ 0
@@ -272,7 +272,7 @@ make_owes n WireFault e free h = absurd h
 make_owes n ClockStill e free h = absurd h
 make_owes n ReadFault e free h = absurd h
 
-make_ends : (n : ℕ) (ending : Ending) (s : Streams) → (HasRisen s.effects.out_before.faults s.effects.out_after.faults → ⊥) → Ends (Some (Make n)) ending s → IsMadeOrUntouched (status_of ending) s
+make_ends : (n : ℕ) (ending : Ending) (s : StreamSights) → (HasRisen s.effects.out_before.faults s.effects.out_after.faults → ⊥) → Ends (Some (Make n)) ending s → IsMadeOrUntouched (status_of ending) s
 make_ends n ending s free h = elim h [
   | inl owes ↦ inl (make_owes n ending s.effects free owes.1)
   | inr lacks ↦ subst (λ e. IsMadeOrUntouched (status_of e) s) (sym lacks.0) (inr (refl, lacks.1.effects.out))
@@ -287,12 +287,12 @@ is_made r h = record {
 
 -- WORDS THAT NAME NO COMMAND
 
-usage_untouched : (found : Option Command) (s : Streams) → Ends found Usage s → (found ≡ None) × (s.source_after ≡ s.source_before) × (s.effects.out_after ≡ s.effects.out_before)
+usage_untouched : (found : Option Command) (s : StreamSights) → Ends found Usage s → (found ≡ None) × (s.source_after ≡ s.source_before) × (s.effects.out_after ≡ s.effects.out_before)
 usage_untouched None s h = (refl, h.source, h.effects.out)
 usage_untouched (Some (Serve job)) s h = elim h [ inl owes ↦ absurd owes | inr lacks ↦ absurd (let e = lacks.0 in cc) ]
 usage_untouched (Some (Make n)) s h = elim h [ inl owes ↦ absurd owes.1 | inr lacks ↦ absurd (let e = lacks.0 in cc) ]
 
-none_ends : (ending : Ending) (s : Streams) → OwesNothing ending s → (status_of ending ≡ 2) ⊎ (status_of ending ≡ 4)
+none_ends : (ending : Ending) (s : StreamSights) → OwesNothing ending s → (status_of ending ≡ 2) ⊎ (status_of ending ≡ 4)
 none_ends Usage s h = inl refl
 none_ends NoMemory s h = inr refl
 none_ends Done s h = absurd h
@@ -312,13 +312,13 @@ misnames r h = record {
 -- STATUS BY STATUS, for any command
 
 -- a job that was named, and what is true of the input
-abbrev Jobs : Option Command → Streams → (Job → List ℕ → Type 0) → Type 0
+abbrev Jobs : Option Command → StreamSights → (Job → List ℕ → Type 0) → Type 0
 Jobs found s Owed = (job : Job) × (found ≡ Some (Serve job)) × IfSome s.source_before.left (Owed job)
 
-abbrev Refuses : Option Command → Streams → Type 0
+abbrev Refuses : Option Command → StreamSights → Type 0
 Refuses found s = Jobs found s (λ job octets. RefusesInput job octets s.effects)
 
-too_long : (found : Option Command) (s : Streams) → Ends found TooLong s → Refuses found s
+too_long : (found : Option Command) (s : StreamSights) → Ends found TooLong s → Refuses found s
 too_long None s h = absurd h
 too_long (Some (Serve job)) s h = elim h [
   | inl owes ↦ (job, refl, weaken (λ octets. limit < length octets) (λ octets. RefusesInput job octets s.effects) (λ octets long. inl (long, owes.1)) s.source_before.left owes.0)
@@ -326,7 +326,7 @@ too_long (Some (Serve job)) s h = elim h [
 ]
 too_long (Some (Make n)) s h = elim h [ inl owes ↦ absurd owes.1 | inr lacks ↦ absurd (let e = lacks.0 in cc) ]
 
-refuses : (found : Option Command) (s : Streams) → Ends found Refused s → Refuses found s
+refuses : (found : Option Command) (s : StreamSights) → Ends found Refused s → Refuses found s
 refuses None s h = absurd h
 refuses (Some (Serve job)) s h = elim h [
   | inl served ↦ (
@@ -339,7 +339,7 @@ refuses (Some (Serve job)) s h = elim h [
 ]
 refuses (Some (Make n)) s h = elim h [ inl owes ↦ absurd owes.1 | inr lacks ↦ absurd (let e = lacks.0 in cc) ]
 
-lacks_memory : (found : Option Command) (s : Streams) → Ends found NoMemory s → NoEffects s.effects ⊎ Jobs found s (λ job octets. job_owes job NoMemory octets s.effects)
+lacks_memory : (found : Option Command) (s : StreamSights) → Ends found NoMemory s → NoEffects s.effects ⊎ Jobs found s (λ job octets. job_owes job NoMemory octets s.effects)
 lacks_memory None s h = inl h.effects
 lacks_memory (Some (Serve job)) s h = elim h [
   | inl owes ↦ elim owes [
@@ -350,12 +350,12 @@ lacks_memory (Some (Serve job)) s h = elim h [
 ]
 lacks_memory (Some (Make n)) s h = elim h [ inl owes ↦ absurd owes.1 | inr lacks ↦ inl lacks.1.effects ]
 
-stands_still : (found : Option Command) (s : Streams) → Ends found ClockStill s → Jobs found s (λ job octets. job_owes job ClockStill octets s.effects)
+stands_still : (found : Option Command) (s : StreamSights) → Ends found ClockStill s → Jobs found s (λ job octets. job_owes job ClockStill octets s.effects)
 stands_still None s h = absurd h
 stands_still (Some (Serve job)) s h = (job, refl, of_left (job_owes job ClockStill) s (still_served job s h) s.source_before.left refl)
 stands_still (Some (Make n)) s h = elim h [ inl owes ↦ absurd owes.1 | inr lacks ↦ absurd (let e = lacks.0 in cc) ]
 
-reads_failed : (found : Option Command) (s : Streams) → Ends found ReadFault s → HasRisen s.source_before.faults s.source_after.faults × (s.effects.out_after ≡ s.effects.out_before)
+reads_failed : (found : Option Command) (s : StreamSights) → Ends found ReadFault s → HasRisen s.source_before.faults s.source_after.faults × (s.effects.out_after ≡ s.effects.out_before)
 reads_failed None s h = absurd h
 reads_failed (Some (Serve job)) s h = elim h [ inl owes ↦ (owes.0, owes.1.out) | inr lacks ↦ absurd (let e = lacks.0 in cc) ]
 reads_failed (Some (Make n)) s h = elim h [ inl owes ↦ absurd owes.1 | inr lacks ↦ absurd (let e = lacks.0 in cc) ]
@@ -390,7 +390,7 @@ put_of_retrace octets old new h = elim h [
   | inr wants ↦ absurd (let e = wants.0 in cc)
 ]
 
-wire_of_job : (job : Job) (s : Streams) → Served (job_owes job WireFault) s → WireFailed job s.source_before.left s.effects
+wire_of_job : (job : Job) (s : StreamSights) → Served (job_owes job WireFault) s → WireFailed job s.source_before.left s.effects
 wire_of_job Replay s h = h.owes
 wire_of_job Node s h = wire_of_node forms.Log h.octets s.effects h.owes
 wire_of_job Trace s h = wire_of_node forms.Trace h.octets s.effects h.owes
@@ -406,12 +406,12 @@ put_of_job Retrace octets e h = put_of_retrace octets e.out_before e.out_after h
 put_of_job Calls octets e h = h.1
 put_of_job Audit octets e h = h.faults
 
-wire_fails : (found : Option Command) (s : Streams) → Ends found WireFault s → (job : Job) × (found ≡ Some (Serve job)) × WireFailed job s.source_before.left s.effects
+wire_fails : (found : Option Command) (s : StreamSights) → Ends found WireFault s → (job : Job) × (found ≡ Some (Serve job)) × WireFailed job s.source_before.left s.effects
 wire_fails None s h = absurd h
 wire_fails (Some (Serve job)) s h = (job, refl, wire_of_job job s (wire_served job s h))
 wire_fails (Some (Make n)) s h = elim h [ inl owes ↦ absurd owes.1 | inr lacks ↦ absurd (let e = lacks.0 in cc) ]
 
-put_fails : (found : Option Command) (s : Streams) → Ends found WriteFault s → HasRisen s.effects.out_before.faults s.effects.out_after.faults
+put_fails : (found : Option Command) (s : StreamSights) → Ends found WriteFault s → HasRisen s.effects.out_before.faults s.effects.out_after.faults
 put_fails None s h = absurd h
 put_fails (Some (Serve job)) s h = let served = write_served job s h in put_of_job job served.octets s.effects served.owes
 put_fails (Some (Make n)) s h = elim h [ inl owes ↦ owes.1.faults | inr lacks ↦ absurd (let e = lacks.0 in cc) ]

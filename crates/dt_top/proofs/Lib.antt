@@ -3,3 +3,4 @@ pub mod Naming
 pub mod NodeRuns
 pub mod Reruns
 pub mod Answering
+pub mod Owing

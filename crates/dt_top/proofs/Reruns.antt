@@ -22,7 +22,7 @@ use Rattle.dt_top.specs.declared.job.Job.TheVariants.{Retrace}
 use Rattle.dt_top.specs.Endings.{node_ending, status_of}
 use Rattle.dt_top.specs.Inputs.{limit}
 use Rattle.dt_top.specs.Serving.{Ends, RunsAgain, job_owes}
-use Rattle.dt_top.specs.Streams.{Effects, OwesFor, Served, Streams}
+use Rattle.dt_top.specs.Streams.{Effects, OwesFor, Served, StreamSights}
 
 -- by what an answer of `retrace` leaves
 by_answer : (log : List ℕ) (outcome again : NodeOutcome) (old new : SinkSight) → Repeats log outcome again old new → RunsAgain log outcome (status_of (node_ending again)) old new
@@ -34,20 +34,20 @@ by_answer log outcome node.WriteFault old new h = inr (inr (inr refl))
 by_answer log outcome node.Refused old new h = absurd h
 
 -- the input that is left, and what `retrace` leaves over it
-record Again (log octets : List ℕ) (outcome : NodeOutcome) (s : Streams) : Type 0 where
+record Again (log octets : List ℕ) (outcome : NodeOutcome) (s : StreamSights) : Type 0 where
   left : s.source_before.left ≡ Some octets
   fits : length octets ≤ limit
   repeats : (again : NodeOutcome) → Retraces octets again s.effects.out_before s.effects.out_after → Repeats log outcome again s.effects.out_before s.effects.out_after
 
-abbrev Leaves : List ℕ → NodeOutcome → ℕ → Streams → Type 0
+abbrev Leaves : List ℕ → NodeOutcome → ℕ → StreamSights → Type 0
 Leaves log outcome status s = RunsAgain log outcome status s.effects.out_before s.effects.out_after
 
-by_served : (log octets : List ℕ) (outcome again : NodeOutcome) (s : Streams) → Again log octets outcome s → Served (λ xs e. Retraces xs again e.out_before e.out_after) s → Leaves log outcome (status_of (node_ending again)) s
+by_served : (log octets : List ℕ) (outcome again : NodeOutcome) (s : StreamSights) → Again log octets outcome s → Served (λ xs e. Retraces xs again e.out_before e.out_after) s → Leaves log outcome (status_of (node_ending again)) s
 by_served log octets outcome again s a h =
     let is : octets ≡ h.octets = subst (λ l. IfSome l (λ all. all ≡ h.octets)) a.left h.input.whole in
     by_answer log outcome again s.effects.out_before s.effects.out_after (a.repeats again (subst (λ xs. Retraces xs again s.effects.out_before s.effects.out_after) (sym is) h.owes))
 
-by_owes : (ending : Ending) (log octets : List ℕ) (outcome : NodeOutcome) (s : Streams) → Again log octets outcome s → OwesFor (job_owes Retrace) ending s → Leaves log outcome (status_of ending) s
+by_owes : (ending : Ending) (log octets : List ℕ) (outcome : NodeOutcome) (s : StreamSights) → Again log octets outcome s → OwesFor (job_owes Retrace) ending s → Leaves log outcome (status_of ending) s
 by_owes Done log octets outcome s a h = by_served log octets outcome node.Done s a h
 by_owes Usage log octets outcome s a h = absurd h
 by_owes TooLong log octets outcome s a h =
@@ -60,13 +60,13 @@ by_owes ClockStill log octets outcome s a h = by_served log octets outcome node.
 by_owes ReadFault log octets outcome s a h = inr (inr (inl refl))
 by_owes WriteFault log octets outcome s a h = by_served log octets outcome node.WriteFault s a h
 
-by_ending : (ending : Ending) (log octets : List ℕ) (outcome : NodeOutcome) (s : Streams) → Again log octets outcome s → Ends (Some (Serve Retrace)) ending s → Leaves log outcome (status_of ending) s
+by_ending : (ending : Ending) (log octets : List ℕ) (outcome : NodeOutcome) (s : StreamSights) → Again log octets outcome s → Ends (Some (Serve Retrace)) ending s → Leaves log outcome (status_of ending) s
 by_ending ending log octets outcome s a h = elim h [
   | inl owes ↦ by_owes ending log octets outcome s a owes
   | inr lacks ↦ subst (λ e. Leaves log outcome (status_of e) s) (sym lacks.0) (inr (inl refl))
 ]
 
-pub runs_again : (ending : Ending) (result : ℕ) (s : Streams) → result ≡ status_of ending → Ends (Some (Serve Retrace)) ending s → (left : Option (List ℕ)) → s.source_before.left ≡ left
+pub runs_again : (ending : Ending) (result : ℕ) (s : StreamSights) → result ≡ status_of ending → Ends (Some (Serve Retrace)) ending s → (left : Option (List ℕ)) → s.source_before.left ≡ left
     → IfSome left (λ octets. (script : List ℕ) (o : Orders) (outcome : NodeOutcome) (before after : Edges) → script_of script ≡ Some o → (first : Serves forms.Trace o outcome before after) → IsWhole outcome → length (fates first.deeds) < 2 ^ 64
     → octets ≡ joined script first.text → length octets ≤ limit
     → RunsAgain (log_text (log_lines o.setup.me first.deeds)) outcome result s.effects.out_before s.effects.out_after)
@@ -86,7 +86,7 @@ abbrev Ended : ℕ → Type 0
 Ended status = (status ≡ 0) ⊎ (status ≡ 4)
 
 -- what the run begins with, and that nothing fails
-record Goes (octets : List ℕ) (s : Streams) : Type 0 where
+record Goes (octets : List ℕ) (s : StreamSights) : Type 0 where
   left : s.source_before.left ≡ Some octets
   fits : length octets ≤ limit
   goes : GoesToStop octets
@@ -99,12 +99,12 @@ stop_met outcome h = elim h [
   | inr e ↦ subst (λ n. Ended (status_of (node_ending n))) (sym e) (inr refl)
 ]
 
-served_again : (outcome : NodeOutcome) (octets : List ℕ) (s : Streams) → Goes octets s → Served (λ xs e. Retraces xs outcome e.out_before e.out_after) s → Ended (status_of (node_ending outcome))
+served_again : (outcome : NodeOutcome) (octets : List ℕ) (s : StreamSights) → Goes octets s → Served (λ xs e. Retraces xs outcome e.out_before e.out_after) s → Ended (status_of (node_ending outcome))
 served_again outcome octets s g h =
     let is : octets ≡ h.octets = subst (λ l. IfSome l (λ all. all ≡ h.octets)) g.left h.input.whole in
     stop_met outcome (meets_stop octets g.goes s.effects.out_before s.effects.out_after g.out outcome (subst (λ xs. Retraces xs outcome s.effects.out_before s.effects.out_after) (sym is) h.owes))
 
-owes_again : (ending : Ending) (octets : List ℕ) (s : Streams) → Goes octets s → OwesFor (job_owes Retrace) ending s → Ended (status_of ending)
+owes_again : (ending : Ending) (octets : List ℕ) (s : StreamSights) → Goes octets s → OwesFor (job_owes Retrace) ending s → Ended (status_of ending)
 owes_again Done octets s g h = inl refl
 owes_again Usage octets s g h = absurd h
 owes_again TooLong octets s g h =
@@ -117,13 +117,13 @@ owes_again ClockStill octets s g h = served_again node.ClockStill octets s g h
 owes_again ReadFault octets s g h = absurd (g.source h.0)
 owes_again WriteFault octets s g h = served_again node.WriteFault octets s g h
 
-ends_again : (ending : Ending) (octets : List ℕ) (s : Streams) → Goes octets s → Ends (Some (Serve Retrace)) ending s → Ended (status_of ending)
+ends_again : (ending : Ending) (octets : List ℕ) (s : StreamSights) → Goes octets s → Ends (Some (Serve Retrace)) ending s → Ended (status_of ending)
 ends_again ending octets s g h = elim h [
   | inl owes ↦ owes_again ending octets s g owes
   | inr lacks ↦ subst (λ e. Ended (status_of e)) (sym lacks.0) (inr refl)
 ]
 
-pub retrace_completes : (ending : Ending) (result : ℕ) (s : Streams) → result ≡ status_of ending → Ends (Some (Serve Retrace)) ending s → (left : Option (List ℕ)) → s.source_before.left ≡ left
+pub retrace_completes : (ending : Ending) (result : ℕ) (s : StreamSights) → result ≡ status_of ending → Ends (Some (Serve Retrace)) ending s → (left : Option (List ℕ)) → s.source_before.left ≡ left
     → IfSome left (λ octets. length octets ≤ limit → GoesToStop octets → (HasRisen s.source_before.faults s.source_after.faults → ⊥) → (HasRisen s.effects.out_before.faults s.effects.out_after.faults → ⊥) → Ended result)
 retrace_completes ending result s is h None e = tt
 retrace_completes ending result s is h (Some octets) e = λ fits goes source out. subst Ended (sym is) (ends_again ending octets s (record { left = e; fits = fits; goes = goes; source = source; out = out }) h)

@@ -3,6 +3,7 @@ pub mod Endings
 pub mod Words
 pub mod Commands
 pub mod Streams
+pub mod Loans
 pub mod Serving
 pub mod Runs
 pub mod Answering

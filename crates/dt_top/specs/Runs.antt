@@ -6,13 +6,13 @@ use Rattle.dt_top.specs.declared.command.Command.{Command}
 use Rattle.dt_top.specs.declared.command.Command.TheVariants.{Serve}
 use Rattle.dt_top.specs.declared.job.Job.{Job}
 use Rattle.dt_top.specs.Inputs.{limit}
-use Rattle.dt_top.specs.Streams.{Streams}
+use Rattle.dt_top.specs.Streams.{StreamSights}
 
 -- The command that the words name, the status, and what is seen of source, output, wire and clock, and of standard error, before the run and after it.
 pub record Run : Type 0 where
   pub command : Option Command
   pub status : ℕ
-  pub streams : Streams
+  pub streams : StreamSights
   pub err_before : SinkSight
   pub err_after : SinkSight
 

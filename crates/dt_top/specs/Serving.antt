@@ -26,7 +26,7 @@ use Rattle.dt_top.specs.declared.ending.Ending.{Ending}
 use Rattle.dt_top.specs.declared.ending.Ending.TheVariants.{Done, Usage, TooLong, Refused, NoMemory, WireFault, ClockStill, ReadFault, WriteFault}
 use Rattle.dt_top.specs.Endings.{node_ending, status_of}
 use Rattle.dt_top.specs.Inputs.{limit}
-use Rattle.dt_top.specs.Streams.{Effects, NoEffects, Streams, OwesFor, Untouched}
+use Rattle.dt_top.specs.Streams.{Effects, NoEffects, StreamSights, OwesFor, Untouched}
 
 -- for a schedule: its log
 abbrev pub replay_owes : Ending → List ℕ → Effects → Type 0
@@ -137,12 +137,12 @@ abbrev pub RefusesInput : Job → List ℕ → Effects → Type 0
 RefusesInput job octets e = ((limit < length octets) × NoEffects e) ⊎ ((length octets ≤ limit) × job_owes job Refused octets e)
 
 -- WHAT A COMMAND OWES, by how it ends
-abbrev pub Owes : Command → Ending → Streams → Type 0
+abbrev pub Owes : Command → Ending → StreamSights → Type 0
 Owes (Serve job) ending s = OwesFor (job_owes job) ending s
 Owes (Make n) ending s = (s.source_after ≡ s.source_before) × MakeOwes n ending s.effects
 
 -- what is owed where the words name no command
-abbrev pub OwesNothing : Ending → Streams → Type 0
+abbrev pub OwesNothing : Ending → StreamSights → Type 0
 OwesNothing Done s = ⊥
 OwesNothing Usage s = Untouched s
 OwesNothing TooLong s = ⊥
@@ -154,7 +154,7 @@ OwesNothing ReadFault s = ⊥
 OwesNothing WriteFault s = ⊥
 
 -- HOW A RUN ENDS, and why. Memory may run out with any words, before anything is read.
-abbrev pub Ends : Option Command → Ending → Streams → Type 0
+abbrev pub Ends : Option Command → Ending → StreamSights → Type 0
 Ends None ending s = OwesNothing ending s
 Ends (Some command) ending s = Owes command ending s ⊎ ((ending ≡ NoMemory) × Untouched s)
 

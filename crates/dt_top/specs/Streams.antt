@@ -22,7 +22,7 @@ abbrev pub effects : SinkSight → SinkSight → WireSight → WireSight → Clo
 effects out out_after wire wire_after clock clock_after = record { out_before = out; out_after = out_after; wire_before = wire; wire_after = wire_after; clock_before = clock; clock_after = clock_after }
 
 -- and of the source
-pub record Streams : Type 0 where
+pub record StreamSights : Type 0 where
   pub source_before : SourceSight
   pub source_after : SourceSight
   pub effects : Effects
@@ -33,18 +33,18 @@ pub record NoEffects (e : Effects) : Type 0 where
   pub wire : e.wire_after ≡ e.wire_before
   pub clock : e.clock_after ≡ e.clock_before
 
-pub record Untouched (s : Streams) : Type 0 where
+pub record Untouched (s : StreamSights) : Type 0 where
   pub source : s.source_after ≡ s.source_before
   pub effects : NoEffects s.effects
 
 -- an input was read whole, and this is true of it
-pub record Served (owed : List ℕ → Effects → Type 0) (s : Streams) : Type 0 where
+pub record Served (owed : List ℕ → Effects → Type 0) (s : StreamSights) : Type 0 where
   pub octets : List ℕ
   pub input : IsInput octets s.source_before s.source_after
   pub owes : owed octets s.effects
 
 -- What a command owes that reads an input, by what it owes for the input: it comes to that only where the input is had.
-abbrev pub OwesFor : (Ending → List ℕ → Effects → Type 0) → Ending → Streams → Type 0
+abbrev pub OwesFor : (Ending → List ℕ → Effects → Type 0) → Ending → StreamSights → Type 0
 OwesFor owed Done s = Served (owed Done) s
 OwesFor owed Usage s = ⊥
 OwesFor owed TooLong s = LacksInput faults.TooLong s.source_before s.source_after × NoEffects s.effects

@@ -16,9 +16,11 @@ mod input;
 mod job;
 pub mod laws;
 mod serving;
+mod streams;
 
 use crate::ending::Ending;
 use crate::serving::serve_words;
+use crate::streams::Streams;
 use dt_edges::{Clock, Sink, Source, Wire, put_all};
 pub use dt_make::make;
 use std::alloc::Global;
@@ -91,6 +93,12 @@ pub fn run<S: Source, K: Sink, E: Sink, W: Wire, C: Clock>(
     ensures same_wire { uses_wire (command_of words.now) ≡ false → wire.new ≡ wire.old }
     ensures same_clock { uses_wire (command_of words.now) ≡ false → clock.new ≡ clock.old }
 {
-    let ending = serve_words(alloc, words, source, out, wire, clock);
+    let streams = Streams {
+        source,
+        out,
+        wire,
+        clock,
+    };
+    let ending = serve_words(alloc, words, streams);
     status_told(ending, err)
 }

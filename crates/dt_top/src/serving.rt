@@ -3,14 +3,16 @@ ghost use Rattle.std.specs.Prelude.{◌≡◌, ◌≤◌, false, length, Some};
 ghost use Rattle.dt_top.specs.Commands.{IsInRange, command_of, job_uses_wire, reads_source, uses_wire};
 ghost use Rattle.dt_top.specs.Endings.{audit_ending, calls_ending, lacking, node_ending, replay_ending};
 ghost use Rattle.dt_top.specs.Inputs.{limit};
+ghost use Rattle.dt_top.specs.Loans.{KeepsClock, KeepsSource, KeepsWire, sights};
 ghost use Rattle.dt_top.specs.Serving.{Ends, Owes, job_owes};
-ghost use Rattle.dt_top.specs.Streams.{OwesFor, effects};
+ghost use Rattle.dt_top.specs.Streams.{OwesFor};
 
 use crate::command::Command;
 use crate::command_line::command_of;
 use crate::ending::Ending;
 use crate::input::{InputFault, read_input};
 use crate::job::Job;
+use crate::streams::Streams;
 use dt_audit::{AuditOutcome, audit};
 use dt_calls_input::{CallsOutcome, calls};
 use dt_edges::{Clock, Failed, Sink, Source, Wire};
@@ -83,19 +85,24 @@ fn audit_ending(outcome: AuditOutcome) -> Ending
 }
 
 /// Does its job with an input.
-fn serve_input<K: Sink, W: Wire, C: Clock>(
+fn serve_input<S: Source, K: Sink, W: Wire, C: Clock>(
     alloc: Global,
     job: Job,
     input: &[u8],
-    out: &mut K,
-    wire: &mut W,
-    clock: &mut C,
+    streams: Streams<'_, S, K, W, C>,
 ) -> Ending
     requires { length input.now ≤ limit }
-    ensures owed { job_owes job result input.now (effects (K.sight out.old) (K.sight out.new) (W.sight wire.old) (W.sight wire.new) (C.sight clock.old) (C.sight clock.new)) }
-    ensures same_wire { job_uses_wire job ≡ false → wire.new ≡ wire.old }
-    ensures same_clock { job_uses_wire job ≡ false → clock.new ≡ clock.old }
+    ensures owed { job_owes job result input.now (sights S.sight K.sight W.sight C.sight streams.entry streams.exit).effects }
+    ensures same_source { KeepsSource streams.entry streams.exit }
+    ensures same_wire { job_uses_wire job ≡ false → KeepsWire streams.entry streams.exit }
+    ensures same_clock { job_uses_wire job ≡ false → KeepsClock streams.entry streams.exit }
 {
+    let Streams {
+        source: _,
+        out,
+        wire,
+        clock,
+    } = streams;
     match job {
         Job::Replay => replay_ending(replay(alloc, input, out)),
         Job::Node => node_ending(serve(alloc, input, wire, clock, out)),
@@ -110,17 +117,14 @@ fn serve_input<K: Sink, W: Wire, C: Clock>(
 fn serve_job<S: Source, K: Sink, W: Wire, C: Clock>(
     alloc: Global,
     job: Job,
-    source: &mut S,
-    out: &mut K,
-    wire: &mut W,
-    clock: &mut C,
+    streams: Streams<'_, S, K, W, C>,
 ) -> Ending
-    ensures owed { OwesFor (job_owes job) result (record { source_before = S.sight source.old; source_after = S.sight source.new; effects = effects (K.sight out.old) (K.sight out.new) (W.sight wire.old) (W.sight wire.new) (C.sight clock.old) (C.sight clock.new) }) }
-    ensures same_wire { job_uses_wire job ≡ false → wire.new ≡ wire.old }
-    ensures same_clock { job_uses_wire job ≡ false → clock.new ≡ clock.old }
+    ensures owed { OwesFor (job_owes job) result (sights S.sight K.sight W.sight C.sight streams.entry streams.exit) }
+    ensures same_wire { job_uses_wire job ≡ false → KeepsWire streams.entry streams.exit }
+    ensures same_clock { job_uses_wire job ≡ false → KeepsClock streams.entry streams.exit }
 {
-    match read_input(alloc, source) {
-        Ok(input) => serve_input(alloc, job, &input, out, wire, clock),
+    match read_input(alloc, streams.source) {
+        Ok(input) => serve_input(alloc, job, &input, streams),
         Err(fault) => lacking(fault),
     }
 }
@@ -129,20 +133,17 @@ fn serve_job<S: Source, K: Sink, W: Wire, C: Clock>(
 fn serve_command<S: Source, K: Sink, W: Wire, C: Clock>(
     alloc: Global,
     command: Command,
-    source: &mut S,
-    out: &mut K,
-    wire: &mut W,
-    clock: &mut C,
+    streams: Streams<'_, S, K, W, C>,
 ) -> Ending
     requires { IsInRange command }
-    ensures owed { Owes command result (record { source_before = S.sight source.old; source_after = S.sight source.new; effects = effects (K.sight out.old) (K.sight out.new) (W.sight wire.old) (W.sight wire.new) (C.sight clock.old) (C.sight clock.new) }) }
-    ensures same_source { reads_source (Some command) ≡ false → source.new ≡ source.old }
-    ensures same_wire { uses_wire (Some command) ≡ false → wire.new ≡ wire.old }
-    ensures same_clock { uses_wire (Some command) ≡ false → clock.new ≡ clock.old }
+    ensures owed { Owes command result (sights S.sight K.sight W.sight C.sight streams.entry streams.exit) }
+    ensures same_source { reads_source (Some command) ≡ false → KeepsSource streams.entry streams.exit }
+    ensures same_wire { uses_wire (Some command) ≡ false → KeepsWire streams.entry streams.exit }
+    ensures same_clock { uses_wire (Some command) ≡ false → KeepsClock streams.entry streams.exit }
 {
     match command {
-        Command::Serve(job) => serve_job(alloc, job, source, out, wire, clock),
-        Command::Make(n) => match make(n, out) {
+        Command::Serve(job) => serve_job(alloc, job, streams),
+        Command::Make(n) => match make(n, streams.out) {
             Ok(()) => Ending::Done,
             Err(Failed) => Ending::WriteFault,
         },
@@ -153,18 +154,15 @@ fn serve_command<S: Source, K: Sink, W: Wire, C: Clock>(
 pub fn serve_words<S: Source, K: Sink, W: Wire, C: Clock>(
     alloc: Global,
     words: &[String],
-    source: &mut S,
-    out: &mut K,
-    wire: &mut W,
-    clock: &mut C,
+    streams: Streams<'_, S, K, W, C>,
 ) -> Ending
-    ensures ends { Ends (command_of words.now) result (record { source_before = S.sight source.old; source_after = S.sight source.new; effects = effects (K.sight out.old) (K.sight out.new) (W.sight wire.old) (W.sight wire.new) (C.sight clock.old) (C.sight clock.new) }) }
-    ensures same_source { reads_source (command_of words.now) ≡ false → source.new ≡ source.old }
-    ensures same_wire { uses_wire (command_of words.now) ≡ false → wire.new ≡ wire.old }
-    ensures same_clock { uses_wire (command_of words.now) ≡ false → clock.new ≡ clock.old }
+    ensures ends { Ends (command_of words.now) result (sights S.sight K.sight W.sight C.sight streams.entry streams.exit) }
+    ensures same_source { reads_source (command_of words.now) ≡ false → KeepsSource streams.entry streams.exit }
+    ensures same_wire { uses_wire (command_of words.now) ≡ false → KeepsWire streams.entry streams.exit }
+    ensures same_clock { uses_wire (command_of words.now) ≡ false → KeepsClock streams.entry streams.exit }
 {
     match command_of(alloc, words) {
-        Ok(Some(command)) => serve_command(alloc, command, source, out, wire, clock),
+        Ok(Some(command)) => serve_command(alloc, command, streams),
         Ok(None) => Ending::Usage,
         Err(NoMemory) => Ending::NoMemory,
     }

@@ -1,7 +1,7 @@
 //! The top call over the forms in memory: worked inputs of each command, each a row of a table, and each
 //! way in which reading and writing can fail.
 use dt_edges::MemWire;
-use dt_trial::{FREELY, Left, Trial, ends, is_cut_at, is_left, tried, tried_over};
+use dt_trial::{FREELY, Left, Trial, Untried, ends, is_cut_short, tried, tried_over};
 use std::alloc::Global;
 use std::test::Fail;
 
@@ -21,7 +21,13 @@ fn said_of(status: u8) -> &'static [u8] {
 }
 
 /// Whether words do so with an input.
-fn ends_as<'a>(alloc: Global, words: &'a [&'a str], input: &'a str, status: u8, out: &str) -> bool {
+fn ends_as<'a>(
+    alloc: Global,
+    words: &'a [&'a str],
+    input: &'a str,
+    status: u8,
+    out: &str,
+) -> Result<bool, Untried> {
     let trial = Trial {
         words,
         input: input.as_bytes(),
@@ -155,7 +161,7 @@ const SCHEDULES: [(&str, &str, &str, u8); 15] = [
 fn worked_schedules(rt: HostRuntime) -> Result<(), Fail> {
     for (params, rest, log, status) in &SCHEDULES {
         let input = joined(rt.alloc(), &[*params, SETUP, *rest])?;
-        let ends = ends_as(rt.alloc(), &["replay"], input.as_str(), *status, log);
+        let ends = ends_as(rt.alloc(), &["replay"], input.as_str(), *status, log)?;
         assert!(rt; ends, "after {rest:?}");
     }
     Ok(())
@@ -184,13 +190,14 @@ const INPUTS: [(&str, &str, &str, u8); 7] = [
 ];
 
 #[test]
-fn worked_inputs(rt: HostRuntime) {
+fn worked_inputs(rt: HostRuntime) -> Result<(), Fail> {
     for (command, input, out, status) in &INPUTS {
         assert!(rt;
-            ends_as(rt.alloc(), &[*command], input, *status, out),
+            ends_as(rt.alloc(), &[*command], input, *status, out)?,
             "{command} of {input:?}"
         );
     }
+    Ok(())
 }
 
 /// Words that name no command.
@@ -227,16 +234,23 @@ static NO_COMMANDS: [&[&str]; 27] = [
 const USAGE: &[u8] = b"usage: deltat replay | node | make N | trace | retrace | calls | audit\n";
 
 /// Whether the words end so with no input.
-fn words_end(alloc: Global, words: &[&str], status: u8, out: &[u8], said: &[u8]) -> bool {
+fn words_end(
+    alloc: Global,
+    words: &[&str],
+    status: u8,
+    out: &[u8],
+    said: &[u8],
+) -> Result<bool, Untried> {
     let trial = Trial { words, ..FREELY };
     ends(alloc, &trial, status, out, said)
 }
 
 #[test]
-fn other_words_are_no_command(rt: HostRuntime) {
+fn other_words_are_no_command(rt: HostRuntime) -> Result<(), Fail> {
     for words in &NO_COMMANDS {
-        assert!(rt; words_end(rt.alloc(), words, 2, b"", USAGE), "{words:?}");
+        assert!(rt; words_end(rt.alloc(), words, 2, b"", USAGE)?, "{words:?}");
     }
+    Ok(())
 }
 
 /// What follows the setup in the schedule of one round.
@@ -265,11 +279,11 @@ static REPLAYS: [&[&str]; 2] = [&["--", "replay"], &["replay", "--"]];
 fn the_first_mark_is_left_out(rt: HostRuntime) -> Result<(), Fail> {
     let one = joined(rt.alloc(), &[PARAMS, SETUP, ONE_ROUND])?;
     for words in &MAKES {
-        let ends = words_end(rt.alloc(), words, 0, one.as_bytes(), b"");
+        let ends = words_end(rt.alloc(), words, 0, one.as_bytes(), b"")?;
         assert!(rt; ends, "{words:?}");
     }
     for words in &REPLAYS {
-        let ends = words_end(rt.alloc(), words, 3, b"line 1: order\n", b"input refused\n");
+        let ends = words_end(rt.alloc(), words, 3, b"line 1: order\n", b"input refused\n")?;
         assert!(rt; ends, "{words:?}");
     }
     Ok(())
@@ -282,7 +296,7 @@ const AMPLE: Trial<'static> = Trial {
 };
 
 /// What the replay of the schedule leaves that these words make.
-fn replay_of_made(alloc: Global, words: &[&str]) -> Option<Left> {
+fn replay_of_made(alloc: Global, words: &[&str]) -> Result<Left, Untried> {
     let trial = Trial { words, ..AMPLE };
     let made = tried(alloc, &trial)?;
     let replay = Trial {
@@ -293,11 +307,8 @@ fn replay_of_made(alloc: Global, words: &[&str]) -> Option<Left> {
 }
 
 /// Whether a run ended with status 0 and an output that ends so.
-fn is_done_with(left: &Option<Left>, end: &str) -> bool {
-    match left {
-        Some(left) => left.status == 0 && left.out.as_slice().ends_with(end.as_bytes()),
-        None => false,
-    }
+fn is_done_with(left: &Left, end: &str) -> bool {
+    left.status == 0 && left.out.as_slice().ends_with(end.as_bytes())
 }
 
 const ONE_END: &str = "520 2 read 1:10>2:20 rbe 0001
@@ -311,9 +322,12 @@ end 1060
 ";
 
 #[test]
-fn made_schedules_are_replayed(rt: HostRuntime) {
-    assert!(rt; is_done_with(&replay_of_made(rt.alloc(), &["make", "1"]), ONE_END));
-    assert!(rt; is_done_with(&replay_of_made(rt.alloc(), &["make", "3"]), THREE_END));
+fn made_schedules_are_replayed(rt: HostRuntime) -> Result<(), Fail> {
+    let one = replay_of_made(rt.alloc(), &["make", "1"])?;
+    assert!(rt; is_done_with(&one, ONE_END));
+    let three = replay_of_made(rt.alloc(), &["make", "3"])?;
+    assert!(rt; is_done_with(&three, THREE_END));
+    Ok(())
 }
 
 /// The last two lines of the log of so many rounds, from the numbers that the rounds are drawn from:
@@ -332,32 +346,28 @@ fn summary(alloc: Global, rounds: u32) -> Result<String, Fail> {
     )?)
 }
 
-/// Whether two runs left the same output.
-fn is_same(first: &Option<Left>, again: &Option<Left>) -> bool {
-    match (first, again) {
-        (Some(first), Some(again)) => first.out.as_slice() == again.out.as_slice(),
-        _ => false,
-    }
-}
-
 #[test]
 fn five_thousand_rounds(rt: HostRuntime) -> Result<(), Fail> {
     let end = summary(rt.alloc(), 5000)?;
-    let first = replay_of_made(rt.alloc(), &["make", "5000"]);
-    let again = replay_of_made(rt.alloc(), &["make", "5000"]);
+    let first = replay_of_made(rt.alloc(), &["make", "5000"])?;
+    let again = replay_of_made(rt.alloc(), &["make", "5000"])?;
     assert!(rt; is_done_with(&first, end.as_str()));
-    assert!(rt; is_same(&first, &again));
+    assert!(rt; again.has(0, first.out.as_slice(), b""));
     Ok(())
 }
 
 /// Whether the trial is cut off at each room below that for what it writes.
-fn is_cut_off(alloc: Global, trial: &Trial<'_>, whole: &[u8]) -> bool {
+fn is_cut_off(alloc: Global, trial: &Trial<'_>, whole: &[u8]) -> Result<bool, Untried> {
     for room in 0..whole.len() {
-        if !is_cut_at(alloc, trial, whole, room) {
-            return false;
+        let less = Trial {
+            out_room: room,
+            ..*trial
+        };
+        if !is_cut_short(alloc, &less, whole)? {
+            return Ok(false);
         }
     }
-    true
+    Ok(true)
 }
 
 #[test]
@@ -367,7 +377,7 @@ fn a_schedule_that_finds_no_room(rt: HostRuntime) -> Result<(), Fail> {
         words: &["make", "1"],
         ..FREELY
     };
-    assert!(rt; is_cut_off(rt.alloc(), &make, one.as_bytes()));
+    assert!(rt; is_cut_off(rt.alloc(), &make, one.as_bytes())?);
     Ok(())
 }
 
@@ -379,15 +389,15 @@ fn failing_reads_and_writes(rt: HostRuntime) -> Result<(), Fail> {
         input: input.as_bytes(),
         ..FREELY
     };
-    assert!(rt; ends(rt.alloc(), &trial, 0, LONG_LOG.as_bytes(), b""));
+    assert!(rt; ends(rt.alloc(), &trial, 0, LONG_LOG.as_bytes(), b"")?);
     for failing_reads in &[[1], [2]] {
         let failing = Trial {
             failing_reads,
             ..trial
         };
-        assert!(rt; ends(rt.alloc(), &failing, 7, b"", b"read failed\n"));
+        assert!(rt; ends(rt.alloc(), &failing, 7, b"", b"read failed\n")?);
     }
-    assert!(rt; is_cut_off(rt.alloc(), &trial, LONG_LOG.as_bytes()));
+    assert!(rt; is_cut_off(rt.alloc(), &trial, LONG_LOG.as_bytes())?);
     Ok(())
 }
 
@@ -431,9 +441,9 @@ fn a_node_ends_by_its_stop_its_wire_or_its_clock(rt: HostRuntime) -> Result<(), 
         let mut wire = MemWire::new(rt.alloc(), *open_fails, &[], &[], Some(64))
             .ok()
             .ok_or("memory")?;
-        let left = tried_over(rt.alloc(), &node_trial(&["node"], readings), &mut wire);
+        let left = tried_over(rt.alloc(), &node_trial(&["node"], readings), &mut wire)?;
         assert!(rt;
-            is_left(&left, *status, log.as_bytes(), said.as_bytes()),
+            left.has(*status, log.as_bytes(), said.as_bytes()),
             "{status}"
         );
         assert_eq!(rt; wire.given(0).is_some(), !*open_fails);
@@ -449,17 +459,17 @@ fn a_trace_is_run_again(rt: HostRuntime) -> Result<(), Fail> {
         failing_gives: &[1],
         ..node_trial(&["trace"], &[1000, 1100])
     };
-    assert!(rt; ends(rt.alloc(), &trace, 0, TRACE.as_bytes(), b""));
+    assert!(rt; ends(rt.alloc(), &trace, 0, TRACE.as_bytes(), b"")?);
     let input = joined(rt.alloc(), &[SCRIPT, "trace\n", TRACE])?;
     let log = joined(rt.alloc(), &[SENDS, "0 1 unsent 1\nend 100\n"])?;
-    assert!(rt; ends_as(rt.alloc(), &["retrace"], input.as_str(), 0, log.as_str()));
+    assert!(rt; ends_as(rt.alloc(), &["retrace"], input.as_str(), 0, log.as_str())?);
     let closed = joined(rt.alloc(), &[SCRIPT, "trace\n! 0\n"])?;
     let retrace = Trial {
         words: &["retrace"],
         input: closed.as_bytes(),
         ..FREELY
     };
-    assert!(rt; ends(rt.alloc(), &retrace, 5, b"", b"wire failed\n"));
+    assert!(rt; ends(rt.alloc(), &retrace, 5, b"", b"wire failed\n")?);
     Ok(())
 }
 
@@ -490,7 +500,7 @@ fn calls_are_made(rt: HostRuntime) -> Result<(), Fail> {
             input.as_str(),
             *status,
             text.as_str(),
-        );
+        )?;
         assert!(rt; ends, "after {more:?}");
     }
     Ok(())

@@ -1,5 +1,5 @@
 -- WHAT A TRIAL RUNS, and what a run of it leaves.
-use Rattle.std.specs.Prelude.{ℕ, ◌≡◌, false, List, [], map, Option, Some, None}
+use Rattle.std.specs.Prelude.{ℕ, ◌≡◌, false, List, [], map, Option, Some, None, string_bytes}
 use Rattle.std.specs.Borrow.{Bor}
 use Rattle.dt_edges.specs.Clocks.{ClockInMemory, ClockSight, clock_in_memory}
 use Rattle.dt_edges.specs.Sinks.{SinkInMemory, sink_in_memory}
@@ -11,8 +11,11 @@ use Rattle.dt_top.specs.Runs.{Run}
 use Rattle.dt_top.specs.Streams.{effects}
 use Rattle.dt_top.specs.Words.{without_mark}
 use Rattle.dt_top.specs.declared.command.Command.{Command}
-use Rattle.dt_trial.specs.declared.trials.Left.{Left}
+use Rattle.dt_trial.specs.declared.left.Left.{Left}
+use Rattle.dt_trial.specs.declared.start.Start.{Start}
 use Rattle.dt_trial.specs.declared.trials.Trial.{Trial}
+use Rattle.dt_trial.specs.declared.untried.Untried.{Untried}
+use Rattle.dt_trial.specs.declared.untried.Untried.TheVariants.{NoMemory, NoReading}
 
 -- WHAT IS RUN
 
@@ -29,16 +32,19 @@ wire_of trial = fresh_wire (record { entries = map entry_of trial.takes.now; fai
 abbrev pub empty_sink : ℕ → SinkInMemory
 empty_sink room = record { held = []; room = room; failing = []; calls = 0; faults = 0 }
 
--- what a run of the program begins with, beside the wire
-pub record Start : Type 0 where
+-- what contracts see of what a run of the program begins with, beside the wire
+pub record StartSeen : Type 0 where
   pub words : List (List ℕ)
   pub source : SourceInMemory
   pub clock : ClockInMemory
   pub out : SinkInMemory
   pub err : SinkInMemory
 
--- that of a trial: nothing was read of the input and of the clock, and nothing was written
-abbrev pub start_of : Trial → Start
+abbrev pub start_seen : Start → StartSeen
+start_seen start = record { words = map string_bytes start.words.items; source = start.source; clock = start.clock; out = start.out; err = start.err }
+
+-- that of a trial: nothing was read of the input and of the clock, and nothing was written. What is said of a run tells nothing of the room of its sinks but what they hold, so that each has the room of the trial is seen here alone.
+abbrev pub start_of : Trial → StartSeen
 start_of trial = record {
   words = map (λ word. word.now) trial.words.now;
   source = record { left = trial.input.now; failing = trial.failing_reads.now; calls = 0; faults = 0 };
@@ -54,7 +60,7 @@ abbrev pub command_in : List (List ℕ) → Option Command
 command_in words = named (without_mark words)
 
 -- one run of the program that begins so: what it left, and the source and the clock after it
-abbrev pub run_from : Start → WireInMemory → WireInMemory → Left → SourceSight → ClockSight → Run
+abbrev pub run_from : StartSeen → WireInMemory → WireInMemory → Left → SourceSight → ClockSight → Run
 run_from start wire wire_after left source_after clock_after = record {
   command = command_in start.words;
   status = left.status;
@@ -67,12 +73,16 @@ run_from start wire wire_after left source_after clock_after = record {
   err_after = sink_in_memory left.err;
 }
 
--- The program ran the trial over this wire, and left that: all that is said of a run of it is true.
-pub record IsRun (trial : Trial) (wire wire_after : WireInMemory) (left : Left) : Type 0 where
+-- The program ran from this start over this wire, and left that: all that is said of a run of it is true.
+pub record IsRunFrom (start : StartSeen) (wire wire_after : WireInMemory) (left : Left) : Type 0 where
   pub source_after : SourceSight
   pub clock_after : ClockSight
-  pub answers : Answers (run_from (start_of trial) wire wire_after left source_after clock_after)
-  pub same_wire : uses_wire (command_in (start_of trial).words) ≡ false → wire_after ≡ wire
+  pub answers : Answers (run_from start wire wire_after left source_after clock_after)
+  pub same_wire : uses_wire (command_in start.words) ≡ false → wire_after ≡ wire
+
+-- It ran the trial over this wire, and left that.
+abbrev pub IsRun : Trial → WireInMemory → WireInMemory → Left → Type 0
+IsRun trial wire wire_after left = IsRunFrom (start_of trial) wire wire_after left
 
 -- It ran the trial over the trial's own wire, and left that.
 abbrev pub IsRunOf : Trial → Left → Type 0
@@ -83,3 +93,8 @@ pub record HasEnd (status : ℕ) (out said : List ℕ) (left : Left) : Type 0 wh
   pub status_is : left.status ≡ status
   pub out_is : left.out.held ≡ out
   pub said_is : left.err.held ≡ said
+
+-- why a trial isn't run: it has no reading, or there was no memory, though it has one
+abbrev pub Lacks : Untried → Trial → Type 0
+Lacks NoReading trial = trial.readings.now ≡ []
+Lacks NoMemory trial = trial.readings.now ≡ [] → ⊥

@@ -2,6 +2,11 @@
 //! it left.
 #![tactic(auto)]
 
+mod left;
+mod start;
 mod trials;
+mod untried;
 
-pub use trials::{FREELY, Left, Trial, ends, is_cut_at, is_left, tried, tried_over};
+pub use left::Left;
+pub use trials::{FREELY, Trial, ends, is_cut_short, tried, tried_over};
+pub use untried::Untried;

@@ -1,10 +1,13 @@
-ghost use Rattle.std.specs.Prelude.{◌≡◌, ◌↔◌, [], codes, map, take, false, IfNone, IfSome, IsNone, IsSomeAnd, IsTrue, string_bytes};
+ghost use Rattle.std.specs.Prelude.{◌≡◌, ◌↔◌, [], codes, take, IfErr, IfOk, IsErr, IsTrue, OnErr};
 ghost use Rattle.dt_trial.specs.Trials as trials;
-ghost use Rattle.dt_trial.specs.Trials.{HasEnd, IsRun, IsRunOf};
-ghost use Rattle.dt_trial.specs.declared.trials.Left.{Left};
+ghost use Rattle.dt_trial.specs.Trials.{HasEnd, IsRun, IsRunOf, Lacks};
+ghost use Rattle.dt_trial.specs.declared.left.Left.{Left};
 
-use dt_edges::{MemClock, MemSink, MemSource, MemWire};
-use dt_top::run;
+use crate::left::Left;
+use crate::start::Start;
+use crate::untried::Untried;
+use dt_edges::MemWire;
+use dt_items::NoMemory;
 use std::alloc::Global;
 
 /// What is run: the words without the program's name, the input, and what the clock and the wire give. The
@@ -41,17 +44,9 @@ pub const FREELY: Trial<'static> = Trial {
     failing_gives: &[],
 };
 
-/// What a run left: the status, and what the sinks hold.
-#[derive(Drop)]
-pub struct Left {
-    pub status: u8,
-    pub out: MemSink,
-    pub err: MemSink,
-}
-
-/// The wire of a trial, where there is memory for it.
-fn wire_of(alloc: Global, trial: &Trial<'_>) -> Option<MemWire>
-    ensures { IfSome result (λ wire. wire ≡ trials.wire_of trial.now) }
+/// The wire of a trial.
+fn wire_of(alloc: Global, trial: &Trial<'_>) -> Result<MemWire, NoMemory>
+    ensures { IfOk result (λ wire. wire ≡ trials.wire_of trial.now) }
 {
     let mut wire = MemWire::new(
         alloc,
@@ -59,116 +54,67 @@ fn wire_of(alloc: Global, trial: &Trial<'_>) -> Option<MemWire>
         trial.failing_takes,
         trial.failing_gives,
         None,
-    )
-    .ok()?;
+    )?;
     for take in trial.takes {
         match take {
-            Some(octets) => wire.add_take(1, octets).ok()?,
-            None => wire.add_nothing().ok()?,
+            Some(octets) => wire.add_take(1, octets)?,
+            None => wire.add_nothing()?,
         }
     }
-    Some(wire)
+    Ok(wire)
 }
 
-/// The words of a trial, where there is memory for them.
-fn words_of(alloc: Global, words: &[&str]) -> Option<Vec<String>>
-    ensures { IfSome result (λ made. map string_bytes made.items ≡ map (λ word. word.now) words.now) }
+/// Runs the trial over a wire in place of its own. After an error the wire is as it was. It costs what the
+/// program does, and the room of both sinks.
+pub fn tried_over(alloc: Global, trial: &Trial<'_>, wire: &mut MemWire) -> Result<Left, Untried>
+    ensures runs { IfOk result (λ left. IsRun trial.now wire.old wire.new left) }
+    ensures no_reading { trial.now.readings.now ≡ [] → IsErr result }
+    ensures untried { IfErr result (λ why. Lacks why trial.now) }
+    ensures unchanged { OnErr result (wire.new ≡ wire.old) }
 {
-    let mut made = Vec::new(alloc);
-    for word in words {
-        made.push(String::from_str(alloc, word).ok()?).ok()?;
+    if trial.readings.is_empty() {
+        return Err(Untried::NoReading);
     }
-    Some(made)
+    let start = Start::new(alloc, trial)?;
+    Ok(start.run(alloc, wire))
 }
 
-/// The clock of a trial, where there is a reading and memory for them.
-fn clock_of(alloc: Global, readings: &[u64]) -> Option<MemClock>
-    ensures clock { IfSome result (λ clock. clock ≡ record { plan = readings.now; taken = 0 }) }
-    ensures no_reading { readings.now ≡ [] → IsNone result }
+/// Runs the trial. It costs what the program does, and the room of both sinks.
+pub fn tried(alloc: Global, trial: &Trial<'_>) -> Result<Left, Untried>
+    ensures runs { IfOk result (λ left. IsRunOf trial.now left) }
+    ensures no_reading { trial.now.readings.now ≡ [] → IsErr result }
+    ensures untried { IfErr result (λ why. Lacks why trial.now) }
 {
-    if readings.is_empty() {
-        return None;
+    if trial.readings.is_empty() {
+        return Err(Untried::NoReading);
     }
-    MemClock::new(alloc, readings).ok()
-}
-
-/// The source of a trial, where there is memory for it.
-fn source_of(alloc: Global, trial: &Trial<'_>) -> Option<MemSource>
-    ensures { IfSome result (λ source. source ≡ record { left = trial.now.input.now; failing = trial.now.failing_reads.now; calls = 0; faults = 0 }) }
-{
-    MemSource::new(alloc, trial.input, trial.failing_reads).ok()
-}
-
-/// A sink that is empty, with this much room, where there is memory for it.
-fn sink_of(alloc: Global, room: usize) -> Option<MemSink>
-    ensures { IfSome result (λ sink. sink ≡ trials.empty_sink room) }
-{
-    MemSink::new(alloc, room, &[]).ok()
-}
-
-/// Runs the trial over a wire in place of its own. None where there is no memory for it, or no reading:
-/// then the wire is as it was. It costs what the program does, and the room of both sinks.
-pub fn tried_over(alloc: Global, trial: &Trial<'_>, wire: &mut MemWire) -> Option<Left>
-    ensures runs { IfSome result (λ left. IsRun trial.now wire.old wire.new left) }
-    ensures no_reading { trial.now.readings.now ≡ [] → IsNone result }
-    ensures unchanged { IfNone result (wire.new ≡ wire.old) }
-{
-    let words = words_of(alloc, trial.words)?;
-    let mut clock = clock_of(alloc, trial.readings)?;
-    let mut source = source_of(alloc, trial)?;
-    let mut out = sink_of(alloc, trial.out_room)?;
-    let mut err = sink_of(alloc, trial.err_room)?;
-    let status = run(
-        alloc,
-        &words,
-        &mut source,
-        &mut out,
-        &mut err,
-        wire,
-        &mut clock,
-    );
-    Some(Left { status, out, err })
-}
-
-/// Runs the trial. None where there is no memory for it, or no reading. It costs what the program does,
-/// and the room of both sinks.
-pub fn tried(alloc: Global, trial: &Trial<'_>) -> Option<Left>
-    ensures runs { IfSome result (λ left. IsRunOf trial.now left) }
-    ensures no_reading { trial.now.readings.now ≡ [] → IsNone result }
-{
     let mut wire = wire_of(alloc, trial)?;
     tried_over(alloc, trial, &mut wire)
 }
 
-/// Whether a run ended with this status, this output and this text on standard error.
-pub fn is_left(left: &Option<Left>, status: u8, out: &[u8], said: &[u8]) -> bool
-    ensures { IsTrue result ↔ IsSomeAnd left.now (HasEnd status out.now said.now) }
+/// Whether a run of the trial ends with this status, this output and this text on standard error.
+pub fn ends(
+    alloc: Global,
+    trial: &Trial<'_>,
+    status: u8,
+    out: &[u8],
+    said: &[u8],
+) -> Result<bool, Untried>
+    ensures ran { IfOk result (λ ended. (left : Left) × IsRunOf trial.now left × (IsTrue ended ↔ HasEnd status out.now said.now left)) }
+    ensures no_reading { trial.now.readings.now ≡ [] → IsErr result }
+    ensures untried { IfErr result (λ why. Lacks why trial.now) }
 {
-    match left {
-        Some(left) => {
-            left.status == status && left.out.as_slice() == out && left.err.as_slice() == said
-        }
-        None => false,
-    }
+    let left = tried(alloc, trial)?;
+    Ok(left.has(status, out, said))
 }
 
-/// Whether the trial ends so. It doesn't where there is no memory for it, or no reading.
-pub fn ends(alloc: Global, trial: &Trial<'_>, status: u8, out: &[u8], said: &[u8]) -> bool
-    ensures ended { IsTrue result → (left : Left) × IsRunOf trial.now left × HasEnd status out.now said.now left }
-    ensures no_reading { trial.now.readings.now ≡ [] → result ≡ false }
+/// Whether a run of the trial ends for want of room on standard output, where it leaves as much of its whole
+/// output as there is room for.
+pub fn is_cut_short(alloc: Global, trial: &Trial<'_>, whole: &[u8]) -> Result<bool, Untried>
+    ensures ran { IfOk result (λ cut. (left : Left) × IsRunOf trial.now left × (IsTrue cut ↔ HasEnd 8 (take trial.now.out_room whole.now) (codes "write failed\n") left)) }
+    ensures no_reading { trial.now.readings.now ≡ [] → IsErr result }
+    ensures untried { IfErr result (λ why. Lacks why trial.now) }
 {
-    is_left(&tried(alloc, trial), status, out, said)
-}
-
-/// Whether the trial, with room for this many octets of its output alone, ends for want of room with that
-/// much of its whole output.
-pub fn is_cut_at(alloc: Global, trial: &Trial<'_>, whole: &[u8], room: usize) -> bool
-    ensures { IsTrue result → (left : Left) × IsRunOf (record trial.now { out_room = room }) left × HasEnd 8 (take room whole.now) (codes "write failed\n") left }
-{
-    let cut = Trial {
-        out_room: room,
-        ..*trial
-    };
-    let part = whole.get(..room).unwrap_or(whole);
-    ends(alloc, &cut, 8, part, b"write failed\n")
+    let part = whole.get(..trial.out_room).unwrap_or(whole);
+    ends(alloc, trial, 8, part, b"write failed\n")
 }
