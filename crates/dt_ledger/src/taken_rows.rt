@@ -32,6 +32,9 @@ impl Model for TakenRows {
     ghost invariant = { λ t. AreBeside t.counts t.progress t.rows.items };
 }
 
+/// For how many rows the first octets make room at least.
+const FIRST_ROWS: usize = 64;
+
 /// Appends a row for each octet. There is room for them.
 fn append(rows: &mut Vec<TakenRow>, life: u32, octets: &[u8], begin: bool, end: bool)
     requires { vec_len rows.old + length octets.now ≤ vec_capacity rows.old }
@@ -176,7 +179,9 @@ impl TakenRows {
         ensures ok { OnOk result (self.new ≡ take_rows life (marked octets.now begin end false) self.old) }
         ensures err { OnErr result (self.new ≡ self.old) }
     {
-        self.rows.reserve(octets.len())?;
+        // Rows that come one message after another grow less often.
+        let least = if self.rows.is_empty() { FIRST_ROWS } else { 0 };
+        self.rows.reserve(octets.len().max(least))?;
         self.progress.begin(life, self.rows.len());
         self.counts.unsettled += octets.len() as u64;
         append(&mut self.rows, life, octets, begin, end);

@@ -62,3 +62,27 @@ same_place None None h = refl
 same_place None (Some b) h = absurd cc
 same_place (Some a) None h = absurd cc
 same_place (Some a) (Some b) h = ap (λ (d : Deadline). Some d) (same_deadline a b (sym h))
+
+-- IN EITHER ORDER the sooner of two is the same
+not_back : (d e : Deadline) → goes_first e d ≡ true → goes_first d e ≡ false
+not_back d e h = grind (arith, nat_tests)
+
+neither : (d e : Deadline) → IsNoLater d e → IsNoLater e d → d ≡ e
+neither d e h k =
+    let moment : d.moment ≡ e.moment = grind arith in
+    let place : d.place ≡ e.place = grind arith in
+    ap (λ (m : ℕ). record d { moment = m }) moment ∙ ap (λ (n : ℕ). record e { place = n }) place
+
+pub either_way : (a b : Option Deadline) → sooner_of a b ≡ sooner_of b a
+either_way None None = refl
+either_way None (Some e) = refl
+either_way (Some d) None = refl
+either_way (Some d) (Some e) =
+    elim (cases_Bool (goes_first e d)) [
+      | inl y ↦ rw (y, not_back d e y) refl
+      | inr n ↦
+          elim (cases_Bool (goes_first d e)) [
+            | inl z ↦ rw (n, z) refl
+            | inr z ↦ rw (n, z) (ap (λ (x : Deadline). Some x) (neither d e (no_later d e n) (no_later e d z)))
+          ]
+    ]

@@ -1,11 +1,11 @@
 -- Nodes that are played again one after another, and the soonest of all places.
-use Rattle.std.proofs.Common.{ℕ, zero, suc, ◌≡◌, ◌≢◌, ◌+◌, ◌/◌, ◌<◌, ◌≤◌, ◌⊎◌, inl, inr, List, length, get_or, set, slice_index_or, ◌*◌, drop, Option, None, sym, ap, subst, ◌∙◌, arith, ◌-◌, length-drop, get_or-set_same, get_or-set_other}
+use Rattle.std.proofs.Common.{ℕ, zero, suc, ◌≡◌, ◌≢◌, ◌+◌, ◌/◌, ◌<◌, ◌≤◌, ◌⊎◌, inl, inr, List, [], ◌∷◌, refl, length, get_or, set, slice_index_or, ◌*◌, drop, Option, None, sym, ap, subst, ◌∙◌, arith, ◌-◌, length-drop, get_or-set_same, get_or-set_other}
 use Rattle.std.proofs.lemmas.List.{drop-set-add, ext_get_or, get_or-drop, get_or_default, get_or_past, length-set}
 use Rattle.std.proofs.lemmas.Bool.{cases_eq, cases_lt}
 use Rattle.dt_timers.specs.declared.deadline.Deadline.{Deadline}
 use Rattle.dt_timers.specs.Order.{IsBy, sooner_of}
 use Rattle.dt_timers.specs.Tournaments.{ArePlayed, ArePlayedBut, IsSoonestOf, node}
-use Rattle.dt_timers.proofs.Order.{by_first, by_itself, by_second, by_then, is_one}
+use Rattle.dt_timers.proofs.Order.{by_first, by_itself, by_second, by_then, either_way, is_one}
 
 half_even : (at k : ℕ) → k + k ≡ at → k ≡ at / 2
 half_even at k e = omega arith
@@ -31,6 +31,33 @@ winner_is nodes at a b w within one other won =
     ∙ ap (λ (d : Option Deadline). sooner_of d b) (read nodes (2 * at) a one (omega arith))
     ∙ ap (λ (d : Option Deadline). sooner_of (node nodes (2 * at)) d) (read nodes (2 * at + 1) b other (omega arith))
     ∙ ap (λ (n : ℕ). sooner_of (node nodes n) (node nodes (n + 1))) twice
+
+pub rival_there : (at rival half : ℕ) → (at ≡ at / 2 + at / 2 → rival ≡ at + 1) → (at ≡ at / 2 + at / 2 + 1 → rival + 1 ≡ at) → at < half + half → rival < half + half
+rival_there at rival half even odd within =
+    elim (even_or_odd at) [
+      | inl e ↦ let next = even e in omega arith
+      | inr o ↦ let back = odd o in omega arith
+    ]
+
+-- A NODE AND THE ONE THAT IT IS PLAYED AGAINST are the two below one node
+pub beats : (nodes : List (Option Deadline)) (at rival : ℕ) (own other w : Option Deadline) → rival < length nodes → (at ≡ at / 2 + at / 2 → rival ≡ at + 1) → (at ≡ at / 2 + at / 2 + 1 → rival + 1 ≡ at) → own ≡ node nodes at → other ≡ slice_index_or nodes rival other → w ≡ sooner_of own other → w ≡ sooner_of (node nodes (at / 2 + at / 2)) (node nodes (at / 2 + at / 2 + 1))
+beats nodes at rival own other w within even odd mine is won =
+    let both : w ≡ sooner_of (node nodes at) (node nodes rival) =
+    won ∙ ap (λ (d : Option Deadline). sooner_of d other) mine ∙ ap (λ (d : Option Deadline). sooner_of (node nodes at) d) (read nodes rival other is within) in
+    elim (even_or_odd at) [
+      | inl e ↦
+          let next : rival ≡ at / 2 + at / 2 + 1 = even e ∙ ap (λ (n : ℕ). n + 1) e in
+          both
+          ∙ ap (λ (n : ℕ). sooner_of (node nodes n) (node nodes rival)) e
+          ∙ ap (λ (n : ℕ). sooner_of (node nodes (at / 2 + at / 2)) (node nodes n)) next
+      | inr o ↦
+          let back = odd o in
+          let before : rival ≡ at / 2 + at / 2 = omega arith in
+          both
+          ∙ either_way (node nodes at) (node nodes rival)
+          ∙ ap (λ (n : ℕ). sooner_of (node nodes n) (node nodes at)) before
+          ∙ ap (λ (n : ℕ). sooner_of (node nodes (at / 2 + at / 2)) (node nodes n)) o
+    ]
 
 -- TWICE AS MANY PLACES: nodes are added, the places are copied to where the new ones begin, and what is before them is played anew
 pub doubled : (half room : ℕ) (old more copied after : List (Option Deadline)) → length old ≡ half + half → half + half ≤ room → length more ≡ room + room
@@ -188,3 +215,9 @@ module _ (nodes : List (Option Deadline)) where
           let size : length (set nodes (half + place) d) ≡ length nodes = length-set nodes (half + place) d in
           let far : length (set nodes (half + place) d) ≤ (half + i) + (half + i) = omega arith in
           get_or-drop half after i None ∙ same (half + i) far ∙ sym (get_or-drop half (set nodes (half + place) d) i None)
+
+-- A place that has a deadline already is written with it.
+pub set_again : (places : List (Option Deadline)) (i : ℕ) (d : Option Deadline) → node places i ≡ d → set places i d ≡ places
+set_again [] i d e = refl
+set_again (c ∷ cs) zero d e = ap (λ (x : Option Deadline). x ∷ cs) (sym e)
+set_again (c ∷ cs) (suc i) d e = ap (λ (xs : List (Option Deadline)). c ∷ xs) (set_again cs i d e)

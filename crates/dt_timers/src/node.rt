@@ -6,36 +6,37 @@ use crate::deadline::Deadline;
 use std::marker::Model;
 use std::mem::size_of;
 
+/// What stands for the moment and for the place where there is no deadline. So it comes after all others,
+/// with no test for itself.
+const GREATEST: u64 = u64::MAX;
+
 /// A deadline or none. A contract sees the deadline.
 #[derive(Clone, Copy)]
 pub struct Node {
     moment: u64,
-    place: u32,
-    /// There is a deadline.
-    taken: bool,
+    place: u64,
 }
 
 // A table has two for each place.
 const _: () = prove!(size_of::<Node>() == 16);
 
 impl Model for Node {
-    ghost use Rattle.std.specs.Prelude.{ℕ, Bool, ◌≡◌, false, Option, is_some};
+    ghost use Rattle.std.specs.Prelude.{ℕ, ◌≡◌, Option};
     ghost use Rattle.std.proofs.Common.{ap, ◌∙◌};
     ghost use Rattle.dt_timers.specs.declared.deadline.Deadline.{Deadline};
-    ghost use Rattle.dt_timers.specs.Nodes.{deadline_seen, moment_back, moment_kept, place_back, place_kept, taken_back};
+    ghost use Rattle.dt_timers.specs.Nodes.{deadline_seen, greatest, moment_back, moment_kept, place_back, place_kept};
 
     ghost Value = { Option Deadline };
 
-    ghost view = { λ n. deadline_seen n.taken n.moment n.place };
+    ghost view = { λ n. deadline_seen n.moment n.place };
 
-    ghost invariant = { λ n. n.taken ≡ false → (n.moment ≡ 0) × (n.place ≡ 0) };
+    ghost invariant = { λ n. n.place ≡ greatest → n.moment ≡ greatest };
 
-    ghost inverse = { λ d. record { moment = moment_kept d; place = place_kept d; taken = is_some d } };
+    ghost inverse = { λ d. record { moment = moment_kept d; place = place_kept d } };
 
     ghost inverse_ok = { λ n h.
-        ap (λ (m : ℕ). record { moment = m; place = place_kept (deadline_seen n.taken n.moment n.place); taken = is_some (deadline_seen n.taken n.moment n.place) }) (moment_back n.taken n.moment n.place h)
-        ∙ ap (λ (p : ℕ). record { moment = n.moment; place = p; taken = is_some (deadline_seen n.taken n.moment n.place) }) (place_back n.taken n.moment n.place h)
-        ∙ ap (λ (t : Bool). record { moment = n.moment; place = n.place; taken = t }) (taken_back n.taken n.moment n.place) };
+        ap (λ (m : ℕ). record { moment = m; place = place_kept (deadline_seen n.moment n.place) }) (moment_back n.moment n.place h)
+        ∙ ap (λ (p : ℕ). record { moment = n.moment; place = p }) (place_back n.moment n.place) };
 }
 
 impl Node {
@@ -44,9 +45,8 @@ impl Node {
         ensures { result ≡ None }
     {
         Node {
-            moment: 0,
-            place: 0,
-            taken: false,
+            moment: GREATEST,
+            place: GREATEST,
         }
     }
 
@@ -58,8 +58,7 @@ impl Node {
         match moment {
             Some(moment) => Node {
                 moment,
-                place: place as u32,
-                taken: true,
+                place: place as u64,
             },
             None => Node::none(),
         }
@@ -69,13 +68,13 @@ impl Node {
     pub fn deadline(&self) -> Option<Deadline>
         ensures { result ≡ self.now }
     {
-        if self.taken {
+        if self.place == GREATEST {
+            None
+        } else {
             Some(Deadline {
                 moment: self.moment,
                 place: self.place as usize,
             })
-        } else {
-            None
         }
     }
 
@@ -83,7 +82,7 @@ impl Node {
     pub fn is(&self, other: &Node) -> bool
         ensures { IsTrue result → self.now ≡ other.now }
     {
-        self.taken == other.taken && self.moment == other.moment && self.place == other.place
+        self.moment == other.moment && self.place == other.place
     }
 
     /// Whether it comes before another deadline: its moment is less, or its place where the moments are
@@ -91,10 +90,7 @@ impl Node {
     fn goes_before(&self, other: &Node) -> bool
         ensures { result ≡ goes_before self.now other.now }
     {
-        self.taken
-            && (!other.taken
-                || self.moment < other.moment
-                || (self.moment == other.moment && self.place < other.place))
+        self.moment < other.moment || (self.moment == other.moment && self.place < other.place)
     }
 }
 

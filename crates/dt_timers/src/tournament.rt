@@ -1,5 +1,5 @@
 //! The soonest of many deadlines, by a tournament.
-ghost use Rattle.std.specs.Prelude.{ℕ, ◌≡◌, ◌+◌, ◌<◌, ◌≤◌, ◌/◌, [], length, set, OnErr, OnOk};
+ghost use Rattle.std.specs.Prelude.{ℕ, ◌≡◌, ◌+◌, ◌<◌, ◌≤◌, ◌^◌, ◌/◌, [], length, set, OnErr, OnOk};
 ghost use Rattle.dt_timers.specs.Tournaments.{ArePlayed, ArePlayedBut, IsSoonestOf, deadline_in, node};
 
 use crate::deadline::Deadline;
@@ -77,7 +77,11 @@ impl Tournament {
         ensures { self.new ≡ set self.old place (deadline_in place moment) }
     {
         let leaf = self.room + place;
-        self.nodes[leaf] = Node::of(place, moment);
+        let placed = Node::of(place, moment);
+        if self.nodes[leaf].is(&placed) {
+            return;
+        }
+        self.nodes[leaf] = placed;
         play_from(&mut self.nodes, leaf);
     }
 
@@ -114,6 +118,16 @@ fn play_all(nodes: &mut [Node])
     }
 }
 
+/// The node that is played against another one.
+fn rival(at: usize) -> usize
+    requires some { 2 ≤ at }
+    requires within { at < 2 ^ 63 }
+    ensures even { at ≡ at / 2 + at / 2 → result ≡ at + 1 }
+    ensures odd { at ≡ at / 2 + at / 2 + 1 → result + 1 ≡ at }
+{
+    if at % 2 == 0 { at + 1 } else { at - 1 }
+}
+
 /// Plays again the nodes above one whose deadline changed, up to the first that stays as it was: those
 /// above it stay too.
 fn play_from(nodes: &mut [Node], leaf: usize)
@@ -125,9 +139,11 @@ fn play_from(nodes: &mut [Node], leaf: usize)
     ensures places { (k : ℕ) → length nodes.old ≤ k + k → node nodes.new k ≡ node nodes.old k }
 {
     let mut at = leaf;
+    // That of the node at hand, which isn't read again.
+    let mut winner = nodes[leaf];
     while at > 1 {
+        winner = sooner(&winner, &nodes[rival(at)]);
         at /= 2;
-        let winner = sooner(&nodes[2 * at], &nodes[2 * at + 1]);
         if nodes[at].is(&winner) {
             return;
         }

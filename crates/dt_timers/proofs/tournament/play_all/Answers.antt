@@ -1,8 +1,6 @@
-use Rattle.std.proofs.Common.{ℕ, ◌≡◌, ◌+◌, ◌<◌, ◌≤◌, ◌*◌, ◌-◌, length, set, Option, ap, subst, sym, ◌∙◌, arith}
+use Rattle.std.proofs.Common.{ℕ, ◌≡◌, ◌+◌, ◌<◌, ◌≤◌, ◌-◌, length, set, Option, subst, sym, ◌∙◌, arith}
 use Rattle.std.proofs.lemmas.List.{length-set}
 use Rattle.dt_timers.specs.declared.deadline.Deadline.{Deadline}
-use Rattle.dt_timers.specs.Order.{sooner_of}
-use Rattle.dt_timers.specs.Tournaments.{node}
 use Rattle.dt_timers.proofs.Tournaments.{ArePlayedFrom, one_before, stays, winner_is}
 use Rattle.dt_timers.proofs.tournament.play_all.Goals as goal
 

@@ -1,4 +1,4 @@
-use Rattle.std.proofs.Common.{ℕ, ◌≡◌, List, Option, ap, ◌∙◌}
+use Rattle.std.proofs.Common.{ℕ, List, Option, ap, ◌∙◌}
 use Rattle.dt_timers.specs.Deadlines.{moment_at}
 use Rattle.dt_timers.proofs.Places.{same_moments}
 use Rattle.dt_timers.proofs.deadlines.Deadlines.hold.Goals as goal

@@ -1,6 +1,5 @@
 use Rattle.std.proofs.Common.{ℕ, ◌<◌, List, Option, length, set, sym, ap, subst, ◌∙◌, arith}
 use Rattle.std.proofs.lemmas.List.{length-map}
-use Rattle.dt_timers.specs.declared.deadline.Deadline.{Deadline}
 use Rattle.dt_timers.specs.Deadlines.{StandInPlace, moment_of}
 use Rattle.dt_timers.proofs.Places.{moments, stand, wrote}
 use Rattle.dt_timers.proofs.deadlines.Deadlines.set.Goals as goal
