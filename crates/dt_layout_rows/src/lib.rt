@@ -5,6 +5,8 @@
 #[cfg(test)]
 mod frames;
 #[cfg(test)]
+mod gram_octets;
+#[cfg(test)]
 mod limits;
 #[cfg(test)]
 mod octets;

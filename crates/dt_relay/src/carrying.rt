@@ -1,8 +1,7 @@
 ghost use Rattle.std.specs.Prelude.{◌≡◌, ℕ, ◌<◌, List};
-ghost use Rattle.dt_layout.specs.Spelling.{gram_of};
-ghost use Rattle.dt_layout.specs.Carried.{IsGram, Shows, life_of, lowered, to_of};
+ghost use Rattle.dt_layout.specs.Carried.{IsGram, life_of, lowered, to_of};
 
-use dt_layout::{Deltagram, Frame, read_deltagram};
+use dt_layout::Frame;
 
 /// A kind of packets: a frame, and what is written on it for those who handle it, its tag. A contract
 /// sees of a packet its octets and its label, which is the tag.
@@ -56,11 +55,11 @@ impl Carry for Frame {
     ghost label = { λ _. tt };
 
     fn life(&self) -> u32 {
-        shown(self).life
+        self.as_gram().life()
     }
 
     fn to(&self) -> u32 {
-        shown(self).to
+        self.as_gram().to()
     }
 
     fn lower(&mut self, by: u32) {
@@ -76,15 +75,4 @@ impl Carry for Frame {
     }
 
     fn into_tag(self) {}
-}
-
-// The Deltagram that the octets spell. Its cost doesn't depend on the body.
-fn shown(frame: &Frame) -> Deltagram<'_>
-    requires { IsGram frame.now }
-    ensures { Shows frame.now (gram_of result) }
-{
-    match read_deltagram(frame.as_slice()) {
-        Ok(gram) => gram,
-        Err(_) => unreachable!(),
-    }
 }

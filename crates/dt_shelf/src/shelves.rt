@@ -1,13 +1,13 @@
 ghost use Rattle.std.specs.Prelude.{◌≡◌, ◌≤◌, ◌<◌, ◌↔◌, IfOk, IfSome, IsTrue, length};
 ghost use Rattle.std.specs.List.{position};
-ghost use Rattle.dt_layout.specs.Carried.{IsGram, life_of};
+ghost use Rattle.dt_layout.specs.Carried.{IsGram};
 ghost use Rattle.dt_flow_model.specs.Keeping.{most_moment};
 ghost use Rattle.dt_shelf.specs.Shelves.{IfAgain, IsShelfUpTo, empty_shelf, held_packet, hold, is_of, take_held};
 
 use crate::held::Held;
 use crate::taken::Taken;
 use dt_items::NoMemory;
-use dt_layout::{Frame, read_deltagram};
+use dt_layout::Frame;
 use dt_units::Flow;
 use std::alloc::Global;
 use std::marker::Model;
@@ -85,7 +85,7 @@ impl Shelf {
             ..
         } = self.held.remove(place);
         let charge = now - since + 1;
-        if u64::from(life(&frame)) <= charge {
+        if u64::from(frame.as_gram().life()) <= charge {
             return Some(Taken::Stale);
         }
         frame.lower(charge as u32);
@@ -105,15 +105,4 @@ fn is_of(held: &Held, flow: &Flow, number: u32) -> bool
     ensures { result ≡ is_of flow.now number held.now }
 {
     held.flow == *flow && held.number == number
-}
-
-/// The life that a frame has, in ms.
-fn life(frame: &Frame) -> u32
-    requires { IsGram frame.now }
-    ensures { result ≡ life_of frame.now }
-{
-    match read_deltagram(frame.as_slice()) {
-        Ok(gram) => gram.life,
-        Err(_) => unreachable!(),
-    }
 }

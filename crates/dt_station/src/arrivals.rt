@@ -1,6 +1,6 @@
 ghost use Rattle.std.specs.Prelude.{◌≡◌, ◌==◌, Ok};
 ghost use Rattle.dt_layout.specs.Carried.{IsGram, to_of};
-ghost use Rattle.dt_layout.specs.Reading.{gram_in, packet_read};
+ghost use Rattle.dt_layout.specs.Reading.{packet_read};
 ghost use Rattle.dt_layout.specs.Spelling.{KeepsRules, gram_of, packet_of};
 ghost use Rattle.dt_world_model.specs.Host.{IsCurrentHost};
 ghost use Rattle.dt_world_model.specs.Relay.{admit};
@@ -15,7 +15,7 @@ use crate::visitor::Visitor;
 use dt_flow_model::Arrived;
 use dt_host::flow_of_packet;
 use dt_items::NoMemory;
-use dt_layout::{Deltagram, Frame, Packet, read_deltagram, read_packet};
+use dt_layout::{Deltagram, Frame, Packet, read_packet};
 use dt_relay::Carry;
 use dt_reports::Report;
 use dt_units::{NodeId, Steps};
@@ -67,7 +67,7 @@ impl<P: Carry> Station<P> {
         if Carry::to(frame) != self.host.me().0 {
             return pass_on(&mut *self.relay, frame, tag, self.latest, visitor);
         }
-        self.deliver(&gram_in(frame), steps, visitor)
+        self.deliver(&frame.as_gram().deltagram(), steps, visitor)
     }
 
     /// A packet for this node is read and given to the host, and its reply goes off. Octets that don't
@@ -121,16 +121,5 @@ impl<P: Carry> Station<P> {
             );
         }
         Ok(())
-    }
-}
-
-/// The Deltagram that a frame spells.
-fn gram_in(frame: &Frame) -> Deltagram<'_>
-    requires { IsGram frame.now }
-    ensures { gram_of result ≡ gram_in frame.now }
-{
-    match read_deltagram(frame.as_slice()) {
-        Ok(gram) => gram,
-        Err(_) => unreachable!(),
     }
 }

@@ -1,10 +1,9 @@
 //! Frames that go out on a link: those that came for other nodes, and those that the host made.
 ghost use Rattle.std.specs.Prelude.{◌≡◌, All, Some};
 ghost use Rattle.dt_layout.specs.Carried.{IsGram};
-ghost use Rattle.dt_relay.specs.Carrying.{parcel_seen};
 ghost use Rattle.dt_world_model.specs.Relay.{IsOutUpTo, with_outs};
 ghost use Rattle.dt_world_model.specs.Script.{Concludes};
-ghost use Rattle.dt_world_model.specs.Station.{pass_on, send_off, station_with};
+ghost use Rattle.dt_world_model.specs.Station.{flush_entered, pass_on, send_off, station_with};
 
 use crate::flushing::flush_link;
 use crate::visitor::Visitor;
@@ -71,23 +70,23 @@ fn wait<P: Carry, V: Visitor<P>>(
     ensures others { relay.new ≡ with_outs relay.old relay.new.outs }
     ensures past { All (IsOutUpTo now.ms) relay.new.outs }
 {
-    line_up(relay, P::make(frame, tag), now, visitor)
+    let entered = relay.enter(P::make(frame, tag), now.ms);
+    flush_entered(relay, entered, now, visitor)
 }
 
-/// A packet enters the relay, and its link is flushed. One that doesn't enter is reported.
-fn line_up<P: Carry, V: Visitor<P>>(
+/// The link is flushed that a packet has entered. One that hasn't entered is reported.
+fn flush_entered<P: Carry, V: Visitor<P>>(
     relay: &mut Relay<P>,
-    packet: P,
+    entered: Entered,
     now: Reading,
     visitor: &mut V,
 ) -> Result<(), NoMemory>
-    requires gram { IsGram (P.octets packet) }
     requires past { All (IsOutUpTo now.ms) relay.old.outs }
-    ensures ends { Concludes V.tells (V.tags now.ms) V.hands V.fails result (pass_on (parcel_seen P.octets P.label packet) now.ms relay.old) visitor.old visitor.new relay.new }
+    ensures ends { Concludes V.tells (V.tags now.ms) V.hands V.fails result (flush_entered now.ms (entered, relay.old)) visitor.old visitor.new relay.new }
     ensures others { relay.new ≡ with_outs relay.old relay.new.outs }
     ensures past { All (IsOutUpTo now.ms) relay.new.outs }
 {
-    match relay.enter(packet, now.ms) {
+    match entered {
         Entered::Queued { link } => flush_link(relay, link, now, visitor),
         Entered::NoRoute { to } => {
             visitor.tell(&Report::NoRoute { to });

@@ -1,4 +1,5 @@
 use Rattle.std.proofs.Common.{rules, ◌≡◌, ◌∙◌, ap, sym, arith, refl}
+use Rattle.dt_layout.specs.Carried.{life_of}
 use Rattle.dt_shelf.specs.Shelves.{Shelf}
 use Rattle.dt_shelf.proofs.Picking.{is_again, is_stale, left_by, nowhere, took}
 use Rattle.dt_shelf.proofs.shelves.Shelf.take.Goals as goal
@@ -15,7 +16,7 @@ returns-then-from-charge-clause-taken c =
     let at = sym c.place.ensures ∙ c.in_ok-place.was in
     let held : c.self.inside.held.items ≡ c.args.self.now.held = ap (λ (s : Shelf). s.held) c.self.view_is in
     took flow c.args.number c.args.now c.args.self.now.held c.in_ok-place.place c.remove-link.result _ at (rw (sym held) c.remove-link.ensures.value)
-    (is_stale flow c.args.number c.args.now c.remove-link.result (omega (arith, c.if-from-charge.true, c.from.ensures, c.life.ensures)))
+    (is_stale flow c.args.number c.args.now c.remove-link.result (omega (arith, c.if-from-charge.true, c.from.ensures, c.life.ensures ∙ ap life_of c.as_gram.ensures.same)))
 
 pub returns-then-from-charge-clause-left : goal.returns-then-from-charge-clause-left
 returns-then-from-charge-clause-left c =
@@ -28,7 +29,7 @@ returns-clause-taken c =
     let at = sym c.place.ensures ∙ c.in_ok-place.was in
     let held : c.self.inside.held.items ≡ c.args.self.now.held = ap (λ (s : Shelf). s.held) c.self.view_is in
     took flow c.args.number c.args.now c.args.self.now.held c.in_ok-place.place c.remove-link.result _ at (rw (sym held) c.remove-link.ensures.value)
-    (rw (c.lower.ensures.life_alone) (is_again flow c.args.number c.args.now c.remove-link.result (omega (arith, c.if-from-charge.false, c.from.ensures, c.life.ensures))))
+    (rw (c.lower.ensures.life_alone) (is_again flow c.args.number c.args.now c.remove-link.result (omega (arith, c.if-from-charge.false, c.from.ensures, c.life.ensures ∙ ap life_of c.as_gram.ensures.same))))
 
 pub returns-clause-left : goal.returns-clause-left
 returns-clause-left c =
