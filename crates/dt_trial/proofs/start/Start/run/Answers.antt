@@ -1,4 +1,4 @@
-use Rattle.std.proofs.Common.{rules, ◌≡◌, map, refl, string_bytes}
+use Rattle.std.proofs.Common.{rules, map, refl, string_bytes}
 use Rattle.dt_edges.specs.Clocks.{clock_in_memory}
 use Rattle.dt_edges.specs.Sources.{source_in_memory}
 use Rattle.dt_trial.specs.Trials.{StartSeen, start_seen}
