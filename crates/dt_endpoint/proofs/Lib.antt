@@ -1,7 +1,6 @@
 mod Collects
 mod Going
 mod Mute
-mod Heads
 mod Keeping
 pub mod Following
 pub mod Waited

@@ -2,7 +2,6 @@
 ghost use Rattle.std.specs.Prelude.{◌≡◌, ◌≤◌, [], IfOk, OnErr, OnOk, drop, false, option_map, option_to_list, ◌++◌};
 ghost use Rattle.dt_reports.specs.Told.{told};
 ghost use Rattle.dt_endpoint.specs.declared.noting.Heard.TheVariants.{Nothing};
-ghost use Rattle.dt_layout.specs.Carried.{IsGram};
 ghost use Rattle.dt_endpoint.specs.Acts.{plain};
 ghost use Rattle.dt_endpoint.specs.Collecting.{CollectFails, CollectHands, Same, begun, with_told};
 ghost use Rattle.dt_endpoint.specs.Counts.{counts_arrived, counts_refused, none_counted, with_flow};
@@ -15,7 +14,7 @@ use crate::noting::{Heard, heard_after, kept_report};
 use crate::totals::Totals;
 use dt_host::Host;
 use dt_items::NoMemory;
-use dt_layout::Frame;
+use dt_layout::{Frame, GramOctets};
 use dt_reports::Report;
 use dt_station::Visitor;
 use dt_units::Flow;
@@ -150,15 +149,14 @@ impl Collector {
     }
 
     /// Keeps a frame that leaves on a link.
-    fn keep(&mut self, link: u16, frame: &Frame) -> Result<(), NoMemory>
-        requires gram { IsGram frame.now }
-        ensures ok { OnOk result (CollectHands self.old link (plain frame.now) self.new) }
+    fn keep(&mut self, link: u16, gram: GramOctets<'_>) -> Result<(), NoMemory>
+        ensures ok { OnOk result (CollectHands self.old link (plain gram.entry.octets.now) self.new) }
         ensures err { OnErr result (CollectFails self.old self.new) }
     {
         if self.failed {
             return Err(NoMemory);
         }
-        let left = OutFrame::copy_of(self.alloc, link, frame)?;
+        let left = OutFrame::copy_of(self.alloc, link, gram)?;
         self.frames.push_back(left)?;
         self.counts.left = more(self.counts.left, 1);
         Ok(())
@@ -210,10 +208,10 @@ impl Visitor<Frame> for Collector {
     }
 
     fn out(&mut self, link: u16, packet: Frame) -> Result<(), NoMemory> {
-        self.keep(link, &packet)
+        self.keep(link, packet.as_gram())
     }
 
     fn out_at_once(&mut self, link: u16, frame: &Frame, _tag: ()) -> Result<(), NoMemory> {
-        self.keep(link, frame)
+        self.keep(link, frame.as_gram())
     }
 }

@@ -1,12 +1,13 @@
 //! A node without a socket, a clock or a thread: its calls, and what is pulled after them.
-ghost use Rattle.std.specs.Prelude.{ℕ, [], ◌≡◌, ◌+◌, ◌<◌, ◌≤◌, ◌++◌, false, IfNone, IfOk, OnOk, OnErr, is_some, drop, length, option_map, option_to_list, take};
+ghost use Rattle.std.specs.Prelude.{ℕ, [], ◌≡◌, ◌+◌, ◌<◌, ◌≤◌, ◌++◌, false, IfOk, OnOk, OnErr, is_some, drop, length, option_map, option_to_list, take};
+ghost use Rattle.std.specs.Result.{result_err};
 ghost use Rattle.dt_reports.specs.Told.{told};
 ghost use Rattle.dt_flow_model.specs.Keeping.{most_moment, octets_below};
 ghost use Rattle.dt_world_model.specs.Relay.{route_to};
 ghost use Rattle.dt_world_model.specs.Tables.{has_key, look, same_flow};
 ghost use Rattle.dt_station.specs.Events.{MayHappenHere, local_seen};
 ghost use Rattle.dt_endpoint.specs.declared.noting.Heard.TheVariants.{Nothing};
-ghost use Rattle.dt_layout.specs.Carried.{IsGram, life_of};
+ghost use Rattle.dt_layout.specs.Carried.{life_of};
 ghost use Rattle.dt_endpoint.specs.Calls.{AddsRoute, ArriveDoes, Arrives, arrive_event, arrive_refusal, Reads, Sends, Ticks, piece_by, sent_by};
 ghost use Rattle.dt_endpoint.specs.Endpoints.{EventEnds, capped, endpoint_wake, moment_of, opened, script_of, waiting_octets, with_followed};
 ghost use Rattle.dt_world_laws.specs.Counting.{octets_sent};
@@ -20,7 +21,7 @@ use crate::frames::OutFrame;
 use crate::links::{Links, has_link};
 use crate::noting::Heard;
 use dt_items::NoMemory;
-use dt_layout::{Frame, read_deltagram};
+use dt_layout::{Frame, GramOctets};
 use dt_reports::{Refusal, Report};
 use dt_station::{InLink, LocalEvent, Route, Station};
 use dt_units::{Flow, NodeId, Rules};
@@ -121,15 +122,14 @@ impl Endpoint {
         Ok(self.collector.heard())
     }
 
-    /// A datagram that reads as a Deltagram comes on a link, and has more life than it waited.
-    fn admit(&mut self, now: u64, link: u16, datagram: &[u8], waited: u32) -> Arrived
+    /// A datagram comes on a link, and has more life than it waited.
+    fn admit(&mut self, now: u64, link: u16, gram: GramOctets<'_>, waited: u32) -> Arrived
         requires unspent { self.old.spent ≡ false }
-        requires gram { IsGram datagram.now }
-        requires life { waited < life_of datagram.now }
-        ensures { ArriveDoes result now (arrive_event link datagram.now waited) self.old self.new }
+        requires life { waited < life_of gram.octets.now }
+        ensures { ArriveDoes result now (arrive_event link gram.entry.octets.now waited) self.old self.new }
     {
         let now = self.moment_at(now);
-        fill(&mut *self.slot, datagram);
+        gram.copy_into(&mut *self.slot);
         self.slot.lower(waited);
         self.latest = now;
         self.collector.count_arrival();
@@ -167,30 +167,37 @@ impl Endpoint {
     pub fn arrive(&mut self, now: u64, link: u16, datagram: &[u8], waited: u32) -> Arrived
         ensures { Arrives result now link datagram.now waited self.old self.new }
     {
-        if let Some(refusal) = self.refuses(link, datagram, waited) {
-            self.collector.count_refusal();
-            return refusal;
+        match self.check(link, datagram, waited) {
+            Err(refusal) => {
+                self.collector.count_refusal();
+                refusal
+            }
+            Ok(gram) => self.admit(now, link, gram, waited),
         }
-        self.admit(now, link, datagram, waited)
     }
 
-    /// Why a datagram is refused, or none where it comes.
-    fn refuses(&self, link: u16, datagram: &[u8], waited: u32) -> Option<Arrived>
-        ensures refusal { result ≡ arrive_refusal link datagram.now waited self.now }
-        ensures unspent { IfNone result (self.now.spent ≡ false) }
-        ensures gram { IfNone result (IsGram datagram.now) }
-        ensures life { IfNone result (waited < life_of datagram.now) }
+    /// A datagram that comes, or why it is refused.
+    fn check<'a>(
+        &self,
+        link: u16,
+        datagram: &'a [u8],
+        waited: u32,
+    ) -> Result<GramOctets<'a>, Arrived>
+        ensures refusal { result_err result ≡ arrive_refusal link datagram.now waited self.now }
+        ensures unspent { OnOk result (self.now.spent ≡ false) }
+        ensures same { IfOk result (λ gram. gram.octets.now ≡ datagram.now) }
+        ensures life { IfOk result (λ gram. waited < life_of gram.octets.now) }
     {
         if self.spent {
-            return Some(Arrived::Spent);
+            return Err(Arrived::Spent);
         }
         if !has_link(link, &self.ins) {
-            return Some(Arrived::NoLink);
+            return Err(Arrived::NoLink);
         }
-        match read_deltagram(datagram) {
-            Err(fault) => Some(Arrived::Bad { fault }),
-            Ok(gram) if gram.life <= waited => Some(Arrived::Stale),
-            Ok(_) => None,
+        match GramOctets::read(datagram) {
+            Err(fault) => Err(Arrived::Bad { fault }),
+            Ok(gram) if gram.life() <= waited => Err(Arrived::Stale),
+            Ok(gram) => Ok(gram),
         }
     }
 
@@ -404,14 +411,6 @@ impl Endpoint {
     {
         self.spent
     }
-}
-
-/// Makes the slot hold these octets, for which it has room.
-fn fill(slot: &mut Frame, octets: &[u8])
-    requires { length octets.now ≤ 8222 }
-    ensures { slot.new ≡ octets.now }
-{
-    slot.refill(octets);
 }
 
 /// The moment at which a node starts again, 2^62 at most.

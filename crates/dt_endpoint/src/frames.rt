@@ -1,10 +1,8 @@
 ghost use Rattle.std.specs.Prelude.{◌≡◌, IfOk};
-ghost use Rattle.dt_layout.specs.Carried.{IsGram};
 ghost use Rattle.dt_endpoint.specs.Acts.{out_frame};
 
 use dt_items::NoMemory;
-use dt_layout::Frame;
-use dt_relay::Carry;
+use dt_layout::GramOctets;
 use std::alloc::Global;
 use std::marker::Model;
 
@@ -25,15 +23,18 @@ impl Model for OutFrame {
 }
 
 impl OutFrame {
-    /// A copy of a frame, which must read as a Deltagram, or want of memory.
-    pub(crate) fn copy_of(alloc: Global, link: u16, frame: &Frame) -> Result<OutFrame, NoMemory>
-        requires gram { IsGram frame.now }
-        ensures { IfOk result (λ f. f ≡ out_frame link frame.now) }
+    /// A copy of the octets of a frame, or want of memory.
+    pub(crate) fn copy_of(
+        alloc: Global,
+        link: u16,
+        gram: GramOctets<'_>,
+    ) -> Result<OutFrame, NoMemory>
+        ensures { IfOk result (λ f. f ≡ out_frame link gram.entry.octets.now) }
     {
-        let octets = Vec::from_slice(alloc, frame.as_slice())?;
+        let octets = Vec::from_slice(alloc, gram.octets)?;
         Ok(OutFrame {
             link,
-            to: Carry::to(frame),
+            to: gram.to(),
             octets,
         })
     }

@@ -2,7 +2,6 @@
 ghost use Rattle.std.specs.Prelude.{◌≡◌, ◌==◌, ◌≢◌, ◌+◌, ◌<◌, ◌≤◌, OnErr, OnOk, [], length, None};
 ghost use Rattle.dt_units.specs.Flows.{IsFlow};
 ghost use Rattle.dt_layout.specs.declared.limits.TheConstants.{MOST_DATA};
-ghost use Rattle.dt_layout.specs.Carried.{IsGram};
 ghost use Rattle.dt_layout.specs.Reading.{gram_in};
 ghost use Rattle.dt_layout.specs.Spelling.{Carries};
 ghost use Rattle.dt_flow_model.specs.Frames.{value_in};
@@ -26,7 +25,7 @@ use crate::placed_stations::start_again;
 use crate::refusals::link_of;
 use crate::reporters::Lines;
 use dt_items::NoMemory;
-use dt_layout::{Frame, Packet, read_deltagram, read_packet};
+use dt_layout::{Frame, GramOctets, Packet, read_packet};
 use dt_reports::{LogLine, Report};
 use dt_units::Flow;
 
@@ -124,23 +123,18 @@ pub fn arrive<L: Lines>(
     let place = seen.place;
     let mark = Mark::new(seen.birth, place);
     let to = link_of(parts, link).to;
-    let brought = brought_by(frame, place, buf);
+    let brought = brought_by(frame.as_gram(), place, buf);
     let event = PlacedEvent::Arrive { link, frame, mark };
     event_at(parts, to, event, brought, lines)
 }
 
-/// What the packet in a frame brings: the octets of a data packet, which are copied into `room`.
-fn brought_by<'a>(frame: &Frame, place: u64, room: &'a mut [u8]) -> Brought<'a>
-    requires gram { IsGram frame.now }
-    requires carries { Carries (gram_in frame.now) (value_in frame.now) }
+/// What the packet in a Deltagram brings: the octets of a data packet, which are copied into `room`.
+fn brought_by<'a>(gram: GramOctets<'_>, place: u64, room: &'a mut [u8]) -> Brought<'a>
+    requires carries { Carries (gram_in gram.octets.now) (value_in gram.octets.now) }
     requires room { MOST_DATA ≤ length room.old }
-    ensures { BringsPacket frame.now place result }
+    ensures { BringsPacket gram.entry.octets.now place result }
 {
-    let gram = match read_deltagram(frame.as_slice()) {
-        Ok(gram) => gram,
-        Err(_) => unreachable!(),
-    };
-    match read_packet(&gram) {
+    match read_packet(&gram.deltagram()) {
         Ok(
             Packet::Data {
                 octets,

@@ -1,6 +1,5 @@
 //! The mark of a frame that a host made.
 ghost use Rattle.std.specs.Prelude.{◌≡◌, ◌≢◌, ◌↔◌, IfSome, IsNone};
-ghost use Rattle.dt_layout.specs.Carried.{IsGram};
 ghost use Rattle.dt_layout.specs.Reading.{gram_in, packet_read};
 ghost use Rattle.dt_layout.specs.Spelling.{packet_of};
 ghost use Rattle.dt_flow_model.specs.Flow.{ack_place};
@@ -16,22 +15,23 @@ use crate::marked::Mark;
 use crate::notes::Notes;
 use crate::occasions::Occasion;
 use dt_host::{Host, flow_of_packet};
-use dt_layout::{Frame, Packet, read_deltagram, read_packet};
+use dt_layout::{GramOctets, Packet, read_packet};
 use dt_ledger::Ledger;
 use dt_units::{Flow, NodeId};
 
 /// The mark of a frame that the host made: it is born now, and its place is known from the ledger and
 /// from the host after the act or the reply that made it. None comes exactly where the frame carries no
 /// packet, or one that a sender made, of a host whose numbers begin elsewhere than the event's.
-pub fn mark_of(notes: &Notes, occasion: &Occasion<'_>, host: &Host, frame: &Frame) -> Option<Mark>
-    requires gram { IsGram frame.now }
-    ensures mark { IfSome result (λ mark. mark ≡ mark_of (occasion_seen occasion.entry.now) (ledgers_seen notes.now) host.now.state frame.now) }
-    ensures none { IsNone result ↔ LacksMark occasion.entry.now.rules.now host.now.rules (packet_read (gram_in frame.now)) }
+pub fn mark_of(
+    notes: &Notes,
+    occasion: &Occasion<'_>,
+    host: &Host,
+    gram: GramOctets<'_>,
+) -> Option<Mark>
+    ensures mark { IfSome result (λ mark. mark ≡ mark_of (occasion_seen occasion.entry.now) (ledgers_seen notes.now) host.now.state gram.entry.octets.now) }
+    ensures none { IsNone result ↔ LacksMark occasion.entry.now.rules.now host.now.rules (packet_read (gram_in gram.entry.octets.now)) }
 {
-    let gram = match read_deltagram(frame.as_slice()) {
-        Ok(gram) => gram,
-        Err(_) => unreachable!(),
-    };
+    let gram = gram.deltagram();
     let packet = match read_packet(&gram) {
         Ok(packet) => packet,
         Err(_) => return None,

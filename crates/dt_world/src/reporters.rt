@@ -50,7 +50,7 @@ impl<'a, 'o, L: Lines> Visitor<MarkedFrame> for Reporter<'a, 'o, L> {
     ghost fails = { λ s t. Stays s t };
 
     fn tag(&mut self, host: &Host, frame: &Frame, _now: u64) -> Mark {
-        match mark_of(self.notes, &self.occasion, host, frame) {
+        match mark_of(self.notes, &self.occasion, host, frame.as_gram()) {
             Some(mark) => mark,
             None => {
                 self.failed = true;

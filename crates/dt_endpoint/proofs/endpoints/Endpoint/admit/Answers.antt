@@ -3,12 +3,8 @@ use Rattle.dt_world_model.specs.Station.{Arrive, station_event}
 use Rattle.dt_endpoint.specs.Acts.{plain}
 use Rattle.dt_endpoint.specs.Collecting.{Collected}
 use Rattle.dt_endpoint.specs.Endpoints.{EndpointValue}
-use Rattle.dt_endpoint.proofs.Heads.{gram_small}
 use Rattle.dt_endpoint.proofs.Keeping.{arrival_keeps, counting_keeps}
 use Rattle.dt_endpoint.proofs.endpoints.Endpoint.admit.Goals as goal
-
-pub fill-requires : goal.fill-requires
-fill-requires c = gram_small _ _ c.requires.gram
 
 pub invariant_of-self-else-is_err : goal.invariant_of-self-else-is_err
 invariant_of-self-else-is_err c =
