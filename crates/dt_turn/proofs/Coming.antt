@@ -1,7 +1,5 @@
 -- Octets that came.
-use Rattle.std.proofs.Common.{◌≡◌, ◌==◌, ◌≤◌, inl, inr, ℕ, List, length, Option, Some, refl, ap, subst, arith}
-use Rattle.std.proofs.lemmas.Bool.{cases_Bool}
-use Rattle.dt_layout.specs.Spelling.{DeltagramValue, Gram, gram_spelling, most_body}
+use Rattle.std.proofs.Common.{◌≡◌, ℕ, List, Option, Some, refl, subst}
 use Rattle.dt_units.specs.declared.parameters.Params.{Params}
 use Rattle.dt_edges.specs.Wires.{Datagram}
 use Rattle.dt_layout.specs.declared.faults.LayoutFault.{LayoutFault}
@@ -19,11 +17,3 @@ use Rattle.dt_turn.specs.Turns.{comes}
 pub bad_plays : {V : Type 0} (tells : V → Told → V → Type 0) (tags : V → Host → List ℕ → Unit {0} → V → Type 0) (hands : V → ℕ → Parcel (Unit {0}) → V → Type 0) (p : Params) (now : ℕ) (d : Datagram) (o : Option LayoutFault) (fault : LayoutFault) (station : Station (Unit {0})) (shelf : Option Shelf) (v w : V) → Some fault ≡ o → tells v (Bad fault) w → Plays tells tags hands (comes p now d o station shelf) v w (inside station shelf)
 bad_plays tells tags hands p now d o fault station shelf v w e h =
     subst (λ (o : Option LayoutFault). Plays tells tags hands (comes p now d o station shelf) v w (inside station shelf)) e (w, h, (refl, refl))
-
--- what reads as a Deltagram fits into a frame
-body_small : (version : ℕ) → most_body version ≤ 8206
-body_small version = elim (cases_Bool (version == 1)) [ inl y ↦ rw y (omega arith) | inr n ↦ rw n (omega arith) ]
-
-pub gram_small : (bytes : List ℕ) (d : DeltagramValue) → Gram bytes d → length bytes ≤ 8222
-unfolding gram_spelling
-gram_small bytes d g = omega (arith, ap length g.spelled, g.fits.body, body_small d.version)

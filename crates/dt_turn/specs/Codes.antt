@@ -10,7 +10,8 @@ use Rattle.dt_text.specs.Tasks.{most_octets}
 use Rattle.dt_script.specs.Codes.{IsGood, command_seen, orders_seen}
 use Rattle.dt_script.specs.Orders as model
 use Rattle.dt_turn.specs.declared.arrivals.Arrival.{Arrival}
-use Rattle.dt_turn.specs.declared.arriving.Came.{Came}
+use Rattle.dt_turn.specs.declared.came.Came.{Came}
+use Rattle.dt_turn.specs.declared.incoming.Incoming.{Incoming}
 use Rattle.dt_turn.specs.declared.nodes.Node.{Node}
 use Rattle.dt_turn.specs.Nodes as nodes
 
@@ -60,6 +61,10 @@ arrival_seen a = record { link = a.link; octets = a.octets.now }
 
 abbrev pub arrived : Option Arrival → Option Datagram
 arrived came = option_map arrival_seen came
+
+-- the same where it reads as a Deltagram
+abbrev pub incoming_seen : Incoming → Datagram
+incoming_seen incoming = record { link = incoming.link; octets = incoming.gram.octets.now }
 
 -- a packet that is handed in, and what is handed in next, where nothing failed
 abbrev pub came_seen : Came → Datagram

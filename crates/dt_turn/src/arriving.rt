@@ -1,34 +1,25 @@
 //! Packets that arrive, and the shelf for those that came too early.
 ghost use Rattle.std.specs.Prelude.{◌≡◌, ◌<◌, IfOk, IfSome, None, OnErr, OnOk, length, option_map, suc, true};
-ghost use Rattle.dt_layout.specs.Carried.{IsGram};
-ghost use Rattle.dt_layout.specs.Reading.{gram_in};
-ghost use Rattle.dt_layout.specs.Spelling.{gram_of};
 ghost use Rattle.dt_shelf.specs.Shelves.{IsShelfUpTo};
 ghost use Rattle.dt_world_model.specs.Script.{Concludes, Plays};
 ghost use Rattle.dt_world_model.specs.Station.{Arrive, station_event};
 ghost use Rattle.dt_turn.specs.declared.heard.Heard.TheVariants.{Nothing};
-ghost use Rattle.dt_turn.specs.Codes.{GoesOn, MayGo, came_seen, next_seen};
+ghost use Rattle.dt_turn.specs.Codes.{GoesOn, MayGo, came_seen, incoming_seen, next_seen};
 ghost use Rattle.dt_turn.specs.Hearing.{heard_in};
-ghost use Rattle.dt_turn.specs.Shelving.{arrive, data_number, datagram, early_number, fetch, first_round, hold_if, inside, is_early, plain, round, round_with, rounds};
+ghost use Rattle.dt_turn.specs.Shelving.{arrive, data_number, early_number, fetch, first_round, hold_if, inside, is_early, plain, round, round_with, rounds};
 
+use crate::came::Came;
 use crate::heard::{Heard, hear_arrival};
+use crate::incoming::Incoming;
 use crate::nodes::Dock;
 use dt_flow_model::Reading;
 use dt_items::NoMemory;
-use dt_layout::{Deltagram, Frame, Packet, read_deltagram, read_packet};
+use dt_layout::{Frame, GramOctets, Packet, read_packet};
 use dt_reports::Report;
 use dt_shelf::{Shelf, Taken};
 use dt_station::Visitor;
 use dt_units::numbers::relation;
 use dt_units::{Flow, Relation};
-
-/// A packet that is handed in, and the link on which it came.
-#[derive(Drop)]
-pub struct Came {
-    pub link: u16,
-    /// It reads as a Deltagram.
-    pub frame: Frame,
-}
 
 /// The flow of a packet that wasn't accepted, and the number of its data, if they came too early.
 #[derive(Clone, Copy)]
@@ -37,23 +28,11 @@ pub struct Early {
     pub number: Option<u32>,
 }
 
-/// The Deltagram that a frame spells.
-fn gram_of_frame(frame: &Frame) -> Deltagram<'_>
-    requires { IsGram frame.now }
-    ensures { gram_of result ≡ gram_in frame.now }
+/// The sequence number of the data in a Deltagram, if it has data.
+fn data_number(gram: GramOctets<'_>) -> Option<u32>
+    ensures { result ≡ data_number gram.entry.octets.now }
 {
-    match read_deltagram(frame.as_slice()) {
-        Ok(gram) => gram,
-        Err(_) => unreachable!(),
-    }
-}
-
-/// The sequence number of a frame's data, if it has data.
-fn data_number(frame: &Frame) -> Option<u32>
-    requires { IsGram frame.now }
-    ensures { result ≡ data_number frame.now }
-{
-    match read_packet(&gram_of_frame(frame)) {
+    match read_packet(&gram.deltagram()) {
         Ok(Packet::Data { number, .. }) => Some(number),
         Ok(Packet::Ack { .. } | Packet::Meet { .. } | Packet::Close { .. }) | Err(_) => None,
     }
@@ -69,12 +48,11 @@ fn is_early(replied: Option<u32>, number: u32) -> bool
     }
 }
 
-/// The sequence number of a frame's data, if it has data and they came too early.
-fn early_number(replied: Option<u32>, frame: &Frame) -> Option<u32>
-    requires { IsGram frame.now }
-    ensures { result ≡ early_number replied frame.now }
+/// The sequence number of the data in a Deltagram, if it has data and they came too early.
+fn early_number(replied: Option<u32>, gram: GramOctets<'_>) -> Option<u32>
+    ensures { result ≡ early_number replied gram.entry.octets.now }
 {
-    match data_number(frame) {
+    match data_number(gram) {
         Some(number) if is_early(replied, number) => Some(number),
         _ => None,
     }
@@ -88,7 +66,6 @@ fn hold_if<V: Visitor<Frame>>(
     now: u64,
     visitor: &mut V,
 )
-    requires gram { IsGram came.now.frame }
     requires past { IsShelfUpTo now shelf.old }
     ensures plays { Plays V.tells (V.tags now) V.hands (hold_if now (came_seen came.now) early.flow early.number shelf.old) visitor.old visitor.new shelf.new }
     ensures past { IsShelfUpTo now shelf.new }
@@ -115,7 +92,7 @@ fn fetch<V: Visitor<Frame>>(
     requires past { IsShelfUpTo now.ms shelf.old }
     ensures plays { Plays V.tells (V.tags now.ms) V.hands (fetch flow number now.ms shelf.old) visitor.old visitor.new (option_map came_seen result, shelf.new) }
     ensures past { IsShelfUpTo now.ms shelf.new }
-    ensures fewer { IfSome result (λ came. IsGram came.frame × (length shelf.new.held < length shelf.old.held)) }
+    ensures fewer { IfSome result (λ came. length shelf.new.held < length shelf.old.held) }
 {
     'fetching: while let Some(taken) = shelf.take(&flow, number, now.ms) {
         match taken {
@@ -136,7 +113,6 @@ fn answer<V: Visitor<Frame>>(
     now: u64,
     visitor: &mut V,
 ) -> Result<Heard, NoMemory>
-    requires gram { IsGram came.now.frame }
     requires go { MayGo now dock.old.station }
     ensures ends { let script = station_event dock.old.station.rules now (Arrive came.now.link (plain came.now.frame)) dock.old.station.state in
         Concludes V.tells (V.tags now) V.hands V.fails result script visitor.old visitor.new dock.new.station.state }
@@ -145,15 +121,11 @@ fn answer<V: Visitor<Frame>>(
     ensures on { OnOk result (GoesOn now 0 dock.old.station dock.new.station) }
     ensures memory { OnErr result (dock.new.station.spent ≡ true) }
 {
-    copy(&came.frame, &mut dock.frame);
-    hear_arrival(dock, came.link, now, visitor)
-}
-
-/// Copies a frame into another.
-fn copy(frame: &Frame, into: &mut Frame)
-    ensures { into.new ≡ frame.now }
-{
-    into.refill(frame.as_slice());
+    let incoming = Incoming {
+        link: came.link,
+        gram: came.frame.as_gram(),
+    };
+    hear_arrival(dock, incoming, now, visitor)
 }
 
 /// A packet arrives, and then the shelf is used: it is held where it came too early, and what waits
@@ -165,7 +137,6 @@ fn round<V: Visitor<Frame>>(
     now: u64,
     visitor: &mut V,
 ) -> Result<Option<Came>, NoMemory>
-    requires gram { IsGram came.now.frame }
     requires past { IsShelfUpTo now shelf.old }
     requires go { MayGo now dock.old.station }
     ensures ends { let script = round dock.old.station.rules now (came_seen came.now) dock.old.station.state shelf.old in
@@ -173,7 +144,7 @@ fn round<V: Visitor<Frame>>(
     ensures on { OnOk result (GoesOn now 0 dock.old.station dock.new.station) }
     ensures memory { OnErr result (dock.new.station.spent ≡ true) }
     ensures past { IsShelfUpTo now shelf.new }
-    ensures fewer { IfOk result (λ next. IfSome next (λ came. IsGram came.frame × (length shelf.new.held < length shelf.old.held))) }
+    ensures fewer { IfOk result (λ next. IfSome next (λ came. length shelf.new.held < length shelf.old.held)) }
 {
     match answer(dock, came, now, visitor)? {
         Heard::Nothing => Ok(None),
@@ -182,7 +153,7 @@ fn round<V: Visitor<Frame>>(
             Ok(fetch(shelf, flow, next, now, visitor))
         }
         Heard::Refused { flow, replied } => {
-            let number = early_number(replied, &came.frame);
+            let number = early_number(replied, came.frame.as_gram());
             hold_if(shelf, came, Early { flow, number }, now, visitor);
             Ok(None)
         }
@@ -197,7 +168,6 @@ fn rounds<V: Visitor<Frame>>(
     now: u64,
     visitor: &mut V,
 ) -> Result<(), NoMemory>
-    requires gram { IsGram first.frame }
     requires past { IsShelfUpTo now shelf.old }
     requires go { MayGo now dock.old.station }
     ensures ends { let script = rounds (suc (length shelf.old.held)) dock.old.station.rules now (first_round (came_seen first) dock.old.station.state shelf.old) in
@@ -213,79 +183,75 @@ fn rounds<V: Visitor<Frame>>(
     Ok(())
 }
 
-/// A packet that came on a link, copied.
-fn came_of(link: u16, frame: &Frame) -> Came
-    requires { IsGram frame.now }
-    ensures { came_seen result ≡ datagram link frame.now }
+/// A datagram, copied.
+fn came_of(incoming: Incoming<'_>) -> Came
+    ensures { came_seen result ≡ incoming_seen incoming.entry }
 {
-    let mut copied = Frame::new();
-    copy(frame, &mut copied);
+    let mut frame = Frame::new();
+    incoming.gram.copy_into(&mut frame);
     Came {
-        link,
-        frame: copied,
+        link: incoming.link,
+        frame,
     }
 }
 
-/// The packet in the dock's frame arrives at a node that has a shelf.
+/// A datagram arrives at a node that has a shelf.
 fn arrive_shelved<V: Visitor<Frame>>(
     dock: &mut Dock,
     shelf: &mut Shelf,
-    link: u16,
+    incoming: Incoming<'_>,
     now: u64,
     visitor: &mut V,
 ) -> Result<(), NoMemory>
-    requires gram { IsGram dock.old.frame.value }
     requires past { IsShelfUpTo now shelf.old }
     requires go { MayGo now dock.old.station }
-    ensures ends { let script = rounds (suc (length shelf.old.held)) dock.old.station.rules now (first_round (datagram link dock.old.frame.value) dock.old.station.state shelf.old) in
+    ensures ends { let script = rounds (suc (length shelf.old.held)) dock.old.station.rules now (first_round (incoming_seen incoming.entry) dock.old.station.state shelf.old) in
         Concludes V.tells (V.tags now) V.hands V.fails result script visitor.old visitor.new (round_with dock.new.station.state shelf.new None) }
     ensures on { OnOk result (GoesOn now 0 dock.old.station dock.new.station) }
     ensures memory { OnErr result (dock.new.station.spent ≡ true) }
     ensures past { IsShelfUpTo now shelf.new }
 {
-    let first = came_of(link, &dock.frame);
-    rounds(dock, shelf, first, now, visitor)
+    rounds(dock, shelf, came_of(incoming), now, visitor)
 }
 
-/// The packet in the dock's frame arrives at a node without a shelf, where nobody needs to hear what is
-/// answered.
+/// A datagram arrives at a node without a shelf, where nobody needs to hear what is answered.
 fn arrive_plain<V: Visitor<Frame>>(
     dock: &mut Dock,
-    link: u16,
+    incoming: Incoming<'_>,
     now: u64,
     visitor: &mut V,
 ) -> Result<(), NoMemory>
-    requires gram { IsGram dock.old.frame.value }
     requires go { MayGo now dock.old.station }
-    ensures ends { let script = station_event dock.old.station.rules now (Arrive link (plain dock.old.frame.value)) dock.old.station.state in
+    ensures ends { let script = station_event dock.old.station.rules now (Arrive incoming.entry.link (plain incoming.entry.gram.octets.now)) dock.old.station.state in
         Concludes V.tells (V.tags now) V.hands V.fails result script visitor.old visitor.new dock.new.station.state }
     ensures on { OnOk result (GoesOn now 0 dock.old.station dock.new.station) }
     ensures memory { OnErr result (dock.new.station.spent ≡ true) }
 {
     let now = Reading { ms: now };
-    dock.station.arrive(now, link, &mut dock.frame, (), visitor)
+    incoming.gram.copy_into(&mut *dock.frame);
+    dock.station
+        .arrive(now, incoming.link, &mut dock.frame, (), visitor)
 }
 
-/// The packet in the dock's frame, which came on a link, arrives at a node. Without a shelf that is one
-/// event of its station, and nothing is copied.
+/// A datagram arrives at a node. Without a shelf that is one event of its station, and it is copied once,
+/// into the dock's frame.
 pub fn arrive<V: Visitor<Frame>>(
     dock: &mut Dock,
     shelf: &mut Option<Shelf>,
-    link: u16,
+    incoming: Incoming<'_>,
     now: u64,
     visitor: &mut V,
 ) -> Result<(), NoMemory>
-    requires gram { IsGram dock.old.frame.value }
     requires past { IfSome shelf.old (IsShelfUpTo now) }
     requires go { MayGo now dock.old.station }
-    ensures ends { let script = arrive dock.old.station.rules now (datagram link dock.old.frame.value) dock.old.station.state shelf.old in
+    ensures ends { let script = arrive dock.old.station.rules now (incoming_seen incoming.entry) dock.old.station.state shelf.old in
         Concludes V.tells (V.tags now) V.hands V.fails result script visitor.old visitor.new (inside dock.new.station.state shelf.new) }
     ensures on { OnOk result (GoesOn now 0 dock.old.station dock.new.station) }
     ensures memory { OnErr result (dock.new.station.spent ≡ true) }
     ensures past { IfSome shelf.new (IsShelfUpTo now) }
 {
     match shelf {
-        Some(shelf) => arrive_shelved(dock, shelf, link, now, visitor),
-        None => arrive_plain(dock, link, now, visitor),
+        Some(shelf) => arrive_shelved(dock, shelf, incoming, now, visitor),
+        None => arrive_plain(dock, incoming, now, visitor),
     }
 }

@@ -10,6 +10,7 @@ ghost use Rattle.dt_turn.specs.Codes.{GoesOn, MayGo};
 ghost use Rattle.dt_turn.specs.Hearing.{heard_in, hears, hears_by};
 ghost use Rattle.dt_turn.specs.Shelving.{plain};
 
+use crate::incoming::Incoming;
 use crate::nodes::Dock;
 use dt_flow_model::Reading;
 use dt_host::Host;
@@ -132,19 +133,18 @@ fn listen<V: Visitor<Frame>>(
     station.arrive(now, link, frame, (), listener)
 }
 
-/// The packet in a dock's frame, which came on a link, arrives at its station. It answers what the
-/// station reported, as far as that concerns a shelf. The frame must read as a Deltagram.
+/// A datagram is copied into a dock's frame and arrives at its station. It answers what the station
+/// reported, as far as that concerns a shelf.
 pub fn hear_arrival<V: Visitor<Frame>>(
     dock: &mut Dock,
-    link: u16,
+    incoming: Incoming<'_>,
     now: u64,
     visitor: &mut V,
 ) -> Result<Heard, NoMemory>
-    requires gram { IsGram dock.old.frame.value }
     requires go { MayGo now dock.old.station }
-    ensures ends { let script = station_event dock.old.station.rules now (Arrive link (plain dock.old.frame.value)) dock.old.station.state in
+    ensures ends { let script = station_event dock.old.station.rules now (Arrive incoming.entry.link (plain incoming.entry.gram.octets.now)) dock.old.station.state in
         Concludes V.tells (V.tags now) V.hands V.fails result script visitor.old visitor.new dock.new.station.state }
-    ensures heard { let script = station_event dock.old.station.rules now (Arrive link (plain dock.old.frame.value)) dock.old.station.state in
+    ensures heard { let script = station_event dock.old.station.rules now (Arrive incoming.entry.link (plain incoming.entry.gram.octets.now)) dock.old.station.state in
         IfOk result (λ answer. answer ≡ heard_in script heard.Nothing) }
     ensures on { OnOk result (GoesOn now 0 dock.old.station dock.new.station) }
     ensures memory { OnErr result (dock.new.station.spent ≡ true) }
@@ -153,6 +153,13 @@ pub fn hear_arrival<V: Visitor<Frame>>(
         visitor,
         heard: Heard::Nothing,
     };
-    listen(&mut dock.station, now, link, &mut dock.frame, &mut listener)?;
+    incoming.gram.copy_into(&mut *dock.frame);
+    listen(
+        &mut dock.station,
+        now,
+        incoming.link,
+        &mut dock.frame,
+        &mut listener,
+    )?;
     Ok(listener.heard)
 }

@@ -3,7 +3,9 @@
 
 mod arrivals;
 mod arriving;
+mod came;
 mod heard;
+mod incoming;
 mod nodes;
 mod turns;
 

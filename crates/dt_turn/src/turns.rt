@@ -16,10 +16,11 @@ ghost use Rattle.dt_turn.specs.Turns.{comes, do_due, event_of, finish, hand_in, 
 
 use crate::arrivals::Arrival;
 use crate::arriving::arrive;
+use crate::incoming::Incoming;
 use crate::nodes::{Dock, Node};
 use dt_flow_model::Reading;
 use dt_items::NoMemory;
-use dt_layout::{Frame, read_deltagram};
+use dt_layout::{Frame, GramOctets};
 use dt_reports::Report;
 use dt_script::{Orders, has_link};
 use dt_shelf::Shelf;
@@ -45,15 +46,7 @@ fn do_event<V: Visitor<Frame>>(
     station.local_event(now, event, buf, visitor)
 }
 
-/// Makes the slot hold these octets, for which it has room.
-fn fill(slot: &mut Frame, octets: &[u8])
-    requires { length octets.now ≤ 8222 }
-    ensures { slot.new ≡ octets.now }
-{
-    slot.refill(octets);
-}
-
-/// A datagram that came: it arrives, in the dock's frame, or gives its `bad` line.
+/// A datagram that came: it arrives, or gives its `bad` line.
 fn comes<V: Visitor<Frame>>(
     dock: &mut Dock,
     shelf: &mut Option<Shelf>,
@@ -69,14 +62,17 @@ fn comes<V: Visitor<Frame>>(
     ensures memory { OnErr result (dock.new.station.spent ≡ true) }
     ensures past { IfSome shelf.new (IsShelfUpTo now) }
 {
-    match read_deltagram(arrival.octets) {
+    match GramOctets::read(arrival.octets) {
         Err(fault) => {
             visitor.tell(&Report::Bad { fault });
             Ok(())
         }
-        Ok(_) => {
-            fill(&mut dock.frame, arrival.octets);
-            arrive(dock, shelf, arrival.link, now, visitor)
+        Ok(gram) => {
+            let incoming = Incoming {
+                link: arrival.link,
+                gram,
+            };
+            arrive(dock, shelf, incoming, now, visitor)
         }
     }
 }

@@ -49,7 +49,7 @@ pub returns-in-Again-clause-fewer : goal.returns-in-Again-clause-fewer
 returns-in-Again-clause-fewer g c =
     let i = c.fetching.invariant in
     let less = take_falls c.args.flow c.args.number c.args.now.ms c.fetching.shelf c.take.new.self c.in-Some.taken c.in-Some.ensures.taken c.take.ensures.left in
-    (rw c.in-Again.is at c.in-Some.ensures.gram, omega (arith, less, i.fewer))
+    omega (arith, less, i.fewer)
 
 pub returns-clause-past : goal.returns-clause-past
 returns-clause-past g c = take_past c.args.flow c.args.number c.args.now.ms c.args.now.ms c.fetching.shelf c.take.new.self c.take.ensures.left c.fetching.invariant.past

@@ -1,11 +1,11 @@
-use Rattle.std.proofs.Common.{◌≡◌, None, Ok, Option, Result, refl}
+use Rattle.std.proofs.Common.{◌≡◌, ◌∙◌, None, Ok, Option, Result, ap, refl}
 use Rattle.std.proofs.lemmas.Result.{err_from_is_err_and}
 use Rattle.dt_items.specs.declared.memory.NoMemory.{NoMemory}
-use Rattle.dt_turn.specs.declared.arriving.Came.{Came}
+use Rattle.dt_turn.specs.declared.came.Came.{Came}
 use Rattle.dt_turn.specs.declared.heard.Heard.TheVariants as heard
 use Rattle.dt_turn.specs.Codes.{came_seen, next_seen}
 use Rattle.dt_turn.specs.Hearing.{heard_in}
-use Rattle.dt_turn.specs.Shelving.{plain, round_with}
+use Rattle.dt_turn.specs.Shelving.{early_number, plain, round_with}
 use Rattle.dt_turn.proofs.Shelved.{fetched_ends, held_then, round_ends, round_stops}
 use Rattle.dt_world_model.specs.Station.{Arrive, station_event}
 use Rattle.dt_turn.proofs.arriving.round.Goals as goal
@@ -60,4 +60,4 @@ returns-in-Refused-clause-ends g c =
     let done : Result (Unit {0}) (Unit {0}) = Ok tt in
     round_ends v.tells (v.tags now) v.hands v.fails st.rules now (came_seen came) st.state c.args.shelf.now c.args.visitor.now done c.answer.new.visitor c.hold_if.new.visitor after
     (heard.Refused flow replied) (round_with after shelf None) is c.in_ok-answer.ensures.ends
-    (held_then v.tells (v.tags now) v.hands v.fails now (came_seen came) flow replied c.early_number-number.result after c.args.shelf.now shelf c.answer.new.visitor c.hold_if.new.visitor c.early_number-number.ensures c.hold_if.ensures.plays)
+    (held_then v.tells (v.tags now) v.hands v.fails now (came_seen came) flow replied c.early_number-number.result after c.args.shelf.now shelf c.answer.new.visitor c.hold_if.new.visitor (c.early_number-number.ensures ∙ ap (early_number replied) c.as_gram.ensures.same) c.hold_if.ensures.plays)

@@ -27,12 +27,11 @@ rounds-preserved g c =
     let ends = rw c.in-Some.is at c.in_ok-next.ensures.ends in
     let fewer = rw c.in-Some.is at c.in_ok-next.ensures.fewer in
     let on = c.in_ok-next.ensures.on in
-    let step = rounds_go v.tells (v.tags now) v.hands v.fails whole c.args.visitor.now c.rounds.visitor st.rules c.rounds.dock.station.rules now i.most (came_seen c.rounds.came) c.rounds.dock.station.state c.rounds.shelf i.on.rules i.enough i.leads c.round.new.visitor (came_seen next) c.round.new.dock.station.state c.round.new.shelf fewer.1 ends in
+    let step = rounds_go v.tells (v.tags now) v.hands v.fails whole c.args.visitor.now c.rounds.visitor st.rules c.rounds.dock.station.rules now i.most (came_seen c.rounds.came) c.rounds.dock.station.state c.rounds.shelf i.on.rules i.enough i.leads c.round.new.visitor (came_seen next) c.round.new.dock.station.state c.round.new.shelf fewer ends in
     record {
       most = step.0;
       enough = step.1;
       leads = step.2;
-      gram = fewer.0;
       past = c.round.ensures.past;
       go = record { unspent = on.unspent; past = on.past; moment = c.requires.go.moment };
       on = goes_then now st c.rounds.dock.station c.round.new.dock.station i.on on;

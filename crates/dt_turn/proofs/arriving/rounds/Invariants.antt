@@ -1,5 +1,4 @@
 use Rattle.std.proofs.Common.{◌<◌, length, suc, ℕ}
-use Rattle.dt_layout.specs.Carried.{IsGram}
 use Rattle.dt_shelf.specs.Shelves.{IsShelfUpTo}
 use Rattle.dt_station.proofs.Playing.{Leads}
 use Rattle.dt_turn.specs.Codes.{GoesOn, MayGo, came_seen}
@@ -15,7 +14,6 @@ invariant-rounds g l =
       most : ℕ;
       enough : length l.shelf.held < most;
       leads : Leads v.tells (v.tags l.now) v.hands v.fails (rounds (suc (length l.fn.shelf.held)) rules l.now (first_round (came_seen l.fn.first) l.fn.dock.station.state l.fn.shelf)) l.fn.visitor (rounds most rules l.now (first_round (came_seen l.came) l.dock.station.state l.shelf)) l.visitor;
-      gram : IsGram l.came.frame;
       past : IsShelfUpTo l.now l.shelf;
       go : MayGo l.now l.dock.station;
       on : GoesOn l.now 0 l.fn.dock.station l.dock.station;

@@ -1,0 +1,8 @@
+use dt_layout::GramOctets;
+
+/// A datagram that came on a link and reads as a Deltagram.
+#[derive(Clone, Copy)]
+pub struct Incoming<'a> {
+    pub link: u16,
+    pub gram: GramOctets<'a>,
+}
