@@ -6,7 +6,7 @@ Usage: tests/pages.py
 Runs docs/check.py, and again on a copy in which one sentence is spoilt, for each kind of sentence
 that it looks at. Prints a line a case; ends with 1 where one isn't as it should be. Takes 30 seconds.
 
-In tests/all: no words, 180 s.
+In tests/all: no words, 400 s.
 """
 
 import shutil
