@@ -459,6 +459,7 @@ class Sum(NamedTuple):
 
 SUMS = (
     Sum("a line that is written", "Report", "dt_reports/src/reports.rt"),
+    Sum("one that a station itself reports, beside that", "StationReport", "dt_reports/src/station_reports.rt"),
     Sum("a line of the setup of a world", "SetupLine", "dt_text/src/lines.rt"),
     Sum("a line of a world after `go`", "WorldLine", "dt_text/src/lines.rt"),
     Sum("a line of a user of a node", "UserLine", "dt_text/src/lines.rt"),
@@ -476,7 +477,8 @@ def has_row_for_each(path: Path, it: Sum, variants: set[str]) -> bool:
     words = set(re.findall(r"\w+", text))
     if path.suffix == ".rt":
         each = all(re.search(rf"\b{it.type}::{variant}\b", text) for variant in variants)
-        return path == TOP / "crates" / it.path or each or (f"{it.type}::$" in text and variants <= words)
+        of_macro = re.search(rf"\b{it.type}::\$", text) and variants <= words
+        return path == TOP / "crates" / it.path or each or bool(of_macro)
     imported = re.search(rf"\b{it.type}\.TheVariants\b", text)
     return bool(imported) and all(variant in words or f"{variant.lower()}_said" in words for variant in variants)
 

@@ -6,8 +6,11 @@ use Rattle.dt_units.specs.declared.parameters.Field.TheVariants.{Mpl, R, A, Rto,
 use Rattle.dt_units.specs.declared.parameters.Params.{Params}
 use Rattle.dt_layout.specs.declared.faults.LayoutFault.{LayoutFault}
 use Rattle.dt_layout.specs.declared.faults.LayoutFault.TheVariants as layout
+use Rattle.dt_reports.specs.declared.faults.Refusal.{Refusal}
 use Rattle.dt_reports.specs.declared.faults.Refusal.TheVariants as refusal
-use Rattle.dt_reports.specs.declared.reports.Report.TheVariants as reports
+use Rattle.dt_reports.specs.declared.station_reports.StationReport.{StationReport}
+use Rattle.dt_reports.specs.declared.station_reports.StationReport.TheVariants as reports
+use Rattle.dt_reports.specs.Matters.{station_report_of}
 use Rattle.dt_reports.specs.Told.{Told}
 use Rattle.dt_flow_model.specs.Frames.{node}
 use Rattle.dt_world_model.specs.declared.links.InLink.{InLink}
@@ -259,44 +262,47 @@ until_moment row moment = record row { moment = moment }
 abbrev pub released : Flow → Bool → ReportRow
 released flow sending = record (about 8 (flow_row flow)) { sending = sending }
 
--- what a station reports; what only a world, a node or a run tells is of kind 0
+abbrev pub refused_row : Flow → Refusal → ReportRow
+refused_row flow (refusal.Quiet until) = until_moment (numbered 2 flow 0 0 0) until
+refused_row flow (refusal.Full free) = numbered 3 flow 0 free 0
+
+abbrev pub bad_row : LayoutFault → ReportRow
+bad_row fault = elsewhere 25 (fault_row fault).fault (fault_row fault).value
+
+-- what a station reports
+abbrev pub station_row : StationReport → ReportRow
+station_row (reports.Took flow count) = numbered 1 flow 0 count 0
+station_row (reports.Refused flow fault) = refused_row flow fault
+station_row (reports.Sent flow number len drf begin end) = marked (numbered 4 flow number len 0) begin end drf
+station_row (reports.Resent flow number len drf begin end) = marked (numbered 5 flow number len 0) begin end drf
+station_row (reports.Met flow number) = numbered 6 flow number 0 0
+station_row (reports.Uncertain flow count) = numbered 7 flow 0 count 0
+station_row (reports.Released flow sending) = released flow sending
+station_row (reports.Renewed flow) = numbered 9 flow 0 0 0
+station_row (reports.Acked flow number window) = numbered 10 flow number 0 window
+station_row (reports.Replied flow number window) = numbered 11 flow number 0 window
+station_row (reports.Accepted flow number len run) = marked (numbered 12 flow number len 0) false false run
+station_row (reports.Dropped flow number) = numbered 13 flow number 0 0
+station_row (reports.Closing flow number) = numbered 14 flow number 0 0
+station_row (reports.Settled flow count window) = numbered 15 flow 0 count window
+station_row (reports.Ignored flow number window) = numbered 16 flow number 0 window
+station_row (reports.Quiet until) = until_moment (about_none 17) until
+station_row (reports.Read flow run begin end) = marked (numbered 18 flow 0 0 0) begin end run
+station_row (reports.Nothing flow) = numbered 19 flow 0 0 0
+station_row (reports.Put link life) = elsewhere 20 link life
+station_row (reports.ExpiredIn link) = elsewhere 21 link 0
+station_row (reports.ExpiredOut link) = elsewhere 22 link 0
+station_row (reports.NoRoute to) = elsewhere 23 to 0
+station_row (reports.Full link) = elsewhere 24 link 0
+station_row (reports.Bad fault) = bad_row fault
+
+-- what no station reports is of kind 0
+abbrev pub row_of : Option StationReport → ReportRow
+row_of (Some report) = station_row report
+row_of None = about_none 0
+
 abbrev pub report_row : Told → ReportRow
-report_row (reports.Took flow count) = numbered 1 flow 0 count 0
-report_row (reports.Refused flow (refusal.Quiet until)) = until_moment (numbered 2 flow 0 0 0) until
-report_row (reports.Refused flow (refusal.Full free)) = numbered 3 flow 0 free 0
-report_row (reports.Sent flow number len drf begin end) = marked (numbered 4 flow number len 0) begin end drf
-report_row (reports.Resent flow number len drf begin end) = marked (numbered 5 flow number len 0) begin end drf
-report_row (reports.Met flow number) = numbered 6 flow number 0 0
-report_row (reports.Uncertain flow count) = numbered 7 flow 0 count 0
-report_row (reports.Released flow sending) = released flow sending
-report_row (reports.Renewed flow) = numbered 9 flow 0 0 0
-report_row (reports.Acked flow number window) = numbered 10 flow number 0 window
-report_row (reports.Replied flow number window) = numbered 11 flow number 0 window
-report_row (reports.Accepted flow number len run) = marked (numbered 12 flow number len 0) false false run
-report_row (reports.Dropped flow number) = numbered 13 flow number 0 0
-report_row (reports.Closing flow number) = numbered 14 flow number 0 0
-report_row (reports.Settled flow count window) = numbered 15 flow 0 count window
-report_row (reports.Ignored flow number window) = numbered 16 flow number 0 window
-report_row (reports.Quiet until) = until_moment (about_none 17) until
-report_row (reports.Read flow run begin end octets) = marked (numbered 18 flow 0 0 0) begin end run
-report_row (reports.Nothing flow) = numbered 19 flow 0 0 0
-report_row (reports.Put link life) = elsewhere 20 link life
-report_row (reports.ExpiredIn link) = elsewhere 21 link 0
-report_row (reports.ExpiredOut link) = elsewhere 22 link 0
-report_row (reports.NoRoute to) = elsewhere 23 to 0
-report_row (reports.Full link) = elsewhere 24 link 0
-report_row (reports.Bad fault) = elsewhere 25 (fault_row fault).fault (fault_row fault).value
-report_row (reports.PutAs link life copy) = about_none 0
-report_row (reports.Unsent link) = about_none 0
-report_row (reports.Shelved flow number) = about_none 0
-report_row (reports.NoShelf flow number) = about_none 0
-report_row (reports.Again flow number) = about_none 0
-report_row (reports.Stale flow number) = about_none 0
-report_row (reports.Restarted life) = about_none 0
-report_row (reports.Lost copy) = about_none 0
-report_row (reports.FlowTotals flow taken acked uncertain unsettled given read) = about_none 0
-report_row reports.End = about_none 0
-report_row (reports.Fault line fault) = about_none 0
+report_row told = row_of (station_report_of told)
 
 -- WHAT A GUARD KEPT OUT
 abbrev pub kept_out_row : GuardValue → KeptOutRow

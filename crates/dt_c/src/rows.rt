@@ -1,12 +1,12 @@
 //! Arguments and answers as they lie in C.
 ghost use Rattle.std.specs.Prelude.{◌≡◌, if◌then◌else◌, length, nat_le};
 ghost use Rattle.dt_reports.specs.Told.{told};
-ghost use Rattle.dt_c.specs.Rows.{about, about_none, came_as, came_row, capped, counts_row, done, elsewhere, faulty, fault_row, field_number, flow_of, flow_row, frame_row, kept_out_row, marked, message_row, moment_row, no_counts_row, no_flow, no_frame, no_message, no_piece, no_report, no_totals_row, numbered, opened_row, params_of, piece_row, released, report_row, room, route, routed_status, sent_as, sent_row, ticked_status, told_row, totals_row, until_moment};
+ghost use Rattle.dt_c.specs.Rows.{about, about_none, bad_row, came_as, came_row, capped, counts_row, done, elsewhere, faulty, fault_row, field_number, flow_of, flow_row, frame_row, kept_out_row, marked, message_row, moment_row, no_counts_row, no_flow, no_frame, no_message, no_piece, no_report, no_totals_row, numbered, opened_row, params_of, piece_row, refused_row, released, report_row, room, route, routed_status, sent_as, sent_row, station_row, ticked_status, told_row, totals_row, until_moment};
 
 use dt_endpoint::{Arrived, Counts, Guard, Octets, OutFrame, Piece, Route, Routed, Sent, Ticked};
 use dt_inbox::Handed;
 use dt_layout::LayoutFault;
-use dt_reports::{Refusal, Report};
+use dt_reports::{Refusal, Report, StationReport};
 use dt_units::{Field, Flow, NodeId, ParamFault, Params};
 use std::mem::size_of;
 
@@ -755,96 +755,72 @@ fn released(flow: Flow, sending: bool) -> ReportRow
     row
 }
 
-/// A report of a station. Those that only a world, a node or a run tells are of kind 0.
+fn refused_row(flow: Flow, fault: Refusal) -> ReportRow
+    ensures { result ≡ refused_row flow fault }
+{
+    match fault {
+        Refusal::Quiet { until } => until_moment(numbered(2, flow, 0, 0, 0), until),
+        Refusal::Full { free } => numbered(3, flow, 0, free, 0),
+    }
+}
+
+fn bad_row(fault: LayoutFault) -> ReportRow
+    ensures { result ≡ bad_row fault }
+{
+    let row = fault_row(fault);
+    elsewhere(25, row.fault as u32, row.value)
+}
+
+/// A match on a station's report, with one row a report: its row in C.
+macro_rules! station_rows {
+    ($report:expr; $($name:ident { $($field:ident),* } => $row:expr,)*) => {
+        match $report {
+            $(StationReport::$name { $($field),* } => $row,)*
+        }
+    };
+}
+
+/// What a station reports.
+fn station_row(report: StationReport) -> ReportRow
+    ensures { result ≡ station_row report }
+{
+    station_rows! { report;
+        Took { flow, count } => numbered(1, flow, 0, count, 0),
+        Refused { flow, fault } => refused_row(flow, fault),
+        Sent { flow, number, length, drf, begin, end } =>
+            marked(numbered(4, flow, number, length, 0), begin, end, drf),
+        Resent { flow, number, length, drf, begin, end } =>
+            marked(numbered(5, flow, number, length, 0), begin, end, drf),
+        Met { flow, number } => numbered(6, flow, number, 0, 0),
+        Uncertain { flow, count } => numbered(7, flow, 0, count, 0),
+        Released { flow, sending } => released(flow, sending),
+        Renewed { flow } => numbered(9, flow, 0, 0, 0),
+        Acked { flow, number, window } => numbered(10, flow, number, 0, window),
+        Replied { flow, number, window } => numbered(11, flow, number, 0, window),
+        Accepted { flow, number, length, run } =>
+            marked(numbered(12, flow, number, length, 0), false, false, run),
+        Dropped { flow, number } => numbered(13, flow, number, 0, 0),
+        Closing { flow, number } => numbered(14, flow, number, 0, 0),
+        Settled { flow, count, window } => numbered(15, flow, 0, count, window),
+        Ignored { flow, number, window } => numbered(16, flow, number, 0, window),
+        Quiet { until } => until_moment(about_none(17), until),
+        Read { flow, run, begin, end } => marked(numbered(18, flow, 0, 0, 0), begin, end, run),
+        Nothing { flow } => numbered(19, flow, 0, 0, 0),
+        Put { link, life } => elsewhere(20, link as u32, life),
+        ExpiredIn { link } => elsewhere(21, link as u32, 0),
+        ExpiredOut { link } => elsewhere(22, link as u32, 0),
+        NoRoute { to } => elsewhere(23, to, 0),
+        Full { link } => elsewhere(24, link as u32, 0),
+        Bad { fault } => bad_row(fault),
+    }
+}
+
+/// A report in its row, of kind 0 where no station makes it.
 pub fn report_row(report: &Report<'_>) -> ReportRow
     ensures { result ≡ report_row (told report.now) }
 {
-    match *report {
-        Report::Took { flow, count } => numbered(1, flow, 0, count, 0),
-        Report::Refused {
-            flow,
-            fault: Refusal::Quiet { until },
-        } => until_moment(numbered(2, flow, 0, 0, 0), until),
-        Report::Refused {
-            flow,
-            fault: Refusal::Full { free },
-        } => numbered(3, flow, 0, free, 0),
-        Report::Sent {
-            flow,
-            number,
-            length,
-            drf,
-            begin,
-            end,
-        } => marked(numbered(4, flow, number, length, 0), begin, end, drf),
-        Report::Resent {
-            flow,
-            number,
-            length,
-            drf,
-            begin,
-            end,
-        } => marked(numbered(5, flow, number, length, 0), begin, end, drf),
-        Report::Met { flow, number } => numbered(6, flow, number, 0, 0),
-        Report::Uncertain { flow, count } => numbered(7, flow, 0, count, 0),
-        Report::Released { flow, sending } => released(flow, sending),
-        Report::Renewed { flow } => numbered(9, flow, 0, 0, 0),
-        Report::Acked {
-            flow,
-            number,
-            window,
-        } => numbered(10, flow, number, 0, window),
-        Report::Replied {
-            flow,
-            number,
-            window,
-        } => numbered(11, flow, number, 0, window),
-        Report::Accepted {
-            flow,
-            number,
-            length,
-            run,
-        } => marked(numbered(12, flow, number, length, 0), false, false, run),
-        Report::Dropped { flow, number } => numbered(13, flow, number, 0, 0),
-        Report::Closing { flow, number } => numbered(14, flow, number, 0, 0),
-        Report::Settled {
-            flow,
-            count,
-            window,
-        } => numbered(15, flow, 0, count, window),
-        Report::Ignored {
-            flow,
-            number,
-            window,
-        } => numbered(16, flow, number, 0, window),
-        Report::Quiet { until } => until_moment(about_none(17), until),
-        Report::Read {
-            flow,
-            run,
-            begin,
-            end,
-            ..
-        } => marked(numbered(18, flow, 0, 0, 0), begin, end, run),
-        Report::Nothing { flow } => numbered(19, flow, 0, 0, 0),
-        Report::Put { link, life } => elsewhere(20, link as u32, life),
-        Report::ExpiredIn { link } => elsewhere(21, link as u32, 0),
-        Report::ExpiredOut { link } => elsewhere(22, link as u32, 0),
-        Report::NoRoute { to } => elsewhere(23, to, 0),
-        Report::Full { link } => elsewhere(24, link as u32, 0),
-        Report::Bad { fault } => {
-            let row = fault_row(fault);
-            elsewhere(25, row.fault as u32, row.value)
-        }
-        Report::PutAs { .. }
-        | Report::Unsent { .. }
-        | Report::Shelved { .. }
-        | Report::NoShelf { .. }
-        | Report::Again { .. }
-        | Report::Stale { .. }
-        | Report::Restarted { .. }
-        | Report::Lost { .. }
-        | Report::FlowTotals { .. }
-        | Report::End
-        | Report::Fault { .. } => about_none(0),
+    match report.station_report() {
+        Some(report) => station_row(report),
+        None => about_none(0),
     }
 }

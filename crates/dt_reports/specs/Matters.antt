@@ -1,10 +1,13 @@
--- What a report says of octets, packets and lives: the one table over all reports. Whatever follows reports (a world, an audit, calls, a shelf, an endpoint) is told by what is said here.
-use Rattle.std.specs.Prelude.{ℕ, Bool, List}
+-- What a report says of octets, packets and lives, and whether a station itself makes it: the tables over all reports.
+-- Whatever follows reports (a world, an audit, calls, a shelf, an endpoint, a caller in C) is told by what is said here.
+use Rattle.std.specs.Prelude.{ℕ, Bool, List, Option, Some, None}
 use Rattle.dt_units.specs.declared.endpoints.Flow.{Flow}
 use Rattle.dt_reports.specs.declared.faults.Refusal.{Refusal}
 use Rattle.dt_reports.specs.declared.matters.Matter as code
 use Rattle.dt_reports.specs.declared.matters.Matter.TheVariants as seen
 use Rattle.dt_reports.specs.declared.reports.Report.TheVariants as report
+use Rattle.dt_reports.specs.declared.station_reports.StationReport.{StationReport}
+use Rattle.dt_reports.specs.declared.station_reports.StationReport.TheVariants as station
 use Rattle.dt_reports.specs.Told.{Told}
 
 pub data Matter : Type 0 where
@@ -73,6 +76,44 @@ matter_of (report.Lost copy) = Neither
 matter_of (report.FlowTotals f taken acked uncertain unsettled given read) = Neither
 matter_of report.End = Neither
 matter_of (report.Fault line fault) = Neither
+
+-- What a station itself makes, whoever drives it. The others are of a world, a node or a run.
+abbrev pub station_report_of : Told → Option StationReport
+station_report_of (report.Took f count) = Some (station.Took f count)
+station_report_of (report.Refused f fault) = Some (station.Refused f fault)
+station_report_of (report.Sent f number count drf begin end) = Some (station.Sent f number count drf begin end)
+station_report_of (report.Resent f number count drf begin end) = Some (station.Resent f number count drf begin end)
+station_report_of (report.Met f number) = Some (station.Met f number)
+station_report_of (report.Uncertain f count) = Some (station.Uncertain f count)
+station_report_of (report.Released f sending) = Some (station.Released f sending)
+station_report_of (report.Renewed f) = Some (station.Renewed f)
+station_report_of (report.Acked f number window) = Some (station.Acked f number window)
+station_report_of (report.Replied f number window) = Some (station.Replied f number window)
+station_report_of (report.Accepted f number count run) = Some (station.Accepted f number count run)
+station_report_of (report.Dropped f number) = Some (station.Dropped f number)
+station_report_of (report.Closing f number) = Some (station.Closing f number)
+station_report_of (report.Settled f count window) = Some (station.Settled f count window)
+station_report_of (report.Ignored f number window) = Some (station.Ignored f number window)
+station_report_of (report.Quiet until) = Some (station.Quiet until)
+station_report_of (report.Read f run begin end octets) = Some (station.Read f run begin end)
+station_report_of (report.Nothing f) = Some (station.Nothing f)
+station_report_of (report.Put link life) = Some (station.Put link life)
+station_report_of (report.PutAs link life copy) = None
+station_report_of (report.ExpiredIn link) = Some (station.ExpiredIn link)
+station_report_of (report.ExpiredOut link) = Some (station.ExpiredOut link)
+station_report_of (report.NoRoute to) = Some (station.NoRoute to)
+station_report_of (report.Full link) = Some (station.Full link)
+station_report_of (report.Bad fault) = Some (station.Bad fault)
+station_report_of (report.Unsent link) = None
+station_report_of (report.Shelved f number) = None
+station_report_of (report.NoShelf f number) = None
+station_report_of (report.Again f number) = None
+station_report_of (report.Stale f number) = None
+station_report_of (report.Restarted life) = None
+station_report_of (report.Lost copy) = None
+station_report_of (report.FlowTotals f taken acked uncertain unsettled given read) = None
+station_report_of report.End = None
+station_report_of (report.Fault line fault) = None
 
 -- the code's, which lends the octets
 abbrev pub matter_seen : code.Matter → Matter

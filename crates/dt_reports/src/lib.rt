@@ -7,9 +7,11 @@ mod flow_totals;
 mod log_lines;
 mod matters;
 mod reports;
+mod station_reports;
 
 pub use faults::{Fault, LineFault, Refusal, SetupFault, StepFault};
 pub use flow_totals::Totals;
 pub use log_lines::LogLine;
 pub use matters::Matter;
 pub use reports::Report;
+pub use station_reports::StationReport;

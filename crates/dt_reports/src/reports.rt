@@ -1,10 +1,12 @@
-//! What is reported in the log, and what each report says of octets, packets and lives: one row a report.
+//! What is reported in the log; what each report says of octets, packets and lives, and whether a station
+//! itself makes it: one row a report.
 ghost use Rattle.std.specs.Prelude.{◌≡◌};
-ghost use Rattle.dt_reports.specs.Matters.{matter_of, matter_seen};
+ghost use Rattle.dt_reports.specs.Matters.{matter_of, matter_seen, station_report_of};
 ghost use Rattle.dt_reports.specs.Told.{told, without_octets};
 
 use crate::faults::{Fault, Refusal};
 use crate::matters::Matter;
+use crate::station_reports::StationReport;
 use dt_layout::LayoutFault;
 use dt_units::Flow;
 
@@ -209,6 +211,16 @@ macro_rules! keeping {
     };
 }
 
+/// A match on a report, with one row a report that a station makes, of which every field is kept.
+macro_rules! made_by_station {
+    ($report:expr; $($made:ident { $($field:ident),* },)*; $($other:pat => $kept:expr,)*) => {
+        match $report {
+            $(Report::$made { $($field),* } => Some(StationReport::$made { $($field),* }),)*
+            $($other => $kept,)*
+        }
+    };
+}
+
 impl<'a> Report<'a> {
     /// What the report says of octets, packets and lives: one row a report.
     pub fn matter(&self) -> Matter<'a>
@@ -290,6 +302,44 @@ impl<'a> Report<'a> {
             | Report::FlowTotals { .. }
             | Report::End
             | Report::Fault { .. } => Matter::Neither,
+        }
+    }
+
+    /// The report as a station itself makes it, whoever drives it, or `None` where it is one of a world, a
+    /// node or a run: one row a report.
+    pub fn station_report(&self) -> Option<StationReport>
+        ensures { result ≡ station_report_of (told self.now) }
+    {
+        made_by_station! { *self;
+            Took { flow, count },
+            Refused { flow, fault },
+            Sent { flow, number, length, drf, begin, end },
+            Resent { flow, number, length, drf, begin, end },
+            Met { flow, number },
+            Uncertain { flow, count },
+            Released { flow, sending },
+            Renewed { flow },
+            Acked { flow, number, window },
+            Replied { flow, number, window },
+            Accepted { flow, number, length, run },
+            Dropped { flow, number },
+            Closing { flow, number },
+            Settled { flow, count, window },
+            Ignored { flow, number, window },
+            Quiet { until },
+            Nothing { flow },
+            Put { link, life },
+            ExpiredIn { link },
+            ExpiredOut { link },
+            NoRoute { to },
+            Full { link },
+            Bad { fault },
+            ;
+            Report::Read { flow, run, begin, end, .. } =>
+                Some(StationReport::Read { flow, run, begin, end }),
+            Report::PutAs { .. } | Report::Lost { .. } | Report::Restarted { .. } | Report::Unsent { .. } => None,
+            Report::Shelved { .. } | Report::NoShelf { .. } | Report::Again { .. } | Report::Stale { .. } => None,
+            Report::FlowTotals { .. } | Report::End | Report::Fault { .. } => None,
         }
     }
 
