@@ -1,11 +1,10 @@
-//! A receiver, event by event: each row of its table, and its acts in time.
+//! A receiver, event by event: its answers, and its acts in time.
 ghost use Rattle.std.specs.Prelude.{◌≡◌, ◌<◌};
 
-use crate::Receiver;
-use crate::cases::{action, action_at};
-use dt_flow_model::{Action, Arrived, RecvAct, RecvKind, RecvMoments};
+use dt_flow_model::{Arrived, RecvAct, RecvKind, RecvMoments};
 use dt_items::Piece;
 use dt_layout::Frame;
+use dt_recv::Receiver;
 use dt_units::{Flow, NodeId, Params, Steps};
 use std::alloc::Global;
 use std::marker::Brand;
@@ -327,56 +326,4 @@ fn the_receiver_answers_as_the_rows_say(rt: HostRuntime) -> Result<(), Fail> {
     play::<Brand>(&rt, rt.alloc(), Blank::new(2), STANDARD, &REORDERED)?;
     play::<Brand>(&rt, rt.alloc(), Blank::new(3), narrow, &WINDOWS)?;
     play::<Brand>(&rt, rt.alloc(), Blank::new(4), STANDARD, &WRAPPED)
-}
-
-// The action at each key, by hand: in a line the four keys of `fits` and the data-run flag, and the
-// lines by the record and the relation.
-static ACTIONS: [Action; 32] = [
-    Action::Drop,
-    Action::Drop,
-    Action::TellNumber,
-    Action::Make,
-    Action::TellExpected,
-    Action::TellExpected,
-    Action::TellExpected,
-    Action::TellExpected,
-    Action::Drop,
-    Action::Drop,
-    Action::TellNumber,
-    Action::Make,
-    Action::TellExpected,
-    Action::Accept,
-    Action::TellExpected,
-    Action::Accept,
-    Action::Drop,
-    Action::Drop,
-    Action::TellNumber,
-    Action::Make,
-    Action::TellExpected,
-    Action::TellExpected,
-    Action::TellNumber,
-    Action::Skip,
-    Action::Drop,
-    Action::Drop,
-    Action::TellNumber,
-    Action::Make,
-    Action::Drop,
-    Action::Close,
-    Action::Drop,
-    Action::Close,
-];
-
-#[test]
-fn each_key_has_its_action(rt: HostRuntime) {
-    for key in 0..32 {
-        assert!(rt; action_at(key) == ACTIONS[usize::from(key)], "at {key}");
-    }
-}
-
-#[test]
-fn numbers_go_round(rt: HostRuntime) {
-    assert!(rt; action(Some(2), true, 4_294_967_290, 8, 100) == Action::TellExpected);
-    assert!(rt; action(Some(4_294_967_290), true, 2, 100, 100) == Action::Skip);
-    assert!(rt; action(Some(4_294_967_290), true, 2, 101, 100) == Action::TellNumber);
-    assert!(rt; action(None, true, 4_294_967_290, 100, 100) == Action::Make);
 }
