@@ -3,9 +3,11 @@
 `bench/all --gate-log LOG` reads.
 
 Each line of `rt ci` is written with the seconds since its start before it. Behind its last line stand lines that
-begin with `#`: seconds and seconds of processor in all, and those of each part. Proofs, tests and edits are at work
-side by side, so of a part only processor seconds are told; they are read from /proc twice a second, so what a
-process took in its last half second is missing, and counts as other work."""
+begin with `#`: seconds and seconds of processor in all, those of each part, and those of the crates that take most,
+the dearest first. Proofs, tests and edits are at work side by side, so of a part only processor seconds are told; they
+are read from /proc twice a second, so what a process took in its last half second is missing, and counts as other
+work. So does what `rt` itself takes, which reads sources for all."""
+import contextlib
 import os
 import pathlib
 import resource
@@ -13,9 +15,14 @@ import subprocess
 import sys
 import threading
 import time
+from collections.abc import Iterator
 
 PARTS = ("proofs", "tests", "edits", "programs")
+# those that are a crate's own
+OF_A_CRATE = PARTS[:3]
 EVERY = 0.5
+# how many crates are told
+DEAREST = 12
 
 
 def kind(words: list[str], folder: str) -> str | None:
@@ -30,11 +37,16 @@ def kind(words: list[str], folder: str) -> str | None:
     return None
 
 
+def crate_of(words: list[str]) -> str:
+    """The crate that a process is at work on, or nothing where its words name none."""
+    return words[words.index("--crate-name") + 1] if "--crate-name" in words[:-1] else ""
+
+
 class Taken:
-    """Processor seconds of the descendants of a process, each as last seen."""
+    """Processor seconds of the descendants of a process, each as last seen: its part, its crate, its seconds."""
 
     def __init__(self) -> None:
-        self.seen: dict[tuple[int, int], tuple[str, float]] = {}
+        self.seen: dict[tuple[int, int], tuple[str, str, float]] = {}
 
     def look(self, root: int) -> None:
         above, own = {}, {}
@@ -54,16 +66,24 @@ class Taken:
                 self.note(pid, started, seconds)
 
     def note(self, pid: int, started: int, seconds: float) -> None:
-        before = self.seen.get((pid, started))
-        try:
+        part, crate, _ = self.seen.get((pid, started), ("other", "", 0.0))
+        with contextlib.suppress(OSError):
             words = pathlib.Path(f"/proc/{pid}/cmdline").read_bytes().decode(errors="replace").split("\0")
-            part = kind(words, os.readlink(f"/proc/{pid}/cwd")) or "other"
-        except OSError:
-            part = before[0] if before else "other"
-        self.seen[pid, started] = part, seconds
+            # (one that is about to end has no words any more)
+            if words[0]:
+                part, crate = kind(words, os.readlink(f"/proc/{pid}/cwd")) or "other", crate_of(words)
+        self.seen[pid, started] = part, crate, seconds
 
-    def of(self, part: str) -> float:
-        return sum(seconds for it, seconds in self.seen.values() if it == part)
+    def of(self, part: str, crate: str | None = None) -> float:
+        """The seconds of a part, of one crate alone where it is named."""
+        return sum(seconds for of, name, seconds in self.seen.values() if of == part and crate in (None, name))
+
+    def dearest(self) -> Iterator[str]:
+        """A line for each of the crates that take most, below a head."""
+        rows = [(name, [self.of(part, name) for part in OF_A_CRATE]) for name in {name for _, name, _ in self.seen.values()} - {""}]
+        yield f"{'crate':18}" + "".join(f"{it:>8}" for it in (*OF_A_CRATE, "all"))
+        for name, seconds in sorted(rows, key=lambda row: -sum(row[1]))[:DEAREST]:
+            yield f"{name:18}" + "".join(f"{it:8.0f}" for it in (*seconds, sum(seconds)))
 
 
 def main() -> int:
@@ -88,6 +108,8 @@ def main() -> int:
     for part in PARTS:
         print(f"# {part} {taken.of(part):.0f} s of processor")
     print(f"# other {max(whole - sum(taken.of(it) for it in PARTS), 0):.0f} s of processor")
+    for line in taken.dearest():
+        print(f"# {line}")
     return status
 
 

@@ -19,6 +19,8 @@ LOG = """   10.0 rt: dt_items proved
    31.0 41 passed, 0 failed
 # in all 31 s, 100 s of processor, on 4 processors
 # proofs 60 s of processor
+# crate               proofs   tests   edits     all
+# dt_items                40       5      30      75
 """
 TOLD = """proofs: 1, the last at 10 s
 tests proved: 1, the last at 12 s
@@ -27,6 +29,8 @@ tests passed: 1, the last at 30 s
 41 passed, 0 failed
 in all 31 s, 100 s of processor, on 4 processors
 proofs 60 s of processor
+crate               proofs   tests   edits     all
+dt_items                40       5      30      75
 """
 
 

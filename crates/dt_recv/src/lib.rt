@@ -12,6 +12,3 @@ pub use cases::action;
 pub use dt_flow_model::{Action, Arrived, RecvAct, RecvKind, RecvMoments};
 pub use receivers::Receiver;
 pub use segment::Segment;
-
-#[cfg(test)]
-mod tests;

@@ -1,8 +1,15 @@
-//! Tests of the program's commands as one call, `run`, and of a trace that is run again: worked inputs over the
-//! forms in memory, with what is printed and how each ends.
+//! Tests of the program's commands as one call, `run`, over the forms in memory, and of a trace that is run again:
+//! worked inputs with what is printed and how each ends, each failure of source, sink, wire and clock, datagrams
+//! with any octets, and inputs that are cut short or too long.
 #![tactic(auto)]
 
 #[cfg(test)]
 mod commands;
+#[cfg(test)]
+mod datagrams;
+#[cfg(test)]
+mod failures;
+#[cfg(test)]
+mod inputs;
 #[cfg(test)]
 mod retraces;

@@ -1,0 +1,329 @@
+//! A receiver, event by event: its answers, and its acts in time.
+ghost use Rattle.std.specs.Prelude.{◌≡◌, ◌<◌};
+
+use dt_flow_model::{Arrived, RecvAct, RecvKind, RecvMoments};
+use dt_items::Piece;
+use dt_layout::Frame;
+use dt_recv::Receiver;
+use dt_units::{Flow, NodeId, Params, Steps};
+use std::alloc::Global;
+use std::marker::Brand;
+use std::process::Abort;
+use std::sync::ledger::{Blank, Ledger};
+use std::test::Fail;
+
+const STANDARD: Params = Params {
+    mpl: 1000,
+    r: 3000,
+    a: 200,
+    rto: 500,
+    probe: 800,
+    seg: 100,
+    cap: 4096,
+    rcap: 4096,
+    window: 512,
+    run_limit: 2_147_483_648,
+    start: 0,
+};
+
+const FLOW: Flow = Flow {
+    from: NodeId(1),
+    from_port: 10,
+    to: NodeId(2),
+    to_port: 20,
+};
+
+// What a packet is answered: accepted as a new run or following the octets before, replied to with a
+// number and a window, closing with a number, or dropped.
+#[derive(Clone, Copy)]
+enum Answer {
+    Run(u32),
+    On(u32),
+    Told(u32, u32),
+    Closing(u32),
+    Dropped,
+}
+
+// What happens to a receiver, and what comes of it. Letters of a packet are `d` for the data-run flag,
+// `b` and `e` for its marks, and those of a piece `r`, `b` and `e`.
+enum Event {
+    // a data packet: number, letters, octets
+    Data(u32, &'static [u8], &'static [u8], Answer),
+    Meet(u32, Answer),
+    Close(u32, Answer),
+    // nothing is due, or this kind since a moment
+    Idle,
+    Due(RecvKind, u64),
+    // the act that is due is done: an acknowledgement with a number and a window, or the release
+    Acked(u32, u32),
+    Released,
+    // at most so many octets are read: letters, octets
+    Read(usize, &'static [u8], &'static [u8]),
+    // what is expected, and the free room
+    Stands(Option<u32>, u32),
+    // when release and an acknowledgement are due, and the wake
+    Moments(Option<u64>, Option<u64>, Option<u64>),
+}
+
+impl Answer {
+    fn arrived(self) -> Arrived {
+        match self {
+            Answer::Run(count) => Arrived::Accepted { run: true, count },
+            Answer::On(count) => Arrived::Accepted { run: false, count },
+            Answer::Told(number, window) => Arrived::Replied { number, window },
+            Answer::Closing(number) => Arrived::Closing { number },
+            Answer::Dropped => Arrived::Dropped,
+        }
+    }
+
+    fn told(self) -> Option<(u32, u32)> {
+        match self {
+            Answer::Told(number, window) => Some((number, window)),
+            Answer::Run(_) | Answer::On(_) | Answer::Closing(_) | Answer::Dropped => None,
+        }
+    }
+}
+
+fn has(letters: &[u8], letter: u8) -> bool {
+    letters.contains(&letter)
+}
+
+// An acknowledgement of the flow in octets: from node 2 to node 1, with a life of 1000.
+fn spelling(number: u32, window: u32) -> [u8; 30] {
+    let mut octets =
+        *b"\x01\x01\x00\x0e\x00\x00\x03\xe8\x00\x00\x00\x02\x00\x00\x00\x01\x02\x00\x00\x14\x00\x0a\x00\x00\x00\x00\x00\x00\x00\x00";
+    octets[22..26].copy_from_slice(&number.to_be_bytes());
+    octets[26..].copy_from_slice(&window.to_be_bytes());
+    octets
+}
+
+// Whether the frame is what an answer leaves: its acknowledgement, or the empty frame that was there.
+fn is_left(frame: &Frame, told: Option<(u32, u32)>) -> bool {
+    match told {
+        None => frame.as_slice().is_empty(),
+        Some((number, window)) => frame.as_slice() == spelling(number, window).as_slice(),
+    }
+}
+
+fn is_answer(frame: &Frame, answer: Arrived, wanted: Answer) -> bool {
+    answer == wanted.arrived() && is_left(frame, wanted.told())
+}
+
+fn takes_data<L: Ledger>(
+    receiver: &mut Receiver,
+    now: u64,
+    number: u32,
+    letters: &[u8],
+    octets: &[u8],
+    wanted: Answer,
+    steps: &mut Steps<L>,
+) -> bool {
+    if octets.is_empty() || octets.len() > 8192 || now > 1 << 62 {
+        return false;
+    }
+    let drf = has(letters, b'd');
+    let begin = has(letters, b'b');
+    let end = has(letters, b'e');
+    let mut frame = Frame::new();
+    let answer = receiver.on_data(number, drf, begin, end, octets, now, &mut frame, steps);
+    is_answer(&frame, answer, wanted)
+}
+
+fn meets<L: Ledger>(
+    receiver: &mut Receiver,
+    now: u64,
+    number: u32,
+    wanted: Answer,
+    steps: &mut Steps<L>,
+) -> bool {
+    let mut frame = Frame::new();
+    let answer = receiver.on_meet(number, now, &mut frame, steps);
+    is_answer(&frame, answer, wanted)
+}
+
+fn reads<L: Ledger>(
+    receiver: &mut Receiver,
+    now: u64,
+    most: usize,
+    letters: &[u8],
+    octets: &[u8],
+    steps: &mut Steps<L>,
+) -> bool {
+    if most == 0 || most > 300 {
+        return false;
+    }
+    let mut buf = [b'.'; 300];
+    let wanted = Piece {
+        len: octets.len(),
+        begin: has(letters, b'b'),
+        end: has(letters, b'e'),
+        run: has(letters, b'r'),
+    };
+    receiver.read(&mut buf[..most], now, steps) == Some(wanted) && buf.starts_with(octets)
+}
+
+fn acts<L: Ledger>(
+    receiver: &mut Receiver,
+    now: u64,
+    wanted: RecvAct,
+    told: Option<(u32, u32)>,
+    steps: &mut Steps<L>,
+) -> bool {
+    if receiver.due(now, steps).is_none() {
+        return false;
+    }
+    let mut frame = Frame::new();
+    receiver.act(now, &mut frame, steps) == wanted && is_left(&frame, told)
+}
+
+fn acknowledges<L: Ledger>(
+    receiver: &mut Receiver,
+    now: u64,
+    number: u32,
+    window: u32,
+    steps: &mut Steps<L>,
+) -> bool {
+    let wanted = RecvAct::Acked { number, window };
+    acts(receiver, now, wanted, Some((number, window)), steps)
+}
+
+fn has_moments<L: Ledger>(
+    receiver: &Receiver,
+    release: Option<u64>,
+    ack: Option<u64>,
+    wake: Option<u64>,
+    steps: &mut Steps<L>,
+) -> bool {
+    receiver.moments(steps) == RecvMoments { release, ack } && receiver.wake(steps) == wake
+}
+
+// Whether an event goes as it says.
+fn happens<L: Ledger>(
+    receiver: &mut Receiver,
+    now: u64,
+    event: &Event,
+    steps: &mut Steps<L>,
+) -> bool {
+    match event {
+        Event::Data(number, letters, octets, wanted) => {
+            takes_data(receiver, now, *number, letters, octets, *wanted, steps)
+        }
+        Event::Meet(number, wanted) => meets(receiver, now, *number, *wanted, steps),
+        Event::Close(number, wanted) => {
+            is_answer(&Frame::new(), receiver.on_close(*number, steps), *wanted)
+        }
+        Event::Idle => receiver.due(now, steps).is_none(),
+        Event::Due(kind, moment) => receiver.due(now, steps) == Some((*kind, *moment)),
+        Event::Acked(number, window) => acknowledges(receiver, now, *number, *window, steps),
+        Event::Released => acts(receiver, now, RecvAct::Released, None, steps),
+        Event::Read(most, letters, octets) => reads(receiver, now, *most, letters, octets, steps),
+        Event::Stands(expected, free) => {
+            receiver.expected() == *expected && receiver.free() == *free
+        }
+        Event::Moments(release, ack, wake) => has_moments(receiver, *release, *ack, *wake, steps),
+    }
+}
+
+// A new receiver meets these events, each at its moment.
+fn play<L: Ledger>(
+    rt: &impl Abort,
+    alloc: Global,
+    ledger: Blank,
+    params: Params,
+    events: &[(u64, Event)],
+) -> Result<(), Fail>
+    requires name { ledger.name ≡ L.name }
+    requires parts { ledger.parts ≡ L.parts }
+    requires some { 0 < ledger.parts }
+{
+    let mut steps = Steps::<L>::new(ledger);
+    let rules = params.check().expect(rt, "the parameters are refused");
+    let mut receiver = Receiver::new(alloc, &rules, FLOW)?;
+    assert!(rt; receiver.is_idle());
+    for (now, event) in events {
+        let is = happens(&mut receiver, *now, event, &mut steps);
+        assert!(rt; is, "at {now}");
+    }
+    Ok(())
+}
+
+// Duplicates, closing packets and the receive timer.
+static ONE_MESSAGE: [(u64, Event); 17] = [
+    (0, Event::Stands(None, 4096)),
+    (0, Event::Moments(None, None, None)),
+    (0, Event::Close(5, Answer::Dropped)),
+    (0, Event::Data(0, b"dbe", b"hello", Answer::Run(5))),
+    (0, Event::Moments(Some(4200), Some(0), Some(0))),
+    (0, Event::Due(RecvKind::Ack, 0)),
+    (0, Event::Acked(5, 4091)),
+    (0, Event::Data(0, b"dbe", b"hello", Answer::Told(5, 4091))),
+    (0, Event::Data(0, b"dbe", b"hello", Answer::Told(5, 4091))),
+    (20, Event::Close(5, Answer::Closing(5))),
+    (20, Event::Close(6, Answer::Dropped)),
+    (20, Event::Moments(Some(4200), None, Some(4200))),
+    (4199, Event::Idle),
+    (4200, Event::Due(RecvKind::Release, 4200)),
+    (4200, Event::Released),
+    (4200, Event::Stands(None, 4091)),
+    (4200, Event::Read(300, b"rbe", b"hello")),
+];
+
+// Segments that come out of order.
+static REORDERED: [(u64, Event); 10] = [
+    (0, Event::Data(200, b"e", &[b'a'; 50], Answer::Dropped)),
+    (0, Event::Data(0, b"db", &[b'a'; 100], Answer::Run(100))),
+    (
+        0,
+        Event::Data(200, b"e", &[b'a'; 50], Answer::Told(100, 3996)),
+    ),
+    (0, Event::Data(100, b"", &[b'a'; 100], Answer::On(100))),
+    (199, Event::Idle),
+    (200, Event::Acked(200, 3896)),
+    (500, Event::Data(200, b"de", &[b'a'; 50], Answer::On(50))),
+    (500, Event::Acked(250, 3846)),
+    (500, Event::Read(300, b"rbe", &[b'a'; 250])),
+    (500, Event::Stands(Some(250), 4096)),
+];
+
+// Windows that open, with `rcap` 4.
+static WINDOWS: [(u64, Event); 10] = [
+    (0, Event::Data(0, b"db", b"abcd", Answer::Run(4))),
+    (200, Event::Acked(4, 0)),
+    (800, Event::Meet(4, Answer::Told(4, 0))),
+    (800, Event::Idle),
+    (800, Event::Read(10, b"rb", b"abcd")),
+    (800, Event::Acked(4, 4)),
+    (1600, Event::Meet(4, Answer::Told(4, 4))),
+    (1600, Event::Data(4, b"de", b"ef", Answer::On(2))),
+    (1600, Event::Acked(6, 2)),
+    (1600, Event::Stands(Some(6), 2)),
+];
+
+// Numbers that go round.
+static WRAPPED: [(u64, Event); 6] = [
+    (
+        0,
+        Event::Data(4_294_967_292, b"db", b"aaaa", Answer::Run(4)),
+    ),
+    (
+        0,
+        Event::Data(4_294_967_292, b"db", b"aaaa", Answer::Told(0, 4092)),
+    ),
+    (0, Event::Data(4, b"e", b"aa", Answer::Told(0, 4092))),
+    (0, Event::Data(0, b"", b"aaaa", Answer::On(4))),
+    (0, Event::Data(4, b"e", b"aa", Answer::On(2))),
+    (0, Event::Acked(6, 4086)),
+];
+
+#[test]
+fn the_receiver_answers_as_the_rows_say(rt: HostRuntime) -> Result<(), Fail> {
+    let narrow = Params {
+        rcap: 4,
+        window: 4,
+        ..STANDARD
+    };
+    play::<Brand>(&rt, rt.alloc(), Blank::new(1), STANDARD, &ONE_MESSAGE)?;
+    play::<Brand>(&rt, rt.alloc(), Blank::new(2), STANDARD, &REORDERED)?;
+    play::<Brand>(&rt, rt.alloc(), Blank::new(3), narrow, &WINDOWS)?;
+    play::<Brand>(&rt, rt.alloc(), Blank::new(4), STANDARD, &WRAPPED)
+}
