@@ -16,6 +16,7 @@ ghost use Rattle.dt_send.specs.SentSegments.{IsPlaceOf, earlier_place, octets_in
 ghost use Rattle.dt_send.specs.SendBuffer.{Acts, IsSendBuffer, IsChosen, IsEndAt, record_of};
 
 use crate::dues::due_first;
+use crate::kept_segments::KeptSegment;
 use crate::numbering::{crosses, crossing_after, number_at};
 use crate::occasions::Occasion;
 use crate::octets::{append_octets, cut_at};
@@ -45,7 +46,7 @@ pub struct SendBuffer {
     pub crossed: Option<u64>,
     /// The offset of the next octet that goes out.
     pub next: u64,
-    pub stretches: HeapCircularBuffer<SentSegment>,
+    pub stretches: HeapCircularBuffer<KeptSegment>,
     pub items: HeapCircularBuffer<Item>,
 }
 
@@ -360,15 +361,16 @@ impl SendBuffer {
 
     /// Notes that the segment at a place goes out again at this moment.
     fn note_again(&mut self, place: usize, at: u64)
-        requires { place < length self.old.stretches.items }
+        requires there { place < length self.old.stretches.items }
+        requires late { (s : SentSegment) → slice_get self.old.stretches.items place ≡ Some s → (s.last ≤ at) × (at < s.first + 2 ^ 32) }
         ensures { (s : SentSegment) → slice_get self.old.stretches.items place ≡ Some s →
             self.new ≡ record self.old {
               touched = at;
               stretches = buffer (slice_set self.old.stretches.items place (record s { last = at })) self.old.stretches.capacity;
             } }
     {
-        if let Some(stretch) = self.stretches.get_mut(place) {
-            stretch.last = at;
+        if let Some(kept) = self.stretches.get_mut(place) {
+            *kept = kept.again(at);
         }
         self.touched = at;
     }
@@ -394,6 +396,8 @@ impl SendBuffer {
     fn note_sent(&mut self, rules: &Rules, stretch: SentSegment, now: u64)
         requires few { length self.old.stretches.items < self.old.stretches.capacity }
         requires bounded { self.old.next + stretch.length < 2 ^ 63 }
+        requires ordered { stretch.first ≤ stretch.last }
+        requires near { stretch.last < stretch.first + 2 ^ 32 }
         ensures { self.new ≡ record self.old {
           touched = now;
           crossed = (if is_crossing rules.now self.old.next then Some now else self.old.crossed);
@@ -404,7 +408,7 @@ impl SendBuffer {
         if crosses(rules, self.next) {
             self.crossed = Some(now);
         }
-        self.stretches.push_back(stretch);
+        self.stretches.push_back(KeptSegment::of(&stretch));
         self.next += u64::from(stretch.length);
         self.touched = now;
     }
