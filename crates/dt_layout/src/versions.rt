@@ -1,5 +1,6 @@
 //! What the versions of the layout allow.
-ghost use Rattle.std.specs.Prelude.{◌≡◌};
+ghost use Rattle.std.specs.Prelude.{◌≡◌, nat_le, if◌then◌else◌};
+ghost use Rattle.dt_layout.specs.declared.limits.TheConstants.{MOST_SHORT_DATA, VERSION_1, VERSION_2};
 ghost use Rattle.dt_layout.specs.Spelling.{least_data, most_data, most_body, packet_of, version_of};
 ghost use Rattle.dt_layout.specs.Reading.{is_version};
 
@@ -51,8 +52,19 @@ pub fn version_for(packet: &Packet<'_>) -> u8
     ensures { result ≡ version_of (packet_of packet.now) }
 {
     match packet {
-        Packet::Data { octets, .. } if octets.len() > MOST_SHORT_DATA => VERSION_2,
-        Packet::Data { .. } | Packet::Ack { .. } | Packet::Meet { .. } => VERSION_1,
+        Packet::Data { octets, .. } => version_for_data(octets.len()),
+        Packet::Ack { .. } | Packet::Meet { .. } => VERSION_1,
         Packet::Close { .. } => VERSION_2,
+    }
+}
+
+/// The version that has data of `count` octets.
+pub fn version_for_data(count: usize) -> u8
+    ensures { result ≡ (if nat_le count MOST_SHORT_DATA then VERSION_1 else VERSION_2) }
+{
+    if count > MOST_SHORT_DATA {
+        VERSION_2
+    } else {
+        VERSION_1
     }
 }

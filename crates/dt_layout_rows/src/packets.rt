@@ -4,7 +4,7 @@ ghost use Rattle.dt_layout.specs.Spelling.{KeepsRules, packet_of};
 use crate::octets::{
     ACKNOWLEDGEMENT, CLOSING, FIRST, FRAME, RENDEZVOUS, SECOND, fault_of, read_whole,
 };
-use dt_layout::{Frame, LayoutFault, Packet, write_frame};
+use dt_layout::{DataHead, Frame, LayoutFault, Packet, write_frame};
 
 /// Whether these octets, all before the data and the data, read as the packet.
 fn are_read(bytes: &[u8], packet: &Packet<'_>) -> bool {
@@ -66,6 +66,24 @@ fn data_is_written_and_read(rt: HostRuntime) {
         octets: b"hello",
     };
     assert!(rt; is_spelled(&mut frame, 1, 2, &packet, &FRAME, b""));
+}
+
+#[test]
+fn data_in_pieces_comes_after_its_head(rt: HostRuntime) {
+    let mut frame = Frame::new();
+    let head = DataHead {
+        from_port: 10,
+        to_port: 20,
+        number: 0,
+        drf: true,
+        begin: true,
+        end: true,
+        count: 5,
+    };
+    head.write(&mut frame, 999, 1, 2);
+    frame.append(b"he");
+    frame.append(b"llo");
+    assert!(rt; frame.as_slice() == FRAME.as_slice());
 }
 
 #[test]

@@ -13,11 +13,11 @@ use Rattle.dt_flow_model.specs.declared.acts.SendAct.TheVariants.{Resent, Sent}
 use Rattle.dt_flow_model.specs.declared.acts.SendKind.TheVariants as kind
 use Rattle.dt_flow_model.specs.Numbering.{is_crossing, number_of}
 use Rattle.dt_flow_model.specs.SendRecord.{Segment, SendRecord, crossed_after, cut_of, cut_size, cut_told, leads, may_go, next_from, next_of, rest_of}
-use Rattle.dt_flow_model.specs.SendActs.{Act, record_after, resend, resending, send}
+use Rattle.dt_flow_model.specs.SendActs.{Act, IsDue, record_after, resend, resending, send}
 use Rattle.dt_flow_model.specs.Frames.{data_packet, forth}
 use Rattle.dt_flow_model.specs.Keeping.{IsSegment}
 use Rattle.dt_flow_model.proofs.Chains.{next_append}
-use Rattle.dt_flow_model.proofs.Chosen.{cut_count, cut_within}
+use Rattle.dt_flow_model.proofs.Chosen.{act_is_due, cut_count, cut_within}
 use Rattle.dt_flow_model.proofs.Records.{cut_segment}
 use Rattle.dt_send.specs.declared.sent_segments.SentSegment.{SentSegment}
 use Rattle.dt_send.specs.declared.send_buffer.SendBuffer.{SendBuffer}
@@ -204,6 +204,12 @@ module _ (p : Params) (now : ℕ) (le : now ≤ 2 ^ 62) (k : SendBuffer) (r : Is
         ∙ ap (λ (b : List Segment). resend b (w).1 (w).2) (sym parts.0)
         ∙ ap (λ (h : Segment). resend (take place gs) h (w).2) (sym same)
         ∙ ap (λ (a : List Segment). resend (take place gs) g a) (sym parts.2)
+
+    -- it goes out again after its last transmission, and at most a day after its first
+    pub again_late : (s.last ≤ now) × (now < s.first + 2 ^ 32)
+    again_late =
+        let due = subst (λ (act : Act). IsDue p now (record_of k) act) chosen_is (act_is_due p now (record_of k) c.act c.chosen) in
+        (omega (arith, due.1), omega (arith, due.2, r.limits.r))
 
     again_offset : s.offset ≡ k.left + octets_in (take place k.stretches.items)
     again_offset = found_offset p k r place s is

@@ -1,8 +1,8 @@
 -- What is told and written of a segment that goes out.
-use Rattle.std.proofs.Common.{ℕ, ◌+◌, ◌<◌, ◌≡◌, Bool, true, false, List, [], ◌∷◌, length, take, drop, get_or, Some, refl, sym, ap, ◌∙◌, arith, eqb}
+use Rattle.std.proofs.Common.{ℕ, ◌+◌, ◌<◌, ◌≤◌, ◌≡◌, Bool, true, false, List, [], ◌∷◌, ◌++◌, length, take, drop, get_or, Some, refl, sym, ap, ◌∙◌, arith, eqb, append_assoc}
 use Rattle.std.specs.Prelude.{◌&&◌}
 use Rattle.std.specs.List.{slice_get}
-use Rattle.std.proofs.lemmas.List.{get_or-drop, get_or-take, length-map}
+use Rattle.std.proofs.lemmas.List.{drop-drop, drop-take, get_or-drop, get_or-take, length-drop, length-map, length-take-le, map-append, take-append-drop, take-take, take_at}
 use Rattle.std.proofs.lemmas.Option.{get_or_from_slice_get}
 use Rattle.std.proofs.lemmas.Bool.Decides.{nat_tests}
 use Rattle.dt_items.specs.declared.item.Item.{Item}
@@ -29,3 +29,26 @@ ends-last items i x piece e h =
     let at = marked-at (octets_of items) i (begins items) (ends items) false blank (omega arith) in
     let last : eqb (i + 1) (length (octets_of items)) ≡ true = grind (arith, nat_tests) in
     sym (ap (λ (j : Item). j.end) (sym h ∙ ap (λ (is : List Item). get_or is i blank) piece ∙ at) ∙ and_true (ends items) (eqb (i + 1) (length (octets_of items))) last)
+
+-- so many items, and then more of them
+take_sum : (n m : ℕ) (items : List Item) → take (n + m) items ≡ take n items ++ take m (drop n items)
+take_sum n m items = sym (
+    ap (λ front. front ++ take m (drop n items)) (sym (take-take n (n + m) items (omega arith)))
+    ∙ ap (λ back. take n (take (n + m) items) ++ back) (sym (drop-take n m items))
+    ∙ take-append-drop n (take (n + m) items)
+    )
+
+-- the octets of more items stand after those of the items before them
+pub appended : (items : List Item) (from done more : ℕ) (was now stage rest next : List ℕ) → from + done + more ≤ length items → now ≡ was ++ octets_of (take done (drop from items))
+    → stage ≡ octets_of (take more (drop (from + done) items)) ++ rest → next ≡ now ++ take more stage → next ≡ was ++ octets_of (take (done + more) (drop from items))
+appended items from done more was now stage rest next there so_far made e =
+    let there_is : drop (from + done) items ≡ drop done (drop from items) = sym (drop-drop done from items) in
+    let piece = take more (drop (from + done) items) in
+    let size : length (octets_of piece) ≡ more = length-map piece (λ (item : Item). item.octet) ∙ length-take-le more (drop (from + done) items) (omega (arith, length-drop (from + done) items)) in
+    let staged : take more stage ≡ octets_of piece = ap (take more) made ∙ take_at (octets_of piece) rest more size in
+    let before = octets_of (take done (drop from items)) in
+    e
+    ∙ ap (λ (front : List ℕ). front ++ take more stage) so_far
+    ∙ append_assoc was before (take more stage)
+    ∙ ap (λ (back : List ℕ). was ++ (before ++ back)) (staged ∙ ap (λ (l : List Item). octets_of (take more l)) there_is)
+    ∙ ap (λ (back : List ℕ). was ++ back) (sym (map-append (λ (item : Item). item.octet) (take done (drop from items)) (take more (drop done (drop from items)))) ∙ ap octets_of (sym (take_sum done more (drop from items))))

@@ -2,6 +2,7 @@
 #![tactic(auto)]
 
 mod dues;
+mod kept_segments;
 mod numbering;
 mod occasions;
 mod octets;

@@ -16,14 +16,15 @@ ghost use Rattle.dt_send.specs.SentSegments.{IsPlaceOf, earlier_place, octets_in
 ghost use Rattle.dt_send.specs.SendBuffer.{Acts, IsSendBuffer, IsChosen, IsEndAt, record_of};
 
 use crate::dues::due_first;
+use crate::kept_segments::KeptSegment;
 use crate::numbering::{crosses, crossing_after, number_at};
 use crate::occasions::Occasion;
-use crate::octets::cut_at;
+use crate::octets::{append_octets, cut_at};
 use crate::sent_segments::{SentSegment, stretch_at};
 use circular_buffer::HeapCircularBuffer;
 use dt_flow_model::{Cut, SendAct, SendKind, SendMoments};
-use dt_items::{Item, NoMemory, append_marked, copy_octets, item_in};
-use dt_layout::{Frame, Packet, write_frame};
+use dt_items::{Item, NoMemory, append_marked, item_in};
+use dt_layout::{DataHead, Frame, Packet, write_frame};
 use dt_units::{Flow, Rules, earlier};
 use std::alloc::Global;
 
@@ -45,7 +46,7 @@ pub struct SendBuffer {
     pub crossed: Option<u64>,
     /// The offset of the next octet that goes out.
     pub next: u64,
-    pub stretches: HeapCircularBuffer<SentSegment>,
+    pub stretches: HeapCircularBuffer<KeptSegment>,
     pub items: HeapCircularBuffer<Item>,
 }
 
@@ -306,45 +307,37 @@ impl SendBuffer {
         SendAct::Renewed
     }
 
-    /// Writes the packet of a segment into the frame, over its octets, which are copied to the room.
-    /// Tells the cut.
-    fn transmit(
-        &self,
-        occasion: &Occasion<'_>,
-        stretch: &SentSegment,
-        room: &mut [u8],
-        frame: &mut Frame,
-    ) -> Cut
+    /// Writes the packet of a segment into the frame. Tells the cut.
+    fn transmit(&self, occasion: &Occasion<'_>, stretch: &SentSegment, frame: &mut Frame) -> Cut
         requires there { (self.now.left ≤ stretch.now.offset) × (stretch.now.offset + stretch.now.length ≤ self.now.left + length self.now.items.items) }
         requires bounded { self.now.left + length self.now.items.items < 2 ^ 62 }
         requires segment { IsSegment occasion.now.rules.now (segment_of stretch.now (drop (stretch.now.offset - self.now.left) self.now.items.items)) }
-        requires room { length room.old ≡ occasion.now.rules.now.seg }
         ensures cut { let g = segment_of stretch.now (drop (stretch.now.offset - self.now.left) self.now.items.items) in
             result ≡ cut_told occasion.now.rules.now (record_of self.now) g.offset g.items }
         ensures frame { let g = segment_of stretch.now (drop (stretch.now.offset - self.now.left) self.now.items.items) in
             frame.new ≡ forth occasion.now.rules.now occasion.now.flow.now (data_packet occasion.now.flow.now (number_of occasion.now.rules.now g.offset) (leads (record_of self.now) g.offset) g.items) }
     {
         let Occasion { rules, flow, .. } = *occasion;
-        let length = stretch.length as usize;
+        let count = stretch.length as usize;
         let from = (stretch.offset - self.left) as usize;
-        copy_octets(&self.items, from, length, room);
         let cut = Cut {
             number: number_at(rules, stretch.offset),
             length: stretch.length,
             drf: stretch.offset == self.left,
             begin: item_in(&self.items, from).begin,
-            end: item_in(&self.items, from + length - 1).end,
+            end: item_in(&self.items, from + count - 1).end,
         };
-        let packet = Packet::Data {
+        let head = DataHead {
             from_port: flow.from_port,
             to_port: flow.to_port,
             number: cut.number,
             drf: cut.drf,
             begin: cut.begin,
             end: cut.end,
-            octets: &room[..length],
+            count,
         };
-        write_frame(frame, rules.params().mpl, flow.from.0, flow.to.0, &packet);
+        head.write(frame, rules.params().mpl, flow.from.0, flow.to.0);
+        append_octets(&self.items, from, count, frame);
         cut
     }
 
@@ -368,24 +361,24 @@ impl SendBuffer {
 
     /// Notes that the segment at a place goes out again at this moment.
     fn note_again(&mut self, place: usize, at: u64)
-        requires { place < length self.old.stretches.items }
+        requires there { place < length self.old.stretches.items }
+        requires late { (s : SentSegment) → slice_get self.old.stretches.items place ≡ Some s → (s.last ≤ at) × (at < s.first + 2 ^ 32) }
         ensures { (s : SentSegment) → slice_get self.old.stretches.items place ≡ Some s →
             self.new ≡ record self.old {
               touched = at;
               stretches = buffer (slice_set self.old.stretches.items place (record s { last = at })) self.old.stretches.capacity;
             } }
     {
-        if let Some(stretch) = self.stretches.get_mut(place) {
-            stretch.last = at;
+        if let Some(kept) = self.stretches.get_mut(place) {
+            *kept = kept.again(at);
         }
         self.touched = at;
     }
 
     /// Sends a segment again.
-    fn resend(&mut self, occasion: &Occasion<'_>, room: &mut [u8], frame: &mut Frame) -> SendAct
+    fn resend(&mut self, occasion: &Occasion<'_>, frame: &mut Frame) -> SendAct
         requires rings { IsSendBuffer occasion.now.rules.now self.old }
         requires chosen { IsChosen occasion.now.rules.now occasion.now.at (record_of self.old) kind.Resend }
-        requires room { length room.old ≡ occasion.now.rules.now.seg }
         ensures rings { IsSendBuffer occasion.now.rules.now self.new }
         ensures acts { Acts occasion.now.rules.now occasion.now.flow.now occasion.now.at (record_of self.old) result (record_of self.new) frame.old frame.new }
     {
@@ -394,7 +387,7 @@ impl SendBuffer {
             None => unreachable!(),
         };
         let stretch = stretch_at(&self.stretches, place);
-        let cut = self.transmit(occasion, &stretch, room, frame);
+        let cut = self.transmit(occasion, &stretch, frame);
         self.note_again(place, occasion.at);
         SendAct::Resent(cut)
     }
@@ -403,6 +396,8 @@ impl SendBuffer {
     fn note_sent(&mut self, rules: &Rules, stretch: SentSegment, now: u64)
         requires few { length self.old.stretches.items < self.old.stretches.capacity }
         requires bounded { self.old.next + stretch.length < 2 ^ 63 }
+        requires ordered { stretch.first ≤ stretch.last }
+        requires near { stretch.last < stretch.first + 2 ^ 32 }
         ensures { self.new ≡ record self.old {
           touched = now;
           crossed = (if is_crossing rules.now self.old.next then Some now else self.old.crossed);
@@ -413,16 +408,15 @@ impl SendBuffer {
         if crosses(rules, self.next) {
             self.crossed = Some(now);
         }
-        self.stretches.push_back(stretch);
+        self.stretches.push_back(KeptSegment::of(&stretch));
         self.next += u64::from(stretch.length);
         self.touched = now;
     }
 
     /// Sends the next cut.
-    fn send(&mut self, occasion: &Occasion<'_>, room: &mut [u8], frame: &mut Frame) -> SendAct
+    fn send(&mut self, occasion: &Occasion<'_>, frame: &mut Frame) -> SendAct
         requires rings { IsSendBuffer occasion.now.rules.now self.old }
         requires chosen { IsChosen occasion.now.rules.now occasion.now.at (record_of self.old) kind.Send }
-        requires room { length room.old ≡ occasion.now.rules.now.seg }
         ensures rings { IsSendBuffer occasion.now.rules.now self.new }
         ensures acts { Acts occasion.now.rules.now occasion.now.flow.now occasion.now.at (record_of self.old) result (record_of self.new) frame.old frame.new }
     {
@@ -434,7 +428,7 @@ impl SendBuffer {
             first: occasion.at,
             last: occasion.at,
         };
-        let cut = self.transmit(occasion, &stretch, room, frame);
+        let cut = self.transmit(occasion, &stretch, frame);
         self.note_sent(rules, stretch, occasion.at);
         SendAct::Sent(cut)
     }
@@ -472,18 +466,17 @@ impl SendBuffer {
     }
 
     /// Does the act that is due.
-    pub fn act(&mut self, occasion: &Occasion<'_>, room: &mut [u8], frame: &mut Frame) -> SendAct
+    pub fn act(&mut self, occasion: &Occasion<'_>, frame: &mut Frame) -> SendAct
         requires rings { IsSendBuffer occasion.now.rules.now self.old }
         requires due { IsSome (acts.due_of occasion.now.rules.now occasion.now.at (record_of self.old)) }
-        requires room { length room.old ≡ occasion.now.rules.now.seg }
         ensures rings { IsSendBuffer occasion.now.rules.now self.new }
         ensures acts { Acts occasion.now.rules.now occasion.now.flow.now occasion.now.at (record_of self.old) result (record_of self.new) frame.old frame.new }
     {
         match self.due(occasion) {
             Some(SendKind::GiveUp) => self.give_up(),
             Some(SendKind::Release) => self.release(occasion),
-            Some(SendKind::Resend) => self.resend(occasion, room, frame),
-            Some(SendKind::Send) => self.send(occasion, room, frame),
+            Some(SendKind::Resend) => self.resend(occasion, frame),
+            Some(SendKind::Send) => self.send(occasion, frame),
             Some(SendKind::Meet) => self.meet(occasion, frame),
             None => unreachable!(),
         }

@@ -36,12 +36,9 @@ pub struct Sender {
     rules: Rules,
     flow: Flow,
     buffer: SendBuffer,
-    /// Room for the octets of one segment, which are copied here on their way into a frame.
-    room: Vec<u8>,
 }
 
 impl Model for Sender {
-    ghost use Rattle.std.specs.Prelude.{◌≡◌, vec_len};
     ghost use Rattle.dt_send.specs.Senders.{SenderValue};
     ghost use Rattle.dt_send.specs.SendBuffer.{IsSendBuffer, record_of};
 
@@ -49,23 +46,21 @@ impl Model for Sender {
 
     ghost view = { λ s. record { rules = s.rules; flow = s.flow; state = record_of s.buffer } };
 
-    ghost invariant = { λ s. IsSendBuffer s.rules s.buffer × (vec_len s.room ≡ s.rules.seg) };
+    ghost invariant = { λ s. IsSendBuffer s.rules s.buffer };
 }
 
 impl Sender {
     /// A send record that begins at now, with nothing in it and the window of the parameters. Takes
-    /// the memory for `cap` octets with their marks, for 64 segments and for the octets of one.
+    /// the memory for `cap` octets with their marks and for 64 segments.
     pub fn new(alloc: Global, rules: &Rules, flow: Flow, now: u64) -> Result<Sender, NoMemory>
         requires { now ≤ most_moment }
         ensures { IfOk result (λ sender. sender ≡ record { rules = rules.now; flow = flow; state = new_record rules.now now [] }) }
     {
         let buffer = SendBuffer::new(alloc, rules, now)?;
-        let room = vec![in alloc; 0; rules.params().seg as usize]?;
         Ok(Sender {
             rules: *rules,
             flow,
             buffer,
-            room,
         })
     }
 
@@ -150,7 +145,7 @@ impl Sender {
             flow: &self.flow,
             at: now,
         };
-        self.buffer.act(&occasion, &mut self.room, frame)
+        self.buffer.act(&occasion, frame)
     }
 
     /// From when on each kind of act is due, as it stands at now, if nothing else is called. The cost

@@ -2,6 +2,7 @@ ghost use Rattle.std.specs.Prelude.{◌≡◌, ◌+◌, ◌^◌, ◌<◌, ◌≤
 ghost use Rattle.dt_flow_model.specs.SendActs.{is_late, moment_if};
 ghost use Rattle.dt_send.specs.SentSegments.{segment_of};
 
+use crate::kept_segments::KeptSegment;
 use circular_buffer::HeapCircularBuffer;
 use dt_units::Rules;
 
@@ -49,12 +50,12 @@ impl SentSegment {
 }
 
 /// The stretch at a place of the ring.
-pub fn stretch_at(stretches: &HeapCircularBuffer<SentSegment>, place: usize) -> SentSegment
+pub fn stretch_at(stretches: &HeapCircularBuffer<KeptSegment>, place: usize) -> SentSegment
     requires { place < length stretches.now.items }
     ensures { slice_get stretches.now.items place ≡ Some result }
 {
     match stretches.get(place) {
-        Some(stretch) => *stretch,
+        Some(kept) => kept.segment(),
         None => unreachable!(),
     }
 }

@@ -3,7 +3,7 @@ use Rattle.dt_flow_model.specs.declared.acts.SendAct.TheVariants.{Resent}
 use Rattle.dt_send.specs.declared.send_buffer.SendBuffer.{SendBuffer}
 use Rattle.dt_send.specs.SendBuffer.{Acts, IsSendBuffer, record_of}
 use Rattle.dt_send.proofs.RingLemmas.{bounded}
-use Rattle.dt_send.proofs.SendLemmas.{again_acts, again_is_segment, again_rings, again_there, place_there}
+use Rattle.dt_send.proofs.SendLemmas.{again_acts, again_is_segment, again_late, again_rings, again_there, place_there}
 use Rattle.dt_send.proofs.send_buffer.SendBuffer.resend.Goals as goal
 
 pub stretch_at-stretch-requires : goal.stretch_at-stretch-requires
@@ -18,8 +18,11 @@ transmit-cut-requires-clause-bounded c = bounded c.args.occasion.now.rules.now c
 pub transmit-cut-requires-clause-segment : goal.transmit-cut-requires-clause-segment
 transmit-cut-requires-clause-segment c = again_is_segment c.args.occasion.now.rules.now c.args.occasion.now.at c.args.occasion.now.timely c.args.self.now c.requires.rings c.requires.chosen c.in-Some.place c.in-Some.field-0-1 c.in-Some.ensures c.stretch_at-stretch.result c.stretch_at-stretch.ensures (c.stretch_at-stretch.result.offset - c.args.self.now.left) refl
 
-pub note_again-requires : goal.note_again-requires
-note_again-requires c = place_there c.args.occasion.now.rules.now c.args.occasion.now.at c.args.occasion.now.timely c.args.self.now c.requires.rings c.requires.chosen c.in-Some.place c.in-Some.field-0-1 c.in-Some.ensures
+pub note_again-requires-clause-there : goal.note_again-requires-clause-there
+note_again-requires-clause-there c = place_there c.args.occasion.now.rules.now c.args.occasion.now.at c.args.occasion.now.timely c.args.self.now c.requires.rings c.requires.chosen c.in-Some.place c.in-Some.field-0-1 c.in-Some.ensures
+
+pub note_again-requires-clause-late : goal.note_again-requires-clause-late
+note_again-requires-clause-late c = again_late c.args.occasion.now.rules.now c.args.occasion.now.at c.args.occasion.now.timely c.args.self.now c.requires.rings c.requires.chosen c.in-Some.place c.in-Some.field-0-1 c.in-Some.ensures
 
 pub returns-clause-rings : goal.returns-clause-rings
 returns-clause-rings c =

@@ -1,5 +1,6 @@
 use Rattle.std.proofs.Common.{◌≡◌, ◌-◌, take, drop, length, sym, ap, ◌∙◌, arith}
-use Rattle.std.proofs.lemmas.List.{length-drop, length-map, length-take-le, take_at}
+use Rattle.std.proofs.lemmas.List.{length-drop, length-map, length-take-le}
+use Rattle.dt_items.specs.declared.item.Item.{Item}
 use Rattle.dt_items.specs.Unread.{octets_of}
 use Rattle.dt_units.specs.declared.parameters.Params.{Params}
 use Rattle.dt_layout.specs.Spelling.{Data, PacketValue, carrying, gram_spelling}
@@ -8,6 +9,9 @@ use Rattle.dt_flow_model.specs.SendRecord.{begins, ends, leads}
 use Rattle.dt_send.specs.SendBuffer.{record_of}
 use Rattle.dt_send.proofs.TransmitLemmas.{begins-first, ends-last, item_within}
 use Rattle.dt_send.proofs.send_buffer.SendBuffer.transmit.Goals as goal
+
+pub append_octets-requires-clause-bounded : goal.append_octets-requires-clause-bounded
+append_octets-requires-clause-bounded c = omega (arith, c.requires.bounded)
 
 pub returns-clause-cut : goal.returns-clause-cut
 returns-clause-cut c =
@@ -33,10 +37,10 @@ returns-clause-frame c =
     let some = c.requires.segment.some in
     let first : c.item_in.result.begin ≡ begins items = sym (begins-first items c.item_in.result (omega arith) (item_within all from s.length 0 from c.item_in.result (omega arith) (omega arith) c.item_in.ensures)) in
     let last : c.item_in-2.result.end ≡ ends items = sym (ends-last items (s.length - 1) c.item_in-2.result c.requires.segment.piece (omega arith) (item_within all from s.length (s.length - 1) _ c.item_in-2.result (omega arith) (omega arith) c.item_in-2.ensures)) in
-    let octets : take s.length c.copy_octets.new.room ≡ octets_of items = ap (take s.length) c.copy_octets.ensures ∙ take_at (octets_of items) _ s.length (length-map items _ ∙ count) in
     let number = c.number_at.ensures in
     let drf = leads (record_of c.args.self.now) s.offset in
-    let same : Data f.from_port f.to_port c.number_at.result drf c.item_in.result.begin c.item_in-2.result.end (take s.length c.copy_octets.new.room) ≡ Data f.from_port f.to_port (number_of c.args.occasion.now.rules.now s.offset) drf (begins items) (ends items) (octets_of items) = cc in
-    c.write_frame.ensures.spelled
+    let same : Data f.from_port f.to_port c.number_at.result drf c.item_in.result.begin c.item_in-2.result.end (octets_of items) ≡ Data f.from_port f.to_port (number_of c.args.occasion.now.rules.now s.offset) drf (begins items) (ends items) (octets_of items) = cc in
+    c.append_octets.ensures
+    ∙ c.write.ensures.spelled (octets_of items) (length-map items (λ (item : Item). item.octet) ∙ count)
     ∙ ap (λ (v : PacketValue). gram_spelling (carrying c.params.result.now.mpl f.from.0 f.to.0 v)) same
     ∙ ap (λ (p : Params). gram_spelling (carrying p.mpl f.from.0 f.to.0 (Data f.from_port f.to_port (number_of c.args.occasion.now.rules.now s.offset) drf (begins items) (ends items) (octets_of items)))) c.params.ensures.same

@@ -17,4 +17,4 @@ pub returns-clause-counted : goal.returns-clause-counted
 returns-clause-counted g c = act_counted c.self.inside.rules c.self.inside.flow (record_of c.self.inside.buffer) c.args.self.now c.self.view_is c.args.now c.act.result (record_of c.act.new.self) c.args.frame.now c.act.new.frame c.act.ensures.acts c.requires.due
 
 pub returns-clause-gram : goal.returns-clause-gram
-returns-clause-gram g c = gram_seen c.self.inside.rules c.self.invariant.0.limits c.self.inside.flow (record { from = omega arith; from_port = omega arith; to = omega arith; to_port = omega arith }) c.args.now (record_of c.self.inside.buffer) c.self.invariant.0.within.kept c.args.self.now c.self.view_is
+returns-clause-gram g c = gram_seen c.self.inside.rules c.self.invariant.limits c.self.inside.flow (record { from = omega arith; from_port = omega arith; to = omega arith; to_port = omega arith }) c.args.now (record_of c.self.inside.buffer) c.self.invariant.within.kept c.args.self.now c.self.view_is

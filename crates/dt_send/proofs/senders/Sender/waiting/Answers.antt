@@ -3,4 +3,4 @@ use Rattle.dt_send.proofs.RingLemmas.{held_fits}
 use Rattle.dt_send.proofs.senders.Sender.waiting.Goals as goal
 
 pub overflow_cast-result : goal.overflow_cast-result
-overflow_cast-result c = omega (arith, held_fits _ _ c.self.invariant.0, c.self.invariant.0.limits.cap)
+overflow_cast-result c = omega (arith, held_fits _ _ c.self.invariant, c.self.invariant.limits.cap)
