@@ -448,16 +448,11 @@ fn piece_by(heard: Heard) -> Piece
     ensures { result ≡ piece_by heard }
 {
     match heard {
-        Heard::Piece {
-            len,
-            run,
-            begin,
-            end,
-        } => Piece::Read {
-            len,
-            run,
-            begin,
-            end,
+        Heard::Piece(read) => Piece::Read {
+            len: read.len,
+            run: read.run,
+            begin: read.begin,
+            end: read.end,
         },
         _ => Piece::Nothing,
     }
