@@ -74,14 +74,14 @@ send_does heard.Took now refused event e f same after = (same, after)
 send_does (heard.Refused (refusal.Quiet until)) now refused event e f same after = (same, after)
 send_does (heard.Refused (refusal.Full free)) now refused event e f same after = (same, after)
 send_does heard.NoPiece now refused event e f same after = (same, after)
-send_does (heard.Piece len run begin end) now refused event e f same after = (same, after)
+send_does (heard.Piece read) now refused event e f same after = (same, after)
 
 pub read_does : (h : Heard) (now : ℕ) (items : List Item) (event : Event (Unit {0})) (buf : List ℕ) (e f : EndpointValue) → piece_by h ≡ piece_of (length (octets_of items)) (piece_told items) → take (length (octets_of items)) buf ≡ octets_of items → f ≡ after_event now event e → ReadDoes (piece_by h) now items event buf e f
 read_does heard.Nothing now items event buf e f same octets after = (same, octets, after)
 read_does heard.Took now items event buf e f same octets after = (same, octets, after)
 read_does (heard.Refused fault) now items event buf e f same octets after = (same, octets, after)
 read_does heard.NoPiece now items event buf e f same octets after = (same, octets, after)
-read_does (heard.Piece len run begin end) now items event buf e f same octets after = (same, octets, after)
+read_does (heard.Piece read) now items event buf e f same octets after = (same, octets, after)
 
 -- NOTHING REFUSES a call
 both_false : (a b : Bool) → a ≡ false → b ≡ false → (a || b) ≡ false

@@ -143,7 +143,7 @@ piece_of len (Some told) = piece.Read len told.run told.begin told.end
 
 -- the same, by what was heard
 abbrev pub piece_by : Heard → Piece
-piece_by (heard.Piece len run begin end) = piece.Read len run begin end
+piece_by (heard.Piece read) = piece.Read read.len read.run read.begin read.end
 piece_by other = piece.Nothing
 
 -- the buffer begins with the octets of the piece

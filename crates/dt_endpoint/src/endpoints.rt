@@ -20,7 +20,7 @@ use crate::events::{collect_event, receive};
 use crate::frames::OutFrame;
 use crate::links::{Links, has_link};
 use crate::noting::Heard;
-use dt_items::NoMemory;
+use dt_items::{MarkedOctets, NoMemory};
 use dt_layout::{Frame, GramOctets};
 use dt_reports::{Refusal, Report};
 use dt_station::{InLink, LocalEvent, Route, Station};
@@ -249,13 +249,8 @@ impl Endpoint {
         if octets.len() as u64 >= MOST_OCTETS - self.asked {
             return Sent::TooMany;
         }
-        let event = LocalEvent::Send {
-            flow,
-            octets,
-            begin,
-            end,
-        };
-        match self.event(now, event, &mut []) {
+        let sent = MarkedOctets { octets, begin, end };
+        match self.event(now, LocalEvent::Send { flow, sent }, &mut []) {
             Ok(heard) => sent_by(heard),
             Err(NoMemory) => Sent::NoMemory,
         }
@@ -428,7 +423,7 @@ fn octets_in(event: &LocalEvent<'_>) -> u64
     ensures { (most : ℕ) → result ≡ octets_sent (local_seen most event.now) }
 {
     match event {
-        LocalEvent::Send { octets, .. } => octets.len() as u64,
+        LocalEvent::Send { sent, .. } => sent.octets.len() as u64,
         _ => 0,
     }
 }
@@ -453,16 +448,11 @@ fn piece_by(heard: Heard) -> Piece
     ensures { result ≡ piece_by heard }
 {
     match heard {
-        Heard::Piece {
-            len,
-            run,
-            begin,
-            end,
-        } => Piece::Read {
-            len,
-            run,
-            begin,
-            end,
+        Heard::Piece(read) => Piece::Read {
+            len: read.len,
+            run: read.run,
+            begin: read.begin,
+            end: read.end,
         },
         _ => Piece::Nothing,
     }

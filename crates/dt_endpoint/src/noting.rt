@@ -4,6 +4,7 @@ ghost use Rattle.dt_reports.specs.Told.{told};
 ghost use Rattle.dt_reports.specs.Matters.{matter_seen};
 ghost use Rattle.dt_endpoint.specs.Hearing.{hears, hears_by, kept};
 
+use dt_items::Piece;
 use dt_reports::{Matter, Refusal, Report};
 
 /// What the station answered to the call, as far as it was reported.
@@ -14,18 +15,11 @@ pub enum Heard {
     /// A send was taken.
     Took,
     /// A send was refused.
-    Refused {
-        fault: Refusal,
-    },
+    Refused { fault: Refusal },
     /// A read found nothing.
     NoPiece,
-    /// A piece of so many octets was read.
-    Piece {
-        len: usize,
-        run: bool,
-        begin: bool,
-        end: bool,
-    },
+    /// A piece was read.
+    Piece(Piece),
 }
 
 /// What is heard after a report.
@@ -49,12 +43,12 @@ fn heard_by(matter: Matter<'_>, before: Heard) -> Heard
             end,
             octets,
             ..
-        } => Heard::Piece {
+        } => Heard::Piece(Piece {
             len: octets.len(),
-            run,
             begin,
             end,
-        },
+            run,
+        }),
         Matter::Transmitted { .. }
         | Matter::Retransmitted { .. }
         | Matter::GivenUp { .. }

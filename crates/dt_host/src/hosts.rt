@@ -19,11 +19,10 @@ ghost use Rattle.dt_host.specs.declared.faults.SendFault.TheVariants as send_fau
 use crate::acts::{Act, Done};
 use crate::dues::{DueAct, DueKind};
 use crate::faults::SendFault;
-use crate::octets::Octets;
 use crate::recv_side::RecvSide;
 use crate::send_side::SendSide;
 use dt_flow_model::{Arrived, Reading, RecvKind, SendKind};
-use dt_items::{NoMemory, Piece};
+use dt_items::{MarkedOctets, NoMemory, Piece};
 use dt_layout::{Frame, Packet};
 use dt_recv::Segment;
 use dt_units::{Flow, NodeId, Rules, Steps, earlier};
@@ -140,7 +139,7 @@ impl Host {
         if now < self.until {
             return Err(SendFault::Quiet { until: self.until });
         }
-        let asked = Octets { octets, begin, end };
+        let asked = MarkedOctets { octets, begin, end };
         self.senders.put(flow, &asked, steps)
     }
 
@@ -228,12 +227,11 @@ impl Host {
                 octets,
                 ..
             } => {
+                let payload = MarkedOctets { octets, begin, end };
                 let segment = Segment {
                     number,
                     drf,
-                    begin,
-                    end,
-                    octets,
+                    payload,
                 };
                 self.receivers.on_data(&flow, &segment, reply, steps)
             }

@@ -7,7 +7,6 @@ mod dues;
 mod faults;
 mod hosts;
 mod laws;
-mod octets;
 mod places;
 mod recv_side;
 mod send_side;

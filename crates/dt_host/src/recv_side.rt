@@ -2,7 +2,7 @@
 ghost use Rattle.std.specs.Prelude.{ℕ, ◌≡◌, ◌+◌, ◌<◌, ◌≤◌, ◌++◌, [], drop, false, length, IfErr, IfOk, IfSome, Some, None, unwrap_or};
 ghost use Rattle.std.specs.Option.{option_copied};
 ghost use Rattle.std.specs.Map.{lookup};
-ghost use Rattle.dt_items.specs.Unread.{marked, octets_of, piece_told};
+ghost use Rattle.dt_items.specs.Unread.{items_of, octets_of, piece_told};
 ghost use Rattle.dt_layout.specs.Carried.{IsGram};
 ghost use Rattle.dt_flow_model.specs.declared.acts.RecvKind.{RecvKind};
 ghost use Rattle.dt_flow_model.specs.declared.arrivals.Action.TheVariants.{Make};
@@ -126,17 +126,17 @@ impl RecvSide {
         reply: &mut Frame,
         steps: &mut Steps<L>,
     ) -> Result<Arrived, NoMemory>
-        requires some { 1 ≤ length segment.now.octets.now }
-        requires few { length segment.now.octets.now ≤ 8192 }
-        ensures answer { let items = marked segment.now.octets.now segment.now.begin segment.now.end false in
+        requires some { 1 ≤ length segment.now.payload.octets.now }
+        requires few { length segment.now.payload.octets.now ≤ 8192 }
+        ensures answer { let items = items_of segment.now.payload in
             IsDataAnswer self.old.rules flow.now segment.now.drf segment.now.number items self.old.entries result }
-        ensures after { let items = marked segment.now.octets.now segment.now.begin segment.now.end false in
+        ensures after { let items = items_of segment.now.payload in
             IsDataTaken self.old.rules self.old.latest flow.now segment.now.drf segment.now.number items self.old.entries self.new.entries result }
         ensures reply { reply.new ≡ unwrap_or (replied self.old.rules flow.now result) reply.old }
         ensures gram { IfSome (replied self.old.rules flow.now result) (λ octets. IsGram octets) }
         ensures same { self.new ≡ record self.old { entries = self.new.entries } }
         ensures memory { (host : Host) → let before = record host { receivers = receivers_of self.old.entries } in
-            let items = marked segment.now.octets.now segment.now.begin segment.now.end false in
+            let items = items_of segment.now.payload in
             IfErr result (λ _. (look same_flow flow.now (receivers_of self.old.entries) ≡ None) × (action_on self.old.rules (receiver_at before flow.now) segment.now.drf segment.now.number items ≡ Make)) }
         ensures looks { steps.new ≤ steps.old + 2 }
     {
@@ -144,12 +144,12 @@ impl RecvSide {
             let Some((_, receiver)) = &mut self.table.slots[place] else {
                 unreachable!();
             };
-            let arrived = hand_over(receiver, segment, self.latest, reply, steps);
+            let arrived = receiver.on_segment(segment, self.latest, reply, steps);
             let note = note_of(receiver, steps);
             self.table.agenda.note(place, &note);
             return Ok(arrived);
         }
-        let count = segment.octets.len() as u32;
+        let count = segment.payload.octets.len() as u32;
         let free = self.rules.params().rcap;
         match action(None, segment.drf, segment.number, count, free) {
             Action::Make => self.make(flow, segment, reply, steps),
@@ -166,14 +166,14 @@ impl RecvSide {
         reply: &mut Frame,
         steps: &mut Steps<L>,
     ) -> Result<Arrived, NoMemory>
-        requires some { 1 ≤ length segment.now.octets.now }
-        requires few { length segment.now.octets.now ≤ 8192 }
+        requires some { 1 ≤ length segment.now.payload.octets.now }
+        requires few { length segment.now.payload.octets.now ≤ 8192 }
         requires none { lookup (equal_flows flow.now) self.old.entries ≡ None }
-        requires makes { let items = marked segment.now.octets.now segment.now.begin segment.now.end false in
+        requires makes { let items = items_of segment.now.payload in
             action_on self.old.rules (record { unread = []; standing = None }) segment.now.drf segment.now.number items ≡ Make }
-        ensures answer { let items = marked segment.now.octets.now segment.now.begin segment.now.end false in
+        ensures answer { let items = items_of segment.now.payload in
             IsDataAnswer self.old.rules flow.now segment.now.drf segment.now.number items self.old.entries result }
-        ensures after { let items = marked segment.now.octets.now segment.now.begin segment.now.end false in
+        ensures after { let items = items_of segment.now.payload in
             IsDataTaken self.old.rules self.old.latest flow.now segment.now.drf segment.now.number items self.old.entries self.new.entries result }
         ensures reply { reply.new ≡ unwrap_or (replied self.old.rules flow.now result) reply.old }
         ensures gram { IfSome (replied self.old.rules flow.now result) (λ octets. IsGram octets) }
@@ -181,7 +181,7 @@ impl RecvSide {
         ensures looks { steps.new ≤ steps.old + 2 }
     {
         let mut receiver = Receiver::new(*self.table.slots.allocator(), &self.rules, *flow)?;
-        let arrived = hand_over(&mut receiver, segment, self.latest, reply, steps);
+        let arrived = receiver.on_segment(segment, self.latest, reply, steps);
         let note = note_of(&receiver, steps);
         self.table.add(flow, receiver, &note)?;
         Ok(arrived)
@@ -348,36 +348,6 @@ fn note_of<L: Ledger>(receiver: &Receiver, steps: &mut Steps<L>) -> [Option<u64>
 {
     let moments = receiver.moments(steps);
     [moments.release, moments.ack]
-}
-
-/// A data packet goes to its receiver.
-fn hand_over<L: Ledger>(
-    receiver: &mut Receiver,
-    segment: &Segment<'_>,
-    now: Reading,
-    reply: &mut Frame,
-    steps: &mut Steps<L>,
-) -> Arrived
-    requires some { 1 ≤ length segment.now.octets.now }
-    requires few { length segment.now.octets.now ≤ 8192 }
-    ensures after { let items = marked segment.now.octets.now segment.now.begin segment.now.end false in
-        receiver.new ≡ record receiver.old { state = after_data receiver.old.rules now.ms receiver.old.state segment.now.drf segment.now.number items } }
-    ensures answer { let items = marked segment.now.octets.now segment.now.begin segment.now.end false in
-        result ≡ answer_to_data receiver.old.rules receiver.old.state segment.now.drf segment.now.number items }
-    ensures reply { reply.new ≡ unwrap_or (reply_frame receiver.old.rules receiver.old.flow result) reply.old }
-    ensures gram { IfSome (reply_frame receiver.old.rules receiver.old.flow result) (λ octets. IsGram octets) }
-    ensures looks { steps.new ≡ steps.old + 1 }
-{
-    receiver.on_data(
-        segment.number,
-        segment.drf,
-        segment.begin,
-        segment.end,
-        segment.octets,
-        now.ms,
-        reply,
-        steps,
-    )
 }
 
 /// Replies for a flow without a receiver: with this number and the whole queue.

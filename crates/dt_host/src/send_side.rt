@@ -2,7 +2,7 @@
 ghost use Rattle.std.specs.Prelude.{ℕ, ◌≡◌, ◌+◌, ◌<◌, ◌≤◌, [], false, length, IfErr, IfOk, IfSome, Some, None, unwrap_or};
 ghost use Rattle.std.specs.Option.{option_and_then, option_copied};
 ghost use Rattle.std.specs.Map.{lookup};
-ghost use Rattle.dt_items.specs.Unread.{marked};
+ghost use Rattle.dt_items.specs.Unread.{items_of};
 ghost use Rattle.dt_layout.specs.Carried.{IsGram};
 ghost use Rattle.dt_flow_model.specs.declared.acts.SendKind.TheVariants.{Resend};
 ghost use Rattle.dt_flow_model.specs.Acting.{record_for};
@@ -24,10 +24,9 @@ ghost use Rattle.dt_host.specs.Soonest.{IsQuiet, IsSoonest, missed_senders, send
 
 use crate::dues::{DueAct, DueKind};
 use crate::faults::SendFault;
-use crate::octets::Octets;
 use crate::table::Table;
 use dt_flow_model::{Arrived, Reading, SendAct, SendKind};
-use dt_items::NoMemory;
+use dt_items::{MarkedOctets, NoMemory};
 use dt_layout::Frame;
 use dt_send::Sender;
 use dt_units::{Flow, Rules, Steps};
@@ -139,12 +138,12 @@ impl SendSide {
     pub fn put<L: Ledger>(
         &mut self,
         flow: &Flow,
-        asked: &Octets<'_>,
+        asked: &MarkedOctets<'_>,
         steps: &mut Steps<L>,
     ) -> Result<(), SendFault>
         requires counted { let records = send_records self.old.entries in
             taken_by (record_for self.old.rules self.old.latest (look same_flow flow.now records)) + length asked.now.octets.now < octets_below }
-        ensures sent { let items = marked asked.now.octets.now asked.now.begin asked.now.end false in
+        ensures sent { let items = items_of asked.now in
             IsSent self.old.rules self.old.latest flow.now items self.old.entries self.new.entries result }
         ensures same { self.new ≡ record self.old { entries = self.new.entries } }
         ensures memory { IfErr result (λ fault. fault ≡ send_fault.NoMemory → look same_flow flow.now (send_records self.old.entries) ≡ None) }
@@ -167,13 +166,13 @@ impl SendSide {
     fn make<L: Ledger>(
         &mut self,
         flow: &Flow,
-        asked: &Octets<'_>,
+        asked: &MarkedOctets<'_>,
         steps: &mut Steps<L>,
     ) -> Result<(), SendFault>
         requires counted { let records = send_records self.old.entries in
             taken_by (record_for self.old.rules self.old.latest (look same_flow flow.now records)) + length asked.now.octets.now < octets_below }
         requires none { lookup (equal_flows flow.now) self.old.entries ≡ None }
-        ensures sent { let items = marked asked.now.octets.now asked.now.begin asked.now.end false in
+        ensures sent { let items = items_of asked.now in
             IsSent self.old.rules self.old.latest flow.now items self.old.entries self.new.entries result }
         ensures same { self.new ≡ record self.old { entries = self.new.entries } }
         ensures looks { steps.new ≤ steps.old + 3 }

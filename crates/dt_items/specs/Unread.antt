@@ -1,6 +1,7 @@
 -- What waits to be read: octets with their marks, and the pieces that reads take of them.
 use Rattle.std.specs.Prelude.{ℕ, zero, suc, ◌+◌, ◌<◌, ◌≤◌, ◌≡◌, Bool, false, not, ◌||◌, if◌then◌else◌, List, [], ◌∷◌, ◌++◌, length, take, drop, map, slice_index_or, Option, Some, None}
 use Rattle.dt_items.specs.declared.item.Item.{Item}
+use Rattle.dt_items.specs.declared.marked_octets.MarkedOctets.{MarkedOctets}
 use Rattle.dt_items.specs.declared.piece.Piece.{Piece}
 
 -- A queue: its unread items, the next to be read first, and the most that there may be.
@@ -15,6 +16,10 @@ marked [] begin end run = []
 marked (octet ∷ []) begin end run = record { octet = octet; begin = begin; end = end; run = run } ∷ []
 marked (octet ∷ next ∷ rest) begin end run =
     record { octet = octet; begin = begin; end = false; run = run } ∷ marked (next ∷ rest) false end false
+
+-- octets with their two marks, as items without a run mark
+abbrev pub items_of : MarkedOctets → List Item
+items_of m = marked m.octets.now m.begin m.end false
 
 -- an octet without marks, and octets without marks
 abbrev pub unmarked_item : ℕ → Item

@@ -1,8 +1,9 @@
-ghost use Rattle.std.specs.Prelude.{◌≡◌, ◌+◌, ◌-◌, ◌^◌, ◌<◌, ◌≤◌, ◌↔◌, [], ◌∷◌, ◌++◌, drop, take, length, slice_get, slice_index, ◌==◌, ◌&&◌, IfOk, IfSome, IfNone, IsNone, IsSome};
+ghost use Rattle.std.specs.Prelude.{◌≡◌, ◌+◌, ◌-◌, ◌^◌, ◌<◌, ◌≤◌, ◌↔◌, [], ◌∷◌, ◌++◌, drop, take, length, slice_get, IfOk, IfSome, IfNone, IsNone, IsSome};
 ghost use Rattle.circular_buffer.specs.Buffer.{buffer};
 ghost use Rattle.dt_items.specs.Unread.{Backlog, marked, unmarked, unmarked_item, octets_of, goes_on, first_piece, following, last_item, piece_told, IsLongestPiece, TakesPiece};
 
 use crate::item::Item;
+use crate::marked_octets::MarkedOctets;
 use crate::memory::NoMemory;
 use crate::octets::{copy_octets, item_in, unmarked_from};
 use crate::piece::Piece;
@@ -112,24 +113,6 @@ fn unmarked(octet: u8) -> Item
     }
 }
 
-/// The item of an octet among octets that come together.
-fn item_at(octets: &[u8], i: usize, begin: bool, end: bool, run: bool) -> Item
-    requires { i < length octets.now }
-    ensures { let count = length octets.now in result ≡ record {
-      octet = slice_index octets.now i;
-      begin = begin && (i == 0);
-      end = end && (i + 1 == count);
-      run = run && (i == 0);
-    } }
-{
-    Item {
-        octet: octets[i],
-        begin: begin && i == 0,
-        end: end && i + 1 == octets.len(),
-        run: run && i == 0,
-    }
-}
-
 /// Writes the items of octets without marks to the front of the stage, and leaves its rest.
 fn fill_unmarked(stage: &mut [Item], octets: &[u8])
     requires { length octets.now ≤ length stage.old }
@@ -159,24 +142,19 @@ fn append_unmarked(ring: &mut HeapCircularBuffer<Item>, octets: &[u8])
 /// Appends octets that come together, with their marks: the first item gets the marks begin and run,
 /// the last gets the mark end, and all other marks are off. They fit into the ring. The cost is that
 /// of the octets, and no memory is taken.
-pub fn append_marked(
-    ring: &mut HeapCircularBuffer<Item>,
-    octets: &[u8],
-    begin: bool,
-    end: bool,
-    run: bool,
-)
-    requires { length ring.old.items + length octets.now ≤ ring.old.capacity }
-    ensures { ring.new ≡ buffer (ring.old.items ++ marked octets.now begin end run) ring.old.capacity }
+pub fn append_marked(ring: &mut HeapCircularBuffer<Item>, added: &MarkedOctets<'_>, run: bool)
+    requires { length ring.old.items + length added.now.octets.now ≤ ring.old.capacity }
+    ensures { ring.new ≡ buffer (ring.old.items ++ marked added.now.octets.now added.now.begin added.now.end run) ring.old.capacity }
 {
+    let octets = added.octets;
     if octets.is_empty() {
         return;
     }
     let last = octets.len() - 1;
-    ring.push_back(item_at(octets, 0, begin, end, run));
+    ring.push_back(added.item_at(0, run));
     if 0 < last {
         append_unmarked(ring, &octets[1..last]);
-        ring.push_back(item_at(octets, last, begin, end, run));
+        ring.push_back(added.item_at(last, run));
     }
 }
 
@@ -221,7 +199,8 @@ impl Queue {
         ensures { let added = marked octets.now begin end run in
             self.new ≡ record self.old { items = self.old.items ++ added } }
     {
-        append_marked(&mut self.ring, octets, begin, end, run);
+        let added = MarkedOctets { octets, begin, end };
+        append_marked(&mut self.ring, &added, run);
     }
 
     /// Takes the most items that fit in the buffer, which isn't empty, such that an end mark stands

@@ -1,6 +1,6 @@
 -- Given rows as they are kept: a stretch for the octets that were given together, and the octets of all stretches, one after the other.
 use Rattle.std.specs.Prelude.{ℕ, ◌+◌, ◌^◌, ◌<◌, ◌≤◌, ◌≡◌, false, List, [], ◌∷◌, ◌++◌, length, take, drop}
-use Rattle.dt_items.specs.Unread.{marked}
+use Rattle.dt_items.specs.Unread.{items_of, marked}
 use Rattle.dt_flow_model.specs.declared.rows.Given.{Given}
 use Rattle.dt_flow_model.specs.Ledger.{given_rows}
 use Rattle.dt_ledger.specs.declared.gives.Give.{Give}
@@ -11,7 +11,7 @@ abbrev pub rows_of : Give → List ℕ → List Given
 rows_of give octets = given_rows give.life give.at give.run give.place (marked octets give.begin give.end false)
 
 abbrev pub rows_given : GivenOctets → List Given
-rows_given g = given_rows g.life g.at g.run g.place (marked g.octets.now g.begin g.end false)
+rows_given g = given_rows g.life g.at g.run g.place (items_of g.payload)
 
 abbrev pub given_in_all : List Give → List ℕ → List Given
 given_in_all [] octets = []

@@ -1,5 +1,5 @@
-ghost use Rattle.std.specs.Prelude.{◌≡◌, ◌+◌, ◌^◌, ◌<◌, ◌≤◌, ◌↔◌, [], ◌++◌, false, length, IfSome, IsNone, OnErr, OnOk, slice_get, Some};
-ghost use Rattle.dt_items.specs.Unread.{marked};
+ghost use Rattle.std.specs.Prelude.{◌≡◌, ◌+◌, ◌^◌, ◌<◌, ◌≤◌, ◌↔◌, [], ◌++◌, length, IfSome, IsNone, OnErr, OnOk, slice_get, Some};
+ghost use Rattle.dt_items.specs.Unread.{items_of};
 ghost use Rattle.dt_flow_model.specs.Ledger.{HasNoEntry, first_unsent, note_first, note_read, settle, take_rows, top};
 ghost use Rattle.dt_world_model.specs.Ledgers.{totals_of};
 ghost use Rattle.dt_ledger.specs.Gives.{rows_given};
@@ -12,7 +12,7 @@ use crate::moments::Instant;
 use crate::read_counts::ReadCounts;
 use crate::taken_rows::TakenRows;
 use dt_flow_model::{Fate, Taken};
-use dt_items::NoMemory;
+use dt_items::{MarkedOctets, NoMemory};
 use dt_reports::Totals;
 use std::alloc::Global;
 use std::marker::Model;
@@ -52,19 +52,12 @@ impl FlowRows {
     }
 
     /// Octets are taken in a life of the sending station: a row each, after all others, with no fate
-    /// and no first moment. The first begins a message and the last ends one, where that is asked for.
-    /// `NoMemory` leaves the ledger as it was. The cost is that of the octets.
-    pub fn note_taken(
-        &mut self,
-        life: u32,
-        octets: &[u8],
-        begin: bool,
-        end: bool,
-    ) -> Result<(), NoMemory>
-        ensures ok { OnOk result (self.new ≡ record self.old { taken = take_rows life (marked octets.now begin end false) self.old.taken }) }
+    /// and no first moment. `NoMemory` leaves the ledger as it was. The cost is that of the octets.
+    pub fn note_taken(&mut self, life: u32, taken: &MarkedOctets<'_>) -> Result<(), NoMemory>
+        ensures ok { OnOk result (self.new ≡ record self.old { taken = take_rows life (items_of taken.now) self.old.taken }) }
         ensures err { OnErr result (self.new ≡ self.old) }
     {
-        self.taken.push_taken(life, octets, begin, end)
+        self.taken.push_taken(life, taken)
     }
 
     /// `count` taken rows from a place on, which are there, get their first moment. The cost is that of

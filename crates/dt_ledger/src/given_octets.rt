@@ -1,13 +1,11 @@
 ghost use Rattle.std.specs.Prelude.{◌+◌, ◌^◌, ◌<◌, length};
 
+use dt_items::MarkedOctets;
+
 /// Octets that are given to a flow's receiver together, at places below 2^62.
 #[derive(Clone, Copy)]
 pub struct GivenOctets<'a> {
-    pub octets: &'a [u8],
-    /// The first begins a message.
-    pub begin: bool,
-    /// The last ends a message.
-    pub end: bool,
+    pub payload: MarkedOctets<'a>,
     /// The first has a run mark.
     pub run: bool,
     /// The place of the first of them.
@@ -16,5 +14,5 @@ pub struct GivenOctets<'a> {
     pub life: u32,
     /// The moment when they are given, in ms.
     pub at: u64,
-    ghost below: { place + length octets.now < 2 ^ 62 },
+    ghost below: { place + length payload.octets.now < 2 ^ 62 },
 }

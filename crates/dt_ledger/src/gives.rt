@@ -83,19 +83,20 @@ impl GivenRows {
         ensures ok { OnOk result (self.new ≡ self.old ++ rows_given given.entry.now) }
         ensures err { OnErr result (self.new ≡ self.old) }
     {
-        if given.octets.is_empty() {
+        let payload = given.payload;
+        if payload.octets.is_empty() {
             return Ok(());
         }
         self.gives.reserve(1)?;
-        self.octets.extend_from_slice(given.octets)?;
+        self.octets.extend_from_slice(payload.octets)?;
         self.gives.push_reserved(Give {
             place: given.place,
             at: given.at,
-            count: given.octets.len() as u64,
+            count: payload.octets.len() as u64,
             life: given.life,
             run: given.run,
-            begin: given.begin,
-            end: given.end,
+            begin: payload.begin,
+            end: payload.end,
         });
         Ok(())
     }

@@ -14,7 +14,7 @@ use crate::flow_rows::FlowRows;
 use crate::given_octets::GivenOctets;
 use crate::moments::Instant;
 use dt_flow_model::{Fate, Taken};
-use dt_items::NoMemory;
+use dt_items::{MarkedOctets, NoMemory};
 use dt_reports::Totals;
 use dt_units::Flow;
 use indexmap::IndexMap;
@@ -85,11 +85,12 @@ impl Ledger {
             OnOk result (self.new ≡ write same_flow flow.now (record before { taken = take_rows life (marked octets.now begin end false) before.taken }) self.old) }
         ensures err { OnErr result (self.new ≡ self.old) }
     {
+        let taken = MarkedOctets { octets, begin, end };
         if let Some(rows) = self.rows_mut(flow) {
-            return rows.note_taken(life, octets, begin, end);
+            return rows.note_taken(life, &taken);
         }
         let mut rows = FlowRows::new(self.alloc);
-        rows.note_taken(life, octets, begin, end)?;
+        rows.note_taken(life, &taken)?;
         self.flows.insert(*flow, rows)?;
         Ok(())
     }
@@ -155,9 +156,7 @@ impl Ledger {
         ensures err { OnErr result (self.new ≡ self.old) }
     {
         let given = GivenOctets {
-            octets,
-            begin,
-            end,
+            payload: MarkedOctets { octets, begin, end },
             run,
             place,
             life,

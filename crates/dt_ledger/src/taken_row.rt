@@ -1,10 +1,11 @@
 //! The ledger's row of an octet that was taken.
-ghost use Rattle.std.specs.Prelude.{◌≡◌, ◌+◌, ◌<◌, ◌==◌, ◌&&◌, false, length, None, Some, slice_index};
+ghost use Rattle.std.specs.Prelude.{◌≡◌, None, Some};
 ghost use Rattle.dt_flow_model.specs.Ledger.{is_open, is_open_in, is_unsent, open_row};
 ghost use Rattle.dt_ledger.specs.Rows.{with_fate};
 
 use crate::moments::{Instant, Moment};
 use dt_flow_model::{Fate, Taken};
+use dt_items::Item;
 use std::marker::Model;
 use std::mem::size_of;
 
@@ -37,23 +38,16 @@ impl Model for TakenRow {
 }
 
 impl TakenRow {
-    /// The row of an octet among octets that are taken together: it has no fate and no first moment.
-    pub fn open(life: u32, octets: &[u8], place: usize, begin: bool, end: bool) -> TakenRow
-        requires { place < length octets.now }
-        ensures { let count = length octets.now in
-            result ≡ open_row life None (record {
-              octet = slice_index octets.now place;
-              begin = begin && (place == 0);
-              end = end && (place + 1 == count);
-              run = false;
-            }) }
+    /// The row of an octet that is taken: it has no fate and no first moment.
+    pub fn open(life: u32, item: Item) -> TakenRow
+        ensures { result ≡ open_row life None item }
     {
         TakenRow {
             first: Moment::none(),
             life,
-            octet: octets[place],
-            begin: begin && place == 0,
-            end: end && place + 1 == octets.len(),
+            octet: item.octet,
+            begin: item.begin,
+            end: item.end,
             fate: Fate::Open,
         }
     }

@@ -1,5 +1,5 @@
 ghost use Rattle.std.specs.Prelude.{◌≡◌, ◌+◌, ◌<◌, ◌≤◌, ◌++◌, [], false, length, min, map, None, OnErr, OnOk, slice_get, Some, vec_capacity, vec_len};
-ghost use Rattle.dt_items.specs.Unread.{marked};
+ghost use Rattle.dt_items.specs.Unread.{items_of};
 ghost use Rattle.dt_flow_model.specs.Ledger.{first_unsent, is_open, is_open_in, note_first, open_row, settle, take_rows};
 ghost use Rattle.dt_ledger.specs.Rows.{IsPassed, NoneBelow, fates_in, settle_at, waits_in};
 
@@ -8,7 +8,7 @@ use crate::moments::Instant;
 use crate::progress::{Passed, Progress};
 use crate::taken_row::{TakenRow, is_open};
 use dt_flow_model::{Fate, Taken};
-use dt_items::NoMemory;
+use dt_items::{MarkedOctets, NoMemory};
 use std::alloc::Global;
 use std::marker::Model;
 
@@ -36,12 +36,12 @@ impl Model for TakenRows {
 const FIRST_ROWS: usize = 64;
 
 /// Appends a row for each octet. There is room for them.
-fn append(rows: &mut Vec<TakenRow>, life: u32, octets: &[u8], begin: bool, end: bool)
-    requires { vec_len rows.old + length octets.now ≤ vec_capacity rows.old }
-    ensures { rows.new.items ≡ take_rows life (marked octets.now begin end false) rows.old.items }
+fn append(rows: &mut Vec<TakenRow>, life: u32, taken: &MarkedOctets<'_>)
+    requires { vec_len rows.old + length taken.now.octets.now ≤ vec_capacity rows.old }
+    ensures { rows.new.items ≡ take_rows life (items_of taken.now) rows.old.items }
 {
-    for place in 0..octets.len() {
-        rows.push_reserved(TakenRow::open(life, octets, place, begin, end));
+    for place in 0..taken.octets.len() {
+        rows.push_reserved(TakenRow::open(life, taken.item_at(place, false)));
     }
 }
 
@@ -169,22 +169,16 @@ impl TakenRows {
 
     /// Octets are taken: a row each, with no fate and no first moment. `NoMemory` leaves the rows as
     /// they were.
-    pub fn push_taken(
-        &mut self,
-        life: u32,
-        octets: &[u8],
-        begin: bool,
-        end: bool,
-    ) -> Result<(), NoMemory>
-        ensures ok { OnOk result (self.new ≡ take_rows life (marked octets.now begin end false) self.old) }
+    pub fn push_taken(&mut self, life: u32, taken: &MarkedOctets<'_>) -> Result<(), NoMemory>
+        ensures ok { OnOk result (self.new ≡ take_rows life (items_of taken.now) self.old) }
         ensures err { OnErr result (self.new ≡ self.old) }
     {
         // Rows that come one message after another grow less often.
         let least = if self.rows.is_empty() { FIRST_ROWS } else { 0 };
-        self.rows.reserve(octets.len().max(least))?;
+        self.rows.reserve(taken.octets.len().max(least))?;
         self.progress.begin(life, self.rows.len());
-        self.counts.unsettled += octets.len() as u64;
-        append(&mut self.rows, life, octets, begin, end);
+        self.counts.unsettled += taken.octets.len() as u64;
+        append(&mut self.rows, life, taken);
         Ok(())
     }
 

@@ -1,5 +1,6 @@
 ghost use Rattle.std.specs.Prelude.{◌<◌, length};
 
+use dt_items::MarkedOctets;
 use dt_ledger::{Fate, FlowRows, GivenOctets, Instant, Ledger, Totals};
 use dt_units::{Flow, NodeId};
 use std::process::Abort;
@@ -30,7 +31,12 @@ fn has(marks: &[u8], mark: u8) -> bool {
 }
 
 fn is_taken(rows: &mut FlowRows, octets: &[u8]) -> bool {
-    rows.note_taken(0, octets, true, true).is_ok()
+    let message = MarkedOctets {
+        octets,
+        begin: true,
+        end: true,
+    };
+    rows.note_taken(0, &message).is_ok()
 }
 
 fn goes_out(rows: &mut FlowRows, count: u32, at: u32, place: u64) -> bool {
@@ -43,10 +49,13 @@ fn goes_out(rows: &mut FlowRows, count: u32, at: u32, place: u64) -> bool {
 fn is_given(rows: &mut FlowRows, place: u32, octets: &[u8], marks: &[u8], at: u64) -> bool
     requires { length octets.now < 100 }
 {
-    let given = GivenOctets {
+    let payload = MarkedOctets {
         octets,
         begin: has(marks, b'b'),
         end: has(marks, b'e'),
+    };
+    let given = GivenOctets {
+        payload,
         run: has(marks, b'r'),
         place: u64::from(place),
         life: 0,

@@ -1,6 +1,6 @@
 ghost use Rattle.std.specs.Prelude.{ℕ, Bool, ◌≡◌, ◌≤◌, ◌<◌, ◌+◌, ◌^◌, ◌↔◌, [], ◌++◌, drop, length, unwrap_or, false, true, IfOk, IsTrue, IfSome, IsNone, IsSome, Some, None};
 ghost use Rattle.circular_buffer.specs.Buffer.{buffer};
-ghost use Rattle.dt_items.specs.Unread.{IsLongestPiece, first_piece, marked, octets_of, piece_told};
+ghost use Rattle.dt_items.specs.Unread.{IsLongestPiece, first_piece, items_of, marked, octets_of, piece_told};
 ghost use Rattle.dt_layout.specs.Carried.{IsGram};
 ghost use Rattle.dt_flow_model.specs.declared.arrivals.Arrived.TheVariants.{Accepted, Replied};
 ghost use Rattle.dt_flow_model.specs.declared.acts.RecvKind.{RecvKind};
@@ -17,7 +17,7 @@ use crate::records::Record;
 use crate::segment::Segment;
 use circular_buffer::HeapCircularBuffer;
 use dt_flow_model::{Action, Arrived, Reading, RecvAct, RecvKind, RecvMoments};
-use dt_items::{Item, NoMemory, Piece, Queue};
+use dt_items::{Item, MarkedOctets, NoMemory, Piece, Queue};
 use dt_layout::Frame;
 use dt_units::{Flow, Rules, Steps};
 use std::alloc::Global;
@@ -137,21 +137,41 @@ impl Receiver {
         ensures gram { IfSome (reply_frame self.old.rules self.old.flow result) (λ octets. IsGram octets) }
         ensures looks { steps.new ≡ steps.old + 1 }
     {
-        steps.tick();
+        let payload = MarkedOctets { octets, begin, end };
         let segment = Segment {
             number,
             drf,
-            begin,
-            end,
-            octets,
+            payload,
         };
-        let now = Reading { ms: now };
-        match self.action_on(drf, number, octets) {
+        self.on_segment(&segment, Reading { ms: now }, reply, steps)
+    }
+
+    /// The same as [`Receiver::on_data`], for octets with what their packet says of them in one value.
+    pub fn on_segment<L: Ledger>(
+        &mut self,
+        segment: &Segment<'_>,
+        now: Reading,
+        reply: &mut Frame,
+        steps: &mut Steps<L>,
+    ) -> Arrived
+        requires some { 1 ≤ length segment.now.payload.octets.now }
+        requires few { length segment.now.payload.octets.now ≤ 8192 }
+        ensures after { let items = items_of segment.now.payload in
+            self.new ≡ record self.old { state = after_data self.old.rules now.ms self.old.state segment.now.drf segment.now.number items } }
+        ensures answer { let items = items_of segment.now.payload in
+            result ≡ answer_to_data self.old.rules self.old.state segment.now.drf segment.now.number items }
+        ensures reply { reply.new ≡ unwrap_or (reply_frame self.old.rules self.old.flow result) reply.old }
+        ensures gram { IfSome (reply_frame self.old.rules self.old.flow result) (λ octets. IsGram octets) }
+        ensures looks { steps.new ≡ steps.old + 1 }
+    {
+        steps.tick();
+        let number = segment.number;
+        match self.action_on(segment) {
             Action::Drop => Arrived::Dropped,
-            Action::Make | Action::Skip => self.accept(&segment, true, now),
+            Action::Make | Action::Skip => self.accept(segment, true, now),
             Action::TellNumber => self.reply_number(number, reply),
             Action::TellExpected => self.reply_expected(number, reply),
-            Action::Accept => self.accept(&segment, false, now),
+            Action::Accept => self.accept(segment, false, now),
             Action::Close => Arrived::Closing { number },
         }
     }
@@ -288,36 +308,37 @@ impl Receiver {
     }
 
     /// What is to be done with a data packet of these octets.
-    fn action_on(&self, drf: bool, number: u32, octets: &[u8]) -> Action
-        requires { length octets.now ≤ 8192 }
-        ensures packet { (begin end : Bool) → result ≡ action_on self.now.rules self.now.state drf number (marked octets.now begin end false) }
+    fn action_on(&self, segment: &Segment<'_>) -> Action
+        requires { length segment.now.payload.octets.now ≤ 8192 }
+        ensures packet { result ≡ action_on self.now.rules self.now.state segment.now.drf segment.now.number (items_of segment.now.payload) }
         ensures looked_up { let free = free_of self.now.rules self.now.state.unread in
-            result ≡ action_of (expected_of self.now.state.standing) drf number (length octets.now) free }
+            result ≡ action_of (expected_of self.now.state.standing) segment.now.drf segment.now.number (length segment.now.payload.octets.now) free }
     {
         action(
             self.expected(),
-            drf,
-            number,
-            octets.len() as u32,
+            segment.drf,
+            segment.number,
+            segment.payload.octets.len() as u32,
             self.free(),
         )
     }
 
     /// Accepts the octets of a segment that fit into the queue, at `now`, as a new run or following the ones before.
     fn accept(&mut self, segment: &Segment<'_>, run: bool, now: Reading) -> Arrived
-        requires some { 0 < length segment.now.octets.now }
-        requires few { length segment.now.octets.now ≤ 8192 }
-        requires fits { length segment.now.octets.now ≤ free_of self.old.rules self.old.state.unread }
-        ensures after { let items = marked segment.now.octets.now segment.now.begin segment.now.end false in
+        requires some { 0 < length segment.now.payload.octets.now }
+        requires few { length segment.now.payload.octets.now ≤ 8192 }
+        requires fits { length segment.now.payload.octets.now ≤ free_of self.old.rules self.old.state.unread }
+        ensures after { let items = items_of segment.now.payload in
             self.new ≡ record self.old { state = receiver_accepted self.old.rules now.ms self.old.state.unread self.old.state.standing segment.now.number items run } }
-        ensures answer { result ≡ Accepted run (length segment.now.octets.now) }
+        ensures answer { result ≡ Accepted run (length segment.now.payload.octets.now) }
     {
+        let payload = segment.payload;
         self.queue
-            .push_all(segment.octets, segment.begin, segment.end, run);
+            .push_all(payload.octets, payload.begin, payload.end, run);
         self.standing = Some(records::accepted(self.standing, &self.rules, now, segment));
         Arrived::Accepted {
             run,
-            count: segment.octets.len() as u32,
+            count: payload.octets.len() as u32,
         }
     }
 

@@ -48,11 +48,11 @@ pub fn accepted(
     now: Reading,
     segment: &Segment<'_>,
 ) -> Record
-    requires few { length segment.now.octets.now ≤ 8192 }
+    requires few { length segment.now.payload.octets.now ≤ 8192 }
     ensures { receive_record_of result ≡ record {
-      expected = number_after segment.now.number (length segment.now.octets.now);
+      expected = number_after segment.now.number (length segment.now.payload.octets.now);
       touched = now.ms;
-      due = owed_after rules.now now.ms (due_in (standing_of standing)) segment.now.end;
+      due = owed_after rules.now now.ms (due_in (standing_of standing)) segment.now.payload.end;
       told = told_in rules.now (standing_of standing);
     } }
 {
@@ -61,9 +61,9 @@ pub fn accepted(
         Some(record) => (record.due, record.told),
     };
     Record {
-        expected: later(segment.number, segment.octets.len() as u32),
+        expected: later(segment.number, segment.payload.octets.len() as u32),
         touched: now,
-        due: owed_after(rules, now, due, segment.end),
+        due: owed_after(rules, now, due, segment.payload.end),
         told,
     }
 }

@@ -1,3 +1,5 @@
+use dt_items::MarkedOctets;
+
 /// A data packet's octets, and what it says of them.
 #[derive(Clone, Copy)]
 pub struct Segment<'a> {
@@ -5,9 +7,6 @@ pub struct Segment<'a> {
     pub number: u32,
     /// The data-run flag: no octet before these is still under way from this sender.
     pub drf: bool,
-    /// A message begins with the first octet.
-    pub begin: bool,
-    /// A message ends with the last octet.
-    pub end: bool,
-    pub octets: &'a [u8],
+    /// The octets with their marks.
+    pub payload: MarkedOctets<'a>,
 }

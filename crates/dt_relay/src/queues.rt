@@ -9,7 +9,7 @@ use crate::passages::Passage;
 use circular_buffer::HeapCircularBuffer;
 use dt_flow_model::Reading;
 use dt_items::NoMemory;
-use dt_world_model::Entered;
+use dt_world_model::{Entered, wait_charge};
 use std::alloc::Global;
 use std::marker::Model;
 
@@ -98,11 +98,10 @@ impl<P: Carry> Queue<P> {
             return None;
         }
         let Waiting { mut packet, since } = self.ring.pop_front()?;
-        let charge = now.ms - since + 1;
-        if u64::from(packet.life()) <= charge {
+        let Some(charge) = wait_charge(packet.life(), since, now) else {
             return Some(Left::Expired);
-        }
-        packet.lower(charge as u32);
+        };
+        packet.lower(charge);
         self.last = Some(now.ms);
         Some(Left::Out(packet))
     }

@@ -2,7 +2,7 @@
 ghost use Rattle.std.specs.Prelude.{◌≡◌, ℕ, ◌+◌, ◌-◌, ◌^◌, ◌<◌, ◌≤◌, ◌==◌, ◌&&◌, nat_lt, nat_le, not, false, List, [], ◌∷◌, ◌++◌, length, drop, take, slice_get, slice_set, Some, None, IfNone, IfOk, IfSome, IsSome, if◌then◌else◌};
 ghost use Rattle.std.specs.Option.{option_map};
 ghost use Rattle.circular_buffer.specs.Buffer.{buffer};
-ghost use Rattle.dt_items.specs.Unread.{marked};
+ghost use Rattle.dt_items.specs.Unread.{items_of};
 ghost use Rattle.dt_flow_model.specs.Frames.{data_packet, forth};
 ghost use Rattle.dt_flow_model.specs.Keeping.{IsSegment, taken_by};
 ghost use Rattle.dt_flow_model.specs.Numbering.{is_crossing, number_of};
@@ -23,7 +23,7 @@ use crate::octets::{append_octets, cut_at};
 use crate::sent_segments::{SentSegment, stretch_at};
 use circular_buffer::HeapCircularBuffer;
 use dt_flow_model::{Cut, SendAct, SendKind, SendMoments};
-use dt_items::{Item, NoMemory, append_marked, item_in};
+use dt_items::{Item, MarkedOctets, NoMemory, append_marked, item_in};
 use dt_layout::{DataHead, Frame, Packet, write_frame};
 use dt_units::{Flow, Rules, earlier};
 use std::alloc::Global;
@@ -197,14 +197,14 @@ impl SendBuffer {
     }
 
     /// Puts octets after those that wait. The cost is that of the octets.
-    pub fn put(&mut self, rules: &Rules, octets: &[u8], begin: bool, end: bool)
+    pub fn put(&mut self, rules: &Rules, asked: &MarkedOctets<'_>)
         requires rings { IsSendBuffer rules.now self.old }
-        requires fits { held_of (record_of self.old) + length octets.now ≤ rules.now.cap }
-        requires counted { taken_by (record_of self.old) + length octets.now < 2 ^ 62 }
+        requires fits { held_of (record_of self.old) + length asked.now.octets.now ≤ rules.now.cap }
+        requires counted { taken_by (record_of self.old) + length asked.now.octets.now < 2 ^ 62 }
         ensures rings { IsSendBuffer rules.now self.new }
-        ensures record { record_of self.new ≡ put (marked octets.now begin end false) (record_of self.old) }
+        ensures record { record_of self.new ≡ put (items_of asked.now) (record_of self.old) }
     {
-        append_marked(&mut self.items, octets, begin, end, false);
+        append_marked(&mut self.items, asked, false);
     }
 
     /// How many segments an acknowledgement with this number acknowledges, and the offset at which

@@ -17,7 +17,7 @@ use crate::occasions::Occasion;
 use crate::send_buffer::SendBuffer;
 use circular_buffer::HeapCircularBuffer;
 use dt_flow_model::{PutFault, SendAct, SendKind, SendMoments};
-use dt_items::{Item, NoMemory};
+use dt_items::{Item, MarkedOctets, NoMemory};
 use dt_layout::Frame;
 use dt_units::{Flow, Rules, Steps};
 use std::alloc::Global;
@@ -87,7 +87,8 @@ impl Sender {
         if octets.len() > free as usize {
             return Err(PutFault::Full { free });
         }
-        self.buffer.put(&self.rules, octets, begin, end);
+        let asked = MarkedOctets { octets, begin, end };
+        self.buffer.put(&self.rules, &asked);
         Ok(())
     }
 

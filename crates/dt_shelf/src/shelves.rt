@@ -6,9 +6,11 @@ ghost use Rattle.dt_shelf.specs.Shelves.{IfAgain, IsShelfUpTo, empty_shelf, held
 
 use crate::held::Held;
 use crate::taken::Taken;
+use dt_flow_model::Reading;
 use dt_items::NoMemory;
 use dt_layout::Frame;
 use dt_units::Flow;
+use dt_world_model::wait_charge;
 use std::alloc::Global;
 use std::marker::Model;
 
@@ -84,11 +86,11 @@ impl Shelf {
             since,
             ..
         } = self.held.remove(place);
-        let charge = now - since + 1;
-        if u64::from(frame.as_gram().life()) <= charge {
+        let now = Reading { ms: now };
+        let Some(charge) = wait_charge(frame.as_gram().life(), since, now) else {
             return Some(Taken::Stale);
-        }
-        frame.lower(charge as u32);
+        };
+        frame.lower(charge);
         Some(Taken::Again { link, frame })
     }
 

@@ -57,13 +57,13 @@ module _ {V T : Type 0} (tells : V → Told → V → Type 0) (tags : V → Host
 
     -- what may happen to a station may happen to it once it has settled
     pub may_now : (most : ℕ) (event : LocalEvent) → settled.host.me ≡ station.host.me → MayHappenHere p now station most event → MayHappenHereNow p now settled.host most event
-    may_now most (local.Send flow sent begin end) me may = may_send flow (length sent.now) me may
+    may_now most (local.Send flow sent) me may = may_send flow (length sent.octets.now) me may
     may_now most (local.Read flow) me may = may
     may_now most local.Tick me may = tt
 
     -- a read of the host that has settled fills the buffer as it is told of the whole event
     pub reads_now : (old new : List ℕ) (event : LocalEvent) → IsBufferNow p now settled.host event old new → ReadsIntoHere tells tags hands p now event station first old new
-    reads_now old new (local.Send flow sent begin end) h = tt
+    reads_now old new (local.Send flow sent) h = tt
     reads_now old new (local.Read flow) h = record { settled = settled; seen = m; settles = played; filled = h }
     reads_now old new local.Tick h = tt
 
@@ -78,12 +78,12 @@ stays_on a b c before after = record {
 
 -- a buffer that nothing was done to is left
 pub leaves_it : (event : LocalEvent) (old : List ℕ) → LeavesBufferHere event old old
-leaves_it (local.Send flow sent begin end) old = refl
+leaves_it (local.Send flow sent) old = refl
 leaves_it (local.Read flow) old = tt
 leaves_it local.Tick old = refl
 
 pub leaves_now : (p : Params) (now : ℕ) (host : Host) (event : LocalEvent) (old new : List ℕ) → IsBufferNow p now host event old new → LeavesBufferHere event old new
-leaves_now p now host (local.Send flow sent begin end) old new h = h
+leaves_now p now host (local.Send flow sent) old new h = h
 leaves_now p now host (local.Read flow) old new h = tt
 leaves_now p now host local.Tick old new h = h
 

@@ -25,7 +25,7 @@ event_seen parcel most (given.Arrive link packet) = Arrive link (parcel packet)
 
 -- the same of an event that brings no packet
 abbrev pub local_seen : {T : Type 0} → ℕ → LocalEvent → Event T
-local_seen most (local.Send flow octets begin end) = Send flow octets.now begin end
+local_seen most (local.Send flow sent) = Send flow sent.octets.now sent.begin sent.end
 local_seen most (local.Read flow) = Read flow most
 local_seen most local.Tick = Tick
 
@@ -52,12 +52,12 @@ MayHappen octets p now station most (given.Arrive link packet) = IsGram (octets 
 
 -- the same of an event that brings no packet
 abbrev pub MayHappenHere : {T : Type 0} → Params → ℕ → Station T → ℕ → LocalEvent → Type 0
-MayHappenHere p now station most (local.Send flow sent begin end) = MaySend p now station flow (length sent.now)
+MayHappenHere p now station most (local.Send flow sent) = MaySend p now station flow (length sent.octets.now)
 MayHappenHere p now station most (local.Read flow) = 0 < most
 MayHappenHere p now station most local.Tick = Unit {0}
 
 abbrev pub MayHappenHereNow : Params → ℕ → Host → ℕ → LocalEvent → Type 0
-MayHappenHereNow p now host most (local.Send flow sent begin end) = MaySendNow p now host flow (length sent.now)
+MayHappenHereNow p now host most (local.Send flow sent) = MaySendNow p now host flow (length sent.octets.now)
 MayHappenHereNow p now host most (local.Read flow) = 0 < most
 MayHappenHereNow p now host most local.Tick = Unit {0}
 
@@ -73,13 +73,13 @@ LeavesBuffer given.Tick old new = new ≡ old
 LeavesBuffer (given.Arrive link packet) old new = new ≡ old
 
 abbrev pub LeavesBufferHere : LocalEvent → List ℕ → List ℕ → Type 0
-LeavesBufferHere (local.Send flow octets begin end) old new = new ≡ old
+LeavesBufferHere (local.Send flow sent) old new = new ≡ old
 LeavesBufferHere (local.Read flow) old new = Unit {0}
 LeavesBufferHere local.Tick old new = new ≡ old
 
 -- what an event of the host that has settled does to it
 abbrev pub IsBufferNow : Params → ℕ → Host → LocalEvent → List ℕ → List ℕ → Type 0
-IsBufferNow p now host (local.Send flow octets begin end) old new = new ≡ old
+IsBufferNow p now host (local.Send flow sent) old new = new ≡ old
 IsBufferNow p now host (local.Read flow) old new = new ≡ read_into p now flow old host
 IsBufferNow p now host local.Tick old new = new ≡ old
 
@@ -98,6 +98,6 @@ module _ {V T : Type 0} (tells : V → Told → V → Type 0) (tags : V → Host
   ReadsInto p now (given.Arrive link packet) station first old new = Unit {0}
 
   abbrev pub ReadsIntoHere : Params → ℕ → LocalEvent → Station T → V → List ℕ → List ℕ → Type 0
-  ReadsIntoHere p now (local.Send flow octets begin end) station first old new = Unit {0}
+  ReadsIntoHere p now (local.Send flow sent) station first old new = Unit {0}
   ReadsIntoHere p now (local.Read flow) station first old new = IsReadInto p now flow station first old new
   ReadsIntoHere p now local.Tick station first old new = Unit {0}

@@ -1,3 +1,4 @@
+use dt_items::MarkedOctets;
 use dt_units::Flow;
 
 /// What happens to a station. The buffer into which a read writes is handed to
@@ -29,18 +30,10 @@ pub enum StationEvent<'a, P> {
 /// it is small. It is given to [`Station::local_event`](crate::Station::local_event).
 #[derive(Clone, Copy, Drop)]
 pub enum LocalEvent<'a> {
-    /// Octets are sent on a flow from this node to another, 1 or more. The first begins a message and
-    /// the last ends one, where that is asked for.
-    Send {
-        flow: Flow,
-        octets: &'a [u8],
-        begin: bool,
-        end: bool,
-    },
+    /// Octets are sent on a flow from this node to another, 1 or more.
+    Send { flow: Flow, sent: MarkedOctets<'a> },
     /// Unread octets of a flow are read, at most as many as the buffer holds, which isn't empty.
-    Read {
-        flow: Flow,
-    },
+    Read { flow: Flow },
     /// Nothing but that time has passed.
     Tick,
 }

@@ -1,5 +1,5 @@
-ghost use Rattle.std.specs.Prelude.{◌≡◌, ◌<◌, ◌≤◌, false, length, OnOk};
-ghost use Rattle.dt_items.specs.Unread.{marked, octets_of, piece_told};
+ghost use Rattle.std.specs.Prelude.{◌≡◌, ◌<◌, ◌≤◌, length, OnOk};
+ghost use Rattle.dt_items.specs.Unread.{items_of, octets_of, piece_told};
 ghost use Rattle.dt_layout.specs.Carried.{IsGram};
 ghost use Rattle.dt_world_model.specs.Host.{IsCurrentHost, read_octets, send_octets};
 ghost use Rattle.dt_world_model.specs.Script.{Concludes, Done, Tell};
@@ -13,20 +13,11 @@ use crate::flushing::flush_all;
 use crate::stations::Station;
 use crate::visitor::Visitor;
 use dt_host::{Host, SendFault};
-use dt_items::NoMemory;
+use dt_items::{MarkedOctets, NoMemory};
 use dt_relay::Carry;
 use dt_reports::{Refusal, Report};
 use dt_units::{Flow, Steps};
 use std::sync::ledger::{Blank, Ledger};
-
-/// Octets that are sent on a flow. The first may begin a message, and the last may end one.
-#[derive(Clone, Copy, Drop)]
-struct Sent<'a> {
-    flow: Flow,
-    octets: &'a [u8],
-    begin: bool,
-    end: bool,
-}
 
 impl<P: Carry> Station<P> {
     /// Settles, does an event that brings no packet, and settles again, with a count of looks of its own.
@@ -104,20 +95,7 @@ impl<P: Carry> Station<P> {
         ensures stays { Stays self.old self.new }
     {
         match event {
-            LocalEvent::Send {
-                flow,
-                octets,
-                begin,
-                end,
-            } => {
-                let sent = Sent {
-                    flow,
-                    octets,
-                    begin,
-                    end,
-                };
-                self.send(&sent, steps, visitor)
-            }
+            LocalEvent::Send { flow, sent } => self.send(&flow, &sent, steps, visitor),
             LocalEvent::Read { flow } => {
                 self.read(&flow, buf, steps, visitor);
                 Ok(())
@@ -130,19 +108,19 @@ impl<P: Carry> Station<P> {
     /// reported.
     fn send<V: Visitor<P>, L: Ledger>(
         &mut self,
-        sent: &Sent<'_>,
+        flow: &Flow,
+        sent: &MarkedOctets<'_>,
         steps: &mut Steps<L>,
         visitor: &mut V,
     ) -> Result<(), NoMemory>
-        requires may { MaySendNow self.old.rules self.old.latest self.old.state.host sent.now.flow (length sent.now.octets.now) }
+        requires may { MaySendNow self.old.rules self.old.latest self.old.state.host flow.now (length sent.now.octets.now) }
         requires current { IsCurrentHost self.old.rules self.old.latest self.old.state.host }
-        ensures ends { let asked = send_octets self.old.rules self.old.latest sent.now.flow (marked sent.now.octets.now sent.now.begin sent.now.end false) self.old.state.host in
-            Concludes V.tells (V.tags self.old.latest) V.hands V.fails result (Tell (told_sent sent.now.flow (length sent.now.octets.now) asked.0) (Done (station_with asked.1 self.old.state.relay))) visitor.old visitor.new self.new.state }
+        ensures ends { let asked = send_octets self.old.rules self.old.latest flow.now (items_of sent.now) self.old.state.host in
+            Concludes V.tells (V.tags self.old.latest) V.hands V.fails result (Tell (told_sent flow.now (length sent.now.octets.now) asked.0) (Done (station_with asked.1 self.old.state.relay))) visitor.old visitor.new self.new.state }
         ensures stays { Stays self.old self.new }
     {
-        let flow = sent.flow;
         let asked = self.host.send(
-            &flow,
+            flow,
             sent.octets,
             sent.begin,
             sent.end,
@@ -152,18 +130,18 @@ impl<P: Carry> Station<P> {
         match asked {
             Ok(()) => {
                 let count = taken_count(&*self.host, sent.octets);
-                visitor.tell(&Report::Took { flow, count });
+                visitor.tell(&Report::Took { flow: *flow, count });
                 Ok(())
             }
             Err(SendFault::NoMemory) => Err(NoMemory),
             Err(SendFault::Quiet { until }) => {
                 let fault = Refusal::Quiet { until };
-                visitor.tell(&Report::Refused { flow, fault });
+                visitor.tell(&Report::Refused { flow: *flow, fault });
                 Ok(())
             }
             Err(SendFault::Full { free }) => {
                 let fault = Refusal::Full { free };
-                visitor.tell(&Report::Refused { flow, fault });
+                visitor.tell(&Report::Refused { flow: *flow, fault });
                 Ok(())
             }
         }

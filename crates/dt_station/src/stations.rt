@@ -16,7 +16,7 @@ use crate::events::{LocalEvent, StationEvent};
 use crate::starts::Start;
 use crate::visitor::Visitor;
 use dt_host::Host;
-use dt_items::NoMemory;
+use dt_items::{MarkedOctets, NoMemory};
 use dt_layout::Frame;
 use dt_relay::{Carry, InLink, OutLink, Reading, Relay, Route};
 use dt_units::{NodeId, Rules, earlier};
@@ -139,13 +139,8 @@ impl<P: Carry> Station<P> {
                 begin,
                 end,
             } => {
-                let sends = LocalEvent::Send {
-                    flow,
-                    octets,
-                    begin,
-                    end,
-                };
-                self.local_event(now, sends, buf, visitor)
+                let sent = MarkedOctets { octets, begin, end };
+                self.local_event(now, LocalEvent::Send { flow, sent }, buf, visitor)
             }
             StationEvent::Read { flow } => {
                 self.local_event(now, LocalEvent::Read { flow }, buf, visitor)

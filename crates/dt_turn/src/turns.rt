@@ -19,7 +19,7 @@ use crate::arriving::arrive;
 use crate::incoming::Incoming;
 use crate::nodes::{Dock, Node};
 use dt_flow_model::Reading;
-use dt_items::NoMemory;
+use dt_items::{MarkedOctets, NoMemory};
 use dt_layout::{Frame, GramOctets};
 use dt_reports::Report;
 use dt_script::{Orders, has_link};
@@ -129,12 +129,12 @@ fn do_task<V: Visitor<Frame>>(
             end,
             octets,
         } => {
-            let event = LocalEvent::Send {
-                flow: *flow,
+            let sent = MarkedOctets {
                 octets,
                 begin: *begin,
                 end: *end,
             };
+            let event = LocalEvent::Send { flow: *flow, sent };
             do_event(station, event, &mut [], now, visitor)
         }
         Task::Read { flow, max } => {

@@ -1,6 +1,7 @@
 -- What a step answers, tells and leaves.
 use Rattle.std.specs.Prelude.{ℕ, ◌≡◌, List, [], Result, Ok, Err}
 use Rattle.dt_units.specs.declared.parameters.Params.{Params}
+use Rattle.dt_items.specs.Unread.{items_of}
 use Rattle.dt_reports.specs.Entries.{Entry}
 use Rattle.dt_world_model.specs.Script.{Script, play}
 use Rattle.dt_flow_model.specs.Frames.{Mark, marked_packet, value_in}
@@ -13,7 +14,6 @@ use Rattle.dt_world.specs.declared.notes.Notes.{Notes}
 use Rattle.dt_world.specs.declared.occasions.Brought.{Brought}
 use Rattle.dt_world.specs.declared.reporters.Reporter.{Reporter}
 use Rattle.dt_world.specs.Notes.{ledgers_seen}
-use Rattle.dt_world.specs.Occasions.{items_in}
 use Rattle.dt_world.specs.Reporters.{TellsAll, copies_of, ledgers_of, occasion_of}
 
 module _ {L : Type 0} (tells : L → Entry → L → Type 0) where
@@ -44,16 +44,16 @@ noted_first s = record { ledgers = ledgers_of s; copies = copies_of s; lines = [
 
 -- The occasion of an event at a station of such a life, with what the event brings.
 abbrev pub occasion_with : Params → (now node life : ℕ) → Brought → ledgers.Occasion
-occasion_with p now node life b = record { params = p; now = now; node = node; life = life; items = items_in b.octets; place = b.place }
+occasion_with p now node life b = record { params = p; now = now; node = node; life = life; items = items_of b.octets; place = b.place }
 
 -- what an event brings is so much
 pub record Brings (w : World) (n : ℕ) (e : Event Mark) (b : Brought) : Type 0 where
-  pub items : (occasion w n e).items ≡ items_in b.octets
+  pub items : (occasion w n e).items ≡ items_of b.octets
   pub place : (occasion w n e).place ≡ b.place
 
 -- what a packet brings: the octets of a data packet, and its place
 pub record BringsPacket (octets : List ℕ) (place : ℕ) (b : Brought) : Type 0 where
-  pub items : (m : Mark) → items_with (marked_packet m (value_in octets)) ≡ items_in b.octets
+  pub items : (m : Mark) → items_with (marked_packet m (value_in octets)) ≡ items_of b.octets
   pub place_is : b.place ≡ place
 
 -- the world's notes, before any line of an event

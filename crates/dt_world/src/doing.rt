@@ -18,13 +18,13 @@ ghost use Rattle.dt_world.specs.Worlds.{IsStationOf, IsWhole, world_seen};
 
 use crate::marked::Mark;
 use crate::moments::Moment;
-use crate::occasions::{Brought, MarkedOctets};
+use crate::occasions::Brought;
 use crate::parts::{Parts, event_at};
 use crate::placed_events::PlacedEvent;
 use crate::placed_stations::start_again;
 use crate::refusals::link_of;
 use crate::reporters::Lines;
-use dt_items::NoMemory;
+use dt_items::{MarkedOctets, NoMemory};
 use dt_layout::{Frame, GramOctets, Packet, read_packet};
 use dt_reports::{LogLine, Report};
 use dt_units::Flow;
@@ -47,12 +47,7 @@ pub fn send<L: Lines>(
     ensures now { parts.new.now ≡ parts.old.now }
     ensures links { parts.new.links ≡ parts.old.links }
 {
-    let event = PlacedEvent::Send {
-        flow,
-        octets: sent.octets,
-        begin: sent.begin,
-        end: sent.end,
-    };
+    let event = PlacedEvent::Send { flow, sent };
     let brought = Brought {
         octets: sent,
         place: 0,

@@ -2,15 +2,8 @@
 ghost use Rattle.std.specs.Prelude.{◌≤◌};
 ghost use Rattle.dt_world.specs.Moments.{most_now};
 
+use dt_items::MarkedOctets;
 use dt_units::Rules;
-
-/// Octets, of which the first may begin a message and the last may end one.
-#[derive(Clone, Copy)]
-pub struct MarkedOctets<'a> {
-    pub octets: &'a [u8],
-    pub begin: bool,
-    pub end: bool,
-}
 
 /// What an event brings beyond what is reported: the octets of a send or of a data packet, and the
 /// packet's place.

@@ -1,5 +1,6 @@
 //! An event at a station of the world.
 use crate::marked::Mark;
+use dt_items::MarkedOctets;
 use dt_layout::Frame;
 use dt_units::Flow;
 
@@ -10,9 +11,7 @@ pub enum PlacedEvent<'a> {
     /// Octets are sent on a flow from this node to another.
     Send {
         flow: Flow,
-        octets: &'a [u8],
-        begin: bool,
-        end: bool,
+        sent: MarkedOctets<'a>,
     },
     /// Unread octets of a flow are read, at most as many as the buffer holds.
     Read {

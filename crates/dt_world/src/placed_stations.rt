@@ -62,19 +62,8 @@ fn take_part<L: Lines>(
     ensures links { station.new.state.relay ≡ with_outs station.old.state.relay station.new.state.relay.outs }
 {
     match event {
-        PlacedEvent::Send {
-            flow,
-            octets,
-            begin,
-            end,
-        } => {
-            let event = LocalEvent::Send {
-                flow,
-                octets,
-                begin,
-                end,
-            };
-            station.local_event(now, event, &mut [], reporter)
+        PlacedEvent::Send { flow, sent } => {
+            station.local_event(now, LocalEvent::Send { flow, sent }, &mut [], reporter)
         }
         PlacedEvent::Read { flow, buf } => {
             station.local_event(now, LocalEvent::Read { flow }, buf, reporter)

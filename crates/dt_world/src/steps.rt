@@ -14,10 +14,9 @@ ghost use Rattle.dt_world.specs.Worlds.{IsStationOf, IsWhole, MayStep, event_of,
 use crate::doing;
 use crate::events::Event;
 use crate::notes::stays_below;
-use crate::occasions::MarkedOctets;
 use crate::parts::Parts;
 use crate::reporters::Lines;
-use dt_items::NoMemory;
+use dt_items::{MarkedOctets, NoMemory};
 use dt_layout::Frame;
 use dt_units::Flow;
 

@@ -9,11 +9,12 @@ use Rattle.dt_ledger.proofs.taken_rows.append.Goals as goal
 
 pub loop-place-preserved : goal.loop-place-preserved
 loop-place-preserved c =
-    let items = marked c.args.octets.now c.args.begin c.args.end false in
+    let k = c.args.taken.now in
+    let items = marked k.octets.now k.begin k.end false in
     let place = c.loop-place.place in
-    let long = length-marked c.args.octets.now c.args.begin c.args.end false in
+    let long = length-marked k.octets.now k.begin k.end false in
     let there : place < length items = omega arith in
-    let item = marked-at c.args.octets.now place c.args.begin c.args.end false blank c.loop-place-test.true in
+    let item = marked-at k.octets.now place k.begin k.end false blank c.loop-place-test.true in
     let row = open_row c.args.life None in
     let before = c.args.rows.now.items in
     let more : map row (take (place + 1) items) ≡ map row (take place items) ++ row (get_or items place blank) ∷ [] = ap (map row) (take_more items place blank there) ∙ map_push row (take place items) (get_or items place blank) in
@@ -21,7 +22,7 @@ loop-place-preserved c =
       rows =
           c.push_reserved.ensures.items
           ∙ ap (λ (xs : List Taken). xs ++ c.open.result ∷ []) c.loop-place.invariant.rows
-          ∙ ap (λ (r : Taken). before ++ map row (take place items) ++ r ∷ []) (c.open.ensures ∙ ap row (sym item))
+          ∙ ap (λ (r : Taken). before ++ map row (take place items) ++ r ∷ []) (c.open.ensures ∙ ap row (c.item_at.ensures ∙ sym item))
           ∙ append_assoc before (map row (take place items)) (row (get_or items place blank) ∷ [])
           ∙ ap (λ (xs : List Taken). before ++ xs) (sym more);
       len = omega arith;
@@ -30,7 +31,8 @@ loop-place-preserved c =
 
 pub returns : goal.returns
 returns c =
-    let items = marked c.args.octets.now c.args.begin c.args.end false in
-    let long = length-marked c.args.octets.now c.args.begin c.args.end false in
+    let k = c.args.taken.now in
+    let items = marked k.octets.now k.begin k.end false in
+    let long = length-marked k.octets.now k.begin k.end false in
     c.loop-place.invariant.rows
     ∙ ap (λ (xs : List Item). c.args.rows.now.items ++ map (open_row c.args.life None) xs) (take_all c.loop-place.place items (omega arith))

@@ -2,7 +2,7 @@ use Rattle.std.proofs.Common.{◌≡◌, [], None, false, length, sym, ap, subst
 use Rattle.std.specs.Prelude.{Ok}
 use Rattle.std.proofs.lemmas.Result.{err_from_is_err_and}
 use Rattle.std.specs.Map.{lookup}
-use Rattle.dt_items.specs.Unread.{marked}
+use Rattle.dt_items.specs.Unread.{items_of}
 use Rattle.dt_flow_model.specs.declared.arrivals.Action.TheVariants.{Make}
 use Rattle.dt_flow_model.specs.ReceiveRecord.{action_on}
 use Rattle.dt_host.specs.Agendas.{Note, recv_kinds}
@@ -39,15 +39,15 @@ invariant_of-self-2 g c =
     let h = c.self.inside in
     let absent = ap (λ (v : RecvSideValue). lookup (equal_flows c.args.flow.now) v.entries) c.self.view_is ∙ c.requires.none in
     let k = c.args.segment.now in
-    let items = marked k.octets.now k.begin k.end false in
+    let items = items_of k.payload in
     let makes = subst (λ (v : RecvSideValue). action_on v.rules (record { unread = []; standing = None }) k.drf k.number items ≡ Make) (sym c.self.view_is) c.requires.makes in
-    side_more h.rules h.table.places h.table.slots.items h.table.agenda c.self.invariant c.add.new.self.places c.add.new.self.slots.items c.add.new.self.agenda c.add.ensures.placed c.args.flow.now c.hand_over-arrived.new.receiver c.note_of-note.result c.in_ok-add.ensures.ok (made_entry h.rules h.latest.ms (present h.table.slots.items) (all_recv h.rules h.table.places h.table.slots.items h.table.agenda c.self.invariant) c.args.flow.now absent k.drf k.number items makes c.in_ok-receiver.receiver c.hand_over-arrived.new.receiver c.in_ok-receiver.ensures c.hand_over-arrived.ensures.after) c.note_of-note.ensures.note
+    side_more h.rules h.table.places h.table.slots.items h.table.agenda c.self.invariant c.add.new.self.places c.add.new.self.slots.items c.add.new.self.agenda c.add.ensures.placed c.args.flow.now c.on_segment-arrived.new.self c.note_of-note.result c.in_ok-add.ensures.ok (made_entry h.rules h.latest.ms (present h.table.slots.items) (all_recv h.rules h.table.places h.table.slots.items h.table.agenda c.self.invariant) c.args.flow.now absent k.drf k.number items makes c.in_ok-receiver.receiver c.on_segment-arrived.new.self c.in_ok-receiver.ensures c.on_segment-arrived.ensures.after) c.note_of-note.ensures.note
 
 pub returns-in_err-add-clause-after : goal.returns-in_err-add-clause-after
 returns-in_err-add-clause-after g c =
     let h = c.self.inside in
     let k = c.args.segment.now in
-    let items = marked k.octets.now k.begin k.end false in
+    let items = items_of k.payload in
     let err = err_from_is_err_and c.from_residual-in_err-add.result c.from_residual-in_err-add.ensures.1 in
     subst (λ (v : RecvSideValue). IsDataTaken v.rules v.latest c.args.flow.now k.drf k.number items v.entries (present c.add.new.self.slots.items) c.from_residual-in_err-add.result) c.self.view_is
     (data_kept h.rules h.latest.ms c.args.flow.now k.drf k.number items (present h.table.slots.items) (present c.add.new.self.slots.items) (present_kept (IsRecvKept h.rules) recv_kinds h.table.places h.table.slots.items h.table.agenda c.self.invariant c.add.new.self.places c.add.new.self.slots.items c.add.new.self.agenda c.add.ensures.placed c.in_err-add.ensures.err) c.from_residual-in_err-add.result err.0 err.1)
@@ -57,17 +57,17 @@ returns-clause-answer g c =
     let h = c.self.inside in
     let absent = ap (λ (v : RecvSideValue). lookup (equal_flows c.args.flow.now) v.entries) c.self.view_is ∙ c.requires.none in
     let k = c.args.segment.now in
-    let items = marked k.octets.now k.begin k.end false in
+    let items = items_of k.payload in
     let makes = subst (λ (v : RecvSideValue). action_on v.rules (record { unread = []; standing = None }) k.drf k.number items ≡ Make) (sym c.self.view_is) c.requires.makes in
-    subst (λ (v : RecvSideValue). IsDataAnswer v.rules c.args.flow.now k.drf k.number items v.entries (Ok c.hand_over-arrived.result)) c.self.view_is
-    (λ host. made_answer h.rules h.latest.ms (present h.table.slots.items) (all_recv h.rules h.table.places h.table.slots.items h.table.agenda c.self.invariant) c.args.flow.now absent k.drf k.number items makes c.in_ok-receiver.receiver c.hand_over-arrived.new.receiver c.in_ok-receiver.ensures c.hand_over-arrived.ensures.after c.hand_over-arrived.result c.hand_over-arrived.ensures.answer)
+    subst (λ (v : RecvSideValue). IsDataAnswer v.rules c.args.flow.now k.drf k.number items v.entries (Ok c.on_segment-arrived.result)) c.self.view_is
+    (λ host. made_answer h.rules h.latest.ms (present h.table.slots.items) (all_recv h.rules h.table.places h.table.slots.items h.table.agenda c.self.invariant) c.args.flow.now absent k.drf k.number items makes c.in_ok-receiver.receiver c.on_segment-arrived.new.self c.in_ok-receiver.ensures c.on_segment-arrived.ensures.after c.on_segment-arrived.result c.on_segment-arrived.ensures.answer)
 
 pub returns-clause-after : goal.returns-clause-after
 returns-clause-after g c =
     let h = c.self.inside in
     let absent = ap (λ (v : RecvSideValue). lookup (equal_flows c.args.flow.now) v.entries) c.self.view_is ∙ c.requires.none in
     let k = c.args.segment.now in
-    let items = marked k.octets.now k.begin k.end false in
+    let items = items_of k.payload in
     let makes = subst (λ (v : RecvSideValue). action_on v.rules (record { unread = []; standing = None }) k.drf k.number items ≡ Make) (sym c.self.view_is) c.requires.makes in
-    subst (λ (v : RecvSideValue). IsDataTaken v.rules v.latest c.args.flow.now k.drf k.number items v.entries (present c.add.new.self.slots.items) (Ok c.hand_over-arrived.result)) c.self.view_is
-    (λ host. made_after h.rules h.latest.ms (present h.table.slots.items) (all_recv h.rules h.table.places h.table.slots.items h.table.agenda c.self.invariant) c.args.flow.now absent k.drf k.number items makes c.in_ok-receiver.receiver c.hand_over-arrived.new.receiver c.in_ok-receiver.ensures c.hand_over-arrived.ensures.after (present c.add.new.self.slots.items) (present_more (IsRecvKept h.rules) recv_kinds h.table.places h.table.slots.items h.table.agenda c.self.invariant c.add.new.self.places c.add.new.self.slots.items c.add.new.self.agenda c.add.ensures.placed c.args.flow.now c.hand_over-arrived.new.receiver c.note_of-note.result c.in_ok-add.ensures.ok absent) host)
+    subst (λ (v : RecvSideValue). IsDataTaken v.rules v.latest c.args.flow.now k.drf k.number items v.entries (present c.add.new.self.slots.items) (Ok c.on_segment-arrived.result)) c.self.view_is
+    (λ host. made_after h.rules h.latest.ms (present h.table.slots.items) (all_recv h.rules h.table.places h.table.slots.items h.table.agenda c.self.invariant) c.args.flow.now absent k.drf k.number items makes c.in_ok-receiver.receiver c.on_segment-arrived.new.self c.in_ok-receiver.ensures c.on_segment-arrived.ensures.after (present c.add.new.self.slots.items) (present_more (IsRecvKept h.rules) recv_kinds h.table.places h.table.slots.items h.table.agenda c.self.invariant c.add.new.self.places c.add.new.self.slots.items c.add.new.self.agenda c.add.ensures.placed c.args.flow.now c.on_segment-arrived.new.self c.note_of-note.result c.in_ok-add.ensures.ok absent) host)

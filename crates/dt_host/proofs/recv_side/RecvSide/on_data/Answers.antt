@@ -2,7 +2,7 @@ use Rattle.std.proofs.Common.{◌≡◌, [], None, false, length, refl, sym, ap,
 use Rattle.std.specs.Prelude.{nat_le, IfErr, IfSome, Result, Ok, Err, unwrap_or}
 use Rattle.std.specs.Map.{lookup}
 use Rattle.dt_items.specs.declared.memory.NoMemory.{NoMemory}
-use Rattle.dt_items.specs.Unread.{marked}
+use Rattle.dt_items.specs.Unread.{items_of}
 use Rattle.dt_units.specs.declared.parameters.Params.{Params}
 use Rattle.dt_layout.specs.Carried.{IsGram}
 use Rattle.dt_flow_model.specs.declared.arrivals.Arrived.{Arrived}
@@ -37,32 +37,32 @@ invariant_of-self g c =
     let h = c.self.inside in
     let at : Read h.table.places h.table.slots.items c.args.flow.now c.in-Some.place = record { once = c.place.ensures.once; place = c.in-Some.ensures.here; read = c.index_mut.result.now; from = c.index_mut.ensures.value; owner = c.in-Some-index_mut.field-0-0; value = c.in-Some-index_mut.receiver; is = c.in-Some-index_mut.is } in
     let k = c.args.segment.now in
-    let items = marked k.octets.now k.begin k.end false in
-    let entry = step_entry c.self.invariant at (λ (q : Params) (r : Receiver). after_data q h.latest.ms r k.drf k.number items) (kept_data h.rules h.latest.ms k.drf k.number items) c.hand_over-arrived.new.receiver c.hand_over-arrived.ensures.after in
-    side_set h.rules h.table.places h.table.slots.items h.table.agenda c.self.invariant c.args.flow.now c.in-Some.place at c.hand_over-arrived.new.receiver entry c.note.new.self c.note_of-note.result c.note.ensures.here c.note_of-note.ensures.note c.note.ensures.others c.note.ensures.room
+    let items = items_of k.payload in
+    let entry = step_entry c.self.invariant at (λ (q : Params) (r : Receiver). after_data q h.latest.ms r k.drf k.number items) (kept_data h.rules h.latest.ms k.drf k.number items) c.on_segment-arrived.new.self c.on_segment-arrived.ensures.after in
+    side_set h.rules h.table.places h.table.slots.items h.table.agenda c.self.invariant c.args.flow.now c.in-Some.place at c.on_segment-arrived.new.self entry c.note.new.self c.note_of-note.result c.note.ensures.here c.note_of-note.ensures.note c.note.ensures.others c.note.ensures.room
 
 pub returns-in-Some : goal.returns-in-Some
 returns-in-Some g c =
     let h = c.self.inside in
     let at : Read h.table.places h.table.slots.items c.args.flow.now c.in-Some.place = record { once = c.place.ensures.once; place = c.in-Some.ensures.here; read = c.index_mut.result.now; from = c.index_mut.ensures.value; owner = c.in-Some-index_mut.field-0-0; value = c.in-Some-index_mut.receiver; is = c.in-Some-index_mut.is } in
     let k = c.args.segment.now in
-    let items = marked k.octets.now k.begin k.end false in
+    let items = items_of k.payload in
     record {
       answer =
-          subst (λ (v : RecvSideValue). IsDataAnswer v.rules c.args.flow.now k.drf k.number items v.entries (Ok c.hand_over-arrived.result)) c.self.view_is
-          (λ host. c.hand_over-arrived.ensures.answer ∙ answer_here c.self.invariant at (λ (q : Params) (r : Receiver). answer_to_data q r k.drf k.number items));
+          subst (λ (v : RecvSideValue). IsDataAnswer v.rules c.args.flow.now k.drf k.number items v.entries (Ok c.on_segment-arrived.result)) c.self.view_is
+          (λ host. c.on_segment-arrived.ensures.answer ∙ answer_here c.self.invariant at (λ (q : Params) (r : Receiver). answer_to_data q r k.drf k.number items));
       after =
-          subst (λ (v : RecvSideValue). IsDataTaken v.rules v.latest c.args.flow.now k.drf k.number items v.entries (present (Written h.table.slots.items c.in-Some.place at.owner c.hand_over-arrived.new.receiver)) (Ok c.hand_over-arrived.result)) c.self.view_is
-          (λ host. step_after c.self.invariant at (λ (q : Params) (r : Receiver). after_data q h.latest.ms r k.drf k.number items) (kept_data h.rules h.latest.ms k.drf k.number items) c.hand_over-arrived.new.receiver c.hand_over-arrived.ensures.after host);
+          subst (λ (v : RecvSideValue). IsDataTaken v.rules v.latest c.args.flow.now k.drf k.number items v.entries (present (Written h.table.slots.items c.in-Some.place at.owner c.on_segment-arrived.new.self)) (Ok c.on_segment-arrived.result)) c.self.view_is
+          (λ host. step_after c.self.invariant at (λ (q : Params) (r : Receiver). after_data q h.latest.ms r k.drf k.number items) (kept_data h.rules h.latest.ms k.drf k.number items) c.on_segment-arrived.new.self c.on_segment-arrived.ensures.after host);
       reply =
-          subst (λ (v : RecvSideValue). c.hand_over-arrived.new.reply ≡ unwrap_or (reply_frame v.rules c.args.flow.now c.hand_over-arrived.result) c.args.reply.now) c.self.view_is
-          (reply_here c.self.invariant at c.hand_over-arrived.result c.args.reply.now c.hand_over-arrived.new.reply c.hand_over-arrived.ensures.reply);
+          subst (λ (v : RecvSideValue). c.on_segment-arrived.new.reply ≡ unwrap_or (reply_frame v.rules c.args.flow.now c.on_segment-arrived.result) c.args.reply.now) c.self.view_is
+          (reply_here c.self.invariant at c.on_segment-arrived.result c.args.reply.now c.on_segment-arrived.new.reply c.on_segment-arrived.ensures.reply);
       gram =
-          subst (λ (v : RecvSideValue). IfSome (reply_frame v.rules c.args.flow.now c.hand_over-arrived.result) (λ octets. IsGram octets)) c.self.view_is
-          (gram_here c.self.invariant at c.hand_over-arrived.result c.hand_over-arrived.ensures.gram);
-      same = ap (λ (v : RecvSideValue). let w : RecvSideValue = record v { entries = (present (Written h.table.slots.items c.in-Some.place at.owner c.hand_over-arrived.new.receiver)) } in w) c.self.view_is;
+          subst (λ (v : RecvSideValue). IfSome (reply_frame v.rules c.args.flow.now c.on_segment-arrived.result) (λ octets. IsGram octets)) c.self.view_is
+          (gram_here c.self.invariant at c.on_segment-arrived.result c.on_segment-arrived.ensures.gram);
+      same = ap (λ (v : RecvSideValue). let w : RecvSideValue = record v { entries = (present (Written h.table.slots.items c.in-Some.place at.owner c.on_segment-arrived.new.self)) } in w) c.self.view_is;
       memory = λ host. tt;
-      looks = (let one = c.hand_over-arrived.ensures.looks in let two = c.note_of-note.ensures.looks in omega arith);
+      looks = (let one = c.on_segment-arrived.ensures.looks in let two = c.note_of-note.ensures.looks in omega arith);
     }
 
 pub make-requires-clause-none : goal.make-requires-clause-none
@@ -74,17 +74,17 @@ pub make-requires-clause-makes : goal.make-requires-clause-makes
 make-requires-clause-makes g c =
     let h = c.self.inside in
     let k = c.args.segment.now in
-    let items = marked k.octets.now k.begin k.end false in
-    let looked = looked_without h.rules k.drf k.number k.octets.now k.begin k.end c.params.result.now c.action.result c.params.ensures.same c.action.ensures in
+    let items = items_of k.payload in
+    let looked = looked_without h.rules k.drf k.number k.payload.octets.now k.payload.begin k.payload.end c.params.result.now c.action.result c.params.ensures.same c.action.ensures in
     subst (λ (v : RecvSideValue). action_on v.rules (record { unread = []; standing = None }) k.drf k.number items ≡ Make) c.self.view_is (sym looked ∙ c.in-Make.is)
 
 pub returns-in-Make-clause-memory : goal.returns-in-Make-clause-memory
 returns-in-Make-clause-memory g c =
     let h = c.self.inside in
     let k = c.args.segment.now in
-    let items = marked k.octets.now k.begin k.end false in
+    let items = items_of k.payload in
     let absent = c.in_default.ensures.none in
-    let looked = looked_without h.rules k.drf k.number k.octets.now k.begin k.end c.params.result.now c.action.result c.params.ensures.same c.action.ensures in
+    let looked = looked_without h.rules k.drf k.number k.payload.octets.now k.payload.begin k.payload.end c.params.result.now c.action.result c.params.ensures.same c.action.ensures in
     subst (λ (v : RecvSideValue). (host : Host) → IfErr c.make.result (λ _. (look same_flow c.args.flow.now (receivers_of v.entries) ≡ None) × (action_on v.rules (receiver_at (record host { receivers = receivers_of v.entries }) c.args.flow.now) k.drf k.number items ≡ Make))) c.self.view_is
     (λ host. if_err c.make.result (made_without c.args.flow.now (present h.table.slots.items) absent h.rules k.drf k.number items (sym looked ∙ c.in-Make.is)))
 
@@ -92,9 +92,9 @@ pub returns-in-TellNumber-clause-answer : goal.returns-in-TellNumber-clause-answ
 returns-in-TellNumber-clause-answer g c =
     let h = c.self.inside in
     let k = c.args.segment.now in
-    let items = marked k.octets.now k.begin k.end false in
+    let items = items_of k.payload in
     let absent = c.in_default.ensures.none in
-    let looked = looked_without h.rules k.drf k.number k.octets.now k.begin k.end c.params.result.now c.action.result c.params.ensures.same c.action.ensures in
+    let looked = looked_without h.rules k.drf k.number k.payload.octets.now k.payload.begin k.payload.end c.params.result.now c.action.result c.params.ensures.same c.action.ensures in
     subst (λ (v : RecvSideValue). IsDataAnswer v.rules c.args.flow.now k.drf k.number items v.entries (Ok c.reply_without.result)) c.self.view_is
     (λ host. c.reply_without.ensures.answer ∙ (told_alone c.args.flow.now (present h.table.slots.items) absent h.rules h.latest.ms k.drf k.number items (sym looked ∙ c.in-TellNumber.is) host).0)
 
@@ -102,9 +102,9 @@ pub returns-in-TellNumber-clause-after : goal.returns-in-TellNumber-clause-after
 returns-in-TellNumber-clause-after g c =
     let h = c.self.inside in
     let k = c.args.segment.now in
-    let items = marked k.octets.now k.begin k.end false in
+    let items = items_of k.payload in
     let absent = c.in_default.ensures.none in
-    let looked = looked_without h.rules k.drf k.number k.octets.now k.begin k.end c.params.result.now c.action.result c.params.ensures.same c.action.ensures in
+    let looked = looked_without h.rules k.drf k.number k.payload.octets.now k.payload.begin k.payload.end c.params.result.now c.action.result c.params.ensures.same c.action.ensures in
     subst (λ (v : RecvSideValue). IsDataTaken v.rules v.latest c.args.flow.now k.drf k.number items v.entries v.entries (Ok c.reply_without.result)) c.self.view_is
     (λ host. (told_alone c.args.flow.now (present h.table.slots.items) absent h.rules h.latest.ms k.drf k.number items (sym looked ∙ c.in-TellNumber.is) host).1)
 
@@ -112,10 +112,10 @@ pub returns-in_default-action : goal.returns-in_default-action
 returns-in_default-action g c =
     let h = c.self.inside in
     let k = c.args.segment.now in
-    let items = marked k.octets.now k.begin k.end false in
+    let items = items_of k.payload in
     let absent = c.in_default.ensures.none in
-    let looked = looked_without h.rules k.drf k.number k.octets.now k.begin k.end c.params.result.now c.action.result c.params.ensures.same c.action.ensures in
-    let is = sym looked ∙ drops k.drf (nat_le (length k.octets.now) c.params.result.now.rcap) c.action.result c.action.ensures c.in_default-action.not-Make c.in_default-action.not-TellNumber in
+    let looked = looked_without h.rules k.drf k.number k.payload.octets.now k.payload.begin k.payload.end c.params.result.now c.action.result c.params.ensures.same c.action.ensures in
+    let is = sym looked ∙ drops k.drf (nat_le (length k.payload.octets.now) c.params.result.now.rcap) c.action.result c.action.ensures c.in_default-action.not-Make c.in_default-action.not-TellNumber in
     let alone = dropped_alone c.args.flow.now (present h.table.slots.items) absent h.rules h.latest.ms k.drf k.number items is in
     record {
       answer = subst (λ (v : RecvSideValue). IsDataAnswer v.rules c.args.flow.now k.drf k.number items v.entries (Ok Dropped)) c.self.view_is (λ host. (alone host).0);

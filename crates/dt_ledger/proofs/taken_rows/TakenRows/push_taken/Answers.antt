@@ -13,10 +13,11 @@ overflow_add-self c =
 
 pub invariant_of-self-2 : goal.invariant_of-self-2
 invariant_of-self-2 c =
+    let k = c.args.taken.now in
     let inside = c.self.inside in
-    let items = marked c.args.octets.now c.args.begin c.args.end false in
-    beside_taken inside.counts inside.progress c.begin.new.self c.args.life items inside.rows.items c.append.new.rows.items (length c.args.octets.now) c.len.result
-    (sym (length-marked c.args.octets.now c.args.begin c.args.end false))
+    let items = marked k.octets.now k.begin k.end false in
+    beside_taken inside.counts inside.progress c.begin.new.self c.args.life items inside.rows.items c.append.new.rows.items (length k.octets.now) c.len.result
+    (sym (length-marked k.octets.now k.begin k.end false))
     (omega (arith, inside.rows.ok.0, c.reserve.ensures.len))
     c.begin.ensures
     (c.append.ensures ∙ ap (take_rows c.args.life items) c.reserve.ensures.items)

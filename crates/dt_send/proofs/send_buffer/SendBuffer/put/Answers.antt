@@ -11,12 +11,15 @@ append_marked-requires c = omega (arith, c.requires.fits, c.requires.rings.room,
 
 pub returns-clause-rings : goal.returns-clause-rings
 returns-clause-rings c =
-    let added = marked c.args.octets.now c.args.begin c.args.end false in
-    let count = length-marked c.args.octets.now c.args.begin c.args.end false in
+    let k = c.args.asked.now in
+    let added = marked k.octets.now k.begin k.end false in
+    let count = length-marked k.octets.now k.begin k.end false in
     put_rings c.args.rules.now c.args.self.now c.requires.rings added c.append_marked.new.ring c.append_marked.ensures
-    (marked_plain c.args.octets.now c.args.begin c.args.end)
+    (marked_plain k.octets.now k.begin k.end)
     (omega (arith, count, c.requires.fits))
     (omega (arith, count, c.requires.counted))
 
 pub returns-clause-record : goal.returns-clause-record
-returns-clause-record c = put_is c.args.rules.now c.args.self.now c.requires.rings (marked c.args.octets.now c.args.begin c.args.end false) c.append_marked.new.ring c.append_marked.ensures
+returns-clause-record c =
+    let k = c.args.asked.now in
+    put_is c.args.rules.now c.args.self.now c.requires.rings (marked k.octets.now k.begin k.end false) c.append_marked.new.ring c.append_marked.ensures
