@@ -223,7 +223,7 @@ def params(deltat: str) -> list[tuple[str, bool, str]]:
         "a flow carries at most 1.31 MB/s by its room each round trip",
         "a flow carries at most 1.85 MB/s by 64 segments each round trip",
         "a flow carries at most 296 MB/s by 536870912 octets each spacing of 1811 ms",
-        "a flow takes about 263586 octets of memory at its sender, 262144 at its receiver",
+        "a flow takes about 263680 octets of memory at its sender, 262144 at its receiver",
     ]
     found.append(("params follow", ran.stdout.splitlines() == right, ""))
     bad = [

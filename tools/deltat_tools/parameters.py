@@ -212,8 +212,8 @@ def rate_text(rate: float) -> str:
 
 def sender_memory(params: Params) -> int:
     """About how many octets of memory a flow takes at its sender: four for each octet that it may hold,
-    and room for a segment."""
-    return 4 * params.cap + params.seg
+    and 24 for each of 64 segments."""
+    return 4 * params.cap + 24 * 64
 
 
 def receiver_memory(params: Params) -> int:
