@@ -1,5 +1,5 @@
 -- What is written before something else: the line of an input, and then the lines of a turn.
-use Rattle.std.proofs.Common.{◌≡◌, ℕ, ◌+◌, List, [], ◌++◌, length, map, take, Option, Result, Ok, Err, refl, sym, ap, subst, ◌∙◌}
+use Rattle.std.proofs.Common.{◌≡◌, ℕ, ◌+◌, Bool, List, [], ◌++◌, length, map, take, Option, Result, Ok, Err, refl, sym, ap, subst, ◌∙◌}
 use Rattle.std.specs.Io.KnownBytes.{Appends}
 use Rattle.std.proofs.KnownBytes.{Appends-trans}
 use Rattle.std.proofs.Math.Seq.{take-append-add}
@@ -8,14 +8,18 @@ use Rattle.dt_edges.specs.Wires.{WireSight}
 use Rattle.dt_edges.proofs.Puts.{takes_nothing, takes_part_first}
 use Rattle.dt_fold.specs.declared.stops.Stop.{Stop}
 use Rattle.dt_fold.specs.declared.stops.Stop.TheVariants as stops
-use Rattle.dt_trace.specs.Inputs.{Input}
+use Rattle.dt_trace.specs.Inputs.{Input, Reading}
 use Rattle.dt_world_model.specs.Script.{Script}
 use Rattle.dt_node.specs.declared.forms.Form.{Form}
 use Rattle.dt_node.specs.declared.forms.Form.TheVariants as forms
+use Rattle.dt_turn.specs.Codes.{node_seen}
+use Rattle.dt_turn.specs.declared.nodes.Node.{Node}
+use Rattle.dt_node.specs.declared.turns.Turn.{Turn}
 use Rattle.dt_node.specs.Acts.{acts_of}
 use Rattle.dt_node.specs.Deeds.{FaultsBy, Scene, TurnEnds, deeds_text, scene, unlost}
 use Rattle.dt_node.specs.Logging.{Notes, noted_text}
 use Rattle.dt_node.specs.Serving.{AppendsPart}
+use Rattle.dt_node.specs.TurnScripts.{PlaysTurn, turn_script, turned}
 use Rattle.dt_node.proofs.Doing.{acts_unlost, gave_none, gave_some, some_more_given}
 
 -- a first part after a whole
@@ -53,3 +57,14 @@ module _ {A : Type 0} (form : Form) (me now : ℕ) (first : List ℕ) (script : 
       let deeds = map unlost (acts_of now script) in
       let more = takes_part_first first (deeds_text form gives me deeds) a b h in
       (deeds, acts_unlost (acts_of now script), record { held = (more.count, more.held); faults = more.faults; wire = some_more_given [] (acts_of now script) wire wire (gave_some [] wire wire (gave_none wire)) })
+
+-- A TURN THAT IS TAKEN, after the line of its reading
+module _ (form : Form) (me now : ℕ) (t : Turn) (old : Node) (gives : ℕ) (wire : WireSight) (a b : SinkSight) where
+  -- which was put
+  pub turn_begun : (result : Result Bool Stop) (new : Node) (s : Scene) → Takes (noted_text form (Reading t.reading)) a b
+      → TurnEnds result form me now [] (turn_script t old) (turned result (node_seen t.orders.now new)) (scene gives wire b) s → PlaysTurn form me now t result old new (scene gives wire a) s
+  turn_begun result new s h e = begun form me now (noted_text form (Reading t.reading)) (turn_script t old) (turned result (node_seen t.orders.now new)) gives wire a b result s h e
+
+  -- or not
+  pub turn_not_begun : TakesPart (noted_text form (Reading t.reading)) a b → PlaysTurn form me now t (Err stops.WriteFault) old old (scene gives wire a) (scene gives wire b)
+  turn_not_begun h = begun_not form me now (noted_text form (Reading t.reading)) (turn_script t old) (turned (Err stops.WriteFault) (node_seen t.orders.now old)) gives wire a b h

@@ -21,7 +21,7 @@ use Rattle.dt_node.specs.declared.outcomes.NodeOutcome.{NodeOutcome}
 use Rattle.dt_node.specs.declared.outcomes.NodeOutcome.TheVariants.{Done, Refused, NoMemory, WireFault, ClockStill, WriteFault}
 use Rattle.dt_script.specs.Orders.{Orders, opening_of}
 use Rattle.dt_turn.specs.Nodes.{Node}
-use Rattle.dt_node.specs.Acts.{Act, Deed, act_of, acts_of, answer_of, log_lines, node_lines, sent_frames, fates}
+use Rattle.dt_node.specs.Acts.{Act, Deed, act_of, answer_of, node_lines, sent_frames, fates}
 use Rattle.dt_turn.specs.Turns.{turn}
 use Rattle.dt_node.specs.Runs.{Ending, Run, node_run, moment, most_equal}
 use Rattle.dt_script.specs.Codes.{IsGood}
@@ -38,7 +38,7 @@ use Rattle.dt_node.specs.Logging.{NotesBehind, NotesFault, noted_text}
 use Rattle.dt_node.specs.InOrder.{InOrder}
 use Rattle.dt_node.specs.Serving.{AppendsPart, CountsTakes, Edges, EndsAs, FailsAs, GivesAs, GivesSome, HasOpened, IsFresh, IsWhole, Logs, NoneFails, Serves, SinkFaults, TakeFaults, Written, first_entries, edges, first_readings}
 use Rattle.dt_node.specs.Answering.{Answers, AnswersBy, RefusesAs}
-use Rattle.dt_node.proofs.Noting.{notes_none, notes_then, nothing_notes, sub_none, sub_then}
+use Rattle.dt_node.proofs.Noting.{notes_none, notes_then, nothing_notes, sub_then}
 use Rattle.dt_node.proofs.Doing.{acts_more, lost_more, sent_sub}
 use Rattle.dt_node.proofs.RunsOn.{came_of, run_cut, run_nothing, run_still, run_stopped, run_taken, run_unfinished}
 use Rattle.dt_node.proofs.Again.{again_is_old}

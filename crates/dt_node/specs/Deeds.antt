@@ -14,6 +14,8 @@ use Rattle.dt_world_model.specs.Script.{Script}
 use Rattle.dt_node.specs.Acts.{Act, Tells, Hands, Deed, Says, Gives, act_of, acts_of, answer_of, log_lines, sent_frames, node_frames, fates}
 use Rattle.dt_node.specs.declared.forms.Form.{Form}
 use Rattle.dt_node.specs.declared.forms.Form.TheVariants as forms
+use Rattle.dt_node.specs.declared.logs.Log.{Log}
+use Rattle.dt_node.specs.declared.recorders.Writer.{Writer}
 use Rattle.dt_node.specs.Logging.{LogSight}
 
 -- some of these, in their order
@@ -106,6 +108,13 @@ pub record Scene : Type 0 where
 
 abbrev pub scene : ℕ → WireSight → SinkSight → Scene
 scene gives wire out = record { gives = gives; wire = wire; held = out.held; faults = out.faults }
+
+-- of what writes over a wire and a sink, and of a log
+abbrev pub written_scene : {W K : Type 0} → (W → WireSight) → (K → SinkSight) → Writer → W → K → Scene
+written_scene wire sink writer w k = scene writer.gives (wire w) (sink k)
+
+abbrev pub log_scene : {W K : Type 0} → (W → WireSight) → (K → SinkSight) → Log W K → Scene
+log_scene wire sink log = written_scene wire sink log.writer log.wire.now log.out.now
 
 -- all of these deeds were done, and something was written first
 pub record Wrote (form : Form) (me : ℕ) (first : List ℕ) (deeds : List Deed) (s t : Scene) : Type 0 where

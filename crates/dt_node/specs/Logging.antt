@@ -8,7 +8,7 @@ use Rattle.dt_edges.specs.Wires.{Datagram, GiveFails, GivesOne, WireSight}
 use Rattle.dt_reports.specs.Told.{Told}
 use Rattle.dt_reports.specs.declared.reports.Report.TheVariants as report
 use Rattle.dt_log.specs.Logs.{entry_text}
-use Rattle.dt_fold.specs.Logging.{HasAll, HasPart}
+use Rattle.dt_fold.specs.Logging.{HasAll, HasPart, with_waiting}
 use Rattle.dt_trace.specs.Inputs.{FailedGive, Input, input_text}
 use Rattle.dt_world_model.specs.Host.{Host}
 use Rattle.dt_world_model.specs.Relay.{Parcel}
@@ -143,6 +143,10 @@ pub record Shown : Type 0 where
 
 abbrev pub shown : SinkSight → Shown
 shown s = record { held = s.held; reached = s.reached; faults = s.faults }
+
+-- of a sink and the octets that wait for it
+abbrev pub shown_behind : SinkSight → List ℕ → Shown
+shown_behind s waiting = shown (with_waiting s waiting)
 
 -- a text was put whole, or a first part of it
 abbrev pub Gathers : {T E : Type 0} → List ℕ → Result T E → Shown → Shown → Type 0

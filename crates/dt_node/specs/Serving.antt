@@ -35,6 +35,10 @@ pub record Edges : Type 0 where
 abbrev pub edges : WireSight → ClockSight → SinkSight → Edges
 edges wire clock out = record { wire = wire; clock = clock; held = out.held; faults = out.faults }
 
+-- what is seen of a wire, a clock and a sink by what each kind tells
+abbrev pub seen_by : {W C K : Type 0} → (W → WireSight) → (C → ClockSight) → (K → SinkSight) → W → C → K → Edges
+seen_by wire clock sink w c k = edges (wire w) (clock c) (sink k)
+
 -- PLANS
 
 -- the first readings of a plan, the last one repeated

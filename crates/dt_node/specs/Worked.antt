@@ -1,9 +1,12 @@
 -- Worked runs over literals: the definitions compute them.
-use Rattle.std.specs.Prelude.{ℕ, ◌/◌, ◌%◌, Bool, true, false, List, [], ◌∷◌, Some, None}
+use Rattle.std.specs.Prelude.{ℕ, ◌/◌, ◌%◌, Bool, true, false, List, [], ◌∷◌, Option, Some, None}
 use Rattle.dt_edges.specs.Wires.{Datagram}
+use Rattle.dt_reports.specs.Entries.{Entry}
 use Rattle.dt_world_model.specs.Worked.{main_flow, standard}
 use Rattle.dt_text.specs.Tasks.{Sends}
 use Rattle.dt_script.specs.Orders.{Orders}
+use Rattle.dt_node.specs.Acts.{node_lines}
+use Rattle.dt_node.specs.Runs.{node_run}
 
 -- node 1 of two, for the first time or again: it sends five octets to node 2 at 0, and stops at 100
 abbrev pub exchange : Bool → Orders
@@ -57,3 +60,10 @@ beginning life = on_one (1 ∷ 1 ∷ 0 ∷ 18 ∷ 0 ∷ 0 ∷ life / 256 ∷ lif
 
 abbrev pub ending : ℕ → Datagram
 ending life = on_one (1 ∷ 1 ∷ 0 ∷ 18 ∷ 0 ∷ 0 ∷ life / 256 ∷ life % 256 ∷ 0 ∷ 0 ∷ 0 ∷ 1 ∷ 0 ∷ 0 ∷ 0 ∷ 2 ∷ 1 ∷ 4 ∷ 0 ∷ 10 ∷ 0 ∷ 20 ∷ 0 ∷ 0 ∷ 0 ∷ 4 ∷ 0 ∷ 0 ∷ 0 ∷ 0 ∷ 101 ∷ 102 ∷ 103 ∷ 104 ∷ [])
+
+-- THEIR LOGS: of the first one, where this comes at 40, and of the second one, where the end of a message comes at 10 and its beginning at 20
+abbrev pub exchanged : Bool → Option Datagram → List Entry
+exchanged again came = node_lines 1 (node_run (exchange again) (1000 ∷ 1040 ∷ 1100 ∷ []) (came ∷ None ∷ [])).acts
+
+abbrev pub shelved : ℕ → List Entry
+shelved life = node_lines 2 (node_run with_shelf (1000 ∷ 1010 ∷ 1020 ∷ 1100 ∷ []) (Some (ending life) ∷ Some (beginning life) ∷ None ∷ [])).acts

@@ -18,7 +18,8 @@ pub fn lines_stand_in_order()
 /// same link. Its life is less by more than the time since that frame was handed in first, in ms, and
 /// nothing else has changed. So its life and its age together don't grow.
 pub fn frames_go_in_again_with_less_life()
-    ensures { (o : Orders) (readings : List ℕ) (takes : List (Option Datagram)) → All (IsAgainOf (handed_over readings takes)) (handed_again o readings takes) }
+    ensures { (o : Orders) (readings : List ℕ) (takes : List (Option Datagram))
+        → All (IsAgainOf (handed_over readings takes)) (handed_again o readings takes) }
 {}
 
 /// A take of a node waits at least 1 ms and at most 1,000 ms, and no longer than to the station's wake and

@@ -7,7 +7,9 @@ mod logs;
 mod outcomes;
 mod recorders;
 mod running;
+mod runs;
 mod serving;
+mod turns;
 mod watch;
 mod worked;
 

@@ -1,11 +1,17 @@
 //! Who sees the events of a node's station.
 ghost use Rattle.std.specs.Prelude.{◌≡◌, false};
+ghost use Rattle.dt_edges.specs.Sinks.{Grows};
 ghost use Rattle.dt_reports.specs.Told.{told};
+ghost use Rattle.dt_turn.specs.Codes.{MayTurn};
+ghost use Rattle.dt_node.specs.Deeds.{log_scene};
 ghost use Rattle.dt_node.specs.Logging.{LogHands, LogLoses, LogTells, log_sight};
+ghost use Rattle.dt_node.specs.TurnScripts.{Leaves, PlaysTurn, ended_by};
 
 use crate::forms::Form;
 use crate::recorders::Writer;
+use crate::turns::Turn;
 use dt_edges::{Sink, Wire};
+use dt_fold::Stop;
 use dt_host::Host;
 use dt_items::NoMemory;
 use dt_layout::Frame;
@@ -13,6 +19,21 @@ use dt_log::write_line;
 use dt_reports::{LogLine, Report};
 use dt_station::Visitor;
 use dt_trace::{Input, put_input};
+use dt_turn::Node;
+
+/// How a turn before a log ends. Where a line couldn't be written, that is the answer, whatever the turn's
+/// own was.
+fn ended(done: Result<bool, NoMemory>, failed: bool) -> Result<bool, Stop>
+    ensures { result ≡ ended_by failed done }
+{
+    if failed {
+        return Err(Stop::WriteFault);
+    }
+    match done {
+        Ok(stopped) => Ok(stopped),
+        Err(NoMemory) => Err(Stop::NoMemory),
+    }
+}
 
 /// Writes a line for each report, where the form is that of a log, and gives each frame to the wire. A
 /// give that fails is a loss: a log reports it by an `unsent` line, and a trace by the number of the give.
@@ -32,6 +53,25 @@ pub struct Log<'w, 'o, W, K> {
 }
 
 impl<'w, 'o, W: Wire, K: Sink> Log<'w, 'o, W, K> {
+    /// Takes a turn of a node: writes the line of the turn's reading, where the form has one, and then what
+    /// the turn does. It says whether the stop was due.
+    pub fn take_turn(&mut self, turn: Turn<'_, '_>, node: &mut Node) -> Result<bool, Stop>
+        requires may { MayTurn turn.orders.now turn.moment node.old }
+        requires fine { self.old.failed ≡ false }
+        ensures ends { let seen = log_scene W.sight K.sight in let form = self.old.writer.form in
+            PlaysTurn form self.old.me self.old.moment turn.entry result node.old node.new (seen self.old) (seen self.new) }
+        ensures same_form { self.new.writer.form ≡ self.old.writer.form }
+        ensures same_wire { self.new.wire.ghost_name ≡ self.old.wire.ghost_name }
+        ensures same_out { self.new.out.ghost_name ≡ self.old.out.ghost_name }
+        ensures same_sink { (K.sight self.new.out.now).identity ≡ (K.sight self.old.out.now).identity }
+        ensures reached { Grows (K.sight self.old.out.now).reached (K.sight self.new.out.now).reached }
+        ensures leaves { Leaves turn.entry.orders.now turn.entry.moment result node.new }
+    {
+        self.writer.note(&Input::Reading(turn.reading), self.out)?;
+        let done = dt_turn::turn(turn.orders, node, turn.moment, turn.came, self);
+        ended(done, self.failed)
+    }
+
     /// Writes the line of a report.
     fn write(&mut self, report: &Report<'_>)
         ensures { LogTells (log_sight W.sight K.sight self.old) (told report.now) (log_sight W.sight K.sight self.new) }

@@ -1,9 +1,8 @@
 //! What is written of a run, and how far it has come.
 ghost use Rattle.std.specs.Prelude.{◌≡◌, [], OnOk};
 ghost use Rattle.dt_trace.specs.Written.{input_written};
-ghost use Rattle.dt_fold.specs.Logging.{with_waiting};
 ghost use Rattle.dt_trace.specs.Inputs.{input_text};
-ghost use Rattle.dt_node.specs.Logging.{Gathers, Notes, NotesBehind, shown};
+ghost use Rattle.dt_node.specs.Logging.{Gathers, Notes, NotesBehind, shown, shown_behind};
 
 use crate::forms::Form;
 use dt_edges::{Buffer, Buffered, Failed, Sink};
@@ -38,7 +37,7 @@ fn put_line<K: Sink>(input: &Input<'_>, out: &mut K) -> Result<(), Failed>
 
 /// Gathers the line of an input in a buffer.
 fn gather<K: Sink>(input: &Input<'_>, out: &mut K, buffer: &mut Buffer) -> Result<(), Failed>
-    ensures { Gathers (input_text (input_written input.now)) result (shown (with_waiting (K.sight out.old) buffer.old)) (shown (with_waiting (K.sight out.new) buffer.new)) }
+    ensures { Gathers (input_text (input_written input.now)) result (shown_behind (K.sight out.old) buffer.old) (shown_behind (K.sight out.new) buffer.new) }
 {
     let mut gathered = Buffered { out, buffer };
     put_line(input, &mut gathered)

@@ -7,12 +7,13 @@ ghost use Rattle.dt_script.specs.Codes.{IsGood, orders_seen};
 ghost use Rattle.dt_turn.specs.Codes.{IsReady, node_seen};
 ghost use Rattle.dt_node.specs.declared.forms.Form.TheVariants.{Log, Trace};
 ghost use Rattle.dt_turn.specs.Nodes.{first_node};
-ghost use Rattle.dt_node.specs.Serving.{Serves, edges};
+ghost use Rattle.dt_node.specs.Serving.{Serves, seen_by};
 
 use crate::forms::Form;
 use crate::outcomes::NodeOutcome;
 use crate::recorders::{Recorder, Writer};
-use crate::running::{Run, run_turns};
+use crate::running::run_turns;
+use crate::runs::Run;
 use dt_edges::{Buffer, Clock, Sink, Wire};
 use dt_fold::{Stop, fold_input};
 use dt_items::NoMemory;
@@ -54,7 +55,8 @@ impl Job {
         out: &mut K,
     ) -> NodeOutcome
         requires { IsGood (orders_seen orders.now) }
-        ensures { Serves self.form (orders_seen orders.now) result (edges (W.sight wire.old) (C.sight clock.old) (K.sight out.old)) (edges (W.sight wire.new) (C.sight clock.new) (K.sight out.new)) }
+        ensures { let seen = seen_by W.sight C.sight K.sight in
+            Serves self.form (orders_seen orders.now) result (seen wire.old clock.old out.old) (seen wire.new clock.new out.new) }
     {
         match self.prepare(orders) {
             Ok(mut run) => run_turns(orders, &mut run, wire, clock, out),
@@ -71,7 +73,8 @@ impl Job {
         out: &mut K,
     ) -> NodeOutcome
         requires { length script.now ≤ most_input }
-        ensures { Answers self.form script.now result (edges (W.sight wire.old) (C.sight clock.old) (K.sight out.old)) (edges (W.sight wire.new) (C.sight clock.new) (K.sight out.new)) }
+        ensures { let seen = seen_by W.sight C.sight K.sight in
+            Answers self.form script.now result (seen wire.old clock.old out.old) (seen wire.new clock.new out.new) }
     {
         let mut draft = Draft::new(self.alloc);
         match fold_input(&mut draft, script, out) {
@@ -119,8 +122,10 @@ pub fn serve<W: Wire, C: Clock, K: Sink>(
     out: &mut K,
 ) -> NodeOutcome
     requires { length script.now ≤ most_input }
-    ensures answers { Answers Log script.now result (edges (W.sight wire.old) (C.sight clock.old) (K.sight out.old)) (edges (W.sight wire.new) (C.sight clock.new) (K.sight out.new)) }
-    ensures completes { Completes script.now result (edges (W.sight wire.old) (C.sight clock.old) (K.sight out.old)) (edges (W.sight wire.new) (C.sight clock.new) (K.sight out.new)) }
+    ensures answers { let seen = seen_by W.sight C.sight K.sight in
+        Answers Log script.now result (seen wire.old clock.old out.old) (seen wire.new clock.new out.new) }
+    ensures completes { let seen = seen_by W.sight C.sight K.sight in
+        Completes script.now result (seen wire.old clock.old out.old) (seen wire.new clock.new out.new) }
 {
     let form = Form::Log;
     Job { alloc, form }.serve_script(script, wire, clock, out)
@@ -146,8 +151,10 @@ pub fn serve_traced<W: Wire, C: Clock, K: Sink>(
     out: &mut K,
 ) -> NodeOutcome
     requires { length script.now ≤ most_input }
-    ensures answers { Answers Trace script.now result (edges (W.sight wire.old) (C.sight clock.old) (K.sight out.old)) (edges (W.sight wire.new) (C.sight clock.new) (K.sight out.new)) }
-    ensures completes { Completes script.now result (edges (W.sight wire.old) (C.sight clock.old) (K.sight out.old)) (edges (W.sight wire.new) (C.sight clock.new) (K.sight out.new)) }
+    ensures answers { let seen = seen_by W.sight C.sight K.sight in
+        Answers Trace script.now result (seen wire.old clock.old out.old) (seen wire.new clock.new out.new) }
+    ensures completes { let seen = seen_by W.sight C.sight K.sight in
+        Completes script.now result (seen wire.old clock.old out.old) (seen wire.new clock.new out.new) }
 {
     let form = Form::Trace;
     Job { alloc, form }.serve_script(script, wire, clock, out)

@@ -35,11 +35,11 @@ use Rattle.dt_node.proofs.Watching.{IsWell, goes_on, first_well}
 use Rattle.dt_node.proofs.Served.{Going, Noted, Passed, edges_of, noted_take, scene_of, going_first, passed_by, going_on}
 use Rattle.dt_node.proofs.Endings.{answer_by, serve_done, serve_still, serve_stopped, serve_take_write, noted_err, noted_ok, unopened_ends, untaken_ends}
 use Rattle.dt_node.proofs.running.run_turns.Given.{Over}
-use Rattle.dt_node.proofs.running.run_turns.Goals.{After-turn_at}
+use Rattle.dt_node.proofs.running.run_turns.Goals.{After-take_turn}
 use Rattle.dt_node.proofs.running.run_turns.Goals as goal
 
 -- THE TURN THAT WAS TAKEN: how it stood before all turns and before this one, and what this one left
-module _ (g : Over) (c : After-turn_at g) where
+module _ (g : Over) (c : After-take_turn g) where
   abbrev form : Form
   form = c.args.run.now.recorder.writer.form
 
@@ -53,10 +53,10 @@ module _ (g : Over) (c : After-turn_at g) where
   before = edges (g.W.Wire.sight c.turns.wire) (g.C.Clock.sight c.turns.clock) (g.K.Sink.sight c.turns.out)
 
   abbrev left : Scene
-  left = scene c.turn_at.new.run.recorder.writer.gives (g.W.Wire.sight c.turn_at.new.wire) (g.K.Sink.sight c.turn_at.new.out)
+  left = scene c.take_turn.new.self.recorder.writer.gives (g.W.Wire.sight c.take_turn.new.wire) (g.K.Sink.sight c.take_turn.new.out)
 
   abbrev after : Node
-  after = node_seen c.args.orders.now c.turn_at.new.run.node
+  after = node_seen c.args.orders.now c.take_turn.new.self.node
 
   abbrev Ends : Result Bool Stop → Form → Option Datagram → Type 0
   Ends r f came =
@@ -84,14 +84,14 @@ module _ (g : Over) (c : After-turn_at g) where
   -- IT GOES ON
   record Went : Type 0 where
     goes : Passed form orders first left.gives c.turns.watch (Some after) (edges_of left before.clock)
-    same : c.turn_at.new.run.recorder.writer.form ≡ form
-    asks : (wait : ℕ) → wait ≡ wait_until (wakes_by (station_wake c.turn_at.new.run.node.dock.station.rules c.turn_at.new.run.node.dock.station.state) (next_moment c.args.orders.now.stop (left_of c.args.orders.now c.turn_at.new.run.node.next))) c.moment-moment.result → wait ≡ wait_in (pause_of orders c.turns.watch after)
+    same : c.take_turn.new.self.recorder.writer.form ≡ form
+    asks : (wait : ℕ) → wait ≡ wait_until (wakes_by (station_wake c.take_turn.new.self.node.dock.station.rules c.take_turn.new.self.node.dock.station.state) (next_moment c.args.orders.now.stop (left_of c.args.orders.now c.take_turn.new.self.node.next))) c.moment-moment.result → wait ≡ wait_in (pause_of orders c.turns.watch after)
 
-  went : (stopped : Bool) → stopped ≡ false → Ended (Ok stopped) → c.turn_at.new.run.recorder.writer.form ≡ c.turns.run.recorder.writer.form → IsReady c.args.orders.now c.moment-moment.result c.turn_at.new.run.node → Went
+  went : (stopped : Bool) → stopped ≡ false → Ended (Ok stopped) → c.take_turn.new.self.recorder.writer.form ≡ c.turns.run.recorder.writer.form → IsReady c.args.orders.now c.moment-moment.result c.take_turn.new.self.node → Went
   went stopped e h same ready = record {
     goes = passed stopped false e h;
     same = same ∙ c.turns.invariant.form;
-    asks = λ wait is. asked_wait c.args.orders.now c.turn_at.new.run.node c.turns.watch c.moment-moment.result wait ready.rules c.moment-moment.ensures is;
+    asks = λ wait is. asked_wait c.args.orders.now c.take_turn.new.self.node c.turns.watch c.moment-moment.result wait ready.rules c.moment-moment.ensures is;
   }
 
   -- and what its take found is written, or not
@@ -99,19 +99,19 @@ module _ (g : Over) (c : After-turn_at g) where
     took : TakesOne most_taken found left.wire v
     took = subst (λ (k : ℕ). TakesOne k found left.wire v) size takes
 
-    in_form : {T E : Type 0} (r : Result T E) → NotesBehind c.turn_at.new.run.recorder.writer.form input r (g.K.Sink.sight c.turn_at.new.out) z → NotesBehind form (Found found) r (g.K.Sink.sight c.turn_at.new.out) z
+    in_form : {T E : Type 0} (r : Result T E) → NotesBehind c.take_turn.new.self.recorder.writer.form input r (g.K.Sink.sight c.take_turn.new.out) z → NotesBehind form (Found found) r (g.K.Sink.sight c.take_turn.new.out) z
     in_form r h =
-        subst (λ (f : Form). NotesBehind f (Found found) r (g.K.Sink.sight c.turn_at.new.out) z) w.same
-        (subst (λ (i : Input). NotesBehind c.turn_at.new.run.recorder.writer.form i r (g.K.Sink.sight c.turn_at.new.out) z) says h)
+        subst (λ (f : Form). NotesBehind f (Found found) r (g.K.Sink.sight c.take_turn.new.out) z) w.same
+        (subst (λ (i : Input). NotesBehind c.take_turn.new.self.recorder.writer.form i r (g.K.Sink.sight c.take_turn.new.out) z) says h)
 
-    written : NotesBehind {T = Unit {0}} {E = Failed} c.turn_at.new.run.recorder.writer.form input (Ok tt) (g.K.Sink.sight c.turn_at.new.out) z → Noted form orders first left.gives c.turns.watch after found (edges v before.clock z)
+    written : NotesBehind {T = Unit {0}} {E = Failed} c.take_turn.new.self.recorder.writer.form input (Ok tt) (g.K.Sink.sight c.take_turn.new.out) z → Noted form orders first left.gives c.turns.watch after found (edges v before.clock z)
     written h =
-        let put : HasAll (noted_text form (Found found)) (g.K.Sink.sight c.turn_at.new.out) z × (z.faults ≡ left.faults) = noted_ok Failed form (Found found) tt (g.K.Sink.sight c.turn_at.new.out) z (in_form (Ok tt) h) in
+        let put : HasAll (noted_text form (Found found)) (g.K.Sink.sight c.take_turn.new.out) z × (z.faults ≡ left.faults) = noted_ok Failed form (Found found) tt (g.K.Sink.sight c.take_turn.new.out) z (in_form (Ok tt) h) in
         noted_take form orders first left.gives c.turns.watch after (edges_of left before.clock) found v z.held z.faults wait fits put.0 put.1 w.goes took waited is
 
-    unwritten : (fault : Failed) → NotesBehind {T = Unit {0}} {E = Failed} c.turn_at.new.run.recorder.writer.form input (Err fault) (g.K.Sink.sight c.turn_at.new.out) z → Serves form orders WriteFault first (edges v before.clock z)
+    unwritten : (fault : Failed) → NotesBehind {T = Unit {0}} {E = Failed} c.take_turn.new.self.recorder.writer.form input (Err fault) (g.K.Sink.sight c.take_turn.new.out) z → Serves form orders WriteFault first (edges v before.clock z)
     unwritten fault h =
-        let put : HasPart (noted_text form (Found found)) (g.K.Sink.sight c.turn_at.new.out) z × HasRisen left.faults z.faults = noted_err (Unit {0}) form (Found found) fault (g.K.Sink.sight c.turn_at.new.out) z (in_form (Err fault) h) in
+        let put : HasPart (noted_text form (Found found)) (g.K.Sink.sight c.take_turn.new.out) z × HasRisen left.faults z.faults = noted_err (Unit {0}) form (Found found) fault (g.K.Sink.sight c.take_turn.new.out) z (in_form (Err fault) h) in
         serve_take_write form orders first left.gives c.turns.watch after (edges_of left before.clock) found v z.held z.faults wait fits w.goes took waited is put.0 put.1
 
 pub returns-in-Err-clause-serves : goal.returns-in-Err-clause-serves
@@ -144,31 +144,31 @@ turns-init g c =
 
 pub returns-in-Ok-true-clause-serves : goal.returns-in-Ok-true-clause-serves
 returns-in-Ok-true-clause-serves g c =
-    let k = (goal.at.returns-in-Ok-true-clause-serves g c).After-turn_at in
+    let k = (goal.at.returns-in-Ok-true-clause-serves g c).After-take_turn in
     serve_done (form g k) (orders g k) (first g k) (left g k).gives c.turns.watch (edges_of (left g k) (before g k).clock) (passed g k c.in-Ok-true.field-0 true c.in-Ok-true.field-0-test c.in-Ok-true.ensures.ends)
 
 pub returns-in-Err-NoMemory-clause-serves : goal.returns-in-Err-NoMemory-clause-serves
-returns-in-Err-NoMemory-clause-serves g c = stops_by g (goal.at.returns-in-Err-NoMemory-clause-serves g c).After-turn_at stops.NoMemory (rw c.in-Err-NoMemory.field-0-is at c.in-Err-NoMemory.ensures.ends)
+returns-in-Err-NoMemory-clause-serves g c = stops_by g (goal.at.returns-in-Err-NoMemory-clause-serves g c).After-take_turn stops.NoMemory (rw c.in-Err-NoMemory.field-0-is at c.in-Err-NoMemory.ensures.ends)
 
 pub returns-in-Err-NoMemory-clause-memory : goal.returns-in-Err-NoMemory-clause-memory
 returns-in-Err-NoMemory-clause-memory g c = λ is. (rw c.in-Err-NoMemory.field-0-is at c.in-Err-NoMemory.ensures.leaves.memory) refl
 
 pub returns-in-Err-WriteFault-clause-serves : goal.returns-in-Err-WriteFault-clause-serves
-returns-in-Err-WriteFault-clause-serves g c = stops_by g (goal.at.returns-in-Err-WriteFault-clause-serves g c).After-turn_at stops.WriteFault (rw c.in-Err-WriteFault.field-0-is at c.in-Err-WriteFault.ensures.ends)
+returns-in-Err-WriteFault-clause-serves g c = stops_by g (goal.at.returns-in-Err-WriteFault-clause-serves g c).After-take_turn stops.WriteFault (rw c.in-Err-WriteFault.field-0-is at c.in-Err-WriteFault.ensures.ends)
 
 pub returns-in-Err-take-clause-serves : goal.returns-in-Err-take-clause-serves
 returns-in-Err-take-clause-serves g c =
-    let k = (goal.at.returns-in-Err-take-clause-serves g c).After-turn_at in
+    let k = (goal.at.returns-in-Err-take-clause-serves g c).After-take_turn in
     let w = went g k c.in-Ok-false.field-0 c.in-Ok-false.field-0-test c.in-Ok-false.ensures.ends c.in-Ok-false.ensures.same_form c.in-Ok-false.ensures.leaves.ready in
     let wait = c.wait_for-wait.result in
-    let a = g.K.Sink.sight c.turn_at.new.out in
+    let a = g.K.Sink.sight c.take_turn.new.out in
     let z = g.K.Sink.sight c.fail-in-Err-take.new.out in
     let noted = subst (λ (f : Form). NotesFault FailedTake f c.fail-in-Err-take.result a z) w.same c.fail-in-Err-take.ensures.notes in
     untaken_ends (form g k) (orders g k) (first g k) (left g k).gives c.turns.watch (after g k) (left g k).wire (g.W.Wire.sight c.take.new.self) (before g k).clock a z wait c.fail-in-Err-take.result w.goes c.in-Err-take.ensures.failed c.take.ensures.waited (w.asks wait c.wait_for-wait.ensures) noted
 
 pub returns-in-Err-note-clause-serves : goal.returns-in-Err-note-clause-serves
 returns-in-Err-note-clause-serves g c =
-    let k = (goal.at.returns-in-Err-note-clause-serves g c).After-turn_at in
+    let k = (goal.at.returns-in-Err-note-clause-serves g c).After-take_turn in
     let w = went g k c.in-Ok-false.field-0 c.in-Ok-false.field-0-test c.in-Ok-false.ensures.ends c.in-Ok-false.ensures.same_form c.in-Ok-false.ensures.leaves.ready in
     let size : length c.turns.octets ≡ most_taken = search rules in
     unwritten g k w c.wait_for-wait.result (length c.turns.octets) (g.W.Wire.sight c.take.new.self) (handed c.in-Ok.found c.take.new.buf) (input_written c.input_of.result) (g.K.Sink.sight c.note.new.out) size c.in-Ok.ensures.taken c.take.ensures.waited (w.asks _ c.wait_for-wait.ensures) c.input_of.ensures.input c.input_of.ensures.fits
@@ -176,7 +176,7 @@ returns-in-Err-note-clause-serves g c =
 
 pub returns-then-watch-eq-MOST_EQUAL-clause-serves : goal.returns-then-watch-eq-MOST_EQUAL-clause-serves
 returns-then-watch-eq-MOST_EQUAL-clause-serves g c =
-    let k = (goal.at.returns-then-watch-eq-MOST_EQUAL-clause-serves g c).After-turn_at in
+    let k = (goal.at.returns-then-watch-eq-MOST_EQUAL-clause-serves g c).After-take_turn in
     let w = went g k c.in-Ok-false.field-0 c.in-Ok-false.field-0-test c.in-Ok-false.ensures.ends c.in-Ok-false.ensures.same_form c.in-Ok-false.ensures.leaves.ready in
     let size : length c.turns.octets ≡ most_taken = search rules in
     let found = handed c.in-Ok.found c.take.new.buf in
@@ -186,7 +186,7 @@ returns-then-watch-eq-MOST_EQUAL-clause-serves g c =
 
 pub turns-preserved : goal.turns-preserved
 turns-preserved g c =
-    let k = (goal.at.turns-preserved g c).After-turn_at in
+    let k = (goal.at.turns-preserved g c).After-take_turn in
     let w = went g k c.in-Ok-false.field-0 c.in-Ok-false.field-0-test c.in-Ok-false.ensures.ends c.in-Ok-false.ensures.same_form c.in-Ok-false.ensures.leaves.ready in
     let found = handed c.in-Ok.found c.take.new.buf in
     let size : length c.turns.octets ≡ most_taken = search rules in
@@ -208,7 +208,7 @@ turns-preserved g c =
     record {
       going = subst (λ (w : Watch). Going (form g k) o (first g k) r c.note.new.self.writer.gives w found (after g k) (edges wire clock z)) (sym c.next-watch.ensures) counted;
       well = subst IsWell (sym c.next-watch.ensures) (goes 0).well;
-      ready = subst (λ (w : Watch). IsReady c.args.orders.now (moment w) c.turn_at.new.run.node) (sym c.next-watch.ensures) (ready_later c.args.orders.now c.turn_at.new.run.node c.moment-moment.result (moment (next_watch r watch)) later c.in-Ok-false.ensures.leaves.ready);
+      ready = subst (λ (w : Watch). IsReady c.args.orders.now (moment w) c.take_turn.new.self.node) (sym c.next-watch.ensures) (ready_later c.args.orders.now c.take_turn.new.self.node c.moment-moment.result (moment (next_watch r watch)) later c.in-Ok-false.ensures.leaves.ready);
       within = subst (λ (n : ℕ). IfSome c.in-Ok.found (λ d. d.1 ≤ n)) size c.in-Ok.ensures.within;
       empty = c.in_default-note.ensures.empty;
       form = ap (λ (w : Writer). w.form) c.in_default-note.ensures.same ∙ w.same;
