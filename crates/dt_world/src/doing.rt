@@ -47,7 +47,12 @@ pub fn send<L: Lines>(
     ensures now { parts.new.now ≡ parts.old.now }
     ensures links { parts.new.links ≡ parts.old.links }
 {
-    let event = PlacedEvent::Send { flow, sent };
+    let event = PlacedEvent::Send {
+        flow,
+        octets: sent.octets,
+        begin: sent.begin,
+        end: sent.end,
+    };
     let brought = Brought {
         octets: sent,
         place: 0,

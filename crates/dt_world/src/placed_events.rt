@@ -1,6 +1,5 @@
 //! An event at a station of the world.
 use crate::marked::Mark;
-use dt_items::MarkedOctets;
 use dt_layout::Frame;
 use dt_units::Flow;
 
@@ -11,7 +10,9 @@ pub enum PlacedEvent<'a> {
     /// Octets are sent on a flow from this node to another.
     Send {
         flow: Flow,
-        sent: MarkedOctets<'a>,
+        octets: &'a [u8],
+        begin: bool,
+        end: bool,
     },
     /// Unread octets of a flow are read, at most as many as the buffer holds.
     Read {

@@ -17,7 +17,7 @@ use crate::placed_events::PlacedEvent;
 use crate::readings::read_clock;
 use crate::reporters::{Lines, Reporter};
 use dt_flow_model::Reading;
-use dt_items::NoMemory;
+use dt_items::{MarkedOctets, NoMemory};
 use dt_station::{InLink, LocalEvent, OutLink, Route, Station};
 use dt_units::{NodeId, Rules};
 use std::alloc::Global;
@@ -62,7 +62,13 @@ fn take_part<L: Lines>(
     ensures links { station.new.state.relay ≡ with_outs station.old.state.relay station.new.state.relay.outs }
 {
     match event {
-        PlacedEvent::Send { flow, sent } => {
+        PlacedEvent::Send {
+            flow,
+            octets,
+            begin,
+            end,
+        } => {
+            let sent = MarkedOctets { octets, begin, end };
             station.local_event(now, LocalEvent::Send { flow, sent }, &mut [], reporter)
         }
         PlacedEvent::Read { flow, buf } => {
