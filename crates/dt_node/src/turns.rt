@@ -22,8 +22,8 @@ pub struct Turn<'o, 'c> {
 }
 
 impl<'o, 'c> Turn<'o, 'c> {
-    /// Is taken by a node before a log, whose lines are put one after another. It says whether the stop was
-    /// due.
+    /// Plays the turn with a node before a log, whose lines are put one after another, that of its reading
+    /// first. It says whether the stop was due.
     pub fn play<W: Wire, K: Sink>(
         self,
         node: &mut Node,

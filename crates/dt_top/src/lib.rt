@@ -6,8 +6,8 @@ ghost use Rattle.std.specs.Prelude.{◌≡◌, false};
 ghost use Rattle.dt_top.specs.Answering.{Answers};
 ghost use Rattle.dt_top.specs.Commands.{command_of, reads_source, uses_wire};
 ghost use Rattle.dt_top.specs.Endings.{status_of, text_of};
+ghost use Rattle.dt_top.specs.Runs.{run_by, seen_by};
 ghost use Rattle.dt_top.specs.Serving.{Says};
-ghost use Rattle.dt_top.specs.Streams.{effects};
 
 mod command;
 mod command_line;
@@ -76,19 +76,10 @@ pub fn run<S: Source, K: Sink, E: Sink, W: Wire, C: Clock>(
     wire: &mut W,
     clock: &mut C,
 ) -> u8
-    // All that is said of the words, of the status, and of what is seen of source, output, wire, clock and
-    // standard error. Each sentence is a named field of `Answers` (specs/Answering.antt).
-    ensures answers { Answers (record {
-      command = command_of words.now;
-      status = result;
-      streams = record {
-        source_before = S.sight source.old;
-        source_after = S.sight source.new;
-        effects = effects (K.sight out.old) (K.sight out.new) (W.sight wire.old) (W.sight wire.new) (C.sight clock.old) (C.sight clock.new);
-      };
-      err_before = E.sight err.old;
-      err_after = E.sight err.new;
-    }) }
+    // All that is said of the words, of the status, and of what is seen of source, output, standard error,
+    // wire and clock. Each sentence is a named field of `Answers` (specs/Answering.antt).
+    ensures answers { let seen = seen_by S.sight K.sight E.sight W.sight C.sight in
+        Answers (run_by (command_of words.now) result (seen source.old out.old err.old wire.old clock.old) (seen source.new out.new err.new wire.new clock.new)) }
     ensures same_source { reads_source (command_of words.now) ≡ false → source.new ≡ source.old }
     ensures same_wire { uses_wire (command_of words.now) ≡ false → wire.new ≡ wire.old }
     ensures same_clock { uses_wire (command_of words.now) ≡ false → clock.new ≡ clock.old }
