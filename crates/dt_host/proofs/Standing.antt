@@ -226,6 +226,18 @@ module _ (f : Flow) (flows : List (Option Flow)) (once : StandOnce flows) (i : �
       let was = once j g s.1 in
       by_flow (λ (e : Flow). place_in e flows ≡ Some j → place_in e left ≡ Some j) f g (λ e. absurd (s.0 (same_some j i (sym e ∙ here)))) (λ n e. left_other g n ∙ e) was
 
+  -- a place that was empty is so, and its own is
+  left_empty : (to : ℕ) → (to ≢ i → slot flows to ≡ None) → slot left to ≡ None
+  left_empty to empty =
+      elim (cases_eq to i) [
+        | inl same ↦ subst (λ (n : ℕ). slot left n ≡ None) (sym same) (slot_here flows i None (slot_within flows i f was_here))
+        | inr apart ↦ slot_there flows i to None apart ∙ empty apart
+      ]
+
+  -- and where it takes one of them each flow stands once
+  pub moved_once : (to : ℕ) → to < length flows → (to ≢ i → slot flows to ≡ None) → StandOnce (set left to (Some f))
+  moved_once to within empty = taken_once f left left_once to (let n = length-set flows i None in omega arith) (left_empty to empty) left_none
+
 -- THE INDEX AFTER A CHANGE
 module _ (index : List (Flow × ℕ)) (flows : List (Option Flow)) (is : AreIndexed index flows) (f : Flow) (after : List (Flow × ℕ)) where
   abbrev Updated : Option ℕ → Type 0
@@ -259,20 +271,13 @@ module _ (index : List (Flow × ℕ)) (flows : List (Option Flow)) (is : AreInde
         let mid : List (Option Flow) = set flows i None in
         let once = left_once f flows is.once i here in
         let none = left_none f flows is.once i here in
-        let at : slot mid to ≡ None = still in
+        let at : slot mid to ≡ None = left_empty f flows is.once i here to (λ apart. empty) in
         let inside : to < length mid = (let n = length-set flows i None in omega arith) in
         record {
           found = found_by (Some to) (set mid to (Some f)) updated (taken_own f mid once to inside at none) (λ q n. taken_other f mid once to inside at none q n ∙ left_other f flows is.once i here q n);
           once = taken_once f mid once to inside at none;
           counted = (let a = one_less flows i f (was_here f flows is.once i here) in let b = one_more mid to f inside at in let c = is.counted in omega arith);
         }
-      where
-        still : slot (set flows i None) to ≡ None
-        still =
-            elim (cases_eq to i) [
-              | inl same ↦ subst (λ (n : ℕ). slot (set flows i None) n ≡ None) (sym same) (slot_here flows i None (slot_within flows i f (was_here f flows is.once i here)))
-              | inr apart ↦ slot_there flows i to None apart ∙ empty
-            ]
 
 -- more places that are empty
 pub same_indexed : (index : List (Flow × ℕ)) (flows more : List (Option Flow)) → ((i : ℕ) → slot more i ≡ slot flows i) → AreIndexed index flows → AreIndexed index more

@@ -90,7 +90,8 @@ impl<A: Drop> Table<A> {
         ensures rows { rows self.new.slots.items (note_at self.new.agenda) ≡ rows self.old.slots.items (note_at self.old.agenda) }
     {
         let count = self.slots.len();
-        if count < self.agenda.room() || self.places.count() > count / 2 {
+        let taken = self.places.count();
+        if count < self.agenda.room() || taken > count / 2 {
             return;
         }
         let mut to = 0;
@@ -98,8 +99,6 @@ impl<A: Drop> Table<A> {
             let Some((flow, moved)) = self.slots[from].take() else {
                 continue;
             };
-            // With its count it tells that each flow stands once.
-            let _count = self.places.count();
             self.places.shift(&flow, from, to);
             self.agenda.shift(from, to);
             self.slots[to] = Some((flow, moved));

@@ -1,6 +1,6 @@
 use Rattle.std.proofs.Common.{ℕ, ◌≡◌, ◌<◌, ◌≤◌, length, None}
 use Rattle.dt_host.specs.Agendas.{note_at}
-use Rattle.dt_host.specs.Places.{slot}
+use Rattle.dt_host.specs.Places.{StandOnce, slot}
 use Rattle.dt_host.specs.Tables.{IsPlaced, rows}
 use Rattle.dt_host.proofs.table.Table.close_up.Given as goal
 
@@ -8,6 +8,7 @@ use Rattle.dt_host.proofs.table.Table.close_up.Given as goal
 abbrev pub invariant-loop-from : goal.invariant-loop-from
 invariant-loop-from g l = record {
   placed : IsPlaced (length l.fn.self.agenda) l.self.places l.self.slots.items l.self.agenda;
+  once : StandOnce l.self.places;
   same : rows l.self.slots.items (note_at l.self.agenda) ≡ rows l.fn.self.slots.items (note_at l.fn.self.agenda);
   long : length l.self.slots.items ≡ l.count;
   behind : l.to ≤ l.from;
