@@ -7,8 +7,8 @@ use Rattle.dt_text.specs.InputLines.{lines_of}
 use Rattle.dt_units.specs.declared.endpoints.Flow.{Flow}
 use Rattle.dt_world_model.specs.Tables.{look, same_flow, write}
 use Rattle.dt_world_model.proofs.Tables.{flow_is, flow_self, look_write, look_write_other, nat_is, nat_self}
-use Rattle.dt_audit.specs.declared.changes.Change.{Change}
-use Rattle.dt_audit.specs.declared.changes.Change.TheVariants as changes
+use Rattle.dt_audit.specs.declared.flow_facts.FlowFact.{FlowFact}
+use Rattle.dt_audit.specs.declared.flow_facts.FlowFact.TheVariants as changes
 use Rattle.dt_audit.specs.declared.facts.Fact.{Fact}
 use Rattle.dt_audit.specs.declared.facts.Fact.TheVariants.{Took, Sent, Settled, Uncertain, Accepted, Restarted, Other}
 use Rattle.dt_audit.specs.declared.flaws.Flaw.{Flaw}
@@ -67,7 +67,7 @@ flow_written f notes rows (Ok n) (Ok l) m a = record {
       ];
 }
 
-flow_changed : (f : Flow) (change : Change) (notes : Book Notes) (rows : Book FlowLog) → Matches notes rows → BothFollow (change_flow by_notes f change notes) (change_flow by_rows f change rows)
+flow_changed : (f : Flow) (change : FlowFact) (notes : Book Notes) (rows : Book FlowLog) → Matches notes rows → BothFollow (change_flow by_notes f change notes) (change_flow by_rows f change rows)
 flow_changed f change notes rows m =
     flow_written f notes rows (notes_after (lives_of notes.lives f) change (kept by_notes notes.flows f)) (rows_after (lives_of rows.lives f) change (kept by_rows rows.flows f)) m
     (subst (λ lives. Agrees (life_in notes.lives f.from.0) (notes_after (lives_of notes.lives f) change (kept by_notes notes.flows f)) (rows_after (lives_of lives f) change (kept by_rows rows.flows f))) m.lives

@@ -9,8 +9,8 @@ use Rattle.dt_units.specs.declared.endpoints.Flow.{Flow}
 use Rattle.dt_world_model.specs.Tables.{same_flow, write}
 use Rattle.dt_world_model.proofs.Maps.{equal_flows, flow_inserted as inserted_so, flow_looked, flow_written, inserted, looked}
 use Rattle.dt_world_model.proofs.Tables.{all_look, all_write, flow_is, flow_self, nat_is}
-use Rattle.dt_audit.specs.declared.changes.Change.{Change}
-use Rattle.dt_audit.specs.declared.changes.Lives.{Lives}
+use Rattle.dt_audit.specs.declared.flow_facts.FlowFact.{FlowFact}
+use Rattle.dt_audit.specs.declared.flow_facts.Lives.{Lives}
 use Rattle.dt_audit.specs.declared.flaws.Flaw.{Flaw}
 use Rattle.dt_audit.specs.Books.{Book, begin_again, change_flow, kept, life_in, lives_of, wrote}
 use Rattle.dt_audit.specs.FlowNotes.{Notes, TakenWithin, by_notes, no_notes, notes_after}
@@ -58,7 +58,7 @@ on_any (Err y) p = tt
 abbrev pub book_with : List (ℕ × ℕ) → List (Flow × Notes) → Book Notes
 book_with lives flows = record { lives = lives; flows = flows }
 
-module _ (f : Flow) (change : Change) (book : Book Notes) (lives : List (ℕ × ℕ)) (es : List (Flow × Notes)) (is : book_with lives es ≡ book) (pair : Lives) (of_flow : pair ≡ lives_of book.lives f) where
+module _ (f : Flow) (change : FlowFact) (book : Book Notes) (lives : List (ℕ × ℕ)) (es : List (Flow × Notes)) (is : book_with lives es ≡ book) (pair : Lives) (of_flow : pair ≡ lives_of book.lives f) where
   change_is : (n : Notes) → kept by_notes es f ≡ n → change_flow by_notes f change book ≡ wrote by_notes f (book_with lives es) (notes_after pair change n)
   change_is n e =
       ap (change_flow by_notes f change) (sym is)

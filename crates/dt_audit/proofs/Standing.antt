@@ -15,9 +15,9 @@ use Rattle.dt_flow_model.specs.Facts.{last_of}
 use Rattle.dt_flow_model.specs.Ledger.{given_rows, is_given, is_open, is_open_in, is_unsent, open_row, row_at, take_rows, top, top_from}
 use Rattle.dt_flow_laws.proofs.Ledger.{lives_append, settle_firsts, settle_length, settle_lives, took_firsts}
 use Rattle.dt_units.specs.Numbers.{number_after, number_distance}
-use Rattle.dt_audit.specs.declared.changes.Change.{Change}
-use Rattle.dt_audit.specs.declared.changes.Change.TheVariants as changes
-use Rattle.dt_audit.specs.declared.changes.Lives.{Lives}
+use Rattle.dt_audit.specs.declared.flow_facts.FlowFact.{FlowFact}
+use Rattle.dt_audit.specs.declared.flow_facts.FlowFact.TheVariants as changes
+use Rattle.dt_audit.specs.declared.flow_facts.Lives.{Lives}
 use Rattle.dt_audit.specs.declared.flaws.Flaw.{Flaw}
 use Rattle.dt_audit.specs.declared.gaps.Gap.{Gap}
 use Rattle.dt_audit.specs.FlowNotes.{Notes, goes_on, holds, in_life, is_reported, no_notes, note, note_accepted, note_at, note_given, notes_after, was_sent, with_gap}
@@ -439,7 +439,7 @@ at_place_agrees lives run count (Some place) n l same s =
     both : {a b c d : Bool} → a ≡ c → b ≡ d → (a && b) ≡ (c && d)
     both p q = cc
 
-pub change_agrees : (lives : Lives) (change : Change) (n : Notes) (l : FlowLog) → n.life ≡ lives.sender → Stands n l → Agrees lives.sender (note lives.receiver change n) (rows_after lives change l)
+pub change_agrees : (lives : Lives) (change : FlowFact) (n : Notes) (l : FlowLog) → n.life ≡ lives.sender → Stands n l → Agrees lives.sender (note lives.receiver change n) (rows_after lives change l)
 change_agrees lives (changes.Took count) n l same s = (took lives.sender count n l same s, same)
 change_agrees lives (changes.Sent number count) n l same s =
     let waiting : length (unsent_places lives.sender l) ≡ n.taken - n.unsent_from =
@@ -470,7 +470,7 @@ change_agrees lives (changes.Accepted number count run) n l same s =
     (ap (λ edge. place_back edge (number_distance l.next number)) s.edge ∙ ap (λ next. place_back n.edge (number_distance next number)) s.next)
     (at_place_agrees lives run count (first_place number l) n l same s)
 
-pub line_agrees : (lives : Lives) (change : Change) (n : Notes) (l : FlowLog) → n.life ≤ lives.sender → Stands n l → Agrees lives.sender (notes_after lives change n) (rows_after lives change l)
+pub line_agrees : (lives : Lives) (change : FlowFact) (n : Notes) (l : FlowLog) → n.life ≤ lives.sender → Stands n l → Agrees lives.sender (notes_after lives change n) (rows_after lives change l)
 line_agrees lives change n l le s =
     let in_it = entered lives.sender n l le s in
     change_agrees lives change (in_life lives.sender n) l in_it.1 in_it.0

@@ -4,9 +4,9 @@ use Rattle.dt_reports.specs.declared.faults.LineFault.{LineFault}
 use Rattle.dt_text.specs.InputLines.{lines_of}
 use Rattle.dt_units.specs.declared.endpoints.Flow.{Flow}
 use Rattle.dt_world_model.specs.Tables.{look, same_flow, write}
-use Rattle.dt_audit.specs.declared.changes.Change.{Change}
-use Rattle.dt_audit.specs.declared.changes.Change.TheVariants as changes
-use Rattle.dt_audit.specs.declared.changes.Lives.{Lives}
+use Rattle.dt_audit.specs.declared.flow_facts.FlowFact.{FlowFact}
+use Rattle.dt_audit.specs.declared.flow_facts.FlowFact.TheVariants as changes
+use Rattle.dt_audit.specs.declared.flow_facts.Lives.{Lives}
 use Rattle.dt_audit.specs.declared.facts.Fact.{Fact}
 use Rattle.dt_audit.specs.declared.facts.Fact.TheVariants.{Took, Sent, Settled, Uncertain, Accepted, Restarted, Other}
 use Rattle.dt_audit.specs.declared.flaws.Flaw.{Flaw}
@@ -21,7 +21,7 @@ pub record Book (A : Type 0) : Type 0 where
 -- a way to keep flows: what there is of one that wasn't spoken of, and what a line makes of it, by the lives of its two nodes
 pub record Keeping (A : Type 0) : Type 0 where
   pub nothing : A
-  pub follow : Lives → Change → A → Result A Flaw
+  pub follow : Lives → FlowFact → A → Result A Flaw
 
 -- each node's life is 0 at first
 abbrev pub life_in : List (ℕ × ℕ) → ℕ → ℕ
@@ -43,7 +43,7 @@ module _ {A : Type 0} (keeping : Keeping A) where
   wrote f book (Err flaw) = Err flaw
 
   -- a line changes what is kept of its flow
-  abbrev pub change_flow : Flow → Change → Book A → Result (Book A) Flaw
+  abbrev pub change_flow : Flow → FlowFact → Book A → Result (Book A) Flaw
   change_flow f change book = wrote f book (keeping.follow (lives_of book.lives f) change (kept book.flows f))
 
   -- a node begins again: in the life after its last one

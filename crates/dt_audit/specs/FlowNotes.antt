@@ -4,9 +4,9 @@ use Rattle.std.specs.List.{list_any}
 use Rattle.dt_units.specs.declared.endpoints.Flow.{Flow}
 use Rattle.dt_units.specs.Numbers.{number_after, number_distance}
 use Rattle.dt_world_model.specs.Tables.{AllEntries}
-use Rattle.dt_audit.specs.declared.changes.Change.{Change}
-use Rattle.dt_audit.specs.declared.changes.Change.TheVariants.{Took, Sent, Settled, Uncertain, Accepted}
-use Rattle.dt_audit.specs.declared.changes.Lives.{Lives}
+use Rattle.dt_audit.specs.declared.flow_facts.FlowFact.{FlowFact}
+use Rattle.dt_audit.specs.declared.flow_facts.FlowFact.TheVariants.{Took, Sent, Settled, Uncertain, Accepted}
+use Rattle.dt_audit.specs.declared.flow_facts.Lives.{Lives}
 use Rattle.dt_audit.specs.declared.flaws.Flaw.{Flaw}
 use Rattle.dt_audit.specs.declared.flaws.Flaw.TheVariants.{Stray, Breaks}
 use Rattle.dt_audit.specs.declared.flaws.Promise.TheVariants.{InOrder, SkipsReported, AcknowledgedIsGiven, RunsUnbroken}
@@ -93,14 +93,14 @@ note_at life run count None n = Err Stray
 note_at life run count (Some place) n = if was_sent place n && was_sent (place + count - 1) n then note_accepted life run place count n else Err Stray
 
 -- what a line says of a flow whose sender is in the life of the notes
-abbrev pub note : ℕ → Change → Notes → Result Notes Flaw
+abbrev pub note : ℕ → FlowFact → Notes → Result Notes Flaw
 note life (Took count) n = Ok (record n { taken = n.taken + count })
 note life (Sent number count) n = note_sent number count n
 note life (Settled count) n = note_acknowledged count n
 note life (Uncertain count) n = note_given_up count n
 note life (Accepted number count run) n = note_at life run count (place_back n.edge (number_distance n.next number)) n
 
-abbrev pub notes_after : Lives → Change → Notes → Result Notes Flaw
+abbrev pub notes_after : Lives → FlowFact → Notes → Result Notes Flaw
 notes_after lives change n = note lives.receiver change (in_life lives.sender n)
 
 abbrev pub by_notes : Keeping Notes

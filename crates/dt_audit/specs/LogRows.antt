@@ -10,9 +10,9 @@ use Rattle.dt_flow_model.specs.declared.rows.Taken.{Taken}
 use Rattle.dt_flow_model.specs.declared.rows.Given.{Given}
 use Rattle.dt_flow_model.specs.Facts.{last_of}
 use Rattle.dt_flow_model.specs.Ledger.{given_rows, is_given, is_open_in, is_unsent, no_item, row_at, settle, take_rows, top}
-use Rattle.dt_audit.specs.declared.changes.Change.{Change}
-use Rattle.dt_audit.specs.declared.changes.Change.TheVariants.{Took, Sent, Settled, Uncertain, Accepted}
-use Rattle.dt_audit.specs.declared.changes.Lives.{Lives}
+use Rattle.dt_audit.specs.declared.flow_facts.FlowFact.{FlowFact}
+use Rattle.dt_audit.specs.declared.flow_facts.FlowFact.TheVariants.{Took, Sent, Settled, Uncertain, Accepted}
+use Rattle.dt_audit.specs.declared.flow_facts.Lives.{Lives}
 use Rattle.dt_audit.specs.declared.flaws.Flaw.{Flaw}
 use Rattle.dt_audit.specs.declared.flaws.Flaw.TheVariants.{Stray, Breaks}
 use Rattle.dt_audit.specs.declared.flaws.Promise.TheVariants.{InOrder, SkipsReported, AcknowledgedIsGiven, RunsUnbroken}
@@ -125,7 +125,7 @@ accept_at lives run count None l = Err Stray
 accept_at lives run count (Some place) l = if ends_sent place count l then accept_sent lives run place count l else Err Stray
 
 -- WHAT A LINE SAYS OF A FLOW
-abbrev pub rows_after : Lives → Change → FlowLog → Result FlowLog Flaw
+abbrev pub rows_after : Lives → FlowFact → FlowLog → Result FlowLog Flaw
 rows_after lives (Took count) l = Ok (record { taken = take_rows lives.sender (blank count) l.taken; given = l.given; edge = l.edge; next = l.next })
 rows_after lives (Sent number count) l = send lives.sender number count l
 rows_after lives (Settled count) l = acknowledge lives.sender count l

@@ -5,8 +5,8 @@ ghost use Rattle.dt_audit.specs.FlowNotes.{goes_on, in_life, is_reported, no_not
 ghost use Rattle.dt_audit.specs.LogRows.{place_back};
 ghost use Rattle.dt_audit.specs.Noting.{NotesTo};
 
-use crate::changes::{Change, Lives};
 use crate::flaws::{Flaw, Promise};
+use crate::flow_facts::{FlowFact, Lives};
 use crate::gaps::{Gap, is_among, remember};
 use dt_items::NoMemory;
 use std::alloc::Global;
@@ -183,7 +183,7 @@ impl FlowNotes {
 
     /// `length` octets are accepted, the first of them with this sequence number.
     fn accept_number(&mut self, life: u32, number: u32, length: u32, run: bool) -> Option<Flaw>
-        ensures notes { NotesTo (note life (Change.Accepted number length run) self.old) (Ok result) self.new }
+        ensures notes { NotesTo (note life (FlowFact.Accepted number length run) self.old) (Ok result) self.new }
         ensures taken { self.new.taken ≡ self.old.taken }
     {
         let place = match self.place_of(number) {
@@ -198,21 +198,21 @@ impl FlowNotes {
 
     /// What a line says of the flow, by the lives of its nodes; or the flaw of the line, after which
     /// the notes are of no use. Memory is taken only where the sender is in another life than before.
-    pub fn follow(&mut self, lives: Lives, change: Change) -> Result<Option<Flaw>, NoMemory>
+    pub fn follow(&mut self, lives: Lives, change: FlowFact) -> Result<Option<Flaw>, NoMemory>
         requires room { self.old.taken ≤ 2 ^ 61 }
         ensures notes { NotesTo (notes_after lives change self.old) result self.new }
         ensures grows { self.new.taken ≤ self.old.taken + 4294967295 }
     {
         self.begin(lives.sender)?;
         match change {
-            Change::Took { count } => {
+            FlowFact::Took { count } => {
                 self.count_taken(count);
                 Ok(None)
             }
-            Change::Sent { number, length } => Ok(self.send(number, length)),
-            Change::Settled { count } => Ok(self.acknowledge(count)),
-            Change::Uncertain { count } => Ok(self.give_up(count)),
-            Change::Accepted {
+            FlowFact::Sent { number, length } => Ok(self.send(number, length)),
+            FlowFact::Settled { count } => Ok(self.acknowledge(count)),
+            FlowFact::Uncertain { count } => Ok(self.give_up(count)),
+            FlowFact::Accepted {
                 number,
                 length,
                 run,

@@ -3,9 +3,9 @@
 #![tactic(auto)]
 
 mod auditing;
-mod changes;
 mod facts;
 mod flaws;
+mod flow_facts;
 mod flow_notes;
 mod gaps;
 pub mod laws;

@@ -4,9 +4,9 @@ ghost use Rattle.dt_audit.specs.Books.{begin_again, begun, change_flow, follow_f
 ghost use Rattle.dt_audit.specs.FlowNotes.{TakenWithin, by_notes};
 ghost use Rattle.dt_audit.specs.Noting.{NotesTo};
 
-use crate::changes::{Change, Lives};
 use crate::facts::Fact;
 use crate::flaws::Flaw;
+use crate::flow_facts::{FlowFact, Lives};
 use crate::flow_notes::FlowNotes;
 use crate::reading::read_log;
 use dt_items::NoMemory;
@@ -63,7 +63,7 @@ impl Notebook {
     }
 
     /// What a line says of a flow. The first line that speaks of it takes memory.
-    fn change(&mut self, flow: &Flow, change: Change) -> Result<Option<Flaw>, NoMemory>
+    fn change(&mut self, flow: &Flow, change: FlowFact) -> Result<Option<Flaw>, NoMemory>
         requires room { TakenWithin (2 ^ 61) self.old.flows }
         ensures notes { NotesTo (change_flow by_notes flow.now change self.old) result self.new }
         ensures grows { (most : ℕ) → TakenWithin most self.old.flows → OnOk result (TakenWithin (most + 4294967295) self.new.flows) }
@@ -100,14 +100,14 @@ impl Notebook {
         ensures grows { (most : ℕ) → TakenWithin most self.old.flows → OnOk result (TakenWithin (most + 4294967295) self.new.flows) }
     {
         match *fact {
-            Fact::Took { flow, count } => self.change(&flow, Change::Took { count }),
+            Fact::Took { flow, count } => self.change(&flow, FlowFact::Took { count }),
             Fact::Sent {
                 flow,
                 number,
                 length,
-            } => self.change(&flow, Change::Sent { number, length }),
-            Fact::Settled { flow, count } => self.change(&flow, Change::Settled { count }),
-            Fact::Uncertain { flow, count } => self.change(&flow, Change::Uncertain { count }),
+            } => self.change(&flow, FlowFact::Sent { number, length }),
+            Fact::Settled { flow, count } => self.change(&flow, FlowFact::Settled { count }),
+            Fact::Uncertain { flow, count } => self.change(&flow, FlowFact::Uncertain { count }),
             Fact::Accepted {
                 flow,
                 number,
@@ -115,7 +115,7 @@ impl Notebook {
                 run,
             } => self.change(
                 &flow,
-                Change::Accepted {
+                FlowFact::Accepted {
                     number,
                     length,
                     run,

@@ -6,9 +6,9 @@ use Rattle.dt_units.specs.declared.endpoints.Flow.{Flow}
 use Rattle.dt_flow_model.specs.Flow.{FlowState}
 use Rattle.dt_world_model.specs.Tables.{same_flow, write}
 use Rattle.dt_world_model.proofs.Tables.{flow_is}
-use Rattle.dt_audit.specs.declared.changes.Change.{Change}
-use Rattle.dt_audit.specs.declared.changes.Change.TheVariants as changes
-use Rattle.dt_audit.specs.declared.changes.Lives.{Lives}
+use Rattle.dt_audit.specs.declared.flow_facts.FlowFact.{FlowFact}
+use Rattle.dt_audit.specs.declared.flow_facts.FlowFact.TheVariants as changes
+use Rattle.dt_audit.specs.declared.flow_facts.Lives.{Lives}
 use Rattle.dt_audit.specs.declared.facts.Fact.{Fact}
 use Rattle.dt_audit.specs.declared.facts.Fact.TheVariants.{Took, Sent, Settled, Uncertain, Accepted, Restarted, Other}
 use Rattle.dt_audit.specs.Books as books
@@ -73,7 +73,7 @@ module _ (p : Params) (views after : Flow → FlowState) (book : Book FlowLog) (
     receivers = receivers_stay;
   }
 
-  one : (change : Change) → Followed p (views f) (after f) (change ∷ []) (kept by_rows book.flows f) → (next : Book FlowLog) × (change_flow by_rows f change book ≡ Ok next) × FollowsAll p after next
+  one : (change : FlowFact) → Followed p (views f) (after f) (change ∷ []) (kept by_rows book.flows f) → (next : Book FlowLog) × (change_flow by_rows f change book ≡ Ok next) × FollowsAll p after next
   one change h =
       let line = h.passes in
       let passes : rows_after (books.lives_of book.lives f) change (kept by_rows book.flows f) ≡ Ok line.0 =
@@ -83,7 +83,7 @@ module _ (p : Params) (views after : Flow → FlowState) (book : Book FlowLog) (
   none : Followed p (views f) (after f) [] (kept by_rows book.flows f) → FollowsAll p after book
   none h = kept_so (subst (λ (l : FlowLog). FollowsFlow p (after f) l) h.passes h.follows)
 
-  gone_on : (change : Change) (fact : Fact) → Followed p (views f) (after f) (change ∷ []) (kept by_rows book.flows f) → follow_fact by_rows fact book ≡ change_flow by_rows f change book → GoesOn p after fact book
+  gone_on : (change : FlowFact) (fact : Fact) → Followed p (views f) (after f) (change ∷ []) (kept by_rows book.flows f) → follow_fact by_rows fact book ≡ change_flow by_rows f change book → GoesOn p after fact book
   gone_on change fact h is = let r = one change h in record { next = r.0; passes = is ∙ r.1; follows = r.2 }
 
   pub report_goes_on : (fact : Fact) → IsAbout f fact → Followed p (views f) (after f) (changes_in fact) (kept by_rows book.flows f) → GoesOn p after fact book

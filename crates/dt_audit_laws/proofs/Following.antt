@@ -14,7 +14,7 @@ use Rattle.dt_flow_model.specs.Facts.{last_of}
 use Rattle.dt_flow_model.specs.Ledger.{given_at, given_rows, is_given, is_open_in, row_at, settle, take_rows, top, top_from}
 use Rattle.dt_flow_model.specs.Safe.{Follows, SafeLedger}
 use Rattle.dt_world_model.specs.Ledgers.{Accepts, FlowLedger, GivesUp, Occasion, Settles, Takes, Transmits, ledger_after}
-use Rattle.dt_audit.specs.declared.changes.Change.TheVariants as changes
+use Rattle.dt_audit.specs.declared.flow_facts.FlowFact.TheVariants as changes
 use Rattle.dt_audit.specs.LogRows.{FlowLog, accept_at, all_passed, behind_last, blank, ends_sent, first_place, follows, give, is_passed, is_sent, is_uncertain, is_unsent_in, open_places, places_where, send_rows, unsent_places, with_fate}
 use Rattle.dt_flow_laws.proofs.Frame.{top_append, top_rows}
 use Rattle.dt_audit.proofs.Sound.{given_append}

@@ -13,7 +13,7 @@ use Rattle.dt_flow_model.specs.Steps.{IsAlive}
 use Rattle.dt_flow_laws.proofs.Ledger.{open_here}
 use Rattle.dt_world_model.specs.Ledgers.{Accepts, ledger_after}
 use Rattle.dt_world_laws.specs.Follow.{at_receiver, flow_ledger}
-use Rattle.dt_audit.specs.declared.changes.Change.TheVariants as changes
+use Rattle.dt_audit.specs.declared.flow_facts.FlowFact.TheVariants as changes
 use Rattle.dt_audit.specs.LogRows.{FlowLog, first_place, is_sent, open_places, places_where}
 use Rattle.dt_audit_laws.specs.Following.{FollowsFlow, lives_of}
 use Rattle.dt_audit_laws.specs.Numbering.{IsNumbered}

@@ -22,7 +22,7 @@ use Rattle.dt_flow_model.proofs.Chosen.{act_is_due, cut_whole}
 use Rattle.dt_flow_laws.proofs.SafeOf.{safe_of}
 use Rattle.dt_world_model.specs.Host.{told_arrival, told_send}
 use Rattle.dt_world_laws.specs.Follow.{at_sender, flow_ledger}
-use Rattle.dt_audit.specs.declared.changes.Change.TheVariants as changes
+use Rattle.dt_audit.specs.declared.flow_facts.FlowFact.TheVariants as changes
 use Rattle.dt_audit.specs.LogRows.{FlowLog}
 use Rattle.dt_audit_laws.specs.Following.{Followed, FollowsFlow}
 use Rattle.dt_audit_laws.specs.Telling.{changes_told}

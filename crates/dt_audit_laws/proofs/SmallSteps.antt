@@ -19,8 +19,8 @@ use Rattle.dt_flow_laws.proofs.SafeOf.{safe_of}
 use Rattle.dt_flow_laws.proofs.SenderSteps.{next_is, taken_length}
 use Rattle.dt_world_model.specs.Ledgers.{FlowLedger}
 use Rattle.dt_world_laws.specs.Follow.{at_sender, flow_ledger}
-use Rattle.dt_audit.specs.declared.changes.Change.{Change}
-use Rattle.dt_audit.specs.declared.changes.Change.TheVariants as changes
+use Rattle.dt_audit.specs.declared.flow_facts.FlowFact.{FlowFact}
+use Rattle.dt_audit.specs.declared.flow_facts.FlowFact.TheVariants as changes
 use Rattle.dt_audit.specs.LogRows.{FlowLog, behind_last, is_sent, is_unsent_in, no_rows, places_where, unsent_places}
 use Rattle.dt_audit_laws.specs.Following.{Followed, FollowsFlow, lives_of}
 use Rattle.dt_audit_laws.specs.Numbering.{IsNumbered}
@@ -37,7 +37,7 @@ pub silent : (p : Params) (s t : FlowState) (log : FlowLog) → FollowsFlow p t 
 silent p s t log f = record { next = log; passes = refl; follows = f }
 
 -- a step that tells one line
-pub told : (p : Params) (s t : FlowState) (change : Change) (log : FlowLog) (ledger : FlowLedger) (line : Passes (lives_of s) change log ledger) → FollowsFlow p t line.next → Followed p s t (change ∷ []) log
+pub told : (p : Params) (s t : FlowState) (change : FlowFact) (log : FlowLog) (ledger : FlowLedger) (line : Passes (lives_of s) change log ledger) → FollowsFlow p t line.next → Followed p s t (change ∷ []) log
 told p s t change log ledger line f = record { next = line.next; passes = (line.next, line.passes, refl); follows = f }
 
 -- TOOK

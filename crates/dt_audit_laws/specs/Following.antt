@@ -3,8 +3,8 @@ use Rattle.std.specs.Prelude.{ℕ, ◌-◌, ◌<◌, ◌≡◌, true, List}
 use Rattle.dt_units.specs.declared.parameters.Params.{Params}
 use Rattle.dt_flow_model.specs.Flow.{FlowState}
 use Rattle.dt_world_laws.specs.Follow.{flow_ledger}
-use Rattle.dt_audit.specs.declared.changes.Change.{Change}
-use Rattle.dt_audit.specs.declared.changes.Lives.{Lives}
+use Rattle.dt_audit.specs.declared.flow_facts.FlowFact.{FlowFact}
+use Rattle.dt_audit.specs.declared.flow_facts.Lives.{Lives}
 use Rattle.dt_audit.specs.LogRows.{FlowLog, is_sent}
 use Rattle.dt_audit_laws.specs.Numbering.{IsNumbered}
 use Rattle.dt_audit_laws.specs.Showing.{Shows, UnsentLast}
@@ -25,7 +25,7 @@ pub record FollowsFlow (p : Params) (s : FlowState) (log : FlowLog) : Type 0 whe
   pub unsent : UnsentLast s.sender_life s.taken
 
 -- the lines of a step pass, and the log follows the flow after it
-pub record Followed (p : Params) (s after : FlowState) (changes : List Change) (log : FlowLog) : Type 0 where
+pub record Followed (p : Params) (s after : FlowState) (changes : List FlowFact) (log : FlowLog) : Type 0 where
   pub next : FlowLog
   pub passes : AllPass (lives_of s) changes log next
   pub follows : FollowsFlow p after next

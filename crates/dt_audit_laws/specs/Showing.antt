@@ -5,9 +5,9 @@ use Rattle.dt_flow_model.specs.declared.rows.Taken.{Taken}
 use Rattle.dt_flow_model.specs.declared.rows.Given.{Given}
 use Rattle.dt_flow_model.specs.Ledger.{is_open_in, is_unsent}
 use Rattle.dt_world_model.specs.Ledgers.{FlowLedger}
-use Rattle.dt_audit.specs.declared.changes.Change.{Change}
-use Rattle.dt_audit.specs.declared.changes.Lives.{Lives}
-use Rattle.dt_audit.specs.declared.changes.Change.TheVariants.{Took, Sent, Settled, Uncertain, Accepted}
+use Rattle.dt_audit.specs.declared.flow_facts.FlowFact.{FlowFact}
+use Rattle.dt_audit.specs.declared.flow_facts.Lives.{Lives}
+use Rattle.dt_audit.specs.declared.flow_facts.FlowFact.TheVariants.{Took, Sent, Settled, Uncertain, Accepted}
 use Rattle.dt_audit.specs.LogRows.{FlowLog, behind_last, is_unsent_in, rows_after, unsent_places}
 
 -- of a first moment a log's rows have whether there is one
@@ -28,14 +28,14 @@ pub record Shows (ledger : FlowLedger) (log : FlowLog) : Type 0 where
   pub given : log.given ≡ map shown_given ledger.given
 
 -- where the edge of a log stands after a line that passes, and which number is the next one: a first transmission moves them, and nothing else does
-abbrev pub edge_after : Lives → Change → FlowLog → ℕ
+abbrev pub edge_after : Lives → FlowFact → FlowLog → ℕ
 edge_after lives (Took count) log = log.edge
 edge_after lives (Sent number count) log = behind_last log.edge (take count (unsent_places lives.sender log))
 edge_after lives (Settled count) log = log.edge
 edge_after lives (Uncertain count) log = log.edge
 edge_after lives (Accepted number count run) log = log.edge
 
-abbrev pub next_after : Change → FlowLog → ℕ
+abbrev pub next_after : FlowFact → FlowLog → ℕ
 next_after (Took count) log = log.next
 next_after (Sent number count) log = number_after number count
 next_after (Settled count) log = log.next
@@ -43,7 +43,7 @@ next_after (Uncertain count) log = log.next
 next_after (Accepted number count run) log = log.next
 
 -- a line passes, and leads to what the ledger is then
-pub record Passes (lives : Lives) (change : Change) (log : FlowLog) (after : FlowLedger) : Type 0 where
+pub record Passes (lives : Lives) (change : FlowFact) (log : FlowLog) (after : FlowLedger) : Type 0 where
   pub next : FlowLog
   pub passes : rows_after lives change log ≡ Ok next
   pub shows : Shows after next

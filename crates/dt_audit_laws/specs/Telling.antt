@@ -6,16 +6,16 @@ use Rattle.dt_flow_model.specs.Flow.{FlowState, Packet}
 use Rattle.dt_flow_model.specs.Numbering.{number_of}
 use Rattle.dt_flow_model.specs.SendRecord.{items_in, next_of}
 use Rattle.dt_flow_model.specs.Steps.{Step, accepts, accepts_first, gives_up, is_acked, makes, meets, passes, reads, receiver_releases, receiver_restarts, releases, renews, resends, sender_restarts, sends, takes, tells_expected, tells_number}
-use Rattle.dt_audit.specs.declared.changes.Change.{Change}
-use Rattle.dt_audit.specs.declared.changes.Change.TheVariants.{Took, Sent, Settled, Uncertain, Accepted}
-use Rattle.dt_audit.specs.declared.changes.Lives.{Lives}
+use Rattle.dt_audit.specs.declared.flow_facts.FlowFact.{FlowFact}
+use Rattle.dt_audit.specs.declared.flow_facts.FlowFact.TheVariants.{Took, Sent, Settled, Uncertain, Accepted}
+use Rattle.dt_audit.specs.declared.flow_facts.Lives.{Lives}
 use Rattle.dt_audit.specs.declared.facts.Fact.{Fact}
 use Rattle.dt_audit.specs.declared.facts.Fact.TheVariants as facts
 use Rattle.dt_audit.specs.Telling.{fact_by}
 use Rattle.dt_audit.specs.LogRows.{FlowLog, rows_after}
 
 -- of the facts that a log states of a flow, those of a small step
-abbrev pub changes_of : (p : Params) (s after : FlowState) (ins made : List Packet) → Step p s ins made after → List Change
+abbrev pub changes_of : (p : Params) (s after : FlowState) (ins made : List Packet) → Step p s ins made after → List FlowFact
 changes_of p s after ins made (passes t by) = []
 changes_of p s after ins made (sender_restarts t a) = []
 changes_of p s after ins made (receiver_restarts t) = []
@@ -36,12 +36,12 @@ changes_of p s after ins made (receiver_releases t y a b) = []
 changes_of p s after ins made (reads t y piece rest a b) = []
 
 -- lines that pass one after another
-abbrev pub AllPass : Lives → List Change → FlowLog → FlowLog → Type 0
+abbrev pub AllPass : Lives → List FlowFact → FlowLog → FlowLog → Type 0
 AllPass lives [] log next = next ≡ log
 AllPass lives (change ∷ changes) log next = (between : FlowLog) × (rows_after lives change log ≡ Ok between) × AllPass lives changes between next
 
 -- what a fact says of its flow, if it is a flow's
-abbrev pub changes_in : Fact → List Change
+abbrev pub changes_in : Fact → List FlowFact
 changes_in (facts.Took f count) = Took count ∷ []
 changes_in (facts.Sent f number count) = Sent number count ∷ []
 changes_in (facts.Settled f count) = Settled count ∷ []
@@ -51,5 +51,5 @@ changes_in (facts.Restarted node life) = []
 changes_in facts.Other = []
 
 -- of a report that a node makes, what its line says of its flow
-abbrev pub changes_told : ℕ → Told → List Change
+abbrev pub changes_told : ℕ → Told → List FlowFact
 changes_told node told = changes_in (fact_by node told)

@@ -29,7 +29,7 @@ ghost use Rattle.dt_world_model.specs.World.{World, last_lines};
 ghost use Rattle.dt_world_model.specs.WorldFacts.{CanHappen};
 ghost use Rattle.dt_world_model.specs.WorldStep.{Stepped, WorldEvent, run, world_after, world_step};
 ghost use Rattle.dt_world_model.specs.Ledgers.{Accepts, FlowLedger, GivesUp, Occasion, Settles, Takes, Transmits, ledger_after};
-ghost use Rattle.dt_audit.specs.declared.changes.Change.TheVariants.{Accepted, Sent, Settled, Took, Uncertain};
+ghost use Rattle.dt_audit.specs.declared.flow_facts.FlowFact.TheVariants.{Accepted, Sent, Settled, Took, Uncertain};
 ghost use Rattle.dt_audit.specs.declared.facts.Fact.{Fact};
 ghost use Rattle.dt_audit.specs.Audits.{has_flaw};
 ghost use Rattle.dt_audit.specs.Books.{Book, begun, kept};

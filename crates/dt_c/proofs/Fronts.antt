@@ -1,7 +1,7 @@
 -- What stands in front of a queue.
 use Rattle.std.proofs.Common.{◌≡◌, Bool, true, false, List, [], ◌∷◌, None, drop, length, arith, refl, ap}
 use Rattle.std.specs.Prelude.{cond}
-use Rattle.dt_service_model.specs.declared.calls.Call.{Call}
+use Rattle.dt_service_model.specs.declared.calls.OpenCall.{OpenCall}
 use Rattle.dt_service_model.specs.declared.happenings.Happening.{Happening}
 use Rattle.dt_service_model.specs.Ends.{next, next_call, next_in}
 use Rattle.dt_service_model.specs.Halves.{Halves}
@@ -11,7 +11,7 @@ none_waits [] e = refl
 none_waits (x ∷ xs) e = let longer = ap length e in absurd (omega arith)
 
 -- where nothing was told, taking the next of it changes nothing
-calls_none : (calls : List Call) (h : Halves) → (next_call calls h).0 ≡ None → (next_call calls h).1 ≡ h
+calls_none : (calls : List OpenCall) (h : Halves) → (next_call calls h).0 ≡ None → (next_call calls h).1 ≡ h
 calls_none [] h none = refl
 calls_none (call ∷ calls) h none = cc
 

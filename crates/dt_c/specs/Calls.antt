@@ -4,8 +4,8 @@ use Rattle.dt_units.specs.Limits.{IsWithinLimits, first_out_of_range, value_of}
 use Rattle.dt_units.specs.declared.parameters.Params.{Params}
 use Rattle.dt_units.specs.Times.{quiet_time}
 use Rattle.dt_reports.specs.Told.{Told}
-use Rattle.dt_endpoint.specs.declared.answers.Arrived.{Arrived}
-use Rattle.dt_endpoint.specs.declared.answers.Piece.{Piece}
+use Rattle.dt_endpoint.specs.declared.answers.Received.{Received}
+use Rattle.dt_endpoint.specs.declared.answers.Delivered.{Delivered}
 use Rattle.dt_endpoint.specs.declared.answers.Routed.{Routed}
 use Rattle.dt_endpoint.specs.declared.answers.Sent.{Sent}
 use Rattle.dt_endpoint.specs.declared.answers.Ticked.{Ticked}
@@ -58,7 +58,7 @@ Ticking status now s t = GoesOn s t (status ≡ closed) (λ e f. (answer : Ticke
 
 -- A DATAGRAM that the guard admits is handed to the endpoint. One that it keeps out never came, and is counted
 abbrev pub ArrivesAt : Admission → CameRow → (now link : ℕ) → List ℕ → (waited : ℕ) → EndpointValue → EndpointValue → Type 0
-ArrivesAt Admitted row now link octets waited e f = (answer : Arrived) × (row ≡ came_row answer) × Arrives answer now link octets waited e f
+ArrivesAt Admitted row now link octets waited e f = (answer : Received) × (row ≡ came_row answer) × Arrives answer now link octets waited e f
 ArrivesAt ClosedPort row now link octets waited e f = (row ≡ came_as kept_out) × (f ≡ e)
 ArrivesAt TooManyFlows row now link octets waited e f = (row ≡ came_as kept_out) × (f ≡ e)
 
@@ -71,7 +71,7 @@ Sending row now flow octets begin end s t = GoesOn s t (row ≡ sent_as closed) 
 
 -- a buffer of so many octets, and what it has afterwards
 abbrev pub Reading : PieceRow → (now : ℕ) → FlowRow → (size : ℕ) → List ℕ → Slot → Slot → Type 0
-Reading row now flow size buf s t = GoesOn s t (row ≡ no_piece closed) (λ e f. (answer : Piece) × (row ≡ piece_row answer) × Reads answer now (flow_of flow) size buf e f)
+Reading row now flow size buf s t = GoesOn s t (row ≡ no_piece closed) (λ e f. (answer : Delivered) × (row ≡ piece_row answer) × Reads answer now (flow_of flow) size buf e f)
 
 -- THE NEXT FRAME: the first of those that wait, where the buffer has room for it. Else it goes on waiting, and its size is told.
 abbrev pub fits : OutFrameValue → List ℕ → Bool

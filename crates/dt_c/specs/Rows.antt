@@ -18,16 +18,16 @@ use Rattle.dt_world_model.specs.declared.links.OutLink.{OutLink}
 use Rattle.dt_world_model.specs.declared.links.Route.{Route}
 use Rattle.dt_endpoint.specs.declared.answers.Ticked.{Ticked}
 use Rattle.dt_endpoint.specs.declared.answers.Ticked.TheVariants as ticked
-use Rattle.dt_endpoint.specs.declared.answers.Arrived.{Arrived}
-use Rattle.dt_endpoint.specs.declared.answers.Arrived.TheVariants as arrived
+use Rattle.dt_endpoint.specs.declared.answers.Received.{Received}
+use Rattle.dt_endpoint.specs.declared.answers.Received.TheVariants as arrived
 use Rattle.dt_endpoint.specs.declared.answers.Routed.{Routed}
 use Rattle.dt_endpoint.specs.declared.answers.Routed.TheVariants as routed
 use Rattle.dt_endpoint.specs.declared.counts.Counts.{Counts}
 use Rattle.dt_endpoint.specs.declared.counts.Octets.{Octets}
 use Rattle.dt_endpoint.specs.declared.answers.Sent.{Sent}
 use Rattle.dt_endpoint.specs.declared.answers.Sent.TheVariants as sent
-use Rattle.dt_endpoint.specs.declared.answers.Piece.{Piece}
-use Rattle.dt_endpoint.specs.declared.answers.Piece.TheVariants as piece
+use Rattle.dt_endpoint.specs.declared.answers.Delivered.{Delivered}
+use Rattle.dt_endpoint.specs.declared.answers.Delivered.TheVariants as piece
 use Rattle.dt_endpoint.specs.Acts.{OutFrameValue}
 use Rattle.dt_endpoint.specs.Endpoints.{EndpointValue, opened}
 use Rattle.dt_endpoint.specs.Guards.{GuardValue}
@@ -158,7 +158,7 @@ fault_row (layout.Flags octet) = faulty 7 octet
 fault_row (layout.Window value) = faulty 8 value
 fault_row (layout.Size len) = faulty 9 (capped len)
 
-abbrev pub came_row : Arrived → CameRow
+abbrev pub came_row : Received → CameRow
 came_row arrived.Done = came_as done
 came_row arrived.NoMemory = came_as no_memory
 came_row arrived.Spent = came_as spent
@@ -187,7 +187,7 @@ sent_row sent.TooMany = sent_as refused
 abbrev pub no_piece : ℕ → PieceRow
 no_piece status = record { len = 0; status = status; begin = false; end = false; run = false }
 
-abbrev pub piece_row : Piece → PieceRow
+abbrev pub piece_row : Delivered → PieceRow
 piece_row (piece.Read len run begin end) = record { len = len; status = done; begin = begin; end = end; run = run }
 piece_row piece.Nothing = no_piece nothing
 piece_row piece.NoMemory = no_piece no_memory

@@ -1,7 +1,7 @@
 -- What arguments of services mean, and what each answer is in C: a row each.
 use Rattle.std.specs.Prelude.{ℕ, ◌==◌, if◌then◌else◌, List, length, Option, Some, None}
 use Rattle.dt_flow_model.specs.Frames.{node}
-use Rattle.dt_service.specs.declared.services.Start.{Start}
+use Rattle.dt_service.specs.declared.services.ServiceStart.{ServiceStart}
 use Rattle.dt_service_model.specs.declared.answers.Declined.{Declined}
 use Rattle.dt_service_model.specs.declared.answers.Declined.TheVariants as declined
 use Rattle.dt_service_model.specs.declared.answers.Forgot.{Forgot}
@@ -14,13 +14,13 @@ use Rattle.dt_service_model.specs.declared.answers.Unfit.{Unfit}
 use Rattle.dt_service_model.specs.declared.answers.Unfit.TheVariants as unfit
 use Rattle.dt_service_model.specs.declared.calls.Cause.{Cause}
 use Rattle.dt_service_model.specs.declared.calls.Cause.TheVariants as cause
-use Rattle.dt_service_model.specs.declared.counts.Counts.{Counts}
+use Rattle.dt_service_model.specs.declared.call_counts.CallCounts.{CallCounts}
 use Rattle.dt_service_model.specs.declared.happenings.Happening.{Happening}
 use Rattle.dt_service_model.specs.declared.happenings.Happening.TheVariants.{Answered, Request, Unsure}
 use Rattle.dt_service_model.specs.declared.names.CallNumber.{CallNumber}
 use Rattle.dt_service_model.specs.declared.names.Token.{Token}
-use Rattle.dt_service_model.specs.declared.ports.Kind.{Kind}
-use Rattle.dt_service_model.specs.declared.ports.Kind.TheVariants.{Caller, Service}
+use Rattle.dt_service_model.specs.declared.ports.PortKind.{PortKind}
+use Rattle.dt_service_model.specs.declared.ports.PortKind.TheVariants.{Caller, Service}
 use Rattle.dt_service_model.specs.Names.{call_number, number_of}
 use Rattle.dt_c.specs.declared.rows.FlowRow.{FlowRow}
 use Rattle.dt_c.specs.declared.service_rows.CallCountsRow.{CallCountsRow}
@@ -42,13 +42,13 @@ abbrev pub gone : ℕ
 gone = 18
 
 -- ARGUMENTS
-abbrev pub start_of : ServiceStartRow → Start
+abbrev pub start_of : ServiceStartRow → ServiceStart
 start_of s = record { me = node s.me; again = (if s.again then Some s.at else None); life = s.life; most = record { calls = s.calls; requests = s.requests; of_a_flow = s.of_a_flow } }
 
 abbrev pub token_of : TokenRow → Token
 token_of t = record { flow = flow_of t.flow; number = call_number t.number }
 
-abbrev pub kind_of : ℕ → Option Kind
+abbrev pub kind_of : ℕ → Option PortKind
 kind_of number = if number == 1 then Some Caller else (if number == 2 then Some Service else None)
 
 -- ANSWERS
@@ -125,7 +125,7 @@ no_event status = record { number = 0; len = 0; flow = no_flow; status = status;
 abbrev pub event_without_room : ℕ → EventRow
 event_without_room len = record (no_event room) { len = len }
 
-abbrev pub call_counts_row : Counts → CallCountsRow
+abbrev pub call_counts_row : CallCounts → CallCountsRow
 call_counts_row c = record { late = c.late; old = c.old; strange = c.strange; reused = c.reused; cut = c.cut; long = c.long; short = c.short; status = done }
 
 abbrev pub no_call_counts : CallCountsRow

@@ -2,7 +2,7 @@
 use Rattle.std.specs.Prelude.{◌≡◌, ◌⊎◌, ℕ, nat_le, Bool, List, if◌then◌else◌, is_some, length, map, Option, Some, None, IsNone, IsSome}
 use Rattle.dt_units.specs.declared.parameters.Params.{Params}
 use Rattle.dt_units.specs.Limits.{IsWithinLimits, first_out_of_range, value_of}
-use Rattle.dt_endpoint.specs.declared.answers.Arrived.{Arrived}
+use Rattle.dt_endpoint.specs.declared.answers.Received.{Received}
 use Rattle.dt_endpoint.specs.declared.answers.Routed.{Routed}
 use Rattle.dt_endpoint.specs.declared.answers.Ticked.{Ticked}
 use Rattle.dt_endpoint.specs.declared.guards.Admission.{Admission}
@@ -14,7 +14,7 @@ use Rattle.dt_service_model.specs.declared.answers.Forgot.{Forgot}
 use Rattle.dt_service_model.specs.declared.answers.Made.{Made}
 use Rattle.dt_service_model.specs.declared.answers.Replied.{Replied}
 use Rattle.dt_service_model.specs.declared.happenings.Happening.{Happening}
-use Rattle.dt_service_model.specs.declared.ports.Kind.{Kind}
+use Rattle.dt_service_model.specs.declared.ports.PortKind.{PortKind}
 use Rattle.dt_service_model.specs.Asked.{is_life_in_use, raised, with_kind}
 use Rattle.dt_service_model.specs.Ends.{close, next}
 use Rattle.dt_service_model.specs.Halves.{kind_in, new_halves}
@@ -67,7 +67,7 @@ abbrev pub ServiceOpening : OpenedRow → ParamsRow → ServiceStartRow → List
 ServiceOpening row p start links routes s t = (answer : Opened) × (row ≡ opened_row answer) × ServiceOpens answer p start links routes s t
 
 -- A PORT GETS ITS KIND
-abbrev pub GetsKind : (status port : ℕ) → Option Kind → (n m : Node) → Type 0
+abbrev pub GetsKind : (status port : ℕ) → Option PortKind → (n m : Node) → Type 0
 GetsKind status port None n m = (status ≡ refused) × (m ≡ n)
 GetsKind status port (Some kind) n m = ((status ≡ (if is_some (kind_in port n.halves.ports) then held else done)) × (m ≡ with_halves (with_kind port kind) n)) ⊎ ((status ≡ no_memory) × (m ≡ n))
 
@@ -89,7 +89,7 @@ abbrev pub ServiceTicking : (status now : ℕ) → ServiceSlot → ServiceSlot �
 ServiceTicking status now s t = ServiceGoesOn s t (status ≡ closed) (λ n m. (answer : Ticked) × (status ≡ ticked_status answer) × service.Ticks answer now n m)
 
 abbrev pub ServiceArrivesAt : Admission → CameRow → (now link : ℕ) → List ℕ → (waited : ℕ) → Node → Node → Type 0
-ServiceArrivesAt Admitted row now link octets waited n m = (answer : Arrived) × (row ≡ came_row answer) × service.Arrives answer now link octets waited n m
+ServiceArrivesAt Admitted row now link octets waited n m = (answer : Received) × (row ≡ came_row answer) × service.Arrives answer now link octets waited n m
 ServiceArrivesAt ClosedPort row now link octets waited n m = (row ≡ came_as kept_out) × (m ≡ n)
 ServiceArrivesAt TooManyFlows row now link octets waited n m = (row ≡ came_as kept_out) × (m ≡ n)
 

@@ -3,7 +3,9 @@ ghost use Rattle.std.specs.Prelude.{◌≡◌, if◌then◌else◌, length, nat_
 ghost use Rattle.dt_reports.specs.Told.{told};
 ghost use Rattle.dt_c.specs.Rows.{about, about_none, bad_row, came_as, came_row, capped, counts_row, done, elsewhere, faulty, fault_row, field_number, flow_of, flow_row, frame_row, kept_out_row, marked, message_row, moment_row, no_counts_row, no_flow, no_frame, no_message, no_piece, no_report, no_totals_row, numbered, opened_row, params_of, piece_row, refused_row, released, report_row, room, route, routed_status, sent_as, sent_row, station_row, ticked_status, told_row, totals_row, until_moment};
 
-use dt_endpoint::{Arrived, Counts, Guard, Octets, OutFrame, Piece, Route, Routed, Sent, Ticked};
+use dt_endpoint::{
+    Counts, Delivered, Guard, Octets, OutFrame, Received, Route, Routed, Sent, Ticked,
+};
 use dt_inbox::Handed;
 use dt_layout::LayoutFault;
 use dt_reports::{Refusal, Report, StationReport};
@@ -386,16 +388,16 @@ fn fault_row(fault: LayoutFault) -> CameRow
     }
 }
 
-pub fn came_row(answer: Arrived) -> CameRow
+pub fn came_row(answer: Received) -> CameRow
     ensures { result ≡ came_row answer }
 {
     match answer {
-        Arrived::Done => came_as(DONE),
-        Arrived::NoMemory => came_as(NO_MEMORY),
-        Arrived::Spent => came_as(SPENT),
-        Arrived::NoLink => came_as(REFUSED),
-        Arrived::Bad { fault } => fault_row(fault),
-        Arrived::Stale => came_as(STALE),
+        Received::Done => came_as(DONE),
+        Received::NoMemory => came_as(NO_MEMORY),
+        Received::Spent => came_as(SPENT),
+        Received::NoLink => came_as(REFUSED),
+        Received::Bad { fault } => fault_row(fault),
+        Received::Stale => came_as(STALE),
     }
 }
 
@@ -513,11 +515,11 @@ pub fn no_piece(status: u8) -> PieceRow
     }
 }
 
-pub fn piece_row(answer: Piece) -> PieceRow
+pub fn piece_row(answer: Delivered) -> PieceRow
     ensures { result ≡ piece_row answer }
 {
     match answer {
-        Piece::Read {
+        Delivered::Read {
             len,
             run,
             begin,
@@ -529,11 +531,11 @@ pub fn piece_row(answer: Piece) -> PieceRow
             end,
             run,
         },
-        Piece::Nothing => no_piece(NOTHING),
-        Piece::NoMemory => no_piece(NO_MEMORY),
-        Piece::Spent => no_piece(SPENT),
-        Piece::BadFlow => no_piece(REFUSED),
-        Piece::NoRoom => no_piece(ROOM),
+        Delivered::Nothing => no_piece(NOTHING),
+        Delivered::NoMemory => no_piece(NO_MEMORY),
+        Delivered::Spent => no_piece(SPENT),
+        Delivered::BadFlow => no_piece(REFUSED),
+        Delivered::NoRoom => no_piece(ROOM),
     }
 }
 

@@ -23,7 +23,7 @@ use dt_endpoint::{Admission, Guard, Links};
 use dt_items::NoMemory;
 use dt_service::Service;
 use dt_service_halves::carried;
-use dt_service_model::Kind;
+use dt_service_model::PortKind;
 use dt_units::Rules;
 use std::alloc::Global;
 
@@ -247,7 +247,7 @@ fn opens_service(
     Opened::Done
 }
 
-fn give_kind(service: &mut Service, port: u16, kind: Option<Kind>) -> u8
+fn give_kind(service: &mut Service, port: u16, kind: Option<PortKind>) -> u8
     ensures { GetsKind result port kind service.old service.new }
 {
     let Some(kind) = kind else {

@@ -4,9 +4,10 @@ ghost use Rattle.dt_service_model.specs.Names.{call_number, number_of};
 ghost use Rattle.dt_c.specs.ServiceRows.{call_counts_row, cause_number, declined_row, event_row, event_with, event_without_room, forgot_status, kind_of, made_as, made_row, made_with, no_call_counts, no_event, replied_as, replied_row, replied_with, start_of, token_of, unfit_number, unfit_status};
 
 use crate::rows::{CLOSED, DONE, FULL, FlowRow, NO_MEMORY, QUIET, REFUSED, ROOM, SPENT, flow_row};
-use dt_service::Start;
+use dt_service::ServiceStart;
 use dt_service_model::{
-    CallNumber, Cause, Counts, Declined, Forgot, Happening, Kind, Made, Most, Replied, Token, Unfit,
+    CallCounts, CallNumber, Cause, Declined, Forgot, Happening, Made, Most, PortKind, Replied,
+    Token, Unfit,
 };
 use dt_units::NodeId;
 use std::mem::size_of;
@@ -111,10 +112,10 @@ const _: () = prove!(size_of::<EventRow>() == 32);
 const _: () = prove!(size_of::<CallCountsRow>() == 64);
 
 impl ServiceStartRow {
-    pub fn start(&self) -> Start
+    pub fn start(&self) -> ServiceStart
         ensures { result ≡ start_of self.now }
     {
-        Start {
+        ServiceStart {
             me: NodeId(self.me),
             again: if self.again { Some(self.at) } else { None },
             life: self.life,
@@ -156,12 +157,12 @@ fn in_one(number: CallNumber) -> u64
 }
 
 /// The kind of a port by its number, if there is one.
-pub fn kind_of(number: u8) -> Option<Kind>
+pub fn kind_of(number: u8) -> Option<PortKind>
     ensures { result ≡ kind_of number }
 {
     match number {
-        1 => Some(Kind::Caller),
-        2 => Some(Kind::Service),
+        1 => Some(PortKind::Caller),
+        2 => Some(PortKind::Service),
         _ => None,
     }
 }
@@ -343,7 +344,7 @@ pub fn event_without_room(len: usize) -> EventRow
     row
 }
 
-pub fn call_counts_row(counts: Counts) -> CallCountsRow
+pub fn call_counts_row(counts: CallCounts) -> CallCountsRow
     ensures { result ≡ call_counts_row counts }
 {
     CallCountsRow {

@@ -8,7 +8,7 @@ use Rattle.dt_calls_model.specs.declared.calls.Call.{Call}
 use Rattle.dt_calls_model.specs.CallFacts.{CallFacts}
 use Rattle.dt_calls_model.specs.Calls.{Calls, new_calls}
 use Rattle.dt_calls.specs.declared.flow_sides.FlowSides.{FlowSides}
-use Rattle.dt_calls.specs.declared.world_calls.Parts.{Parts}
+use Rattle.dt_calls.specs.declared.world_calls.CallsParts.{CallsParts}
 use Rattle.dt_calls.specs.CallOutcomes.{IsNew}
 use Rattle.dt_calls.specs.Flows.{flows_seen}
 use Rattle.dt_calls.specs.Going.{IsSettled}
@@ -16,7 +16,7 @@ use Rattle.dt_calls.specs.Parts.{AreShort, calls_seen}
 use Rattle.dt_calls.specs.Waiting.{Covers}
 use Rattle.dt_calls.proofs.Kept.{world_kept}
 
-module _ {H : Type 0} (answer : List ℕ → List ℕ) (p : Parts H) (new : IsNew p.world.state) (no_calls : p.calls.items ≡ []) (no_waiting : p.waiting.items ≡ []) (no_flows : p.flows.entries ≡ []) where
+module _ {H : Type 0} (answer : List ℕ → List ℕ) (p : CallsParts H) (new : IsNew p.world.state) (no_calls : p.calls.items ≡ []) (no_waiting : p.waiting.items ≡ []) (no_flows : p.flows.entries ≡ []) where
   seen : calls_seen p ≡ new_calls (new_world new.setup)
   seen =
       ap (λ (w : World). let c : Calls = record { world = w; calls = p.calls.items; flows = flows_seen p.flows.entries } in c) new.new

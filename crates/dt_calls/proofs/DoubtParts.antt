@@ -11,7 +11,7 @@ use Rattle.dt_calls_model.specs.declared.calls.CallState.TheVariants as state
 use Rattle.dt_calls_model.specs.CallStep.{becomes_unsure}
 use Rattle.dt_calls_model.specs.CallTold as told
 use Rattle.dt_calls_model.specs.CallTold.{CallEntry}
-use Rattle.dt_calls.specs.declared.world_calls.Parts.{Parts}
+use Rattle.dt_calls.specs.declared.world_calls.CallsParts.{CallsParts}
 use Rattle.dt_calls.specs.Waiting.{Covers}
 use Rattle.dt_calls.proofs.DoubtWaiting.{DoubtsTo, call_is_there, drop_at, looked_sure, looked_unsure}
 use Rattle.dt_calls.proofs.Waiting.{covers_set}
@@ -21,27 +21,27 @@ pub same_read : (xs : List Call) (i : ℕ) (x y : Call) → i < length xs → x 
 same_read xs i x y h e f = e ∙ get_or_default xs i x y h ∙ sym f
 
 -- THE DOUBTS HAVE COME to the number that is looked at, which is that of a call
-module _ {H L : Type 0} (tells : L → CallEntry → L → Type 0) (fn loop : Parts H) (l m : L) (i k : ℕ) (less : i < length fn.waiting.items) (same : loop ≡ record fn { calls = loop.calls }) (number : k ≡ get_or loop.waiting.items i k)
+module _ {H L : Type 0} (tells : L → CallEntry → L → Type 0) (fn loop : CallsParts H) (l m : L) (i k : ℕ) (less : i < length fn.waiting.items) (same : loop ≡ record fn { calls = loop.calls }) (number : k ≡ get_or loop.waiting.items i k)
     (on : DoubtsTo tells fn.world.state fn.calls.items l (drop i fn.waiting.items) loop.calls.items m) where
   pub to_number : DoubtsTo tells fn.world.state fn.calls.items l (k ∷ drop (i + 1) fn.waiting.items) loop.calls.items m
-  to_number = subst (λ (ns : List ℕ). DoubtsTo tells fn.world.state fn.calls.items l ns loop.calls.items m) (drop_at i fn.waiting.items k less (subst (λ (p : Parts H). k ≡ get_or p.waiting.items i k) same number)) on
+  to_number = subst (λ (ns : List ℕ). DoubtsTo tells fn.world.state fn.calls.items l ns loop.calls.items m) (drop_at i fn.waiting.items k less (subst (λ (p : CallsParts H). k ≡ get_or p.waiting.items i k) same number)) on
 
   pub is_there : k < length loop.calls.items
   is_there = call_is_there tells fn.world.state fn.calls.items l loop.calls.items m k (drop (i + 1) fn.waiting.items) to_number
 
-pub record Next {H L : Type 0} (tells : L → CallEntry → L → Type 0) (fn : Parts H) (l : L) (ks : List ℕ) (after : Parts H) (n : L) : Type 0 where
+pub record Next {H L : Type 0} (tells : L → CallEntry → L → Type 0) (fn : CallsParts H) (l : L) (ks : List ℕ) (after : CallsParts H) (n : L) : Type 0 where
   pub to : DoubtsTo tells fn.world.state fn.calls.items l ks after.calls.items n
   pub same : after ≡ record fn { calls = after.calls }
   pub covers : Covers 0 fn.waiting.items after.calls.items
 
-module _ {H L : Type 0} (tells : L → CallEntry → L → Type 0) (fn loop after : Parts H) (l m n : L) (k : ℕ) (ks : List ℕ) (x : Call)
+module _ {H L : Type 0} (tells : L → CallEntry → L → Type 0) (fn loop after : CallsParts H) (l m n : L) (k : ℕ) (ks : List ℕ) (x : Call)
     (to : DoubtsTo tells fn.world.state fn.calls.items l (k ∷ ks) loop.calls.items m) (same : loop ≡ record fn { calls = loop.calls }) (covers : Covers 0 fn.waiting.items loop.calls.items)
     (is : x ≡ get_or loop.calls.items k x) (changed : after ≡ record loop { calls = after.calls }) where
   still : after ≡ record fn { calls = after.calls }
-  still = changed ∙ ap (λ (p : Parts H). let q : Parts H = record p { calls = after.calls } in q) same
+  still = changed ∙ ap (λ (p : CallsParts H). let q : CallsParts H = record p { calls = after.calls } in q) same
 
   world_is : loop.world.state ≡ fn.world.state
-  world_is = ap (λ (p : Parts H). p.world.state) same
+  world_is = ap (λ (p : CallsParts H). p.world.state) same
 
   pub sure_next : becomes_unsure loop.world.state x ≡ false → after.calls.items ≡ loop.calls.items → n ≡ m → Next tells fn l ks after n
   sure_next sure items lines = record {

@@ -12,7 +12,7 @@ use Rattle.dt_calls_model.specs.CallStep.{flows_after}
 use Rattle.dt_calls_model.specs.Reads.{happens}
 use Rattle.dt_calls.specs.declared.dues.Due.{Due}
 use Rattle.dt_calls.specs.declared.dues.Due.TheVariants as due
-use Rattle.dt_calls.specs.declared.world_calls.Parts.{Parts}
+use Rattle.dt_calls.specs.declared.world_calls.CallsParts.{CallsParts}
 use Rattle.dt_calls.specs.Dues.{IsDue, due_behind}
 use Rattle.dt_calls.specs.Flows.{flows_seen}
 use Rattle.dt_calls.specs.Happening.{HasHappened}
@@ -32,7 +32,7 @@ can_come (Arrives copy) may = tt
 can_come (Loses copy) may = tt
 can_come (Restarts n) may = tt
 
-module _ {H : Type 0} (e : WorldEvent) (p : Parts H) (whole : IsWhole p) (world : WorldValue) (t : HeardValue) where
+module _ {H : Type 0} (e : WorldEvent) (p : CallsParts H) (whole : IsWhole p) (world : WorldValue) (t : HeardValue) where
   module _ (done : IsDone Hears p.world e (for_event p.heard) t world) where
     -- IT IS DONE, and all was heard
     module _ (may : IsNoSendOrRead e) (heard : t.failed ≡ false) where

@@ -9,13 +9,13 @@ use Rattle.dt_calls_model.specs.declared.calls.Posted.{Posted}
 use Rattle.dt_calls_model.specs.declared.calls.Posted.TheVariants.{Refused, Taken}
 use Rattle.dt_calls_model.specs.Heard.{tells_refusal}
 use Rattle.dt_calls_model.specs.Reads.{happens, post}
-use Rattle.dt_calls.specs.declared.world_calls.Parts.{Parts}
+use Rattle.dt_calls.specs.declared.world_calls.CallsParts.{CallsParts}
 use Rattle.dt_calls.specs.Happening.{HasHappened}
 use Rattle.dt_calls.specs.Hearing.{HeardValue}
 use Rattle.dt_calls.specs.Parts.{HasPosted}
 use Rattle.dt_calls.proofs.Hearings.{refusal_heard}
 
-module _ {H : Type 0} (flow : Flow) (p : Parts H) (octets : List ℕ) (world : WorldValue) (heard : HeardValue) where
+module _ {H : Type 0} (flow : Flow) (p : CallsParts H) (octets : List ℕ) (world : WorldValue) (heard : HeardValue) where
   abbrev IsSent : Type 0
   IsSent = HasHappened (Sends flow octets true true) p.world p.heard world heard
 

@@ -16,7 +16,7 @@ use Rattle.dt_calls_model.specs.Heard.{piece_in}
 use Rattle.dt_calls_model.specs.Messages.{Piece, carried_in}
 use Rattle.dt_calls_model.specs.Promises.{AreServedOnce}
 use Rattle.dt_calls_model.specs.Reads.{Course, happens, most_read, read_side, take_whole}
-use Rattle.dt_calls.specs.declared.world_calls.Parts.{Parts}
+use Rattle.dt_calls.specs.declared.world_calls.CallsParts.{CallsParts}
 use Rattle.dt_calls.specs.Courses.{GoesOn, HasGoneOn, HasStopped, from_calls}
 use Rattle.dt_calls.specs.Flows.{flows_seen}
 use Rattle.dt_calls.specs.Happening.{HasHappened}
@@ -40,7 +40,7 @@ piece_lost P None p h e = h
 piece_lost P (Some a) p h e = absurd cc
 
 -- what the taking of a message leaves beside the calls and the world
-pub record StaysSo {H : Type 0} (after next : Parts H) : Type 0 where
+pub record StaysSo {H : Type 0} (after next : CallsParts H) : Type 0 where
   pub unspent : next.world.spent ≡ false
   pub heard : next.heard.failed ≡ false
   pub waiting : next.waiting ≡ after.waiting
@@ -68,9 +68,9 @@ module _ {L : Type 0} (tells : L → CallEntry → L → Type 0) (answer : List 
   world_read : (w new : WorldValue) (t : HeardValue) → IsFlow (flow_read side f) → IsKeptWorld w.state → IsRead w new t → IsKeptWorld new.state
   world_read w new t flow kept read = subst IsKeptWorld (sym read.world) (happens_keeps (Reads (flow_read side f) most_read) w.state flow kept)
 
-  module _ {H : Type 0} (first : Parts H) (l0 : L) where
+  module _ {H : Type 0} (first : CallsParts H) (l0 : L) where
     -- BETWEEN TWO READS: what the parts that were given have become, and the lines.
-    pub record IsReading (p : Parts H) (l : L) : Type 0 where
+    pub record IsReading (p : CallsParts H) (l : L) : Type 0 where
       pub on : ReadsOn tells answer side f (calls_seen first) l0 (calls_seen p) l
       pub keys : keys_in p.flows.entries ≡ keys_in first.flows.entries
       pub there : has_key same_flow f (flows_seen p.flows.entries) ≡ true
@@ -90,9 +90,9 @@ module _ {L : Type 0} (tells : L → CallEntry → L → Type 0) (answer : List 
 
   -- ONE READ, from the parts p to the world and to what was heard of it
   pub record OneRead (H : Type 0) : Type 0 where
-    pub first : Parts H
+    pub first : CallsParts H
     pub l0 : L
-    pub p : Parts H
+    pub p : CallsParts H
     pub l : L
     pub is : IsReading first l0 p l
     pub new : WorldValue
@@ -100,7 +100,7 @@ module _ {L : Type 0} (tells : L → CallEntry → L → Type 0) (answer : List 
     pub flow : IsFlow (flow_read side f)
     pub read : IsRead p.world new t
 
-  abbrev pub one_read : {H : Type 0} (first : Parts H) (l0 : L) (p : Parts H) (l : L) → IsReading first l0 p l → (g : Flow) (new : WorldValue) (t : HeardValue) → g ≡ flow_read side f → IsFlow g → HasHappened (Reads g 65536) p.world p.heard new t → OneRead H
+  abbrev pub one_read : {H : Type 0} (first : CallsParts H) (l0 : L) (p : CallsParts H) (l : L) → IsReading first l0 p l → (g : Flow) (new : WorldValue) (t : HeardValue) → g ≡ flow_read side f → IsFlow g → HasHappened (Reads g 65536) p.world p.heard new t → OneRead H
   one_read first l0 p l is g new t same range has =
       record { first = first; l0 = l0; p = p; l = l; is = is; new = new; t = t; flow = subst IsFlow same range; read = is_read g p.world new p.heard t same has }
 
@@ -109,7 +109,7 @@ module _ {L H : Type 0} {tells : L → CallEntry → L → Type 0} {answer : Lis
   abbrev d : Calls
   d = calls_seen o.p
 
-  abbrev pub with_read : Parts H
+  abbrev pub with_read : CallsParts H
   with_read = record o.p { world = o.new; heard = o.t }
 
   abbrev Reading : Course → Course
@@ -129,7 +129,7 @@ module _ {L H : Type 0} {tells : L → CallEntry → L → Type 0} {answer : Lis
   reading_ends none = subst (λ (x : Calls). HasGoneOn tells Reading (calls_seen o.first) o.l0 o.l x) (sym seen) (ends_here tells answer side f (calls_seen o.first) o.l0 d o.l o.is.on (sym o.read.piece ∙ none))
 
   -- THE PIECE IS JOINED
-  module _ (after : Parts H) (whole : Option (List ℕ)) (j : HasJoined side f with_read whole after) where
+  module _ (after : CallsParts H) (whole : Option (List ℕ)) (j : HasJoined side f with_read whole after) where
     piece_is : piece_read tells answer side f d ≡ Some j.piece
     piece_is = sym o.read.piece ∙ j.heard
 
@@ -142,7 +142,7 @@ module _ {L H : Type 0} {tells : L → CallEntry → L → Type 0} {answer : Lis
 
     joined_seen : calls_seen after ≡ now_joined
     joined_seen =
-        ap (λ (x : Parts H). let y : Calls = record { world = x.world.state; calls = x.calls.items; flows = flows_seen after.flows.entries } in y) j.same
+        ap (λ (x : CallsParts H). let y : Calls = record { world = x.world.state; calls = x.calls.items; flows = flows_seen after.flows.entries } in y) j.same
         ∙ ap (λ (fs : List (Flow × Begun)). let y : Calls = record { world = o.new.state; calls = o.p.calls.items; flows = fs } in y) j.flows
         ∙ ap (has_joined tells answer side f j.piece) seen
 
@@ -150,7 +150,7 @@ module _ {L H : Type 0} {tells : L → CallEntry → L → Type 0} {answer : Lis
     whole_seen = j.whole_is ∙ ap (made_whole tells answer side f j.piece) seen
 
     pub still_served_once : AreServedOnce (calls_seen after)
-    still_served_once = subst (λ (x : Parts H). AreServedOnce (calls_seen x)) (sym j.same) o.is.course.facts.once
+    still_served_once = subst (λ (x : CallsParts H). AreServedOnce (calls_seen x)) (sym j.same) o.is.course.facts.once
 
     pub message_is_short : (message : List ℕ) → whole ≡ Some message → side ≡ Server → length (carried_in message) ≤ 65528
     message_is_short message some server = request_short answer d f j.piece message o.is.course.facts o.is.whole.requests o.is.there side piece_is (sym j.whole_is ∙ some) server
@@ -158,7 +158,7 @@ module _ {L H : Type 0} {tells : L → CallEntry → L → Type 0} {answer : Lis
     -- what holds of the message that is taken by the handler that the parts have then, which is the one that they began with
     pub taken_by : (answers : H → List ℕ → List ℕ) → answers o.first.handler ≡ answer → (P : (List ℕ → List ℕ) → Option (List ℕ) → Type 0) (message : List ℕ) → whole ≡ Some message → P (answers after.handler) (Some message) → P answer whole
     taken_by answers begun P message some holds =
-        let same : answers after.handler ≡ answer = ap answers (ap (λ (x : Parts H). x.handler) j.same ∙ o.is.handler) ∙ begun in
+        let same : answers after.handler ≡ answer = ap answers (ap (λ (x : CallsParts H). x.handler) j.same ∙ o.is.handler) ∙ begun in
         subst (λ (w : Option (List ℕ)). P answer w) (sym some) (subst (λ (a : List ℕ → List ℕ). P a (Some message)) same holds)
 
     -- THE MESSAGE IS TAKEN, if there is one: it stopped
@@ -169,7 +169,7 @@ module _ {L H : Type 0} {tells : L → CallEntry → L → Type 0} {answer : Lis
         (subst (λ (x : Calls). HasStopped tells (take_whole answer side f whole) x o.l n) joined_seen stop))
 
     -- or it was done
-    module _ (n : L) (next : Parts H) (gone : HasGoneOn tells (take_whole answer side f whole) (calls_seen after) o.l n (calls_seen next)) where
+    module _ (n : L) (next : CallsParts H) (gone : HasGoneOn tells (take_whole answer side f whole) (calls_seen after) o.l n (calls_seen next)) where
       taken : HasGoneOn tells (take_whole answer side f now_whole) now_joined o.l n (calls_seen next)
       taken =
           subst (λ (w : Option (List ℕ)). HasGoneOn tells (take_whole answer side f w) now_joined o.l n (calls_seen next)) whole_seen
@@ -185,7 +185,7 @@ module _ {L H : Type 0} {tells : L → CallEntry → L → Type 0} {answer : Lis
       still_covers same =
           let before : Covers 0 o.p.waiting.items now_joined.calls = subst (λ (cs : List Call). Covers 0 o.p.waiting.items cs) calls_before o.is.whole.waiting in
           let there = whole_covers answer o.p.waiting.items side f now_whole (from_calls now_joined) before in
-          let kept : next.waiting.items ≡ o.p.waiting.items = ap (λ v. v.items) same ∙ ap (λ (x : Parts H). x.waiting.items) j.same in
+          let kept : next.waiting.items ≡ o.p.waiting.items = ap (λ v. v.items) same ∙ ap (λ (x : CallsParts H). x.waiting.items) j.same in
           subst (λ (ks : List ℕ). Covers 0 ks next.calls.items) (sym kept) (subst (λ (cs : List Call). Covers 0 o.p.waiting.items cs) (sym calls_then) there)
 
       still_short : AreShort next.calls.items
@@ -208,7 +208,7 @@ module _ {L H : Type 0} {tells : L → CallEntry → L → Type 0} {answer : Lis
           waiting = still_covers same.waiting;
           requests = still_short;
         };
-        handler = same.handler ∙ ap (λ (x : Parts H). x.handler) j.same ∙ o.is.handler;
+        handler = same.handler ∙ ap (λ (x : CallsParts H). x.handler) j.same ∙ o.is.handler;
         course = piece_on answer tells side d (calls_seen next) o.l n o.is.course f o.is.there j.piece piece_is taken;
       }
 
@@ -217,4 +217,4 @@ module _ {L H : Type 0} {tells : L → CallEntry → L → Type 0} {answer : Lis
     none_taken none = subst (λ (w : Option (List ℕ)). HasGoneOn tells (take_whole answer side f w) (calls_seen after) o.l o.l (calls_seen after)) (sym none) (record { lines = refl; calls = refl })
 
     pub none_stays : StaysSo after after
-    none_stays = record { unspent = ap (λ (x : Parts H). x.world.spent) j.same ∙ o.read.unspent; heard = ap (λ (x : Parts H). x.heard.failed) j.same ∙ o.read.heard; waiting = refl; flows = refl; handler = refl }
+    none_stays = record { unspent = ap (λ (x : CallsParts H). x.world.spent) j.same ∙ o.read.unspent; heard = ap (λ (x : CallsParts H). x.heard.failed) j.same ∙ o.read.heard; waiting = refl; flows = refl; handler = refl }

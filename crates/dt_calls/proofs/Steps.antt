@@ -18,7 +18,7 @@ use Rattle.dt_calls_model.specs.Reads.{Course}
 use Rattle.dt_calls.specs.CallOutcomes.{FailsWith, IsDone, IsStopped, StepsTo, is_memory}
 use Rattle.dt_calls.specs.Courses.{HasGoneOn, HasStopped, from_calls}
 use Rattle.dt_calls.specs.declared.dues.Due.{Due}
-use Rattle.dt_calls.specs.declared.world_calls.Parts.{Parts}
+use Rattle.dt_calls.specs.declared.world_calls.CallsParts.{CallsParts}
 use Rattle.dt_calls.specs.Flows.{flows_seen}
 use Rattle.dt_calls.specs.Going.{GoesWrong, HasGone, IsRefusedBy}
 use Rattle.dt_calls.specs.Parts.{calls_seen}
@@ -93,7 +93,7 @@ module _ {L : Type 0} (tells : L → CallEntry → L → Type 0) (answer : List 
     call_cut_late stop = call_stopped tells answer c l n f payload fine (gone_stop tells (Making f payload) (finish answer) (adds_finish answer) c d l m n made stop)
 
 -- AN EVENT OF THE WORLD, by its parts
-module _ {H : Type 0} (e : WorldEvent) (p after : Parts H) where
+module _ {H : Type 0} (e : WorldEvent) (p after : CallsParts H) where
   module _ {L : Type 0} (tells : L → CallEntry → L → Type 0) (answer : List ℕ → List ℕ) (l : L) where
     refused_for : (why : StepFault) → is_memory why ≡ false → IsRefusedBy e p after why → FailsWith tells answer (calls_seen p) (Happens e) l l why (calls_seen after)
     refused_for why plain h = refused_with tells answer (calls_seen p) l l (Happens e) why (calls_seen after) plain (event_refused tells answer (calls_seen p) l l e why h.step) h.same refl

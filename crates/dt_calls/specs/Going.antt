@@ -8,7 +8,7 @@ use Rattle.dt_calls_model.specs.CallFacts.{CallFacts}
 use Rattle.dt_calls_model.specs.CallStep.{flows_after}
 use Rattle.dt_calls_model.specs.Promises.{AreServedOnce}
 use Rattle.dt_calls_model.specs.Reads.{Course}
-use Rattle.dt_calls.specs.declared.world_calls.Parts.{Parts}
+use Rattle.dt_calls.specs.declared.world_calls.CallsParts.{CallsParts}
 use Rattle.dt_calls.specs.declared.dues.Due.{Due}
 use Rattle.dt_calls.specs.Dues.{IsDue}
 use Rattle.dt_calls.specs.Flows.{flows_seen}
@@ -19,16 +19,16 @@ abbrev pub then_made : Course → Course → Course
 then_made c made = record { told = c.told ++ made.told; calls = made.calls }
 
 -- BETWEEN TWO STEPS nothing failed, and the facts of calls hold
-pub record IsSettled {H : Type 0} (answer : List ℕ → List ℕ) (p : Parts H) : Type 0 where
+pub record IsSettled {H : Type 0} (answer : List ℕ → List ℕ) (p : CallsParts H) : Type 0 where
   pub whole : IsWhole p
   pub facts : CallFacts answer (calls_seen p)
 
 -- WHAT IS KEPT of calls: also of spent ones each was served at most once, and one that is answered was served once.
-pub record IsKeptCalls {H : Type 0} (answer : List ℕ → List ℕ) (spent : Bool) (p : Parts H) : Type 0 where
+pub record IsKeptCalls {H : Type 0} (answer : List ℕ → List ℕ) (spent : Bool) (p : CallsParts H) : Type 0 where
   pub once : AreServedOnce (calls_seen p)
   pub settled : spent ≡ false → IsSettled answer p
 
-module _ {H : Type 0} (e : WorldEvent) (p after : Parts H) where
+module _ {H : Type 0} (e : WorldEvent) (p after : CallsParts H) where
   pub record HasGone (d : Due) : Type 0 where
     pub lines : List Entry
     pub step : world_step p.world.state e ≡ Stepped lines after.world.state

@@ -25,7 +25,7 @@ use crate::flows;
 use crate::handlers::Handler;
 use crate::hearing::Heard;
 use crate::totals::is_waiting;
-use crate::world_calls::Parts;
+use crate::world_calls::CallsParts;
 use dt_calls_model::{Call, CallState, Posted};
 use dt_items::NoMemory;
 use dt_messages::{read_message, reversed, write_message};
@@ -59,7 +59,7 @@ fn ended(answer: Result<(), StepFault>, failed: bool) -> Result<(), NoMemory>
 }
 
 /// Hands in the message that stands ready, along the flow.
-pub fn post<H>(parts: &mut Parts<H>, flow: Flow) -> Result<Posted, NoMemory>
+pub fn post<H>(parts: &mut CallsParts<H>, flow: Flow) -> Result<Posted, NoMemory>
     requires unspent { parts.old.world.spent ≡ false }
     requires heard { parts.old.heard.failed ≡ false }
     requires some { 1 ≤ vec_len parts.old.message }
@@ -84,7 +84,7 @@ pub fn post<H>(parts: &mut Parts<H>, flow: Flow) -> Result<Posted, NoMemory>
 /// The server's sides are read of the flows that are due, in the order of first calls, and then the
 /// clients'.
 pub fn read_due<H: Handler, L: CallLines>(
-    parts: &mut Parts<H>,
+    parts: &mut CallsParts<H>,
     due: Due,
     lines: &mut L,
 ) -> Result<(), NoMemory>
@@ -110,7 +110,7 @@ pub fn read_due<H: Handler, L: CallLines>(
 
 /// Both sides are read of the one flow that is due.
 fn read_both<H: Handler, L: CallLines>(
-    parts: &mut Parts<H>,
+    parts: &mut CallsParts<H>,
     flow: &Flow,
     lines: &mut L,
 ) -> Result<(), NoMemory>
@@ -129,7 +129,7 @@ fn read_both<H: Handler, L: CallLines>(
 
 /// One of the sides is read of all flows with a call.
 fn read_sides<H: Handler, L: CallLines>(
-    parts: &mut Parts<H>,
+    parts: &mut CallsParts<H>,
     side: Side,
     lines: &mut L,
 ) -> Result<(), NoMemory>
@@ -155,7 +155,7 @@ fn read_sides<H: Handler, L: CallLines>(
 /// Reads a side of the flow until nothing is there, and takes each message that becomes whole right
 /// after the read that completes it.
 fn read_side<H: Handler, L: CallLines>(
-    parts: &mut Parts<H>,
+    parts: &mut CallsParts<H>,
     flow: &Flow,
     side: Side,
     lines: &mut L,
@@ -186,7 +186,7 @@ fn read_side<H: Handler, L: CallLines>(
 }
 
 /// The piece that was read goes on what the side has begun. Answers the message that it makes whole.
-fn join<H>(parts: &mut Parts<H>, flow: &Flow, side: Side) -> Result<Option<Vec<u8>>, NoMemory>
+fn join<H>(parts: &mut CallsParts<H>, flow: &Flow, side: Side) -> Result<Option<Vec<u8>>, NoMemory>
     requires piece { IsSome parts.old.heard.piece }
     requires there { has_key same_flow flow.now (flows_seen parts.old.flows.entries) ≡ true }
     ensures joined { MatchResult result (λ whole. HasJoined (side_seen side) flow.now parts.old (option_map (λ message. message.items) whole) parts.new) (λ _. parts.new ≡ record parts.old { flows = parts.new.flows }) }
@@ -199,7 +199,7 @@ fn join<H>(parts: &mut Parts<H>, flow: &Flow, side: Side) -> Result<Option<Vec<u
 
 /// A whole message of a call of the flow is taken. What a request carries is no longer than a handler takes.
 fn take_message<H: Handler, L: CallLines>(
-    parts: &mut Parts<H>,
+    parts: &mut CallsParts<H>,
     flow: &Flow,
     side: Side,
     message: &[u8],
@@ -246,7 +246,7 @@ fn call_on(calls: &[Call], number: u64, flow: &Flow) -> Option<usize>
 
 /// A request is served: its answer goes back with its number.
 fn serve<H: Handler, L: CallLines>(
-    parts: &mut Parts<H>,
+    parts: &mut CallsParts<H>,
     flow: &Flow,
     call: usize,
     payload: &[u8],
@@ -277,7 +277,7 @@ fn serve<H: Handler, L: CallLines>(
 /// The answer to a payload is handed in on the way of the replies, with the number of its call. `NoMemory`
 /// comes for want of memory alone: each reply takes that of its octets.
 fn reply<H: Handler>(
-    parts: &mut Parts<H>,
+    parts: &mut CallsParts<H>,
     flow: &Flow,
     number: u64,
     payload: &[u8],
@@ -299,7 +299,7 @@ fn reply<H: Handler>(
 }
 
 /// A reply answers its call, if that waits.
-fn answer<H, L: CallLines>(parts: &mut Parts<H>, call: usize, octets: &[u8], lines: &mut L)
+fn answer<H, L: CallLines>(parts: &mut CallsParts<H>, call: usize, octets: &[u8], lines: &mut L)
     requires { call < vec_len parts.old.calls }
     ensures goes { HasGoneOn L.tells (answered_if (call_in parts.old.calls.items call).state call octets.now) (calls_seen parts.old) lines.old lines.new (calls_seen parts.new) }
     ensures same { parts.new ≡ record parts.old { calls = parts.new.calls } }

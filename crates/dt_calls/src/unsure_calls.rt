@@ -8,7 +8,7 @@ ghost use Rattle.dt_calls.specs.Waiting.{Covers, waiting_from};
 
 use crate::call_lines::{CallLine, CallLines};
 use crate::totals::is_waiting;
-use crate::world_calls::Parts;
+use crate::world_calls::CallsParts;
 use dt_calls_model::{Call, CallState, Posted};
 use dt_flow_model::{Fate, Taken};
 use dt_messages::reversed;
@@ -18,7 +18,7 @@ use dt_world::World;
 /// The calls that wait and whose answers may never come become unsure, in their order. The cost is the
 /// calls that waited after the step before or were made in this one, and the octets of the messages of
 /// those that wait.
-pub fn mark_unsure<H, L: CallLines>(parts: &mut Parts<H>, lines: &mut L)
+pub fn mark_unsure<H, L: CallLines>(parts: &mut CallsParts<H>, lines: &mut L)
     requires { Covers 0 parts.old.waiting.items parts.old.calls.items }
     ensures goes { HasGoneOn L.tells doubt_all (calls_seen parts.old) lines.old lines.new (calls_seen parts.new) }
     ensures covers { Covers 0 parts.new.waiting.items parts.new.calls.items }
@@ -30,7 +30,7 @@ pub fn mark_unsure<H, L: CallLines>(parts: &mut Parts<H>, lines: &mut L)
 }
 
 /// The calls become unsure.
-fn mark_waiting_unsure<H, L: CallLines>(parts: &mut Parts<H>, lines: &mut L)
+fn mark_waiting_unsure<H, L: CallLines>(parts: &mut CallsParts<H>, lines: &mut L)
     requires { Covers 0 parts.old.waiting.items parts.old.calls.items }
     ensures goes { HasGoneOn L.tells doubt_all (calls_seen parts.old) lines.old lines.new (calls_seen parts.new) }
     ensures covers { Covers 0 parts.old.waiting.items parts.new.calls.items }

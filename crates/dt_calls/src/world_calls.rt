@@ -45,7 +45,7 @@ use std::marker::Model;
 
 /// What the calls of a world are made of.
 #[derive(Drop)]
-pub struct Parts<H> {
+pub struct CallsParts<H> {
     pub world: World,
     pub handler: H,
     /// By their numbers.
@@ -64,7 +64,7 @@ pub struct Parts<H> {
 /// spent.
 #[derive(Drop)]
 pub struct Calls<H: Handler> {
-    parts: Parts<H>,
+    parts: CallsParts<H>,
     spent: bool,
 }
 
@@ -88,7 +88,7 @@ impl<H: Handler> Calls<H> {
         ensures { IfOk result (λ calls. calls ≡ record { calls = new_calls world.state; handler = handler; spent = false }) }
     {
         Ok(Calls {
-            parts: Parts {
+            parts: CallsParts {
                 world,
                 handler,
                 calls: Vec::new(alloc),
@@ -184,7 +184,7 @@ fn lacks_memory(answer: Result<(), StepFault>) -> bool
 
 /// What happens to the parts of calls that aren't spent.
 fn step<H: Handler, L: CallLines>(
-    parts: &mut Parts<H>,
+    parts: &mut CallsParts<H>,
     event: &CallEvent<'_>,
     lines: &mut L,
 ) -> Result<(), StepFault>
@@ -206,7 +206,7 @@ fn step<H: Handler, L: CallLines>(
 
 /// A call is made, unless it is refused, and then what is due is read.
 fn step_call<H: Handler, L: CallLines>(
-    parts: &mut Parts<H>,
+    parts: &mut CallsParts<H>,
     flow: Flow,
     payload: &[u8],
     lines: &mut L,
@@ -231,7 +231,7 @@ fn step_call<H: Handler, L: CallLines>(
 
 /// An event of the world comes, and then what is due is read.
 fn step_world<H: Handler, L: CallLines>(
-    parts: &mut Parts<H>,
+    parts: &mut CallsParts<H>,
     event: &Event<'_>,
     lines: &mut L,
 ) -> Result<(), StepFault>
@@ -251,7 +251,7 @@ fn step_world<H: Handler, L: CallLines>(
 
 /// What is due is read, and then the calls that wait are judged.
 fn finish<H: Handler, L: CallLines>(
-    parts: &mut Parts<H>,
+    parts: &mut CallsParts<H>,
     due: Due,
     lines: &mut L,
 ) -> Result<(), NoMemory>
@@ -270,7 +270,7 @@ fn finish<H: Handler, L: CallLines>(
 }
 
 /// The fault with which a call is refused, if it is.
-fn refusal<H: Handler>(parts: &Parts<H>, flow: Flow) -> Option<StepFault>
+fn refusal<H: Handler>(parts: &CallsParts<H>, flow: Flow) -> Option<StepFault>
     requires course { CourseFacts (H.answer parts.now.handler) (calls_seen parts.now) }
     ensures refusal { result ≡ first_refusal (call_refusals (calls_seen parts.now) flow) }
     ensures range { IsFlow flow }
@@ -288,7 +288,7 @@ fn refusal<H: Handler>(parts: &Parts<H>, flow: Flow) -> Option<StepFault>
 }
 
 /// Whether replies of an earlier call go along this flow: then the reversed flow has a call.
-fn is_way_of_replies<H: Handler>(parts: &Parts<H>, flow: Flow) -> bool
+fn is_way_of_replies<H: Handler>(parts: &CallsParts<H>, flow: Flow) -> bool
     requires { CourseFacts (H.answer parts.now.handler) (calls_seen parts.now) }
     ensures { result ≡ list_any (λ call. same_flow call.flow (reversed flow)) parts.now.calls.items }
 {
@@ -297,7 +297,7 @@ fn is_way_of_replies<H: Handler>(parts: &Parts<H>, flow: Flow) -> bool
 
 /// A call is made: its request is handed in.
 fn make<H, L: CallLines>(
-    parts: &mut Parts<H>,
+    parts: &mut CallsParts<H>,
     flow: Flow,
     payload: &[u8],
     lines: &mut L,
@@ -322,7 +322,7 @@ fn make<H, L: CallLines>(
 /// A call whose request was handed in, and came to this, is reported, and gets its number, and its flow an
 /// entry.
 fn add_call<H, L: CallLines>(
-    parts: &mut Parts<H>,
+    parts: &mut CallsParts<H>,
     flow: Flow,
     count: u32,
     request: Posted,
@@ -350,7 +350,7 @@ fn add_call<H, L: CallLines>(
 
 /// A call that is made is reported, and that it is declined where its request was refused.
 fn tell_made<H, L: CallLines>(
-    parts: &Parts<H>,
+    parts: &CallsParts<H>,
     flow: Flow,
     count: u32,
     request: Posted,
@@ -378,7 +378,7 @@ fn state_of(request: Posted) -> CallState
 }
 
 /// An event of the world. Answers what must be read after it.
-fn advance_world<H>(parts: &mut Parts<H>, event: &Event<'_>) -> Result<Due, StepFault>
+fn advance_world<H>(parts: &mut CallsParts<H>, event: &Event<'_>) -> Result<Due, StepFault>
     requires whole { IsWhole parts.old }
     requires rest { IsDue due.Nothing parts.old.world.state (flows_seen parts.old.flows.entries) }
     requires may { IsNoSendOrRead (event_of event.now) }

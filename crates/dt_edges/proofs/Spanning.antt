@@ -8,7 +8,7 @@ use Rattle.std.proofs.lemmas.List.Sums.{sum_by-append}
 use Rattle.std.specs.List.{All}
 use Rattle.std.specs.Option.{option_map}
 use Rattle.dt_edges.specs.declared.spans.Span.{Span}
-use Rattle.dt_edges.specs.declared.inboxes.Found.{Found}
+use Rattle.dt_edges.specs.declared.mem_inboxes.Found.{Found}
 use Rattle.dt_edges.specs.Wires.{Datagram, octets_in}
 use Rattle.dt_edges.specs.Spans.{datagram_at, IsWithin, IsEntry, answers_of}
 

@@ -3,7 +3,7 @@ use Rattle.std.specs.Prelude.{ℕ, ◌+◌, ◌≤◌, min, ◌++◌, List, [], 
 use Rattle.std.specs.List.{flat_map}
 use Rattle.std.specs.Option.{option_map}
 use Rattle.dt_edges.specs.declared.spans.Span.{Span}
-use Rattle.dt_edges.specs.declared.inboxes.Found.{Found}
+use Rattle.dt_edges.specs.declared.mem_inboxes.Found.{Found}
 use Rattle.dt_edges.specs.Wires.{Datagram}
 
 -- the datagram that stands at this place

@@ -6,8 +6,8 @@ ghost use Rattle.dt_edges.specs.Wires.{fresh_wire, handed, cut_to, entry_at, lac
 
 use crate::addresses::{Address, Peer};
 use crate::failures::Failed;
-use crate::inboxes::Inbox;
-use crate::outboxes::Outbox;
+use crate::mem_inboxes::MemInbox;
+use crate::mem_outboxes::MemOutbox;
 use crate::planning::fails;
 use crate::wires::Wire;
 use dt_items::NoMemory;
@@ -29,8 +29,8 @@ pub struct MemWire {
     open_fails: bool,
     failing_takes: Vec<u64>,
     failing_gives: Vec<u64>,
-    inbox: Inbox,
-    outbox: Option<Outbox>,
+    inbox: MemInbox,
+    outbox: Option<MemOutbox>,
     takes: u64,
     gives: u64,
     take_faults: u64,
@@ -88,7 +88,7 @@ impl MemWire {
             (option_map (λ room. record { room = room; given = [] }) room)) }
     {
         let outbox = match room {
-            Some(room) => Some(Outbox::with_room(alloc, room)?),
+            Some(room) => Some(MemOutbox::with_room(alloc, room)?),
             None => None,
         };
         Ok(MemWire {
@@ -98,7 +98,7 @@ impl MemWire {
             open_fails,
             failing_takes: Vec::from_slice(alloc, failing_takes)?,
             failing_gives: Vec::from_slice(alloc, failing_gives)?,
-            inbox: Inbox::new(alloc),
+            inbox: MemInbox::new(alloc),
             outbox,
             takes: 0,
             gives: 0,

@@ -17,9 +17,9 @@ use Rattle.dt_world_model.specs.WorldStep.{first_refusal}
 use Rattle.dt_world_model.specs.Host.{Host, read_octets, read_piece, receiver_at, send_octets}
 use Rattle.dt_world_model.specs.Station.{Event, Read, Send, Station, settle_station, station_event, told_piece, told_sent}
 use Rattle.dt_endpoint.specs.declared.answers.Sent.{Sent}
-use Rattle.dt_endpoint.specs.declared.answers.Piece.{Piece}
-use Rattle.dt_endpoint.specs.declared.noting.Heard.{Heard}
-use Rattle.dt_endpoint.specs.declared.noting.Heard.TheVariants as heard
+use Rattle.dt_endpoint.specs.declared.answers.Delivered.{Delivered}
+use Rattle.dt_endpoint.specs.declared.noting.HeardAnswer.{HeardAnswer}
+use Rattle.dt_endpoint.specs.declared.noting.HeardAnswer.TheVariants as heard
 use Rattle.dt_endpoint.specs.Acts.{answer_of}
 use Rattle.dt_endpoint.specs.Hearing.{heard_in, hears, piece_after, piece_in}
 use Rattle.dt_endpoint.specs.Endpoints.{EndpointValue, after_event, moment_of, script_of}
@@ -68,7 +68,7 @@ octets_fit p now f room host =
     piece_small p now f room (first_piece room items) host (first_piece-fits room items)
 
 -- what was heard, and the answer by it
-pub send_does : (h : Heard) (now : ℕ) (refused : Option Refusal) (event : Event (Unit {0})) (e f : EndpointValue) → sent_by h ≡ sent_of refused → f ≡ after_event now event e → SendDoes (sent_by h) now refused event e f
+pub send_does : (h : HeardAnswer) (now : ℕ) (refused : Option Refusal) (event : Event (Unit {0})) (e f : EndpointValue) → sent_by h ≡ sent_of refused → f ≡ after_event now event e → SendDoes (sent_by h) now refused event e f
 send_does heard.Nothing now refused event e f same after = (same, after)
 send_does heard.Took now refused event e f same after = (same, after)
 send_does (heard.Refused (refusal.Quiet until)) now refused event e f same after = (same, after)
@@ -76,7 +76,7 @@ send_does (heard.Refused (refusal.Full free)) now refused event e f same after =
 send_does heard.NoPiece now refused event e f same after = (same, after)
 send_does (heard.Piece read) now refused event e f same after = (same, after)
 
-pub read_does : (h : Heard) (now : ℕ) (items : List Item) (event : Event (Unit {0})) (buf : List ℕ) (e f : EndpointValue) → piece_by h ≡ piece_of (length (octets_of items)) (piece_told items) → take (length (octets_of items)) buf ≡ octets_of items → f ≡ after_event now event e → ReadDoes (piece_by h) now items event buf e f
+pub read_does : (h : HeardAnswer) (now : ℕ) (items : List Item) (event : Event (Unit {0})) (buf : List ℕ) (e f : EndpointValue) → piece_by h ≡ piece_of (length (octets_of items)) (piece_told items) → take (length (octets_of items)) buf ≡ octets_of items → f ≡ after_event now event e → ReadDoes (piece_by h) now items event buf e f
 read_does heard.Nothing now items event buf e f same octets after = (same, octets, after)
 read_does heard.Took now items event buf e f same octets after = (same, octets, after)
 read_does (heard.Refused fault) now items event buf e f same octets after = (same, octets, after)
@@ -98,18 +98,18 @@ read_unrefused flow room e unspent to from some =
     let wrong = both_false (not (flow.to.0 == e.state.host.me)) (flow.from.0 == e.state.host.me) to from in
     rw (unspent, wrong, some) refl
 
-pub send_done : (now : ℕ) (flow : Flow) (octets : List ℕ) (begin end : Bool) (e f : EndpointValue) (answer : Sent) (h : Heard) → first_refusal (send_refusals flow octets e) ≡ None → answer ≡ sent_by h → h ≡ heard_in (script_of now (Send flow octets begin end) e) heard.Nothing → f ≡ after_event now (Send flow octets begin end) e → Sends answer now flow octets begin end e f
+pub send_done : (now : ℕ) (flow : Flow) (octets : List ℕ) (begin end : Bool) (e f : EndpointValue) (answer : Sent) (h : HeardAnswer) → first_refusal (send_refusals flow octets e) ≡ None → answer ≡ sent_by h → h ≡ heard_in (script_of now (Send flow octets begin end) e) heard.Nothing → f ≡ after_event now (Send flow octets begin end) e → Sends answer now flow octets begin end e f
 send_done now flow octets begin end e f answer h unrefused is heard after =
     let same = ap sent_by heard ∙ sent_is e.rules (moment_of now e) flow octets begin end e.state in
     let refused = send_answer now flow octets begin end e in
     let event = Send flow octets begin end in
     rw unrefused (subst (λ (a : Sent). SendDoes a now refused event e f) (sym is) (send_does h now refused event e f same after))
 
-pub read_done : (now : ℕ) (flow : Flow) (room : ℕ) (buf : List ℕ) (e f : EndpointValue) (answer : Piece) (h : Heard) → first_refusal (read_refusals flow room e) ≡ None → answer ≡ piece_by h → h ≡ heard_in (script_of now (Read flow room) e) heard.Nothing → (length (piece_in (script_of now (Read flow room) e) []) ≤ room → take (length (piece_in (script_of now (Read flow room) e) [])) buf ≡ piece_in (script_of now (Read flow room) e) []) → f ≡ after_event now (Read flow room) e → Reads answer now flow room buf e f
+pub read_done : (now : ℕ) (flow : Flow) (room : ℕ) (buf : List ℕ) (e f : EndpointValue) (answer : Delivered) (h : HeardAnswer) → first_refusal (read_refusals flow room e) ≡ None → answer ≡ piece_by h → h ≡ heard_in (script_of now (Read flow room) e) heard.Nothing → (length (piece_in (script_of now (Read flow room) e) []) ≤ room → take (length (piece_in (script_of now (Read flow room) e) [])) buf ≡ piece_in (script_of now (Read flow room) e) []) → f ≡ after_event now (Read flow room) e → Reads answer now flow room buf e f
 read_done now flow room buf e f answer h unrefused is heard octets after =
     let items = read_answer now flow room e in
     let event = Read flow room in
     let same = ap piece_by heard ∙ piece_is e.rules (moment_of now e) flow room e.state in
     let are : piece_in (script_of now event e) [] ≡ octets_of items = octets_are e.rules (moment_of now e) flow room e.state in
     let read = subst (λ (xs : List ℕ). length xs ≤ room → take (length xs) buf ≡ xs) are octets (octets_fit e.rules (moment_of now e) flow room (settled now e).host) in
-    rw unrefused (subst (λ (a : Piece). ReadDoes a now items event buf e f) (sym is) (read_does h now items event buf e f same read after))
+    rw unrefused (subst (λ (a : Delivered). ReadDoes a now items event buf e f) (sym is) (read_does h now items event buf e f same read after))

@@ -17,12 +17,12 @@ use Rattle.dt_world_model.specs.Host.{Host, HostAct, Offer, Turn, least, next_tu
 use Rattle.dt_world_model.specs.Relay.{Expired, Goes, Left, Out, Parcel, Relay, enter, leave, with_outs}
 use Rattle.dt_world_model.specs.Script.{Ask, Done, Hand, Script, Tell, ◌>>=◌}
 use Rattle.dt_world_model.specs.Station.{Event, Station, do_turns, flush, flush_at, flush_entered, flush_links, flush_on, flush_turns, go_on, happen, pass_on, send_off, settle_station, station_event, station_with}
-use Rattle.dt_endpoint.specs.declared.noting.Heard.{Heard}
+use Rattle.dt_endpoint.specs.declared.noting.HeardAnswer.{HeardAnswer}
 use Rattle.dt_endpoint.specs.Acts.{answer_of}
 use Rattle.dt_endpoint.specs.Hearing.{heard_in, hears, piece_after, piece_in}
 
 pub record IsMute (r : Told) : Type 0 where
-  pub heard : (h : Heard) → hears r h ≡ h
+  pub heard : (h : HeardAnswer) → hears r h ≡ h
   pub piece : (b : List ℕ) → piece_after r b ≡ b
 
 abbrev pub Mute : {A : Type 0} → Script (Unit {0}) A → Type 0
@@ -37,9 +37,9 @@ mute_then (Tell r s) k h on = (h.0, mute_then s k h.1 on)
 mute_then (Ask host octets s) k h on = mute_then (s tt) k h on
 mute_then (Hand link parcel s) k h on = mute_then s k h on
 
-heard_mute : {A : Type 0} (s : Script (Unit {0}) A) (h : Heard) → Mute s → heard_in s h ≡ h
+heard_mute : {A : Type 0} (s : Script (Unit {0}) A) (h : HeardAnswer) → Mute s → heard_in s h ≡ h
 heard_mute (Done a) h m = refl
-heard_mute (Tell r s) h m = ap (λ (x : Heard). heard_in s x) (m.0.heard h) ∙ heard_mute s h m.1
+heard_mute (Tell r s) h m = ap (λ (x : HeardAnswer). heard_in s x) (m.0.heard h) ∙ heard_mute s h m.1
 heard_mute (Ask host octets s) h m = heard_mute (s tt) h m
 heard_mute (Hand link parcel s) h m = heard_mute s h m
 
@@ -49,7 +49,7 @@ piece_mute (Tell r s) b m = ap (λ (x : List ℕ). piece_in s x) (m.0.piece b) �
 piece_mute (Ask host octets s) b m = piece_mute (s tt) b m
 piece_mute (Hand link parcel s) b m = piece_mute s b m
 
-heard_then : {A B : Type 0} (s : Script (Unit {0}) A) (k : A → Script (Unit {0}) B) (h : Heard) → heard_in (s >>= k) h ≡ heard_in (k (answer_of s)) (heard_in s h)
+heard_then : {A B : Type 0} (s : Script (Unit {0}) A) (k : A → Script (Unit {0}) B) (h : HeardAnswer) → heard_in (s >>= k) h ≡ heard_in (k (answer_of s)) (heard_in s h)
 heard_then (Done a) k h = refl
 heard_then (Tell r s) k h = heard_then s k (hears r h)
 heard_then (Ask host octets s) k h = heard_then (s tt) k h
@@ -132,12 +132,12 @@ settle_mute p now st =
     mute_then (flush_links now links st.relay.outs) (λ outs. do_turns (work p now st.host) p now (station_with st.host (with_outs st.relay outs))) (flush_links_mute now links st.relay.outs) (λ outs. turns_mute (work p now st.host) p now (station_with st.host (with_outs st.relay outs)))
 
 -- WHAT IS HEARD OF AN EVENT is what it told itself
-pub event_heard : (p : Params) (now : ℕ) (e : Event (Unit {0})) (st : Station (Unit {0})) (h : Heard) → heard_in (station_event p now e st) h ≡ heard_in (happen p now e (answer_of (settle_station p now st))) h
+pub event_heard : (p : Params) (now : ℕ) (e : Event (Unit {0})) (st : Station (Unit {0})) (h : HeardAnswer) → heard_in (station_event p now e st) h ≡ heard_in (happen p now e (answer_of (settle_station p now st))) h
 event_heard p now e st h =
     let before = answer_of (settle_station p now st) in
     let during = happen p now e before in
     heard_then (settle_station p now st) (λ before. happen p now e before >>= λ after. settle_station p now after) h
-    ∙ ap (λ (x : Heard). heard_in (during >>= λ after. settle_station p now after) x) (heard_mute (settle_station p now st) h (settle_mute p now st))
+    ∙ ap (λ (x : HeardAnswer). heard_in (during >>= λ after. settle_station p now after) x) (heard_mute (settle_station p now st) h (settle_mute p now st))
     ∙ heard_then during (λ after. settle_station p now after) h
     ∙ heard_mute (settle_station p now (answer_of during)) (heard_in during h) (settle_mute p now (answer_of during))
 

@@ -22,14 +22,14 @@ use Rattle.dt_endpoint.specs.declared.answers.Ticked.{Ticked}
 use Rattle.dt_endpoint.specs.declared.answers.Ticked.TheVariants as ticked
 use Rattle.dt_endpoint.specs.declared.answers.Sent.{Sent}
 use Rattle.dt_endpoint.specs.declared.answers.Sent.TheVariants as sent
-use Rattle.dt_endpoint.specs.declared.answers.Arrived.{Arrived}
-use Rattle.dt_endpoint.specs.declared.answers.Arrived.TheVariants as arrived
-use Rattle.dt_endpoint.specs.declared.answers.Piece.{Piece}
+use Rattle.dt_endpoint.specs.declared.answers.Received.{Received}
+use Rattle.dt_endpoint.specs.declared.answers.Received.TheVariants as arrived
+use Rattle.dt_endpoint.specs.declared.answers.Delivered.{Delivered}
 use Rattle.dt_endpoint.specs.declared.answers.Routed.{Routed}
 use Rattle.dt_endpoint.specs.declared.answers.Routed.TheVariants as routed
-use Rattle.dt_endpoint.specs.declared.answers.Piece.TheVariants as piece
-use Rattle.dt_endpoint.specs.declared.noting.Heard.{Heard}
-use Rattle.dt_endpoint.specs.declared.noting.Heard.TheVariants as heard
+use Rattle.dt_endpoint.specs.declared.answers.Delivered.TheVariants as piece
+use Rattle.dt_endpoint.specs.declared.noting.HeardAnswer.{HeardAnswer}
+use Rattle.dt_endpoint.specs.declared.noting.HeardAnswer.TheVariants as heard
 use Rattle.dt_endpoint.specs.Acts.{answer_of, plain}
 use Rattle.dt_endpoint.specs.Endpoints.{Breaks, EndpointValue, after_event, moment_of, with_refused, with_route}
 
@@ -53,11 +53,11 @@ abbrev pub Ticks : Ticked → ℕ → EndpointValue → EndpointValue → Type 0
 Ticks answer now e f = Unless (first_refusal (tick_refusals e)) answer e f (TickDoes answer now e f)
 
 -- A DATAGRAM COMES. What it waited on the machine is taken off its life
-abbrev pub arrive_fault : ℕ → List ℕ → Option LayoutFault → Option Arrived
+abbrev pub arrive_fault : ℕ → List ℕ → Option LayoutFault → Option Received
 arrive_fault waited octets (Some fault) = Some (arrived.Bad fault)
 arrive_fault waited octets None = if nat_le (life_of octets) waited then Some arrived.Stale else None
 
-abbrev pub arrive_refusal : ℕ → List ℕ → ℕ → EndpointValue → Option Arrived
+abbrev pub arrive_refusal : ℕ → List ℕ → ℕ → EndpointValue → Option Received
 arrive_refusal link octets waited e =
     if e.spent then Some arrived.Spent
     else if has_link link e.state.relay.ins then arrive_fault waited octets (gram_fault octets)
@@ -67,11 +67,11 @@ abbrev pub arrive_event : ℕ → List ℕ → ℕ → Event (Unit {0})
 arrive_event link octets waited = Arrive link (plain (lowered waited octets))
 
 -- a datagram that is refused changes nothing but the count of these
-abbrev pub ArriveDoes : Arrived → ℕ → Event (Unit {0}) → EndpointValue → EndpointValue → Type 0
+abbrev pub ArriveDoes : Received → ℕ → Event (Unit {0}) → EndpointValue → EndpointValue → Type 0
 ArriveDoes arrived.NoMemory now event e f = Breaks now event e f
 ArriveDoes other now event e f = (other ≡ arrived.Done) × (f ≡ after_event now event e)
 
-abbrev pub Arrives : Arrived → ℕ → ℕ → List ℕ → ℕ → EndpointValue → EndpointValue → Type 0
+abbrev pub Arrives : Received → ℕ → ℕ → List ℕ → ℕ → EndpointValue → EndpointValue → Type 0
 Arrives answer now link octets waited e f = Unless (arrive_refusal link octets waited e) answer (with_refused e) f (ArriveDoes answer now (arrive_event link octets waited) e f)
 
 -- A ROUTE is added. Where there is no memory nothing changes, and the endpoint isn't spent: it is no event
@@ -112,7 +112,7 @@ sent_of (Some (refusal.Quiet until)) = sent.Quiet until
 sent_of (Some (refusal.Full free)) = sent.Full free
 
 -- the same, by what was heard
-abbrev pub sent_by : Heard → Sent
+abbrev pub sent_by : HeardAnswer → Sent
 sent_by (heard.Refused (refusal.Quiet until)) = sent.Quiet until
 sent_by (heard.Refused (refusal.Full free)) = sent.Full free
 sent_by other = sent.Done
@@ -126,7 +126,7 @@ abbrev pub Sends : Sent → ℕ → Flow → List ℕ → (begin end : Bool) →
 Sends answer now flow octets begin end e f = Unless (first_refusal (send_refusals flow octets e)) answer e f (SendDoes answer now (send_answer now flow octets begin end e) (Send flow octets begin end) e f)
 
 -- UNREAD OCTETS ARE READ, at most as many as there is room for
-abbrev pub read_refusals : Flow → ℕ → EndpointValue → List (Bool × Piece)
+abbrev pub read_refusals : Flow → ℕ → EndpointValue → List (Bool × Delivered)
 read_refusals flow room e =
     (e.spent, piece.Spent)
     ∷ (not (flow.to.0 == e.state.host.me) || (flow.from.0 == e.state.host.me), piece.BadFlow)
@@ -137,21 +137,21 @@ read_refusals flow room e =
 abbrev pub read_answer : ℕ → Flow → ℕ → EndpointValue → List Item
 read_answer now flow room e = (read_octets e.rules (moment_of now e) flow room (settled now e).host).0
 
-abbrev pub piece_of : ℕ → Option ItemPiece → Piece
+abbrev pub piece_of : ℕ → Option ItemPiece → Delivered
 piece_of len None = piece.Nothing
 piece_of len (Some told) = piece.Read len told.run told.begin told.end
 
 -- the same, by what was heard
-abbrev pub piece_by : Heard → Piece
+abbrev pub piece_by : HeardAnswer → Delivered
 piece_by (heard.Piece read) = piece.Read read.len read.run read.begin read.end
 piece_by other = piece.Nothing
 
 -- the buffer begins with the octets of the piece
-abbrev pub ReadDoes : Piece → ℕ → List Item → Event (Unit {0}) → List ℕ → EndpointValue → EndpointValue → Type 0
+abbrev pub ReadDoes : Delivered → ℕ → List Item → Event (Unit {0}) → List ℕ → EndpointValue → EndpointValue → Type 0
 ReadDoes piece.NoMemory now items event buf e f = Breaks now event e f
 ReadDoes other now items event buf e f =
     let octets = octets_of items in
     (other ≡ piece_of (length octets) (piece_told items)) × (take (length octets) buf ≡ octets) × (f ≡ after_event now event e)
 
-abbrev pub Reads : Piece → ℕ → Flow → (room : ℕ) → (buf : List ℕ) → EndpointValue → EndpointValue → Type 0
+abbrev pub Reads : Delivered → ℕ → Flow → (room : ℕ) → (buf : List ℕ) → EndpointValue → EndpointValue → Type 0
 Reads answer now flow room buf e f = Unless (first_refusal (read_refusals flow room e)) answer e f (ReadDoes answer now (read_answer now flow room e) (Read flow room) buf e f)

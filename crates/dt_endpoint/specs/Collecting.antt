@@ -4,8 +4,8 @@ use Rattle.dt_reports.specs.Told.{Told}
 use Rattle.dt_world_model.specs.Host.{Host}
 use Rattle.dt_world_model.specs.Relay.{Parcel}
 use Rattle.dt_world_model.specs.Script.{Script}
-use Rattle.dt_endpoint.specs.declared.noting.Heard.{Heard}
-use Rattle.dt_endpoint.specs.declared.noting.Heard.TheVariants as heard
+use Rattle.dt_endpoint.specs.declared.noting.HeardAnswer.{HeardAnswer}
+use Rattle.dt_endpoint.specs.declared.noting.HeardAnswer.TheVariants as heard
 use Rattle.dt_endpoint.specs.Acts.{Hands, OutFrameValue, Tells, acts_of, answer_of, frames_in, out_frame, reports_in}
 use Rattle.dt_endpoint.specs.Counts.{Counted, counts_act, counts_acts}
 use Rattle.dt_endpoint.specs.Hearing.{heard_in, hears, kept, piece_after, piece_in}
@@ -14,7 +14,7 @@ pub record Collected : Type 0 where
   pub frames : List OutFrameValue
   pub reports : List Told
   -- what was answered to the call that is under way
-  pub heard : Heard
+  pub heard : HeardAnswer
   pub piece : List ℕ
   pub counts : Counted
   pub failed : Bool

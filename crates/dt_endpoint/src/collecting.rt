@@ -1,7 +1,7 @@
 //! Who sees the events of an endpoint's station: it collects what leaves and what is reported.
 ghost use Rattle.std.specs.Prelude.{◌≡◌, ◌≤◌, [], IfOk, OnErr, OnOk, drop, false, option_map, option_to_list, ◌++◌};
 ghost use Rattle.dt_reports.specs.Told.{told};
-ghost use Rattle.dt_endpoint.specs.declared.noting.Heard.TheVariants.{Nothing};
+ghost use Rattle.dt_endpoint.specs.declared.noting.HeardAnswer.TheVariants.{Nothing};
 ghost use Rattle.dt_endpoint.specs.Acts.{plain};
 ghost use Rattle.dt_endpoint.specs.Collecting.{CollectFails, CollectHands, Same, begun, with_told};
 ghost use Rattle.dt_endpoint.specs.Counts.{counts_arrived, counts_refused, none_counted, with_flow};
@@ -9,9 +9,9 @@ ghost use Rattle.dt_world_model.specs.Tables.{look, same_flow};
 ghost use Rattle.dt_endpoint.specs.Hearing.{piece_after};
 
 use crate::counts::{Counts, Octets, more};
+use crate::followed_totals::FollowedTotals;
 use crate::frames::OutFrame;
-use crate::noting::{Heard, heard_after, kept_report};
-use crate::totals::Totals;
+use crate::noting::{HeardAnswer, heard_after, kept_report};
 use dt_host::Host;
 use dt_items::NoMemory;
 use dt_layout::{Frame, GramOctets};
@@ -29,11 +29,11 @@ pub struct Collector {
     alloc: Global,
     frames: VecDeque<OutFrame>,
     reports: VecDeque<Report<'static>>,
-    heard: Heard,
+    heard: HeardAnswer,
     /// The octets of the piece that was read.
     piece: Vec<u8>,
     counts: Counts,
-    totals: Totals,
+    totals: FollowedTotals,
     failed: bool,
 }
 
@@ -56,10 +56,10 @@ impl Collector {
             alloc,
             frames: VecDeque::new(alloc),
             reports: VecDeque::new(alloc),
-            heard: Heard::Nothing,
+            heard: HeardAnswer::Nothing,
             piece: Vec::new(alloc),
             counts: Counts::none(),
-            totals: Totals::new(alloc),
+            totals: FollowedTotals::new(alloc),
             failed: false,
         }
     }
@@ -68,11 +68,11 @@ impl Collector {
     pub fn begin(&mut self)
         ensures { self.new ≡ begun self.old }
     {
-        self.heard = Heard::Nothing;
+        self.heard = HeardAnswer::Nothing;
         self.piece.clear();
     }
 
-    pub fn heard(&self) -> Heard
+    pub fn heard(&self) -> HeardAnswer
         ensures { result ≡ self.now.heard }
     {
         self.heard

@@ -6,20 +6,20 @@ ghost use Rattle.dt_flow_model.specs.Keeping.{most_moment, octets_below};
 ghost use Rattle.dt_world_model.specs.Relay.{route_to};
 ghost use Rattle.dt_world_model.specs.Tables.{has_key, look, same_flow};
 ghost use Rattle.dt_station.specs.Events.{MayHappenHere, local_seen};
-ghost use Rattle.dt_endpoint.specs.declared.noting.Heard.TheVariants.{Nothing};
+ghost use Rattle.dt_endpoint.specs.declared.noting.HeardAnswer.TheVariants.{Nothing};
 ghost use Rattle.dt_layout.specs.Carried.{life_of};
 ghost use Rattle.dt_endpoint.specs.Calls.{AddsRoute, ArriveDoes, Arrives, arrive_event, arrive_refusal, Reads, Sends, Ticks, piece_by, sent_by};
 ghost use Rattle.dt_endpoint.specs.Endpoints.{EventEnds, capped, endpoint_wake, moment_of, opened, script_of, waiting_octets, with_followed};
 ghost use Rattle.dt_world_laws.specs.Counting.{octets_sent};
 ghost use Rattle.dt_endpoint.specs.Hearing.{heard_in, piece_in};
 
-use crate::answers::{Arrived, Piece, Routed, Sent, Ticked};
+use crate::answers::{Delivered, Received, Routed, Sent, Ticked};
 use crate::collecting::Collector;
 use crate::counts::{Counts, Octets};
 use crate::events::{collect_event, receive};
 use crate::frames::OutFrame;
 use crate::links::{Links, has_link};
-use crate::noting::Heard;
+use crate::noting::HeardAnswer;
 use dt_items::{MarkedOctets, NoMemory};
 use dt_layout::{Frame, GramOctets};
 use dt_reports::{Refusal, Report};
@@ -98,7 +98,12 @@ impl Endpoint {
 
     /// One event that brings no packet. What is heard of it is answered, and a piece that is read stands at
     /// the head of the buffer.
-    fn event(&mut self, now: u64, event: LocalEvent<'_>, buf: &mut [u8]) -> Result<Heard, NoMemory>
+    fn event(
+        &mut self,
+        now: u64,
+        event: LocalEvent<'_>,
+        buf: &mut [u8],
+    ) -> Result<HeardAnswer, NoMemory>
         requires unspent { self.old.spent ≡ false }
         requires may { MayHappenHere self.old.rules (moment_of now self.old) self.old.state (length buf.old) event }
         requires few { self.old.asked + octets_sent (local_seen (length buf.old) event) < octets_below }
@@ -123,7 +128,7 @@ impl Endpoint {
     }
 
     /// A datagram comes on a link, and has more life than it waited.
-    fn admit(&mut self, now: u64, link: u16, gram: GramOctets<'_>, waited: u32) -> Arrived
+    fn admit(&mut self, now: u64, link: u16, gram: GramOctets<'_>, waited: u32) -> Received
         requires unspent { self.old.spent ≡ false }
         requires life { waited < life_of gram.octets.now }
         ensures { ArriveDoes result now (arrive_event link gram.entry.octets.now waited) self.old self.new }
@@ -142,9 +147,9 @@ impl Endpoint {
         );
         if done.is_err() {
             self.spent = true;
-            return Arrived::NoMemory;
+            return Received::NoMemory;
         }
-        Arrived::Done
+        Received::Done
     }
 
     /// What is due at `now` is done: frames leave, go again or are given up, records are released. A tick
@@ -164,7 +169,7 @@ impl Endpoint {
     /// A datagram came on a link, and waited so many milliseconds on this machine until this call. They are
     /// taken off its life, beside the link's charge: rounded up, no old packet passes for a young one. It
     /// may be any octets. It is copied once.
-    pub fn arrive(&mut self, now: u64, link: u16, datagram: &[u8], waited: u32) -> Arrived
+    pub fn arrive(&mut self, now: u64, link: u16, datagram: &[u8], waited: u32) -> Received
         ensures { Arrives result now link datagram.now waited self.old self.new }
     {
         match self.check(link, datagram, waited) {
@@ -182,21 +187,21 @@ impl Endpoint {
         link: u16,
         datagram: &'a [u8],
         waited: u32,
-    ) -> Result<GramOctets<'a>, Arrived>
+    ) -> Result<GramOctets<'a>, Received>
         ensures refusal { result_err result ≡ arrive_refusal link datagram.now waited self.now }
         ensures unspent { OnOk result (self.now.spent ≡ false) }
         ensures same { IfOk result (λ gram. gram.octets.now ≡ datagram.now) }
         ensures life { IfOk result (λ gram. waited < life_of gram.octets.now) }
     {
         if self.spent {
-            return Err(Arrived::Spent);
+            return Err(Received::Spent);
         }
         if !has_link(link, &self.ins) {
-            return Err(Arrived::NoLink);
+            return Err(Received::NoLink);
         }
         match GramOctets::read(datagram) {
-            Err(fault) => Err(Arrived::Bad { fault }),
-            Ok(gram) if gram.life() <= waited => Err(Arrived::Stale),
+            Err(fault) => Err(Received::Bad { fault }),
+            Ok(gram) if gram.life() <= waited => Err(Received::Stale),
             Ok(gram) => Ok(gram),
         }
     }
@@ -259,22 +264,22 @@ impl Endpoint {
     /// Unread octets of a flow from another node to this one are read, at most as many as the buffer
     /// holds. They are of one message, and none between them is lost: where octets before them are, or may
     /// be, the piece has a run mark. After them the buffer may have been written to.
-    pub fn read(&mut self, now: u64, flow: Flow, buf: &mut [u8]) -> Piece
+    pub fn read(&mut self, now: u64, flow: Flow, buf: &mut [u8]) -> Delivered
         ensures { Reads result now flow (length buf.old) buf.new self.old self.new }
     {
         if self.spent {
-            return Piece::Spent;
+            return Delivered::Spent;
         }
         let me = self.station.host().me();
         if flow.to != me || flow.from == me {
-            return Piece::BadFlow;
+            return Delivered::BadFlow;
         }
         if buf.is_empty() {
-            return Piece::NoRoom;
+            return Delivered::NoRoom;
         }
         match self.event(now, LocalEvent::Read { flow }, buf) {
             Ok(heard) => piece_by(heard),
-            Err(NoMemory) => Piece::NoMemory,
+            Err(NoMemory) => Delivered::NoMemory,
         }
     }
 
@@ -429,14 +434,14 @@ fn octets_in(event: &LocalEvent<'_>) -> u64
 }
 
 /// The answer to a send, by what was heard.
-fn sent_by(heard: Heard) -> Sent
+fn sent_by(heard: HeardAnswer) -> Sent
     ensures { result ≡ sent_by heard }
 {
     match heard {
-        Heard::Refused {
+        HeardAnswer::Refused {
             fault: Refusal::Quiet { until },
         } => Sent::Quiet { until },
-        Heard::Refused {
+        HeardAnswer::Refused {
             fault: Refusal::Full { free },
         } => Sent::Full { free },
         _ => Sent::Done,
@@ -444,16 +449,16 @@ fn sent_by(heard: Heard) -> Sent
 }
 
 /// The answer to a read, by what was heard.
-fn piece_by(heard: Heard) -> Piece
+fn piece_by(heard: HeardAnswer) -> Delivered
     ensures { result ≡ piece_by heard }
 {
     match heard {
-        Heard::Piece(read) => Piece::Read {
+        HeardAnswer::Piece(read) => Delivered::Read {
             len: read.len,
             run: read.run,
             begin: read.begin,
             end: read.end,
         },
-        _ => Piece::Nothing,
+        _ => Delivered::Nothing,
     }
 }

@@ -7,14 +7,14 @@ mod collecting;
 mod counts;
 mod endpoints;
 mod events;
+mod followed_totals;
 mod frames;
 mod guards;
 mod laws;
 mod links;
 mod noting;
-mod totals;
 
-pub use answers::{Arrived, Piece, Routed, Sent, Ticked};
+pub use answers::{Delivered, Received, Routed, Sent, Ticked};
 pub use counts::{Counts, Octets};
 pub use dt_station::{InLink, OutLink, Route};
 pub use endpoints::Endpoint;

@@ -9,7 +9,7 @@ use dt_reports::{Matter, Refusal, Report};
 
 /// What the station answered to the call, as far as it was reported.
 #[derive(Clone, Copy, Debug, PartialEq, Eq)]
-pub enum Heard {
+pub enum HeardAnswer {
     /// Nothing yet.
     Nothing,
     /// A send was taken.
@@ -23,27 +23,27 @@ pub enum Heard {
 }
 
 /// What is heard after a report.
-pub fn heard_after(report: &Report<'_>, before: Heard) -> Heard
+pub fn heard_after(report: &Report<'_>, before: HeardAnswer) -> HeardAnswer
     ensures { result ≡ hears (told report.now) before }
 {
     heard_by(report.matter(), before)
 }
 
 /// What is heard after this was said.
-fn heard_by(matter: Matter<'_>, before: Heard) -> Heard
+fn heard_by(matter: Matter<'_>, before: HeardAnswer) -> HeardAnswer
     ensures { result ≡ hears_by (matter_seen matter.entry) before }
 {
     match matter {
-        Matter::Taken { .. } => Heard::Took,
-        Matter::Refused { fault, .. } => Heard::Refused { fault },
-        Matter::NothingRead { .. } => Heard::NoPiece,
+        Matter::Taken { .. } => HeardAnswer::Took,
+        Matter::Refused { fault, .. } => HeardAnswer::Refused { fault },
+        Matter::NothingRead { .. } => HeardAnswer::NoPiece,
         Matter::ReadOut {
             run,
             begin,
             end,
             octets,
             ..
-        } => Heard::Piece(Piece {
+        } => HeardAnswer::Piece(Piece {
             len: octets.len(),
             begin,
             end,

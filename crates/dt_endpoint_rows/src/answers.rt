@@ -1,6 +1,6 @@
 //! The answers of calls that are refused, or that come too late.
 use crate::fixtures::{BACK, FLOW, STANDARD, hands_over, open};
-use dt_endpoint::{Arrived, Endpoint, Piece, Route, Routed, Sent, Ticked};
+use dt_endpoint::{Delivered, Endpoint, Received, Route, Routed, Sent, Ticked};
 use dt_fingerprint::fingerprint;
 use dt_items::NoMemory;
 use dt_layout::LayoutFault;
@@ -12,12 +12,12 @@ fn sends(one: &mut Endpoint, flow: Flow, octets: &[u8], answer: Sent) -> bool {
 }
 
 /// Whether octets that come at 0 on a link are answered so.
-fn comes(one: &mut Endpoint, link: u16, octets: &[u8], answer: Arrived) -> bool {
+fn comes(one: &mut Endpoint, link: u16, octets: &[u8], answer: Received) -> bool {
     one.arrive(0, link, octets, 0) == answer
 }
 
 /// Whether a read at 0 of so many octets, at most four, answers so.
-fn reads(one: &mut Endpoint, flow: Flow, most: usize, answer: Piece) -> bool {
+fn reads(one: &mut Endpoint, flow: Flow, most: usize, answer: Delivered) -> bool {
     let mut buf = [0; 4];
     most <= 4 && one.read(0, flow, &mut buf[..most]) == answer
 }
@@ -39,13 +39,13 @@ fn refused_sends_say_why(rt: HostRuntime) -> Result<(), NoMemory> {
 #[test]
 fn refused_datagrams_and_reads_say_why(rt: HostRuntime) -> Result<(), NoMemory> {
     let mut one = open(&rt, rt.alloc(), 1, 2, None)?;
-    let short = Arrived::Bad {
+    let short = Received::Bad {
         fault: LayoutFault::Short { len: 3 },
     };
-    assert!(rt; comes(&mut one, 8, b"", Arrived::NoLink));
+    assert!(rt; comes(&mut one, 8, b"", Received::NoLink));
     assert!(rt; comes(&mut one, 7, b"abc", short));
-    assert!(rt; reads(&mut one, FLOW, 4, Piece::BadFlow));
-    assert!(rt; reads(&mut one, BACK, 0, Piece::NoRoom));
+    assert!(rt; reads(&mut one, FLOW, 4, Delivered::BadFlow));
+    assert!(rt; reads(&mut one, BACK, 0, Delivered::NoRoom));
     assert!(rt; one.counts().refused == 2 && one.counts().came == 0);
     Ok(())
 }
@@ -61,7 +61,7 @@ fn full_and_stale_are_told(rt: HostRuntime) -> Result<(), NoMemory> {
     let mut one = open(&rt, rt.alloc(), 1, 2, None)?;
     let mut two = open(&rt, rt.alloc(), 2, 1, None)?;
     assert!(rt; fills(&mut one));
-    assert!(rt; hands_over(&mut one, &mut two, 1_000_000, Arrived::Stale));
+    assert!(rt; hands_over(&mut one, &mut two, 1_000_000, Received::Stale));
     Ok(())
 }
 
@@ -88,8 +88,8 @@ fn moments_never_go_back(rt: HostRuntime) -> Result<(), NoMemory> {
 fn is_spent(one: &mut Endpoint) -> bool {
     one.is_spent()
         && sends(one, FLOW, b"abc", Sent::Spent)
-        && comes(one, 7, b"abc", Arrived::Spent)
-        && reads(one, BACK, 4, Piece::Spent)
+        && comes(one, 7, b"abc", Received::Spent)
+        && reads(one, BACK, 4, Delivered::Spent)
         && one.tick(9) == Ticked::Spent
         && one.wake().is_none()
         && one.add_route(Route { to: 9, link: 5 }) == Routed::Spent

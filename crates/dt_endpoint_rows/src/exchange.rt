@@ -1,6 +1,6 @@
 //! Octets go from one endpoint to another, and come back as settled.
 use crate::fixtures::{FLOW, hands_over, open};
-use dt_endpoint::{Arrived, Counts, Endpoint, Octets, Piece, Sent, Ticked};
+use dt_endpoint::{Counts, Delivered, Endpoint, Octets, Received, Sent, Ticked};
 use dt_items::NoMemory;
 use dt_reports::Report;
 
@@ -44,7 +44,7 @@ fn sends_hello(one: &mut Endpoint) -> bool {
 /// Whether `hello` is read whole.
 fn reads_hello(two: &mut Endpoint) -> bool {
     let mut buf = [0; 16];
-    let piece = Piece::Read {
+    let piece = Delivered::Read {
         len: 5,
         run: true,
         begin: true,
@@ -56,13 +56,13 @@ fn reads_hello(two: &mut Endpoint) -> bool {
 /// Whether nothing is there to be read.
 fn reads_nothing(two: &mut Endpoint) -> bool {
     let mut buf = [0; 16];
-    two.read(12, FLOW, &mut buf) == Piece::Nothing
+    two.read(12, FLOW, &mut buf) == Delivered::Nothing
 }
 
 /// Whether the one frame that waits is taken by the other.
 fn answers(one: &mut Endpoint, two: &mut Endpoint) -> bool {
     match two.next_frame() {
-        Some(out) => out.link() == 5 && one.arrive(215, 7, out.octets(), 0) == Arrived::Done,
+        Some(out) => out.link() == 5 && one.arrive(215, 7, out.octets(), 0) == Received::Done,
         None => false,
     }
 }
@@ -85,7 +85,7 @@ fn octets_go_from_one_to_the_other(rt: HostRuntime) -> Result<(), NoMemory> {
     let mut two = open(&rt, rt.alloc(), 2, 1, None)?;
     assert!(rt; one.follow(&FLOW).is_ok() && two.totals(&FLOW).is_none());
     assert!(rt; sends_hello(&mut one) && one.first_frame().is_some());
-    assert!(rt; hands_over(&mut one, &mut two, 3, Arrived::Done));
+    assert!(rt; hands_over(&mut one, &mut two, 3, Received::Done));
     assert!(rt; reads_hello(&mut two) && reads_nothing(&mut two));
     assert!(rt; two.wake() == Some(4212) && two.tick(15) == Ticked::Done);
     assert!(rt; answers(&mut one, &mut two) && two.next_frame().is_none());

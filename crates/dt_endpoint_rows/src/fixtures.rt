@@ -1,5 +1,5 @@
 //! Endpoints of two nodes.
-use dt_endpoint::{Arrived, Endpoint, InLink, Links, OutLink, Route};
+use dt_endpoint::{Endpoint, InLink, Links, OutLink, Received, Route};
 use dt_items::NoMemory;
 use dt_units::{Flow, NodeId, Params};
 use std::alloc::Global;
@@ -61,7 +61,7 @@ pub fn open(
 }
 
 /// Whether a frame waits for node 2 that the other takes so, where it waited so many ms on the machine.
-pub fn hands_over(one: &mut Endpoint, two: &mut Endpoint, waited: u32, answer: Arrived) -> bool {
+pub fn hands_over(one: &mut Endpoint, two: &mut Endpoint, waited: u32, answer: Received) -> bool {
     match one.next_frame() {
         Some(out) => out.to() == 2 && two.arrive(12, 7, out.octets(), waited) == answer,
         None => false,

@@ -5,11 +5,11 @@ use Rattle.dt_calls_model.specs.Messages.{Piece}
 use Rattle.dt_messages.specs.Joining.{JoinerValue}
 use Rattle.dt_endpoint.specs.Endpoints.{EndpointValue}
 use Rattle.dt_inbox.specs.Inboxes.{Ends, JoinerTakes, Joins, Reading, ReadsOn, ReadsPiece}
-use Rattle.dt_inbox.specs.declared.inboxes.Taken.{Taken}
-use Rattle.dt_inbox.specs.declared.inboxes.Taken.TheVariants as taken
+use Rattle.dt_inbox.specs.declared.inboxes.TakenMessage.{TakenMessage}
+use Rattle.dt_inbox.specs.declared.inboxes.TakenMessage.TheVariants as taken
 
 module _ (now : ℕ) (flow : Flow) (room : ℕ) where
-  pub piece_read : (answer : Option Taken) (p : Piece) (j k : JoinerValue) {e f : EndpointValue} → ReadsPiece now flow room p e f → Joins answer p j k → Reading answer now flow room j k e f
+  pub piece_read : (answer : Option TakenMessage) (p : Piece) (j k : JoinerValue) {e f : EndpointValue} → ReadsPiece now flow room p e f → Joins answer p j k → Reading answer now flow room j k e f
   piece_read None p j k reads joins = record { piece = p; reads = reads; unfinished = joins.0; after = joins.1 }
   piece_read (Some (taken.Whole message)) p j k reads joins = record { piece = p; reads = reads; ends = joins }
   piece_read (Some taken.Lost) p j k reads joins = record { piece = p; reads = reads; ends = joins }
@@ -21,7 +21,7 @@ module _ (now : ℕ) (flow : Flow) (room : ℕ) where
   piece_read (Some taken.Unfinished) p j k reads joins = absurd joins
 
   -- the last read ends the taking
-  pub ended : (answer : Taken) (most n : ℕ) {j : JoinerValue} (k l : JoinerValue) {e : EndpointValue} (f g : EndpointValue) → ReadsOn now flow room j e n k f → Ends answer now flow room k l f g → JoinerTakes answer most now flow room j l e g
+  pub ended : (answer : TakenMessage) (most n : ℕ) {j : JoinerValue} (k l : JoinerValue) {e : EndpointValue} (f g : EndpointValue) → ReadsOn now flow room j e n k f → Ends answer now flow room k l f g → JoinerTakes answer most now flow room j l e g
   ended (taken.Whole message) most n k l f g on ends = record { count = n; before = k; host = f; reads = on; ends = ends }
   ended taken.Lost most n k l f g on ends = record { count = n; before = k; host = f; reads = on; ends = ends }
   ended taken.Nothing most n k l f g on ends = record { count = n; before = k; host = f; reads = on; ends = ends }

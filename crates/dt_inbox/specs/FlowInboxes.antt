@@ -6,8 +6,8 @@ use Rattle.dt_messages.specs.Joining.{is_idle}
 use Rattle.dt_world_model.specs.Tables.{has_key, same_flow}
 use Rattle.dt_endpoint.specs.Endpoints.{EndpointValue}
 use Rattle.dt_inbox.specs.Inboxes.{InboxValue, Takes, new_inbox}
-use Rattle.dt_inbox.specs.declared.inboxes.Taken.{Taken}
-use Rattle.dt_inbox.specs.declared.inboxes.Taken.TheVariants as taken
+use Rattle.dt_inbox.specs.declared.inboxes.TakenMessage.{TakenMessage}
+use Rattle.dt_inbox.specs.declared.inboxes.TakenMessage.TheVariants as taken
 
 pub record FlowInboxValue : Type 0 where
   pub inbox : InboxValue
@@ -50,14 +50,14 @@ abbrev pub without : Flow → FlowInboxesValue → FlowInboxesValue
 without flow v = without_place (position (is_of flow) v.inboxes) v
 
 -- A MESSAGE IS TAKEN of a flow, which stays due where more of it may be unread
-abbrev pub stays_due : Taken → Bool
+abbrev pub stays_due : TakenMessage → Bool
 stays_due (taken.Whole message) = true
 stays_due taken.Lost = true
 stays_due taken.Unfinished = true
 stays_due taken.NoRoom = true
 stays_due other = false
 
-pub record TakesHere (answer : Flow × Taken) (now room : ℕ) (i k : FlowInboxValue) (e f : EndpointValue) : Type 0 where
+pub record TakesHere (answer : Flow × TakenMessage) (now room : ℕ) (i k : FlowInboxValue) (e f : EndpointValue) : Type 0 where
   pub flow : answer.0 ≡ i.inbox.flow
   pub takes : Takes answer.1 now room i.inbox k.inbox e f
   pub due : k.due ≡ stays_due answer.1
@@ -74,7 +74,7 @@ abbrev pub counted_on : (all before after : ℕ) → ℕ
 counted_on all before after = min (all + (after - before)) (2 ^ 64 - 1)
 
 -- the first flow that is due, and the others stay as they are
-pub record TakesFrom (answer : Flow × Taken) (now room : ℕ) (v w : FlowInboxesValue) (e f : EndpointValue) : Type 0 where
+pub record TakesFrom (answer : Flow × TakenMessage) (now room : ℕ) (v w : FlowInboxesValue) (e f : EndpointValue) : Type 0 where
   pub place : ℕ
   pub before : FlowInboxValue
   pub after : FlowInboxValue
@@ -83,12 +83,12 @@ pub record TakesFrom (answer : Flow × Taken) (now room : ℕ) (v w : FlowInboxe
   pub takes : TakesHere answer now room before after e f
   pub others : w ≡ record v { inboxes = inboxes_after place after f v.inboxes; dropped = counted_on v.dropped before.inbox.joiner.dropped after.inbox.joiner.dropped }
 
-abbrev pub TakesAny : Option (Flow × Taken) → (now room : ℕ) → (v w : FlowInboxesValue) → (e f : EndpointValue) → Type 0
+abbrev pub TakesAny : Option (Flow × TakenMessage) → (now room : ℕ) → (v w : FlowInboxesValue) → (e f : EndpointValue) → Type 0
 TakesAny None now room v w e f = (position is_due v.inboxes ≡ None) × (w ≡ v) × (f ≡ e)
 TakesAny (Some answer) now room v w e f = TakesFrom answer now room v w e f
 
 -- FLOW BY FLOW: a flow without a message is passed over, and the next one is asked.
-abbrev pub passes_on : Taken → Bool
+abbrev pub passes_on : TakenMessage → Bool
 passes_on taken.Nothing = true
 passes_on taken.Unfinished = true
 passes_on taken.BadFlow = true
@@ -98,7 +98,7 @@ passes_on taken.NoMemory = false
 passes_on taken.Spent = false
 passes_on taken.NoRoom = false
 
-abbrev pub asks_on : Option (Flow × Taken) → Bool
+abbrev pub asks_on : Option (Flow × TakenMessage) → Bool
 asks_on None = false
 asks_on (Some answer) = passes_on answer.1
 
@@ -111,10 +111,10 @@ most_passes = 65536
 
 pub data PassesOn (now : ℕ) (v : FlowInboxesValue) (e : EndpointValue) : ℕ → FlowInboxesValue → EndpointValue → Type 0 where
   no_pass : PassesOn now v e 0 v e
-  one_more : {n : ℕ} {w x : FlowInboxesValue} {f g : EndpointValue} (answer : Flow × Taken) → PassesOn now v e n w f → TakesFrom answer now piece_room w x f g → passes_on answer.1 ≡ true → PassesOn now v e (n + 1) x g
+  one_more : {n : ℕ} {w x : FlowInboxesValue} {f g : EndpointValue} (answer : Flow × TakenMessage) → PassesOn now v e n w f → TakesFrom answer now piece_room w x f g → passes_on answer.1 ≡ true → PassesOn now v e (n + 1) x g
 
 -- The last flow that is asked has a message or wants memory, or none is due; or as many as may be were passed over.
-pub record TakesNext (answer : Option (Flow × Taken)) (now : ℕ) (v x : FlowInboxesValue) (e g : EndpointValue) : Type 0 where
+pub record TakesNext (answer : Option (Flow × TakenMessage)) (now : ℕ) (v x : FlowInboxesValue) (e g : EndpointValue) : Type 0 where
   pub count : ℕ
   pub before : FlowInboxesValue
   pub host : EndpointValue

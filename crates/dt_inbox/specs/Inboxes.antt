@@ -5,10 +5,10 @@ use Rattle.dt_calls_model.specs.Messages as messages
 use Rattle.dt_messages.specs.Joining.{JoinerValue, joiner_after, lost, message_with, new_joiner}
 use Rattle.dt_endpoint.specs.Calls.{Reads}
 use Rattle.dt_endpoint.specs.Endpoints.{EndpointValue}
-use Rattle.dt_endpoint.specs.declared.answers.Piece.{Piece}
-use Rattle.dt_endpoint.specs.declared.answers.Piece.TheVariants as piece
-use Rattle.dt_inbox.specs.declared.inboxes.Taken.{Taken}
-use Rattle.dt_inbox.specs.declared.inboxes.Taken.TheVariants as taken
+use Rattle.dt_endpoint.specs.declared.answers.Delivered.{Delivered}
+use Rattle.dt_endpoint.specs.declared.answers.Delivered.TheVariants as piece
+use Rattle.dt_inbox.specs.declared.inboxes.TakenMessage.{TakenMessage}
+use Rattle.dt_inbox.specs.declared.inboxes.TakenMessage.TheVariants as taken
 
 pub record InboxValue : Type 0 where
   pub flow : Flow
@@ -36,23 +36,23 @@ pub record GoesOn (now : ℕ) (flow : Flow) (room : ℕ) (j k : JoinerValue) (e 
   pub after : k ≡ joiner_after j piece
 
 -- the piece ends the reads: the message is whole, or there was no memory for the piece
-abbrev pub EndsAs : Taken → messages.Piece → (j k : JoinerValue) → Type 0
+abbrev pub EndsAs : TakenMessage → messages.Piece → (j k : JoinerValue) → Type 0
 EndsAs (taken.Whole message) p j k = (message_with j p ≡ Some message) × (k ≡ joiner_after j p)
 EndsAs other p j k = k ≡ lost j
 
-pub record EndsAt (answer : Taken) (now : ℕ) (flow : Flow) (room : ℕ) (j k : JoinerValue) (e f : EndpointValue) : Type 0 where
+pub record EndsAt (answer : TakenMessage) (now : ℕ) (flow : Flow) (room : ℕ) (j k : JoinerValue) (e f : EndpointValue) : Type 0 where
   pub piece : messages.Piece
   pub reads : ReadsPiece now flow room piece e f
   pub ends : EndsAs answer piece j k
 
 -- or it finds none
-pub record FindsNone (answer : Piece) (now : ℕ) (flow : Flow) (room : ℕ) (j k : JoinerValue) (e f : EndpointValue) : Type 0 where
+pub record FindsNone (answer : Delivered) (now : ℕ) (flow : Flow) (room : ℕ) (j k : JoinerValue) (e f : EndpointValue) : Type 0 where
   pub buf : List ℕ
   pub reads : Reads answer now flow room buf e f
   pub same : k ≡ j
 
 -- THE LAST READ, by what is answered
-abbrev pub Ends : Taken → (now : ℕ) → Flow → (room : ℕ) → (j k : JoinerValue) → (e f : EndpointValue) → Type 0
+abbrev pub Ends : TakenMessage → (now : ℕ) → Flow → (room : ℕ) → (j k : JoinerValue) → (e f : EndpointValue) → Type 0
 Ends (taken.Whole message) now flow room j k e f = EndsAt (taken.Whole message) now flow room j k e f
 Ends taken.Lost now flow room j k e f = EndsAt taken.Lost now flow room j k e f
 Ends taken.Nothing now flow room j k e f = FindsNone piece.Nothing now flow room j k e f
@@ -63,14 +63,14 @@ Ends taken.NoRoom now flow room j k e f = FindsNone piece.NoRoom now flow room j
 Ends taken.Unfinished now flow room j k e f = ⊥
 
 -- a piece, by what is answered once it has gone on the joiner
-abbrev pub Joins : Option Taken → messages.Piece → (j k : JoinerValue) → Type 0
+abbrev pub Joins : Option TakenMessage → messages.Piece → (j k : JoinerValue) → Type 0
 Joins None p j k = (message_with j p ≡ None) × (k ≡ joiner_after j p)
 Joins (Some (taken.Whole message)) p j k = EndsAs (taken.Whole message) p j k
 Joins (Some taken.Lost) p j k = EndsAs taken.Lost p j k
 Joins (Some other) p j k = ⊥
 
 -- one read
-abbrev pub Reading : Option Taken → (now : ℕ) → Flow → (room : ℕ) → (j k : JoinerValue) → (e f : EndpointValue) → Type 0
+abbrev pub Reading : Option TakenMessage → (now : ℕ) → Flow → (room : ℕ) → (j k : JoinerValue) → (e f : EndpointValue) → Type 0
 Reading None now flow room j k e f = GoesOn now flow room j k e f
 Reading (Some answer) now flow room j k e f = Ends answer now flow room j k e f
 
@@ -80,7 +80,7 @@ pub data ReadsOn (now : ℕ) (flow : Flow) (room : ℕ) (j : JoinerValue) (e : E
   one_more : {n : ℕ} {k l : JoinerValue} {f g : EndpointValue} → ReadsOn now flow room j e n k f → GoesOn now flow room k l f g → ReadsOn now flow room j e (n + 1) l g
 
 -- A MESSAGE IS TAKEN: reads that go on, and a last one.
-pub record TakesIn (answer : Taken) (now : ℕ) (flow : Flow) (room : ℕ) (j k : JoinerValue) (e g : EndpointValue) : Type 0 where
+pub record TakesIn (answer : TakenMessage) (now : ℕ) (flow : Flow) (room : ℕ) (j k : JoinerValue) (e g : EndpointValue) : Type 0 where
   pub count : ℕ
   pub before : JoinerValue
   pub host : EndpointValue
@@ -88,10 +88,10 @@ pub record TakesIn (answer : Taken) (now : ℕ) (flow : Flow) (room : ℕ) (j k 
   pub ends : Ends answer now flow room before k host g
 
 -- or as many reads that go on as were allowed
-abbrev pub JoinerTakes : Taken → (most now : ℕ) → Flow → (room : ℕ) → (j k : JoinerValue) → (e g : EndpointValue) → Type 0
+abbrev pub JoinerTakes : TakenMessage → (most now : ℕ) → Flow → (room : ℕ) → (j k : JoinerValue) → (e g : EndpointValue) → Type 0
 JoinerTakes taken.Unfinished most now flow room j k e g = ReadsOn now flow room j e most k g
 JoinerTakes other most now flow room j k e g = TakesIn other now flow room j k e g
 
-pub record Takes (answer : Taken) (now room : ℕ) (i k : InboxValue) (e g : EndpointValue) : Type 0 where
+pub record Takes (answer : TakenMessage) (now room : ℕ) (i k : InboxValue) (e g : EndpointValue) : Type 0 where
   pub flow : k.flow ≡ i.flow
   pub takes : JoinerTakes answer most_reads now i.flow room i.joiner k.joiner e g

@@ -3,8 +3,8 @@ use Rattle.std.specs.Prelude.{◌≡◌, ℕ, nat_le, Bool, List, ◌++◌, drop
 use Rattle.dt_units.specs.declared.endpoints.Flow.{Flow}
 use Rattle.dt_endpoint.specs.Endpoints.{EndpointValue}
 use Rattle.dt_inbox.specs.FlowInboxes.{FlowInboxesValue, TakesNext, no_inboxes}
-use Rattle.dt_inbox.specs.declared.inboxes.Taken.{Taken}
-use Rattle.dt_inbox.specs.declared.inboxes.Taken.TheVariants as taken
+use Rattle.dt_inbox.specs.declared.inboxes.TakenMessage.{TakenMessage}
+use Rattle.dt_inbox.specs.declared.inboxes.TakenMessage.TheVariants as taken
 use Rattle.dt_inbox.specs.declared.mailboxes.Handed.{Handed}
 use Rattle.dt_inbox.specs.declared.mailboxes.Handed.TheVariants as handed
 use Rattle.dt_inbox.specs.declared.mailboxes.Letter.{Letter}
@@ -37,7 +37,7 @@ abbrev pub HandsOut : Handed → (before after : List ℕ) → (m n : MailboxVal
 HandsOut answer before after m n = (answer ≡ handed_of m.waiting before) × (after ≡ buffer_after m.waiting before) × (n ≡ record m { waiting = waiting_after m.waiting before })
 
 -- A MESSAGE IS FETCHED, or it is told why not.
-abbrev pub letter_in : Flow → Taken → Result Letter Handed
+abbrev pub letter_in : Flow → TakenMessage → Result Letter Handed
 letter_in flow (taken.Whole message) = Ok (record { flow = flow; message = message })
 letter_in flow taken.Lost = Err (handed.Lost flow)
 letter_in flow taken.Nothing = Err handed.More
@@ -47,12 +47,12 @@ letter_in flow taken.NoRoom = Err handed.More
 letter_in flow taken.NoMemory = Err handed.NoMemory
 letter_in flow taken.Spent = Err handed.Spent
 
-abbrev pub letter_of : Option (Flow × Taken) → Result Letter Handed
+abbrev pub letter_of : Option (Flow × TakenMessage) → Result Letter Handed
 letter_of None = Err handed.Nothing
 letter_of (Some answer) = letter_in answer.0 answer.1
 
 pub record FetchesAs (found : Result Letter Handed) (now : ℕ) (v w : FlowInboxesValue) (e f : EndpointValue) : Type 0 where
-  pub answer : Option (Flow × Taken)
+  pub answer : Option (Flow × TakenMessage)
   pub is : found ≡ letter_of answer
   pub takes : TakesNext answer now v w e f
 

@@ -3,7 +3,7 @@ ghost use Rattle.std.specs.Prelude.{◌≡◌, length, OnErr, OnOk};
 ghost use Rattle.std.specs.List.{position};
 ghost use Rattle.dt_inbox.specs.FlowInboxes.{FlowInboxValue, FlowInboxesValue, TakesAny, TakesHere, TakesNext, heard, is_due, is_of, is_over, no_inboxes, passes_on, stays_due, without};
 
-use crate::inboxes::{Inbox, Taken};
+use crate::inboxes::{Inbox, TakenMessage};
 use dt_endpoint::Endpoint;
 use dt_items::NoMemory;
 use dt_units::Flow;
@@ -36,7 +36,7 @@ impl FlowInbox {
         endpoint: &mut Endpoint,
         now: u64,
         buf: &mut [u8],
-    ) -> (Flow, Taken)
+    ) -> (Flow, TakenMessage)
         ensures { TakesHere result now (length buf.old) self.old self.new endpoint.old endpoint.new }
     {
         let taken = self.inbox.take(alloc, endpoint, now, buf);
@@ -106,7 +106,7 @@ impl FlowInboxes {
         endpoint: &mut Endpoint,
         now: u64,
         buf: &mut [u8],
-    ) -> Option<(Flow, Taken)>
+    ) -> Option<(Flow, TakenMessage)>
         ensures { TakesAny result now (length buf.old) self.old self.new endpoint.old endpoint.new }
     {
         let place = self.first_due()?;
@@ -130,7 +130,7 @@ impl FlowInboxes {
         alloc: Global,
         endpoint: &mut Endpoint,
         now: u64,
-    ) -> Option<(Flow, Taken)>
+    ) -> Option<(Flow, TakenMessage)>
         ensures { TakesNext result now self.old self.new endpoint.old endpoint.new }
     {
         let mut buf = [0; ROOM];
@@ -193,21 +193,31 @@ fn is_due(inbox: &FlowInbox) -> bool
 }
 
 /// Whether more of a flow may be unread.
-fn stays_due(taken: &Taken) -> bool
+fn stays_due(taken: &TakenMessage) -> bool
     ensures { result ≡ stays_due taken.now }
 {
     match taken {
-        Taken::Whole(_) | Taken::Lost | Taken::Unfinished | Taken::NoRoom => true,
-        Taken::Nothing | Taken::NoMemory | Taken::Spent | Taken::BadFlow => false,
+        TakenMessage::Whole(_)
+        | TakenMessage::Lost
+        | TakenMessage::Unfinished
+        | TakenMessage::NoRoom => true,
+        TakenMessage::Nothing
+        | TakenMessage::NoMemory
+        | TakenMessage::Spent
+        | TakenMessage::BadFlow => false,
     }
 }
 
 /// Whether the next flow is asked.
-fn passes_on(taken: &Taken) -> bool
+fn passes_on(taken: &TakenMessage) -> bool
     ensures { result ≡ passes_on taken.now }
 {
     match taken {
-        Taken::Nothing | Taken::Unfinished | Taken::BadFlow => true,
-        Taken::Whole(_) | Taken::Lost | Taken::NoMemory | Taken::Spent | Taken::NoRoom => false,
+        TakenMessage::Nothing | TakenMessage::Unfinished | TakenMessage::BadFlow => true,
+        TakenMessage::Whole(_)
+        | TakenMessage::Lost
+        | TakenMessage::NoMemory
+        | TakenMessage::Spent
+        | TakenMessage::NoRoom => false,
     }
 }

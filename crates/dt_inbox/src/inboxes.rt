@@ -3,7 +3,7 @@ ghost use Rattle.std.specs.Prelude.{◌≡◌, length};
 ghost use Rattle.dt_inbox.specs.Inboxes.{InboxValue, Joins, Reading, Takes, new_inbox};
 ghost use Rattle.dt_messages.specs.Joining.{is_idle, piece_with};
 
-use dt_endpoint::{Endpoint, Piece};
+use dt_endpoint::{Delivered, Endpoint};
 use dt_items::NoMemory;
 use dt_messages::{Joiner, Marks, Message};
 use dt_units::Flow;
@@ -15,7 +15,7 @@ const MOST_READS: u32 = 65_536;
 
 /// The answer where a message is to be taken.
 #[derive(Drop)]
-pub enum Taken {
+pub enum TakenMessage {
     /// A message is whole. More may be unread.
     Whole(Message),
     /// Nothing is unread, and no message is whole.
@@ -71,7 +71,7 @@ impl Inbox {
         endpoint: &mut Endpoint,
         now: u64,
         buf: &mut [u8],
-    ) -> Taken
+    ) -> TakenMessage
         ensures { Takes result now (length buf.old) self.old self.new endpoint.old endpoint.new }
     {
         for _ in 0..MOST_READS {
@@ -79,7 +79,7 @@ impl Inbox {
                 return taken;
             }
         }
-        Taken::Unfinished
+        TakenMessage::Unfinished
     }
 
     /// One read. Nothing is answered where a piece was read that makes no message whole.
@@ -89,37 +89,37 @@ impl Inbox {
         endpoint: &mut Endpoint,
         now: u64,
         buf: &mut [u8],
-    ) -> Option<Taken>
+    ) -> Option<TakenMessage>
         ensures room { length buf.new ≡ length buf.old }
         ensures flow { self.new.flow ≡ self.old.flow }
         ensures reads { Reading result now self.old.flow (length buf.old) self.old.joiner self.new.joiner endpoint.old endpoint.new }
     {
         match endpoint.read(now, self.flow, buf) {
-            Piece::Read {
+            Delivered::Read {
                 len,
                 run,
                 begin,
                 end,
             } => self.join(alloc, Marks { run, begin, end }, &buf[..len]),
-            Piece::Nothing => Some(Taken::Nothing),
-            Piece::NoMemory => Some(Taken::NoMemory),
-            Piece::Spent => Some(Taken::Spent),
-            Piece::BadFlow => Some(Taken::BadFlow),
-            Piece::NoRoom => Some(Taken::NoRoom),
+            Delivered::Nothing => Some(TakenMessage::Nothing),
+            Delivered::NoMemory => Some(TakenMessage::NoMemory),
+            Delivered::Spent => Some(TakenMessage::Spent),
+            Delivered::BadFlow => Some(TakenMessage::BadFlow),
+            Delivered::NoRoom => Some(TakenMessage::NoRoom),
         }
     }
 
     /// A piece that was read goes on what was begun.
-    fn join(&mut self, alloc: Global, marks: Marks, octets: &[u8]) -> Option<Taken>
+    fn join(&mut self, alloc: Global, marks: Marks, octets: &[u8]) -> Option<TakenMessage>
         ensures flow { self.new.flow ≡ self.old.flow }
         ensures joins { Joins result (piece_with marks octets.now) self.old.joiner self.new.joiner }
     {
         match self.joiner.join(alloc, marks, octets) {
-            Ok(Some(message)) => Some(Taken::Whole(message)),
+            Ok(Some(message)) => Some(TakenMessage::Whole(message)),
             Ok(None) => None,
             Err(NoMemory) => {
                 self.joiner.lose();
-                Some(Taken::Lost)
+                Some(TakenMessage::Lost)
             }
         }
     }

@@ -7,5 +7,5 @@ mod mailboxes;
 
 pub use dt_messages::Message;
 pub use flow_inboxes::FlowInboxes;
-pub use inboxes::{Inbox, Taken};
+pub use inboxes::{Inbox, TakenMessage};
 pub use mailboxes::{Handed, Mailbox};

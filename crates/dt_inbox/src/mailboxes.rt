@@ -4,7 +4,7 @@ ghost use Rattle.dt_inbox.specs.FlowInboxes.{heard};
 ghost use Rattle.dt_inbox.specs.Mailboxes.{Fetches, HandsOut, MailboxValue, TakesInto, letter_of, new_mailbox};
 
 use crate::flow_inboxes::FlowInboxes;
-use crate::inboxes::Taken;
+use crate::inboxes::TakenMessage;
 use dt_endpoint::Endpoint;
 use dt_items::NoMemory;
 use dt_messages::Message;
@@ -137,17 +137,20 @@ impl Mailbox {
 }
 
 /// A message, or why there is none.
-fn letter_of(taken: Option<(Flow, Taken)>) -> Result<Letter, Handed>
+fn letter_of(taken: Option<(Flow, TakenMessage)>) -> Result<Letter, Handed>
     ensures { result ≡ letter_of taken }
 {
     let Some((flow, taken)) = taken else {
         return Err(Handed::Nothing);
     };
     match taken {
-        Taken::Whole(message) => Ok(Letter { flow, message }),
-        Taken::Lost => Err(Handed::Lost { flow }),
-        Taken::Nothing | Taken::Unfinished | Taken::BadFlow | Taken::NoRoom => Err(Handed::More),
-        Taken::NoMemory => Err(Handed::NoMemory),
-        Taken::Spent => Err(Handed::Spent),
+        TakenMessage::Whole(message) => Ok(Letter { flow, message }),
+        TakenMessage::Lost => Err(Handed::Lost { flow }),
+        TakenMessage::Nothing
+        | TakenMessage::Unfinished
+        | TakenMessage::BadFlow
+        | TakenMessage::NoRoom => Err(Handed::More),
+        TakenMessage::NoMemory => Err(Handed::NoMemory),
+        TakenMessage::Spent => Err(Handed::Spent),
     }
 }

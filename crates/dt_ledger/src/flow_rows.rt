@@ -8,7 +8,7 @@ ghost use Rattle.dt_ledger.specs.Rows.{settle_at};
 
 use crate::given_octets::GivenOctets;
 use crate::gives::GivenRows;
-use crate::moments::Instant;
+use crate::optional_moments::Instant;
 use crate::read_counts::ReadCounts;
 use crate::taken_rows::TakenRows;
 use dt_flow_model::{Fate, Taken};

@@ -12,7 +12,7 @@ ghost use Rattle.dt_ledger.specs.Rows.{settle_at};
 
 use crate::flow_rows::FlowRows;
 use crate::given_octets::GivenOctets;
-use crate::moments::Instant;
+use crate::optional_moments::Instant;
 use dt_flow_model::{Fate, Taken};
 use dt_items::{MarkedOctets, NoMemory};
 use dt_reports::Totals;

@@ -3,7 +3,7 @@ ghost use Rattle.std.specs.Prelude.{◌≡◌, None, Some};
 ghost use Rattle.dt_flow_model.specs.Ledger.{is_open, is_open_in, is_unsent, open_row};
 ghost use Rattle.dt_ledger.specs.Rows.{with_fate};
 
-use crate::moments::{Instant, Moment};
+use crate::optional_moments::{Instant, OptionalMoment};
 use dt_flow_model::{Fate, Taken};
 use dt_items::Item;
 use std::marker::Model;
@@ -19,7 +19,7 @@ pub fn is_open(fate: Fate) -> bool
 /// A row of the ledger for an octet that a flow took, in 16 octets.
 #[derive(Drop)]
 pub struct TakenRow {
-    first: Moment,
+    first: OptionalMoment,
     life: u32,
     octet: u8,
     begin: bool,
@@ -43,7 +43,7 @@ impl TakenRow {
         ensures { result ≡ open_row life None item }
     {
         TakenRow {
-            first: Moment::none(),
+            first: OptionalMoment::none(),
             life,
             octet: item.octet,
             begin: item.begin,
@@ -98,6 +98,6 @@ impl TakenRow {
     pub fn note_first(&mut self, at: Instant)
         ensures { self.new ≡ record self.old { first = Some at.milliseconds } }
     {
-        self.first = Moment::at(at);
+        self.first = OptionalMoment::at(at);
     }
 }

@@ -4,7 +4,7 @@ ghost use Rattle.dt_flow_model.specs.Ledger.{first_unsent, is_open, is_open_in, 
 ghost use Rattle.dt_ledger.specs.Rows.{IsPassed, NoneBelow, fates_in, settle_at, waits_in};
 
 use crate::fate_counts::FateCounts;
-use crate::moments::Instant;
+use crate::optional_moments::Instant;
 use crate::progress::{Passed, Progress};
 use crate::taken_row::{TakenRow, is_open};
 use dt_flow_model::{Fate, Taken};

@@ -169,7 +169,7 @@ fn put_flow_and_two<K: Sink>(
 
 /// The octets that a line names: those of a flow from a number on.
 #[derive(Clone, Copy)]
-struct Span {
+struct OctetRange {
     flow: dt_units::Flow,
     number: u32,
     length: u32,
@@ -179,7 +179,7 @@ struct Span {
 fn put_span<K: Sink>(
     line: &LogLine<'_>,
     name: &'static str,
-    span: Span,
+    span: OctetRange,
     last: &'static str,
     out: &mut K,
 ) -> Result<(), Failed>
@@ -287,9 +287,9 @@ pub fn write_line<K: Sink>(line: &LogLine<'_>, out: &mut K) -> Result<(), Failed
     lines! { line;
         Took { flow, count } => put_flow_and_number(line, "took", flow, count, out),
         Sent { flow, number, length, drf, begin, end } =>
-            put_span(line, "sent", Span { flow, number, length }, letters_sent(drf, begin, end), out),
+            put_span(line, "sent", OctetRange { flow, number, length }, letters_sent(drf, begin, end), out),
         Resent { flow, number, length, drf, begin, end } =>
-            put_span(line, "resent", Span { flow, number, length }, letters_sent(drf, begin, end), out),
+            put_span(line, "resent", OctetRange { flow, number, length }, letters_sent(drf, begin, end), out),
         Met { flow, number } => put_flow_and_number(line, "met", flow, number, out),
         Uncertain { flow, count } => put_flow_and_number(line, "uncertain", flow, count, out),
         Released { flow, sending } => put_flow_and_word(line, "released", flow, record_name(sending), out),
@@ -297,7 +297,7 @@ pub fn write_line<K: Sink>(line: &LogLine<'_>, out: &mut K) -> Result<(), Failed
         Acked { flow, number, window } => put_flow_and_two(line, "acked", flow, (number, window), out),
         Replied { flow, number, window } => put_flow_and_two(line, "replied", flow, (number, window), out),
         Accepted { flow, number, length, run } =>
-            put_span(line, "accepted", Span { flow, number, length }, run_name(run), out),
+            put_span(line, "accepted", OctetRange { flow, number, length }, run_name(run), out),
         Dropped { flow, number } => put_flow_and_number(line, "dropped", flow, number, out),
         Closing { flow, number } => put_flow_and_number(line, "closing", flow, number, out),
         Settled { flow, count, window } => put_flow_and_two(line, "settled", flow, (count, window), out),

@@ -1,6 +1,6 @@
 -- Datagrams that were taken out of a socket and not yet handed over.
 use Rattle.std.specs.Prelude.{ℕ, ◌+◌, ◌≤◌, ◌≡◌, ◌&&◌, Bool, nat_lt, nat_le, min, List, [], ◌∷◌, ◌++◌, length, take, slice_range}
-use Rattle.dt_machine.specs.declared.backlogs.Arrival.{Arrival}
+use Rattle.dt_machine.specs.declared.backlogs.ReceivedDatagram.{ReceivedDatagram}
 use Rattle.dt_machine.specs.declared.backlogs.Place.{Place}
 
 -- a datagram that waits
@@ -40,7 +40,7 @@ kept w b = record { waiting = b.waiting ++ w ∷ []; places = b.places + 1; octe
 
 -- Of those that wait the first one is handed over: its first octets, as many as the buffer had room for,
 -- now stand first in it.
-pub record HandsOver (arrival : Arrival) (room : ℕ) (buf : List ℕ) (before after : List Waiting) : Type 0 where
+pub record HandsOver (arrival : ReceivedDatagram) (room : ℕ) (buf : List ℕ) (before after : List Waiting) : Type 0 where
   pub first : Waiting
   pub waited : before ≡ first ∷ after
   pub link : arrival.link ≡ first.link

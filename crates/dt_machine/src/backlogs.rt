@@ -24,7 +24,7 @@ pub struct Place {
 
 /// A datagram that was handed over.
 #[derive(Clone, Copy, Debug, PartialEq, Eq)]
-pub struct Arrival {
+pub struct ReceivedDatagram {
     pub link: u16,
     /// How many of its octets stand first in the buffer.
     pub count: usize,
@@ -117,7 +117,7 @@ impl Backlog {
     }
 
     /// Hands the first datagram over. A longer one is cut to the buffer. None where none waits.
-    pub fn next(&mut self, buf: &mut [u8]) -> Option<Arrival>
+    pub fn next(&mut self, buf: &mut [u8]) -> Option<ReceivedDatagram>
         ensures link { IfSome result (λ a. a.link ≤ 255) }
         ensures within { IfSome result (λ a. a.count ≤ length buf.old) }
         ensures same_room { length buf.new ≡ length buf.old }
@@ -129,7 +129,7 @@ impl Backlog {
         let count = octets.len().min(buf.len());
         buf[..count].copy_from_slice(&octets[..count]);
         self.pass_over();
-        Some(Arrival {
+        Some(ReceivedDatagram {
             link: place.link,
             count,
             empty: place.empty,

@@ -42,7 +42,7 @@ const MOST_SOON: u32 = 1024;
 
 /// When a take began, and until when it waits, in nanoseconds.
 #[derive(Clone, Copy)]
-pub struct Span {
+pub struct WaitSpan {
     begun: u64,
     until: u64,
 }
@@ -201,7 +201,7 @@ impl Intake {
 
     /// Whether a take may sleep at first: the last datagram came soon, so that one is likely to end the
     /// sleep, and a sleep is far shorter than the take.
-    fn may_sleep(&self, span: Span) -> bool {
+    fn may_sleep(&self, span: WaitSpan) -> bool {
         self.haste.came_soon() && span.until.saturating_sub(span.begun) >= SLEEPY
     }
 
@@ -210,7 +210,7 @@ impl Intake {
         &mut self,
         socket: &Socket<'_, R>,
         peers: &[Peer],
-        span: Span,
+        span: WaitSpan,
         buf: &mut [u8],
     ) -> io::Result<Option<(u64, u16, usize)>>
         requires { All (λ p. p.link ≤ 255) peers.now }
@@ -334,7 +334,7 @@ impl Intake {
             return Ok(Some(found));
         }
         let until = begun.saturating_add(u64::from(wait_ms) * MILLISECOND);
-        let span = Span { begun, until };
+        let span = WaitSpan { begun, until };
         if self.haste.is_brisk() || !self.may_sleep(span) {
             let look = self.look_soon(socket, begun, buf);
             if look != Look::Empty {

@@ -4,7 +4,6 @@
 #![tactic(auto)]
 
 mod backlogs;
-mod counts;
 mod hastes;
 mod intakes;
 mod machine_clock;
@@ -15,8 +14,9 @@ mod sockets;
 mod udp_wire;
 mod uptime;
 mod waits;
+mod wire_counts;
 
-pub use backlogs::{Arrival, Backlog};
+pub use backlogs::{Backlog, ReceivedDatagram};
 pub use hastes::Haste;
 pub use machine_clock::MachineClock;
 pub use moments::Moments;

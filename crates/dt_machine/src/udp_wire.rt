@@ -3,12 +3,12 @@ ghost use Rattle.std.specs.Prelude.{ℕ, ◌≡◌, ◌≤◌, None, Some, false
 ghost use Rattle.dt_machine.specs.Waits.{may_have_waited};
 ghost use Rattle.dt_machine.specs.Wires.{uncalled};
 
-use crate::counts::Counts;
 use crate::intakes::Intake;
 use crate::moments::Moments;
 use crate::peers::address_of;
 use crate::sockets::Socket;
 use crate::waits::may_have_waited;
+use crate::wire_counts::WireCounts;
 use dt_edges::{Address, Failed, Peer, Wire};
 use dt_items::NoMemory;
 use std::alloc::Global;
@@ -32,7 +32,7 @@ pub struct UdpWire<'a, R> {
     intake: Intake,
     local: Option<Address>,
     peers: Vec<Peer>,
-    counts: Counts,
+    counts: WireCounts,
 }
 
 impl<'a, R: Net + time::Clock> UdpWire<'a, R> {
@@ -48,7 +48,7 @@ impl<'a, R: Net + time::Clock> UdpWire<'a, R> {
             intake: Intake::new(alloc)?,
             local: None,
             peers: Vec::with_capacity(alloc, PEERS)?,
-            counts: Counts {
+            counts: WireCounts {
                 opens: 0,
                 last_wait: None,
                 takes: 0,

@@ -5,8 +5,8 @@ use Rattle.dt_make.specs.Kinds.{kind_of, copies_of, lines_of}
 use Rattle.dt_make.specs.Lines.{line_text}
 use Rattle.dt_make.specs.Rounds.{message, send_text, round_lines}
 use Rattle.dt_make.specs.Schedules.{copies_before, round_text}
-use Rattle.dt_make.specs.declared.kinds.Kind.{Kind}
-use Rattle.dt_make.specs.declared.kinds.Kind.TheVariants.{Plain, Lost, Twice}
+use Rattle.dt_make.specs.declared.round_kinds.RoundKind.{RoundKind}
+use Rattle.dt_make.specs.declared.round_kinds.RoundKind.TheVariants.{Plain, Lost, Twice}
 
 pub x_starts : 1 ≡ x_after 0
 unfolding x_after
@@ -28,7 +28,7 @@ pub round_is : (i draw c : ℕ) → draw ≡ draw_at i → c ≡ copies_before i
 round_is i draw c d e = ap₂ (round_lines i) d e
 
 -- a round in the parts in which the code puts it
-pub round_parts : (i draw c length : ℕ) (kind : Kind) → length ≡ length_of draw → kind ≡ kind_of draw → round_lines i draw c ≡ send_text (message i length) ++ (flat_map line_text (lines_of kind c) ++ codes "read 1:10>2:20 65536\n")
+pub round_parts : (i draw c length : ℕ) (kind : RoundKind) → length ≡ length_of draw → kind ≡ kind_of draw → round_lines i draw c ≡ send_text (message i length) ++ (flat_map line_text (lines_of kind c) ++ codes "read 1:10>2:20 65536\n")
 round_parts i draw c length kind l k =
     sym (ap₂ (λ n what. send_text (message i n) ++ (flat_map line_text (lines_of what c) ++ codes "read 1:10>2:20 65536\n")) l k)
 
@@ -36,11 +36,11 @@ pub no_copies : 0 ≡ copies_before 0
 unfolding copies_before
 no_copies = refl
 
-pub copies_go_on : (i draw c more : ℕ) (kind : Kind) → draw ≡ draw_at i → c ≡ copies_before i → kind ≡ kind_of draw → more ≡ copies_of kind → c + more ≡ copies_before (i + 1)
+pub copies_go_on : (i draw c more : ℕ) (kind : RoundKind) → draw ≡ draw_at i → c ≡ copies_before i → kind ≡ kind_of draw → more ≡ copies_of kind → c + more ≡ copies_before (i + 1)
 unfolding copies_before
 copies_go_on i draw c more kind d e k m = rw add-one (ap₂ (λ a b. a + b) e (m ∙ ap copies_of (k ∙ ap kind_of d)))
 
-pub copies_few : (kind : Kind) → copies_of kind ≤ 3
+pub copies_few : (kind : RoundKind) → copies_of kind ≤ 3
 copies_few Plain = omega arith
 copies_few Lost = omega arith
 copies_few Twice = omega arith

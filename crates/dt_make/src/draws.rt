@@ -2,9 +2,9 @@
 ghost use Rattle.std.specs.Prelude.{◌≡◌, ◌<◌};
 ghost use Rattle.dt_make.specs.Draws as draws;
 ghost use Rattle.dt_make.specs.Kinds.{kind_of};
-ghost use Rattle.dt_make.specs.declared.kinds.Kind.{Kind};
+ghost use Rattle.dt_make.specs.declared.round_kinds.RoundKind.{RoundKind};
 
-use crate::kinds::Kind;
+use crate::round_kinds::RoundKind;
 
 /// The next number of the generator.
 pub fn next_x(x: u32) -> u32
@@ -27,13 +27,13 @@ impl Draw {
     }
 
     /// What happens in the round.
-    pub fn kind(self) -> Kind
+    pub fn kind(self) -> RoundKind
         ensures { result ≡ kind_of self.0 }
     {
         match self.0 % 4 {
-            2 => Kind::Lost,
-            3 => Kind::Twice,
-            _ => Kind::Plain,
+            2 => RoundKind::Lost,
+            3 => RoundKind::Twice,
+            _ => RoundKind::Plain,
         }
     }
 

@@ -8,8 +8,8 @@ ghost use Rattle.dt_edges.specs.Sinks.{Puts};
 ghost use Rattle.dt_make.specs.Schedules.{make_text, most_rounds, round_text};
 
 mod draws;
-mod kinds;
-mod lines;
+mod round_kinds;
+mod round_lines;
 mod rounds;
 
 use crate::draws::{Draw, next_x};

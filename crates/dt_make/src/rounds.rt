@@ -9,9 +9,9 @@ ghost use Rattle.dt_make.specs.Rounds.{message, send_text, round_lines};
 ghost use Rattle.dt_make.specs.Schedules.{most_rounds};
 
 use crate::draws::Draw;
-use crate::kinds::Kind;
-use crate::lines::Line::{Arrive, Lose, Pass, Tick};
-use crate::lines::put_lines;
+use crate::round_kinds::RoundKind;
+use crate::round_lines::RoundLine::{Arrive, Lose, Pass, Tick};
+use crate::round_lines::put_lines;
 use dt_edges::{Failed, Sink, put_all};
 use dt_log::put_hex;
 
@@ -49,14 +49,14 @@ fn put_send<K: Sink>(number: u32, length: u32, out: &mut K) -> Result<(), Failed
 }
 
 /// Puts what happens in a round whose first copy has this number.
-fn put_events<K: Sink>(kind: Kind, first: u32, out: &mut K) -> Result<(), Failed>
+fn put_events<K: Sink>(kind: RoundKind, first: u32, out: &mut K) -> Result<(), Failed>
     requires { first ≤ 3 * most_rounds }
     ensures { Puts K.sight (flat_map line_text (lines_of kind first)) result out.old out.new }
 {
     let (second, third) = (first + 1, first + 2);
     match kind {
-        Kind::Plain => put_lines(&[Pass(10), Arrive(first), Pass(10), Arrive(second)], out),
-        Kind::Lost => put_lines(
+        RoundKind::Plain => put_lines(&[Pass(10), Arrive(first), Pass(10), Arrive(second)], out),
+        RoundKind::Lost => put_lines(
             &[
                 Lose(first),
                 Pass(500),
@@ -68,7 +68,7 @@ fn put_events<K: Sink>(kind: Kind, first: u32, out: &mut K) -> Result<(), Failed
             ],
             out,
         ),
-        Kind::Twice => put_lines(
+        RoundKind::Twice => put_lines(
             &[
                 Pass(10),
                 Arrive(first),
@@ -84,7 +84,7 @@ fn put_events<K: Sink>(kind: Kind, first: u32, out: &mut K) -> Result<(), Failed
 
 /// Puts what happens in a round, and the line by which its message is read.
 #[tactic(auto, using(dt_edges::proofs::Puts::two_parts))]
-fn put_rest<K: Sink>(kind: Kind, first: u32, out: &mut K) -> Result<(), Failed>
+fn put_rest<K: Sink>(kind: RoundKind, first: u32, out: &mut K) -> Result<(), Failed>
     requires { first ≤ 3 * most_rounds }
     ensures { Puts K.sight (flat_map line_text (lines_of kind first) ++ codes "read 1:10>2:20 65536\n") result out.old out.new }
 {

@@ -1,6 +1,6 @@
 //! Whole messages taken from two endpoints that hand their frames to each other.
-use dt_endpoint::{Arrived, Endpoint, InLink, Links, OutLink, Route, Sent};
-use dt_inbox::{FlowInboxes, Handed, Inbox, Mailbox, Taken};
+use dt_endpoint::{Endpoint, InLink, Links, OutLink, Received, Route, Sent};
+use dt_inbox::{FlowInboxes, Handed, Inbox, Mailbox, TakenMessage};
 use dt_items::NoMemory;
 use dt_reports::Report;
 use dt_units::{Flow, NodeId, Params, Rules};
@@ -57,20 +57,20 @@ fn open(rt: &impl Abort, alloc: Global, me: u32, other: u32) -> Result<Endpoint,
 fn hands_over(rt: &impl Abort, one: &mut Endpoint, two: &mut Endpoint) {
     for _ in 0..20 {
         if let Some(out) = one.next_frame() {
-            assert_eq!(rt; two.arrive(12, 7, out.octets(), 0), Arrived::Done);
+            assert_eq!(rt; two.arrive(12, 7, out.octets(), 0), Received::Done);
         }
     }
 }
 
-fn is_message(answer: &Taken, octets: &[u8], gap: bool) -> bool {
+fn is_message(answer: &TakenMessage, octets: &[u8], gap: bool) -> bool {
     match answer {
-        Taken::Whole(message) => message.octets.as_slice() == octets && message.gap == gap,
+        TakenMessage::Whole(message) => message.octets.as_slice() == octets && message.gap == gap,
         _ => false,
     }
 }
 
-fn is_nothing(answer: &Taken) -> bool {
-    matches!(answer, Taken::Nothing)
+fn is_nothing(answer: &TakenMessage) -> bool {
+    matches!(answer, TakenMessage::Nothing)
 }
 
 // The second message comes in three frames, and is read in pieces of 64 octets.
@@ -145,10 +145,13 @@ fn refused_reads_are_told(rt: HostRuntime) -> Result<(), NoMemory> {
     let mut inbox = Inbox::new(FLOW, None);
     let own = matches!(
         inbox.take(rt.alloc(), &mut one, 0, &mut [0; 4]),
-        Taken::BadFlow
+        TakenMessage::BadFlow
     );
     assert!(rt; own);
-    let full = matches!(inbox.take(rt.alloc(), &mut two, 0, &mut []), Taken::NoRoom);
+    let full = matches!(
+        inbox.take(rt.alloc(), &mut two, 0, &mut []),
+        TakenMessage::NoRoom
+    );
     assert!(rt; full);
     Ok(())
 }

@@ -40,8 +40,8 @@ use Rattle.dt_calls_laws.specs.Sent.{SendLeaves}
 use Rattle.dt_calls_model.specs.CallFacts.{rows_gone}
 use Rattle.dt_endpoint.specs.declared.answers.Ticked.{Ticked}
 use Rattle.dt_endpoint.specs.declared.answers.Sent.{Sent}
-use Rattle.dt_endpoint.specs.declared.answers.Arrived.{Arrived}
-use Rattle.dt_endpoint.specs.declared.answers.Piece.{Piece}
+use Rattle.dt_endpoint.specs.declared.answers.Received.{Received}
+use Rattle.dt_endpoint.specs.declared.answers.Delivered.{Delivered}
 use Rattle.dt_network.proofs.Accounts.{IsSpentAt, Account, Sure, calm_account, joined_front, lost_account, read_account, restart_account, spent_event, spent_here, spent_restart, spent_still, taking_account, unspent_here, none_spent}
 use Rattle.dt_network.proofs.Picking.{read_of_taken}
 use Rattle.dt_network.specs.Books.{Chosen, none}
@@ -218,7 +218,7 @@ module _ (setup : Setup) (net : Network) (w : World) (limits : IsWithinLimits w.
   none_read_if true items h = h
   none_read_if false items h = refl
 
-  read_accounts : (now : ℕ) (flow : Flow) (room : ℕ) (buf : List ℕ) (answer : Piece) → KeepsTime setup net n now → IsFlow flow → ReadsTo answer now flow room buf e f → flow.to.0 ≡ n → Accounts (CallRead now flow room buf answer) (Read flow room)
+  read_accounts : (now : ℕ) (flow : Flow) (room : ℕ) (buf : List ℕ) (answer : Delivered) → KeepsTime setup net n now → IsFlow flow → ReadsTo answer now flow room buf e f → flow.to.0 ≡ n → Accounts (CallRead now flow room buf answer) (Read flow room)
   read_accounts now flow room buf answer time is k to g joined sure = by_flow (same_flow flow g) refl
     where
       here_is : same_flow flow g ≡ true → (n == g.to.0) ≡ true
@@ -241,7 +241,7 @@ module _ (setup : Setup) (net : Network) (w : World) (limits : IsWithinLimits w.
       by_flow true y = by_answer y k.answered
       by_flow false o = calm_account w (event_at w n (Read flow room) (Some s.at)).1 net after g IsNothing [] joined (read_is_calm w n s.at s.there limits h.facts flow room is to g o) refl (spent_event net n e f g found k.unspent) refl sure
 
-  by_read : (now : ℕ) (flow : Flow) (room : ℕ) (buf : List ℕ) (answer : Piece) → KeepsTime setup net n now → IsFlow flow → ReadIsRefused answer buf e f ⊎ ReadsTo answer now flow room buf e f → Next (CallRead now flow room buf answer)
+  by_read : (now : ℕ) (flow : Flow) (room : ℕ) (buf : List ℕ) (answer : Delivered) → KeepsTime setup net n now → IsFlow flow → ReadIsRefused answer buf e f ⊎ ReadsTo answer now flow room buf e f → Next (CallRead now flow room buf answer)
   by_read now flow room buf answer time is (inl k) = still (CallRead now flow room buf answer) stays (λ g b. refl) (same_is_still e f k.same) (λ g. refl) (λ g. none_read_if (same_flow flow g) (items_read answer buf) k.none)
   by_read now flow room buf answer time is (inr k) =
       let to = k.to ∙ named k.unspent in
@@ -251,7 +251,7 @@ module _ (setup : Setup) (net : Network) (w : World) (limits : IsWithinLimits w.
       (λ g b. refl) (λ g rows. refl)
 
   -- the copy of a datagram, and that it comes in time
-  by_copy : (now link : ℕ) (datagram : List ℕ) (waited : ℕ) (answer : Arrived) → KeepsTime setup net n now → Admits now link datagram waited e f → (i : IsInTime net e link datagram waited) → IsUnderWay w.copies i.flight → Next (CallArrive now link datagram waited answer)
+  by_copy : (now link : ℕ) (datagram : List ℕ) (waited : ℕ) (answer : Received) → KeepsTime setup net n now → Admits now link datagram waited e f → (i : IsInTime net e link datagram waited) → IsUnderWay w.copies i.flight → Next (CallArrive now link datagram waited answer)
   by_copy now link datagram waited answer time k i under =
       let c = under.copy in
       let on_link : c.link ≡ link = ap (λ (g : OutFrameValue). g.link) under.frame ∙ i.on_link in
@@ -271,7 +271,7 @@ module _ (setup : Setup) (net : Network) (w : World) (limits : IsWithinLimits w.
       (calm_event call (late_event c waited) k.unspent (late_calm w n s.at s.there limits h.facts c waited late) (λ g. refl) (λ g. refl))
       (λ g b. refl) (λ g rows. free_books (script_of now (bare_event (late_event c waited)) e) g (placed w n).life (occasion w n (late_event c waited)).items rows (arrival_free e.rules (moment_of now e) c.link (bare_parcel (lower_parcel waited c.parcel)) e.state))
 
-  by_arrival : (now link : ℕ) (datagram : List ℕ) (waited : ℕ) (answer : Arrived) → KeepsTime setup net n now → (arrive_refusal link datagram waited e ≡ None → IsInTime net e link datagram waited) → IsStill e f ⊎ Admits now link datagram waited e f → Next (CallArrive now link datagram waited answer)
+  by_arrival : (now link : ℕ) (datagram : List ℕ) (waited : ℕ) (answer : Received) → KeepsTime setup net n now → (arrive_refusal link datagram waited e ≡ None → IsInTime net e link datagram waited) → IsStill e f ⊎ Admits now link datagram waited e f → Next (CallArrive now link datagram waited answer)
   by_arrival now link datagram waited answer time owed (inl same) = still (CallArrive now link datagram waited answer) stays (λ g b. refl) same (λ g. refl) (λ g. refl)
   by_arrival now link datagram waited answer time owed (inr k) =
       let i = owed k.clear in

@@ -22,10 +22,10 @@ use Rattle.dt_endpoint.specs.declared.answers.Ticked.{Ticked}
 use Rattle.dt_endpoint.specs.declared.answers.Ticked.TheVariants as ticked
 use Rattle.dt_endpoint.specs.declared.answers.Sent.{Sent}
 use Rattle.dt_endpoint.specs.declared.answers.Sent.TheVariants as sent
-use Rattle.dt_endpoint.specs.declared.answers.Arrived.{Arrived}
-use Rattle.dt_endpoint.specs.declared.answers.Arrived.TheVariants as arrived
-use Rattle.dt_endpoint.specs.declared.answers.Piece.{Piece}
-use Rattle.dt_endpoint.specs.declared.answers.Piece.TheVariants as piece
+use Rattle.dt_endpoint.specs.declared.answers.Received.{Received}
+use Rattle.dt_endpoint.specs.declared.answers.Received.TheVariants as arrived
+use Rattle.dt_endpoint.specs.declared.answers.Delivered.{Delivered}
+use Rattle.dt_endpoint.specs.declared.answers.Delivered.TheVariants as piece
 use Rattle.dt_endpoint.specs.declared.answers.Routed.{Routed}
 use Rattle.dt_endpoint.specs.declared.answers.Routed.TheVariants as routed
 use Rattle.dt_world_model.specs.declared.links.Route.{Route}
@@ -213,11 +213,11 @@ send_comes_to answer now flow octets begin end e f h =
         inr (record { unspent = first.0; from = nat_is flow.from.0 e.state.host.me (not_false (flow.from.0 == e.state.host.me) parts.0); to = parts.1; ends = ends answer k.1; taken = λ items. taken_is answer (send_answer now flow octets begin end e) items now (Send flow octets begin end) e f k.1 })
 
 -- A READ
-abbrev ReadsNone : Piece → Type 0
+abbrev ReadsNone : Delivered → Type 0
 ReadsNone (piece.Read len run begin end) = ⊥
 ReadsNone other = Unit {0}
 
-none_read : (answer : Piece) (buf : List ℕ) → ReadsNone answer → items_read answer buf ≡ []
+none_read : (answer : Delivered) (buf : List ℕ) → ReadsNone answer → items_read answer buf ≡ []
 none_read (piece.Read len run begin end) buf h = absurd h
 none_read piece.Nothing buf h = refl
 none_read piece.NoMemory buf h = refl
@@ -225,20 +225,20 @@ none_read piece.Spent buf h = refl
 none_read piece.BadFlow buf h = refl
 none_read piece.NoRoom buf h = refl
 
-pub record ReadIsRefused (answer : Piece) (buf : List ℕ) (e f : EndpointValue) : Type 0 where
+pub record ReadIsRefused (answer : Delivered) (buf : List ℕ) (e f : EndpointValue) : Type 0 where
   pub same : f ≡ e
   pub none : items_read answer buf ≡ []
 
 -- the answer is that of these items, or there was no memory
-pub record IsPieceOf (answer : Piece) (buf : List ℕ) (items : List Item) : Type 0 where
+pub record IsPieceOf (answer : Delivered) (buf : List ℕ) (items : List Item) : Type 0 where
   pub told : answer ≡ piece_of (length (octets_of items)) (piece_told items)
   pub octets : take (length (octets_of items)) buf ≡ octets_of items
 
-pub record IsLost (answer : Piece) (buf : List ℕ) (f : EndpointValue) : Type 0 where
+pub record IsLost (answer : Delivered) (buf : List ℕ) (f : EndpointValue) : Type 0 where
   pub none : items_read answer buf ≡ []
   pub spent : f.spent ≡ true
 
-piece_or_lost : (a : Piece) (now : ℕ) (items : List Item) (event : Event (Unit {0})) (buf : List ℕ) (e f : EndpointValue) → ReadDoes a now items event buf e f → IsPieceOf a buf items ⊎ IsLost a buf f
+piece_or_lost : (a : Delivered) (now : ℕ) (items : List Item) (event : Event (Unit {0})) (buf : List ℕ) (e f : EndpointValue) → ReadDoes a now items event buf e f → IsPieceOf a buf items ⊎ IsLost a buf f
 piece_or_lost piece.NoMemory now items event buf e f h = inr (record { none = refl; spent = h.spent })
 piece_or_lost (piece.Read len run begin end) now items event buf e f h = inl (record { told = h.0; octets = h.1 })
 piece_or_lost piece.Nothing now items event buf e f h = inl (record { told = h.0; octets = h.1 })
@@ -247,18 +247,18 @@ piece_or_lost piece.BadFlow now items event buf e f h = inl (record { told = h.0
 piece_or_lost piece.NoRoom now items event buf e f h = inl (record { told = h.0; octets = h.1 })
 
 -- it is of a flow that ends at the endpoint's node and comes from another
-pub record ReadsTo (answer : Piece) (now : ℕ) (flow : Flow) (room : ℕ) (buf : List ℕ) (e f : EndpointValue) : Type 0 where
+pub record ReadsTo (answer : Delivered) (now : ℕ) (flow : Flow) (room : ℕ) (buf : List ℕ) (e f : EndpointValue) : Type 0 where
   pub unspent : e.spent ≡ false
   pub to : flow.to.0 ≡ e.state.host.me
   pub from : (flow.from.0 == e.state.host.me) ≡ false
   pub ends : Ends now (Read flow room) e f
   pub answered : IsPieceOf answer buf (read_answer now flow room e) ⊎ IsLost answer buf f
 
-pub read_comes_to : (answer : Piece) (now : ℕ) (flow : Flow) (room : ℕ) (buf : List ℕ) (e f : EndpointValue) → Reads answer now flow room buf e f → ReadIsRefused answer buf e f ⊎ ReadsTo answer now flow room buf e f
+pub read_comes_to : (answer : Delivered) (now : ℕ) (flow : Flow) (room : ℕ) (buf : List ℕ) (e f : EndpointValue) → Reads answer now flow room buf e f → ReadIsRefused answer buf e f ⊎ ReadsTo answer now flow room buf e f
 read_comes_to answer now flow room buf e f h =
     by_cases (done_or_same (first_refusal (read_refusals flow room e)) answer e f (ReadDoes answer now (read_answer now flow room e) (Read flow room) buf e f) h)
   where
-    ends : (a : Piece) → ReadDoes a now (read_answer now flow room e) (Read flow room) buf e f → Ends now (Read flow room) e f
+    ends : (a : Delivered) → ReadDoes a now (read_answer now flow room e) (Read flow room) buf e f → Ends now (Read flow room) e f
     ends piece.NoMemory k = inr k
     ends (piece.Read len run begin end) k = inl k.2
     ends piece.Nothing k = inl k.2
@@ -304,11 +304,11 @@ fresh_if waited datagram None h =
       | inr n ↦ grind (arith, nat_tests)
     ]
 
-pub arrival_comes_to : (answer : Arrived) (now link : ℕ) (datagram : List ℕ) (waited : ℕ) (e f : EndpointValue) → Arrives answer now link datagram waited e f → IsStill e f ⊎ Admits now link datagram waited e f
+pub arrival_comes_to : (answer : Received) (now link : ℕ) (datagram : List ℕ) (waited : ℕ) (e f : EndpointValue) → Arrives answer now link datagram waited e f → IsStill e f ⊎ Admits now link datagram waited e f
 arrival_comes_to answer now link datagram waited e f h =
     by_cases (done_or_same (arrive_refusal link datagram waited e) answer (with_refused e) f (ArriveDoes answer now (arrive_event link datagram waited) e f) h)
   where
-    ends : (a : Arrived) → ArriveDoes a now (arrive_event link datagram waited) e f → Ends now (arrive_event link datagram waited) e f
+    ends : (a : Received) → ArriveDoes a now (arrive_event link datagram waited) e f → Ends now (arrive_event link datagram waited) e f
     ends arrived.NoMemory k = inr k
     ends arrived.Done k = inl k.1
     ends arrived.Spent k = inl k.1

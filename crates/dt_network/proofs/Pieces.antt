@@ -4,7 +4,7 @@ use Rattle.std.specs.Prelude.{◌||◌, not}
 use Rattle.std.proofs.lemmas.Bool.{cases_Bool}
 use Rattle.dt_items.specs.declared.item.Item.{Item}
 use Rattle.dt_items.specs.Unread.{first_piece, following, goes_on, last_item, marked, octets_of, piece_told}
-use Rattle.dt_endpoint.specs.declared.answers.Piece.{Piece}
+use Rattle.dt_endpoint.specs.declared.answers.Delivered.{Delivered}
 use Rattle.dt_endpoint.specs.Calls.{piece_of}
 use Rattle.dt_network.proofs.Outcomes.{IsPieceOf}
 use Rattle.dt_network.specs.Octets.{items_read}
@@ -48,7 +48,7 @@ told_of (suc n) (item ∷ items) buf h =
     let rest = following n item items in
     ap (λ (os : List ℕ). marked os item.begin (last_item item rest).end item.run) h ∙ sym (marked_following n item items)
 
-pub piece_read : (answer : Piece) (buf : List ℕ) (n : ℕ) (items piece : List Item) → piece ≡ first_piece n items → IsPieceOf answer buf piece → items_read answer buf ≡ first_piece n items
+pub piece_read : (answer : Delivered) (buf : List ℕ) (n : ℕ) (items piece : List Item) → piece ≡ first_piece n items → IsPieceOf answer buf piece → items_read answer buf ≡ first_piece n items
 piece_read answer buf n items piece same h =
     let is : IsPieceOf answer buf (first_piece n items) = subst (IsPieceOf answer buf) same h in
-    ap (λ (a : Piece). items_read a buf) is.told ∙ told_of n items buf is.octets
+    ap (λ (a : Delivered). items_read a buf) is.told ∙ told_of n items buf is.octets

@@ -7,8 +7,8 @@ use Rattle.dt_flow_model.specs.Ledger.{plain}
 use Rattle.dt_world_model.specs.Tables.{same_flow}
 use Rattle.dt_endpoint.specs.declared.answers.Sent.{Sent}
 use Rattle.dt_endpoint.specs.declared.answers.Sent.TheVariants as sent
-use Rattle.dt_endpoint.specs.declared.answers.Piece.{Piece}
-use Rattle.dt_endpoint.specs.declared.answers.Piece.TheVariants as piece
+use Rattle.dt_endpoint.specs.declared.answers.Delivered.{Delivered}
+use Rattle.dt_endpoint.specs.declared.answers.Delivered.TheVariants as piece
 use Rattle.dt_network.specs.Steps.{Call, CallRead, CallSend, Calls, Pass, Step}
 
 -- A SEND took its octets where it answered Done. One that found no memory took them or not: it isn't told
@@ -27,7 +27,7 @@ Takes f (CallSend now flow octets begin end answer) taken = TakesIf (same_flow f
 Takes f other taken = taken ≡ []
 
 -- A READ answers the octets at the head of the buffer, with the marks of the piece
-abbrev pub items_read : Piece → List ℕ → List Item
+abbrev pub items_read : Delivered → List ℕ → List Item
 items_read (piece.Read len run begin end) buf = marked (take len buf) begin end run
 items_read other buf = []
 

@@ -7,8 +7,8 @@ use Rattle.dt_world_model.specs.Setup.{Setup}
 use Rattle.dt_world_model.specs.Tables.{look, write}
 use Rattle.dt_endpoint.specs.declared.answers.Ticked.{Ticked}
 use Rattle.dt_endpoint.specs.declared.answers.Sent.{Sent}
-use Rattle.dt_endpoint.specs.declared.answers.Arrived.{Arrived}
-use Rattle.dt_endpoint.specs.declared.answers.Piece.{Piece}
+use Rattle.dt_endpoint.specs.declared.answers.Received.{Received}
+use Rattle.dt_endpoint.specs.declared.answers.Delivered.{Delivered}
 use Rattle.dt_endpoint.specs.declared.answers.Routed.{Routed}
 use Rattle.dt_endpoint.specs.Calls.{AddsRoute, Arrives, Reads, Sends, Ticks}
 use Rattle.dt_endpoint.specs.Endpoints.{EndpointValue, with_followed}
@@ -18,8 +18,8 @@ use Rattle.dt_network.specs.Network.{Network, flights, opened_with}
 pub data Call : Type 0 where
   CallTick : (now : ℕ) → (answer : Ticked) → Call
   CallSend : (now : ℕ) → (flow : Flow) → (octets : List ℕ) → (begin end : Bool) → (answer : Sent) → Call
-  CallRead : (now : ℕ) → (flow : Flow) → (room : ℕ) → (buf : List ℕ) → (answer : Piece) → Call
-  CallArrive : (now link : ℕ) → (datagram : List ℕ) → (waited : ℕ) → (answer : Arrived) → Call
+  CallRead : (now : ℕ) → (flow : Flow) → (room : ℕ) → (buf : List ℕ) → (answer : Delivered) → Call
+  CallArrive : (now link : ℕ) → (datagram : List ℕ) → (waited : ℕ) → (answer : Received) → Call
   PullFrame : Call
   PullReport : Call
   AddRoute : (route : Route) → (answer : Routed) → Call

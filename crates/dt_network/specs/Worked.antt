@@ -5,8 +5,8 @@ use Rattle.dt_world_model.specs.declared.links.Route.{Route}
 use Rattle.dt_world_model.specs.Worked.{main_flow}
 use Rattle.dt_world_laws.specs.Schedule.{two_ways}
 use Rattle.dt_endpoint.specs.declared.answers.Sent.TheVariants as sent
-use Rattle.dt_endpoint.specs.declared.answers.Arrived.TheVariants as arrived
-use Rattle.dt_endpoint.specs.declared.answers.Piece.TheVariants as piece
+use Rattle.dt_endpoint.specs.declared.answers.Received.TheVariants as arrived
+use Rattle.dt_endpoint.specs.declared.answers.Delivered.TheVariants as piece
 use Rattle.dt_endpoint.specs.declared.answers.Routed.TheVariants as routed
 use Rattle.dt_endpoint.specs.Acts.{OutFrameValue}
 use Rattle.dt_endpoint.specs.Calls.{arrive_event}

@@ -17,8 +17,8 @@ use Rattle.dt_shelf.specs.declared.held.Held.{Held}
 use Rattle.dt_shelf.specs.declared.taken.Taken.{Taken}
 use Rattle.dt_shelf.specs.declared.taken.Taken.TheVariants as taken
 use Rattle.dt_shelf.specs.Shelves.{Shelf, empty_shelf, held_packet, hold, take_held, taken_at}
-use Rattle.dt_turn.specs.declared.heard.Heard.{Heard}
-use Rattle.dt_turn.specs.declared.heard.Heard.TheVariants as heard
+use Rattle.dt_turn.specs.declared.packet_answers.PacketAnswer.{PacketAnswer}
+use Rattle.dt_turn.specs.declared.packet_answers.PacketAnswer.TheVariants as heard
 use Rattle.dt_node.specs.declared.watch.Watch.{Watch}
 use Rattle.dt_node.specs.Acts.{answer_of}
 use Rattle.dt_script.specs.Drafts.{has_link}
@@ -130,7 +130,7 @@ module _ (P : HandIn → Type 0) where
   abbrev Kept : ℕ → Round → Type 0
   Kept now r = AllOn now r.shelf × IfSome r.next (Comes now 1)
 
-  used : (now : ℕ) (d : Datagram) (h : Heard) (station : Station (Unit {0})) (shelf : Shelf) → Comes now 0 d → AllOn now shelf → Kept now (answer_of (use_shelf now d h station shelf))
+  used : (now : ℕ) (d : Datagram) (h : PacketAnswer) (station : Station (Unit {0})) (shelf : Shelf) → Comes now 0 d → AllOn now shelf → Kept now (answer_of (use_shelf now d h station shelf))
   used now d heard.Nothing station shelf here all = (all, tt)
   used now d (heard.Refused flow replied) station shelf here all =
       let s = hold_if now d flow (early_number replied d.octets) shelf in

@@ -10,8 +10,8 @@ use Rattle.dt_fold.specs.declared.stops.Stop.{Stop}
 use Rattle.dt_fold.specs.declared.stops.Stop.TheVariants as stops
 use Rattle.dt_trace.specs.Inputs.{Input, Reading}
 use Rattle.dt_world_model.specs.Script.{Script}
-use Rattle.dt_node.specs.declared.forms.Form.{Form}
-use Rattle.dt_node.specs.declared.forms.Form.TheVariants as forms
+use Rattle.dt_node.specs.declared.output_forms.OutputForm.{OutputForm}
+use Rattle.dt_node.specs.declared.output_forms.OutputForm.TheVariants as forms
 use Rattle.dt_turn.specs.Codes.{node_seen}
 use Rattle.dt_turn.specs.declared.nodes.Node.{Node}
 use Rattle.dt_node.specs.declared.turns.Turn.{Turn}
@@ -28,15 +28,15 @@ part_then xs ys zs a m c e h (count, k) =
     (length xs + count, subst (Appends a c) (sym (take-append-add xs ys count) ∙ ap (take (length xs + count)) e) (Appends-trans a m c xs (take count ys) h k))
 
 -- an input was noted, or its put failed
-pub noted_takes : {K T : Type 0} (E : Type 0) (sight : K → SinkSight) (form : Form) (input : Input) (done : T) (old new : K) → Notes {E = E} sight form input (Ok done) old new → Takes (noted_text form input) (sight old) (sight new)
+pub noted_takes : {K T : Type 0} (E : Type 0) (sight : K → SinkSight) (form : OutputForm) (input : Input) (done : T) (old new : K) → Notes {E = E} sight form input (Ok done) old new → Takes (noted_text form input) (sight old) (sight new)
 noted_takes E sight forms.Log input done old new h = subst (λ k. Takes [] (sight old) (sight k)) (sym h) (takes_nothing (sight old))
 noted_takes E sight forms.Trace input done old new h = h
 
-pub noted_fails : {K E : Type 0} (T : Type 0) (sight : K → SinkSight) (form : Form) (input : Input) (fault : E) (old new : K) → Notes {T = T} sight form input (Err fault) old new → TakesPart (noted_text form input) (sight old) (sight new)
+pub noted_fails : {K E : Type 0} (T : Type 0) (sight : K → SinkSight) (form : OutputForm) (input : Input) (fault : E) (old new : K) → Notes {T = T} sight form input (Err fault) old new → TakesPart (noted_text form input) (sight old) (sight new)
 noted_fails T sight forms.Log input fault old new h = absurd h
 noted_fails T sight forms.Trace input fault old new h = h
 
-module _ {A : Type 0} (form : Form) (me now : ℕ) (first : List ℕ) (script : Script (Unit {0}) A) (answer : A) (gives : ℕ) (wire : WireSight) (a b : SinkSight) where
+module _ {A : Type 0} (form : OutputForm) (me now : ℕ) (first : List ℕ) (script : Script (Unit {0}) A) (answer : A) (gives : ℕ) (wire : WireSight) (a b : SinkSight) where
   -- a turn after it
   pub begun : (result : Result _ Stop) (t : Scene) → Takes first a b → TurnEnds result form me now [] script answer (scene gives wire b) t → TurnEnds result form me now first script answer (scene gives wire a) t
   begun (Ok stopped) t h (deeds, acts, wrote, answers) =
@@ -59,7 +59,7 @@ module _ {A : Type 0} (form : Form) (me now : ℕ) (first : List ℕ) (script : 
       (deeds, acts_unlost (acts_of now script), record { held = (more.count, more.held); faults = more.faults; wire = some_more_given [] (acts_of now script) wire wire (gave_some [] wire wire (gave_none wire)) })
 
 -- A TURN THAT IS TAKEN, after the line of its reading
-module _ (form : Form) (me now : ℕ) (t : Turn) (old : Node) (gives : ℕ) (wire : WireSight) (a b : SinkSight) where
+module _ (form : OutputForm) (me now : ℕ) (t : Turn) (old : Node) (gives : ℕ) (wire : WireSight) (a b : SinkSight) where
   -- which was put
   pub turn_begun : (result : Result Bool Stop) (new : Node) (s : Scene) → Takes (noted_text form (Reading t.reading)) a b
       → TurnEnds result form me now [] (turn_script t old) (turned result (node_seen t.orders.now new)) (scene gives wire b) s → PlaysTurn form me now t result old new (scene gives wire a) s

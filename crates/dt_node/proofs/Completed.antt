@@ -10,7 +10,7 @@ use Rattle.dt_edges.specs.Wires.{Datagram}
 use Rattle.dt_world_model.specs.Script.{Script, Done as Ends, Tell, Ask, Hand, ◌>>=◌}
 use Rattle.dt_node.specs.declared.outcomes.NodeOutcome.{NodeOutcome}
 use Rattle.dt_node.specs.declared.outcomes.NodeOutcome.TheVariants.{Done, Refused, NoMemory, WireFault, ClockStill, WriteFault}
-use Rattle.dt_node.specs.declared.forms.Form.{Form}
+use Rattle.dt_node.specs.declared.output_forms.OutputForm.{OutputForm}
 use Rattle.dt_node.specs.declared.watch.Watch.{Watch}
 use Rattle.dt_node.specs.Acts.{answer_of}
 use Rattle.dt_node.specs.Answering.{Answers, AnswersBy}
@@ -80,7 +80,7 @@ planned_still o plan zero ts h = absurd cc
 planned_still o plan (suc n) ts h = (n, run_still o (first_watch (reading_at plan 0)) None (first_node o) (map (reading_at plan) (range_with_len 1 n)) ts h)
 
 -- THE ANSWERS
-module _ (form : Form) (o : Orders) (plan : List ℕ) (b a : Edges) (planned : b.clock.plan ≡ Some plan) (fresh : b.clock.readings ≡ Some []) (reaches : ReachesStop o.stop plan) (wire : HasRisen b.wire.take_faults a.wire.take_faults → ⊥) (sink : HasRisen b.faults a.faults → ⊥) where
+module _ (form : OutputForm) (o : Orders) (plan : List ℕ) (b a : Edges) (planned : b.clock.plan ≡ Some plan) (fresh : b.clock.readings ≡ Some []) (reaches : ReachesStop o.stop plan) (wire : HasRisen b.wire.take_faults a.wire.take_faults → ⊥) (sink : HasRisen b.faults a.faults → ⊥) where
   still_never : Serves form o ClockStill b a → ⊥
   still_never h =
       let same = (subst (λ (p : Option (List ℕ)). IfSome p (λ p. b.clock.readings ≡ Some [] → h.readings ≡ first_readings p (length h.readings))) planned h.planned_readings) fresh in
@@ -96,6 +96,6 @@ module _ (form : Form) (o : Orders) (plan : List ℕ) (b a : Edges) (planned : b
   served_whole ClockStill h = absurd (still_never h)
   served_whole WriteFault h = absurd (sink h.sink_faults)
 
-pub completes : (form : Form) (octets : List ℕ) (outcome : NodeOutcome) (b a : Edges) → Answers form octets outcome b a → Completes octets outcome b a
+pub completes : (form : OutputForm) (octets : List ℕ) (outcome : NodeOutcome) (b a : Edges) → Answers form octets outcome b a → Completes octets outcome b a
 completes form octets outcome b a h o plan accepted planned fresh reaches wire sink =
     served_whole form o plan b a planned fresh reaches wire sink outcome (subst (λ (x : Option Orders). AnswersBy form x (refusal_text octets) outcome b a) accepted h)

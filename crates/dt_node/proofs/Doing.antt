@@ -16,8 +16,8 @@ use Rattle.dt_fold.proofs.Stopping.{stops_after, stops_as, stops_more}
 use Rattle.dt_node.specs.Acts.{Act, Tells, Hands, Deed, Says, Gives, act_of, log_lines, lines_of_deed, sent_frames, sent_by, node_frames, frames_of_act, fates, fates_by}
 use Rattle.dt_node.specs.Logging.{Fixed, GaveBy, HandsIf, LogHands, LogSight, LogTells, TellsIf, UnsentIf, WroteBy, lost_text, told_text}
 use Rattle.dt_trace.specs.Inputs.{FailedGive, input_text, trace_text}
-use Rattle.dt_node.specs.declared.forms.Form.{Form}
-use Rattle.dt_node.specs.declared.forms.Form.TheVariants as forms
+use Rattle.dt_node.specs.declared.output_forms.OutputForm.{OutputForm}
+use Rattle.dt_node.specs.declared.output_forms.OutputForm.TheVariants as forms
 use Rattle.dt_node.specs.Deeds.{counted, deeds_text, lost_numbers, lost, count_true, FatesFrom, Gave, GaveSome, Did, DidSome, Sublist, stop_by, unlost}
 use Rattle.dt_node.proofs.Noting.{notes_none, notes_then, sub_all, sub_none, sub_then, fates_then, count_append}
 
@@ -37,7 +37,7 @@ numbers_more n (true ∷ a) b = ap (λ (xs : List ℕ). next_count n ∷ xs) (nu
 numbers_more n (false ∷ a) b = numbers_more (next_count n) a b
 
 -- WHAT IS WRITTEN of deeds one after another
-pub text_more : (form : Form) (gives me : ℕ) (a b : List Deed) → deeds_text form gives me (a ++ b) ≡ deeds_text form gives me a ++ deeds_text form (counted gives (fates a)) me b
+pub text_more : (form : OutputForm) (gives me : ℕ) (a b : List Deed) → deeds_text form gives me (a ++ b) ≡ deeds_text form gives me a ++ deeds_text form (counted gives (fates a)) me b
 text_more forms.Log gives me a b = log_more me a b
 text_more forms.Trace gives me a b =
     ap (λ (fs : List Bool). trace_text (map FailedGive (lost_numbers gives fs))) (fates_more a b)
@@ -45,19 +45,19 @@ text_more forms.Trace gives me a b =
     ∙ ap trace_text (map-append FailedGive (lost_numbers gives (fates a)) (lost_numbers (counted gives (fates a)) (fates b)))
     ∙ flat_map-append input_text (map FailedGive (lost_numbers gives (fates a))) (map FailedGive (lost_numbers (counted gives (fates a)) (fates b)))
 
-text_none : (form : Form) (gives me : ℕ) → deeds_text form gives me [] ≡ []
+text_none : (form : OutputForm) (gives me : ℕ) → deeds_text form gives me [] ≡ []
 text_none forms.Log gives me = refl
 text_none forms.Trace gives me = refl
 
-told_line : (form : Form) (fixed : Fixed) (gives : ℕ) (told : Told) → deeds_text form gives fixed.me (Says fixed.moment told ∷ []) ≡ told_text form fixed told ++ []
+told_line : (form : OutputForm) (fixed : Fixed) (gives : ℕ) (told : Told) → deeds_text form gives fixed.me (Says fixed.moment told ∷ []) ≡ told_text form fixed told ++ []
 told_line forms.Log fixed gives told = refl
 told_line forms.Trace fixed gives told = refl
 
-lost_line : (form : Form) (fixed : Fixed) (gives link : ℕ) (octets : List ℕ) → deeds_text form gives fixed.me (Gives fixed.moment link octets true ∷ []) ≡ lost_text form fixed (next_count gives) link ++ []
+lost_line : (form : OutputForm) (fixed : Fixed) (gives link : ℕ) (octets : List ℕ) → deeds_text form gives fixed.me (Gives fixed.moment link octets true ∷ []) ≡ lost_text form fixed (next_count gives) link ++ []
 lost_line forms.Log fixed gives link octets = refl
 lost_line forms.Trace fixed gives link octets = refl
 
-kept_line : (form : Form) (gives me moment link : ℕ) (octets : List ℕ) → [] ≡ deeds_text form gives me (Gives moment link octets false ∷ [])
+kept_line : (form : OutputForm) (gives me moment link : ℕ) (octets : List ℕ) → [] ≡ deeds_text form gives me (Gives moment link octets false ∷ [])
 kept_line forms.Log gives me moment link octets = refl
 kept_line forms.Trace gives me moment link octets = refl
 

@@ -30,8 +30,8 @@ use Rattle.dt_script.proofs.Fitting.{script_good, script_read}
 use Rattle.dt_trace.specs.Inputs.{Input, FailedOpen, FailedTake, Reading, Taken as Found}
 use Rattle.dt_trace.specs.Standing.{HasFound}
 use Rattle.dt_trace.specs.Lines.{most_taken}
-use Rattle.dt_node.specs.declared.forms.Form.{Form}
-use Rattle.dt_node.specs.declared.forms.Form.TheVariants as forms
+use Rattle.dt_node.specs.declared.output_forms.OutputForm.{OutputForm}
+use Rattle.dt_node.specs.declared.output_forms.OutputForm.TheVariants as forms
 use Rattle.dt_node.specs.Deeds.{FatesFrom, FaultsBy, Scene, Sublist, TurnEnds, counted, deeds_text, lost}
 use Rattle.dt_node.specs.TakingIn.{failed_gives}
 use Rattle.dt_node.specs.Logging.{NotesBehind, NotesFault, noted_text}
@@ -95,13 +95,13 @@ cut_by stops.NoMemory = search refl
 cut_by stops.WriteFault = search (refl, inl)
 
 -- no call of the wire failed but gives
-faults_kept : (form : Form) (stop : Stop) (before after : ℕ) → after ≡ before → TakeFaults form (answer_by stop) before after
+faults_kept : (form : OutputForm) (stop : Stop) (before after : ℕ) → after ≡ before → TakeFaults form (answer_by stop) before after
 faults_kept form stops.NoMemory before after e = e
 faults_kept forms.Log stops.WriteFault before after e = e
 faults_kept forms.Trace stops.WriteFault before after e = inl e
 
 -- one failed, and a trace tells of it
-faults_traced : (form : Form) (before after : ℕ) → form ≡ forms.Trace → HasRisen before after → TakeFaults form WriteFault before after
+faults_traced : (form : OutputForm) (before after : ℕ) → form ≡ forms.Trace → HasRisen before after → TakeFaults form WriteFault before after
 faults_traced forms.Log before after e h = absurd cc
 faults_traced forms.Trace before after e h = inr h
 
@@ -114,7 +114,7 @@ asks_early : (o : Orders) (stop : Stop) (b : WireSight) → Asks o (answer_by st
 asks_early o stops.NoMemory b = asks_memory_early o b
 asks_early o stops.WriteFault b = asks_write_early o b
 
-module _ (form : Form) (o : Orders) (b : Edges) where
+module _ (form : OutputForm) (o : Orders) (b : Edges) where
   -- WHAT A RUN LEAVES OF THE WIRE AND OF THE CLOCK, whatever its answer is: its acts are those of the definition, and wire and clock tell of it
   pub record Ran (rs : List ℕ) (ts : List (Option Datagram)) (deeds : List Deed) (v : WireSight) (c : ClockSight) : Type 0 where
     pub acts : map act_of deeds ≡ (node_run o rs ts).acts
@@ -430,7 +430,7 @@ logs_from WireFault text a m e h k = Appends-trans a m e [] text h k
 logs_from ClockStill text a m e h k = Appends-trans a m e [] text h k
 logs_from WriteFault text a m e h k = part_then [] text text a m e refl h k
 
-serves_from : (form : Form) (o : Orders) (outcome : NodeOutcome) (w : WireSight) (c : ClockSight) (s t : SinkSight) (e : Edges) → Takes [] s t → Serves form o outcome (edges w c t) e → Serves form o outcome (edges w c s) e
+serves_from : (form : OutputForm) (o : Orders) (outcome : NodeOutcome) (w : WireSight) (c : ClockSight) (s t : SinkSight) (e : Edges) → Takes [] s t → Serves form o outcome (edges w c t) e → Serves form o outcome (edges w c s) e
 serves_from form o outcome w c s t e h k = record {
   readings = k.readings;
   takes = k.takes;
@@ -461,7 +461,7 @@ serves_from form o outcome w c s t e h k = record {
   planned_fates = k.planned_fates;
 }
 
-answers_by : (form : Form) (octets : List ℕ) (outcome : NodeOutcome) (b a : Edges) (accepted : Bool) (o : Option Orders) → (read_script octets).accepted ≡ accepted → orders_in (read_script octets).state ≡ o →
+answers_by : (form : OutputForm) (octets : List ℕ) (outcome : NodeOutcome) (b a : Edges) (accepted : Bool) (o : Option Orders) → (read_script octets).accepted ≡ accepted → orders_in (read_script octets).state ≡ o →
     AnswersBy form (if accepted then o else None) (refusal_text octets) outcome b a → Answers form octets outcome b a
 answers_by form octets outcome b a accepted o e f h =
     subst (λ (x : Bool). AnswersBy form (if x then orders_in (read_script octets).state else None) (refusal_text octets) outcome b a) (sym e)
@@ -492,7 +492,7 @@ module _ (octets : List ℕ) (start : Draft) (empty : start ≡ Empty) where
   pub orders_good : (state : Draft) (o : Orders) → length octets ≤ most_input → state ≡ folded.state → Some o ≡ orders_in state → IsGood o
   orders_good state o few f e = script_good octets o few (ap (λ (f : Folded Draft). orders_in f.state) (sym same) ∙ ap orders_in (sym f) ∙ sym e)
 
-  module _ (form : Form) (w : WireSight) (c : ClockSight) (s t : SinkSight) where
+  module _ (form : OutputForm) (w : WireSight) (c : ClockSight) (s t : SinkSight) where
     -- they were carried out
     pub answers_served : (accepted : Bool) (state : Draft) (o : Orders) (outcome : NodeOutcome) (e : Edges) → accepted ≡ true → accepted ≡ folded.accepted → state ≡ folded.state → Some o ≡ orders_in state → Takes folded.text s t → Serves form o outcome (edges w c t) e → Answers form octets outcome (edges w c s) e
     answers_served accepted state o outcome e a f g k took serves =
@@ -531,23 +531,23 @@ module _ (octets : List ℕ) (start : Draft) (empty : start ≡ Empty) where
         (λ k nothing. serve_early form k (edges w c s) stops.WriteFault t.held t.faults nothing text.faults)
 
 -- A CALL OF THE WIRE FAILED, and that was noted, or not
-behind_ok : (form : Form) (input : Input) (a z : SinkSight) → NotesBehind {T = Unit {0}} {E = Unit {0}} form input (Ok tt) a z → HasAll (noted_text form input) a z × (z.faults ≡ a.faults)
+behind_ok : (form : OutputForm) (input : Input) (a z : SinkSight) → NotesBehind {T = Unit {0}} {E = Unit {0}} form input (Ok tt) a z → HasAll (noted_text form input) a z × (z.faults ≡ a.faults)
 behind_ok forms.Log input a z e = (subst (λ (s : SinkSight). HasAll [] a s) (sym e) (Appends-nil a.held), ap (λ (s : SinkSight). s.faults) e)
 behind_ok forms.Trace input a z h = h
 
-behind_err : (form : Form) (input : Input) (a z : SinkSight) → NotesBehind {T = Unit {0}} {E = Unit {0}} form input (Err tt) a z → (form ≡ forms.Trace) × HasPart (noted_text form input) a z × HasRisen a.faults z.faults
+behind_err : (form : OutputForm) (input : Input) (a z : SinkSight) → NotesBehind {T = Unit {0}} {E = Unit {0}} form input (Err tt) a z → (form ≡ forms.Trace) × HasPart (noted_text form input) a z × HasRisen a.faults z.faults
 behind_err forms.Log input a z h = absurd h
 behind_err forms.Trace input a z h = (refl, h.0, h.1)
 
-pub noted_ok : {T : Type 0} (E : Type 0) (form : Form) (input : Input) (done : T) (a z : SinkSight) → NotesBehind {E = E} form input (Ok done) a z → HasAll (noted_text form input) a z × (z.faults ≡ a.faults)
+pub noted_ok : {T : Type 0} (E : Type 0) (form : OutputForm) (input : Input) (done : T) (a z : SinkSight) → NotesBehind {E = E} form input (Ok done) a z → HasAll (noted_text form input) a z × (z.faults ≡ a.faults)
 noted_ok E forms.Log input done a z e = behind_ok forms.Log input a z e
 noted_ok E forms.Trace input done a z h = h
 
-pub noted_err : {E : Type 0} (T : Type 0) (form : Form) (input : Input) (fault : E) (a z : SinkSight) → NotesBehind {T = T} form input (Err fault) a z → HasPart (noted_text form input) a z × HasRisen a.faults z.faults
+pub noted_err : {E : Type 0} (T : Type 0) (form : OutputForm) (input : Input) (fault : E) (a z : SinkSight) → NotesBehind {T = T} form input (Err fault) a z → HasPart (noted_text form input) a z × HasRisen a.faults z.faults
 noted_err T forms.Log input fault a z h = absurd h
 noted_err T forms.Trace input fault a z h = h
 
-module _ (form : Form) (o : Orders) where
+module _ (form : OutputForm) (o : Orders) where
   pub unopened_ends : (w v : WireSight) (c : ClockSight) (a z : SinkSight) (outcome : NodeOutcome) → OpenFails w v → NotesFault FailedOpen form outcome a z → Serves form o outcome (edges w c a) (edges v c z)
   unopened_ends w v c a z Done h n = absurd n
   unopened_ends w v c a z Refused h n = absurd n

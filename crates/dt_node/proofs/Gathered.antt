@@ -13,8 +13,8 @@ use Rattle.dt_fold.proofs.Waiting.{all_put, from_empty, part_of_part, part_put, 
 use Rattle.dt_world_model.specs.Script.{Script}
 use Rattle.dt_trace.specs.Inputs.{Input, input_text}
 use Rattle.dt_node.specs.Logging.{NotesBehind}
-use Rattle.dt_node.specs.declared.forms.Form.{Form}
-use Rattle.dt_node.specs.declared.forms.Form.TheVariants as forms
+use Rattle.dt_node.specs.declared.output_forms.OutputForm.{OutputForm}
+use Rattle.dt_node.specs.declared.output_forms.OutputForm.TheVariants as forms
 use Rattle.dt_node.specs.Acts.{Deed, act_of, acts_of, answer_of}
 use Rattle.dt_node.specs.TurnScripts.{turned}
 use Rattle.dt_turn.specs.Nodes.{Node}
@@ -43,7 +43,7 @@ module _ (text : List ℕ) (a mid end : SinkSight) (waiting : List ℕ) (grows :
 pub part_there : (text : List ℕ) (a mid : SinkSight) (waiting : List ℕ) (grows : Grows a.held mid.held) (count : ℕ) → Appends (append_known a.held []) (append_known mid.held waiting) (take count text) → HasPart text a mid
 part_there text a mid waiting grows count h = part_part text a mid mid waiting grows count h (0, Appends-nil mid.held)
 
-module _ (form : Form) (me now gives after : ℕ) (first : List ℕ) (script : Script (Unit {0}) (Option Node)) (w v : WireSight) (a mid end : SinkSight) (waiting : List ℕ) (grows : Grows a.held mid.held) where
+module _ (form : OutputForm) (me now gives after : ℕ) (first : List ℕ) (script : Script (Unit {0}) (Option Node)) (w v : WireSight) (a mid end : SinkSight) (waiting : List ℕ) (grows : Grows a.held mid.held) where
   abbrev Ends : Result Bool Stop → Node → Type 0
   Ends result node = TurnEnds result form me now first script (turned result node) (scene gives w a) (scene after v end)
 
@@ -82,9 +82,9 @@ module _ (form : Form) (me now gives after : ℕ) (first : List ℕ) (script : S
 from_here : (a mid : SinkSight) (waiting before text : List ℕ) → before ≡ [] → Appends (append_known a.held before) (append_known mid.held waiting) text → Appends (append_known a.held []) (append_known mid.held waiting) text
 from_here a mid waiting before text empty h = subst (λ (xs : List ℕ). Appends (append_known a.held xs) (append_known mid.held waiting) text) empty h
 
-module _ {T E : Type 0} (form : Form) (input : Input) (a mid : SinkSight) (waiting before : List ℕ) (is : form ≡ forms.Trace) (empty : before ≡ []) (grows : Grows a.held mid.held) where
+module _ {T E : Type 0} (form : OutputForm) (input : Input) (a mid : SinkSight) (waiting before : List ℕ) (is : form ≡ forms.Trace) (empty : before ≡ []) (grows : Grows a.held mid.held) where
   noted_trace : (result : Result T E) (end : SinkSight) → NotesBehind forms.Trace input result a end → NotesBehind form input result a end
-  noted_trace result end h = subst (λ (f : Form). NotesBehind f input result a end) (sym is) h
+  noted_trace result end h = subst (λ (f : OutputForm). NotesBehind f input result a end) (sym is) h
 
   pub noted_put : {K : Type 0} (sight : K → SinkSight) (between new : K) (result : Result T E) → mid ≡ sight between → Appends (append_known a.held before) (append_known mid.held waiting) (input_text input) → mid.faults ≡ a.faults → Puts sight waiting result between new → NotesBehind form input result a (sight new)
   noted_put sight between new (Ok done) e h faults puts =

@@ -41,8 +41,8 @@ use Rattle.dt_node.specs.InOrder.{InOrder, Orderly, UnsentInOrder, is_unsent, li
 use Rattle.dt_script.specs.Orders.{Command, Orders}
 use Rattle.dt_turn.specs.Nodes.{Node, node_with, first_node}
 use Rattle.dt_node.specs.Runs.{Run, after_turn, turn_then, run_from, node_run, first_watch, next_watch, moment, most_equal, ends, ends_at, Ending, Stopped, Unfinished, StoodStill}
-use Rattle.dt_turn.specs.declared.heard.Heard.{Heard}
-use Rattle.dt_turn.specs.declared.heard.Heard.TheVariants as heard
+use Rattle.dt_turn.specs.declared.packet_answers.PacketAnswer.{PacketAnswer}
+use Rattle.dt_turn.specs.declared.packet_answers.PacketAnswer.TheVariants as heard
 use Rattle.dt_turn.specs.Hearing.{heard_in}
 use Rattle.dt_turn.specs.Shelving.{Round, arrive as arrives, early_number, fetch, fetch_on, fetch_turns, first_round, hold_if, inside, plain, round, round_with, rounds, rounds_on, told_held, use_shelf}
 use Rattle.dt_turn.specs.Turns.{comes, hand_in, event_of, do_due, finish, turn}
@@ -198,7 +198,7 @@ fetch_any (suc most) flow number now shelf =
     let r = take_held flow number now shelf in
     fetch_on_any (fetch_turns most flow number now) (fetch_any most flow number now) flow number r.0 r.1
 
-use_any : (now : ℕ) (d : Datagram) (h : Heard) (station : Station (Unit {0})) (shelf : Shelf) → Any (use_shelf now d h station shelf)
+use_any : (now : ℕ) (d : Datagram) (h : PacketAnswer) (station : Station (Unit {0})) (shelf : Shelf) → Any (use_shelf now d h station shelf)
 use_any now d heard.Nothing station shelf = λ before. tt
 use_any now d (heard.Refused flow replied) station shelf = any_then (hold_if now d flow (early_number replied d.octets) shelf) (λ after. Done (round_with station after None)) (hold_any now d flow (early_number replied d.octets) shelf) (λ after before. tt)
 use_any now d (heard.Accepted flow next) station shelf = any_then (fetch flow next now shelf) (λ r. Done (round_with station r.1 r.0)) (fetch_any (length shelf.held) flow next now shelf) (λ r before. tt)

@@ -9,7 +9,7 @@ use Rattle.dt_edges.specs.Wires.{Datagram, HasWaited, OpensOne, TakesOne, WireSi
 use Rattle.dt_trace.specs.Inputs.{Input, Reading, Taken as Found}
 use Rattle.dt_trace.specs.Lines.{most_number, most_taken}
 use Rattle.dt_trace.specs.Standing.{HasFound}
-use Rattle.dt_node.specs.declared.forms.Form.{Form}
+use Rattle.dt_node.specs.declared.output_forms.OutputForm.{OutputForm}
 use Rattle.dt_node.specs.declared.watch.Watch.{Watch}
 use Rattle.dt_script.specs.Orders.{Orders, opening_of}
 use Rattle.dt_turn.specs.Nodes.{Node, first_node}
@@ -65,7 +65,7 @@ pub record Kept (o : Orders) (b : Edges) (readings : List ℕ) (takes : List (Op
   pub small : o.stop < 2 ^ 32
 
 -- a turn comes, whose reading isn't written yet
-pub record Going (form : Form) (o : Orders) (b : Edges) (reading gives : ℕ) (watch : Watch) (came : Option Datagram) (node : Node) (n : Edges) : Type 0 where
+pub record Going (form : OutputForm) (o : Orders) (b : Edges) (reading gives : ℕ) (watch : Watch) (came : Option Datagram) (node : Node) (n : Edges) : Type 0 where
   pub earlier : List ℕ
   pub takes : List (Option Datagram)
   pub deeds : List Deed
@@ -80,7 +80,7 @@ pub record Going (form : Form) (o : Orders) (b : Edges) (reading gives : ℕ) (w
   pub paced : length (earlier ++ reading ∷ []) ≤ most_equal * moment watch + watch.equal
 
 -- a turn was made
-pub record Passed (form : Form) (o : Orders) (b : Edges) (gives : ℕ) (watch : Watch) (answer : Option Node) (n : Edges) : Type 0 where
+pub record Passed (form : OutputForm) (o : Orders) (b : Edges) (gives : ℕ) (watch : Watch) (answer : Option Node) (n : Edges) : Type 0 where
   pub readings : List ℕ
   pub takes : List (Option Datagram)
   pub deeds : List Deed
@@ -93,7 +93,7 @@ pub record Passed (form : Form) (o : Orders) (b : Edges) (gives : ℕ) (watch : 
   pub asks : Asking (PausesCame o readings takes watch answer) (length takes) b.wire n.wire
   pub paced : length readings ≤ most_equal * moment watch + watch.equal
 
-module _ (form : Form) (o : Orders) (b : Edges) where
+module _ (form : OutputForm) (o : Orders) (b : Edges) where
   -- the first turn
   pub going_first : (v : WireSight) (r : ℕ) (d : ClockSight) → r ≤ most_number → o.stop < 2 ^ 32 → OpensOne (opening_of o) b.wire v → ReadsOne r b.clock d → Going form o b r 0 (first_watch r) None (first_node o) (record { wire = v; clock = d; held = b.held; faults = b.faults })
   going_first v r d fits small h k = record {

@@ -12,8 +12,8 @@ use Rattle.dt_trace.specs.Lines.{most_number}
 use Rattle.dt_trace.specs.Standing.{HasFound, Stand, noted_all}
 use Rattle.dt_trace.specs.Traces.{Recorded, last_number, noted, nothing, trace_of}
 use Rattle.dt_trace.proofs.TraceLaws.{noted_more, stand_more, trace_read}
-use Rattle.dt_node.specs.declared.forms.Form.{Form}
-use Rattle.dt_node.specs.declared.forms.Form.TheVariants as forms
+use Rattle.dt_node.specs.declared.output_forms.OutputForm.{OutputForm}
+use Rattle.dt_node.specs.declared.output_forms.OutputForm.TheVariants as forms
 use Rattle.dt_node.specs.declared.outcomes.NodeOutcome.{NodeOutcome}
 use Rattle.dt_node.specs.declared.outcomes.NodeOutcome.TheVariants.{Done, Refused, NoMemory, WireFault, ClockStill, WriteFault}
 use Rattle.dt_node.specs.Acts.{Deed, fates, log_lines}
@@ -148,21 +148,21 @@ traced_is o inputs outcome rs ts ds failing unopened text failed e h = record {
 }
 
 -- WHAT IS WRITTEN SO FAR, in both forms
-abbrev pub SoFar : Form → (me : ℕ) → List Input → List ℕ → List (Option Datagram) → List Deed → List ℕ → Type 0
+abbrev pub SoFar : OutputForm → (me : ℕ) → List Input → List ℕ → List (Option Datagram) → List Deed → List ℕ → Type 0
 SoFar forms.Log me inputs rs ts ds text = text ≡ log_text (log_lines me ds)
 SoFar forms.Trace me inputs rs ts ds text = Ran inputs rs ts ds text
 
-pub far_none : (form : Form) (me : ℕ) → SoFar form me [] [] [] [] []
+pub far_none : (form : OutputForm) (me : ℕ) → SoFar form me [] [] [] [] []
 far_none forms.Log me = refl
 far_none forms.Trace me = traced_none
 
-pub far_turn : (form : Form) (me : ℕ) (inputs : List Input) (rs : List ℕ) (ts : List (Option Datagram)) (ds more : List Deed) (text : List ℕ) (r gives : ℕ) → r ≤ most_number → gives ≡ counted 0 (fates ds) → SoFar form me inputs rs ts ds text
+pub far_turn : (form : OutputForm) (me : ℕ) (inputs : List Input) (rs : List ℕ) (ts : List (Option Datagram)) (ds more : List Deed) (text : List ℕ) (r gives : ℕ) → r ≤ most_number → gives ≡ counted 0 (fates ds) → SoFar form me inputs rs ts ds text
     → SoFar form me (inputs ++ Reading r ∷ failed_gives (counted 0 (fates ds)) more) (rs ++ r ∷ []) ts (ds ++ more) (text ++ (noted_text form (Reading r) ++ deeds_text form gives me more))
 far_turn forms.Log me inputs rs ts ds more text r gives fits e h = ap (λ (xs : List ℕ). xs ++ log_text (log_lines me more)) h ∙ sym (log_more me ds more)
 far_turn forms.Trace me inputs rs ts ds more text r gives fits e h =
     subst (λ (n : ℕ). Ran (inputs ++ Reading r ∷ failed_gives (counted 0 (fates ds)) more) (rs ++ r ∷ []) ts (ds ++ more) (text ++ (input_text (Reading r) ++ trace_text (failures n (fates more))))) (sym e) (traced_turn inputs rs ts ds more text r fits h)
 
-pub far_take : (form : Form) (me : ℕ) (inputs : List Input) (rs : List ℕ) (ts : List (Option Datagram)) (ds : List Deed) (text : List ℕ) (t : Option Datagram) → HasFound t → SoFar form me inputs rs ts ds text → SoFar form me (inputs ++ Taken t ∷ []) rs (ts ++ t ∷ []) ds (text ++ noted_text form (Taken t))
+pub far_take : (form : OutputForm) (me : ℕ) (inputs : List Input) (rs : List ℕ) (ts : List (Option Datagram)) (ds : List Deed) (text : List ℕ) (t : Option Datagram) → HasFound t → SoFar form me inputs rs ts ds text → SoFar form me (inputs ++ Taken t ∷ []) rs (ts ++ t ∷ []) ds (text ++ noted_text form (Taken t))
 far_take forms.Log me inputs rs ts ds text t fits h = append-nil text ∙ h
 far_take forms.Trace me inputs rs ts ds text t fits h = traced_take inputs rs ts ds text t fits h
 
@@ -183,7 +183,7 @@ unfailed WriteFault readings takes h = inl (refl, refl)
 unfailed WireFault readings takes h = absurd h
 unfailed Refused readings takes h = absurd h
 
-pub written_far : (form : Form) (o : Orders) (inputs : List Input) (outcome : NodeOutcome) (rs : List ℕ) (ts : List (Option Datagram)) (ds : List Deed) (text : List ℕ) → Unfailed outcome → inputs_in o rs ts ds ≡ inputs → SoFar form o.setup.me inputs rs ts ds text → Written form o outcome rs ts ds text
+pub written_far : (form : OutputForm) (o : Orders) (inputs : List Input) (outcome : NodeOutcome) (rs : List ℕ) (ts : List (Option Datagram)) (ds : List Deed) (text : List ℕ) → Unfailed outcome → inputs_in o rs ts ds ≡ inputs → SoFar form o.setup.me inputs rs ts ds text → Written form o outcome rs ts ds text
 written_far forms.Log o inputs outcome rs ts ds text k e h = h
 written_far forms.Trace o inputs outcome rs ts ds text k e h = traced_is o inputs outcome rs ts ds [] false text (unfailed outcome (length rs) (length ts) k) (whole_list o rs ts ds inputs e) h
 
@@ -204,7 +204,7 @@ take_failed ClockStill readings takes some h = absurd h
 take_failed NoMemory readings takes some h = absurd h
 take_failed Refused readings takes some h = absurd h
 
-pub written_failed : (form : Form) (o : Orders) (inputs : List Input) (outcome : NodeOutcome) (rs : List ℕ) (ts : List (Option Datagram)) (ds : List Deed) (text : List ℕ) → ByWire outcome → 0 < length rs → inputs_in o rs ts ds ≡ inputs → SoFar form o.setup.me inputs rs ts ds text → Written form o outcome rs ts ds (text ++ noted_text form FailedTake)
+pub written_failed : (form : OutputForm) (o : Orders) (inputs : List Input) (outcome : NodeOutcome) (rs : List ℕ) (ts : List (Option Datagram)) (ds : List Deed) (text : List ℕ) → ByWire outcome → 0 < length rs → inputs_in o rs ts ds ≡ inputs → SoFar form o.setup.me inputs rs ts ds text → Written form o outcome rs ts ds (text ++ noted_text form FailedTake)
 written_failed forms.Log o inputs outcome rs ts ds text k some e h = append-nil text ∙ h
 written_failed forms.Trace o inputs outcome rs ts ds text k some e h =
     traced_is o (inputs ++ FailedTake ∷ []) outcome rs ts ds ((length ts + 1) ∷ []) false (text ++ input_text FailedTake) (take_failed outcome (length rs) (length ts) some k) (failed_list o rs ts ds inputs (length ts + 1) e) (traced_failed inputs rs ts ds text h)
@@ -217,6 +217,6 @@ open_failed ClockStill h = absurd h
 open_failed NoMemory h = absurd h
 open_failed Refused h = absurd h
 
-pub written_unopened : (form : Form) (o : Orders) (outcome : NodeOutcome) → ByWire outcome → Written form o outcome [] [] [] (noted_text form FailedOpen)
+pub written_unopened : (form : OutputForm) (o : Orders) (outcome : NodeOutcome) → ByWire outcome → Written form o outcome [] [] [] (noted_text form FailedOpen)
 written_unopened forms.Log o outcome k = refl
 written_unopened forms.Trace o outcome k = traced_is o (FailedOpen ∷ []) outcome [] [] [] [] true (input_text FailedOpen) (open_failed outcome k) (unopened_list o) traced_open

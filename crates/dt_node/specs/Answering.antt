@@ -2,7 +2,7 @@
 use Rattle.std.specs.Prelude.{◌≡◌, ℕ, List, Option, Some, None}
 use Rattle.dt_node.specs.declared.outcomes.NodeOutcome.{NodeOutcome}
 use Rattle.dt_node.specs.declared.outcomes.NodeOutcome.TheVariants.{Done, Refused, NoMemory, WireFault, ClockStill, WriteFault}
-use Rattle.dt_node.specs.declared.forms.Form.{Form}
+use Rattle.dt_node.specs.declared.output_forms.OutputForm.{OutputForm}
 use Rattle.dt_script.specs.Drafts.{refusal_text, script_of}
 use Rattle.dt_script.specs.Orders.{Orders}
 use Rattle.dt_node.specs.Serving.{Edges, Logs, Serves, SinkFaults}
@@ -24,10 +24,10 @@ pub record RefusesAs (outcome : NodeOutcome) (text : List ℕ) (before after : E
   pub log : Logs outcome text before.held after.held
   pub sink_faults : SinkFaults outcome before.faults after.faults
 
-abbrev pub AnswersBy : Form → Option Orders → List ℕ → NodeOutcome → Edges → Edges → Type 0
+abbrev pub AnswersBy : OutputForm → Option Orders → List ℕ → NodeOutcome → Edges → Edges → Type 0
 AnswersBy form None text outcome before after = RefusesAs outcome text before after
 AnswersBy form (Some o) text outcome before after = Serves form o outcome before after
 
 -- What is written has this form. `Refused` comes exactly where the script is refused; else the answer is that of its orders.
-abbrev pub Answers : Form → List ℕ → NodeOutcome → Edges → Edges → Type 0
+abbrev pub Answers : OutputForm → List ℕ → NodeOutcome → Edges → Edges → Type 0
 Answers form octets outcome before after = AnswersBy form (script_of octets) (refusal_text octets) outcome before after

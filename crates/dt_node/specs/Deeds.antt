@@ -12,9 +12,9 @@ use Rattle.dt_fold.specs.Logging.{StopsIn}
 use Rattle.dt_trace.specs.Inputs.{FailedGive, trace_text}
 use Rattle.dt_world_model.specs.Script.{Script}
 use Rattle.dt_node.specs.Acts.{Act, Tells, Hands, Deed, Says, Gives, act_of, acts_of, answer_of, log_lines, sent_frames, node_frames, fates}
-use Rattle.dt_node.specs.declared.forms.Form.{Form}
-use Rattle.dt_node.specs.declared.forms.Form.TheVariants as forms
-use Rattle.dt_node.specs.declared.logs.Log.{Log}
+use Rattle.dt_node.specs.declared.output_forms.OutputForm.{OutputForm}
+use Rattle.dt_node.specs.declared.output_forms.OutputForm.TheVariants as forms
+use Rattle.dt_node.specs.declared.node_logs.NodeLog.{NodeLog}
 use Rattle.dt_node.specs.declared.recorders.Writer.{Writer}
 use Rattle.dt_node.specs.Logging.{LogSight}
 
@@ -53,7 +53,7 @@ lost_numbers calls (true ∷ more) = next_count calls ∷ lost_numbers (next_cou
 lost_numbers calls (false ∷ more) = lost_numbers (next_count calls) more
 
 -- WHAT IS WRITTEN of deeds, after so many gives: the lines of a log, or those of a trace that tell which gives failed
-abbrev pub deeds_text : Form → (gives me : ℕ) → List Deed → List ℕ
+abbrev pub deeds_text : OutputForm → (gives me : ℕ) → List Deed → List ℕ
 deeds_text forms.Log gives me deeds = log_text (log_lines me deeds)
 deeds_text forms.Trace gives me deeds = trace_text (map FailedGive (lost_numbers gives (fates deeds)))
 
@@ -113,11 +113,11 @@ scene gives wire out = record { gives = gives; wire = wire; held = out.held; fau
 abbrev pub written_scene : {W K : Type 0} → (W → WireSight) → (K → SinkSight) → Writer → W → K → Scene
 written_scene wire sink writer w k = scene writer.gives (wire w) (sink k)
 
-abbrev pub log_scene : {W K : Type 0} → (W → WireSight) → (K → SinkSight) → Log W K → Scene
+abbrev pub log_scene : {W K : Type 0} → (W → WireSight) → (K → SinkSight) → NodeLog W K → Scene
 log_scene wire sink log = written_scene wire sink log.writer log.wire.now log.out.now
 
 -- all of these deeds were done, and something was written first
-pub record Wrote (form : Form) (me : ℕ) (first : List ℕ) (deeds : List Deed) (s t : Scene) : Type 0 where
+pub record Wrote (form : OutputForm) (me : ℕ) (first : List ℕ) (deeds : List Deed) (s t : Scene) : Type 0 where
   pub gives : t.gives ≡ counted s.gives (fates deeds)
   pub held : Appends s.held t.held (first ++ deeds_text form s.gives me deeds)
   pub faults : t.faults ≡ s.faults
@@ -128,12 +128,12 @@ FaultsBy stops.NoMemory before after = after ≡ before
 FaultsBy stops.WriteFault before after = HasRisen before after
 
 -- a first part of them was done
-pub record WroteSome (form : Form) (me : ℕ) (first : List ℕ) (deeds : List Deed) (stop : Stop) (s t : Scene) : Type 0 where
+pub record WroteSome (form : OutputForm) (me : ℕ) (first : List ℕ) (deeds : List Deed) (stop : Stop) (s t : Scene) : Type 0 where
   pub held : (count : ℕ) × Appends s.held t.held (take count (first ++ deeds_text form s.gives me deeds))
   pub faults : FaultsBy stop s.faults t.faults
   pub wire : GaveSome deeds s.wire t.wire
 
 -- A turn by its script: it was played whole, or it stopped and says why.
-abbrev pub TurnEnds : {A : Type 0} → Result Bool Stop → Form → (me now : ℕ) → List ℕ → Script (Unit {0}) A → A → Scene → Scene → Type 0
+abbrev pub TurnEnds : {A : Type 0} → Result Bool Stop → OutputForm → (me now : ℕ) → List ℕ → Script (Unit {0}) A → A → Scene → Scene → Type 0
 TurnEnds (Ok stopped) form me now first script answer s t = (deeds : List Deed) × (map act_of deeds ≡ acts_of now script) × Wrote form me first deeds s t × (answer_of script ≡ answer)
 TurnEnds (Err stop) form me now first script answer s t = (deeds : List Deed) × (map act_of deeds ≡ acts_of now script) × WroteSome form me first deeds stop s t

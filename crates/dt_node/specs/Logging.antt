@@ -13,22 +13,22 @@ use Rattle.dt_trace.specs.Inputs.{FailedGive, Input, input_text}
 use Rattle.dt_world_model.specs.Host.{Host}
 use Rattle.dt_world_model.specs.Relay.{Parcel}
 use Rattle.dt_node.specs.Acts.{entry}
-use Rattle.dt_node.specs.declared.forms.Form.{Form}
-use Rattle.dt_node.specs.declared.forms.Form.TheVariants as forms
-use Rattle.dt_node.specs.declared.logs.Log.{Log}
+use Rattle.dt_node.specs.declared.output_forms.OutputForm.{OutputForm}
+use Rattle.dt_node.specs.declared.output_forms.OutputForm.TheVariants as forms
+use Rattle.dt_node.specs.declared.node_logs.NodeLog.{NodeLog}
 use Rattle.dt_node.specs.declared.outcomes.NodeOutcome.{NodeOutcome}
 use Rattle.dt_node.specs.declared.outcomes.NodeOutcome.TheVariants as outcomes
 
 -- WHAT IS WRITTEN, by the form: a log has a line of each report, and a trace one of each input. A give that failed has its line in both
 
 -- of an input
-abbrev pub noted_text : Form → Input → List ℕ
+abbrev pub noted_text : OutputForm → Input → List ℕ
 noted_text forms.Log input = []
 noted_text forms.Trace input = input_text input
 
 -- what no call of a log changes: the form of what it writes, the moment and the node of its lines, and which wire and sink it has
 pub record Fixed : Type 0 where
-  pub form : Form
+  pub form : OutputForm
   pub moment : ℕ
   pub me : ℕ
   pub wire : GName
@@ -43,10 +43,10 @@ pub record LogSight : Type 0 where
   pub out : SinkSight
   pub wire : WireSight
 
-abbrev pub fixed_of : {W K : Type 0} → Log W K → Fixed
+abbrev pub fixed_of : {W K : Type 0} → NodeLog W K → Fixed
 fixed_of log = record { form = log.writer.form; moment = log.moment; me = log.me; wire = log.wire.ghost_name; out = log.out.ghost_name }
 
-abbrev pub log_sight : {W K : Type 0} → (W → WireSight) → (K → SinkSight) → Log W K → LogSight
+abbrev pub log_sight : {W K : Type 0} → (W → WireSight) → (K → SinkSight) → NodeLog W K → LogSight
 log_sight wire sink log = record { fixed = fixed_of log; gives = log.writer.gives; failed = log.failed; out = sink log.out.now; wire = wire log.wire.now }
 
 -- a text was put: whole, or a first part of it, where a put failed
@@ -58,11 +58,11 @@ abbrev pub line_at : Fixed → Told → List ℕ
 line_at fixed told = entry_text (entry fixed.me fixed.moment told)
 
 -- what is written of a report, and of the give of this number that failed
-abbrev pub told_text : Form → Fixed → Told → List ℕ
+abbrev pub told_text : OutputForm → Fixed → Told → List ℕ
 told_text forms.Log fixed told = line_at fixed told
 told_text forms.Trace fixed told = []
 
-abbrev pub lost_text : Form → Fixed → (number link : ℕ) → List ℕ
+abbrev pub lost_text : OutputForm → Fixed → (number link : ℕ) → List ℕ
 lost_text forms.Log fixed number link = line_at fixed (report.Unsent link)
 lost_text forms.Trace fixed number link = input_text (FailedGive number)
 
@@ -114,20 +114,20 @@ abbrev pub log_fails : {V : Type 0} → V → V → Type 0
 log_fails v w = ⊥
 
 -- AN INPUT IS NOTED on a sink: its line is written where the form has one
-abbrev pub Notes : {K T E : Type 0} → (K → SinkSight) → Form → Input → Result T E → K → K → Type 0
+abbrev pub Notes : {K T E : Type 0} → (K → SinkSight) → OutputForm → Input → Result T E → K → K → Type 0
 Notes sight forms.Log input (Ok done) old new = new ≡ old
 Notes sight forms.Log input (Err fault) old new = ⊥
 Notes sight forms.Trace input result old new = Puts sight (input_text input) result old new
 
 -- the same of a sink behind an empty buffer, which is empty again
-abbrev pub NotesBehind : {T E : Type 0} → Form → Input → Result T E → SinkSight → SinkSight → Type 0
+abbrev pub NotesBehind : {T E : Type 0} → OutputForm → Input → Result T E → SinkSight → SinkSight → Type 0
 NotesBehind forms.Log input (Ok done) before after = after ≡ before
 NotesBehind forms.Log input (Err fault) before after = ⊥
 NotesBehind forms.Trace input (Ok done) before after = HasAll (input_text input) before after × (after.faults ≡ before.faults)
 NotesBehind forms.Trace input (Err fault) before after = HasPart (input_text input) before after × HasRisen before.faults after.faults
 
 -- a fault of the wire is noted: that is the end, or the put failed that told it
-abbrev pub NotesFault : Input → Form → NodeOutcome → SinkSight → SinkSight → Type 0
+abbrev pub NotesFault : Input → OutputForm → NodeOutcome → SinkSight → SinkSight → Type 0
 NotesFault input form outcomes.Done before after = ⊥
 NotesFault input form outcomes.Refused before after = ⊥
 NotesFault input form outcomes.NoMemory before after = ⊥

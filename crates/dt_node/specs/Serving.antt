@@ -15,8 +15,8 @@ use Rattle.dt_node.specs.Acts.{Deed, act_of, log_lines, node_lines, sent_frames,
 use Rattle.dt_node.specs.Runs.{Ending, Stopped, StoodStill, Unfinished, node_run, most_equal}
 use Rattle.dt_node.specs.HandingIn.{IsAgainOf, handed_again, handed_over}
 use Rattle.dt_node.specs.InOrder.{UnsentInOrder, without_unsent_lines}
-use Rattle.dt_node.specs.declared.forms.Form.{Form}
-use Rattle.dt_node.specs.declared.forms.Form.TheVariants as forms
+use Rattle.dt_node.specs.declared.output_forms.OutputForm.{OutputForm}
+use Rattle.dt_node.specs.declared.output_forms.OutputForm.TheVariants as forms
 use Rattle.dt_node.specs.Deeds.{Sublist, lost, lost_numbers, FatesFrom}
 use Rattle.dt_node.specs.TakingIn.{run_inputs}
 use Rattle.dt_node.specs.Waiting.{Asks}
@@ -120,7 +120,7 @@ HasOpened NoMemory readings = ⊥
 HasOpened WriteFault readings = ⊥
 
 -- The count of faults of open and take. In a trace the put may fail that tells of an open or of a take that failed
-abbrev pub TakeFaults : Form → NodeOutcome → ℕ → ℕ → Type 0
+abbrev pub TakeFaults : OutputForm → NodeOutcome → ℕ → ℕ → Type 0
 TakeFaults form WireFault before after = HasRisen before after
 TakeFaults form Done before after = after ≡ before
 TakeFaults form Refused before after = after ≡ before
@@ -185,13 +185,13 @@ pub record IsTrace (o : Orders) (outcome : NodeOutcome) (readings : List ℕ) (t
   pub read : length (fates deeds) < 2 ^ 64 → trace_of text ≡ Ok (recorded readings takes deeds failing unopened)
 
 -- The log: the lines of the run, and after the `put` line of each frame that was lost its `unsent` line. Or the trace.
-abbrev pub Written : Form → Orders → NodeOutcome → List ℕ → List (Option Datagram) → List Deed → List ℕ → Type 0
+abbrev pub Written : OutputForm → Orders → NodeOutcome → List ℕ → List (Option Datagram) → List Deed → List ℕ → Type 0
 Written forms.Log o outcome readings takes deeds text = text ≡ log_text (log_lines o.setup.me deeds)
 Written forms.Trace o outcome readings takes deeds text = IsTrace o outcome readings takes deeds text
 
 -- WHAT IS TRUE OF A RUN OF ACCEPTED ORDERS, by the form of what is written
 
-pub record Serves (form : Form) (o : Orders) (outcome : NodeOutcome) (before after : Edges) : Type 0 where
+pub record Serves (form : OutputForm) (o : Orders) (outcome : NodeOutcome) (before after : Edges) : Type 0 where
   -- the readings, what the takes handed over, and the acts as they were done
   pub readings : List ℕ
   pub takes : List (Option Datagram)

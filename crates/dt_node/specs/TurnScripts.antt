@@ -13,7 +13,7 @@ use Rattle.dt_turn.specs.Codes as codes
 use Rattle.dt_turn.specs.Nodes as model
 use Rattle.dt_turn.specs.Turns.{turn}
 use Rattle.dt_trace.specs.Inputs.{Reading}
-use Rattle.dt_node.specs.declared.forms.Form.{Form}
+use Rattle.dt_node.specs.declared.output_forms.OutputForm.{OutputForm}
 use Rattle.dt_node.specs.declared.turns.Turn.{Turn}
 use Rattle.dt_node.specs.Deeds.{Scene, TurnEnds}
 use Rattle.dt_node.specs.Logging.{noted_text}
@@ -32,12 +32,12 @@ abbrev pub turned : Result Bool Stop → model.Node → Option model.Node
 turned result node = codes.turned {E = Stop} result node
 
 -- A TURN THAT IS TAKEN, by what it leaves of its node and of what surrounds it: in this form the line of its reading was written, and then all was done that its script says, or a first part, where it stopped. It is the turn of this node at this moment
-abbrev pub PlaysTurn : Form → (me now : ℕ) → Turn → Result Bool Stop → (old new : Node) → (before after : Scene) → Type 0
+abbrev pub PlaysTurn : OutputForm → (me now : ℕ) → Turn → Result Bool Stop → (old new : Node) → (before after : Scene) → Type 0
 PlaysTurn form me now t result old new before after =
     TurnEnds result form me now (noted_text form (Reading t.reading)) (turn_script t old) (turned result (node_seen t.orders.now new)) before after
 
 -- at its own
-abbrev pub TakesTurn : Form → Turn → Result Bool Stop → (old new : Node) → (before after : Scene) → Type 0
+abbrev pub TakesTurn : OutputForm → Turn → Result Bool Stop → (old new : Node) → (before after : Scene) → Type 0
 TakesTurn form t result old new before after = PlaysTurn form t.orders.now.setup.me.0 t.moment t result old new before after
 
 -- what a turn at a moment leaves of its node: one that can take the next turn, before the stop where the run goes on; and where memory ran out, one that is used no more

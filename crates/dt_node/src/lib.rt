@@ -1,13 +1,13 @@
 //! A node over a wire and a clock: its turns, its log and its trace.
 #![tactic(auto)]
 
-mod forms;
 mod laws;
-mod logs;
+mod node_logs;
+mod node_runs;
 mod outcomes;
+mod output_forms;
 mod recorders;
 mod running;
-mod runs;
 mod serving;
 mod turns;
 mod watch;

@@ -4,14 +4,14 @@ ghost use Rattle.dt_trace.specs.Written.{input_written};
 ghost use Rattle.dt_trace.specs.Inputs.{input_text};
 ghost use Rattle.dt_node.specs.Logging.{Gathers, Notes, NotesBehind, shown, shown_behind};
 
-use crate::forms::Form;
+use crate::output_forms::OutputForm;
 use dt_edges::{Buffer, Buffered, Failed, Sink};
 use dt_trace::{Input, put_input};
 
 /// The form of what is written, and how many frames were given. The count stands still at 2^64 - 1.
 #[derive(Clone, Copy, Debug, PartialEq, Eq)]
 pub struct Writer {
-    pub form: Form,
+    pub form: OutputForm,
     pub gives: u64,
 }
 
@@ -21,8 +21,8 @@ impl Writer {
         ensures { Notes K.sight self.form (input_written input.now) result out.old out.new }
     {
         match self.form {
-            Form::Log => Ok(()),
-            Form::Trace => put_input(input, out),
+            OutputForm::Log => Ok(()),
+            OutputForm::Trace => put_input(input, out),
         }
     }
 }
@@ -60,8 +60,8 @@ impl Recorder {
         ensures same { self.new.writer ≡ self.old.writer }
     {
         match self.writer.form {
-            Form::Log => Ok(()),
-            Form::Trace => {
+            OutputForm::Log => Ok(()),
+            OutputForm::Trace => {
                 gather(input, out, &mut self.buffer)?;
                 self.buffer.pass_on(out)
             }

@@ -14,16 +14,16 @@ ghost use Rattle.dt_node.specs.Logging.{NotesFault};
 ghost use Rattle.dt_node.specs.Runs.{next_moment, wait_until, wakes_by};
 ghost use Rattle.dt_node.specs.Serving.{Serves, seen_by};
 
+use crate::node_runs::NodeRun;
 use crate::outcomes::NodeOutcome;
 use crate::recorders::Recorder;
-use crate::runs::Run;
 use crate::turns::Turn;
 use crate::watch::{MOST_EQUAL, Watch};
 use dt_edges::{Clock, Sink, Wire};
 use dt_fold::Stop;
 use dt_script::Orders;
 use dt_trace::{Input, MOST_TAKEN};
-use dt_turn::{Node, arrival_of};
+use dt_turn::{Node, datagram_of};
 
 /// How long a take may wait: to the station's wake and to the next command or the stop, 1 to 1,000 ms.
 fn wait_for(orders: &Orders, node: &Node, moment: u64) -> u32
@@ -68,7 +68,7 @@ fn input_of(came: Option<(u16, usize)>, octets: &[u8]) -> Input<'_>
 /// and has counted no frame.
 pub fn run_turns<W: Wire, C: Clock, K: Sink>(
     orders: &Orders,
-    run: &mut Run,
+    run: &mut NodeRun,
     wire: &mut W,
     clock: &mut C,
     out: &mut K,
@@ -91,7 +91,7 @@ pub fn run_turns<W: Wire, C: Clock, K: Sink>(
     let mut watch = Watch::start(reading);
     'turns: loop {
         let moment = watch.moment();
-        let arrival = arrival_of(came, &octets);
+        let arrival = datagram_of(came, &octets);
         let turn = Turn {
             orders,
             reading,

@@ -5,15 +5,15 @@ ghost use Rattle.dt_node.specs.Answering.{Answers};
 ghost use Rattle.dt_node.specs.Completing.{Completes};
 ghost use Rattle.dt_script.specs.Codes.{IsGood, orders_seen};
 ghost use Rattle.dt_turn.specs.Codes.{IsReady, node_seen};
-ghost use Rattle.dt_node.specs.declared.forms.Form.TheVariants.{Log, Trace};
+ghost use Rattle.dt_node.specs.declared.output_forms.OutputForm.TheVariants.{Log, Trace};
 ghost use Rattle.dt_turn.specs.Nodes.{first_node};
 ghost use Rattle.dt_node.specs.Serving.{Serves, seen_by};
 
-use crate::forms::Form;
+use crate::node_runs::NodeRun;
 use crate::outcomes::NodeOutcome;
+use crate::output_forms::OutputForm;
 use crate::recorders::{Recorder, Writer};
 use crate::running::run_turns;
-use crate::runs::Run;
 use dt_edges::{Buffer, Clock, Sink, Wire};
 use dt_fold::{Stop, fold_input};
 use dt_items::NoMemory;
@@ -23,14 +23,14 @@ use std::alloc::Global;
 
 /// How a script is served: from where memory is taken, and what is written.
 #[derive(Clone, Copy)]
-struct Job {
+struct ServingOptions {
     alloc: Global,
-    form: Form,
+    form: OutputForm,
 }
 
-impl Job {
+impl ServingOptions {
     /// What a run takes before its first turn: the node, and the buffer for the lines of a turn.
-    fn prepare(self, orders: &Orders) -> Result<Run, NoMemory>
+    fn prepare(self, orders: &Orders) -> Result<NodeRun, NoMemory>
         ensures first { IfOk result (λ run. node_seen orders.now run.node ≡ first_node (orders_seen orders.now)) }
         ensures ready { IfOk result (λ run. IsReady orders.now 0 run.node) }
         ensures empty { IfOk result (λ run. run.recorder.buffer ≡ []) }
@@ -43,7 +43,7 @@ impl Job {
         };
         let node = Node::new(self.alloc, orders)?;
         let recorder = Recorder { writer, buffer };
-        Ok(Run { node, recorder })
+        Ok(NodeRun { node, recorder })
     }
 
     /// Carries out the orders of a script.
@@ -127,8 +127,8 @@ pub fn serve<W: Wire, C: Clock, K: Sink>(
     ensures completes { let seen = seen_by W.sight C.sight K.sight in
         Completes script.now result (seen wire.old clock.old out.old) (seen wire.new clock.new out.new) }
 {
-    let form = Form::Log;
-    Job { alloc, form }.serve_script(script, wire, clock, out)
+    let form = OutputForm::Log;
+    ServingOptions { alloc, form }.serve_script(script, wire, clock, out)
 }
 
 /// Runs the node of a script as [`serve`] does, and writes a trace in place of the log: what the run
@@ -156,6 +156,6 @@ pub fn serve_traced<W: Wire, C: Clock, K: Sink>(
     ensures completes { let seen = seen_by W.sight C.sight K.sight in
         Completes script.now result (seen wire.old clock.old out.old) (seen wire.new clock.new out.new) }
 {
-    let form = Form::Trace;
-    Job { alloc, form }.serve_script(script, wire, clock, out)
+    let form = OutputForm::Trace;
+    ServingOptions { alloc, form }.serve_script(script, wire, clock, out)
 }

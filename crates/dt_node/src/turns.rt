@@ -4,12 +4,12 @@ ghost use Rattle.dt_turn.specs.Codes.{MayTurn};
 ghost use Rattle.dt_node.specs.Deeds.{written_scene};
 ghost use Rattle.dt_node.specs.TurnScripts.{Leaves, TakesTurn};
 
-use crate::logs::Log;
+use crate::node_logs::NodeLog;
 use crate::recorders::Writer;
 use dt_edges::{Sink, Wire};
 use dt_fold::Stop;
 use dt_script::Orders;
-use dt_turn::{Arrival, Node};
+use dt_turn::{LinkDatagram, Node};
 
 /// A turn that is to be taken: what is ordered, the clock's reading and its moment, in ms, and what the
 /// last turn took.
@@ -18,7 +18,7 @@ pub struct Turn<'o, 'c> {
     pub orders: &'o Orders,
     pub reading: u64,
     pub moment: u64,
-    pub came: Option<Arrival<'c>>,
+    pub came: Option<LinkDatagram<'c>>,
 }
 
 impl<'o, 'c> Turn<'o, 'c> {
@@ -39,7 +39,7 @@ impl<'o, 'c> Turn<'o, 'c> {
         ensures reached { Grows (K.sight out.old).reached (K.sight out.new).reached }
         ensures leaves { Leaves self.entry.orders.now self.entry.moment result node.new }
     {
-        let mut log = Log {
+        let mut log = NodeLog {
             wire,
             out,
             writer: *writer,

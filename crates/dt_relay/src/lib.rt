@@ -2,8 +2,8 @@
 #![tactic(auto)]
 
 mod carrying;
+mod first_places;
 mod passages;
-mod places;
 mod queues;
 mod relays;
 

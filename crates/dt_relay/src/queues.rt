@@ -34,14 +34,14 @@ pub(crate) struct Waiting<P> {
 
 /// The packets that wait for one link, the first to leave in front.
 #[derive(Drop)]
-pub(crate) struct Queue<P: Carry> {
+pub(crate) struct LinkQueue<P: Carry> {
     link: u16,
     pace: u32,
     ring: HeapCircularBuffer<Waiting<P>>,
     last: Option<u64>,
 }
 
-impl<P: Carry> Model for Queue<P> {
+impl<P: Carry> Model for LinkQueue<P> {
     ghost use Rattle.std.specs.Prelude.{map};
     ghost use Rattle.dt_world_model.specs.Relay.{Out};
     ghost use Rattle.dt_relay.specs.Carrying.{waiting_seen};
@@ -54,13 +54,13 @@ impl<P: Carry> Model for Queue<P> {
     ghost invariant = { λ q. IsQueue P.octets q.ring q.last };
 }
 
-impl<P: Carry> Queue<P> {
+impl<P: Carry> LinkQueue<P> {
     /// Nothing waits, and nothing has left. Takes the room for 64 packets.
-    pub(crate) fn new(alloc: Global, link: u16, pace: u32) -> Result<Queue<P>, NoMemory>
+    pub(crate) fn new(alloc: Global, link: u16, pace: u32) -> Result<LinkQueue<P>, NoMemory>
         ensures { IfOk result (λ queue. queue ≡ empty_out link pace) }
     {
         let ring = HeapCircularBuffer::with_capacity(alloc, MOST_ON_LINK)?;
-        Ok(Queue {
+        Ok(LinkQueue {
             link,
             pace,
             ring,

@@ -9,9 +9,9 @@ ghost use Rattle.dt_relay.specs.Places.{link_in, link_of, place_of};
 ghost use Rattle.dt_relay.specs.Ways.{StaysUnlessQueued, entered_by, way_to, with_route};
 
 use crate::carrying::Carry;
+use crate::first_places::{FirstPlaces, place_in, places_in};
 use crate::passages::Passage;
-use crate::places::{Places, place_in, places_in};
-use crate::queues::{Left, Queue};
+use crate::queues::{Left, LinkQueue};
 use dt_flow_model::Reading;
 use dt_items::NoMemory;
 use dt_layout::Frame;
@@ -27,13 +27,13 @@ use std::marker::Model;
 /// paces are milliseconds. The memory is taken by [`Relay::new`], and no other call takes any.
 #[derive(Drop)]
 pub struct Relay<P: Carry> {
-    outs: Vec<Queue<P>>,
+    outs: Vec<LinkQueue<P>>,
     ins: Vec<InLink>,
     routes: Vec<Route>,
     /// Where the first stands, by the link's number or by the node.
-    out_places: Places,
-    in_places: Places,
-    route_places: Places,
+    out_places: FirstPlaces,
+    in_places: FirstPlaces,
+    route_places: FirstPlaces,
     /// For each out link, where the first stands that has its number.
     firsts: Vec<Option<usize>>,
 }
@@ -331,12 +331,12 @@ impl<P: Carry> Relay<P> {
 }
 
 // A queue on which nothing waits for each out link.
-fn empty_queues<P: Carry>(alloc: Global, outs: &[OutLink]) -> Result<Vec<Queue<P>>, NoMemory>
+fn empty_queues<P: Carry>(alloc: Global, outs: &[OutLink]) -> Result<Vec<LinkQueue<P>>, NoMemory>
     ensures { IfOk result (λ queues. queues.items ≡ map (λ o. empty_out o.link o.pace) outs.now) }
 {
     let mut queues = Vec::with_capacity(alloc, outs.len())?;
     for out in outs {
-        queues.push(Queue::new(alloc, out.link, out.pace)?)?;
+        queues.push(LinkQueue::new(alloc, out.link, out.pace)?)?;
     }
     Ok(queues)
 }
@@ -345,7 +345,7 @@ fn empty_queues<P: Carry>(alloc: Global, outs: &[OutLink]) -> Result<Vec<Queue<P
 fn firsts_of(
     alloc: Global,
     outs: &[OutLink],
-    places: &Places,
+    places: &FirstPlaces,
 ) -> Result<Vec<Option<usize>>, NoMemory>
     ensures { IfOk result (λ firsts. firsts.items ≡ map (λ o. get nat_eq places.now o.link) outs.now) }
 {

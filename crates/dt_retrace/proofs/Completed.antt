@@ -6,7 +6,7 @@ use Rattle.dt_edges.specs.Wires.{Plan}
 use Rattle.dt_reports.specs.declared.faults.LineFault.{LineFault}
 use Rattle.dt_text.specs.InputLines.{lines_of}
 use Rattle.dt_trace.specs.Traces.{Recorded, nothing, or_zero, read_from}
-use Rattle.dt_node.specs.declared.forms.Form.TheVariants as forms
+use Rattle.dt_node.specs.declared.output_forms.OutputForm.TheVariants as forms
 use Rattle.dt_node.specs.declared.outcomes.NodeOutcome.{NodeOutcome}
 use Rattle.dt_node.specs.declared.outcomes.NodeOutcome.TheVariants.{Done, Refused, NoMemory, WireFault, ClockStill, WriteFault}
 use Rattle.dt_node.specs.Answering.{AnswersBy}

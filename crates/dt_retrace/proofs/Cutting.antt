@@ -5,7 +5,7 @@ use Rattle.std.proofs.lemmas.List.{append-nil}
 use Rattle.std.proofs.lemmas.List.Concat.{flat_map-append}
 use Rattle.std.proofs.Math.Seq.{take-append-add}
 use Rattle.dt_text.specs.InputLines.{lines_of, most_input}
-use Rattle.dt_retrace.specs.declared.parts.Parts.{Parts}
+use Rattle.dt_retrace.specs.declared.cut_inputs.CutInput.{CutInput}
 use Rattle.dt_retrace.specs.Parts.{IsCut, cut_lines, is_mark, text_of, with_line}
 
 abbrev pub Cut : Type 0
@@ -67,7 +67,7 @@ before_rest xs rest =
     ap (λ (k : ℕ). take k (xs ++ rest)) n ∙ take-append-add xs rest 0 ∙ append-nil xs
 
 -- the line `trace` was found
-pub cut_found : (octets rest line more : List ℕ) (lines : ℕ) (p : Parts) → 0 < length rest → length octets ≤ most_input → Passed octets rest lines → lines_of rest ≡ line ∷ lines_of more → length more < length rest → is_mark line ≡ true
+pub cut_found : (octets rest line more : List ℕ) (lines : ℕ) (p : CutInput) → 0 < length rest → length octets ≤ most_input → Passed octets rest lines → lines_of rest ≡ line ∷ lines_of more → length more < length rest → is_mark line ≡ true
     → p.script.now ≡ take (length octets - length rest) octets → p.mark ≡ lines + 1 → p.trace.now ≡ more → (parts : List (List ℕ) × List (List ℕ)) × (cut_lines (lines_of octets) ≡ Some parts) × IsCut p parts
 cut_found octets rest line more lines p some least h cut fewer is script number trace =
     let whole = h.whole some in

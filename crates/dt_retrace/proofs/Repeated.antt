@@ -13,7 +13,7 @@ use Rattle.dt_trace.specs.Inputs.{Input, Reading, Taken, FailedTake, FailedGive,
 use Rattle.dt_trace.specs.Standing.{HasFound, IsInput, Stand, noted_all}
 use Rattle.dt_trace.specs.Traces.{Recorded, noted, nothing, or_zero, trace_of, wire_of}
 use Rattle.dt_trace.specs.Lines.{most_taken}
-use Rattle.dt_node.specs.declared.forms.Form.TheVariants as forms
+use Rattle.dt_node.specs.declared.output_forms.OutputForm.TheVariants as forms
 use Rattle.dt_node.specs.declared.outcomes.NodeOutcome.{NodeOutcome}
 use Rattle.dt_node.specs.declared.outcomes.NodeOutcome.TheVariants.{Done, Refused, NoMemory, WireFault, ClockStill, WriteFault}
 use Rattle.dt_node.specs.Acts.{Deed, act_of, fates, log_lines}

@@ -8,7 +8,7 @@ use Rattle.dt_trace.specs.Lines.{input_of}
 use Rattle.dt_trace.specs.Traces.{Recorded, is_placed, note_then, noted, nothing, read_from, trace_of}
 use Rattle.dt_edges.specs.Sinks.{SinkSight}
 use Rattle.dt_node.specs.declared.outcomes.NodeOutcome.{NodeOutcome}
-use Rattle.dt_retrace.specs.declared.parts.Parts.{Parts}
+use Rattle.dt_retrace.specs.declared.cut_inputs.CutInput.{CutInput}
 use Rattle.dt_retrace.specs.Parts.{CutsTo, text_of}
 use Rattle.dt_retrace.specs.Retracing.{RefusesWith, Reruns, RerunsBy, Retraces, RetracesBy, refused_text}
 use Rattle.dt_trace.proofs.Folding.{read_end, read_next}
@@ -51,20 +51,20 @@ no_mark octets lines outcome a z cut h =
     inl (subst (λ (p : Option (List (List ℕ) × List (List ℕ))). RetracesBy (length (lines_of octets)) p outcome a z) (sym cut.0)
     (subst (λ (n : ℕ). RefusesWith outcome (refused_text (n + 1) Order) a z) cut.1 h))
 
-by_trace : (octets : List ℕ) (p : Parts) (said : Result Recorded (ℕ × LineFault)) (outcome : NodeOutcome) (a z : SinkSight) → CutsTo (Ok p) octets → trace_of p.trace.now ≡ said → RerunsBy p.mark p.script.now said outcome a z → Retraces octets outcome a z
+by_trace : (octets : List ℕ) (p : CutInput) (said : Result Recorded (ℕ × LineFault)) (outcome : NodeOutcome) (a z : SinkSight) → CutsTo (Ok p) octets → trace_of p.trace.now ≡ said → RerunsBy p.mark p.script.now said outcome a z → Retraces octets outcome a z
 by_trace octets p said outcome a z (parts, cut, is) read h =
     inl (subst (λ (c : Option (List (List ℕ) × List (List ℕ))). RetracesBy (length (lines_of octets)) c outcome a z) (sym cut)
     (subst (λ (r : Result Recorded (ℕ × LineFault)). RerunsBy (length parts.0 + 1) (text_of parts.0) r outcome a z) (sym read ∙ ap (read_from 1 nothing) is.trace)
     (subst (λ (n : ℕ). RerunsBy n (text_of parts.0) said outcome a z) is.mark (subst (λ (xs : List ℕ). RerunsBy p.mark xs said outcome a z) is.script h))))
 
-pub runs_again : (octets : List ℕ) (p : Parts) (t : Recorded) (outcome : NodeOutcome) (a z : SinkSight) → CutsTo (Ok p) octets → trace_of p.trace.now ≡ Ok t → Reruns p.script.now t outcome a z → Retraces octets outcome a z
+pub runs_again : (octets : List ℕ) (p : CutInput) (t : Recorded) (outcome : NodeOutcome) (a z : SinkSight) → CutsTo (Ok p) octets → trace_of p.trace.now ≡ Ok t → Reruns p.script.now t outcome a z → Retraces octets outcome a z
 runs_again octets p t outcome a z cut read h = by_trace octets p (Ok t) outcome a z cut read h
 
-pub refuses_line : (octets : List ℕ) (p : Parts) (line : ℕ) (fault : LineFault) (outcome : NodeOutcome) (a z : SinkSight) → CutsTo (Ok p) octets → trace_of p.trace.now ≡ Err (line, fault) → RefusesWith outcome (refused_text (p.mark + line) fault) a z → Retraces octets outcome a z
+pub refuses_line : (octets : List ℕ) (p : CutInput) (line : ℕ) (fault : LineFault) (outcome : NodeOutcome) (a z : SinkSight) → CutsTo (Ok p) octets → trace_of p.trace.now ≡ Err (line, fault) → RefusesWith outcome (refused_text (p.mark + line) fault) a z → Retraces octets outcome a z
 refuses_line octets p line fault outcome a z cut read h = by_trace octets p (Err (line, fault)) outcome a z cut read h
 
 -- the number of a refused line fits
-pub number_fits : (octets : List ℕ) (p : Parts) (line : ℕ) (fault : LineFault) → CutsTo (Ok p) octets → trace_of p.trace.now ≡ Err (line, fault) → p.mark + line < 2 ^ 33
+pub number_fits : (octets : List ℕ) (p : CutInput) (line : ℕ) (fault : LineFault) → CutsTo (Ok p) octets → trace_of p.trace.now ≡ Err (line, fault) → p.mark + line < 2 ^ 33
 number_fits octets p line fault (parts, cut, is) read =
     let bound = line_bound 1 line nothing fault (lines_of p.trace.now) read in
     let few = lines_few p.trace.now in

@@ -3,7 +3,7 @@ use Rattle.std.specs.Prelude.{◌≡◌, ℕ, ◌+◌, ◌<◌, ◌≤◌, ◌^�
 use Rattle.std.specs.Option.{option_map}
 use Rattle.std.specs.Str.{bytes_eq}
 use Rattle.dt_text.specs.InputLines.{lines_of, most_input}
-use Rattle.dt_retrace.specs.declared.parts.Parts.{Parts}
+use Rattle.dt_retrace.specs.declared.cut_inputs.CutInput.{CutInput}
 
 abbrev pub is_mark : List ℕ → Bool
 is_mark line = bytes_eq line (codes "trace")
@@ -22,7 +22,7 @@ abbrev pub text_of : List (List ℕ) → List ℕ
 text_of lines = flat_map (λ line. line ++ 10 ∷ []) lines
 
 -- what the code cuts
-pub record IsCut (p : Parts) (parts : List (List ℕ) × List (List ℕ)) : Type 0 where
+pub record IsCut (p : CutInput) (parts : List (List ℕ) × List (List ℕ)) : Type 0 where
   pub script : p.script.now ≡ text_of parts.0
   pub mark : p.mark ≡ length parts.0 + 1
   pub trace : lines_of p.trace.now ≡ parts.1
@@ -30,6 +30,6 @@ pub record IsCut (p : Parts) (parts : List (List ℕ) × List (List ℕ)) : Type
   pub few : p.mark + length p.trace.now < 2 ^ 32
   pub least : length p.trace.now ≤ most_input
 
-abbrev pub CutsTo : Result Parts ℕ → List ℕ → Type 0
+abbrev pub CutsTo : Result CutInput ℕ → List ℕ → Type 0
 CutsTo (Ok p) octets = (parts : List (List ℕ) × List (List ℕ)) × (cut_lines (lines_of octets) ≡ Some parts) × IsCut p parts
 CutsTo (Err lines) octets = (cut_lines (lines_of octets) ≡ None) × (lines ≡ length (lines_of octets)) × (lines < 2 ^ 32)

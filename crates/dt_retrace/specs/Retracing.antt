@@ -9,7 +9,7 @@ use Rattle.dt_reports.specs.declared.faults.LineFault.{LineFault}
 use Rattle.dt_reports.specs.declared.faults.LineFault.TheVariants.{Order}
 use Rattle.dt_text.specs.InputLines.{lines_of}
 use Rattle.dt_trace.specs.Traces.{Recorded, clock_of, nothing, read_from, wire_of}
-use Rattle.dt_node.specs.declared.forms.Form.TheVariants.{Log}
+use Rattle.dt_node.specs.declared.output_forms.OutputForm.TheVariants.{Log}
 use Rattle.dt_node.specs.declared.outcomes.NodeOutcome.{NodeOutcome}
 use Rattle.dt_node.specs.declared.outcomes.NodeOutcome.TheVariants.{NoMemory}
 use Rattle.dt_node.specs.Answering.{Answers, MayRefuse}

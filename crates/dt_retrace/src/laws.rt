@@ -7,7 +7,7 @@ ghost use Rattle.dt_node.specs.Acts.{fates, log_lines};
 ghost use Rattle.dt_script.specs.Drafts.{script_of};
 ghost use Rattle.dt_script.specs.Orders.{Orders};
 ghost use Rattle.dt_node.specs.Serving.{Edges, IsWhole, Serves};
-ghost use Rattle.dt_node.specs.declared.forms.Form.TheVariants.{Trace};
+ghost use Rattle.dt_node.specs.declared.output_forms.OutputForm.TheVariants.{Trace};
 ghost use Rattle.dt_node.specs.declared.outcomes.NodeOutcome.{NodeOutcome};
 ghost use Rattle.dt_retrace.specs.Repeating.{Repeats, joined};
 ghost use Rattle.dt_retrace.specs.Retracing.{Retraces};

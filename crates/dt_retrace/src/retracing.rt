@@ -3,7 +3,7 @@ ghost use Rattle.std.specs.Prelude.{◌≡◌, ◌≤◌, ◌<◌, ◌^◌, IfOk
 ghost use Rattle.dt_text.specs.InputLines.{most_input};
 ghost use Rattle.dt_retrace.specs.Retracing.{RefusesWith, Reruns, Retraces, refused_text};
 
-use crate::parts::cut_input;
+use crate::cut_inputs::cut_input;
 use dt_edges::Sink;
 use dt_items::NoMemory;
 use dt_log::write_line;

@@ -13,13 +13,13 @@ use Rattle.dt_text.specs.Spelling.{IsLine}
 use Rattle.dt_fold.specs.declared.stops.Stop.{Stop}
 use Rattle.dt_fold.specs.declared.stops.Stop.TheVariants as stop
 use Rattle.dt_fold.specs.Folds.{Turned}
-use Rattle.dt_scenario.specs.declared.parts.Part.{Part}
-use Rattle.dt_scenario.specs.declared.parts.Part.TheVariants as part
+use Rattle.dt_scenario.specs.declared.scenario_phases.ScenarioPhase.{ScenarioPhase}
+use Rattle.dt_scenario.specs.declared.scenario_phases.ScenarioPhase.TheVariants as part
 use Rattle.dt_scenario.specs.declared.scenarios.Scenario.{Scenario}
 use Rattle.dt_scenario.specs.Scenes.{Empty, Prepares, Runs, Scene, Simulates}
 
 -- the scene of a part, by what is seen of the simulation
-abbrev pub scene_of : {P S : Type 0} → (P → S) → Part P → Scene S
+abbrev pub scene_of : {P S : Type 0} → (P → S) → ScenarioPhase P → Scene S
 scene_of state part.Nothing = Empty
 scene_of state (part.Preparing setup) = Prepares setup
 scene_of state (part.Running p) = Runs (state p)

@@ -3,7 +3,7 @@
 #![tactic(auto)]
 
 mod logs;
-mod parts;
+mod scenario_phases;
 mod scenarios;
 mod simulations;
 mod world_events;

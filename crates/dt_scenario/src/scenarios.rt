@@ -5,7 +5,7 @@ ghost use Rattle.dt_text.specs.Spelling.{IsLine};
 ghost use Rattle.dt_scenario.specs.Parts.{scene_in};
 ghost use Rattle.dt_scenario.specs.Scenes.{Empty, done_by};
 
-use crate::parts::Part;
+use crate::scenario_phases::ScenarioPhase;
 use crate::simulations::Simulation;
 use dt_edges::Sink;
 use dt_fold::{LineTurns, Stop};
@@ -18,7 +18,7 @@ use std::alloc::Global;
 #[derive(Drop)]
 pub struct Scenario<S: Simulation> {
     alloc: Global,
-    part: Part<S>,
+    part: ScenarioPhase<S>,
 }
 
 impl<S: Simulation> Scenario<S> {
@@ -28,7 +28,7 @@ impl<S: Simulation> Scenario<S> {
     {
         Scenario {
             alloc,
-            part: Part::Nothing,
+            part: ScenarioPhase::Nothing,
         }
     }
 
@@ -76,8 +76,8 @@ impl<S: Simulation> LineTurns for Scenario<S> {
 
     fn close<K: Sink>(&self, out: &mut K) -> Result<Option<Fault>, Stop> {
         match &self.part {
-            Part::Nothing | Part::Preparing(_) => Ok(Some(MISPLACED)),
-            Part::Running(simulation) => {
+            ScenarioPhase::Nothing | ScenarioPhase::Preparing(_) => Ok(Some(MISPLACED)),
+            ScenarioPhase::Running(simulation) => {
                 simulation.close(out)?;
                 Ok(None)
             }

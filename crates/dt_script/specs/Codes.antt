@@ -8,17 +8,17 @@ use Rattle.dt_text.specs.Tasks.{Task, Sends, Reads, most_octets, task_seen}
 use Rattle.dt_text.specs.InputLines.{most_input}
 use Rattle.dt_fold.specs.Folds.{Turned}
 use Rattle.dt_world_model.specs.declared.links.InLink.{InLink}
-use Rattle.dt_script.specs.declared.orders.Command.{Command}
+use Rattle.dt_script.specs.declared.orders.TimedCommand.{TimedCommand}
 use Rattle.dt_script.specs.declared.orders.NodeSetup.{NodeSetup}
 use Rattle.dt_script.specs.declared.orders.Orders.{Orders}
-use Rattle.dt_script.specs.declared.drafts.Part.{Part}
-use Rattle.dt_script.specs.declared.drafts.Part.TheVariants as part
+use Rattle.dt_script.specs.declared.drafts.DraftPhase.{DraftPhase}
+use Rattle.dt_script.specs.declared.drafts.DraftPhase.TheVariants as part
 use Rattle.dt_script.specs.Drafts.{Draft, Empty, Ruled, Named, Prepares, Collects, Complete}
 use Rattle.dt_script.specs.Orders as model
 
 -- ORDERS
 
-abbrev pub command_seen : Command → model.Command
+abbrev pub command_seen : TimedCommand → model.Command
 command_seen c = record { at = c.at; task = task_seen c.task }
 
 abbrev pub setup_seen : NodeSetup → model.Setup
@@ -39,7 +39,7 @@ orders_seen o = record { setup = setup_seen o.setup; commands = map command_seen
 
 -- THE SCRIPT SO FAR
 
-abbrev pub draft_seen : Part → Draft
+abbrev pub draft_seen : DraftPhase → Draft
 draft_seen part.Nothing = Empty
 draft_seen (part.Ruled rules) = Ruled rules
 draft_seen (part.Named rules me again) = Named rules me.0 again

@@ -10,7 +10,7 @@ ghost use Rattle.dt_text.specs.declared.lines.ScriptLine.TheVariants.{At};
 ghost use Rattle.dt_script.specs.Codes.{LeadsTo, draft_seen, orders_seen, setup_seen};
 ghost use Rattle.dt_script.specs.Drafts.{Collects, Complete, Empty, by_command, by_local, by_me, by_node, by_params, by_peer, by_route, by_shelf, done_by, ends_of, has_link, has_route, in_commands, in_setup, orders_in, route_fault, stage_of, to_draft};
 
-use crate::orders::{Command, NodeSetup, Orders};
+use crate::orders::{NodeSetup, Orders, TimedCommand};
 use dt_edges::{Address, Peer, Sink};
 use dt_fold::{LineTurns, Stop};
 use dt_items::NoMemory;
@@ -26,7 +26,7 @@ use std::mem;
 
 /// What the lines so far have led to.
 #[derive(Drop)]
-pub enum Part {
+pub enum DraftPhase {
     Nothing,
     /// The parameters were read.
     Ruled(Rules),
@@ -41,7 +41,7 @@ pub enum Part {
     /// Commands are added, of which the last has this moment.
     Collecting {
         setup: NodeSetup,
-        commands: Vec<Command>,
+        commands: Vec<TimedCommand>,
         last: u32,
     },
     /// The stop was read.
@@ -52,7 +52,7 @@ pub enum Part {
 #[derive(Drop)]
 pub struct Draft {
     alloc: Global,
-    part: Part,
+    part: DraftPhase,
 }
 
 impl Model for Draft {
@@ -71,7 +71,7 @@ impl Draft {
     {
         Draft {
             alloc,
-            part: Part::Nothing,
+            part: DraftPhase::Nothing,
         }
     }
 
@@ -81,7 +81,7 @@ impl Draft {
     {
         let Draft { part, .. } = self;
         match part {
-            Part::Complete(orders) => Some(orders),
+            DraftPhase::Complete(orders) => Some(orders),
             _ => None,
         }
     }
@@ -128,29 +128,29 @@ impl LineTurns for Draft {
 
     fn close<K: Sink>(&self, _out: &mut K) -> Result<Option<Fault>, Stop> {
         match &self.part {
-            Part::Complete(_) => Ok(None),
+            DraftPhase::Complete(_) => Ok(None),
             _ => Ok(Some(MISPLACED)),
         }
     }
 }
 
-impl Part {
+impl DraftPhase {
     fn stage(&self) -> Stage
         ensures { result ≡ stage_of (draft_seen self.now) }
     {
         match self {
-            Part::Nothing => Stage::Start,
-            Part::Ruled(_) => Stage::Params,
-            Part::Named { .. } => Stage::Me,
-            Part::Preparing(_) => Stage::Setup,
-            Part::Collecting { last, .. } => Stage::Run { last: *last },
-            Part::Complete(_) => Stage::Ended,
+            DraftPhase::Nothing => Stage::Start,
+            DraftPhase::Ruled(_) => Stage::Params,
+            DraftPhase::Named { .. } => Stage::Me,
+            DraftPhase::Preparing(_) => Stage::Setup,
+            DraftPhase::Collecting { last, .. } => Stage::Run { last: *last },
+            DraftPhase::Complete(_) => Stage::Ended,
         }
     }
 }
 
 /// The node is set up by a line.
-fn add_node(part: &mut Part, line: NodeLine) -> Result<Option<Fault>, NoMemory>
+fn add_node(part: &mut DraftPhase, line: NodeLine) -> Result<Option<Fault>, NoMemory>
     ensures { LeadsTo (in_setup (draft_seen part.old) (by_node line)) result (draft_seen part.old) (draft_seen part.new) }
 {
     match line {
@@ -168,7 +168,7 @@ fn add_node(part: &mut Part, line: NodeLine) -> Result<Option<Fault>, NoMemory>
 /// What the user of the node does at a moment, in ms.
 #[tactic(auto, using(dt_text::proofs::TaskLaws::at_pairs))]
 fn add_use(
-    part: &mut Part,
+    part: &mut DraftPhase,
     at: u32,
     does: &UserLine<'_>,
     alloc: Global,
@@ -181,36 +181,36 @@ fn add_use(
 }
 
 /// The parameters are checked.
-fn add_params(part: &mut Part, params: &Params) -> Option<Fault>
+fn add_params(part: &mut DraftPhase, params: &Params) -> Option<Fault>
     ensures { LeadsTo (by_params params.now (first_out_of_range params.now)) (Ok result) (draft_seen part.old) (draft_seen part.new) }
 {
     match params.check() {
         Ok(rules) => {
-            *part = Part::Ruled(rules);
+            *part = DraftPhase::Ruled(rules);
             None
         }
         Err(fault) => Some(Fault::Param(fault)),
     }
 }
 
-fn add_me(part: &mut Part, me: NodeId, again: bool) -> Option<Fault>
+fn add_me(part: &mut DraftPhase, me: NodeId, again: bool) -> Option<Fault>
     ensures { LeadsTo (by_me (draft_seen part.old) me.0 again) (Ok result) (draft_seen part.old) (draft_seen part.new) }
 {
     match part {
-        Part::Ruled(rules) => {
+        DraftPhase::Ruled(rules) => {
             let rules = *rules;
-            *part = Part::Named { rules, me, again };
+            *part = DraftPhase::Named { rules, me, again };
             None
         }
         _ => Some(MISPLACED),
     }
 }
 
-fn add_local(part: &mut Part, local: Address, alloc: Global) -> Option<Fault>
+fn add_local(part: &mut DraftPhase, local: Address, alloc: Global) -> Option<Fault>
     ensures { LeadsTo (by_local (draft_seen part.old) local) (Ok result) (draft_seen part.old) (draft_seen part.new) }
 {
     match part {
-        Part::Named { rules, me, again } => {
+        DraftPhase::Named { rules, me, again } => {
             let setup = NodeSetup {
                 rules: *rules,
                 me: *me,
@@ -222,7 +222,7 @@ fn add_local(part: &mut Part, local: Address, alloc: Global) -> Option<Fault>
                 routes: Vec::new(alloc),
                 shelf: None,
             };
-            *part = Part::Preparing(setup);
+            *part = DraftPhase::Preparing(setup);
             None
         }
         _ => Some(MISPLACED),
@@ -230,11 +230,16 @@ fn add_local(part: &mut Part, local: Address, alloc: Global) -> Option<Fault>
 }
 
 /// A peer is a link of its number in both directions. `charge` and `pace` are in ms.
-fn add_peer(part: &mut Part, peer: Peer, charge: u32, pace: u32) -> Result<Option<Fault>, NoMemory>
+fn add_peer(
+    part: &mut DraftPhase,
+    peer: Peer,
+    charge: u32,
+    pace: u32,
+) -> Result<Option<Fault>, NoMemory>
     ensures { LeadsTo (in_setup (draft_seen part.old) (by_peer peer.link peer.address charge pace)) result (draft_seen part.old) (draft_seen part.new) }
 {
     match part {
-        Part::Preparing(setup) => {
+        DraftPhase::Preparing(setup) => {
             let link = peer.link;
             if has_link(link, &setup.ins) {
                 let n = u32::from(link);
@@ -249,11 +254,11 @@ fn add_peer(part: &mut Part, peer: Peer, charge: u32, pace: u32) -> Result<Optio
     }
 }
 
-fn add_route(part: &mut Part, route: Route) -> Result<Option<Fault>, NoMemory>
+fn add_route(part: &mut DraftPhase, route: Route) -> Result<Option<Fault>, NoMemory>
     ensures { LeadsTo (in_setup (draft_seen part.old) (by_route route.to route.link)) result (draft_seen part.old) (draft_seen part.new) }
 {
     match part {
-        Part::Preparing(setup) => {
+        DraftPhase::Preparing(setup) => {
             if let Some(fault) = route_fault(setup, route) {
                 return Ok(Some(Fault::Setup(fault)));
             }
@@ -265,11 +270,11 @@ fn add_route(part: &mut Part, route: Route) -> Result<Option<Fault>, NoMemory>
 }
 
 /// A shelf for `room` packets. There is one at most.
-fn add_shelf(part: &mut Part, room: u32) -> Option<Fault>
+fn add_shelf(part: &mut DraftPhase, room: u32) -> Option<Fault>
     ensures { LeadsTo (in_setup (draft_seen part.old) (by_shelf room)) (Ok result) (draft_seen part.old) (draft_seen part.new) }
 {
     match part {
-        Part::Preparing(setup) => match setup.shelf {
+        DraftPhase::Preparing(setup) => match setup.shelf {
             Some(_) => Some(Fault::Setup(SetupFault::Twice { n: room })),
             None => {
                 setup.shelf = Some(room);
@@ -281,12 +286,12 @@ fn add_shelf(part: &mut Part, room: u32) -> Option<Fault>
 }
 
 /// The setup ends, and commands come.
-fn begin(part: &mut Part, alloc: Global) -> Option<Fault>
+fn begin(part: &mut DraftPhase, alloc: Global) -> Option<Fault>
     ensures { LeadsTo (in_setup (draft_seen part.old) (λ s. to_draft (Collects s [] 0))) (Ok result) (draft_seen part.old) (draft_seen part.new) }
 {
-    match mem::replace(part, Part::Nothing) {
-        Part::Preparing(setup) => {
-            *part = Part::Collecting {
+    match mem::replace(part, DraftPhase::Nothing) {
+        DraftPhase::Preparing(setup) => {
+            *part = DraftPhase::Collecting {
                 setup,
                 commands: Vec::new(alloc),
                 last: 0,
@@ -311,11 +316,11 @@ fn ends_of(task: &Task) -> (NodeId, NodeId)
 }
 
 /// A command from a moment on, in ms.
-fn add_command(part: &mut Part, at: u32, task: Task) -> Result<Option<Fault>, NoMemory>
+fn add_command(part: &mut DraftPhase, at: u32, task: Task) -> Result<Option<Fault>, NoMemory>
     ensures { LeadsTo (in_commands (draft_seen part.old) (by_command at (task_seen task))) result (draft_seen part.old) (draft_seen part.new) }
 {
     match part {
-        Part::Collecting {
+        DraftPhase::Collecting {
             setup,
             commands,
             last,
@@ -324,7 +329,7 @@ fn add_command(part: &mut Part, at: u32, task: Task) -> Result<Option<Fault>, No
             if here != setup.me || there == setup.me {
                 return Ok(Some(Fault::Step(StepFault::BadFlow)));
             }
-            commands.push(Command { at, task })?;
+            commands.push(TimedCommand { at, task })?;
             *last = at;
             Ok(None)
         }
@@ -333,16 +338,16 @@ fn add_command(part: &mut Part, at: u32, task: Task) -> Result<Option<Fault>, No
 }
 
 /// The stop comes last.
-fn stop(part: &mut Part, at: u32) -> Option<Fault>
+fn stop(part: &mut DraftPhase, at: u32) -> Option<Fault>
     ensures { LeadsTo (in_commands (draft_seen part.old) (λ s cs. to_draft (Complete (record { setup = s; commands = cs; stop = at })))) (Ok result) (draft_seen part.old) (draft_seen part.new) }
 {
-    match mem::replace(part, Part::Nothing) {
-        Part::Collecting {
+    match mem::replace(part, DraftPhase::Nothing) {
+        DraftPhase::Collecting {
             setup,
             commands,
             ..
         } => {
-            *part = Part::Complete(Orders {
+            *part = DraftPhase::Complete(Orders {
                 setup,
                 commands,
                 stop: at,

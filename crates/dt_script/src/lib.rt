@@ -5,4 +5,4 @@ mod drafts;
 mod orders;
 
 pub use drafts::{Draft, has_link};
-pub use orders::{Command, NodeSetup, Orders};
+pub use orders::{NodeSetup, Orders, TimedCommand};

@@ -6,7 +6,7 @@ use dt_world_model::{InLink, OutLink, Route};
 
 /// What is to be done, and from which moment on, in ms since the first reading.
 #[derive(Drop)]
-pub struct Command {
+pub struct TimedCommand {
     pub at: u32,
     pub task: Task,
 }
@@ -33,7 +33,7 @@ pub struct NodeSetup {
 #[derive(Drop)]
 pub struct Orders {
     pub setup: NodeSetup,
-    pub commands: Vec<Command>,
+    pub commands: Vec<TimedCommand>,
     /// The moment from which on the node stops, in ms since the first reading.
     pub stop: u32,
 }

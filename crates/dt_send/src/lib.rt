@@ -1,10 +1,10 @@
 //! The send record of a flow: what its sender holds, when each of its acts is due, and the acts.
 #![tactic(auto)]
 
+mod act_contexts;
 mod dues;
 mod kept_segments;
 mod numbering;
-mod occasions;
 mod octets;
 mod send_buffer;
 mod senders;

@@ -15,10 +15,10 @@ ghost use Rattle.dt_send.specs.declared.sent_segments.SentSegment.{SentSegment};
 ghost use Rattle.dt_send.specs.SentSegments.{IsPlaceOf, earlier_place, octets_in, segment_of};
 ghost use Rattle.dt_send.specs.SendBuffer.{Acts, IsSendBuffer, IsChosen, IsEndAt, record_of};
 
+use crate::act_contexts::ActContext;
 use crate::dues::due_first;
 use crate::kept_segments::KeptSegment;
 use crate::numbering::{crosses, crossing_after, number_at};
-use crate::occasions::Occasion;
 use crate::octets::{append_octets, cut_at};
 use crate::sent_segments::{SentSegment, stretch_at};
 use circular_buffer::HeapCircularBuffer;
@@ -289,7 +289,7 @@ impl SendBuffer {
     }
 
     /// Releases the record, or renews it where octets wait.
-    fn release(&mut self, occasion: &Occasion<'_>) -> SendAct
+    fn release(&mut self, occasion: &ActContext<'_>) -> SendAct
         requires rings { IsSendBuffer occasion.now.rules.now self.old }
         requires chosen { IsChosen occasion.now.rules.now occasion.now.at (record_of self.old) kind.Release }
         ensures rings { IsSendBuffer occasion.now.rules.now self.new }
@@ -308,7 +308,7 @@ impl SendBuffer {
     }
 
     /// Writes the packet of a segment into the frame. Tells the cut.
-    fn transmit(&self, occasion: &Occasion<'_>, stretch: &SentSegment, frame: &mut Frame) -> Cut
+    fn transmit(&self, occasion: &ActContext<'_>, stretch: &SentSegment, frame: &mut Frame) -> Cut
         requires there { (self.now.left ≤ stretch.now.offset) × (stretch.now.offset + stretch.now.length ≤ self.now.left + length self.now.items.items) }
         requires bounded { self.now.left + length self.now.items.items < 2 ^ 62 }
         requires segment { IsSegment occasion.now.rules.now (segment_of stretch.now (drop (stretch.now.offset - self.now.left) self.now.items.items)) }
@@ -317,7 +317,7 @@ impl SendBuffer {
         ensures frame { let g = segment_of stretch.now (drop (stretch.now.offset - self.now.left) self.now.items.items) in
             frame.new ≡ forth occasion.now.rules.now occasion.now.flow.now (data_packet occasion.now.flow.now (number_of occasion.now.rules.now g.offset) (leads (record_of self.now) g.offset) g.items) }
     {
-        let Occasion { rules, flow, .. } = *occasion;
+        let ActContext { rules, flow, .. } = *occasion;
         let count = stretch.length as usize;
         let from = (stretch.offset - self.left) as usize;
         let cut = Cut {
@@ -376,7 +376,7 @@ impl SendBuffer {
     }
 
     /// Sends a segment again.
-    fn resend(&mut self, occasion: &Occasion<'_>, frame: &mut Frame) -> SendAct
+    fn resend(&mut self, occasion: &ActContext<'_>, frame: &mut Frame) -> SendAct
         requires rings { IsSendBuffer occasion.now.rules.now self.old }
         requires chosen { IsChosen occasion.now.rules.now occasion.now.at (record_of self.old) kind.Resend }
         ensures rings { IsSendBuffer occasion.now.rules.now self.new }
@@ -414,7 +414,7 @@ impl SendBuffer {
     }
 
     /// Sends the next cut.
-    fn send(&mut self, occasion: &Occasion<'_>, frame: &mut Frame) -> SendAct
+    fn send(&mut self, occasion: &ActContext<'_>, frame: &mut Frame) -> SendAct
         requires rings { IsSendBuffer occasion.now.rules.now self.old }
         requires chosen { IsChosen occasion.now.rules.now occasion.now.at (record_of self.old) kind.Send }
         ensures rings { IsSendBuffer occasion.now.rules.now self.new }
@@ -434,13 +434,13 @@ impl SendBuffer {
     }
 
     /// Sends a rendezvous packet.
-    fn meet(&mut self, occasion: &Occasion<'_>, frame: &mut Frame) -> SendAct
+    fn meet(&mut self, occasion: &ActContext<'_>, frame: &mut Frame) -> SendAct
         requires rings { IsSendBuffer occasion.now.rules.now self.old }
         requires chosen { IsChosen occasion.now.rules.now occasion.now.at (record_of self.old) kind.Meet }
         ensures rings { IsSendBuffer occasion.now.rules.now self.new }
         ensures acts { Acts occasion.now.rules.now occasion.now.flow.now occasion.now.at (record_of self.old) result (record_of self.new) frame.old frame.new }
     {
-        let Occasion { rules, flow, .. } = *occasion;
+        let ActContext { rules, flow, .. } = *occasion;
         let number = number_at(rules, self.left);
         let packet = Packet::Meet {
             from_port: flow.from_port,
@@ -453,7 +453,7 @@ impl SendBuffer {
     }
 
     /// The kind of the act that is due.
-    fn due(&self, occasion: &Occasion<'_>) -> Option<SendKind>
+    fn due(&self, occasion: &ActContext<'_>) -> Option<SendKind>
         requires { IsSendBuffer occasion.now.rules.now self.now }
         ensures chosen { IfSome result (λ kind. IsChosen occasion.now.rules.now occasion.now.at (record_of self.now) kind) }
         ensures none { IfNone result (acts.due_of occasion.now.rules.now occasion.now.at (record_of self.now) ≡ None) }
@@ -466,7 +466,7 @@ impl SendBuffer {
     }
 
     /// Does the act that is due.
-    pub fn act(&mut self, occasion: &Occasion<'_>, frame: &mut Frame) -> SendAct
+    pub fn act(&mut self, occasion: &ActContext<'_>, frame: &mut Frame) -> SendAct
         requires rings { IsSendBuffer occasion.now.rules.now self.old }
         requires due { IsSome (acts.due_of occasion.now.rules.now occasion.now.at (record_of self.old)) }
         ensures rings { IsSendBuffer occasion.now.rules.now self.new }

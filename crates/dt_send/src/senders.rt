@@ -11,9 +11,9 @@ ghost use Rattle.dt_flow_model.specs.SendActs.{act_of, due_of, record_after, sen
 ghost use Rattle.dt_flow_model.specs.SendRecord.{after_put, held_of, new_record, next_of, on_ack, put_fault};
 ghost use Rattle.dt_send.specs.Items.{outstanding_items};
 
+use crate::act_contexts::ActContext;
 use crate::dues::{due_first, least};
 use crate::numbering::number_at;
-use crate::occasions::Occasion;
 use crate::send_buffer::SendBuffer;
 use circular_buffer::HeapCircularBuffer;
 use dt_flow_model::{PutFault, SendAct, SendKind, SendMoments};
@@ -141,7 +141,7 @@ impl Sender {
         ensures looks { steps.new ≡ steps.old + 1 }
     {
         steps.tick();
-        let occasion = Occasion {
+        let occasion = ActContext {
             rules: &self.rules,
             flow: &self.flow,
             at: now,

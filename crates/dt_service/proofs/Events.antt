@@ -15,10 +15,10 @@ use Rattle.dt_world_model.specs.Station.{Event, Read, Send, Tick}
 use Rattle.dt_world_model.specs.WorldStep.{first_refusal}
 use Rattle.dt_calls_model.specs.Messages.{Piece as MessagePiece}
 use Rattle.dt_messages.specs.declared.joiners.Marks.{Marks}
-use Rattle.dt_endpoint.specs.declared.answers.Arrived.{Arrived}
-use Rattle.dt_endpoint.specs.declared.answers.Arrived.TheVariants as arrived
-use Rattle.dt_endpoint.specs.declared.answers.Piece.{Piece}
-use Rattle.dt_endpoint.specs.declared.answers.Piece.TheVariants as piece
+use Rattle.dt_endpoint.specs.declared.answers.Received.{Received}
+use Rattle.dt_endpoint.specs.declared.answers.Received.TheVariants as arrived
+use Rattle.dt_endpoint.specs.declared.answers.Delivered.{Delivered}
+use Rattle.dt_endpoint.specs.declared.answers.Delivered.TheVariants as piece
 use Rattle.dt_endpoint.specs.declared.answers.Sent.{Sent}
 use Rattle.dt_endpoint.specs.declared.answers.Sent.TheVariants as sent
 use Rattle.dt_endpoint.specs.declared.answers.Ticked.{Ticked}
@@ -130,7 +130,7 @@ sends_cut answer now flow octets begin end e f un h =
     cut_unless (first_refusal (send_refusals flow octets e)) answer now event e f (SendDoes answer now refused event e f) (send_cut answer now refused event e f un) h
 
 -- A READ
-abbrev IsRead : Piece → Type 0
+abbrev IsRead : Delivered → Type 0
 IsRead (piece.Read len run begin end) = Unit {0}
 IsRead piece.Nothing = Unit {0}
 IsRead piece.NoMemory = ⊥
@@ -138,7 +138,7 @@ IsRead piece.Spent = ⊥
 IsRead piece.BadFlow = ⊥
 IsRead piece.NoRoom = ⊥
 
-reads_is : (answer : Piece) (now : ℕ) (flow : Flow) (room : ℕ) (buf : List ℕ) (e f : EndpointValue) → IsRead answer → Reads answer now flow room buf e f
+reads_is : (answer : Delivered) (now : ℕ) (flow : Flow) (room : ℕ) (buf : List ℕ) (e f : EndpointValue) → IsRead answer → Reads answer now flow room buf e f
     → ReadDoes answer now (read_answer now flow room e) (Read flow room) buf e f
 reads_is answer now flow room buf e f so h =
     done_unless IsRead (first_refusal (read_refusals flow room e)) answer e f (ReadDoes answer now (read_answer now flow room e) (Read flow room) buf e f)
@@ -188,7 +188,7 @@ reads_some marks len now flow room buf e f h =
       after = s.2;
     }
 
-abbrev pub IsUnread : Piece → Type 0
+abbrev pub IsUnread : Delivered → Type 0
 IsUnread (piece.Read len run begin end) = ⊥
 IsUnread piece.Nothing = ⊥
 IsUnread piece.NoMemory = Unit {0}
@@ -200,7 +200,7 @@ piece_is : (len : ℕ) (o : Option ItemPiece) → IsUnread (piece_of len o) → 
 piece_is len None h = h
 piece_is len (Some told) h = h
 
-read_cut : (answer : Piece) (now : ℕ) (items : List Item) (event : Event (Unit {0})) (buf : List ℕ) (e f : EndpointValue) → IsUnread answer → ReadDoes answer now items event buf e f → IsCutOff now event e f
+read_cut : (answer : Delivered) (now : ℕ) (items : List Item) (event : Event (Unit {0})) (buf : List ℕ) (e f : EndpointValue) → IsUnread answer → ReadDoes answer now items event buf e f → IsCutOff now event e f
 read_cut piece.NoMemory now items event buf e f un h = inr h
 read_cut (piece.Read len run begin end) now items event buf e f un h = absurd un
 read_cut piece.Nothing now items event buf e f un h = absurd un
@@ -208,7 +208,7 @@ read_cut piece.Spent now items event buf e f un h = absurd (piece_is (length (oc
 read_cut piece.BadFlow now items event buf e f un h = absurd (piece_is (length (octets_of items)) (piece_told items) (subst IsUnread h.0 un))
 read_cut piece.NoRoom now items event buf e f un h = absurd (piece_is (length (octets_of items)) (piece_told items) (subst IsUnread h.0 un))
 
-pub reads_cut : (answer : Piece) (now : ℕ) (flow : Flow) (room : ℕ) (buf : List ℕ) (e f : EndpointValue) → IsUnread answer → Reads answer now flow room buf e f → IsCutOff now (Read flow room) e f
+pub reads_cut : (answer : Delivered) (now : ℕ) (flow : Flow) (room : ℕ) (buf : List ℕ) (e f : EndpointValue) → IsUnread answer → Reads answer now flow room buf e f → IsCutOff now (Read flow room) e f
 reads_cut answer now flow room buf e f un h =
     let items = read_answer now flow room e in
     cut_unless (first_refusal (read_refusals flow room e)) answer now (Read flow room) e f (ReadDoes answer now items (Read flow room) buf e f) (read_cut answer now items (Read flow room) buf e f un) h
@@ -236,7 +236,7 @@ ticks_cut answer now e f un h = cut_unless (first_refusal (tick_refusals e)) ans
 
 -- A DATAGRAM
 -- a refusal is one of four
-abbrev pub IsRefused : Arrived → Type 0
+abbrev pub IsRefused : Received → Type 0
 IsRefused arrived.Done = ⊥
 IsRefused arrived.NoMemory = ⊥
 IsRefused arrived.Spent = Unit {0}
@@ -244,7 +244,7 @@ IsRefused arrived.NoLink = Unit {0}
 IsRefused (arrived.Bad fault) = Unit {0}
 IsRefused arrived.Stale = Unit {0}
 
-abbrev AllRefused : Option Arrived → Type 0
+abbrev AllRefused : Option Received → Type 0
 AllRefused None = Unit {0}
 AllRefused (Some r) = IsRefused r
 
@@ -256,11 +256,11 @@ fault_refused : (waited : ℕ) (octets : List ℕ) (o : Option LayoutFault) → 
 fault_refused waited octets (Some fault) = tt
 fault_refused waited octets None = stale_if (nat_le (life_of octets) waited)
 
-link_if : (b : Bool) (o : Option Arrived) → AllRefused o → AllRefused (cond b o (Some arrived.NoLink))
+link_if : (b : Bool) (o : Option Received) → AllRefused o → AllRefused (cond b o (Some arrived.NoLink))
 link_if true o all = all
 link_if false o all = tt
 
-spent_if : (b : Bool) (o : Option Arrived) → AllRefused o → AllRefused (cond b (Some arrived.Spent) o)
+spent_if : (b : Bool) (o : Option Received) → AllRefused o → AllRefused (cond b (Some arrived.Spent) o)
 spent_if true o all = tt
 spent_if false o all = all
 
@@ -273,7 +273,7 @@ pub record CameSo (now link : ℕ) (octets : List ℕ) (waited : ℕ) (e f : End
   pub unrefused : arrive_refusal link octets waited e ≡ None
   pub after : f ≡ after_event now (arrive_event link octets waited) e
 
-came_as : (o : Option Arrived) (now : ℕ) (event : Event (Unit {0})) (e f : EndpointValue) → AllRefused o → Unless o arrived.Done (with_refused e) f (ArriveDoes arrived.Done now event e f) → (o ≡ None) × (f ≡ after_event now event e)
+came_as : (o : Option Received) (now : ℕ) (event : Event (Unit {0})) (e f : EndpointValue) → AllRefused o → Unless o arrived.Done (with_refused e) f (ArriveDoes arrived.Done now event e f) → (o ≡ None) × (f ≡ after_event now event e)
 came_as None now event e f all h = (refl, h.1)
 came_as (Some r) now event e f all h = absurd (subst IsRefused (sym h.0) all)
 
@@ -282,11 +282,11 @@ arrives_done now link octets waited e f h =
     let s = came_as (arrive_refusal link octets waited e) now (arrive_event link octets waited) e f (refusals_are link octets waited e) h in
     record { unrefused = s.0; after = s.1 }
 
-pub record RefusedSo (answer : Arrived) (link : ℕ) (octets : List ℕ) (waited : ℕ) (e f : EndpointValue) : Type 0 where
+pub record RefusedSo (answer : Received) (link : ℕ) (octets : List ℕ) (waited : ℕ) (e f : EndpointValue) : Type 0 where
   pub refused : arrive_refusal link octets waited e ≡ Some answer
   pub after : f ≡ with_refused e
 
-done_or_not : (answer : Arrived) (now : ℕ) (event : Event (Unit {0})) (e f : EndpointValue) → IsRefused answer → ArriveDoes answer now event e f → ⊥
+done_or_not : (answer : Received) (now : ℕ) (event : Event (Unit {0})) (e f : EndpointValue) → IsRefused answer → ArriveDoes answer now event e f → ⊥
 done_or_not arrived.Done now event e f so h = so
 done_or_not arrived.NoMemory now event e f so h = so
 done_or_not arrived.Spent now event e f so h = differ h.0
@@ -306,11 +306,11 @@ done_or_not arrived.Stale now event e f so h = differ h.0
     differ : arrived.Stale ≡ arrived.Done → ⊥
     differ k = cc
 
-refused_as : (o : Option Arrived) (answer : Arrived) (now : ℕ) (event : Event (Unit {0})) (e f : EndpointValue) → IsRefused answer → Unless o answer (with_refused e) f (ArriveDoes answer now event e f) → (o ≡ Some answer) × (f ≡ with_refused e)
+refused_as : (o : Option Received) (answer : Received) (now : ℕ) (event : Event (Unit {0})) (e f : EndpointValue) → IsRefused answer → Unless o answer (with_refused e) f (ArriveDoes answer now event e f) → (o ≡ Some answer) × (f ≡ with_refused e)
 refused_as None answer now event e f so h = absurd (done_or_not answer now event e f so h)
-refused_as (Some r) answer now event e f so h = (ap (λ (a : Arrived). Some a) (sym h.0), h.1)
+refused_as (Some r) answer now event e f so h = (ap (λ (a : Received). Some a) (sym h.0), h.1)
 
-pub arrives_refused : (answer : Arrived) (now link : ℕ) (octets : List ℕ) (waited : ℕ) (e f : EndpointValue) → IsRefused answer → Arrives answer now link octets waited e f → RefusedSo answer link octets waited e f
+pub arrives_refused : (answer : Received) (now link : ℕ) (octets : List ℕ) (waited : ℕ) (e f : EndpointValue) → IsRefused answer → Arrives answer now link octets waited e f → RefusedSo answer link octets waited e f
 arrives_refused answer now link octets waited e f so h =
     let s = refused_as (arrive_refusal link octets waited e) answer now (arrive_event link octets waited) e f so h in
     record { refused = s.0; after = s.1 }
@@ -320,7 +320,7 @@ pub record CutOff (now link : ℕ) (octets : List ℕ) (waited : ℕ) (e f : End
   pub unrefused : arrive_refusal link octets waited e ≡ None
   pub breaks : Breaks now (arrive_event link octets waited) e f
 
-cut_as : (o : Option Arrived) (now : ℕ) (event : Event (Unit {0})) (e f : EndpointValue) → AllRefused o → Unless o arrived.NoMemory (with_refused e) f (Breaks now event e f) → (o ≡ None) × Breaks now event e f
+cut_as : (o : Option Received) (now : ℕ) (event : Event (Unit {0})) (e f : EndpointValue) → AllRefused o → Unless o arrived.NoMemory (with_refused e) f (Breaks now event e f) → (o ≡ None) × Breaks now event e f
 cut_as None now event e f all h = (refl, h)
 cut_as (Some r) now event e f all h = absurd (subst IsRefused (sym h.0) all)
 

@@ -1,8 +1,8 @@
 -- The calls of a service. Each answers and leaves what its definition says, or finds no memory, and then it is told where its turn stopped.
 use Rattle.std.specs.Prelude.{ℕ, List}
 use Rattle.dt_units.specs.declared.endpoints.Flow.{Flow}
-use Rattle.dt_endpoint.specs.declared.answers.Arrived.{Arrived}
-use Rattle.dt_endpoint.specs.declared.answers.Arrived.TheVariants as arrived
+use Rattle.dt_endpoint.specs.declared.answers.Received.{Received}
+use Rattle.dt_endpoint.specs.declared.answers.Received.TheVariants as arrived
 use Rattle.dt_endpoint.specs.declared.answers.Ticked.{Ticked}
 use Rattle.dt_endpoint.specs.declared.answers.Ticked.TheVariants as ticked
 use Rattle.dt_service_model.specs.declared.answers.Forgot.{Forgot}
@@ -34,5 +34,5 @@ pub record Ticks (answer : Ticked) (now : ℕ) (n m : Node) : Type 0 where
   pub ends : Ends answer ticked.NoMemory m (tick now n) (Closed (TickStops now n) m)
 
 -- A DATAGRAM
-pub record Arrives (answer : Arrived) (now link : ℕ) (octets : List ℕ) (waited : ℕ) (n m : Node) : Type 0 where
+pub record Arrives (answer : Received) (now link : ℕ) (octets : List ℕ) (waited : ℕ) (n m : Node) : Type 0 where
   pub ends : Ends answer arrived.NoMemory m (arrive now link octets waited n) (Closed (ArriveStops now link octets waited n) m)

@@ -4,32 +4,32 @@ use Rattle.dt_units.specs.declared.endpoints.Flow.{Flow}
 use Rattle.dt_world_model.specs.Station.{Event}
 use Rattle.dt_calls_model.specs.Messages.{Piece}
 use Rattle.dt_messages.specs.Joining.{piece_with}
-use Rattle.dt_endpoint.specs.declared.answers.Arrived.{Arrived}
+use Rattle.dt_endpoint.specs.declared.answers.Received.{Received}
 use Rattle.dt_endpoint.specs.Calls.{arrive_event}
 use Rattle.dt_endpoint.specs.Endpoints.{Breaks, EndpointValue, after_event, with_refused}
 use Rattle.dt_service_model.specs.Halves.{Halves}
 use Rattle.dt_service_model.specs.Stopping.{EndStops, ReadStops, heard_in_part}
 use Rattle.dt_service_model.specs.Turns.{Node, hears, read_times}
-use Rattle.dt_service.specs.declared.parts.Parts.{Parts}
-use Rattle.dt_service.specs.declared.reading.Found.{Found}
+use Rattle.dt_service.specs.declared.service_parts.ServiceParts.{ServiceParts}
+use Rattle.dt_service.specs.declared.reading.FoundPiece.{FoundPiece}
 
 abbrev pub node_of : EndpointValue → Halves → Node
 node_of e h = record { endpoint = e; halves = h }
 
-abbrev pub node_in : Parts → Node
+abbrev pub node_in : ServiceParts → Node
 node_in p = node_of p.endpoint p.halves
 
 -- what one read found in the buffer
-abbrev pub piece_found : Option Found → List ℕ → Option Piece
+abbrev pub piece_found : Option FoundPiece → List ℕ → Option Piece
 piece_found None buf = None
 piece_found (Some found) buf = Some (piece_with found.marks (take found.len buf))
 
-abbrev pub len_found : Option Found → ℕ
+abbrev pub len_found : Option FoundPiece → ℕ
 len_found None = 0
 len_found (Some found) = found.len
 
 -- the endpoint after a datagram: one that is refused is counted
-abbrev pub came_to : Option Arrived → (now link : ℕ) → List ℕ → (waited : ℕ) → EndpointValue → EndpointValue
+abbrev pub came_to : Option Received → (now link : ℕ) → List ℕ → (waited : ℕ) → EndpointValue → EndpointValue
 came_to None now link octets waited e = after_event now (arrive_event link octets waited) e
 came_to (Some refusal) now link octets waited e = with_refused e
 

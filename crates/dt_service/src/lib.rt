@@ -3,11 +3,11 @@
 //! and happenings.
 #![tactic(auto)]
 
-mod parts;
 mod reading;
 mod refusals;
 mod sending;
+mod service_parts;
 mod services;
 mod turns;
 
-pub use services::{Service, Start};
+pub use services::{Service, ServiceStart};

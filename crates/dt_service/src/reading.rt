@@ -5,7 +5,7 @@ ghost use Rattle.dt_endpoint.specs.Endpoints.{after_event};
 ghost use Rattle.dt_service_model.specs.Turns.{most_read, piece_at};
 ghost use Rattle.dt_service.specs.Nodes.{IsCutOff, len_found, piece_found};
 
-use dt_endpoint::{Endpoint, Piece};
+use dt_endpoint::{Delivered, Endpoint};
 use dt_items::NoMemory;
 use dt_messages::Marks;
 use dt_units::Flow;
@@ -15,7 +15,7 @@ pub const ROOM: usize = 65_536;
 
 /// A piece that was read: `len` octets at the head of the buffer.
 #[derive(Clone, Copy)]
-pub struct Found {
+pub struct FoundPiece {
     pub marks: Marks,
     pub len: usize,
 }
@@ -26,7 +26,7 @@ pub fn read_piece(
     now: u64,
     flow: Flow,
     buf: &mut [u8],
-) -> Result<Option<Found>, NoMemory>
+) -> Result<Option<FoundPiece>, NoMemory>
     requires { length buf.old ≡ most_read }
     ensures found { IfOk result (λ found. piece_found found buf.new ≡ piece_at now flow endpoint.old) }
     ensures within { IfOk result (λ found. len_found found ≤ most_read) }
@@ -34,16 +34,18 @@ pub fn read_piece(
     ensures cut { OnErr result (IsCutOff now (Read flow most_read) endpoint.old endpoint.new) }
 {
     match endpoint.read(now, flow, buf) {
-        Piece::Read {
+        Delivered::Read {
             len,
             run,
             begin,
             end,
-        } => Ok(Some(Found {
+        } => Ok(Some(FoundPiece {
             marks: Marks { run, begin, end },
             len,
         })),
-        Piece::Nothing => Ok(None),
-        Piece::NoMemory | Piece::Spent | Piece::BadFlow | Piece::NoRoom => Err(NoMemory),
+        Delivered::Nothing => Ok(None),
+        Delivered::NoMemory | Delivered::Spent | Delivered::BadFlow | Delivered::NoRoom => Err(
+            NoMemory,
+        ),
     }
 }

@@ -5,9 +5,9 @@ ghost use Rattle.dt_service_model.specs.Asked.{call_refusals, goes_out, is_close
 ghost use Rattle.dt_service_model.specs.Halves.{calls_held, is_caller, kind_in, most_octets};
 ghost use Rattle.dt_service.specs.Nodes.{node_in};
 
-use crate::parts::Parts;
+use crate::service_parts::ServiceParts;
 use dt_service_halves::reversed;
-use dt_service_model::{Declined, Kind, Made, Replied, Token, Unfit};
+use dt_service_model::{Declined, Made, PortKind, Replied, Token, Unfit};
 use dt_units::Flow;
 
 /// So many octets in all, or more, are refused.
@@ -16,16 +16,16 @@ const MOST_OCTETS: u64 = 1 << 62;
 /// No longer message is put together.
 const LONGEST: usize = 65_536;
 
-fn is_caller(kind: Option<Kind>) -> bool
+fn is_caller(kind: Option<PortKind>) -> bool
     ensures { result ≡ is_caller kind }
 {
     match kind {
-        Some(Kind::Caller) => true,
-        Some(Kind::Service) | None => false,
+        Some(PortKind::Caller) => true,
+        Some(PortKind::Service) | None => false,
     }
 }
 
-impl Parts {
+impl ServiceParts {
     /// Whether the node was closed, or found no memory.
     pub fn is_closed(&self) -> bool
         ensures { result ≡ is_closed (node_in self.now) }

@@ -6,7 +6,7 @@ ghost use Rattle.dt_endpoint.specs.Endpoints.{Breaks, after_event};
 ghost use Rattle.dt_service_model.specs.Asked.{message_event};
 ghost use Rattle.dt_service.specs.Nodes.{IsCutOff, came_to};
 
-use dt_endpoint::{Arrived, Endpoint, Sent, Ticked};
+use dt_endpoint::{Endpoint, Received, Sent, Ticked};
 use dt_items::NoMemory;
 use dt_reports::Refusal;
 use dt_units::Flow;
@@ -48,18 +48,18 @@ pub fn receive(
     link: u16,
     datagram: &[u8],
     waited: u32,
-) -> Result<Option<Arrived>, NoMemory>
+) -> Result<Option<Received>, NoMemory>
     ensures refused { IfOk result (λ refused. refused ≡ arrive_refusal link datagram.now waited endpoint.old) }
     ensures after { IfOk result (λ refused. endpoint.new ≡ came_to refused now link datagram.now waited endpoint.old) }
     ensures unrefused { OnErr result (arrive_refusal link datagram.now waited endpoint.old ≡ None) }
     ensures cut { OnErr result (Breaks now (arrive_event link datagram.now waited) endpoint.old endpoint.new) }
 {
     match endpoint.arrive(now, link, datagram, waited) {
-        Arrived::Done => Ok(None),
-        Arrived::NoMemory => Err(NoMemory),
-        Arrived::Spent => Ok(Some(Arrived::Spent)),
-        Arrived::NoLink => Ok(Some(Arrived::NoLink)),
-        Arrived::Bad { fault } => Ok(Some(Arrived::Bad { fault })),
-        Arrived::Stale => Ok(Some(Arrived::Stale)),
+        Received::Done => Ok(None),
+        Received::NoMemory => Err(NoMemory),
+        Received::Spent => Ok(Some(Received::Spent)),
+        Received::NoLink => Ok(Some(Received::NoLink)),
+        Received::Bad { fault } => Ok(Some(Received::Bad { fault })),
+        Received::Stale => Ok(Some(Received::Stale)),
     }
 }

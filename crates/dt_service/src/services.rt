@@ -8,19 +8,19 @@ ghost use Rattle.dt_service_model.specs.Halves.{kind_in, new_halves};
 ghost use Rattle.dt_service_model.specs.Turns.{wake, with_halves};
 ghost use Rattle.dt_service.specs.Calls.{Arrives, Calls, Forgets, Replies, Ticks};
 
-use crate::parts::Parts;
 use crate::reading::ROOM;
-use dt_endpoint::{Arrived, Endpoint, Links, OutFrame, Route, Routed, Ticked};
+use crate::service_parts::ServiceParts;
+use dt_endpoint::{Endpoint, Links, OutFrame, Received, Route, Routed, Ticked};
 use dt_items::NoMemory;
 use dt_service_halves::Halves;
-use dt_service_model::{Counts, Forgot, Happening, Kind, Made, Most, Replied, Token};
+use dt_service_model::{CallCounts, Forgot, Happening, Made, Most, PortKind, Replied, Token};
 use dt_units::{Flow, NodeId, Rules, earlier};
 use std::alloc::Global;
 use std::marker::Model;
 
 /// How a service opens.
 #[derive(Clone, Copy)]
-pub struct Start {
+pub struct ServiceStart {
     pub me: NodeId,
     /// The moment in milliseconds at which the node starts again, or none where it starts for the first
     /// time.
@@ -41,7 +41,7 @@ pub struct Start {
 /// taken, and after it that each call that waited is unsure.
 #[derive(Drop)]
 pub struct Service {
-    parts: Parts,
+    parts: ServiceParts,
 }
 
 impl Model for Service {
@@ -59,7 +59,7 @@ impl Service {
     pub fn open(
         alloc: Global,
         rules: &Rules,
-        start: &Start,
+        start: &ServiceStart,
         links: &Links<'_>,
     ) -> Result<Service, NoMemory>
         ensures { IfOk result (λ s. s ≡ record {
@@ -68,7 +68,7 @@ impl Service {
         }) }
     {
         let endpoint = Endpoint::open(alloc, rules, start.me, start.again, links)?;
-        let parts = Parts {
+        let parts = ServiceParts {
             alloc,
             endpoint,
             halves: Halves::new(alloc, start.most, start.life),
@@ -80,7 +80,7 @@ impl Service {
 
     /// A port gets its kind, and whether it had none so far: it has its kind for good. A port without one
     /// is plain, and what comes to it isn't read. `NoMemory` leaves all as it was.
-    pub fn port(&mut self, port: u16, kind: Kind) -> Result<bool, NoMemory>
+    pub fn port(&mut self, port: u16, kind: PortKind) -> Result<bool, NoMemory>
         ensures given { OnOk result (self.new ≡ with_halves (with_kind port kind) self.old) }
         ensures answer { IfOk result (λ given. given ≡ not (is_some (kind_in port self.old.halves.ports))) }
         ensures same { OnErr result (self.new ≡ self.old) }
@@ -131,14 +131,14 @@ impl Service {
 
     /// A datagram came on a link, as [`Endpoint::arrive`] has it. A guard is asked before, over
     /// [`Service::endpoint`].
-    pub fn arrive(&mut self, now: u64, link: u16, datagram: &[u8], waited: u32) -> Arrived
+    pub fn arrive(&mut self, now: u64, link: u16, datagram: &[u8], waited: u32) -> Received
         ensures { Arrives result now link datagram.now waited self.old self.new }
     {
         match self.parts.arrive(now, link, datagram, waited) {
             Ok(arrived) => arrived,
             Err(NoMemory) => {
                 self.parts.halves.close();
-                Arrived::NoMemory
+                Received::NoMemory
             }
         }
     }
@@ -182,7 +182,7 @@ impl Service {
     }
 
     /// How many messages were dropped, by cause.
-    pub fn counts(&self) -> Counts
+    pub fn counts(&self) -> CallCounts
         ensures { result ≡ self.now.halves.counts }
     {
         self.parts.halves.counts()

@@ -7,9 +7,9 @@ ghost use Rattle.dt_service_model.specs.Stopping.{ArriveStops, CallStops, Forget
 ghost use Rattle.dt_service_model.specs.Turns.{hears, turn_end, with_halves};
 ghost use Rattle.dt_service.specs.Nodes.{Is, RestStops, node_in};
 
-use crate::parts::Parts;
 use crate::sending::{pass, receive, send_message};
-use dt_endpoint::{Arrived, Ticked};
+use crate::service_parts::ServiceParts;
+use dt_endpoint::{Received, Ticked};
 use dt_items::NoMemory;
 use dt_reports::Refusal;
 use dt_service_halves::{reversed, write_message};
@@ -38,7 +38,7 @@ fn replied_of(refused: Option<Refusal>) -> Replied
     }
 }
 
-impl Parts {
+impl ServiceParts {
     /// The rest of a turn, after its event.
     fn finish(&mut self, now: u64) -> Result<(), NoMemory>
         ensures ended { OnOk result (node_in self.new ≡ turn_end now (hears (node_in self.old))) }
@@ -68,18 +68,18 @@ impl Parts {
         link: u16,
         datagram: &[u8],
         waited: u32,
-    ) -> Result<Arrived, NoMemory>
+    ) -> Result<Received, NoMemory>
         ensures done { IfOk result (λ answer. Is answer (node_in self.new) (arrive now link datagram.now waited (node_in self.old))) }
         ensures stops { OnErr result (ArriveStops now link datagram.now waited (node_in self.old) (node_in self.new)) }
     {
         if self.is_closed() {
-            return Ok(Arrived::Spent);
+            return Ok(Received::Spent);
         }
         if let Some(refusal) = receive(&mut self.endpoint, now, link, datagram, waited)? {
             return Ok(refusal);
         }
         self.finish(now)?;
-        Ok(Arrived::Done)
+        Ok(Received::Done)
     }
 
     /// A call is kept, unless its request wasn't taken.

@@ -2,7 +2,7 @@
 ghost use Rattle.std.specs.Prelude.{◌≡◌, ◌<◌, ◌≤◌, ◌^◌, ◌==◌, ◌&&◌, MatchOption, IfOk, OnErr, OnOk, filter, is_some, nat_lt, not};
 ghost use Rattle.std.specs.List.{list_any};
 ghost use Rattle.dt_world_model.specs.Tables.{same_flow};
-ghost use Rattle.dt_service_model.specs.declared.calls.Call.{Call};
+ghost use Rattle.dt_service_model.specs.declared.calls.OpenCall.{OpenCall};
 ghost use Rattle.dt_service_model.specs.Asked.{forgotten, is_life_in_use, next_number, raised, with_call, with_kind};
 ghost use Rattle.dt_service_model.specs.Carrying.{carried_by, next_size};
 ghost use Rattle.dt_service_model.specs.Ends.{close, next};
@@ -15,25 +15,25 @@ use crate::halves::Halves;
 use crate::hearing::kind_in;
 use crate::whole::{drop_token, is_open};
 use dt_items::NoMemory;
-use dt_service_model::{Call, CallNumber, Cause, Counts, Happening, Kind, Port, Token};
+use dt_service_model::{CallCounts, CallNumber, Cause, Happening, OpenCall, Port, PortKind, Token};
 use dt_units::Flow;
 
-fn is_in_use(life: u32, call: &Call) -> bool
+fn is_in_use(life: u32, call: &OpenCall) -> bool
     ensures { result ≡ (call.now.waits && (call.now.number.life == life)) }
 {
     call.waits && call.number.life == life
 }
 
 /// Whether a call with this life waits.
-fn waits_with(life: u32, calls: &[Call]) -> bool
-    ensures { result ≡ list_any (λ (call : Call). call.waits && (call.number.life == life)) calls.now }
+fn waits_with(life: u32, calls: &[OpenCall]) -> bool
+    ensures { result ≡ list_any (λ (call : OpenCall). call.waits && (call.number.life == life)) calls.now }
 {
     calls.iter().any(|call| is_in_use(life, call))
 }
 
 /// The calls that wait are kept.
-fn keep_waiting(calls: &mut Vec<Call>)
-    ensures { calls.new.items ≡ filter (λ (call : Call). call.waits) calls.old.items }
+fn keep_waiting(calls: &mut Vec<OpenCall>)
+    ensures { calls.new.items ≡ filter (λ (call : OpenCall). call.waits) calls.old.items }
 {
     calls.retain(|call| call.waits);
 }
@@ -59,7 +59,7 @@ pub fn carried(happening: &Happening) -> &[u8]
 impl Halves {
     /// A port gets its kind, and whether it had none so far: it has its kind for good. `NoMemory` leaves
     /// all as it was. The cost is a look at each port that has one.
-    pub fn set_kind(&mut self, port: u16, kind: Kind) -> Result<bool, NoMemory>
+    pub fn set_kind(&mut self, port: u16, kind: PortKind) -> Result<bool, NoMemory>
         ensures given { OnOk result (self.new ≡ with_kind port kind self.old) }
         ensures answer { IfOk result (λ given. given ≡ not (is_some (kind_in port self.old.ports))) }
         ensures same { OnErr result (self.new ≡ self.old) }
@@ -72,7 +72,7 @@ impl Halves {
     }
 
     /// The kind of a port, or none where it is plain.
-    pub fn kind(&self, port: u16) -> Option<Kind>
+    pub fn kind(&self, port: u16) -> Option<PortKind>
         ensures { result ≡ kind_in port self.now.ports }
     {
         kind_in(port, &self.ports)
@@ -111,7 +111,7 @@ impl Halves {
             life: self.life,
             count: self.count as u32,
         };
-        self.calls.push(Call {
+        self.calls.push(OpenCall {
             number,
             flow,
             deadline,
@@ -213,7 +213,7 @@ impl Halves {
     }
 
     /// How many messages were dropped, by cause.
-    pub fn counts(&self) -> Counts
+    pub fn counts(&self) -> CallCounts
         ensures { result ≡ self.now.counts }
     {
         self.counts

@@ -2,11 +2,11 @@
 ghost use Rattle.std.specs.Prelude.{◌≡◌, count_by};
 ghost use Rattle.std.specs.List.{list_any};
 ghost use Rattle.dt_world_model.specs.Tables.{same_flow};
-ghost use Rattle.dt_service_model.specs.declared.calls.Call.{Call};
+ghost use Rattle.dt_service_model.specs.declared.calls.OpenCall.{OpenCall};
 ghost use Rattle.dt_service_model.specs.declared.names.Token.{Token};
 ghost use Rattle.dt_service_model.specs.Halves.{is_end, is_request};
 
-use dt_service_model::{Call, Happening, Token};
+use dt_service_model::{Happening, OpenCall, Token};
 use dt_units::Flow;
 use std::collections::VecDeque;
 
@@ -66,8 +66,8 @@ pub fn ends_in(happenings: &VecDeque<Happening>) -> usize
 }
 
 /// How many calls wait.
-pub fn waiting_in(calls: &[Call]) -> usize
-    ensures { result ≡ count_by (λ (call : Call). call.waits) calls.now }
+pub fn waiting_in(calls: &[OpenCall]) -> usize
+    ensures { result ≡ count_by (λ (call : OpenCall). call.waits) calls.now }
 {
     calls.iter().filter(|call| call.waits).count()
 }

@@ -6,12 +6,12 @@ ghost use Rattle.dt_service_model.specs.Turns.{deadline_of};
 ghost use Rattle.dt_service_model.specs.Ends.{cause_of, is_kept, judged_call, unsure_of};
 
 use dt_items::NoMemory;
-use dt_service_model::{Call, Cause, Happening};
+use dt_service_model::{Cause, Happening, OpenCall};
 use dt_units::earlier;
 use std::collections::VecDeque;
 
 /// Why a call is unsure at a moment, if it is.
-fn cause_of(now: u64, call: &Call) -> Option<Cause>
+fn cause_of(now: u64, call: &OpenCall) -> Option<Cause>
     ensures { result ≡ cause_of now call.now }
 {
     if call.waits && call.doubted {
@@ -24,7 +24,7 @@ fn cause_of(now: u64, call: &Call) -> Option<Cause>
 }
 
 /// A call is judged.
-fn judge_call(now: u64, call: &mut Call)
+fn judge_call(now: u64, call: &mut OpenCall)
     ensures { call.new ≡ judged_call now call.old }
 {
     if cause_of(now, call).is_some() {
@@ -33,14 +33,14 @@ fn judge_call(now: u64, call: &mut Call)
     call.doubted = false;
 }
 
-fn is_kept(call: &Call) -> bool
+fn is_kept(call: &OpenCall) -> bool
     ensures { result ≡ is_kept call.now }
 {
     call.waits || call.left > 0
 }
 
 /// Each call is judged, in the order of making.
-fn judge_calls(now: u64, calls: &mut [Call])
+fn judge_calls(now: u64, calls: &mut [OpenCall])
     ensures { calls.new ≡ map (judged_call now) calls.old }
 {
     for place in 0..calls.len() {
@@ -49,14 +49,14 @@ fn judge_calls(now: u64, calls: &mut [Call])
 }
 
 /// What has come to its end is kept no more.
-fn drop_ended(calls: &mut Vec<Call>)
+fn drop_ended(calls: &mut Vec<OpenCall>)
     ensures { calls.new.items ≡ filter is_kept calls.old.items }
 {
     calls.retain(|call| is_kept(call));
 }
 
 /// The calls that are unsure at a moment are reported so. There is room for them.
-fn tell_unsure(now: u64, calls: &[Call], happenings: &mut VecDeque<Happening>)
+fn tell_unsure(now: u64, calls: &[OpenCall], happenings: &mut VecDeque<Happening>)
     requires { deque_len happenings.old + length calls.now ≤ deque_capacity happenings.old }
     ensures { happenings.new.items ≡ happenings.old.items ++ filter_map (unsure_of now) calls.now }
 {
@@ -72,7 +72,7 @@ fn tell_unsure(now: u64, calls: &[Call], happenings: &mut VecDeque<Happening>)
 /// no more. `NoMemory` leaves all as it was. The cost is a look at each call.
 pub fn judge(
     now: u64,
-    calls: &mut Vec<Call>,
+    calls: &mut Vec<OpenCall>,
     happenings: &mut VecDeque<Happening>,
 ) -> Result<(), NoMemory>
     ensures calls { OnOk result (calls.new.items ≡ filter is_kept (map (judged_call now) calls.old.items)) }
@@ -88,7 +88,7 @@ pub fn judge(
 }
 
 /// The moment at which the patience of a call is over, if it waits.
-fn deadline_of(call: &Call) -> Option<u64>
+fn deadline_of(call: &OpenCall) -> Option<u64>
     ensures { result ≡ deadline_of call.now }
 {
     if call.waits {
@@ -99,7 +99,7 @@ fn deadline_of(call: &Call) -> Option<u64>
 }
 
 /// The least deadline of those that wait.
-pub fn deadline(calls: &[Call]) -> Option<u64>
+pub fn deadline(calls: &[OpenCall]) -> Option<u64>
     ensures { result ≡ earliest deadline_of calls.now }
 {
     let mut least = None;

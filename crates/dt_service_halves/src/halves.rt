@@ -9,14 +9,14 @@ ghost use Rattle.dt_service_model.specs.Hearing.{Accepts, hear, hear_as, heard_b
 ghost use Rattle.dt_service_model.specs.Turns.{deadline_of, sweep};
 ghost use Rattle.dt_world_model.specs.Tables.{earliest};
 
-use crate::begun::{Begun, keep_received};
+use crate::begun_messages::{BegunMessage, keep_received};
 use crate::counting::{has_flow, requests_in, tokens_of};
 use crate::ends;
 use crate::hearing::{kind_in, with_fates};
 use dt_endpoint::Endpoint;
 use dt_items::NoMemory;
 use dt_reports::{Matter, Report};
-use dt_service_model::{Call, Counts, Happening, Kind, Most, Port, Token};
+use dt_service_model::{CallCounts, Happening, Most, OpenCall, Port, PortKind, Token};
 use dt_units::Flow;
 use std::alloc::Global;
 use std::collections::VecDeque;
@@ -31,11 +31,11 @@ pub struct Halves {
     pub(crate) life: u32,
     /// How many calls were made in this life: 2^32 at most.
     pub(crate) count: u64,
-    pub(crate) calls: Vec<Call>,
+    pub(crate) calls: Vec<OpenCall>,
     pub(crate) tokens: Vec<Token>,
-    pub(crate) begun: Vec<Begun>,
+    pub(crate) begun: Vec<BegunMessage>,
     pub(crate) unread: Vec<Flow>,
-    pub(crate) counts: Counts,
+    pub(crate) counts: CallCounts,
     pub(crate) happenings: VecDeque<Happening>,
 }
 
@@ -47,7 +47,7 @@ impl Model for Halves {
     ghost view = { λ h. record { most = h.most; closed = h.closed; ports = h.ports.items; life = h.life; count = h.count; calls = h.calls.items; tokens = h.tokens.items; begun = h.begun.items; unread = h.unread.items; counts = h.counts; happenings = h.happenings.items } };
 }
 
-const NO_COUNTS: Counts = Counts {
+const NO_COUNTS: CallCounts = CallCounts {
     late: 0,
     old: 0,
     strange: 0,
@@ -129,8 +129,8 @@ impl Halves {
         ensures { result ≡ may_read flow.now self.now }
     {
         match kind_in(flow.to_port, &self.ports) {
-            Some(Kind::Caller) => true,
-            Some(Kind::Service) => self.has_room(flow),
+            Some(PortKind::Caller) => true,
+            Some(PortKind::Service) => self.has_room(flow),
             None => false,
         }
     }

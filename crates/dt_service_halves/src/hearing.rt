@@ -4,25 +4,25 @@ ghost use Rattle.dt_world_model.specs.Tables.{same_flow};
 ghost use Rattle.dt_service_model.specs.Halves.{kind_in};
 ghost use Rattle.dt_service_model.specs.Hearing.{with_fate, with_fates};
 
-use dt_service_model::{Call, Kind, Port};
+use dt_service_model::{OpenCall, Port, PortKind};
 use dt_units::Flow;
 
 /// The kind of a port, if it has one.
-pub fn kind_in(port: u16, ports: &[Port]) -> Option<Kind>
+pub fn kind_in(port: u16, ports: &[Port]) -> Option<PortKind>
     ensures { result ≡ kind_in port ports.now }
 {
     ports.iter().find(|p| p.port == port).map(|p| p.kind)
 }
 
 /// Whether the request of a call goes on this flow.
-fn is_on(call: &Call, flow: &Flow) -> bool
+fn is_on(call: &OpenCall, flow: &Flow) -> bool
     ensures { result ≡ same_flow call.now.flow flow.now }
 {
     call.flow == *flow
 }
 
 /// So many octets of a call have their fate, or as many as have none.
-fn with_fate(given_up: bool, count: u32, call: &mut Call)
+fn with_fate(given_up: bool, count: u32, call: &mut OpenCall)
     ensures { call.new ≡ with_fate given_up count call.old }
 {
     call.doubted = call.doubted || (given_up && count > 0 && call.left > 0);
@@ -30,7 +30,7 @@ fn with_fate(given_up: bool, count: u32, call: &mut Call)
 }
 
 /// So many octets of a flow have their fate, the leftmost first. The cost is a look at each call.
-pub fn with_fates(given_up: bool, flow: &Flow, count: u32, calls: &mut [Call])
+pub fn with_fates(given_up: bool, flow: &Flow, count: u32, calls: &mut [OpenCall])
     ensures { calls.new ≡ with_fates given_up flow.now count calls.old }
 {
     let mut rest = count;

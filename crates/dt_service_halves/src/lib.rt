@@ -3,7 +3,7 @@
 #![tactic(auto)]
 
 mod asked;
-mod begun;
+mod begun_messages;
 mod counting;
 mod ends;
 mod halves;

@@ -6,14 +6,14 @@ ghost use Rattle.dt_service_model.specs.Halves.{counted_up, most_octets};
 ghost use Rattle.dt_service_model.specs.Names.{same_number, same_token};
 ghost use Rattle.dt_service_model.specs.Whole.{answered_at, begun_of, grown, is_waiting_call, stray_counted, take_message, take_piece, take_reply, take_request, waits_anywhere, without_token};
 
-use crate::begun::{joined, put_begun, take_begun};
+use crate::begun_messages::{joined, put_begun, take_begun};
 use crate::counting::is_same;
 use crate::halves::Halves;
 use crate::hearing::kind_in;
 use crate::numbers::call_number;
 use dt_items::NoMemory;
 use dt_messages::{Marks, read_message, reversed};
-use dt_service_model::{Call, CallNumber, Happening, Kind, Payload, Token};
+use dt_service_model::{CallNumber, Happening, OpenCall, Payload, PortKind, Token};
 use dt_units::Flow;
 use std::alloc::Global;
 
@@ -52,14 +52,14 @@ pub fn drop_token(token: &Token, tokens: &mut Vec<Token>)
     tokens.retain(|other| !same_token(token, other));
 }
 
-fn is_waiting_call(flow: &Flow, number: CallNumber, call: &Call) -> bool
+fn is_waiting_call(flow: &Flow, number: CallNumber, call: &OpenCall) -> bool
     ensures { result ≡ is_waiting_call flow.now number call.now }
 {
     call.waits && same_number(call.number, number) && is_same(&call.flow, flow)
 }
 
 /// Where the call of this number that waits on a flow stands.
-fn place_of(flow: &Flow, number: CallNumber, calls: &[Call]) -> Option<usize>
+fn place_of(flow: &Flow, number: CallNumber, calls: &[OpenCall]) -> Option<usize>
     ensures { result ≡ position (is_waiting_call flow.now number) calls.now }
 {
     calls
@@ -67,21 +67,21 @@ fn place_of(flow: &Flow, number: CallNumber, calls: &[Call]) -> Option<usize>
         .position(|call| is_waiting_call(flow, number, call))
 }
 
-fn is_waiting_with(number: CallNumber, call: &Call) -> bool
+fn is_waiting_with(number: CallNumber, call: &OpenCall) -> bool
     ensures { result ≡ (call.now.waits && same_number call.now.number number) }
 {
     call.waits && same_number(call.number, number)
 }
 
 /// Whether a call of this number waits.
-fn waits_anywhere(number: CallNumber, calls: &[Call]) -> bool
+fn waits_anywhere(number: CallNumber, calls: &[OpenCall]) -> bool
     ensures { result ≡ waits_anywhere number calls.now }
 {
     calls.iter().any(|call| is_waiting_with(number, call))
 }
 
 /// The call at a place has its end.
-fn end_at(place: usize, calls: &mut [Call])
+fn end_at(place: usize, calls: &mut [OpenCall])
     requires { place < length calls.old }
     ensures { calls.new ≡ answered_at place calls.old }
 {
@@ -160,8 +160,8 @@ impl Halves {
         let octets = Vec::from_slice(alloc, carried)?;
         let payload = Payload { octets };
         match kind_in(flow.to_port, &self.ports) {
-            Some(Kind::Caller) => self.take_reply(&reversed(flow), number, payload),
-            Some(Kind::Service) => self.take_request(Token { flow, number }, payload),
+            Some(PortKind::Caller) => self.take_reply(&reversed(flow), number, payload),
+            Some(PortKind::Service) => self.take_request(Token { flow, number }, payload),
             None => Ok(()),
         }
     }

@@ -12,8 +12,8 @@ use Rattle.dt_world_model.specs.Station.{Tick}
 use Rattle.dt_world_model.specs.Tables.{look}
 use Rattle.dt_world_model.specs.WorldStep.{first_refusal}
 use Rattle.dt_calls_model.specs.Messages.{message_of, reversed}
-use Rattle.dt_endpoint.specs.declared.answers.Arrived.{Arrived}
-use Rattle.dt_endpoint.specs.declared.answers.Arrived.TheVariants as arrived
+use Rattle.dt_endpoint.specs.declared.answers.Received.{Received}
+use Rattle.dt_endpoint.specs.declared.answers.Received.TheVariants as arrived
 use Rattle.dt_endpoint.specs.declared.answers.Ticked.{Ticked}
 use Rattle.dt_endpoint.specs.declared.answers.Ticked.TheVariants as ticked
 use Rattle.dt_endpoint.specs.Calls.{arrive_event, arrive_refusal, send_answer}
@@ -24,11 +24,11 @@ use Rattle.dt_service_model.specs.declared.answers.Forgot.TheVariants as forgot
 use Rattle.dt_service_model.specs.declared.answers.Made.{Made}
 use Rattle.dt_service_model.specs.declared.answers.Made.TheVariants as made
 use Rattle.dt_service_model.specs.declared.answers.Replied.{Replied}
-use Rattle.dt_service_model.specs.declared.calls.Call.{Call}
+use Rattle.dt_service_model.specs.declared.calls.OpenCall.{OpenCall}
 use Rattle.dt_service_model.specs.declared.happenings.Happening.{Happening}
 use Rattle.dt_service_model.specs.declared.names.CallNumber.{CallNumber}
 use Rattle.dt_service_model.specs.declared.names.Token.{Token}
-use Rattle.dt_service_model.specs.declared.ports.Kind.{Kind}
+use Rattle.dt_service_model.specs.declared.ports.PortKind.{PortKind}
 use Rattle.dt_service_model.specs.Accounts.{account, ends_in, made_in, waits_in}
 use Rattle.dt_service_model.specs.Asked.{call, call_refusals, forget_refusals, forgotten, forgotten_unless, is_closed, is_life_in_use, made_by, made_of, message_event, next_number, or_counted, replied_by, reply_refusals, unless, with_call_unless, with_port}
 use Rattle.dt_service_model.specs.Ends.{close, closing_of, next_call, next_in, told_by}
@@ -50,7 +50,7 @@ use Rattle.dt_service_laws.proofs.Asked.{all_clear, first_none}
 use Rattle.dt_service_model.proofs.Growing.{Grows, end_grows, grows_same, grows_through, happens_tells}
 
 -- THE ACCOUNT of a number over what is done: what waited or is made has an end, waits on, or is lost
-pub record Sums (m : CallNumber) (h k : Halves) (calls : List Message) (told : List Happening) (lost : List Call) : Type 0 where
+pub record Sums (m : CallNumber) (h k : Halves) (calls : List Message) (told : List Happening) (lost : List OpenCall) : Type 0 where
   pub sum : waits_in m (still_in h) + count_of m calls ≡ ends_in m told + waits_in m (still_in k) + waits_in m lost
 
 abbrev pub told_of : Halves → Halves → List Happening
@@ -120,7 +120,7 @@ forgot_keeps m (Some r) token h = refl
 none_told : (h k : Halves) → length (told_by k) ≤ length (told_by h) → told_of h k ≡ []
 none_told h k le = drop_of_length-le (told_by k) le
 
-next_told : (calls : List Call) (h : Halves) → h.closed ≡ true → h.calls ≡ calls → told_of h (next_call calls h).1 ≡ []
+next_told : (calls : List OpenCall) (h : Halves) → h.closed ≡ true → h.calls ≡ calls → told_of h (next_call calls h).1 ≡ []
 next_told [] h closed is = drop-length (told_by h)
 next_told (call ∷ calls) h closed is =
     let k : Halves = record h { calls = calls } in
@@ -144,16 +144,16 @@ taken_told (x ∷ xs) h is =
     none_told h (record h { happenings = xs }) (omega (arith, p, q, r))
 
 -- A NODE THAT CLOSES tells the ends of its calls that wait, and once only
-pub closed_now : (h : Halves) → h.closed ≡ false → told_of h (close h) ≡ map closing_of (filter (λ (call : Call). call.waits) h.calls)
-closed_now h is = let left = filter (λ (call : Call). call.waits) h.calls in ap (λ (ts : List Happening). drop (length ts) (h.happenings ++ map closing_of left)) (all_told h is) ∙ drop-append_seam h.happenings (map closing_of left)
+pub closed_now : (h : Halves) → h.closed ≡ false → told_of h (close h) ≡ map closing_of (filter (λ (call : OpenCall). call.waits) h.calls)
+closed_now h is = let left = filter (λ (call : OpenCall). call.waits) h.calls in ap (λ (ts : List Happening). drop (length ts) (h.happenings ++ map closing_of left)) (all_told h is) ∙ drop-append_seam h.happenings (map closing_of left)
 
-fewer_kept : (calls : List Call) → length (filter (λ (call : Call). call.waits) calls) ≤ length calls
+fewer_kept : (calls : List OpenCall) → length (filter (λ (call : OpenCall). call.waits) calls) ≤ length calls
 fewer_kept [] = omega arith
 fewer_kept (call ∷ calls) = let more = fewer_kept calls in elim (cases_Bool call.waits) [ inl y ↦ rw y (omega (arith, more)) | inr o ↦ rw o (omega (arith, more)) ]
 
 pub closed_again : (h : Halves) → h.closed ≡ true → told_of h (close h) ≡ []
 closed_again h is =
-    let left = filter (λ (call : Call). call.waits) h.calls in
+    let left = filter (λ (call : OpenCall). call.waits) h.calls in
     let p = length-append h.happenings (cond h.closed (map closing_of h.calls) []) in
     let q = length-append h.happenings (map closing_of left) in
     let r = ap (λ (b : Bool). length (cond b (map closing_of h.calls) [])) is ∙ length-map h.calls closing_of in
@@ -167,7 +167,7 @@ told_beside h k closed calls happenings =
     let same : told_by k ≡ told_by h =
     ap (λ (hs : List Happening). hs ++ cond k.closed (map closing_of k.calls) []) happenings
     ∙ ap (λ (b : Bool). h.happenings ++ cond b (map closing_of k.calls) []) closed
-    ∙ ap (λ (cs : List Call). h.happenings ++ cond h.closed (map closing_of cs) []) calls in
+    ∙ ap (λ (cs : List OpenCall). h.happenings ++ cond h.closed (map closing_of cs) []) calls in
     ap (drop (length (told_by h))) same ∙ drop-length (told_by h)
 
 module _ (m : CallNumber) where
@@ -207,7 +207,7 @@ module _ (m : CallNumber) where
   tick_sums true now x is = sums_same m x.halves [] refl
   tick_sums false now x is = (let a = happens_keeps m now Tick x in sums_end m now x (happens now Tick x) [] (either_false x.endpoint.spent x.halves.closed is) (happens_tells now Tick x).grows (omega (arith, a)))
 
-  arrive_sums : (c : Bool) (o : Option Arrived) (now link : ℕ) (datagram : List ℕ) (waited : ℕ) (x : Node) → is_closed x ≡ c → let y = (cond {A = Arrived × Node} c (arrived.Spent, x) (or_counted o x (arrived.Done, turn now (arrive_event link datagram waited) x))).1 in Sums m x.halves y.halves [] (told_of x.halves y.halves) []
+  arrive_sums : (c : Bool) (o : Option Received) (now link : ℕ) (datagram : List ℕ) (waited : ℕ) (x : Node) → is_closed x ≡ c → let y = (cond {A = Received × Node} c (arrived.Spent, x) (or_counted o x (arrived.Done, turn now (arrive_event link datagram waited) x))).1 in Sums m x.halves y.halves [] (told_of x.halves y.halves) []
   arrive_sums true o now link datagram waited x is = sums_same m x.halves [] refl
   arrive_sums false (Some a) now link datagram waited x is = sums_same m x.halves [] refl
   arrive_sums false None now link datagram waited x is =
@@ -219,10 +219,10 @@ module _ (m : CallNumber) where
   sums_beside : (h k : Halves) → k.closed ≡ h.closed → k.calls ≡ h.calls → k.happenings ≡ h.happenings → Sums m h k [] (told_of h k) []
   sums_beside h k closed calls happenings =
       let a = ap (ends_in m) (told_beside h k closed calls happenings) in
-      let b = ap (waits_in m) (ap (λ (t : Bool). cond t [] k.calls) closed ∙ ap (λ (cs : List Call). cond h.closed [] cs) calls) in
+      let b = ap (waits_in m) (ap (λ (t : Bool). cond t [] k.calls) closed ∙ ap (λ (cs : List OpenCall). cond h.closed [] cs) calls) in
       record { sum = omega (arith, a, b) }
 
-  kind_sums : (port : ℕ) (o : Option Kind) (kind : Kind) (h : Halves) → Sums m h (with_port port o kind h) [] (told_of h (with_port port o kind h)) []
+  kind_sums : (port : ℕ) (o : Option PortKind) (kind : PortKind) (h : Halves) → Sums m h (with_port port o kind h) [] (told_of h (with_port port o kind h)) []
   kind_sums port (Some has) kind h = sums_same m h [] refl
   kind_sums port None kind h = sums_beside h (with_port port None kind h) refl refl refl
 
@@ -231,7 +231,7 @@ module _ (m : CallNumber) where
   raise_sums false life h = sums_beside h (record h { life = life; count = 0 }) refl refl refl
 
   -- WHAT WAS TOLD IS TAKEN
-  next_still : (calls : List Call) (h : Halves) → h.closed ≡ true → still_in (next_call calls h).1 ≡ still_in h
+  next_still : (calls : List OpenCall) (h : Halves) → h.closed ≡ true → still_in (next_call calls h).1 ≡ still_in h
   next_still [] h closed = refl
   next_still (call ∷ calls) h closed = ap (λ (b : Bool). cond b [] calls) closed ∙ sym (ap (λ (b : Bool). cond b [] h.calls) closed)
 
@@ -250,7 +250,7 @@ module _ (m : CallNumber) where
       record { sum = omega (arith, a, b) }
 
   -- THE NODE CLOSES
-  closing_ends : (calls : List Call) → ends_in m (map closing_of (filter (λ (call : Call). call.waits) calls)) ≡ waits_in m calls
+  closing_ends : (calls : List OpenCall) → ends_in m (map closing_of (filter (λ (call : OpenCall). call.waits) calls)) ≡ waits_in m calls
   closing_ends [] = refl
   closing_ends (call ∷ calls) = let more = closing_ends calls in elim (cases_Bool call.waits) [ inl y ↦ rw y (omega (arith, more)) | inr o ↦ rw o (omega (arith, more)) ]
 
@@ -265,12 +265,12 @@ module _ (m : CallNumber) where
       record { sum = omega (arith, a, ends) }
 
 -- WHAT A TURN MADE is all of its calls; one that found no memory made its call or didn't
-pub record Accounts (memory : Bool) (calls : List Message) (h k : Halves) (told : List Happening) (lost : List Call) : Type 0 where
+pub record Accounts (memory : Bool) (calls : List Message) (h k : Halves) (told : List Happening) (lost : List OpenCall) : Type 0 where
   pub made : List Message
   pub are : IsSentOf memory calls made
   pub sums : (m : CallNumber) → Sums m h k made told lost
 
-accounts_all : (h k : Halves) (calls : List Message) (told : List Happening) (lost : List Call) → ((m : CallNumber) → Sums m h k calls told lost) → Accounts true calls h k told lost
+accounts_all : (h k : Halves) (calls : List Message) (told : List Happening) (lost : List OpenCall) → ((m : CallNumber) → Sums m h k calls told lost) → Accounts true calls h k told lost
 accounts_all h k calls told lost sums = record { made = calls; are = refl; sums = sums }
 
 accounts_none : (memory : Bool) (h : Halves) → Accounts memory [] h h [] []
@@ -278,9 +278,9 @@ accounts_none true h = record { made = []; are = refl; sums = λ m. record { sum
 accounts_none false h = record { made = []; are = inl refl; sums = λ m. record { sum = omega arith } }
 
 -- A TURN THAT FOUND NO MEMORY tells what it had told where it stopped, and then that each call that waits is unsure
-pub told_closing : (h k l : Halves) (more : List Happening) → h.closed ≡ false → k.happenings ≡ h.happenings ++ more → l ≡ close k → told_of h l ≡ more ++ map closing_of (filter (λ (call : Call). call.waits) k.calls)
+pub told_closing : (h k l : Halves) (more : List Happening) → h.closed ≡ false → k.happenings ≡ h.happenings ++ more → l ≡ close k → told_of h l ≡ more ++ map closing_of (filter (λ (call : OpenCall). call.waits) k.calls)
 told_closing h k l more open_h is closes =
-    let ends = map closing_of (filter (λ (call : Call). call.waits) k.calls) in
+    let ends = map closing_of (filter (λ (call : OpenCall). call.waits) k.calls) in
     ap (told_of h) closes
     ∙ ap (λ (ts : List Happening). drop (length ts) (k.happenings ++ ends)) (all_told h open_h)
     ∙ ap (λ (hs : List Happening). drop (length h.happenings) (hs ++ ends)) is
@@ -289,7 +289,7 @@ told_closing h k l more open_h is closes =
 
 sums_closing : (m : CallNumber) (made : Bool) (h k l : Halves) (calls : List Message) → h.closed ≡ false → HalvesGoOn made h k → l ≡ close k → count_of m calls ≡ one_more made h m → Sums m h l calls (told_of h l) []
 sums_closing m made h k l calls open_h go closes counts =
-    let ends = map closing_of (filter (λ (call : Call). call.waits) k.calls) in
+    let ends = map closing_of (filter (λ (call : OpenCall). call.waits) k.calls) in
     let a = ap (waits_in m) (still_all h open_h) in
     let b = go.accounts m in
     let c = ap (ends_in m) go.told ∙ ends_append m h.happenings go.more in
@@ -373,11 +373,11 @@ module _ (setup : Setup) (c : ℕ) where
   turn_accounts (Passes by) s keeps = accounts_none true (s.halves c)
   turn_accounts (Does n deed) s keeps = by_node s n deed (look ◌==◌ n s.network.endpoints) keeps
 
-  waits_append : (m : CallNumber) (xs ys : List Call) → waits_in m (xs ++ ys) ≡ waits_in m xs + waits_in m ys
+  waits_append : (m : CallNumber) (xs ys : List OpenCall) → waits_in m (xs ++ ys) ≡ waits_in m xs + waits_in m ys
   waits_append m [] ys = omega arith
   waits_append m (x ∷ xs) ys = let e = waits_append m xs ys in omega (arith, e)
 
-  sums_then : (m : CallNumber) (h k l : Halves) (xs ys : List Message) (ts us : List Happening) (ls ms : List Call) → Sums m h k xs ts ls → Sums m k l ys us ms → Sums m h l (xs ++ ys) (ts ++ us) (ls ++ ms)
+  sums_then : (m : CallNumber) (h k l : Halves) (xs ys : List Message) (ts us : List Happening) (ls ms : List OpenCall) → Sums m h k xs ts ls → Sums m k l ys us ms → Sums m h l (xs ++ ys) (ts ++ us) (ls ++ ms)
   sums_then m h k l xs ys ts us ls ms p q =
       let a = count_append m xs ys in
       let b = ends_append m ts us in

@@ -16,17 +16,17 @@ use Rattle.dt_world_model.specs.Setup.{Setup}
 use Rattle.dt_world_model.specs.Tables.{same_flow}
 use Rattle.dt_calls_model.specs.Messages.{Piece, carried_in, has_number, number_in, reversed, whole_with}
 use Rattle.dt_messages.specs.Joining.{whole_within}
-use Rattle.dt_endpoint.specs.declared.answers.Piece.TheVariants as answer
+use Rattle.dt_endpoint.specs.declared.answers.Delivered.TheVariants as answer
 use Rattle.dt_network.specs.Network.{Network}
 use Rattle.dt_network.specs.Octets.{all_read, items_read, read_if}
 use Rattle.dt_network.specs.Steps.{Step}
-use Rattle.dt_service_model.specs.declared.calls.Call.{Call}
+use Rattle.dt_service_model.specs.declared.calls.OpenCall.{OpenCall}
 use Rattle.dt_service_model.specs.declared.happenings.Happening.{Happening}
 use Rattle.dt_service_model.specs.declared.happenings.Happening.TheVariants.{Answered, Request, Unsure}
 use Rattle.dt_service_model.specs.declared.names.CallNumber.{CallNumber}
 use Rattle.dt_service_model.specs.declared.names.Token.{Token}
-use Rattle.dt_service_model.specs.declared.ports.Kind.{Kind}
-use Rattle.dt_service_model.specs.declared.ports.Kind.TheVariants.{Caller, Service}
+use Rattle.dt_service_model.specs.declared.ports.PortKind.{PortKind}
+use Rattle.dt_service_model.specs.declared.ports.PortKind.TheVariants.{Caller, Service}
 use Rattle.dt_service_model.specs.Halves.{Halves, counted_up, kind_in, most_octets}
 use Rattle.dt_service_model.specs.Hearing.{hear}
 use Rattle.dt_service_model.specs.Names.{call_number, same_number, same_token, token_with}
@@ -104,8 +104,8 @@ pub same_reversed : (f g : Flow) → same_flow (reversed f) (reversed g) ≡ sam
 same_reversed f g = swap (f.to.0 == g.to.0) (f.to_port == g.to_port) (f.from.0 == g.from.0) (f.from_port == g.from_port)
 
 -- A CALL OF ANOTHER FLOW that waits under the number of an answer
-pub record IsOther (g : Flow) (calls : List Call) (a : Message) : Type 0 where
-  pub call : Call
+pub record IsOther (g : Flow) (calls : List OpenCall) (a : Message) : Type 0 where
+  pub call : OpenCall
   pub there : Contains calls call
   pub waits : call.waits ≡ true
   pub number : call.number ≡ a.number
@@ -116,7 +116,7 @@ pub record WholeAnswers (f : Flow) (o : Option (List ℕ)) (h : Halves) (a : Mes
   pub message : List ℕ
   pub whole : o ≡ Some message
   pub says : said message ≡ a
-  pub call : Call
+  pub call : OpenCall
   pub there : Contains h.calls call
   pub waits : call.waits ≡ true
   pub number : call.number ≡ a.number
@@ -138,7 +138,7 @@ reply_gives : (f : Flow) (m : List ℕ) (h : Halves) (o : Option ℕ) → positi
 reply_gives f m h None is = gives_none f (Some m) h _ refl (λ t. omega arith)
 reply_gives f m h (Some place) is =
     let n = call_number (number_in m) in
-    let d : Call = record { number = n; flow = f; deadline = 0; left = 0; waits = false; doubted = false } in
+    let d : OpenCall = record { number = n; flow = f; deadline = 0; left = 0; waits = false; doubted = false } in
     let at = position-Some (is_waiting_call (reversed f) n) h.calls place d is in
     let call = get_or h.calls place d in
     let p = and_parts (call.waits && same_number call.number n) (same_flow call.flow (reversed f)) at.1 in
@@ -178,7 +178,7 @@ request_gives f m h false = record {
   opens = λ t. request_opens t (token_with f (call_number (number_in m))) (carried_in m) h.tokens;
 }
 
-as_gives : (f : Flow) (m : List ℕ) (h : Halves) (kind : Option Kind) → WholeGives f (Some m) h (take_as kind f (call_number (number_in m)) (carried_in m) h)
+as_gives : (f : Flow) (m : List ℕ) (h : Halves) (kind : Option PortKind) → WholeGives f (Some m) h (take_as kind f (call_number (number_in m)) (carried_in m) h)
 as_gives f m h None = gives_none f (Some m) h h refl (λ t. omega arith)
 as_gives f m h (Some Caller) = reply_gives f m h (position (is_waiting_call (reversed f) (call_number (number_in m))) h.calls) refl
 as_gives f m h (Some Service) = request_gives f m h (is_open (token_with f (call_number (number_in m))) h)
@@ -212,9 +212,9 @@ pub count_append : (n : CallNumber) (xs ys : List Message) → count_of n (xs ++
 count_append n [] ys = omega arith
 count_append n (x ∷ xs) ys = let e = count_append n xs ys in omega (arith, e)
 
-other_kept : (g : Flow) (before after : List Call) (a : Message) → AreKeptFrom before after → IsOther g after a → IsOther g before a
+other_kept : (g : Flow) (before after : List OpenCall) (a : Message) → AreKeptFrom before after → IsOther g after a → IsOther g before a
 other_kept g before after a kept o =
-    let k = All-contains (λ (c : Call). c.waits ≡ true → IsKeptFrom before c) after o.call kept o.there o.waits in
+    let k = All-contains (λ (c : OpenCall). c.waits ≡ true → IsKeptFrom before c) after o.call kept o.there o.waits in
     record { call = k.was; there = k.there; waits = k.waits; number = k.number ∙ o.number; other = ap (λ (f : Flow). same_flow f (reversed g)) k.flow ∙ o.other }
 
 pub answers_then : (g : Flow) (b : Option (List ℕ)) (xs ys : List Item) (h k l : Halves) → Answers g b xs h k → Answers g (begun_after b xs) ys k l → Answers g b (xs ++ ys) h l

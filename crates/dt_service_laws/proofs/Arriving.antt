@@ -16,9 +16,9 @@ use Rattle.dt_network.specs.Duties.{KeepsDuties}
 use Rattle.dt_network.specs.Network.{Network, new_network}
 use Rattle.dt_network.specs.Octets.{AreTaken, IsReadOf, all_read}
 use Rattle.dt_network.specs.Steps.{AreSteps, Step}
-use Rattle.dt_service_model.specs.declared.calls.Call.{Call}
+use Rattle.dt_service_model.specs.declared.calls.OpenCall.{OpenCall}
 use Rattle.dt_service_model.specs.declared.names.CallNumber.{CallNumber}
-use Rattle.dt_service_model.specs.declared.ports.Kind.{Kind}
+use Rattle.dt_service_model.specs.declared.ports.PortKind.{PortKind}
 use Rattle.dt_service_model.specs.declared.ports.Most.{Most}
 use Rattle.dt_service_model.specs.Names.{same_number}
 use Rattle.dt_service_model.specs.Turns.{Node}
@@ -107,7 +107,7 @@ pub spelled_some : (ms : List Message) → AreSome (map spelled ms)
 spelled_some [] = tt
 spelled_some (m ∷ ms) = (omega arith, spelled_some ms)
 
-module _ (setup : Setup) (Good : Network → Type 0) (law : IsLawful setup Good) (kinds : (node port : ℕ) → Kind) where
+module _ (setup : Setup) (Good : Network → Type 0) (law : IsLawful setup Good) (kinds : (node port : ℕ) → PortKind) where
   abbrev pub AreSound : Services → Type 0
   AreSound s = (k : ℕ) → IsSound kinds k (s.halves k)
 
@@ -181,7 +181,7 @@ module _ (setup : Setup) (Good : Network → Type 0) (law : IsLawful setup Good)
     start = new_services setup most life
 
     no_waits : Waits setup Good law (λ g m. 0) []
-    no_waits = All-nil (λ (c : Call). c.waits ≡ true → 0 < 0)
+    no_waits = All-nil (λ (c : OpenCall). c.waits ≡ true → 0 < 0)
 
     -- what is sent on a flow, and what comes of it
     pub record SentCome (f : Flow) (turns : List Turn) : Type 0 where

@@ -16,8 +16,8 @@ use Rattle.dt_world_model.specs.Tables.{same_flow}
 use Rattle.dt_world_model.specs.WorldStep.{first_refusal}
 use Rattle.dt_calls_laws.specs.Wholes.{items_of_all}
 use Rattle.dt_calls_model.specs.Messages.{message_of, reversed}
-use Rattle.dt_endpoint.specs.declared.answers.Arrived.{Arrived}
-use Rattle.dt_endpoint.specs.declared.answers.Arrived.TheVariants as arrived
+use Rattle.dt_endpoint.specs.declared.answers.Received.{Received}
+use Rattle.dt_endpoint.specs.declared.answers.Received.TheVariants as arrived
 use Rattle.dt_endpoint.specs.declared.answers.Sent.{Sent}
 use Rattle.dt_endpoint.specs.declared.answers.Sent.TheVariants as sent
 use Rattle.dt_endpoint.specs.declared.answers.Ticked.{Ticked}
@@ -276,21 +276,21 @@ module _ (setup : Setup) (n : ℕ) (m : Network) (x : Node) (there : IsAt n m x.
     in_time = (let a = t.in_time in let b = later.now in omega (arith, a, b));
   }
 
-  arrive_goes : IsOn x → (now link : ℕ) (datagram : List ℕ) (waited : ℕ) → KeepsCall setup m n (CallArrive now link datagram waited arrived.Done) x.endpoint → (arrive_refusal link datagram waited x.endpoint ≡ None → ReadsFlows (happens now (arrive_event link datagram waited) x)) → (c : Bool) → (o : Option Arrived) → arrive_refusal link datagram waited x.endpoint ≡ o
-      → Comes setup n x (cond c x.halves (mid_of o x.halves (happens now (arrive_event link datagram waited) x).halves)) (cond {A = Arrived × Node} c (arrived.Spent, x) (or_counted o x (arrived.Done, turn now (arrive_event link datagram waited) x))).1 m (λ g. [])
+  arrive_goes : IsOn x → (now link : ℕ) (datagram : List ℕ) (waited : ℕ) → KeepsCall setup m n (CallArrive now link datagram waited arrived.Done) x.endpoint → (arrive_refusal link datagram waited x.endpoint ≡ None → ReadsFlows (happens now (arrive_event link datagram waited) x)) → (c : Bool) → (o : Option Received) → arrive_refusal link datagram waited x.endpoint ≡ o
+      → Comes setup n x (cond c x.halves (mid_of o x.halves (happens now (arrive_event link datagram waited) x).halves)) (cond {A = Received × Node} c (arrived.Spent, x) (or_counted o x (arrived.Done, turn now (arrive_event link datagram waited) x))).1 m (λ g. [])
   arrive_goes on now link datagram waited keeps flows true o is = comes_nowhere setup n x m there on
   arrive_goes on now link datagram waited keeps flows false (Some a) is =
       let y : Node = record x { endpoint = with_refused x.endpoint } in
       let call = CallArrive now link datagram waited a in
       comes_by_step setup n x m y (Calls n call y.endpoint)
-      (subst (DoesFrom setup n call y.endpoint) (sym there) (subst (λ (o : Option Arrived). Unless o a (with_refused x.endpoint) y.endpoint (ArriveDoes a now (arrive_event link datagram waited) x.endpoint y.endpoint)) (sym is) (refl, refl)), tt)
+      (subst (DoesFrom setup n call y.endpoint) (sym there) (subst (λ (o : Option Received). Unless o a (with_refused x.endpoint) y.endpoint (ArriveDoes a now (arrive_event link datagram waited) x.endpoint y.endpoint)) (sym is) (refl, refl)), tt)
       (subst (CallKeeps setup m n call) (sym there) keeps, tt) refl on (λ g. refl) (λ g. takes_more g (Calls n call y.endpoint) [] [] [] (λ first t. t) (takes_nothing g)) (λ g b tracks. tracks) (drop-length x.halves.happenings)
   arrive_goes on now link datagram waited keeps flows false None is =
       let event = arrive_event link datagram waited in
       let after = after_event now event x.endpoint in
       comes_by_event setup n x m there now keeps.0 Good law good (CallArrive now link datagram waited arrived.Done) after (happens now event x).halves (λ g. [])
       (record {
-        does = subst (λ (o : Option Arrived). Unless o arrived.Done (with_refused x.endpoint) after (ArriveDoes arrived.Done now event x.endpoint after)) (sym is) (refl, refl);
+        does = subst (λ (o : Option Received). Unless o arrived.Done (with_refused x.endpoint) after (ArriveDoes arrived.Done now event x.endpoint after)) (sym is) (refl, refl);
         keeps = λ k later. (time_later setup n m now keeps.0 k later, λ clear. in_time_later link datagram waited k later (keeps.1 clear));
         frames = frames_in (acts_of (script_of now event x.endpoint));
         appended = refl;

@@ -12,8 +12,8 @@ use Rattle.dt_world_model.specs.Tables.{same_flow}
 use Rattle.dt_world_model.specs.WorldStep.{first_refusal}
 use Rattle.dt_calls_laws.specs.Wholes.{items_of_all}
 use Rattle.dt_calls_model.specs.Messages.{message_of, reversed}
-use Rattle.dt_endpoint.specs.declared.answers.Arrived.{Arrived}
-use Rattle.dt_endpoint.specs.declared.answers.Arrived.TheVariants as arrived
+use Rattle.dt_endpoint.specs.declared.answers.Received.{Received}
+use Rattle.dt_endpoint.specs.declared.answers.Received.TheVariants as arrived
 use Rattle.dt_endpoint.specs.declared.answers.Sent.{Sent}
 use Rattle.dt_endpoint.specs.declared.answers.Sent.TheVariants as sent
 use Rattle.dt_endpoint.specs.declared.answers.Ticked.{Ticked}
@@ -27,7 +27,7 @@ use Rattle.dt_network.specs.Octets.{Takes, TakesIf, read_by}
 use Rattle.dt_network.specs.Steps.{Call, CallArrive, CallSend, CallTick}
 use Rattle.dt_service_model.specs.declared.answers.Made.{Made}
 use Rattle.dt_service_model.specs.declared.answers.Replied.{Replied}
-use Rattle.dt_service_model.specs.declared.calls.Call.{Call as Kept}
+use Rattle.dt_service_model.specs.declared.calls.OpenCall.{OpenCall as Kept}
 use Rattle.dt_service_model.specs.declared.names.CallNumber.{CallNumber}
 use Rattle.dt_service_model.specs.declared.names.Token.{Token}
 use Rattle.dt_service_model.specs.Asked.{call_refusals, forget_refusals, forgotten, forgotten_unless, goes_out, is_closed, is_one_too_many, message_event, next_number, reply_refusals, with_call_unless}
@@ -284,7 +284,7 @@ module _ (setup : Setup) (Good : Network → Type 0) (law : IsLawful setup Good)
         let calls : EventCalls AreNone now event = record {
           done = CallArrive now link datagram waited arrived.Done;
           may = record {
-            does = subst (λ (o : Option Arrived). Unless o arrived.Done (with_refused x.endpoint) after (ArriveDoes arrived.Done now event x.endpoint after)) (sym none) (refl, refl);
+            does = subst (λ (o : Option Received). Unless o arrived.Done (with_refused x.endpoint) after (ArriveDoes arrived.Done now event x.endpoint after)) (sym none) (refl, refl);
             keeps = λ k later. (time_later setup n m now time k later, λ clear. in_time_later setup n m x there Good law good link datagram waited k later (keeps.1 clear));
             frames = frames_in (acts_of (script_of now event x.endpoint));
             appended = refl;
@@ -295,7 +295,7 @@ module _ (setup : Setup) (Good : Network → Type 0) (law : IsLawful setup Good)
           broken = CallArrive now link datagram waited arrived.NoMemory;
           cut = λ e b. record {
             can = record {
-              does = subst (λ (o : Option Arrived). Unless o arrived.NoMemory (with_refused x.endpoint) e (ArriveDoes arrived.NoMemory now event x.endpoint e)) (sym none) b;
+              does = subst (λ (o : Option Received). Unless o arrived.NoMemory (with_refused x.endpoint) e (ArriveDoes arrived.NoMemory now event x.endpoint e)) (sym none) b;
               keeps = λ k later. (time_later setup n m now time k later, λ clear. in_time_later setup n m x there Good law good link datagram waited k later (keeps.1 clear));
               frames = frames_in (take b.count (acts_of (script_of now event x.endpoint)));
               appended = b.frames;

@@ -13,11 +13,11 @@ use Rattle.dt_world_model.specs.Tables.{same_flow}
 use Rattle.dt_calls_model.specs.Messages.{Piece, carried_in, has_number, number_in, reversed}
 use Rattle.dt_messages.specs.Joining.{whole_within}
 use Rattle.dt_endpoint.specs.Endpoints.{after_event}
-use Rattle.dt_service_model.specs.declared.calls.Call.{Call}
+use Rattle.dt_service_model.specs.declared.calls.OpenCall.{OpenCall}
 use Rattle.dt_service_model.specs.declared.happenings.Happening.TheVariants.{Request}
 use Rattle.dt_service_model.specs.declared.names.CallNumber.{CallNumber}
-use Rattle.dt_service_model.specs.declared.ports.Kind.{Kind}
-use Rattle.dt_service_model.specs.declared.ports.Kind.TheVariants.{Caller, Service}
+use Rattle.dt_service_model.specs.declared.ports.PortKind.{PortKind}
+use Rattle.dt_service_model.specs.declared.ports.PortKind.TheVariants.{Caller, Service}
 use Rattle.dt_service_model.specs.Asked.{with_call}
 use Rattle.dt_service_model.specs.Halves.{Halves, counted_up, kind_in, most_octets}
 use Rattle.dt_service_model.specs.Hearing.{Accepts, GivesUp, Heard, NoMatter, Settles, hear, hear_all, hear_as, heard, with_fate, with_fates, with_flow}
@@ -56,7 +56,7 @@ given_on deed x y z n g h = record {
 }
 
 -- CALLS THAT ARE DOUBTED, by what holds of their numbers
-abbrev pub IsDoubt : (CallNumber → Type 0) → Call → Type 0
+abbrev pub IsDoubt : (CallNumber → Type 0) → OpenCall → Type 0
 IsDoubt P call = call.doubted ≡ true → P call.number
 
 -- the first octets of an owner and those after them
@@ -72,7 +72,7 @@ taken_later (suc count) (suc left) n m rest there =
     let e : suc count - suc left ≡ count - left = omega arith in
     contains_more n m (take count (replicate left n ++ rest)) (taken_later count left n m rest (subst (λ (k : ℕ). Contains (take k rest) m) e there))
 
-fate_doubt : (P : CallNumber → Type 0) (given_up : Bool) (count : ℕ) (call : Call) (rest : List CallNumber) → IsDoubt P call → ((n : CallNumber) → given_up ≡ true → Contains (take count (replicate call.left call.number ++ rest)) n → P n) → IsDoubt P (with_fate given_up count call)
+fate_doubt : (P : CallNumber → Type 0) (given_up : Bool) (count : ℕ) (call : OpenCall) (rest : List CallNumber) → IsDoubt P call → ((n : CallNumber) → given_up ≡ true → Contains (take count (replicate call.left call.number ++ rest)) n → P n) → IsDoubt P (with_fate given_up count call)
 fate_doubt P given_up count call rest was new doubted =
     elim (cases_Bool call.doubted) [
       | inl y ↦ was y
@@ -83,7 +83,7 @@ fate_doubt P given_up count call rest was new doubted =
           new call.number q.0 (taken_first count call.left call.number rest q.1 p.1)
     ]
 
-fates_doubt : (P : CallNumber → Type 0) (given_up : Bool) (f : Flow) (count : ℕ) (cs : List Call) → All (IsDoubt P) cs → ((n : CallNumber) → given_up ≡ true → Contains (take count (owners f cs)) n → P n) → All (IsDoubt P) (with_fates given_up f count cs)
+fates_doubt : (P : CallNumber → Type 0) (given_up : Bool) (f : Flow) (count : ℕ) (cs : List OpenCall) → All (IsDoubt P) cs → ((n : CallNumber) → given_up ≡ true → Contains (take count (owners f cs)) n → P n) → All (IsDoubt P) (with_fates given_up f count cs)
 fates_doubt P given_up f count [] all new = All-nil (IsDoubt P)
 fates_doubt P given_up f count (call ∷ cs) all new =
     by_flow (same_flow call.flow f) new (λ more. fates_doubt P given_up f (count - call.left) cs (All-tail (IsDoubt P) call cs all) more) (λ more. fates_doubt P given_up f count cs (All-tail (IsDoubt P) call cs all) more)
@@ -98,8 +98,8 @@ fates_doubt P given_up f count (call ∷ cs) all new =
     by_flow false new here other = All-cons (IsDoubt P) call _ (All-head (IsDoubt P) call cs all) (other new)
 
 -- WHAT IS HEARD, report by report
-same_calls : (P : CallNumber → Type 0) (cs ds : List Call) → ds ≡ cs → All (IsDoubt P) cs → All (IsDoubt P) ds
-same_calls P cs ds same all = subst (λ (es : List Call). All (IsDoubt P) es) (sym same) all
+same_calls : (P : CallNumber → Type 0) (cs ds : List OpenCall) → ds ≡ cs → All (IsDoubt P) cs → All (IsDoubt P) ds
+same_calls P cs ds same all = subst (λ (es : List OpenCall). All (IsDoubt P) es) (sym same) all
 
 accepted_calls : (b : Bool) (f : Flow) (h : Halves) → (cond b (record h { unread = with_flow f h.unread }) h).calls ≡ h.calls
 accepted_calls true f h = refl
@@ -162,13 +162,13 @@ doubts_call deed x y f count deadline asked d =
     }
 
 -- a piece may end a call, and doubts none
-answered_doubts : (P : CallNumber → Type 0) (place : ℕ) (cs : List Call) → All (IsDoubt P) cs → All (IsDoubt P) (answered_at place cs)
+answered_doubts : (P : CallNumber → Type 0) (place : ℕ) (cs : List OpenCall) → All (IsDoubt P) cs → All (IsDoubt P) (answered_at place cs)
 answered_doubts P place [] all = All-nil (IsDoubt P)
 answered_doubts P zero (call ∷ cs) all = All-cons (IsDoubt P) _ cs (All-head (IsDoubt P) call cs all) (All-tail (IsDoubt P) call cs all)
 answered_doubts P (suc place) (call ∷ cs) all = All-cons (IsDoubt P) call _ (All-head (IsDoubt P) call cs all) (answered_doubts P place cs (All-tail (IsDoubt P) call cs all))
 
 -- what a piece leaves of calls: the same, or one of them has ended
-whole_calls : (P : List Call → Type 0) (f : Flow) (o : Option (List ℕ)) (h : Halves) → P h.calls → ((place : ℕ) → P (answered_at place h.calls)) → P (take_whole f o h).calls
+whole_calls : (P : List OpenCall → Type 0) (f : Flow) (o : Option (List ℕ)) (h : Halves) → P h.calls → ((place : ℕ) → P (answered_at place h.calls)) → P (take_whole f o h).calls
 whole_calls P f None h same ended = same
 whole_calls P f (Some m) h same ended = by_number (has_number m)
   where
@@ -180,7 +180,7 @@ whole_calls P f (Some m) h same ended = by_number (has_number m)
     by_open true = same
     by_open false = same
 
-    by_kind : (kind : Option Kind) → P (take_as kind f (call_number (number_in m)) (carried_in m) h).calls
+    by_kind : (kind : Option PortKind) → P (take_as kind f (call_number (number_in m)) (carried_in m) h).calls
     by_kind None = same
     by_kind (Some Caller) = by_place (position (is_waiting_call (reversed f) (call_number (number_in m))) h.calls)
     by_kind (Some Service) = by_open (is_open (token_with f (call_number (number_in m))) h)
@@ -189,7 +189,7 @@ whole_calls P f (Some m) h same ended = by_number (has_number m)
     by_number true = by_kind (kind_in f.to_port h.ports)
     by_number false = same
 
-pub piece_calls : (P : List Call → Type 0) (f : Flow) (p : Piece) (h : Halves) → P h.calls → ((place : ℕ) → P (answered_at place h.calls)) → P (take_piece f p h).calls
+pub piece_calls : (P : List OpenCall → Type 0) (f : Flow) (p : Piece) (h : Halves) → P h.calls → ((place : ℕ) → P (answered_at place h.calls)) → P (take_piece f p h).calls
 piece_calls P f p h same ended = whole_calls P f (whole_within (Some most_octets) (begun_of f h) p) (grown f (begun_of f h) p h) same ended
 
 doubts_take : (deed : Deed) (x y : Node) (f : Flow) (p : Piece) → Doubts deed x y → Doubts deed x (with_halves (take_piece f p) y)
@@ -198,7 +198,7 @@ doubts_take deed x y f p d =
     let on : Within deed y z = takes f p itself in
     record {
       within = within_then d.within on;
-      doubts = (let all = All-weaker (IsDoubt (WasGivenUp deed x y)) (IsDoubt (WasGivenUp deed x z)) (λ call was doubted. given_on deed x y z call.number (was doubted) on) y.halves.calls d.doubts in piece_calls (λ (cs : List Call). All (IsDoubt (WasGivenUp deed x z)) cs) f p y.halves all (λ place. answered_doubts (WasGivenUp deed x z) place y.halves.calls all));
+      doubts = (let all = All-weaker (IsDoubt (WasGivenUp deed x y)) (IsDoubt (WasGivenUp deed x z)) (λ call was doubted. given_on deed x y z call.number (was doubted) on) y.halves.calls d.doubts in piece_calls (λ (cs : List OpenCall). All (IsDoubt (WasGivenUp deed x z)) cs) f p y.halves all (λ place. answered_doubts (WasGivenUp deed x z) place y.halves.calls all));
     }
 
 doubts_kept : (deed : Deed) (x : Node) → IsKept (moment_told deed) (λ (y z : Node). Doubts deed x y → Doubts deed x z)
@@ -214,8 +214,8 @@ doubts_kept deed x = record {
 pub doubts_read : (deed : Deed) (x y : Node) → Doubts deed x y → Doubts deed x (read_through (moment_told deed) y)
 doubts_read deed x y d = reads_kept (moment_told deed) (λ (u v : Node). Doubts deed x u → Doubts deed x v) (doubts_kept deed x) y d
 
-pub doubts_begin : (deed : Deed) (x : Node) → All (λ (c : Call). c.doubted ≡ false) x.halves.calls → Doubts deed x x
-doubts_begin deed x sure = record { within = itself; doubts = All-weaker (λ (c : Call). c.doubted ≡ false) (IsDoubt (WasGivenUp deed x x)) (λ call calm doubted. absurd cc) x.halves.calls sure }
+pub doubts_begin : (deed : Deed) (x : Node) → All (λ (c : OpenCall). c.doubted ≡ false) x.halves.calls → Doubts deed x x
+doubts_begin deed x sure = record { within = itself; doubts = All-weaker (λ (c : OpenCall). c.doubted ≡ false) (IsDoubt (WasGivenUp deed x x)) (λ call calm doubted. absurd cc) x.halves.calls sure }
 
 -- WITHIN A TURN nothing is told of unsure calls, and a call that is doubted stays so
 pub within_tells : {deed : Deed} {x y : Node} → Within deed x y → Tells x.halves y.halves
@@ -225,27 +225,27 @@ within_tells {deed} (hears {x} {y} event may more) = tells_through x.halves (hap
 within_tells (takes {x} {y} f piece more) = tells_through x.halves (take_piece f piece x.halves) y.halves (piece_tells f piece x.halves) (within_tells more)
 within_tells (changes {x} {y} h leaves more) = tells_through x.halves h y.halves (tells_same x.halves h leaves.closed leaves.happenings) (within_tells more)
 
-pub record HasDoubted (n : CallNumber) (cs : List Call) : Type 0 where
-  pub call : Call
+pub record HasDoubted (n : CallNumber) (cs : List OpenCall) : Type 0 where
+  pub call : OpenCall
   pub there : Contains cs call
   pub number : call.number ≡ n
   pub doubted : call.doubted ≡ true
 
-doubted_more : (n : CallNumber) (call : Call) (cs : List Call) → HasDoubted n cs → HasDoubted n (call ∷ cs)
+doubted_more : (n : CallNumber) (call : OpenCall) (cs : List OpenCall) → HasDoubted n cs → HasDoubted n (call ∷ cs)
 doubted_more n call cs h = record { call = h.call; there = contains_more call h.call cs h.there; number = h.number; doubted = h.doubted }
 
-doubted_first : (n : CallNumber) (call : Call) (cs : List Call) → call.number ≡ n → call.doubted ≡ true → HasDoubted n (call ∷ cs)
+doubted_first : (n : CallNumber) (call : OpenCall) (cs : List OpenCall) → call.number ≡ n → call.doubted ≡ true → HasDoubted n (call ∷ cs)
 doubted_first n call cs number doubted = record { call = call; there = contains_first call call cs refl; number = number; doubted = doubted }
 
 -- a call by itself, or among those after it
-doubted_parts : (n : CallNumber) (call : Call) (cs : List Call) → HasDoubted n (call ∷ cs) → ((call.number ≡ n) × (call.doubted ≡ true)) ⊎ HasDoubted n cs
+doubted_parts : (n : CallNumber) (call : OpenCall) (cs : List OpenCall) → HasDoubted n (call ∷ cs) → ((call.number ≡ n) × (call.doubted ≡ true)) ⊎ HasDoubted n cs
 doubted_parts n call cs h =
     elim (contains_parts call h.call cs h.there) [
-      | inl same ↦ inl (ap (λ (c : Call). c.number) same ∙ h.number, ap (λ (c : Call). c.doubted) same ∙ h.doubted)
+      | inl same ↦ inl (ap (λ (c : OpenCall). c.number) same ∙ h.number, ap (λ (c : OpenCall). c.doubted) same ∙ h.doubted)
       | inr more ↦ inr (record { call = h.call; there = more; number = h.number; doubted = h.doubted })
     ]
 
-fates_stay : (n : CallNumber) (given_up : Bool) (f : Flow) (count : ℕ) (cs : List Call) → HasDoubted n cs → HasDoubted n (with_fates given_up f count cs)
+fates_stay : (n : CallNumber) (given_up : Bool) (f : Flow) (count : ℕ) (cs : List OpenCall) → HasDoubted n cs → HasDoubted n (with_fates given_up f count cs)
 fates_stay n given_up f count [] h = h
 fates_stay n given_up f count (call ∷ cs) h = by_flow (same_flow call.flow f) (doubted_parts n call cs h) (λ d. fates_stay n given_up f (count - call.left) cs d) (λ d. fates_stay n given_up f count cs d)
   where
@@ -266,7 +266,7 @@ told_stay : (n : CallNumber) (told : List Told) (h : Halves) → HasDoubted n h.
 told_stay n [] h d = d
 told_stay n (r ∷ told) h d = told_stay n told (hear h r) (hear_stay n (heard r) h d)
 
-answered_stay : (n : CallNumber) (place : ℕ) (cs : List Call) → HasDoubted n cs → HasDoubted n (answered_at place cs)
+answered_stay : (n : CallNumber) (place : ℕ) (cs : List OpenCall) → HasDoubted n cs → HasDoubted n (answered_at place cs)
 answered_stay n place [] h = h
 answered_stay n zero (call ∷ cs) h = elim (doubted_parts n call cs h) [ inl here ↦ doubted_first n _ cs here.0 here.1 | inr more ↦ doubted_more n _ cs more ]
 answered_stay n (suc place) (call ∷ cs) h = elim (doubted_parts n call cs h) [ inl here ↦ doubted_first n call _ here.0 here.1 | inr more ↦ doubted_more n call _ (answered_stay n place cs more) ]
@@ -298,7 +298,7 @@ or_true : (b : Bool) → (b || true) ≡ true
 or_true true = refl
 or_true false = refl
 
-given_doubted : (n : CallNumber) (f : Flow) (count : ℕ) (cs : List Call) → Contains (take count (owners f cs)) n → HasDoubted n (with_fates true f count cs)
+given_doubted : (n : CallNumber) (f : Flow) (count : ℕ) (cs : List OpenCall) → Contains (take count (owners f cs)) n → HasDoubted n (with_fates true f count cs)
 given_doubted n f count [] there = absurd (none_taken count there)
   where
     none_taken : (k : ℕ) → Contains (take k []) n → ⊥

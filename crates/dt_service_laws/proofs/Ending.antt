@@ -13,8 +13,8 @@ use Rattle.dt_world_model.specs.Station.{Read}
 use Rattle.dt_world_model.specs.Tables.{same_flow}
 use Rattle.dt_world_model.specs.WorldStep.{first_refusal}
 use Rattle.dt_calls_model.specs.Messages.{Piece}
-use Rattle.dt_endpoint.specs.declared.answers.Piece.{Piece as Answer}
-use Rattle.dt_endpoint.specs.declared.answers.Piece.TheVariants as answer
+use Rattle.dt_endpoint.specs.declared.answers.Delivered.{Delivered as Answer}
+use Rattle.dt_endpoint.specs.declared.answers.Delivered.TheVariants as answer
 use Rattle.dt_endpoint.specs.Acts.{acts_of, frames_in}
 use Rattle.dt_endpoint.specs.Calls.{ReadDoes, Unless, read_answer}
 use Rattle.dt_endpoint.specs.Endpoints.{after_event, moment_of, script_of}

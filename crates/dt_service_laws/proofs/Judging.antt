@@ -13,8 +13,8 @@ use Rattle.dt_world_model.specs.Station.{Tick}
 use Rattle.dt_world_model.specs.Tables.{look}
 use Rattle.dt_world_model.specs.WorldStep.{first_refusal}
 use Rattle.dt_calls_model.specs.Messages.{message_of, reversed}
-use Rattle.dt_endpoint.specs.declared.answers.Arrived.{Arrived}
-use Rattle.dt_endpoint.specs.declared.answers.Arrived.TheVariants as arrived
+use Rattle.dt_endpoint.specs.declared.answers.Received.{Received}
+use Rattle.dt_endpoint.specs.declared.answers.Received.TheVariants as arrived
 use Rattle.dt_endpoint.specs.declared.answers.Ticked.{Ticked}
 use Rattle.dt_endpoint.specs.declared.answers.Ticked.TheVariants as ticked
 use Rattle.dt_endpoint.specs.Calls.{arrive_event, arrive_refusal, send_answer}
@@ -24,14 +24,14 @@ use Rattle.dt_service_model.specs.declared.answers.Forgot.{Forgot}
 use Rattle.dt_service_model.specs.declared.answers.Forgot.TheVariants as forgot
 use Rattle.dt_service_model.specs.declared.answers.Made.{Made}
 use Rattle.dt_service_model.specs.declared.answers.Replied.{Replied}
-use Rattle.dt_service_model.specs.declared.calls.Call.{Call}
+use Rattle.dt_service_model.specs.declared.calls.OpenCall.{OpenCall}
 use Rattle.dt_service_model.specs.declared.calls.Cause.{Cause}
 use Rattle.dt_service_model.specs.declared.calls.Cause.TheVariants as cause
 use Rattle.dt_service_model.specs.declared.happenings.Happening.{Happening}
 use Rattle.dt_service_model.specs.declared.happenings.Happening.TheVariants.{Answered, Request, Unsure}
 use Rattle.dt_service_model.specs.declared.names.CallNumber.{CallNumber}
 use Rattle.dt_service_model.specs.declared.names.Token.{Token}
-use Rattle.dt_service_model.specs.declared.ports.Kind.{Kind}
+use Rattle.dt_service_model.specs.declared.ports.PortKind.{PortKind}
 use Rattle.dt_service_model.specs.Asked.{call_refusals, forget_refusals, forgotten, forgotten_unless, is_closed, is_life_in_use, made_by, message_event, next_number, or_counted, replied_by, reply_refusals, unless, with_call_unless, with_port}
 use Rattle.dt_service_model.specs.Ends.{cause_of, close, closing_of, is_kept, judge, judged_as, judged_call, next_call, next_in, told_by, unsure_by, unsure_of}
 use Rattle.dt_service_model.specs.Halves.{Halves, kind_in}
@@ -55,7 +55,7 @@ use Rattle.dt_service_laws.proofs.Quiet.{all_filtered}
 use Rattle.dt_service_model.proofs.Walking.{read_through}
 
 -- A CALL after a turn: nothing is doubted of it, and its deadline is to come
-pub record IsCalm (latest : ℕ) (call : Call) : Type 0 where
+pub record IsCalm (latest : ℕ) (call : OpenCall) : Type 0 where
   pub sure : call.doubted ≡ false
   pub patient : IsPatient latest call
 
@@ -63,8 +63,8 @@ pub record IsCalm (latest : ℕ) (call : Call) : Type 0 where
 abbrev pub AreSure : Node → Type 0
 AreSure x = x.halves.closed ≡ false → All (IsCalm x.endpoint.latest) x.halves.calls
 
-undoubted : (x : Node) → x.halves.closed ≡ false → AreSure x → All (λ (c : Call). c.doubted ≡ false) x.halves.calls
-undoubted x open_x sure = All-weaker (IsCalm x.endpoint.latest) (λ (c : Call). c.doubted ≡ false) (λ c s. s.sure) x.halves.calls (sure open_x)
+undoubted : (x : Node) → x.halves.closed ≡ false → AreSure x → All (λ (c : OpenCall). c.doubted ≡ false) x.halves.calls
+undoubted x open_x sure = All-weaker (IsCalm x.endpoint.latest) (λ (c : OpenCall). c.doubted ≡ false) (λ c s. s.sure) x.halves.calls (sure open_x)
 
 -- CALLS ARE JUDGED
 not_unsure : (deed : Deed) (x y : Node) (happening : Happening) → NotUnsure happening → HasCause deed x y happening
@@ -82,7 +82,7 @@ module _ (deed : Deed) (x y : Node) (end : EndsAt deed x y) where
   abbrev moment : ℕ
   moment = moment_of (moment_told deed) end.judges.endpoint
 
-  judged_cause : (call : Call) (rest : List Happening) → Contains end.judges.halves.calls call → IsDoubt (WasGivenUp deed x end.judges) call → All (HasCause deed x y) rest → (a b : Bool) → (call.waits && call.doubted) ≡ a → (call.waits && nat_le call.deadline moment) ≡ b
+  judged_cause : (call : OpenCall) (rest : List Happening) → Contains end.judges.halves.calls call → IsDoubt (WasGivenUp deed x end.judges) call → All (HasCause deed x y) rest → (a b : Bool) → (call.waits && call.doubted) ≡ a → (call.waits && nat_le call.deadline moment) ≡ b
       → All (HasCause deed x y) (cons_option (unsure_by call (cond a (Some cause.GivenUp) (cond b (Some cause.Patience) None))) rest)
   judged_cause call rest there doubt more true b is over = All-cons (HasCause deed x y) (Unsure call.number cause.GivenUp) rest (end, doubt (and_parts call.waits call.doubted is).1) more
   judged_cause call rest there doubt more false true is over =
@@ -90,7 +90,7 @@ module _ (deed : Deed) (x y : Node) (end : EndsAt deed x y) where
       All-cons (HasCause deed x y) (Unsure call.number cause.Patience) rest (end, record { call = call; there = there; waits = p.0; number_is = refl; deadline = le_by _ _ p.1 }) more
   judged_cause call rest there doubt more false false is over = more
 
-  judged_causes : (cs : List Call) → All (Contains end.judges.halves.calls) cs → All (IsDoubt (WasGivenUp deed x end.judges)) cs → All (HasCause deed x y) (filter_map (unsure_of moment) cs)
+  judged_causes : (cs : List OpenCall) → All (Contains end.judges.halves.calls) cs → All (IsDoubt (WasGivenUp deed x end.judges)) cs → All (HasCause deed x y) (filter_map (unsure_of moment) cs)
   judged_causes [] there doubts = All-nil (HasCause deed x y)
   judged_causes (call ∷ cs) there doubts =
       judged_cause call (filter_map (unsure_of moment) cs) (All-head (Contains end.judges.halves.calls) call cs there) (All-head (IsDoubt (WasGivenUp deed x end.judges)) call cs doubts)
@@ -98,7 +98,7 @@ module _ (deed : Deed) (x y : Node) (end : EndsAt deed x y) where
       (call.waits && call.doubted) (call.waits && nat_le call.deadline moment) refl refl
 
 -- and none is left with a cause
-judged_sure : (latest now : ℕ) → latest ≤ now → (call : Call) (a b : Bool) → (call.waits && nat_le call.deadline now) ≡ b → IsCalm latest (judged_as call (cond a (Some cause.GivenUp) (cond b (Some cause.Patience) None)))
+judged_sure : (latest now : ℕ) → latest ≤ now → (call : OpenCall) (a b : Bool) → (call.waits && nat_le call.deadline now) ≡ b → IsCalm latest (judged_as call (cond a (Some cause.GivenUp) (cond b (Some cause.Patience) None)))
 judged_sure latest now le call true b is = record { sure = refl; patient = λ waits. absurd cc }
 judged_sure latest now le call false true is = record { sure = refl; patient = λ waits. absurd cc }
 judged_sure latest now le call false false is = record {
@@ -109,19 +109,19 @@ judged_sure latest now le call false false is = record {
       omega (arith, le, later);
 }
 
-all_judged : (latest now : ℕ) → latest ≤ now → (cs : List Call) → All (IsCalm latest) (map (judged_call now) cs)
+all_judged : (latest now : ℕ) → latest ≤ now → (cs : List OpenCall) → All (IsCalm latest) (map (judged_call now) cs)
 all_judged latest now le [] = All-nil (IsCalm latest)
 all_judged latest now le (call ∷ cs) = All-cons (IsCalm latest) (judged_call now call) (map (judged_call now) cs) (judged_sure latest now le call (call.waits && call.doubted) (call.waits && nat_le call.deadline now) refl) (all_judged latest now le cs)
 
 -- WHERE AN OCTET WAS GIVEN UP the call ends
-told_there : (now : ℕ) (call : Call) (cs : List Call) → Contains cs call → call.waits ≡ true → call.doubted ≡ true → Contains (filter_map (unsure_of now) cs) (Unsure call.number cause.GivenUp)
+told_there : (now : ℕ) (call : OpenCall) (cs : List OpenCall) → Contains cs call → call.waits ≡ true → call.doubted ≡ true → Contains (filter_map (unsure_of now) cs) (Unsure call.number cause.GivenUp)
 told_there now call [] there waits doubted = absurd (let lt = there.1 in omega (arith, lt))
 told_there now call (c ∷ cs) there waits doubted =
     elim (contains_parts c call cs there) [
       | inl same ↦
-          let why : cause_of now c ≡ Some cause.GivenUp = subst (λ (k : Call). cause_of now k ≡ Some cause.GivenUp) (sym same) (ap (λ (b : Bool). cond b (Some cause.GivenUp) (cond (call.waits && nat_le call.deadline now) (Some cause.Patience) None)) (ap (λ (b : Bool). b && call.doubted) waits ∙ doubted)) in
+          let why : cause_of now c ≡ Some cause.GivenUp = subst (λ (k : OpenCall). cause_of now k ≡ Some cause.GivenUp) (sym same) (ap (λ (b : Bool). cond b (Some cause.GivenUp) (cond (call.waits && nat_le call.deadline now) (Some cause.Patience) None)) (ap (λ (b : Bool). b && call.doubted) waits ∙ doubted)) in
           let first : cons_option (unsure_by c (cause_of now c)) (filter_map (unsure_of now) cs) ≡ Unsure c.number cause.GivenUp ∷ filter_map (unsure_of now) cs = ap (λ (o : Option Cause). cons_option (unsure_by c o) (filter_map (unsure_of now) cs)) why in
-          subst (λ (ts : List Happening). Contains ts (Unsure call.number cause.GivenUp)) (sym first) (contains_first (Unsure c.number cause.GivenUp) (Unsure call.number cause.GivenUp) (filter_map (unsure_of now) cs) (ap (λ (k : Call). Unsure k.number cause.GivenUp) same))
+          subst (λ (ts : List Happening). Contains ts (Unsure call.number cause.GivenUp)) (sym first) (contains_first (Unsure c.number cause.GivenUp) (Unsure call.number cause.GivenUp) (filter_map (unsure_of now) cs) (ap (λ (k : OpenCall). Unsure k.number cause.GivenUp) same))
       | inr more ↦ later (unsure_by c (cause_of now c)) (told_there now call cs more waits doubted)
     ]
   where
@@ -224,8 +224,8 @@ tick_judged : (b : Bool) (now : ℕ) (x : Node) → is_closed x ≡ b → AreSur
 tick_judged true now x is sure = stays (Ticks now) x x refl sure
 tick_judged false now x is sure = let open_x = either_false x.endpoint.spent x.halves.closed is in ends (Ticks now) x (happens now Tick x) open_x (doubts_hear (Ticks now) x x Tick (of_deed refl) (doubts_begin (Ticks now) x (undoubted x open_x sure)))
 
-arrive_judged : (c : Bool) (o : Option Arrived) (now link : ℕ) (datagram : List ℕ) (waited : ℕ) (x : Node) → is_closed x ≡ c → AreSure x
-    → Judged (Arrives now link datagram waited) x (cond {A = Arrived × Node} c (arrived.Spent, x) (or_counted o x (arrived.Done, turn now (arrive_event link datagram waited) x))).1
+arrive_judged : (c : Bool) (o : Option Received) (now link : ℕ) (datagram : List ℕ) (waited : ℕ) (x : Node) → is_closed x ≡ c → AreSure x
+    → Judged (Arrives now link datagram waited) x (cond {A = Received × Node} c (arrived.Spent, x) (or_counted o x (arrived.Done, turn now (arrive_event link datagram waited) x))).1
 arrive_judged true o now link datagram waited x is sure = stays (Arrives now link datagram waited) x x refl sure
 arrive_judged false (Some a) now link datagram waited x is sure = stays (Arrives now link datagram waited) x _ refl sure
 arrive_judged false None now link datagram waited x is sure =
@@ -235,7 +235,7 @@ arrive_judged false None now link datagram waited x is sure =
     ends deed x (happens now event x) open_x (doubts_hear deed x x event (of_deed refl) (doubts_begin deed x (undoubted x open_x sure)))
 
 -- WHAT IS NO TURN
-kind_judged : (port : ℕ) (o : Option Kind) (kind : Kind) (x : Node) → AreSure x → Judged (GivesKind port kind) x (with_halves (with_port port o kind) x)
+kind_judged : (port : ℕ) (o : Option PortKind) (kind : PortKind) (x : Node) → AreSure x → Judged (GivesKind port kind) x (with_halves (with_port port o kind) x)
 kind_judged port (Some has) kind x sure = stays (GivesKind port kind) x x refl sure
 kind_judged port None kind x sure = nothing_told (GivesKind port kind) x _ (told_beside x.halves (with_port port None kind x.halves) refl refl refl) sure
 
@@ -243,19 +243,19 @@ raise_judged : (b : Bool) (life : ℕ) (x : Node) → AreSure x → Judged (Rais
 raise_judged true life x sure = stays (Raises life) x x refl sure
 raise_judged false life x sure = nothing_told (Raises life) x _ (told_beside x.halves (record (x.halves) { life = life; count = 0 }) refl refl refl) sure
 
-next_sure : (P : Call → Type 0) (cs : List Call) (h : Halves) → All P cs → All P h.calls → All P (next_call cs h).1.calls
+next_sure : (P : OpenCall → Type 0) (cs : List OpenCall) (h : Halves) → All P cs → All P h.calls → All P (next_call cs h).1.calls
 next_sure P [] h all whole = whole
 next_sure P (call ∷ cs) h all whole = All-tail P call cs all
 
-closed_sure : (P : Call → Type 0) (b : Bool) (h : Halves) → All P h.calls → All P (cond {A = Option Happening × Halves} b (next_call h.calls h) (None, h)).1.calls
+closed_sure : (P : OpenCall → Type 0) (b : Bool) (h : Halves) → All P h.calls → All P (cond {A = Option Happening × Halves} b (next_call h.calls h) (None, h)).1.calls
 closed_sure P true h all = next_sure P h.calls h all all
 closed_sure P false h all = all
 
-taken_sure : (P : Call → Type 0) (told : List Happening) (h : Halves) → All P h.calls → All P (next_in told h).1.calls
+taken_sure : (P : OpenCall → Type 0) (told : List Happening) (h : Halves) → All P h.calls → All P (next_in told h).1.calls
 taken_sure P [] h all = closed_sure P h.closed h all
 taken_sure P (x ∷ told) h all = all
 
-next_closed : (cs : List Call) (h : Halves) → (next_call cs h).1.closed ≡ h.closed
+next_closed : (cs : List OpenCall) (h : Halves) → (next_call cs h).1.closed ≡ h.closed
 next_closed [] h = refl
 next_closed (call ∷ cs) h = refl
 
@@ -267,19 +267,19 @@ taken_closed : (told : List Happening) (h : Halves) → (next_in told h).1.close
 taken_closed [] h = closed_closed h.closed h
 taken_closed (x ∷ told) h = refl
 
-closing_causes : (deed : Deed) (x y : Node) → x.halves.closed ≡ false → y.halves.closed ≡ true → (cs : List Call) → All (HasCause deed x y) (map closing_of cs)
+closing_causes : (deed : Deed) (x y : Node) → x.halves.closed ≡ false → y.halves.closed ≡ true → (cs : List OpenCall) → All (HasCause deed x y) (map closing_of cs)
 closing_causes deed x y open_x closed_y [] = All-nil (HasCause deed x y)
 closing_causes deed x y open_x closed_y (call ∷ cs) = All-cons (HasCause deed x y) (closing_of call) (map closing_of cs) (open_x, closed_y) (closing_causes deed x y open_x closed_y cs)
 
-none_answered : (m : CallNumber) (answer : List ℕ) (cs : List Call) → Contains (map closing_of cs) (Answered m answer) → ⊥
+none_answered : (m : CallNumber) (answer : List ℕ) (cs : List OpenCall) → Contains (map closing_of cs) (Answered m answer) → ⊥
 none_answered m answer [] there = (let lt = there.1 in omega (arith, lt))
 none_answered m answer (call ∷ cs) there = elim (contains_parts (closing_of call) (Answered m answer) (map closing_of cs) there) [ inl same ↦ absurd cc | inr more ↦ none_answered m answer cs more ]
 
 close_judged : (b : Bool) (x : Node) → x.halves.closed ≡ b → AreSure x → Judged Closes x (with_halves close x)
 close_judged true x is sure = nothing_told Closes x (with_halves close x) (closed_again x.halves is) (λ open_y. absurd cc)
 close_judged false x is sure = record {
-  causes = subst (λ (ts : List Happening). All (HasCause Closes x (with_halves close x)) ts) (sym (closed_now x.halves is)) (closing_causes Closes x (with_halves close x) is refl (filter (λ (call : Call). call.waits) x.halves.calls));
-  answers = λ m answer there. absurd (none_answered m answer (filter (λ (call : Call). call.waits) x.halves.calls) (subst (λ (ts : List Happening). Contains ts (Answered m answer)) (closed_now x.halves is) there));
+  causes = subst (λ (ts : List Happening). All (HasCause Closes x (with_halves close x)) ts) (sym (closed_now x.halves is)) (closing_causes Closes x (with_halves close x) is refl (filter (λ (call : OpenCall). call.waits) x.halves.calls));
+  answers = λ m answer there. absurd (none_answered m answer (filter (λ (call : OpenCall). call.waits) x.halves.calls) (subst (λ (ts : List Happening). Contains ts (Answered m answer)) (closed_now x.halves is) there));
   sure = λ open_y. absurd cc;
 }
 
@@ -299,7 +299,7 @@ halted_judged : (deed : Deed) (x y : Node) → x.halves.closed ≡ false → Hal
 halted_judged deed x y open_x h =
     let st = h.stopped.halves in
     let g = h.part.grows in
-    let left = filter (λ (call : Call). call.waits) st.calls in
+    let left = filter (λ (call : OpenCall). call.waits) st.calls in
     let closed_y : y.halves.closed ≡ true = ap (λ (z : Node). z.halves.closed) h.closed in
     let told : told_of x.halves y.halves ≡ g.told ++ map closing_of left = told_closing x.halves st y.halves g.told open_x g.happenings (ap (λ (z : Node). z.halves) h.closed) in
     let between : g.told ≡ told_between x y = sym (ap (λ (z : Node). drop (length x.halves.happenings) z.halves.happenings) h.closed ∙ ap (drop (length x.halves.happenings)) g.happenings ∙ drop-append_seam x.halves.happenings g.told) in

@@ -8,12 +8,12 @@ use Rattle.dt_world_model.specs.Station.{Event, Read}
 use Rattle.dt_calls_model.specs.Messages.{Piece, carried_in, has_number, number_in, reversed}
 use Rattle.dt_messages.specs.Joining.{whole_within}
 use Rattle.dt_endpoint.specs.Endpoints.{after_event}
-use Rattle.dt_service_model.specs.declared.calls.Call.{Call}
+use Rattle.dt_service_model.specs.declared.calls.OpenCall.{OpenCall}
 use Rattle.dt_service_model.specs.declared.happenings.Happening.TheVariants.{Request}
 use Rattle.dt_service_model.specs.declared.names.CallNumber.{CallNumber}
 use Rattle.dt_service_model.specs.declared.names.Token.{Token}
-use Rattle.dt_service_model.specs.declared.ports.Kind.{Kind}
-use Rattle.dt_service_model.specs.declared.ports.Kind.TheVariants.{Caller, Service}
+use Rattle.dt_service_model.specs.declared.ports.PortKind.{PortKind}
+use Rattle.dt_service_model.specs.declared.ports.PortKind.TheVariants.{Caller, Service}
 use Rattle.dt_service_model.specs.declared.ports.Port.{Port}
 use Rattle.dt_service_model.specs.Ends.{judge}
 use Rattle.dt_service_model.specs.Halves.{Halves, counted_up, kind_in, most_octets}
@@ -56,20 +56,20 @@ keeps_same h k ports closed life count tokens calls = record {
   life = life;
   count = count;
   tokens = λ t there. inl (subst (λ (ts : List Token). Contains ts t) tokens there);
-  waits = subst (λ (cs : List Call). AreKeptFrom h.calls cs) (sym calls) (kept_itself h.calls);
+  waits = subst (λ (cs : List OpenCall). AreKeptFrom h.calls cs) (sym calls) (kept_itself h.calls);
 }
 
 -- A WHOLE MESSAGE
-all_answered : (base : List Call) (place : ℕ) (calls : List Call) → All (Contains base) calls → AreKeptFrom base (answered_at place calls)
-all_answered base place [] all = All-nil (λ (c : Call). c.waits ≡ true → IsKeptFrom base c)
+all_answered : (base : List OpenCall) (place : ℕ) (calls : List OpenCall) → All (Contains base) calls → AreKeptFrom base (answered_at place calls)
+all_answered base place [] all = All-nil (λ (c : OpenCall). c.waits ≡ true → IsKeptFrom base c)
 all_answered base zero (call ∷ calls) all =
-    All-cons (λ (c : Call). c.waits ≡ true → IsKeptFrom base c) _ calls (λ waits. absurd cc) (kept_rest base calls (All-tail (Contains base) call calls all))
+    All-cons (λ (c : OpenCall). c.waits ≡ true → IsKeptFrom base c) _ calls (λ waits. absurd cc) (kept_rest base calls (All-tail (Contains base) call calls all))
   where
-    kept_rest : (base rest : List Call) → All (Contains base) rest → AreKeptFrom base rest
-    kept_rest base [] there = All-nil (λ (c : Call). c.waits ≡ true → IsKeptFrom base c)
-    kept_rest base (c ∷ rest) there = All-cons (λ (c : Call). c.waits ≡ true → IsKeptFrom base c) c rest (λ waits. record { was = c; there = All-head (Contains base) c rest there; waits = waits; number = refl; flow = refl }) (kept_rest base rest (All-tail (Contains base) c rest there))
+    kept_rest : (base rest : List OpenCall) → All (Contains base) rest → AreKeptFrom base rest
+    kept_rest base [] there = All-nil (λ (c : OpenCall). c.waits ≡ true → IsKeptFrom base c)
+    kept_rest base (c ∷ rest) there = All-cons (λ (c : OpenCall). c.waits ≡ true → IsKeptFrom base c) c rest (λ waits. record { was = c; there = All-head (Contains base) c rest there; waits = waits; number = refl; flow = refl }) (kept_rest base rest (All-tail (Contains base) c rest there))
 all_answered base (suc place) (call ∷ calls) all =
-    All-cons (λ (c : Call). c.waits ≡ true → IsKeptFrom base c) call (answered_at place calls) (λ waits. record { was = call; there = All-head (Contains base) call calls all; waits = waits; number = refl; flow = refl }) (all_answered base place calls (All-tail (Contains base) call calls all))
+    All-cons (λ (c : OpenCall). c.waits ≡ true → IsKeptFrom base c) call (answered_at place calls) (λ waits. record { was = call; there = All-head (Contains base) call calls all; waits = waits; number = refl; flow = refl }) (all_answered base place calls (All-tail (Contains base) call calls all))
 
 reply_keeps : (o : Option ℕ) (n : CallNumber) (answer : List ℕ) (h : Halves) → Keeps h (take_reply_at o n answer h)
 reply_keeps None n answer h = keeps_same h _ refl refl refl refl refl refl
@@ -87,7 +87,7 @@ request_keeps f n payload h service false = record {
   waits = kept_itself h.calls;
 }
 
-as_keeps : (f : Flow) (n : CallNumber) (carried : List ℕ) (h : Halves) (kind : Option Kind) → kind_in f.to_port h.ports ≡ kind → Keeps h (take_as kind f n carried h)
+as_keeps : (f : Flow) (n : CallNumber) (carried : List ℕ) (h : Halves) (kind : Option PortKind) → kind_in f.to_port h.ports ≡ kind → Keeps h (take_as kind f n carried h)
 as_keeps f n carried h None is = keeps_same h h refl refl refl refl refl refl
 as_keeps f n carried h (Some Caller) is = reply_keeps (position (is_waiting_call (reversed f) n) h.calls) n carried h
 as_keeps f n carried h (Some Service) is = request_keeps f n carried h is (is_open (token_with f n) h)

@@ -16,11 +16,11 @@ use Rattle.dt_endpoint.specs.Endpoints.{after_event, moment_of}
 use Rattle.dt_service_model.specs.declared.answers.Made.{Made}
 use Rattle.dt_service_model.specs.declared.answers.Made.TheVariants as made
 use Rattle.dt_service_model.specs.declared.answers.Replied.{Replied}
-use Rattle.dt_service_model.specs.declared.calls.Call.{Call}
+use Rattle.dt_service_model.specs.declared.calls.OpenCall.{OpenCall}
 use Rattle.dt_service_model.specs.declared.happenings.Happening.{Happening}
 use Rattle.dt_service_model.specs.declared.names.CallNumber.{CallNumber}
 use Rattle.dt_service_model.specs.declared.names.Token.{Token}
-use Rattle.dt_service_model.specs.declared.ports.Kind.{Kind}
+use Rattle.dt_service_model.specs.declared.ports.PortKind.{PortKind}
 use Rattle.dt_service_model.specs.Asked.{call, call_refusals, forgotten_unless, made_by, made_of, message_event, new_call, next_number, replied_by, replied_of, reply_refusals, unless, with_call_unless, with_port}
 use Rattle.dt_service_model.specs.Ends.{next_call, next_in}
 use Rattle.dt_service_model.specs.Halves.{Halves}
@@ -36,11 +36,11 @@ use Rattle.dt_service_laws.proofs.Quiet.{all_heard_quiet, fewer_open, kept_itsel
 use Rattle.dt_service_laws.proofs.Sound.{token_there}
 
 -- CALLS THAT WAIT did before, or are of these
-abbrev pub AreOf : (new : Flow → List Message) → List Call → List Call → Type 0
-AreOf new before calls = All (λ (call : Call). call.waits ≡ true → IsKeptFrom before call ⊎ (0 < count_of call.number (new call.flow))) calls
+abbrev pub AreOf : (new : Flow → List Message) → List OpenCall → List OpenCall → Type 0
+AreOf new before calls = All (λ (call : OpenCall). call.waits ≡ true → IsKeptFrom before call ⊎ (0 < count_of call.number (new call.flow))) calls
 
-pub kept_of : (new : Flow → List Message) (before calls : List Call) → AreKeptFrom before calls → AreOf new before calls
-kept_of new before calls kept = All-weaker (λ (c : Call). c.waits ≡ true → IsKeptFrom before c) (λ (c : Call). c.waits ≡ true → IsKeptFrom before c ⊎ (0 < count_of c.number (new c.flow))) (λ c k waits. inl (k waits)) calls kept
+pub kept_of : (new : Flow → List Message) (before calls : List OpenCall) → AreKeptFrom before calls → AreOf new before calls
+kept_of new before calls kept = All-weaker (λ (c : OpenCall). c.waits ≡ true → IsKeptFrom before c) (λ (c : OpenCall). c.waits ≡ true → IsKeptFrom before c ⊎ (0 < count_of c.number (new c.flow))) (λ c k waits. inl (k waits)) calls kept
 
 pub heard_kept : (now : ℕ) (x : Node) (event : _) → AreKeptFrom x.halves.calls (happens now event x).halves.calls
 heard_kept now x event = (happens_keeps now event x).waits
@@ -54,10 +54,10 @@ made_once f number payload =
 sent_of_call : (r : Option Refusal) (f : Flow) (count deadline : ℕ) (payload : List ℕ) (x h : Halves) → next_number h ≡ next_number x → AreKeptFrom x.calls h.calls → (new : Flow → List Message) → ((g : Flow) → new g ≡ cond (same_flow f g) (made_as (made_of r x) payload) [])
     → AreOf new x.calls (with_call_unless r f count deadline h).calls
 sent_of_call None f count deadline payload x h same kept new is =
-    All-append (λ (c : Call). c.waits ≡ true → IsKeptFrom x.calls c ⊎ (0 < count_of c.number (new c.flow))) h.calls (new_call f count deadline h ∷ []) (kept_of new x.calls h.calls kept)
-    (All-cons (λ (c : Call). c.waits ≡ true → IsKeptFrom x.calls c ⊎ (0 < count_of c.number (new c.flow))) (new_call f count deadline h) []
+    All-append (λ (c : OpenCall). c.waits ≡ true → IsKeptFrom x.calls c ⊎ (0 < count_of c.number (new c.flow))) h.calls (new_call f count deadline h ∷ []) (kept_of new x.calls h.calls kept)
+    (All-cons (λ (c : OpenCall). c.waits ≡ true → IsKeptFrom x.calls c ⊎ (0 < count_of c.number (new c.flow))) (new_call f count deadline h) []
     (λ waits. inr (subst (λ (ms : List Message). 0 < count_of (next_number h) ms) (sym (is f)) (subst (λ (n : CallNumber). 0 < count_of n (cond (same_flow f f) (made_as (made.Call (next_number x)) payload) [])) (sym same) (made_once f (next_number x) payload))))
-    (All-nil (λ (c : Call). c.waits ≡ true → IsKeptFrom x.calls c ⊎ (0 < count_of c.number (new c.flow)))))
+    (All-nil (λ (c : OpenCall). c.waits ≡ true → IsKeptFrom x.calls c ⊎ (0 < count_of c.number (new c.flow)))))
 sent_of_call (Some r) f count deadline payload x h same kept new is = kept_of new x.calls h.calls kept
 
 pub call_of : (now : ℕ) (f : Flow) (payload : List ℕ) (patience : ℕ) (x : Node) (o : Option Made) → first_refusal (call_refusals x f payload patience) ≡ o
@@ -71,7 +71,7 @@ call_of now f payload patience x None is =
     ap (λ (k : ℕ). let r : CallNumber = record { life = k; count = (happens now (message_event f message) x).halves.count } in r) keeps.life ∙ ap (λ (k : ℕ). let r : CallNumber = record { life = x.halves.life; count = k } in r) keeps.count in
     sent_of_call (send_answer now f message true true x.endpoint) f (length message) (moment_of now x.endpoint + patience) payload x.halves (happens now (message_event f message) x).halves same keeps.waits _ (λ g. refl)
 
-pub forgot_kept : (r : Option Refusal) (token : Token) (before : List Call) (h : Halves) → AreKeptFrom before h.calls → AreKeptFrom before (forgotten_unless r token h).calls
+pub forgot_kept : (r : Option Refusal) (token : Token) (before : List OpenCall) (h : Halves) → AreKeptFrom before h.calls → AreKeptFrom before (forgotten_unless r token h).calls
 forgot_kept None token before h kept = kept
 forgot_kept (Some r) token before h kept = kept
 
@@ -87,7 +87,7 @@ pub cond_kept : (b : Bool) (x h : Halves) → AreKeptFrom x.calls h.calls → Ar
 cond_kept true x h kept = kept_itself x.calls
 cond_kept false x h kept = kept
 
-pub kind_kept : (port : ℕ) (o : Option Kind) (kind : Kind) (h : Halves) → AreKeptFrom h.calls (with_port port o kind h).calls
+pub kind_kept : (port : ℕ) (o : Option PortKind) (kind : PortKind) (h : Halves) → AreKeptFrom h.calls (with_port port o kind h).calls
 kind_kept port (Some k) kind h = kept_itself h.calls
 kind_kept port None kind h = kept_itself h.calls
 
@@ -95,12 +95,12 @@ pub raise_kept : (b : Bool) (life : ℕ) (h : Halves) → AreKeptFrom h.calls (c
 raise_kept true life h = kept_itself h.calls
 raise_kept false life h = kept_itself h.calls
 
-rest_kept : (base : List Call) (call : Call) (calls : List Call) → AreKeptFrom base (call ∷ calls) → AreKeptFrom base calls
-rest_kept base call calls kept = All-tail (λ (c : Call). c.waits ≡ true → IsKeptFrom base c) call calls kept
+rest_kept : (base : List OpenCall) (call : OpenCall) (calls : List OpenCall) → AreKeptFrom base (call ∷ calls) → AreKeptFrom base calls
+rest_kept base call calls kept = All-tail (λ (c : OpenCall). c.waits ≡ true → IsKeptFrom base c) call calls kept
 
-next_kept : (calls : List Call) (h : Halves) → h.calls ≡ calls → AreKeptFrom h.calls (next_call calls h).1.calls
+next_kept : (calls : List OpenCall) (h : Halves) → h.calls ≡ calls → AreKeptFrom h.calls (next_call calls h).1.calls
 next_kept [] h is = kept_itself h.calls
-next_kept (call ∷ calls) h is = rest_kept h.calls call calls (subst (λ (cs : List Call). AreKeptFrom h.calls cs) is (kept_itself h.calls))
+next_kept (call ∷ calls) h is = rest_kept h.calls call calls (subst (λ (cs : List OpenCall). AreKeptFrom h.calls cs) is (kept_itself h.calls))
 
 closed_kept : (b : Bool) (h : Halves) → AreKeptFrom h.calls (cond {A = Option Happening × Halves} b (next_call h.calls h) (None, h)).1.calls
 closed_kept true h = next_kept h.calls h refl
@@ -214,7 +214,7 @@ pub call_fewer : (r : Option Refusal) (f : Flow) (count deadline : ℕ) (x h : H
 call_fewer None f count deadline x h fewer = fewer
 call_fewer (Some r) f count deadline x h fewer = fewer
 
-pub kind_fewer : (port : ℕ) (o : Option Kind) (kind : Kind) (h : Halves) → FewerOpen h (with_port port o kind h)
+pub kind_fewer : (port : ℕ) (o : Option PortKind) (kind : PortKind) (h : Halves) → FewerOpen h (with_port port o kind h)
 kind_fewer port (Some k) kind h = same_open h
 kind_fewer port None kind h = same_open h
 
@@ -222,7 +222,7 @@ pub raise_fewer : (b : Bool) (life : ℕ) (h : Halves) → FewerOpen h (cond b h
 raise_fewer true life h = same_open h
 raise_fewer false life h = same_open h
 
-next_fewer : (calls : List Call) (h : Halves) → FewerOpen h (next_call calls h).1
+next_fewer : (calls : List OpenCall) (h : Halves) → FewerOpen h (next_call calls h).1
 next_fewer [] h = same_open h
 next_fewer (call ∷ calls) h = same_open h
 

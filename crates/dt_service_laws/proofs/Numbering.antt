@@ -12,8 +12,8 @@ use Rattle.dt_world_model.specs.Station.{Tick}
 use Rattle.dt_world_model.specs.Tables.{look, same_flow}
 use Rattle.dt_world_model.specs.WorldStep.{first_refusal}
 use Rattle.dt_calls_model.specs.Messages.{message_of, reversed}
-use Rattle.dt_endpoint.specs.declared.answers.Arrived.{Arrived}
-use Rattle.dt_endpoint.specs.declared.answers.Arrived.TheVariants as arrived
+use Rattle.dt_endpoint.specs.declared.answers.Received.{Received}
+use Rattle.dt_endpoint.specs.declared.answers.Received.TheVariants as arrived
 use Rattle.dt_endpoint.specs.declared.answers.Ticked.{Ticked}
 use Rattle.dt_endpoint.specs.declared.answers.Ticked.TheVariants as ticked
 use Rattle.dt_endpoint.specs.Calls.{arrive_event, arrive_refusal, send_answer}
@@ -23,11 +23,11 @@ use Rattle.dt_service_model.specs.declared.answers.Forgot.{Forgot}
 use Rattle.dt_service_model.specs.declared.answers.Forgot.TheVariants as forgot
 use Rattle.dt_service_model.specs.declared.answers.Made.{Made}
 use Rattle.dt_service_model.specs.declared.answers.Replied.{Replied}
-use Rattle.dt_service_model.specs.declared.calls.Call.{Call}
+use Rattle.dt_service_model.specs.declared.calls.OpenCall.{OpenCall}
 use Rattle.dt_service_model.specs.declared.happenings.Happening.{Happening}
 use Rattle.dt_service_model.specs.declared.names.CallNumber.{CallNumber}
 use Rattle.dt_service_model.specs.declared.names.Token.{Token}
-use Rattle.dt_service_model.specs.declared.ports.Kind.{Kind}
+use Rattle.dt_service_model.specs.declared.ports.PortKind.{PortKind}
 use Rattle.dt_service_model.specs.Asked.{call, call_refusals, forget_refusals, forgotten, forgotten_unless, is_closed, is_life_in_use, made_by, made_of, message_event, next_number, or_counted, replied_by, reply_refusals, unless, with_call_unless, with_port}
 use Rattle.dt_service_model.specs.Ends.{next_call, next_in}
 use Rattle.dt_service_model.specs.Halves.{Halves, kind_in}
@@ -150,16 +150,16 @@ tick_stays : (b : Bool) (now : ℕ) (x : Node) → Stays x.halves (cond {A = Tic
 tick_stays true now x = record { life = refl; count = refl; closes = λ c. c }
 tick_stays false now x = stays_kept x.halves _ (turn_keeps now Tick x)
 
-arrive_stays : (c : Bool) (o : Option Arrived) (now link : ℕ) (datagram : List ℕ) (waited : ℕ) (x : Node) → Stays x.halves (cond {A = Arrived × Node} c (arrived.Spent, x) (or_counted o x (arrived.Done, turn now (arrive_event link datagram waited) x))).1.halves
+arrive_stays : (c : Bool) (o : Option Received) (now link : ℕ) (datagram : List ℕ) (waited : ℕ) (x : Node) → Stays x.halves (cond {A = Received × Node} c (arrived.Spent, x) (or_counted o x (arrived.Done, turn now (arrive_event link datagram waited) x))).1.halves
 arrive_stays true o now link datagram waited x = record { life = refl; count = refl; closes = λ c. c }
 arrive_stays false (Some a) now link datagram waited x = record { life = refl; count = refl; closes = λ c. c }
 arrive_stays false None now link datagram waited x = stays_kept x.halves (turn now (arrive_event link datagram waited) x).halves (turn_keeps now (arrive_event link datagram waited) x)
 
-kind_stays : (port : ℕ) (o : Option Kind) (kind : Kind) (h : Halves) → Stays h (with_port port o kind h)
+kind_stays : (port : ℕ) (o : Option PortKind) (kind : PortKind) (h : Halves) → Stays h (with_port port o kind h)
 kind_stays port (Some k) kind h = record { life = refl; count = refl; closes = λ c. c }
 kind_stays port None kind h = record { life = refl; count = refl; closes = λ c. c }
 
-next_stays : (calls : List Call) (h : Halves) → Stays h (next_call calls h).1
+next_stays : (calls : List OpenCall) (h : Halves) → Stays h (next_call calls h).1
 next_stays [] h = record { life = refl; count = refl; closes = λ c. c }
 next_stays (call ∷ calls) h = record { life = refl; count = refl; closes = λ c. c }
 

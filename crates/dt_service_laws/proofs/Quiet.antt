@@ -8,9 +8,9 @@ use Rattle.dt_units.specs.declared.endpoints.Flow.{Flow}
 use Rattle.dt_reports.specs.Told.{Told}
 use Rattle.dt_world_model.specs.Host.{Host}
 use Rattle.dt_world_model.specs.Tables.{same_flow}
-use Rattle.dt_service_model.specs.declared.calls.Call.{Call}
+use Rattle.dt_service_model.specs.declared.calls.OpenCall.{OpenCall}
 use Rattle.dt_service_model.specs.declared.calls.Cause.{Cause}
-use Rattle.dt_service_model.specs.declared.counts.Counts.{Counts}
+use Rattle.dt_service_model.specs.declared.call_counts.CallCounts.{CallCounts}
 use Rattle.dt_service_model.specs.declared.happenings.Happening.{Happening}
 use Rattle.dt_service_model.specs.declared.happenings.Happening.TheVariants.{Unsure}
 use Rattle.dt_service_model.specs.declared.names.Token.{Token}
@@ -23,15 +23,15 @@ use Rattle.dt_service_model.specs.Turns.{done_with, has_receiver, sweep}
 use Rattle.dt_service_laws.proofs.Begun.{swept_tracks}
 use Rattle.dt_service_laws.proofs.Moves.{AreKeptFrom, IsKeptFrom, IsQuiet, IsUnsure, Tracks, open_count}
 
-pub kept_itself : (calls : List Call) → AreKeptFrom calls calls
-kept_itself calls = All-weaker (Contains calls) (λ (c : Call). c.waits ≡ true → IsKeptFrom calls c) (λ c there waits. record { was = c; there = there; waits = waits; number = refl; flow = refl }) calls (All-contains_itself calls)
+pub kept_itself : (calls : List OpenCall) → AreKeptFrom calls calls
+kept_itself calls = All-weaker (Contains calls) (λ (c : OpenCall). c.waits ≡ true → IsKeptFrom calls c) (λ c there waits. record { was = c; there = there; waits = waits; number = refl; flow = refl }) calls (All-contains_itself calls)
 
-pub kept_through : (xs ys zs : List Call) → AreKeptFrom xs ys → AreKeptFrom ys zs → AreKeptFrom xs zs
+pub kept_through : (xs ys zs : List OpenCall) → AreKeptFrom xs ys → AreKeptFrom ys zs → AreKeptFrom xs zs
 kept_through xs ys zs first second =
-    All-weaker (λ (c : Call). c.waits ≡ true → IsKeptFrom ys c) (λ (c : Call). c.waits ≡ true → IsKeptFrom xs c)
+    All-weaker (λ (c : OpenCall). c.waits ≡ true → IsKeptFrom ys c) (λ (c : OpenCall). c.waits ≡ true → IsKeptFrom xs c)
     (λ c from waits.
     let k = from waits in
-    let l = All-contains (λ (b : Call). b.waits ≡ true → IsKeptFrom xs b) ys k.was first k.there k.waits in
+    let l = All-contains (λ (b : OpenCall). b.waits ≡ true → IsKeptFrom xs b) ys k.was first k.there k.waits in
     record { was = l.was; there = l.there; waits = l.waits; number = l.number ∙ k.number; flow = l.flow ∙ k.flow })
     zs second
 
@@ -45,7 +45,7 @@ quiet_same h k ports closes life count tokens begun calls happenings = record {
   tokens = λ t there. subst (λ (ts : List Token). Contains ts t) tokens there;
   opens = λ t. (let e = ap (λ (ts : List Token). open_count t ts) tokens in omega (arith, e));
   begun = λ g b tracks. subst (λ (es : List (Flow × List ℕ)). Tracks g b es) (sym begun) tracks;
-  waits = subst (λ (cs : List Call). AreKeptFrom h.calls cs) (sym calls) (kept_itself h.calls);
+  waits = subst (λ (cs : List OpenCall). AreKeptFrom h.calls cs) (sym calls) (kept_itself h.calls);
   told = [];
   happenings = happenings ∙ sym (append-nil h.happenings);
   unsure = All-nil IsUnsure;
@@ -70,7 +70,7 @@ quiet_then h k l p q = record {
 }
 
 -- what calls, what was begun and what was told change to
-quiet_to : (h : Halves) (calls : List Call) (begun : List (Flow × List ℕ)) (counts : Counts) (happenings told : List Happening) → AreKeptFrom h.calls calls → ((g : Flow) (b : Option (List ℕ)) → Tracks g b h.begun → Tracks g b begun) → happenings ≡ h.happenings ++ told → All IsUnsure told
+quiet_to : (h : Halves) (calls : List OpenCall) (begun : List (Flow × List ℕ)) (counts : CallCounts) (happenings told : List Happening) → AreKeptFrom h.calls calls → ((g : Flow) (b : Option (List ℕ)) → Tracks g b h.begun → Tracks g b begun) → happenings ≡ h.happenings ++ told → All IsUnsure told
     → IsQuiet h (record h { calls = calls; begun = begun; counts = counts; happenings = happenings })
 quiet_to h calls begun counts happenings told kept tracked more unsure = record {
   ports = refl;
@@ -86,18 +86,18 @@ quiet_to h calls begun counts happenings told kept tracked more unsure = record 
   unsure = unsure;
 }
 
-quiet_calls : (h : Halves) (calls : List Call) → AreKeptFrom h.calls calls → IsQuiet h (record h { calls = calls })
+quiet_calls : (h : Halves) (calls : List OpenCall) → AreKeptFrom h.calls calls → IsQuiet h (record h { calls = calls })
 quiet_calls h calls kept = quiet_to h calls h.begun h.counts h.happenings [] kept (λ g b tracks. tracks) (sym (append-nil h.happenings)) (All-nil IsUnsure)
 
 -- WHAT IS HEARD
-all_fates : (base : List Call) (given_up : Bool) (f : Flow) (count : ℕ) (calls : List Call) → All (Contains base) calls → AreKeptFrom base (with_fates given_up f count calls)
-all_fates base given_up f count [] all = All-nil (λ (c : Call). c.waits ≡ true → IsKeptFrom base c)
+all_fates : (base : List OpenCall) (given_up : Bool) (f : Flow) (count : ℕ) (calls : List OpenCall) → All (Contains base) calls → AreKeptFrom base (with_fates given_up f count calls)
+all_fates base given_up f count [] all = All-nil (λ (c : OpenCall). c.waits ≡ true → IsKeptFrom base c)
 all_fates base given_up f count (call ∷ calls) all =
     let here = All-head (Contains base) call calls all in
     let rest = All-tail (Contains base) call calls all in
     elim (cases_Bool (same_flow call.flow f)) [
-      | inl y ↦ rw y (All-cons (λ (c : Call). c.waits ≡ true → IsKeptFrom base c) _ _ (λ waits. record { was = call; there = here; waits = waits; number = refl; flow = refl }) (all_fates base given_up f (count - call.left) calls rest))
-      | inr o ↦ rw o (All-cons (λ (c : Call). c.waits ≡ true → IsKeptFrom base c) _ _ (λ waits. record { was = call; there = here; waits = waits; number = refl; flow = refl }) (all_fates base given_up f count calls rest))
+      | inl y ↦ rw y (All-cons (λ (c : OpenCall). c.waits ≡ true → IsKeptFrom base c) _ _ (λ waits. record { was = call; there = here; waits = waits; number = refl; flow = refl }) (all_fates base given_up f (count - call.left) calls rest))
+      | inr o ↦ rw o (All-cons (λ (c : OpenCall). c.waits ≡ true → IsKeptFrom base c) _ _ (λ waits. record { was = call; there = here; waits = waits; number = refl; flow = refl }) (all_fates base given_up f count calls rest))
     ]
 
 accepts_quiet : (b : Bool) (f : Flow) (h : Halves) → IsQuiet h (cond b (record h { unread = with_flow f h.unread }) h)
@@ -123,7 +123,7 @@ pub sweep_quiet : (host : Host) (h : Halves) → IsQuiet h (sweep host h)
 sweep_quiet host h = quiet_to h h.calls (sweep host h).begun (sweep host h).counts h.happenings [] (kept_itself h.calls) (λ g b tracks. swept_tracks (has_receiver host) g b h.begun tracks) (sym (append-nil h.happenings)) (All-nil IsUnsure)
 
 -- CALLS ARE JUDGED
-unsure_all : (now : ℕ) (calls : List Call) → All IsUnsure (filter_map (unsure_of now) calls)
+unsure_all : (now : ℕ) (calls : List OpenCall) → All IsUnsure (filter_map (unsure_of now) calls)
 unsure_all now [] = All-nil IsUnsure
 unsure_all now (call ∷ calls) = by_cause (cause_of now call) (unsure_all now calls)
   where
@@ -131,8 +131,8 @@ unsure_all now (call ∷ calls) = by_cause (cause_of now call) (unsure_all now c
     by_cause None rest = rest
     by_cause (Some cause) rest = All-cons IsUnsure (Unsure call.number cause) (filter_map (unsure_of now) calls) tt rest
 
-all_judged : (base : List Call) (now : ℕ) (calls : List Call) → All (Contains base) calls → AreKeptFrom base (filter is_kept (map (judged_call now) calls))
-all_judged base now [] all = All-nil (λ (c : Call). c.waits ≡ true → IsKeptFrom base c)
+all_judged : (base : List OpenCall) (now : ℕ) (calls : List OpenCall) → All (Contains base) calls → AreKeptFrom base (filter is_kept (map (judged_call now) calls))
+all_judged base now [] all = All-nil (λ (c : OpenCall). c.waits ≡ true → IsKeptFrom base c)
 all_judged base now (call ∷ calls) all = by_kept (is_kept (judged_call now call)) (all_judged base now calls (All-tail (Contains base) call calls all))
   where
     by_cause : (o : Option Cause) → (judged_as call o).waits ≡ true → IsKeptFrom base (judged_as call o)
@@ -140,7 +140,7 @@ all_judged base now (call ∷ calls) all = by_kept (is_kept (judged_call now cal
     by_cause (Some cause) waits = absurd cc
 
     by_kept : (b : Bool) → AreKeptFrom base (filter is_kept (map (judged_call now) calls)) → AreKeptFrom base (cond b (judged_call now call ∷ filter is_kept (map (judged_call now) calls)) (filter is_kept (map (judged_call now) calls)))
-    by_kept true rest = All-cons (λ (c : Call). c.waits ≡ true → IsKeptFrom base c) (judged_call now call) (filter is_kept (map (judged_call now) calls)) (by_cause (cause_of now call)) rest
+    by_kept true rest = All-cons (λ (c : OpenCall). c.waits ≡ true → IsKeptFrom base c) (judged_call now call) (filter is_kept (map (judged_call now) calls)) (by_cause (cause_of now call)) rest
     by_kept false rest = rest
 
 pub judge_quiet : (now : ℕ) (h : Halves) → IsQuiet h (judge now h)
@@ -187,7 +187,7 @@ close_quiet h = record {
   tokens = λ t there. absurd (omega (arith, there.1));
   opens = λ t. omega arith;
   begun = λ g b tracks. inl refl;
-  waits = all_filtered (λ (c : Call). c.waits ≡ true → IsKeptFrom h.calls c) (λ (call : Call). call.waits) h.calls (kept_itself h.calls);
+  waits = all_filtered (λ (c : OpenCall). c.waits ≡ true → IsKeptFrom h.calls c) (λ (call : OpenCall). call.waits) h.calls (kept_itself h.calls);
   told = [];
   happenings = sym (append-nil h.happenings);
   unsure = All-nil IsUnsure;

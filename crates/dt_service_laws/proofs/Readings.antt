@@ -7,8 +7,8 @@ use Rattle.dt_units.specs.declared.endpoints.Flow.{Flow}
 use Rattle.dt_world_model.specs.Tables.{same_flow}
 use Rattle.dt_calls_model.specs.Messages.{Piece}
 use Rattle.dt_messages.specs.Joining.{begun_within, whole_within}
-use Rattle.dt_endpoint.specs.declared.answers.Piece.{Piece as Answer}
-use Rattle.dt_endpoint.specs.declared.answers.Piece.TheVariants as answer
+use Rattle.dt_endpoint.specs.declared.answers.Delivered.{Delivered as Answer}
+use Rattle.dt_endpoint.specs.declared.answers.Delivered.TheVariants as answer
 use Rattle.dt_network.specs.Octets.{AreTaken, IsReadOf, all_read, items_read, read_by, read_if, read_in_step}
 use Rattle.dt_network.specs.Steps.{AddRoute, Call, CallArrive, CallRead, CallSend, CallTick, Calls, Follow, OpenAgain, Pass, PullFrame, PullReport, Step}
 use Rattle.dt_service_laws.specs.Orders.{AreSomeOf, none}

@@ -10,7 +10,7 @@ use Rattle.dt_world_model.specs.Setup.{Setup, routes_of}
 use Rattle.dt_world_model.specs.Worked.{main_flow}
 use Rattle.dt_calls_model.specs.Messages.{message_of}
 use Rattle.dt_network.specs.Network.{Flight}
-use Rattle.dt_service_model.specs.declared.ports.Kind.TheVariants.{Caller}
+use Rattle.dt_service_model.specs.declared.ports.PortKind.TheVariants.{Caller}
 use Rattle.dt_service_model.specs.Names.{number_of, number_with, token_with}
 use Rattle.dt_service_model.specs.Worked.{roomy}
 use Rattle.dt_service_laws.specs.Premises.{KeepsTurn, KeepsTurns}

@@ -15,8 +15,8 @@ use Rattle.dt_world_model.specs.Tables.{same_flow}
 use Rattle.dt_world_model.specs.WorldStep.{first_refusal}
 use Rattle.dt_calls_laws.proofs.SideBySide.{number_back}
 use Rattle.dt_calls_model.specs.Messages.{message_of, reversed}
-use Rattle.dt_endpoint.specs.declared.answers.Arrived.{Arrived}
-use Rattle.dt_endpoint.specs.declared.answers.Arrived.TheVariants as arrived
+use Rattle.dt_endpoint.specs.declared.answers.Received.{Received}
+use Rattle.dt_endpoint.specs.declared.answers.Received.TheVariants as arrived
 use Rattle.dt_endpoint.specs.declared.answers.Ticked.{Ticked}
 use Rattle.dt_endpoint.specs.declared.answers.Ticked.TheVariants as ticked
 use Rattle.dt_endpoint.specs.Calls.{arrive_event, arrive_refusal, send_answer}
@@ -26,12 +26,12 @@ use Rattle.dt_service_model.specs.declared.answers.Forgot.{Forgot}
 use Rattle.dt_service_model.specs.declared.answers.Forgot.TheVariants as forgot
 use Rattle.dt_service_model.specs.declared.answers.Made.{Made}
 use Rattle.dt_service_model.specs.declared.answers.Replied.{Replied}
-use Rattle.dt_service_model.specs.declared.calls.Call.{Call}
+use Rattle.dt_service_model.specs.declared.calls.OpenCall.{OpenCall}
 use Rattle.dt_service_model.specs.declared.happenings.Happening.{Happening}
 use Rattle.dt_service_model.specs.declared.names.CallNumber.{CallNumber}
 use Rattle.dt_service_model.specs.declared.names.Token.{Token}
-use Rattle.dt_service_model.specs.declared.ports.Kind.{Kind}
-use Rattle.dt_service_model.specs.declared.ports.Kind.TheVariants.{Caller, Service}
+use Rattle.dt_service_model.specs.declared.ports.PortKind.{PortKind}
+use Rattle.dt_service_model.specs.declared.ports.PortKind.TheVariants.{Caller, Service}
 use Rattle.dt_service_model.specs.declared.ports.Most.{Most}
 use Rattle.dt_service_model.specs.declared.ports.Port.{Port}
 use Rattle.dt_service_model.specs.Asked.{call, call_refusals, forget_refusals, forgotten, forgotten_unless, is_closed, is_life_in_use, made_by, made_of, message_event, next_number, or_counted, replied_by, reply, reply_refusals, unless, with_call_unless, with_port}
@@ -55,10 +55,10 @@ token_there token tokens h =
     let b = and_parts (same_flow token.flow a.1.flow) (same_number token.number a.1.number) a.4 in
     (a.1, (a.0, a.2, a.3), flow_is token.flow a.1.flow b.0, b.1)
 
-module _ (kinds : (node port : ℕ) → Kind) (n : ℕ) where
+module _ (kinds : (node port : ℕ) → PortKind) (n : ℕ) where
   -- kinds, tokens and the life of a node
   pub record IsSound (h : Halves) : Type 0 where
-    pub ports : (port : ℕ) (kind : Kind) → kind_in port h.ports ≡ Some kind → kind ≡ kinds n port
+    pub ports : (port : ℕ) (kind : PortKind) → kind_in port h.ports ≡ Some kind → kind ≡ kinds n port
     pub tokens : (t : Token) → Contains h.tokens t → IsOfService h.ports t
     pub life : IsLife h.life
 
@@ -101,7 +101,7 @@ module _ (kinds : (node port : ℕ) → Kind) (n : ℕ) where
   tick_sound true now x s = s
   tick_sound false now x s = sound_keeps x.halves (turn now Tick x).halves (turn_keeps now Tick x) s
 
-  arrive_sound : (c : Bool) (o : Option Arrived) (now link : ℕ) (datagram : List ℕ) (waited : ℕ) (x : Node) → IsSound x.halves → IsSound (cond {A = Arrived × Node} c (arrived.Spent, x) (or_counted o x (arrived.Done, turn now (arrive_event link datagram waited) x))).1.halves
+  arrive_sound : (c : Bool) (o : Option Received) (now link : ℕ) (datagram : List ℕ) (waited : ℕ) (x : Node) → IsSound x.halves → IsSound (cond {A = Received × Node} c (arrived.Spent, x) (or_counted o x (arrived.Done, turn now (arrive_event link datagram waited) x))).1.halves
   arrive_sound true o now link datagram waited x s = s
   arrive_sound false (Some a) now link datagram waited x s = s
   arrive_sound false None now link datagram waited x s = sound_keeps x.halves (turn now (arrive_event link datagram waited) x).halves (turn_keeps now (arrive_event link datagram waited) x) s
@@ -110,7 +110,7 @@ module _ (kinds : (node port : ℕ) → Kind) (n : ℕ) where
   raise_sound true life h fits s = s
   raise_sound false life h fits s = record { ports = s.ports; tokens = s.tokens; life = fits }
 
-  next_sound : (calls : List Call) (h : Halves) → IsSound h → IsSound (next_call calls h).1
+  next_sound : (calls : List OpenCall) (h : Halves) → IsSound h → IsSound (next_call calls h).1
   next_sound [] h s = s
   next_sound (call ∷ calls) h s = record { ports = s.ports; tokens = s.tokens; life = s.life }
 
@@ -123,7 +123,7 @@ module _ (kinds : (node port : ℕ) → Kind) (n : ℕ) where
   taken_sound (x ∷ told) h s = record { ports = s.ports; tokens = s.tokens; life = s.life }
 
   -- a port gets its kind
-  kept_kind : (port : ℕ) (kind : Kind) (ports more : List Port) → kind_in port ports ≡ Some kind → kind_in port (ports ++ more) ≡ Some kind
+  kept_kind : (port : ℕ) (kind : PortKind) (ports more : List Port) → kind_in port ports ≡ Some kind → kind_in port (ports ++ more) ≡ Some kind
   kept_kind port kind [] more is = absurd cc
   kept_kind port kind (p ∷ ports) more is = by_test (p.port == port) is (kept_kind port kind ports more)
     where
@@ -132,7 +132,7 @@ module _ (kinds : (node port : ℕ) → Kind) (n : ℕ) where
       by_test true is rest = is
       by_test false is rest = rest is
 
-  new_kind : (q : ℕ) (k : Kind) (port : ℕ) (kind : Kind) (ports : List Port) → kind_in q (ports ++ (record { port = port; kind = kind }) ∷ []) ≡ Some k → (kind_in q ports ≡ Some k) ⊎ ((port ≡ q) × (kind ≡ k))
+  new_kind : (q : ℕ) (k : PortKind) (port : ℕ) (kind : PortKind) (ports : List Port) → kind_in q (ports ++ (record { port = port; kind = kind }) ∷ []) ≡ Some k → (kind_in q ports ≡ Some k) ⊎ ((port ≡ q) × (kind ≡ k))
   new_kind q k port kind [] is = by_test (port == q) refl is
     where
       by_test : (b : Bool) → (port == q) ≡ b → option_map (λ (p : Port). p.kind) (cond b (Some (record { port = port; kind = kind })) None) ≡ Some k → (kind_in q [] ≡ Some k) ⊎ ((port ≡ q) × (kind ≡ k))
@@ -146,7 +146,7 @@ module _ (kinds : (node port : ℕ) → Kind) (n : ℕ) where
       by_test true is rest = inl is
       by_test false is rest = rest is
 
-  kind_sound : (o : Option Kind) (port : ℕ) (kind : Kind) (h : Halves) → kind ≡ kinds n port → IsSound h → IsSound (with_port port o kind h)
+  kind_sound : (o : Option PortKind) (port : ℕ) (kind : PortKind) (h : Halves) → kind ≡ kinds n port → IsSound h → IsSound (with_port port o kind h)
   kind_sound (Some has) port kind h agrees s = s
   kind_sound None port kind h agrees s = record {
     ports = λ q k is. elim (new_kind q k port kind h.ports is) [ inl was ↦ s.ports q k was | inr new ↦ sym new.1 ∙ agrees ∙ ap (kinds n) new.0 ];
@@ -175,7 +175,7 @@ module _ (kinds : (node port : ℕ) → Kind) (n : ℕ) where
       record { ports = λ port kind is. s.ports port kind (subst (λ (ps : List Port). kind_in port ps ≡ Some kind) l.ports is); tokens = λ t at. absurd (subst (λ (ts : List Token). Contains ts t → ⊥) (sym l.tokens) (λ there. omega (arith, there.1)) at); life = subst IsLife (sym l.life) s.life }
 
 -- A CALL goes from its node, and its port is a caller's
-is_a_caller : (o : Option Kind) → is_caller o ≡ true → o ≡ Some Caller
+is_a_caller : (o : Option PortKind) → is_caller o ≡ true → o ≡ Some Caller
 is_a_caller None h = absurd cc
 is_a_caller (Some Caller) h = refl
 is_a_caller (Some Service) h = absurd cc
@@ -241,11 +241,11 @@ call_is f (OpensAgain again routes most life) x = inl refl
 call_is f (FindsNoMemory deed after) x = asked_is f deed x
 
 -- no port is both
-two_kinds : (kind : Kind) → Caller ≡ kind → kind ≡ Service → ⊥
+two_kinds : (kind : PortKind) → Caller ≡ kind → kind ≡ Service → ⊥
 two_kinds kind caller service = (let wrong : Caller ≡ Service = caller ∙ service in absurd cc)
 
 -- on the way back to a caller no call is made, and what goes there are the replies
-pub no_call_back : (kinds : (node port : ℕ) → Kind) (n : ℕ) (f : Flow) → IsServed kinds f → (x : Node) → IsSound kinds n x.halves → (x.endpoint.spent ≡ false → x.endpoint.state.host.me ≡ n) → (deed : Deed) → call_by (reversed f) deed x ≡ []
+pub no_call_back : (kinds : (node port : ℕ) → PortKind) (n : ℕ) (f : Flow) → IsServed kinds f → (x : Node) → IsSound kinds n x.halves → (x.endpoint.spent ≡ false → x.endpoint.state.host.me ≡ n) → (deed : Deed) → call_by (reversed f) deed x ≡ []
 no_call_back kinds n f served x s me deed =
     elim (call_is (reversed f) deed x) [
       | inl none ↦ none
@@ -313,7 +313,7 @@ reply_is f (OpensAgain again routes most life) x = inl refl
 reply_is f (FindsNoMemory deed after) x = asked_reply f deed x
 
 -- so it goes to a caller, and never on a caller's flow
-pub no_reply_there : (kinds : (node port : ℕ) → Kind) (n : ℕ) (f : Flow) → IsServed kinds f → (x : Node) → IsSound kinds n x.halves → (x.endpoint.spent ≡ false → x.endpoint.state.host.me ≡ n) → (deed : Deed) → reply_by (reversed f) deed x ≡ []
+pub no_reply_there : (kinds : (node port : ℕ) → PortKind) (n : ℕ) (f : Flow) → IsServed kinds f → (x : Node) → IsSound kinds n x.halves → (x.endpoint.spent ≡ false → x.endpoint.state.host.me ≡ n) → (deed : Deed) → reply_by (reversed f) deed x ≡ []
 no_reply_there kinds n f served x s me deed =
     elim (reply_is (reversed f) deed x) [
       | inl none ↦ none

@@ -12,8 +12,8 @@ use Rattle.dt_units.specs.Flows.{IsFlow}
 use Rattle.dt_world_model.specs.Setup.{Setup}
 use Rattle.dt_world_model.specs.Station.{Read}
 use Rattle.dt_calls_model.specs.Messages.{Piece}
-use Rattle.dt_endpoint.specs.declared.answers.Piece.{Piece as Answer}
-use Rattle.dt_endpoint.specs.declared.answers.Piece.TheVariants as answer
+use Rattle.dt_endpoint.specs.declared.answers.Delivered.{Delivered as Answer}
+use Rattle.dt_endpoint.specs.declared.answers.Delivered.TheVariants as answer
 use Rattle.dt_endpoint.specs.Acts.{acts_of, frames_in}
 use Rattle.dt_endpoint.specs.Calls.{ReadDoes, Unless, read_answer}
 use Rattle.dt_endpoint.specs.Endpoints.{Breaks, EndpointValue, after_event, script_of}
@@ -21,7 +21,7 @@ use Rattle.dt_network.specs.Duties.{KeepsTime}
 use Rattle.dt_network.specs.Network.{Network}
 use Rattle.dt_network.specs.Octets.{Takes, items_read, read_by, read_if}
 use Rattle.dt_network.specs.Steps.{Call, CallRead, Calls, Step}
-use Rattle.dt_service_model.specs.declared.counts.Counts.{Counts}
+use Rattle.dt_service_model.specs.declared.call_counts.CallCounts.{CallCounts}
 use Rattle.dt_service_model.specs.Ends.{close}
 use Rattle.dt_service_model.specs.Halves.{Halves, may_read}
 use Rattle.dt_service_model.specs.Hearing.{hear_all}
@@ -46,7 +46,7 @@ all_parts P (z ∷ xs) x ys all =
     (All-cons P z xs (All-head P z (xs ++ x ∷ ys) all) more.0, more.1)
 
 -- what was begun and counted is no matter once the node is closed
-lost_quiet : (h : Halves) (begun : List (Flow × List ℕ)) (counts : Counts) → IsQuiet h (close (record h { begun = begun; counts = counts }))
+lost_quiet : (h : Halves) (begun : List (Flow × List ℕ)) (counts : CallCounts) → IsQuiet h (close (record h { begun = begun; counts = counts }))
 lost_quiet h begun counts = quiet_then h (close h) (close (record h { begun = begun; counts = counts })) (close_quiet h) (quiet_same (close h) (close (record h { begun = begun; counts = counts })) refl (λ c. c) refl refl refl refl refl refl)
 
 module _ (setup : Setup) (Good : Network → Type 0) (law : IsLawful setup Good) (n : ℕ) (base : Network) where
@@ -86,7 +86,7 @@ module _ (setup : Setup) (Good : Network → Type 0) (law : IsLawful setup Good)
       record { steps = Calls n call f ∷ pulled n (suc count) f f.reports; way = subst (λ (rs : List Told). Way setup Good law n base Posts x (Calls n call f ∷ pulled n (suc count) f f.reports) (record { endpoint = record f { reports = rs }; halves = h })) (drop_one count f.reports) way }
 
   -- all of them were heard, and what it read is lost
-  pub lost_stop : (Posts : Flow → List Item → Type 0) (call : Call) (x : Node) (f : EndpointValue) (begun : List (Flow × List ℕ)) (counts : Counts) → LastCall Posts call x f → Stop Posts x (with_halves close (with_halves (λ h. record h { begun = begun; counts = counts }) (hears (record x { endpoint = f }))))
+  pub lost_stop : (Posts : Flow → List Item → Type 0) (call : Call) (x : Node) (f : EndpointValue) (begun : List (Flow × List ℕ)) (counts : CallCounts) → LastCall Posts call x f → Stop Posts x (with_halves close (with_halves (λ h. record h { begun = begun; counts = counts }) (hears (record x { endpoint = f }))))
   lost_stop Posts call x f begun counts last =
       let heard = hear_all f.reports x.halves in
       let h = close (record heard { begun = begun; counts = counts }) in
@@ -135,7 +135,7 @@ module _ (setup : Setup) (Good : Network → Type 0) (law : IsLawful setup Good)
           let r = read_call in
           stop_there AreNone x (heard_in_part count (record x { endpoint = after_event now (Read f most_read) x.endpoint })) st is (heard_stop AreNone (CallRead now f most_read r.buf r.found) x (after_event now (Read f most_read) x.endpoint) count r.last)
 
-      piece_of_read : (st : Node) (begun : List (Flow × List ℕ)) (counts : Counts) → st ≡ with_halves (λ h. record h { begun = begun; counts = counts }) (happens now (Read f most_read) x) → Stop AreNone x (with_halves close st)
+      piece_of_read : (st : Node) (begun : List (Flow × List ℕ)) (counts : CallCounts) → st ≡ with_halves (λ h. record h { begun = begun; counts = counts }) (happens now (Read f most_read) x) → Stop AreNone x (with_halves close st)
       piece_of_read st begun counts is =
           let r = read_call in
           stop_there AreNone x (with_halves (λ h. record h { begun = begun; counts = counts }) (happens now (Read f most_read) x)) st is (lost_stop AreNone (CallRead now f most_read r.buf r.found) x (after_event now (Read f most_read) x.endpoint) begun counts r.last)

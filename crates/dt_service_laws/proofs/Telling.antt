@@ -14,7 +14,7 @@ use Rattle.dt_world_model.specs.Setup.{Setup}
 use Rattle.dt_world_model.specs.Tables.{same_flow}
 use Rattle.dt_calls_model.specs.Messages.{Piece, begun_with, carried_in, has_number, number_in, reversed}
 use Rattle.dt_messages.specs.Joining.{whole_within}
-use Rattle.dt_endpoint.specs.declared.answers.Piece.TheVariants as answer
+use Rattle.dt_endpoint.specs.declared.answers.Delivered.TheVariants as answer
 use Rattle.dt_endpoint.specs.Endpoints.{EndpointValue}
 use Rattle.dt_network.specs.Network.{Network}
 use Rattle.dt_network.specs.Octets.{all_read, items_read, read_if, read_in_step}
@@ -22,8 +22,8 @@ use Rattle.dt_network.specs.Steps.{Step}
 use Rattle.dt_service_model.specs.declared.happenings.Happening.{Happening}
 use Rattle.dt_service_model.specs.declared.happenings.Happening.TheVariants.{Answered, Request, Unsure}
 use Rattle.dt_service_model.specs.declared.names.CallNumber.{CallNumber}
-use Rattle.dt_service_model.specs.declared.ports.Kind.{Kind}
-use Rattle.dt_service_model.specs.declared.ports.Kind.TheVariants.{Caller, Service}
+use Rattle.dt_service_model.specs.declared.ports.PortKind.{PortKind}
+use Rattle.dt_service_model.specs.declared.ports.PortKind.TheVariants.{Caller, Service}
 use Rattle.dt_service_model.specs.Halves.{Halves, counted_up, kind_in, most_octets}
 use Rattle.dt_service_model.specs.Hearing.{hear}
 use Rattle.dt_service_model.specs.Names.{call_number, token_with}
@@ -78,7 +78,7 @@ request_tells : (f g : Flow) (m : List ℕ) (h : Halves) (b : Bool) → let toke
 request_tells f g m h true = tells_none f g (Some m) h _ refl refl
 request_tells f g m h false = record { begun = refl; told = Request (token_with f (call_number (number_in m))) (carried_in m) ∷ []; happenings = refl; requests = one_request f g m }
 
-as_tells : (f g : Flow) (m : List ℕ) (h : Halves) (kind : Option Kind) → WholeTells f g (Some m) h (take_as kind f (call_number (number_in m)) (carried_in m) h)
+as_tells : (f g : Flow) (m : List ℕ) (h : Halves) (kind : Option PortKind) → WholeTells f g (Some m) h (take_as kind f (call_number (number_in m)) (carried_in m) h)
 as_tells f g m h None = tells_none f g (Some m) h h refl refl
 as_tells f g m h (Some Caller) = reply_tells f g (Some m) (position (is_waiting_call (reversed f) (call_number (number_in m))) h.calls) (call_number (number_in m)) (carried_in m) h
 as_tells f g m h (Some Service) = request_tells f g m h (is_open (token_with f (call_number (number_in m))) h)

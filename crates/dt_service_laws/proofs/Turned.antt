@@ -26,8 +26,8 @@ use Rattle.dt_network.specs.Duties.{KeepsFrom as CallKeeps}
 use Rattle.dt_service_model.specs.declared.happenings.Happening.{Happening}
 use Rattle.dt_service_model.specs.declared.names.CallNumber.{CallNumber}
 use Rattle.dt_service_model.specs.declared.names.Token.{Token}
-use Rattle.dt_service_model.specs.declared.ports.Kind.{Kind}
-use Rattle.dt_service_model.specs.declared.calls.Call.{Call}
+use Rattle.dt_service_model.specs.declared.ports.PortKind.{PortKind}
+use Rattle.dt_service_model.specs.declared.calls.OpenCall.{OpenCall}
 use Rattle.dt_service_model.specs.Asked.{call_refusals, forget_refusals, forgotten, is_closed, is_life_in_use, message_event, next_number, raised, reply, reply_refusals, with_kind, with_port}
 use Rattle.dt_service_model.specs.Ends.{close, next, next_call, next_in}
 use Rattle.dt_service_model.specs.Halves.{Halves, kind_in}
@@ -56,7 +56,7 @@ use Rattle.dt_service_laws.proofs.Sending.{taken_parts, takes_more, takes_nothin
 use Rattle.dt_service_laws.proofs.Telling.{read_append, said}
 
 -- what is beside an endpoint
-kind_between : (port : ℕ) (o : Option Kind) (kind : Kind) (h : Halves) → ((with_port port o kind h).begun ≡ h.begun) × ((with_port port o kind h).happenings ≡ h.happenings)
+kind_between : (port : ℕ) (o : Option PortKind) (kind : PortKind) (h : Halves) → ((with_port port o kind h).begun ≡ h.begun) × ((with_port port o kind h).happenings ≡ h.happenings)
 kind_between port None kind h = (refl, refl)
 kind_between port (Some k) kind h = (refl, refl)
 
@@ -68,7 +68,7 @@ record Takes1 (h k : Halves) : Type 0 where
   begun : k.begun ≡ h.begun
   none : drop (length h.happenings) k.happenings ≡ []
 
-taken_call : (calls : List Call) (h : Halves) → h.happenings ≡ [] → Takes1 h (next_call calls h).1
+taken_call : (calls : List OpenCall) (h : Halves) → h.happenings ≡ [] → Takes1 h (next_call calls h).1
 taken_call [] h is = record { begun = refl; none = drop-length h.happenings }
 taken_call (call ∷ calls) h is = record { begun = refl; none = drop-length h.happenings }
 
@@ -88,7 +88,7 @@ on_still : (x : Node) (h : Halves) → IsOn x → (x.halves.closed ≡ true → 
 on_still x h (inl unspent) closes = inl unspent
 on_still x h (inr closed) closes = inr (closes closed)
 
-kind_closes : (port : ℕ) (o : Option Kind) (kind : Kind) (h : Halves) → h.closed ≡ true → (with_port port o kind h).closed ≡ true
+kind_closes : (port : ℕ) (o : Option PortKind) (kind : PortKind) (h : Halves) → h.closed ≡ true → (with_port port o kind h).closed ≡ true
 kind_closes port None kind h closed = closed
 kind_closes port (Some k) kind h closed = closed
 
@@ -96,7 +96,7 @@ raise_closes : (b : Bool) (life : ℕ) (h : Halves) → h.closed ≡ true → (c
 raise_closes true life h closed = closed
 raise_closes false life h closed = closed
 
-next_closes : (calls : List Call) (h : Halves) → h.closed ≡ true → (next_call calls h).1.closed ≡ true
+next_closes : (calls : List OpenCall) (h : Halves) → h.closed ≡ true → (next_call calls h).1.closed ≡ true
 next_closes [] h closed = closed
 next_closes (call ∷ calls) h closed = closed
 
@@ -191,7 +191,7 @@ module _ (setup : Setup) (Good : Network → Type 0) (law : IsLawful setup Good)
         let y = node_after setup n (OpensAgain again routes most life) x in
         record {
           mid = y.halves;
-          of = All-nil (λ (c : Call). c.waits ≡ true → IsKeptFrom x.halves.calls c ⊎ (0 < count_of c.number []));
+          of = All-nil (λ (c : OpenCall). c.waits ≡ true → IsKeptFrom x.halves.calls c ⊎ (0 < count_of c.number []));
           gone = none_gone x.halves y.halves (λ t. omega arith);
           reaches = comes_by_step setup n x m y (Calls n (OpenAgain again routes) y.endpoint) (subst (DoesFrom setup n (OpenAgain again routes) y.endpoint) (sym there) refl, tt) (subst (CallKeeps setup m n (OpenAgain again routes)) (sym there) keeps.0.0, tt) refl (inl refl) (λ g. refl)
               (λ g. takes_more g (Calls n (OpenAgain again routes) y.endpoint) [] [] [] (λ first t. t) (takes_nothing g)) (λ g b tracks. inl refl) (drop-nil (length x.halves.happenings));
@@ -203,8 +203,8 @@ module _ (setup : Setup) (Good : Network → Type 0) (law : IsLawful setup Good)
   AreOn s = (k : ℕ) (e : EndpointValue) → IsAt k s.network e → (e.spent ≡ false) ⊎ ((s.halves k).closed ≡ true)
 
   -- calls that wait were made before, as often as is said
-  abbrev pub Waits : (past : Flow → CallNumber → ℕ) → List Call → Type 0
-  Waits past calls = All (λ (call : Call). call.waits ≡ true → 0 < past call.flow call.number) calls
+  abbrev pub Waits : (past : Flow → CallNumber → ℕ) → List OpenCall → Type 0
+  Waits past calls = All (λ (call : OpenCall). call.waits ≡ true → 0 < past call.flow call.number) calls
 
   -- a call of another flow than the reverse of this one was made under the number of an answer
   pub record OtherCall (f : Flow) (past : Flow → CallNumber → ℕ) (a : Message) : Type 0 where
@@ -240,35 +240,35 @@ module _ (setup : Setup) (Good : Network → Type 0) (law : IsLawful setup Good)
         | inr other ↦ subst (λ (b : Bool). (e.spent ≡ false) ⊎ ((cond b y.halves (s.halves k)).closed ≡ true)) (sym other) (all k e (sym (look_write_other ℕ EndpointValue ◌==◌ nat_self nat_is k n y.endpoint s.network.endpoints other) ∙ there))
       ]
 
-  past_more : (past : Flow → CallNumber → ℕ) (made : Flow → List Message) (calls : List Call) → Waits past calls → Waits (and_then past made) calls
-  past_more past made calls waits = All-weaker (λ (c : Call). c.waits ≡ true → 0 < past c.flow c.number) (λ (c : Call). c.waits ≡ true → 0 < and_then past made c.flow c.number) (λ c h w. (let l = h w in omega (arith, l))) calls waits
+  past_more : (past : Flow → CallNumber → ℕ) (made : Flow → List Message) (calls : List OpenCall) → Waits past calls → Waits (and_then past made) calls
+  past_more past made calls waits = All-weaker (λ (c : OpenCall). c.waits ≡ true → 0 < past c.flow c.number) (λ (c : OpenCall). c.waits ≡ true → 0 < and_then past made c.flow c.number) (λ c h w. (let l = h w in omega (arith, l))) calls waits
 
   -- calls that wait between what is done and the end of its turn
-  mid_past : (past : Flow → CallNumber → ℕ) (made : Flow → List Message) (before calls : List Call) → Waits past before → AreOf made before calls → Waits (and_then past made) calls
+  mid_past : (past : Flow → CallNumber → ℕ) (made : Flow → List Message) (before calls : List OpenCall) → Waits past before → AreOf made before calls → Waits (and_then past made) calls
   mid_past past made before calls waits of =
-      All-weaker (λ (c : Call). c.waits ≡ true → IsKeptFrom before c ⊎ (0 < count_of c.number (made c.flow))) (λ (c : Call). c.waits ≡ true → 0 < and_then past made c.flow c.number)
+      All-weaker (λ (c : OpenCall). c.waits ≡ true → IsKeptFrom before c ⊎ (0 < count_of c.number (made c.flow))) (λ (c : OpenCall). c.waits ≡ true → 0 < and_then past made c.flow c.number)
       (λ c h w.
       elim (h w) [
         | inl k ↦
-            let l = All-contains (λ (c : Call). c.waits ≡ true → 0 < past c.flow c.number) before k.was waits k.there k.waits in
+            let l = All-contains (λ (c : OpenCall). c.waits ≡ true → 0 < past c.flow c.number) before k.was waits k.there k.waits in
             let here : 0 < past c.flow c.number = subst (λ (m : CallNumber). 0 < past c.flow m) k.number (subst (λ (g : Flow). 0 < past g k.was.number) k.flow l) in
             omega (arith, here)
         | inr new ↦ omega (arith, new)
       ])
       calls of
 
-  kept_past : (past : Flow → CallNumber → ℕ) (before calls : List Call) → Waits past before → AreKeptFrom before calls → Waits past calls
+  kept_past : (past : Flow → CallNumber → ℕ) (before calls : List OpenCall) → Waits past before → AreKeptFrom before calls → Waits past calls
   kept_past past before calls waits kept =
-      All-weaker (λ (c : Call). c.waits ≡ true → IsKeptFrom before c) (λ (c : Call). c.waits ≡ true → 0 < past c.flow c.number)
+      All-weaker (λ (c : OpenCall). c.waits ≡ true → IsKeptFrom before c) (λ (c : OpenCall). c.waits ≡ true → 0 < past c.flow c.number)
       (λ c h w.
       let k = h w in
-      let l = All-contains (λ (c : Call). c.waits ≡ true → 0 < past c.flow c.number) before k.was waits k.there k.waits in
+      let l = All-contains (λ (c : OpenCall). c.waits ≡ true → 0 < past c.flow c.number) before k.was waits k.there k.waits in
       subst (λ (m : CallNumber). 0 < past c.flow m) k.number (subst (λ (g : Flow). 0 < past g k.was.number) k.flow l))
       calls kept
 
-  other_past : (f : Flow) (past : Flow → CallNumber → ℕ) (calls : List Call) (a : Message) → Waits past calls → IsOther f calls a → OtherCall f past a
+  other_past : (f : Flow) (past : Flow → CallNumber → ℕ) (calls : List OpenCall) (a : Message) → Waits past calls → IsOther f calls a → OtherCall f past a
   other_past f past calls a waits o =
-      let l = All-contains (λ (c : Call). c.waits ≡ true → 0 < past c.flow c.number) calls o.call waits o.there o.waits in
+      let l = All-contains (λ (c : OpenCall). c.waits ≡ true → 0 < past c.flow c.number) calls o.call waits o.there o.waits in
       record { flow = o.call.flow; other = o.other; made = subst (λ (m : CallNumber). 0 < past o.call.flow m) o.number l }
 
   abbrev pub made_in : Flow → Turn → Services → Flow → List Message

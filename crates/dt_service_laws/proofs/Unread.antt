@@ -16,8 +16,8 @@ use Rattle.dt_world_model.specs.Tables.{look, same_flow}
 use Rattle.dt_world_model.specs.WorldStep.{first_refusal}
 use Rattle.dt_calls_model.specs.Messages.{Piece, carried_in, has_number, message_of, number_in, reversed}
 use Rattle.dt_messages.specs.Joining.{whole_within}
-use Rattle.dt_endpoint.specs.declared.answers.Arrived.{Arrived}
-use Rattle.dt_endpoint.specs.declared.answers.Arrived.TheVariants as arrived
+use Rattle.dt_endpoint.specs.declared.answers.Received.{Received}
+use Rattle.dt_endpoint.specs.declared.answers.Received.TheVariants as arrived
 use Rattle.dt_endpoint.specs.declared.answers.Ticked.{Ticked}
 use Rattle.dt_endpoint.specs.declared.answers.Ticked.TheVariants as ticked
 use Rattle.dt_endpoint.specs.Acts.{acts_of, reports_in}
@@ -29,13 +29,13 @@ use Rattle.dt_service_model.specs.declared.answers.Forgot.{Forgot}
 use Rattle.dt_service_model.specs.declared.answers.Forgot.TheVariants as forgot
 use Rattle.dt_service_model.specs.declared.answers.Made.{Made}
 use Rattle.dt_service_model.specs.declared.answers.Replied.{Replied}
-use Rattle.dt_service_model.specs.declared.calls.Call.{Call}
+use Rattle.dt_service_model.specs.declared.calls.OpenCall.{OpenCall}
 use Rattle.dt_service_model.specs.declared.happenings.Happening.{Happening}
 use Rattle.dt_service_model.specs.declared.happenings.Happening.TheVariants.{Request}
 use Rattle.dt_service_model.specs.declared.names.CallNumber.{CallNumber}
 use Rattle.dt_service_model.specs.declared.names.Token.{Token}
-use Rattle.dt_service_model.specs.declared.ports.Kind.{Kind}
-use Rattle.dt_service_model.specs.declared.ports.Kind.TheVariants.{Caller, Service}
+use Rattle.dt_service_model.specs.declared.ports.PortKind.{PortKind}
+use Rattle.dt_service_model.specs.declared.ports.PortKind.TheVariants.{Caller, Service}
 use Rattle.dt_service_model.specs.declared.ports.Most.{Most}
 use Rattle.dt_service_model.specs.Asked.{call_refusals, forget_refusals, forgotten, forgotten_unless, is_closed, is_life_in_use, made_by, message_event, next_number, or_counted, replied_by, reply_refusals, unless, with_call_unless, with_port}
 use Rattle.dt_service_model.specs.Ends.{next_call, next_in}
@@ -68,7 +68,7 @@ request_unread : (b : Bool) (token : Token) (payload : List ℕ) (h : Halves)
 request_unread true token payload h = refl
 request_unread false token payload h = refl
 
-as_unread : (kind : Option Kind) (f : Flow) (n : CallNumber) (carried : List ℕ) (h : Halves) → (take_as kind f n carried h).unread ≡ h.unread
+as_unread : (kind : Option PortKind) (f : Flow) (n : CallNumber) (carried : List ℕ) (h : Halves) → (take_as kind f n carried h).unread ≡ h.unread
 as_unread None f n carried h = refl
 as_unread (Some Caller) f n carried h = reply_unread (position (is_waiting_call (reversed f) n) h.calls) n carried h
 as_unread (Some Service) f n carried h = request_unread (is_open (token_with f n) h) (token_with f n) carried h
@@ -158,12 +158,12 @@ tick_reads : (b : Bool) (now : ℕ) (x : Node) → IsReading x → IsReading (ha
 tick_reads true now x h r = h
 tick_reads false now x h r = end_reads now (happens now Tick x) r
 
-arrive_reads : (c : Bool) (o : Option Arrived) (now link : ℕ) (datagram : List ℕ) (waited : ℕ) (x : Node) → IsReading x → (o ≡ None → IsReading (happens now (arrive_event link datagram waited) x)) → IsReading (cond {A = Arrived × Node} c (arrived.Spent, x) (or_counted o x (arrived.Done, turn now (arrive_event link datagram waited) x))).1
+arrive_reads : (c : Bool) (o : Option Received) (now link : ℕ) (datagram : List ℕ) (waited : ℕ) (x : Node) → IsReading x → (o ≡ None → IsReading (happens now (arrive_event link datagram waited) x)) → IsReading (cond {A = Received × Node} c (arrived.Spent, x) (or_counted o x (arrived.Done, turn now (arrive_event link datagram waited) x))).1
 arrive_reads true o now link datagram waited x h r = h
 arrive_reads false (Some a) now link datagram waited x h r = record { unread = h.unread; waiting = h.waiting }
 arrive_reads false None now link datagram waited x h r = end_reads now (happens now (arrive_event link datagram waited) x) (r refl)
 
-kind_reads : (port : ℕ) (o : Option Kind) (kind : Kind) (x : Node) → IsReading x → IsReading (with_halves (with_port port o kind) x)
+kind_reads : (port : ℕ) (o : Option PortKind) (kind : PortKind) (x : Node) → IsReading x → IsReading (with_halves (with_port port o kind) x)
 kind_reads port None kind x h = record { unread = h.unread; waiting = h.waiting }
 kind_reads port (Some has) kind x h = h
 
@@ -171,7 +171,7 @@ raise_reads : (b : Bool) (life : ℕ) (x : Node) → IsReading x → IsReading (
 raise_reads true life x h = h
 raise_reads false life x h = record { unread = h.unread; waiting = h.waiting }
 
-next_unread : (calls : List Call) (h : Halves) → (next_call calls h).1.unread ≡ h.unread
+next_unread : (calls : List OpenCall) (h : Halves) → (next_call calls h).1.unread ≡ h.unread
 next_unread [] h = refl
 next_unread (call ∷ calls) h = refl
 
@@ -271,4 +271,4 @@ module _ (setup : Setup) (Good : Network → Type 0) (law : IsLawful setup Good)
       (one.0, turns_read f turns _ (and_then setup Good law past (made_in setup Good law f t s)) (services_after setup t s) next first.on one.1 first.begun first.waits keeps.1)
 
   pub all_read : (most : ℕ → Most) (life : ℕ → ℕ) → Good (new_network setup) → AreOn setup Good law (new_services setup most life) → IsOfEach IsReading (new_services setup most life) → (f : Flow) (turns : List Turn) → premise.KeepsTurns setup turns (new_services setup most life) → KeepsTurns setup turns (new_services setup most life)
-  all_read most life new on reading f turns keeps = turns_read f turns None (λ g m. 0) (new_services setup most life) new on reading (inl refl) (All-nil (λ (c : Call). c.waits ≡ true → 0 < 0)) keeps
+  all_read most life new on reading f turns keeps = turns_read f turns None (λ g m. 0) (new_services setup most life) new on reading (inl refl) (All-nil (λ (c : OpenCall). c.waits ≡ true → 0 < 0)) keeps

@@ -8,7 +8,7 @@ use Rattle.dt_world_model.specs.Tables.{same_flow}
 use Rattle.dt_calls_model.specs.Messages.{Piece, message_of, reversed}
 use Rattle.dt_endpoint.specs.Calls.{arrive_event}
 use Rattle.dt_endpoint.specs.Endpoints.{after_event, moment_of}
-use Rattle.dt_service_model.specs.declared.calls.Call.{Call}
+use Rattle.dt_service_model.specs.declared.calls.OpenCall.{OpenCall}
 use Rattle.dt_service_model.specs.declared.calls.Cause.TheVariants as cause
 use Rattle.dt_service_model.specs.declared.happenings.Happening.{Happening}
 use Rattle.dt_service_model.specs.declared.happenings.Happening.TheVariants.{Answered, Request, Unsure}
@@ -79,7 +79,7 @@ pub record EndsAt (deed : Deed) (x y : Node) : Type 0 where
   pub is : y ≡ with_halves (judge (moment_of (moment_told deed) judges.endpoint)) judges
 
 -- THE OCTETS OF A FLOW WITHOUT A FATE, in their order, each by the number of its call
-abbrev pub owners : Flow → List Call → List CallNumber
+abbrev pub owners : Flow → List OpenCall → List CallNumber
 owners f [] = []
 owners f (call ∷ calls) = if same_flow call.flow f then replicate call.left call.number ++ owners f calls else owners f calls
 
@@ -102,7 +102,7 @@ pub record WasGivenUp (deed : Deed) (x y : Node) (number : CallNumber) : Type 0 
 
 -- PATIENCE IS OVER: the call waits still, and its deadline has come
 pub record IsOver (now : ℕ) (x : Node) (number : CallNumber) : Type 0 where
-  pub call : Call
+  pub call : OpenCall
   pub there : Contains x.halves.calls call
   pub waits : call.waits ≡ true
   pub number_is : call.number ≡ number
@@ -118,7 +118,7 @@ HasCause deed x y (Unsure number cause.Closed) = (x.halves.closed ≡ false) × 
 
 -- a call of a number ended before calls were judged, or the turn tells it unsure as an octet of its request was given up
 pub record EndsInTurn (judges : Node) (number : CallNumber) (told : List Happening) : Type 0 where
-  pub call : Call
+  pub call : OpenCall
   pub there : Contains judges.halves.calls call
   pub number_is : call.number ≡ number
   pub tells : call.waits ≡ true → Contains told (Unsure number cause.GivenUp)
@@ -138,5 +138,5 @@ TellCauses setup (Passes by ∷ turns) s = TellCauses setup turns (services_afte
 TellCauses setup (Does n deed ∷ turns) s = TellsAt setup n deed (node_at n s) × TellCauses setup turns (services_after setup (Does n deed) s)
 
 -- A CALL THAT WAITS has patience: its deadline is later than each moment that its node was told of in an event
-abbrev pub IsPatient : (latest : ℕ) → Call → Type 0
+abbrev pub IsPatient : (latest : ℕ) → OpenCall → Type 0
 IsPatient latest call = call.waits ≡ true → latest < call.deadline

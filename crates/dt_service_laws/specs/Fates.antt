@@ -2,7 +2,7 @@
 use Rattle.std.specs.Prelude.{ℕ, drop, List, [], length, if◌then◌else◌}
 use Rattle.dt_world_model.specs.Setup.{Setup}
 use Rattle.dt_world_model.specs.WorldStep.{first_refusal}
-use Rattle.dt_service_model.specs.declared.calls.Call.{Call}
+use Rattle.dt_service_model.specs.declared.calls.OpenCall.{OpenCall}
 use Rattle.dt_service_model.specs.declared.happenings.Happening.{Happening}
 use Rattle.dt_service_model.specs.Asked.{call, call_refusals, next_number}
 use Rattle.dt_service_model.specs.Ends.{told_by}
@@ -51,11 +51,11 @@ abbrev pub told_at : ℕ → Setup → List Turn → Services → List Happening
 told_at c setup turns s = in_turns (at_the c (told_in setup)) setup turns s
 
 -- the calls of which some may wait. At a node that is closed none does: it has told the end of each
-abbrev pub still_in : Halves → List Call
+abbrev pub still_in : Halves → List OpenCall
 still_in h = if h.closed then [] else h.calls
 
 -- THE CALLS THAT NOBODY IS TOLD OF: their program died, and its node opened again
-abbrev pub lost_by : Deed → Node → List Call
+abbrev pub lost_by : Deed → Node → List OpenCall
 lost_by (OpensAgain again routes most life) x = still_in x.halves
 lost_by (GivesKind port kind) x = []
 lost_by (MakesCall now f payload patience) x = []
@@ -69,5 +69,5 @@ lost_by PullsFrame x = []
 lost_by Closes x = []
 lost_by (FindsNoMemory deed after) x = []
 
-abbrev pub lost_at : ℕ → Setup → List Turn → Services → List Call
+abbrev pub lost_at : ℕ → Setup → List Turn → Services → List OpenCall
 lost_at c setup turns s = in_turns (at_the c (λ n. lost_by)) setup turns s

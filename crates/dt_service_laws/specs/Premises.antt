@@ -3,12 +3,12 @@ use Rattle.std.specs.Prelude.{ℕ, ◌^◌, ◌<◌, ◌≡◌, ◌≢◌, List,
 use Rattle.dt_units.specs.declared.endpoints.Flow.{Flow}
 use Rattle.dt_units.specs.Flows.{IsFlow}
 use Rattle.dt_world_model.specs.Setup.{Setup}
-use Rattle.dt_endpoint.specs.declared.answers.Arrived.TheVariants as arrived
+use Rattle.dt_endpoint.specs.declared.answers.Received.TheVariants as arrived
 use Rattle.dt_network.specs.Duties.{KeepsCall, KeepsTime}
 use Rattle.dt_network.specs.Network.{Network}
 use Rattle.dt_network.specs.Steps.{CallArrive, OpenAgain}
-use Rattle.dt_service_model.specs.declared.ports.Kind.{Kind}
-use Rattle.dt_service_model.specs.declared.ports.Kind.TheVariants.{Caller, Service}
+use Rattle.dt_service_model.specs.declared.ports.PortKind.{PortKind}
+use Rattle.dt_service_model.specs.declared.ports.PortKind.TheVariants.{Caller, Service}
 use Rattle.dt_service_model.specs.Stopping.{ArriveStops, CallStops, Closed, ForgetStops, ReplyStops, TickStops}
 use Rattle.dt_service_model.specs.Turns.{Node}
 use Rattle.dt_service_laws.specs.Services.{Arrives, Closes, Deed, Does, FindsNoMemory, Forgets, GivesKind, GivesReply, MakesCall, OpensAgain, Passes, PullsFrame, Raises, Services, TakesHappening, Ticks, Turn, node_at, services_after}
@@ -59,7 +59,7 @@ KeepsTurns setup [] s = Unit {0}
 KeepsTurns setup (t ∷ turns) s = KeepsTurn setup t s × KeepsTurns setup turns (services_after setup t s)
 
 -- KINDS AGREE: in each life of a node a port has the kind that is named for it, if it has one
-abbrev pub KeepsKind : (kinds : (node port : ℕ) → Kind) → (node : ℕ) → Deed → Type 0
+abbrev pub KeepsKind : (kinds : (node port : ℕ) → PortKind) → (node : ℕ) → Deed → Type 0
 KeepsKind kinds n (GivesKind port kind) = kind ≡ kinds n port
 KeepsKind kinds n (MakesCall now f payload patience) = Unit {0}
 KeepsKind kinds n (GivesReply now token payload) = Unit {0}
@@ -73,13 +73,13 @@ KeepsKind kinds n Closes = Unit {0}
 KeepsKind kinds n (OpensAgain again routes most life) = Unit {0}
 KeepsKind kinds n (FindsNoMemory deed after) = Unit {0}
 
-abbrev pub KeepsKinds : (kinds : (node port : ℕ) → Kind) → List Turn → Type 0
+abbrev pub KeepsKinds : (kinds : (node port : ℕ) → PortKind) → List Turn → Type 0
 KeepsKinds kinds [] = Unit {0}
 KeepsKinds kinds (Passes by ∷ turns) = KeepsKinds kinds turns
 KeepsKinds kinds (Does n deed ∷ turns) = KeepsKind kinds n deed × KeepsKinds kinds turns
 
 -- a flow on which a caller calls a service
-pub record IsServed (kinds : (node port : ℕ) → Kind) (f : Flow) : Type 0 where
+pub record IsServed (kinds : (node port : ℕ) → PortKind) (f : Flow) : Type 0 where
   pub caller : kinds f.from.0 f.from_port ≡ Caller
   pub service : kinds f.to.0 f.to_port ≡ Service
 

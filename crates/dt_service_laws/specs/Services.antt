@@ -9,7 +9,7 @@ use Rattle.dt_network.specs.Network.{Network, new_network, opened_with}
 use Rattle.dt_network.specs.Steps.{Calls, Pass, PullFrame, network_after}
 use Rattle.dt_service_model.specs.declared.happenings.Happening.{Happening}
 use Rattle.dt_service_model.specs.declared.names.Token.{Token}
-use Rattle.dt_service_model.specs.declared.ports.Kind.{Kind}
+use Rattle.dt_service_model.specs.declared.ports.PortKind.{PortKind}
 use Rattle.dt_service_model.specs.declared.ports.Most.{Most}
 use Rattle.dt_service_model.specs.Asked.{arrive, call, forget, raised, reply, tick, with_kind}
 use Rattle.dt_service_model.specs.Ends.{close, next}
@@ -18,7 +18,7 @@ use Rattle.dt_service_model.specs.Turns.{Node, with_halves}
 
 -- WHAT A PROGRAM ASKS of its node, and that it dies and its node opens again: with the moment of that, its routes, its limits and its life. What is asked may find no memory: then it is told what its node is after that
 pub data Deed : Type 0 where
-  GivesKind : (port : ℕ) → (kind : Kind) → Deed
+  GivesKind : (port : ℕ) → (kind : PortKind) → Deed
   MakesCall : (now : ℕ) → (flow : Flow) → (payload : List ℕ) → (patience : ℕ) → Deed
   GivesReply : (now : ℕ) → (token : Token) → (payload : List ℕ) → Deed
   Forgets : (now : ℕ) → (token : Token) → Deed

@@ -5,8 +5,8 @@ use Rattle.dt_world_model.specs.Tables.{look}
 use Rattle.dt_world_model.specs.Worked.{main_flow, standard}
 use Rattle.dt_endpoint.specs.Calls.{arrive_event}
 use Rattle.dt_network.specs.Network.{opened_at}
-use Rattle.dt_service_model.specs.declared.ports.Kind.{Kind}
-use Rattle.dt_service_model.specs.declared.ports.Kind.TheVariants.{Caller, Service}
+use Rattle.dt_service_model.specs.declared.ports.PortKind.{PortKind}
+use Rattle.dt_service_model.specs.declared.ports.PortKind.TheVariants.{Caller, Service}
 use Rattle.dt_service_model.specs.Asked.{message_event}
 use Rattle.dt_service_model.specs.Ends.{close}
 use Rattle.dt_service_model.specs.Names.{number_with, token_with}
@@ -29,7 +29,7 @@ two_nodes =
 abbrev pub first_life : ℕ → ℕ
 first_life n = 5
 
-abbrev pub kind_at : (node port : ℕ) → Kind
+abbrev pub kind_at : (node port : ℕ) → PortKind
 kind_at (suc zero) port = Caller
 kind_at n port = Service
 

@@ -4,7 +4,7 @@ ghost use Rattle.dt_units.specs.declared.endpoints.Flow.{Flow};
 ghost use Rattle.dt_units.specs.Limits.{IsWithinLimits};
 ghost use Rattle.dt_world_model.specs.Setup.{Setup};
 ghost use Rattle.dt_service_model.specs.declared.names.CallNumber.{CallNumber};
-ghost use Rattle.dt_service_model.specs.declared.ports.Kind.{Kind};
+ghost use Rattle.dt_service_model.specs.declared.ports.PortKind.{PortKind};
 ghost use Rattle.dt_service_model.specs.declared.ports.Most.{Most};
 ghost use Rattle.dt_service_model.specs.Accounts.{ends_in};
 ghost use Rattle.dt_service_laws.specs.Causes.{TellCauses};
@@ -47,7 +47,7 @@ pub fn calls_are_unsure_for_their_causes()
 /// has what its service gave to it; unsure, it has one of three causes; and of a call that was declined or
 /// refused nothing was taken.
 pub fn calls_end_once_for_their_causes()
-    ensures { (setup : Setup) (most : ℕ → Most) (life : ℕ → ℕ) (kinds : ℕ → ℕ → Kind) (turns : List Turn) (f : Flow) → IsWithinLimits setup.params → ((n : ℕ) → IsLife (life n)) → KeepsKinds kinds turns → IsServed kinds f → KeepsTurns setup turns (new_services setup most life) → Differ (life f.from.0 ∷ lives_at f.from.0 setup turns (new_services setup most life)) → (name : CallNumber) → HasOneFate setup f turns (new_services setup most life) name }
+    ensures { (setup : Setup) (most : ℕ → Most) (life : ℕ → ℕ) (kinds : ℕ → ℕ → PortKind) (turns : List Turn) (f : Flow) → IsWithinLimits setup.params → ((n : ℕ) → IsLife (life n)) → KeepsKinds kinds turns → IsServed kinds f → KeepsTurns setup turns (new_services setup most life) → Differ (life f.from.0 ∷ lives_at f.from.0 setup turns (new_services setup most life)) → (name : CallNumber) → HasOneFate setup f turns (new_services setup most life) name }
 {
     calls_end_once();
     calls_are_unsure_for_their_causes();

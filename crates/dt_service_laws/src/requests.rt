@@ -4,7 +4,7 @@ ghost use Rattle.dt_units.specs.declared.endpoints.Flow.{Flow};
 ghost use Rattle.dt_units.specs.Limits.{IsWithinLimits};
 ghost use Rattle.dt_world_model.specs.Setup.{Setup};
 ghost use Rattle.dt_service_model.specs.declared.names.CallNumber.{CallNumber};
-ghost use Rattle.dt_service_model.specs.declared.ports.Kind.{Kind};
+ghost use Rattle.dt_service_model.specs.declared.ports.PortKind.{PortKind};
 ghost use Rattle.dt_service_model.specs.declared.ports.Most.{Most};
 ghost use Rattle.dt_service_laws.specs.Histories.{Message, answers_at, calls_on, count_of, lives_at, replies_on, requests_on};
 ghost use Rattle.dt_service_laws.specs.Orders.{AreSomeOf};
@@ -19,7 +19,7 @@ use dt_network::{network_is_a_world, what_is_read_is_what_was_sent};
 /// that are made on it, whole and side by side, and nothing else. So of a call that is declined or refused
 /// no octet is taken. Only of one that found no memory it isn't known whether its message was.
 pub fn services_take_calls_that_are_made_and_nothing_else()
-    ensures { (setup : Setup) (most : ℕ → Most) (life : ℕ → ℕ) (kinds : ℕ → ℕ → Kind) (turns : List Turn) (f : Flow) → IsWithinLimits setup.params → ((n : ℕ) → IsLife (life n)) → KeepsKinds kinds turns → IsServed kinds f → KeepsTurns setup turns (new_services setup most life) → TakesCallsAlone setup f turns (new_services setup most life) }
+    ensures { (setup : Setup) (most : ℕ → Most) (life : ℕ → ℕ) (kinds : ℕ → ℕ → PortKind) (turns : List Turn) (f : Flow) → IsWithinLimits setup.params → ((n : ℕ) → IsLife (life n)) → KeepsKinds kinds turns → IsServed kinds f → KeepsTurns setup turns (new_services setup most life) → TakesCallsAlone setup f turns (new_services setup most life) }
 {
     network_is_a_world();
     what_is_read_is_what_was_sent();
@@ -31,7 +31,7 @@ pub fn services_take_calls_that_are_made_and_nothing_else()
 /// and in the order of their making, over all lives of both ends. So a call that was handed out settles
 /// every earlier one of its flow: that was handed out before it, or never will be.
 pub fn requests_are_calls_once_and_in_their_order()
-    ensures { (setup : Setup) (most : ℕ → Most) (life : ℕ → ℕ) (kinds : ℕ → ℕ → Kind) (turns : List Turn) (f : Flow) → IsWithinLimits setup.params → ((n : ℕ) → IsLife (life n)) → KeepsKinds kinds turns → IsServed kinds f → KeepsTurns setup turns (new_services setup most life) → AreSomeOf (requests_on f setup turns (new_services setup most life)) (calls_on f setup turns (new_services setup most life)) }
+    ensures { (setup : Setup) (most : ℕ → Most) (life : ℕ → ℕ) (kinds : ℕ → ℕ → PortKind) (turns : List Turn) (f : Flow) → IsWithinLimits setup.params → ((n : ℕ) → IsLife (life n)) → KeepsKinds kinds turns → IsServed kinds f → KeepsTurns setup turns (new_services setup most life) → AreSomeOf (requests_on f setup turns (new_services setup most life)) (calls_on f setup turns (new_services setup most life)) }
 {
     network_is_a_world();
     what_is_read_is_what_was_sent();
@@ -41,9 +41,9 @@ pub fn requests_are_calls_once_and_in_their_order()
 /// A name is handed out no more often than it was called, and replied to no more often than it was handed
 /// out: so each at most once, over all lives of both ends.
 pub fn names_are_called_handed_out_and_replied_to_once()
-    ensures called { (setup : Setup) (most : ℕ → Most) (life : ℕ → ℕ) (kinds : ℕ → ℕ → Kind) (turns : List Turn) (f : Flow) → IsWithinLimits setup.params → ((n : ℕ) → IsLife (life n)) → KeepsKinds kinds turns → IsServed kinds f → KeepsTurns setup turns (new_services setup most life) → Differ (life f.from.0 ∷ lives_at f.from.0 setup turns (new_services setup most life)) → (name : CallNumber) → count_of name (calls_on f setup turns (new_services setup most life)) ≤ 1 }
-    ensures handed_out { (setup : Setup) (most : ℕ → Most) (life : ℕ → ℕ) (kinds : ℕ → ℕ → Kind) (turns : List Turn) (f : Flow) → IsWithinLimits setup.params → ((n : ℕ) → IsLife (life n)) → KeepsKinds kinds turns → IsServed kinds f → KeepsTurns setup turns (new_services setup most life) → (name : CallNumber) → count_of name (requests_on f setup turns (new_services setup most life)) ≤ count_of name (calls_on f setup turns (new_services setup most life)) }
-    ensures replied_to { (setup : Setup) (most : ℕ → Most) (life : ℕ → ℕ) (kinds : ℕ → ℕ → Kind) (turns : List Turn) (f : Flow) → IsWithinLimits setup.params → ((n : ℕ) → IsLife (life n)) → KeepsKinds kinds turns → IsServed kinds f → KeepsTurns setup turns (new_services setup most life) → (name : CallNumber) → count_of name (replies_on f setup turns (new_services setup most life)) ≤ count_of name (requests_on f setup turns (new_services setup most life)) }
+    ensures called { (setup : Setup) (most : ℕ → Most) (life : ℕ → ℕ) (kinds : ℕ → ℕ → PortKind) (turns : List Turn) (f : Flow) → IsWithinLimits setup.params → ((n : ℕ) → IsLife (life n)) → KeepsKinds kinds turns → IsServed kinds f → KeepsTurns setup turns (new_services setup most life) → Differ (life f.from.0 ∷ lives_at f.from.0 setup turns (new_services setup most life)) → (name : CallNumber) → count_of name (calls_on f setup turns (new_services setup most life)) ≤ 1 }
+    ensures handed_out { (setup : Setup) (most : ℕ → Most) (life : ℕ → ℕ) (kinds : ℕ → ℕ → PortKind) (turns : List Turn) (f : Flow) → IsWithinLimits setup.params → ((n : ℕ) → IsLife (life n)) → KeepsKinds kinds turns → IsServed kinds f → KeepsTurns setup turns (new_services setup most life) → (name : CallNumber) → count_of name (requests_on f setup turns (new_services setup most life)) ≤ count_of name (calls_on f setup turns (new_services setup most life)) }
+    ensures replied_to { (setup : Setup) (most : ℕ → Most) (life : ℕ → ℕ) (kinds : ℕ → ℕ → PortKind) (turns : List Turn) (f : Flow) → IsWithinLimits setup.params → ((n : ℕ) → IsLife (life n)) → KeepsKinds kinds turns → IsServed kinds f → KeepsTurns setup turns (new_services setup most life) → (name : CallNumber) → count_of name (replies_on f setup turns (new_services setup most life)) ≤ count_of name (requests_on f setup turns (new_services setup most life)) }
 {
     network_is_a_world();
     what_is_read_is_what_was_sent();
@@ -53,7 +53,7 @@ pub fn names_are_called_handed_out_and_replied_to_once()
 /// answer that is handed out there with the number of a call of a flow is a reply that its service gave to
 /// the request of that flow and number, with the same octets. No other was given, as a name stands once.
 pub fn answers_are_what_the_service_gave()
-    ensures { (setup : Setup) (most : ℕ → Most) (life : ℕ → ℕ) (kinds : ℕ → ℕ → Kind) (turns : List Turn) (f : Flow) → IsWithinLimits setup.params → ((n : ℕ) → IsLife (life n)) → KeepsKinds kinds turns → IsServed kinds f → KeepsTurns setup turns (new_services setup most life) → Differ (life f.from.0 ∷ lives_at f.from.0 setup turns (new_services setup most life)) → (answer : Message) → Contains (answers_at f.from.0 setup turns (new_services setup most life)) answer → 0 < count_of answer.number (calls_on f setup turns (new_services setup most life)) → Contains (replies_on f setup turns (new_services setup most life)) answer }
+    ensures { (setup : Setup) (most : ℕ → Most) (life : ℕ → ℕ) (kinds : ℕ → ℕ → PortKind) (turns : List Turn) (f : Flow) → IsWithinLimits setup.params → ((n : ℕ) → IsLife (life n)) → KeepsKinds kinds turns → IsServed kinds f → KeepsTurns setup turns (new_services setup most life) → Differ (life f.from.0 ∷ lives_at f.from.0 setup turns (new_services setup most life)) → (answer : Message) → Contains (answers_at f.from.0 setup turns (new_services setup most life)) answer → 0 < count_of answer.number (calls_on f setup turns (new_services setup most life)) → Contains (replies_on f setup turns (new_services setup most life)) answer }
 {
     network_is_a_world();
     what_is_read_is_what_was_sent();

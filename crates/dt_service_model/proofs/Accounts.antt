@@ -5,7 +5,7 @@ use Rattle.std.specs.List.{cons_option, filter_map, list_any}
 use Rattle.dt_units.specs.declared.endpoints.Flow.{Flow}
 use Rattle.dt_world_model.specs.Host.{one_if}
 use Rattle.dt_world_model.specs.Tables.{same_flow}
-use Rattle.dt_service_model.specs.declared.calls.Call.{Call}
+use Rattle.dt_service_model.specs.declared.calls.OpenCall.{OpenCall}
 use Rattle.dt_service_model.specs.declared.calls.Cause.{Cause}
 use Rattle.dt_service_model.specs.declared.calls.Cause.TheVariants as cause
 use Rattle.dt_service_model.specs.declared.happenings.Happening.{Happening}
@@ -21,11 +21,11 @@ ends_append n [] ys = omega arith
 ends_append n (x ∷ xs) ys = let e = ends_append n xs ys in omega (arith, e)
 
 -- WHAT IS HEARD changes no call's waiting
-fates_if : (n : CallNumber) (b : Bool) (one other : List Call) (k : ℕ) → waits_in n one ≡ k → waits_in n other ≡ k → waits_in n (cond b one other) ≡ k
+fates_if : (n : CallNumber) (b : Bool) (one other : List OpenCall) (k : ℕ) → waits_in n one ≡ k → waits_in n other ≡ k → waits_in n (cond b one other) ≡ k
 fates_if n true one other k h g = h
 fates_if n false one other k h g = g
 
-fates_wait : (n : CallNumber) (given_up : Bool) (f : Flow) (count : ℕ) (calls : List Call) → waits_in n (with_fates given_up f count calls) ≡ waits_in n calls
+fates_wait : (n : CallNumber) (given_up : Bool) (f : Flow) (count : ℕ) (calls : List OpenCall) → waits_in n (with_fates given_up f count calls) ≡ waits_in n calls
 fates_wait n given_up f count [] = refl
 fates_wait n given_up f count (call ∷ calls) =
     fates_if n (same_flow call.flow f) (with_fate given_up count call ∷ with_fates given_up f (count - call.left) calls) (call ∷ with_fates given_up f count calls) (waits_in n (call ∷ calls))
@@ -33,13 +33,13 @@ fates_wait n given_up f count (call ∷ calls) =
     (ap (λ (k : ℕ). one_if (waits_with n call) + k) (fates_wait n given_up f count calls))
 
 -- A CALL IS JUDGED: it waits on, or its end is reported
-kept_if : (n : CallNumber) (call : Call) (w l : Bool) (calls : List Call) (k : ℕ) → waits_in n calls ≡ k
+kept_if : (n : CallNumber) (call : OpenCall) (w l : Bool) (calls : List OpenCall) (k : ℕ) → waits_in n calls ≡ k
     → waits_in n (cond (w || l) (record call { waits = w } ∷ calls) calls) ≡ one_if (w && same_number call.number n) + k
 kept_if n call true l calls k e = ap (λ (m : ℕ). one_if (same_number call.number n) + m) e
 kept_if n call false true calls k e = ap (λ (m : ℕ). 0 + m) e
 kept_if n call false false calls k e = omega (arith, e)
 
-kept_waits : (n : CallNumber) (calls : List Call) → waits_in n (filter is_kept calls) ≡ waits_in n calls
+kept_waits : (n : CallNumber) (calls : List OpenCall) → waits_in n (filter is_kept calls) ≡ waits_in n calls
 kept_waits n [] = refl
 kept_waits n (call ∷ calls) = kept_if n call call.waits (nat_lt 0 call.left) (filter is_kept calls) (waits_in n calls) (kept_waits n calls)
 
@@ -55,13 +55,13 @@ counted_when same true false true = refl
 counted_when same true false false = refl
 counted_when same false d l = refl
 
-judged_with : (n : CallNumber) (call : Call) (o : Option Cause) (calls : List Call) (told : List Happening) (rest : ℕ) → waits_in n calls + ends_in n told ≡ rest
+judged_with : (n : CallNumber) (call : OpenCall) (o : Option Cause) (calls : List OpenCall) (told : List Happening) (rest : ℕ) → waits_in n calls + ends_in n told ≡ rest
     → waits_in n (judged_as call o ∷ calls) + ends_in n (cons_option (unsure_by call o) told) ≡ counted_as (same_number call.number n) call.waits o + rest
 unfolding counted_as
 judged_with n call None calls told rest e = omega (arith, e)
 judged_with n call (Some c) calls told rest e = omega (arith, e)
 
-judged_account : (n : CallNumber) (now : ℕ) (calls : List Call) → waits_in n (map (judged_call now) calls) + ends_in n (filter_map (unsure_of now) calls) ≡ waits_in n calls
+judged_account : (n : CallNumber) (now : ℕ) (calls : List OpenCall) → waits_in n (map (judged_call now) calls) + ends_in n (filter_map (unsure_of now) calls) ≡ waits_in n calls
 judged_account n now [] = refl
 judged_account n now (call ∷ calls) =
     judged_with n call (cause_of now call) (map (judged_call now) calls) (filter_map (unsure_of now) calls) (waits_in n calls) (judged_account n now calls)
@@ -97,19 +97,19 @@ sure_when true false true = refl
 sure_when true false false = refl
 sure_when false d l = refl
 
-cause_as : (now : ℕ) (call : Call) (o : Option Cause) → cause_of now (judged_as call o) ≡ cond (waits_as call.waits o && false) (Some cause.GivenUp) (cond (waits_as call.waits o && nat_le call.deadline now) (Some cause.Patience) None)
+cause_as : (now : ℕ) (call : OpenCall) (o : Option Cause) → cause_of now (judged_as call o) ≡ cond (waits_as call.waits o && false) (Some cause.GivenUp) (cond (waits_as call.waits o && nat_le call.deadline now) (Some cause.Patience) None)
 unfolding waits_as
 cause_as now call None = refl
 cause_as now call (Some c) = refl
 
-sure_one : (now : ℕ) (call : Call) → cause_of now (judged_call now call) ≡ None
+sure_one : (now : ℕ) (call : OpenCall) → cause_of now (judged_call now call) ≡ None
 sure_one now call = cause_as now call (cause_of now call) ∙ sure_when call.waits call.doubted (nat_le call.deadline now)
 
-sure_if : (now : ℕ) (b : Bool) (call : Call) (calls : List Call) → cause_of now call ≡ None → list_any (has_cause now) calls ≡ false → list_any (has_cause now) (cond b (call ∷ calls) calls) ≡ false
+sure_if : (now : ℕ) (b : Bool) (call : OpenCall) (calls : List OpenCall) → cause_of now call ≡ None → list_any (has_cause now) calls ≡ false → list_any (has_cause now) (cond b (call ∷ calls) calls) ≡ false
 sure_if now true call calls h e = ap (λ (o : Option Cause). is_some o || list_any (has_cause now) calls) h ∙ e
 sure_if now false call calls h e = e
 
-sure_all : (now : ℕ) (calls : List Call) → list_any (has_cause now) (filter is_kept (map (judged_call now) calls)) ≡ false
+sure_all : (now : ℕ) (calls : List OpenCall) → list_any (has_cause now) (filter is_kept (map (judged_call now) calls)) ≡ false
 sure_all now [] = refl
 sure_all now (call ∷ calls) = sure_if now (is_kept (judged_call now call)) (judged_call now call) (filter is_kept (map (judged_call now) calls)) (sure_one now call) (sure_all now calls)
 

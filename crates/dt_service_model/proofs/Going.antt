@@ -10,7 +10,7 @@ use Rattle.dt_calls_model.specs.Messages.{message_of, reversed}
 use Rattle.dt_endpoint.specs.Acts.{OutFrameValue, acts_of, frames_in}
 use Rattle.dt_endpoint.specs.Calls.{arrive_event, send_answer}
 use Rattle.dt_endpoint.specs.Endpoints.{Breaks, EndpointValue, after_event, moment_of, script_of}
-use Rattle.dt_service_model.specs.declared.calls.Call.{Call}
+use Rattle.dt_service_model.specs.declared.calls.OpenCall.{OpenCall}
 use Rattle.dt_service_model.specs.declared.happenings.Happening.{Happening}
 use Rattle.dt_service_model.specs.declared.names.CallNumber.{CallNumber}
 use Rattle.dt_service_model.specs.declared.names.Token.{Token}
@@ -164,11 +164,11 @@ pub arrive_part : (now link : ℕ) (octets : List ℕ) (waited : ℕ) (n m : Nod
 arrive_part now link octets waited n m stops = quiet_turn now (arrive_event link octets waited) (λ h. h) n m halves_same stops.turn
 
 -- THE CLOSE keeps the account of each number
-waits_kept : (x : CallNumber) (calls : List Call) → waits_in x (filter (λ (call : Call). call.waits) calls) ≡ waits_in x calls
+waits_kept : (x : CallNumber) (calls : List OpenCall) → waits_in x (filter (λ (call : OpenCall). call.waits) calls) ≡ waits_in x calls
 waits_kept x [] = refl
 waits_kept x (call ∷ calls) = by_waits call.waits refl (waits_kept x calls)
   where
-    by_waits : (b : Bool) → call.waits ≡ b → waits_in x (filter (λ (c : Call). c.waits) calls) ≡ waits_in x calls → waits_in x (cond b (call ∷ filter (λ (c : Call). c.waits) calls) (filter (λ (c : Call). c.waits) calls)) ≡ waits_in x (call ∷ calls)
+    by_waits : (b : Bool) → call.waits ≡ b → waits_in x (filter (λ (c : OpenCall). c.waits) calls) ≡ waits_in x calls → waits_in x (cond b (call ∷ filter (λ (c : OpenCall). c.waits) calls) (filter (λ (c : OpenCall). c.waits) calls)) ≡ waits_in x (call ∷ calls)
     by_waits true is rest = omega (arith, rest)
     by_waits false is rest = let none : one_if (waits_with x call) ≡ 0 = ap (λ (b : Bool). one_if (b && same_number call.number x)) is in omega (arith, rest, none)
 

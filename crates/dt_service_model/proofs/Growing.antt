@@ -13,8 +13,8 @@ use Rattle.dt_service_model.specs.declared.happenings.Happening.{Happening}
 use Rattle.dt_service_model.specs.declared.happenings.Happening.TheVariants.{Answered, Request, Unsure}
 use Rattle.dt_service_model.specs.declared.names.CallNumber.{CallNumber}
 use Rattle.dt_service_model.specs.declared.names.Token.{Token}
-use Rattle.dt_service_model.specs.declared.ports.Kind.{Kind}
-use Rattle.dt_service_model.specs.declared.ports.Kind.TheVariants.{Caller, Service}
+use Rattle.dt_service_model.specs.declared.ports.PortKind.{PortKind}
+use Rattle.dt_service_model.specs.declared.ports.PortKind.TheVariants.{Caller, Service}
 use Rattle.dt_service_model.specs.Ends.{judge, unsure_of}
 use Rattle.dt_service_model.specs.Halves.{Halves, counted_up, kind_in, most_octets}
 use Rattle.dt_service_model.specs.Hearing.{Accepts, GivesUp, Heard, NoMatter, Settles, hear, hear_as, heard, with_flow}
@@ -88,7 +88,7 @@ request_tells : (b : Bool) (token : Token) (payload : List ℕ) (h : Halves)
 request_tells true token payload h = tells_same h _ refl refl
 request_tells false token payload h = tells_one h _ (Request token payload) refl refl tt
 
-as_tells : (kind : Option Kind) (f : Flow) (n : CallNumber) (carried : List ℕ) (h : Halves) → Tells h (take_as kind f n carried h)
+as_tells : (kind : Option PortKind) (f : Flow) (n : CallNumber) (carried : List ℕ) (h : Halves) → Tells h (take_as kind f n carried h)
 as_tells None f n carried h = tells_same h h refl refl
 as_tells (Some Caller) f n carried h = reply_tells (position (is_waiting_call (reversed f) n) h.calls) n carried h
 as_tells (Some Service) f n carried h = request_tells (is_open (token_with f n) h) (token_with f n) carried h

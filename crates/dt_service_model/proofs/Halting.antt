@@ -3,7 +3,7 @@ use Rattle.std.proofs.Common.{ℕ, ◌≡◌, List, sym, subst}
 use Rattle.std.specs.Prelude.{fold}
 use Rattle.dt_units.specs.declared.endpoints.Flow.{Flow}
 use Rattle.dt_world_model.specs.Station.{Event, Read}
-use Rattle.dt_service_model.specs.declared.counts.Counts.{Counts}
+use Rattle.dt_service_model.specs.declared.call_counts.CallCounts.{CallCounts}
 use Rattle.dt_service_model.specs.Halves.{Halves}
 use Rattle.dt_service_model.specs.Stopping.{EndStops, EventStops, ReadStops, TurnStops, at_flow, at_judging, at_piece, behind_event, in_end, in_event, in_read, not_begun, not_done, not_read}
 use Rattle.dt_service_model.specs.Turns.{Node, happens, most_read, read_flow, read_times, with_halves}
@@ -19,7 +19,7 @@ pub record IsKeptToStop (R : Node → Node → Type 0) (May : (now : ℕ) → Ev
   pub reads : (now : ℕ) (f : Flow) (x : Node) → May now (Read f most_read) x
   pub hears : (now : ℕ) (event : Event (Unit {0})) (x : Node) → May now event x → R x (happens now event x)
   pub stops : (now : ℕ) (event : Event (Unit {0})) (x st : Node) → May now event x → EventStops now event x st → R x st
-  pub lost : (begun : List (Flow × List ℕ)) (counts : Counts) (x : Node) → R x (with_halves (λ h. record h { begun = begun; counts = counts }) x)
+  pub lost : (begun : List (Flow × List ℕ)) (counts : CallCounts) (x : Node) → R x (with_halves (λ h. record h { begun = begun; counts = counts }) x)
 
 module _ (R : Node → Node → Type 0) (May : (now : ℕ) → Event (Unit {0}) → Node → Type 0) (walk : IsKeptToStop R May) where
   there : (x st y : Node) → st ≡ y → R x y → R x st

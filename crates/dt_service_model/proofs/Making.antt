@@ -11,7 +11,7 @@ use Rattle.dt_calls_model.specs.Messages.{message_of}
 use Rattle.dt_endpoint.specs.Calls.{send_answer}
 use Rattle.dt_endpoint.specs.Endpoints.{after_event, moment_of}
 use Rattle.dt_service_model.specs.declared.answers.Made.{Made}
-use Rattle.dt_service_model.specs.declared.calls.Call.{Call}
+use Rattle.dt_service_model.specs.declared.calls.OpenCall.{OpenCall}
 use Rattle.dt_service_model.specs.declared.names.CallNumber.{CallNumber}
 use Rattle.dt_service_model.specs.Names.{number_of, same_number}
 use Rattle.dt_service_model.specs.Halves.{Halves, kind_in}
@@ -21,7 +21,7 @@ use Rattle.dt_service_model.specs.Turns.{Node, happens, with_halves}
 use Rattle.dt_service_model.specs.Asked.{call, call_refusals, made_by, made_of, message_event, new_call, next_number, unless, with_call_unless}
 use Rattle.dt_service_model.proofs.Turning.{end_keeps, happens_keeps}
 
-waits_append : (n : CallNumber) (xs ys : List Call) → waits_in n (xs ++ ys) ≡ waits_in n xs + waits_in n ys
+waits_append : (n : CallNumber) (xs ys : List OpenCall) → waits_in n (xs ++ ys) ≡ waits_in n xs + waits_in n ys
 waits_append n [] ys = omega arith
 waits_append n (x ∷ xs) ys = let e = waits_append n xs ys in omega (arith, e)
 

@@ -12,12 +12,12 @@ use Rattle.dt_world_model.specs.Tables.{same_flow}
 use Rattle.dt_calls_model.specs.Messages.{Piece, carried_in, has_number, number_in, reversed}
 use Rattle.dt_messages.specs.Joining.{whole_within}
 use Rattle.dt_endpoint.specs.Endpoints.{after_event}
-use Rattle.dt_service_model.specs.declared.calls.Call.{Call}
+use Rattle.dt_service_model.specs.declared.calls.OpenCall.{OpenCall}
 use Rattle.dt_service_model.specs.declared.happenings.Happening.TheVariants.{Answered, Request}
 use Rattle.dt_service_model.specs.declared.names.CallNumber.{CallNumber}
 use Rattle.dt_service_model.specs.declared.names.Token.{Token}
-use Rattle.dt_service_model.specs.declared.ports.Kind.{Kind}
-use Rattle.dt_service_model.specs.declared.ports.Kind.TheVariants.{Caller, Service}
+use Rattle.dt_service_model.specs.declared.ports.PortKind.{PortKind}
+use Rattle.dt_service_model.specs.declared.ports.PortKind.TheVariants.{Caller, Service}
 use Rattle.dt_service_model.specs.Names.{call_number, same_number, token_with}
 use Rattle.dt_service_model.specs.Halves.{Halves, counted_up, kind_in, most_octets}
 use Rattle.dt_service_model.specs.Hearing.{hear, heard}
@@ -43,14 +43,14 @@ same_as a m n h =
     let count : a.count ≡ m.count = eqb-true _ _ r in
     ap (λ (x : ℕ). (x == n.life) && (a.count == n.count)) life ∙ ap (λ (x : ℕ). (m.life == n.life) && (x == n.count)) count
 
-waits_counts : (n m : CallNumber) (f : Flow) (call : Call) → is_waiting_call f m call ≡ true → one_if (waits_with n call) ≡ one_if (same_number m n)
+waits_counts : (n m : CallNumber) (f : Flow) (call : OpenCall) → is_waiting_call f m call ≡ true → one_if (waits_with n call) ≡ one_if (same_number m n)
 waits_counts n m f call h =
     let both = left_of (call.waits && same_number call.number m) (same_flow call.flow f) h in
     let w = left_of call.waits (same_number call.number m) both in
     let s = right_of call.waits (same_number call.number m) both in
     ap (λ (b : Bool). one_if (b && same_number call.number n)) w ∙ ap one_if (same_as call.number m n s)
 
-answered_waits : (n m : CallNumber) (f : Flow) (d : Call) (i : ℕ) (calls : List Call) → i < length calls → is_waiting_call f m (get_or calls i d) ≡ true
+answered_waits : (n m : CallNumber) (f : Flow) (d : OpenCall) (i : ℕ) (calls : List OpenCall) → i < length calls → is_waiting_call f m (get_or calls i d) ≡ true
     → waits_in n (answered_at i calls) + one_if (same_number m n) ≡ waits_in n calls
 answered_waits n m f d i [] lt h = absurd (omega arith)
 answered_waits n m f d zero (call ∷ calls) lt h = let e = waits_counts n m f call h in omega (arith, e)
@@ -59,7 +59,7 @@ answered_waits n m f d (suc i) (call ∷ calls) lt h = let e = answered_waits n 
 reply_keeps : (n m : CallNumber) (f : Flow) (answer : List ℕ) (h : Halves) (o : Option ℕ) → position (is_waiting_call f m) h.calls ≡ o → account n (take_reply_at o m answer h) ≡ account n h
 reply_keeps n m f answer h None is = refl
 reply_keeps n m f answer h (Some i) is =
-    let d : Call = record { number = m; flow = f; deadline = 0; left = 0; waits = false; doubted = false } in
+    let d : OpenCall = record { number = m; flow = f; deadline = 0; left = 0; waits = false; doubted = false } in
     let at = position-Some (is_waiting_call f m) h.calls i d is in
     let a = answered_waits n m f d i h.calls at.0 at.1 in
     let b = ends_append n h.happenings (Answered m answer ∷ []) in
@@ -70,7 +70,7 @@ request_if : (n : CallNumber) (b : Bool) (token : Token) (payload : List ℕ) (h
 request_if n true token payload h = refl
 request_if n false token payload h = let b = ends_append n h.happenings (Request token payload ∷ []) in omega (arith, b)
 
-as_keeps : (n : CallNumber) (o : Option Kind) (f : Flow) (m : CallNumber) (carried : List ℕ) (h : Halves) → account n (take_as o f m carried h) ≡ account n h
+as_keeps : (n : CallNumber) (o : Option PortKind) (f : Flow) (m : CallNumber) (carried : List ℕ) (h : Halves) → account n (take_as o f m carried h) ≡ account n h
 as_keeps n None f m carried h = refl
 as_keeps n (Some Caller) f m carried h = reply_keeps n m (reversed f) carried h (position (is_waiting_call (reversed f) m) h.calls) refl
 as_keeps n (Some Service) f m carried h = request_if n (is_open (token_with f m) h) (token_with f m) carried h

@@ -4,7 +4,7 @@ use Rattle.dt_world_model.specs.Host.{one_if}
 use Rattle.dt_world_model.specs.Tables.{total}
 use Rattle.dt_service_model.specs.declared.answers.Made.{Made}
 use Rattle.dt_service_model.specs.declared.answers.Made.TheVariants as made
-use Rattle.dt_service_model.specs.declared.calls.Call.{Call}
+use Rattle.dt_service_model.specs.declared.calls.OpenCall.{OpenCall}
 use Rattle.dt_service_model.specs.declared.happenings.Happening.{Happening}
 use Rattle.dt_service_model.specs.declared.happenings.Happening.TheVariants.{Answered, Request, Unsure}
 use Rattle.dt_service_model.specs.declared.names.CallNumber.{CallNumber}
@@ -12,7 +12,7 @@ use Rattle.dt_service_model.specs.Names.{same_number}
 use Rattle.dt_service_model.specs.Halves.{Halves}
 use Rattle.dt_service_model.specs.Ends.{cause_of}
 
-abbrev pub waits_with : CallNumber → Call → Bool
+abbrev pub waits_with : CallNumber → OpenCall → Bool
 waits_with n call = call.waits && same_number call.number n
 
 abbrev pub is_end_of : CallNumber → Happening → Bool
@@ -20,7 +20,7 @@ is_end_of n (Request token payload) = false
 is_end_of n (Answered call answer) = same_number call n
 is_end_of n (Unsure call cause) = same_number call n
 
-abbrev pub waits_in : CallNumber → List Call → ℕ
+abbrev pub waits_in : CallNumber → List OpenCall → ℕ
 waits_in n calls = total (λ call. one_if (waits_with n call)) calls
 
 abbrev pub ends_in : CallNumber → List Happening → ℕ
@@ -31,7 +31,7 @@ abbrev pub account : CallNumber → Halves → ℕ
 account n h = waits_in n h.calls + ends_in n h.happenings
 
 -- whether a call is unsure at a moment, and hasn't been told so
-abbrev pub has_cause : (now : ℕ) → Call → Bool
+abbrev pub has_cause : (now : ℕ) → OpenCall → Bool
 has_cause now call = is_some (cause_of now call)
 
 -- what the answer to a call adds to it: one where the call was made with this number

@@ -8,8 +8,8 @@ use Rattle.dt_flow_model.specs.Keeping.{octets_below}
 use Rattle.dt_world_model.specs.Station.{Event, Send, Tick}
 use Rattle.dt_world_model.specs.WorldStep.{first_refusal}
 use Rattle.dt_calls_model.specs.Messages.{message_of, reversed}
-use Rattle.dt_endpoint.specs.declared.answers.Arrived.{Arrived}
-use Rattle.dt_endpoint.specs.declared.answers.Arrived.TheVariants as arrived
+use Rattle.dt_endpoint.specs.declared.answers.Received.{Received}
+use Rattle.dt_endpoint.specs.declared.answers.Received.TheVariants as arrived
 use Rattle.dt_endpoint.specs.declared.answers.Ticked.{Ticked}
 use Rattle.dt_endpoint.specs.declared.answers.Ticked.TheVariants as ticked
 use Rattle.dt_endpoint.specs.Calls.{arrive_event, arrive_refusal, send_answer}
@@ -22,10 +22,10 @@ use Rattle.dt_service_model.specs.declared.answers.Made.TheVariants as made
 use Rattle.dt_service_model.specs.declared.answers.Replied.{Replied}
 use Rattle.dt_service_model.specs.declared.answers.Replied.TheVariants as replied
 use Rattle.dt_service_model.specs.declared.answers.Unfit.TheVariants as unfit
-use Rattle.dt_service_model.specs.declared.calls.Call.{Call}
+use Rattle.dt_service_model.specs.declared.calls.OpenCall.{OpenCall}
 use Rattle.dt_service_model.specs.declared.names.CallNumber.{CallNumber}
 use Rattle.dt_service_model.specs.declared.names.Token.{Token}
-use Rattle.dt_service_model.specs.declared.ports.Kind.{Kind}
+use Rattle.dt_service_model.specs.declared.ports.PortKind.{PortKind}
 use Rattle.dt_service_model.specs.Names.{number_of, number_with}
 use Rattle.dt_service_model.specs.Halves.{Halves, calls_held, is_caller, kind_in, most_octets}
 use Rattle.dt_service_model.specs.Whole.{is_open, without_token}
@@ -66,7 +66,7 @@ call_refusals n f payload patience =
 abbrev pub next_number : Halves → CallNumber
 next_number h = number_with h.life h.count
 
-abbrev pub new_call : Flow → (count deadline : ℕ) → Halves → Call
+abbrev pub new_call : Flow → (count deadline : ℕ) → Halves → OpenCall
 new_call f count deadline h = record { number = next_number h; flow = f; deadline = deadline; left = count; waits = true; doubted = false }
 
 abbrev pub with_call : Flow → (count deadline : ℕ) → Halves → Halves
@@ -141,26 +141,26 @@ abbrev pub tick : (now : ℕ) → Node → Ticked × Node
 tick now n = if is_closed n then (ticked.Spent, n) else (ticked.Done, turn now Tick n)
 
 -- One that the endpoint refuses is counted there, and is no turn
-abbrev pub or_counted : Option Arrived → Node → Arrived × Node → Arrived × Node
+abbrev pub or_counted : Option Received → Node → Received × Node → Received × Node
 or_counted None n done = done
 or_counted (Some refusal) n done = (refusal, record n { endpoint = with_refused n.endpoint })
 
-abbrev pub arrive : (now link : ℕ) → List ℕ → (waited : ℕ) → Node → Arrived × Node
+abbrev pub arrive : (now link : ℕ) → List ℕ → (waited : ℕ) → Node → Received × Node
 arrive now link octets waited n =
     if is_closed n then (arrived.Spent, n)
     else or_counted (arrive_refusal link octets waited n.endpoint) n (arrived.Done, turn now (arrive_event link octets waited) n)
 
 -- A LIFE IS RAISED, unless it is that of the node, or of a call that waits
 abbrev pub is_life_in_use : ℕ → Halves → Bool
-is_life_in_use life h = (life == h.life) || list_any (λ (call : Call). call.waits && (call.number.life == life)) h.calls
+is_life_in_use life h = (life == h.life) || list_any (λ (call : OpenCall). call.waits && (call.number.life == life)) h.calls
 
 abbrev pub raised : ℕ → Halves → Halves
 raised life h = if is_life_in_use life h then h else record h { life = life; count = 0 }
 
 -- A PORT GETS ITS KIND, unless it has one
-abbrev pub with_port : ℕ → Option Kind → Kind → Halves → Halves
+abbrev pub with_port : ℕ → Option PortKind → PortKind → Halves → Halves
 with_port port (Some has) kind h = h
 with_port port None kind h = record h { ports = h.ports ++ (record { port = port; kind = kind }) ∷ [] }
 
-abbrev pub with_kind : ℕ → Kind → Halves → Halves
+abbrev pub with_kind : ℕ → PortKind → Halves → Halves
 with_kind port kind h = with_port port (kind_in port h.ports) kind h

@@ -1,6 +1,6 @@
 -- How calls end without an answer, at the end of a turn and where the node closes.
 use Rattle.std.specs.Prelude.{ℕ, ◌&&◌, ◌||◌, Bool, true, false, nat_le, nat_lt, List, [], ◌∷◌, ◌++◌, filter, filter_map, map, option_map, Option, Some, None, if◌then◌else◌}
-use Rattle.dt_service_model.specs.declared.calls.Call.{Call}
+use Rattle.dt_service_model.specs.declared.calls.OpenCall.{OpenCall}
 use Rattle.dt_service_model.specs.declared.calls.Cause.{Cause}
 use Rattle.dt_service_model.specs.declared.calls.Cause.TheVariants as cause
 use Rattle.dt_service_model.specs.declared.happenings.Happening.{Happening}
@@ -8,27 +8,27 @@ use Rattle.dt_service_model.specs.declared.happenings.Happening.TheVariants.{Uns
 use Rattle.dt_service_model.specs.Halves.{Halves}
 
 -- WHY A CALL IS UNSURE at a moment, if it is: it waits, and an octet of its request was given up, or else its patience is over
-abbrev pub cause_of : (now : ℕ) → Call → Option Cause
+abbrev pub cause_of : (now : ℕ) → OpenCall → Option Cause
 cause_of now call =
     if call.waits && call.doubted then Some cause.GivenUp
     else if call.waits && nat_le call.deadline now then Some cause.Patience
     else None
 
-abbrev pub unsure_by : Call → Option Cause → Option Happening
+abbrev pub unsure_by : OpenCall → Option Cause → Option Happening
 unsure_by call cause = option_map (λ c. Unsure call.number c) cause
 
-abbrev pub unsure_of : (now : ℕ) → Call → Option Happening
+abbrev pub unsure_of : (now : ℕ) → OpenCall → Option Happening
 unsure_of now call = unsure_by call (cause_of now call)
 
 -- what is kept of it: nothing once it has an end and each octet its fate
-abbrev pub judged_as : Call → Option Cause → Call
+abbrev pub judged_as : OpenCall → Option Cause → OpenCall
 judged_as call None = record call { doubted = false }
 judged_as call (Some cause) = record call { waits = false; doubted = false }
 
-abbrev pub judged_call : (now : ℕ) → Call → Call
+abbrev pub judged_call : (now : ℕ) → OpenCall → OpenCall
 judged_call now call = judged_as call (cause_of now call)
 
-abbrev pub is_kept : Call → Bool
+abbrev pub is_kept : OpenCall → Bool
 is_kept call = call.waits || nat_lt 0 call.left
 
 -- EACH CALL IS JUDGED, in the order of making
@@ -40,9 +40,9 @@ judge now h = record h {
 
 -- THE NODE CLOSES: each call that waits is unsure, and all else but what wasn't taken is forgotten. A node that closes takes no memory: its calls stay until their ends are taken
 abbrev pub close : Halves → Halves
-close h = record h { closed = true; calls = filter (λ (call : Call). call.waits) h.calls; tokens = []; begun = []; unread = [] }
+close h = record h { closed = true; calls = filter (λ (call : OpenCall). call.waits) h.calls; tokens = []; begun = []; unread = [] }
 
-abbrev pub closing_of : Call → Happening
+abbrev pub closing_of : OpenCall → Happening
 closing_of call = Unsure call.number cause.Closed
 
 -- ALL THAT WAS TOLD and wasn't taken
@@ -50,7 +50,7 @@ abbrev pub told_by : Halves → List Happening
 told_by h = h.happenings ++ (if h.closed then map closing_of h.calls else [])
 
 -- THE NEXT OF IT is taken
-abbrev pub next_call : List Call → Halves → Option Happening × Halves
+abbrev pub next_call : List OpenCall → Halves → Option Happening × Halves
 next_call [] h = (None, h)
 next_call (call ∷ calls) h = (Some (closing_of call), record h { calls = calls })
 

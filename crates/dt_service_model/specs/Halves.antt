@@ -2,13 +2,13 @@
 use Rattle.std.specs.Prelude.{ℕ, ◌+◌, ◌-◌, ◌^◌, ◌==◌, ◌&&◌, ◌||◌, Bool, true, false, min, nat_lt, List, [], count_by, length, find, option_map, Option, Some, None}
 use Rattle.dt_units.specs.declared.endpoints.Flow.{Flow}
 use Rattle.dt_world_model.specs.Tables.{same_flow}
-use Rattle.dt_service_model.specs.declared.calls.Call.{Call}
-use Rattle.dt_service_model.specs.declared.counts.Counts.{Counts}
+use Rattle.dt_service_model.specs.declared.calls.OpenCall.{OpenCall}
+use Rattle.dt_service_model.specs.declared.call_counts.CallCounts.{CallCounts}
 use Rattle.dt_service_model.specs.declared.happenings.Happening.{Happening}
 use Rattle.dt_service_model.specs.declared.happenings.Happening.TheVariants.{Answered, Request, Unsure}
 use Rattle.dt_service_model.specs.declared.names.Token.{Token}
-use Rattle.dt_service_model.specs.declared.ports.Kind.{Kind}
-use Rattle.dt_service_model.specs.declared.ports.Kind.TheVariants.{Caller, Service}
+use Rattle.dt_service_model.specs.declared.ports.PortKind.{PortKind}
+use Rattle.dt_service_model.specs.declared.ports.PortKind.TheVariants.{Caller, Service}
 use Rattle.dt_service_model.specs.declared.ports.Most.{Most}
 use Rattle.dt_service_model.specs.declared.ports.Port.{Port}
 
@@ -33,18 +33,18 @@ pub record Halves : Type 0 where
   pub life : ℕ
   pub count : ℕ
   -- in the order of making: the calls that wait, and those that ended with octets that have no fate yet
-  pub calls : List Call
+  pub calls : List OpenCall
   -- those that are open: the names of the requests that were handed out and have no reply yet
   pub tokens : List Token
   -- for each flow that is read, what was read of a message that isn't whole yet
   pub begun : List (Flow × List ℕ)
   -- the flows at which something may be unread, in the order in which they came in
   pub unread : List Flow
-  pub counts : Counts
+  pub counts : CallCounts
   -- what was told and wasn't taken
   pub happenings : List Happening
 
-abbrev pub no_counts : Counts
+abbrev pub no_counts : CallCounts
 no_counts = record { late = 0; old = 0; strange = 0; reused = 0; cut = 0; long = 0; short = 0 }
 
 -- AT AN OPENING
@@ -63,22 +63,22 @@ abbrev pub counted_up : ℕ → ℕ
 counted_up n = counted_by 1 n
 
 -- THE KIND OF A PORT
-abbrev pub kind_in : ℕ → List Port → Option Kind
+abbrev pub kind_in : ℕ → List Port → Option PortKind
 kind_in port ports = option_map (λ p. p.kind) (find (λ p. p.port == port) ports)
 
-abbrev pub is_caller : Option Kind → Bool
+abbrev pub is_caller : Option PortKind → Bool
 is_caller None = false
 is_caller (Some Caller) = true
 is_caller (Some Service) = false
 
-abbrev pub is_service : Option Kind → Bool
+abbrev pub is_service : Option PortKind → Bool
 is_service None = false
 is_service (Some Caller) = false
 is_service (Some Service) = true
 
 -- how many calls wait or have ends that weren't taken
 abbrev pub calls_held : Halves → ℕ
-calls_held h = count_by (λ (call : Call). call.waits) h.calls + count_by is_end h.happenings
+calls_held h = count_by (λ (call : OpenCall). call.waits) h.calls + count_by is_end h.happenings
 
 -- WHETHER THERE IS ROOM for a request of a flow
 abbrev pub has_room : Flow → Halves → Bool

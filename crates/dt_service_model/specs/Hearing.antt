@@ -6,7 +6,7 @@ use Rattle.dt_reports.specs.Matters as matter
 use Rattle.dt_reports.specs.Matters.{Matter, matter_of}
 use Rattle.dt_reports.specs.Told.{Told}
 use Rattle.dt_world_model.specs.Tables.{same_flow}
-use Rattle.dt_service_model.specs.declared.calls.Call.{Call}
+use Rattle.dt_service_model.specs.declared.calls.OpenCall.{OpenCall}
 use Rattle.dt_service_model.specs.Halves.{Halves, kind_in}
 
 pub data Heard : Type 0 where
@@ -35,10 +35,10 @@ abbrev pub heard : Told → Heard
 heard told = heard_by (matter_of told)
 
 -- SO MANY OCTETS OF A FLOW HAVE THEIR FATE, the leftmost first: those of its calls, in the order of making. A call of which one was given up is doubted.
-abbrev pub with_fate : (given_up : Bool) → (count : ℕ) → Call → Call
+abbrev pub with_fate : (given_up : Bool) → (count : ℕ) → OpenCall → OpenCall
 with_fate given_up count call = record call { left = call.left - count; doubted = call.doubted || (given_up && nat_lt 0 count && nat_lt 0 call.left) }
 
-abbrev pub with_fates : (given_up : Bool) → Flow → (count : ℕ) → List Call → List Call
+abbrev pub with_fates : (given_up : Bool) → Flow → (count : ℕ) → List OpenCall → List OpenCall
 with_fates given_up f count [] = []
 with_fates given_up f count (call ∷ calls) =
     if same_flow call.flow f then with_fate given_up count call ∷ with_fates given_up f (count - call.left) calls

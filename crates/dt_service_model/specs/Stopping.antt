@@ -8,7 +8,7 @@ use Rattle.dt_calls_model.specs.Messages.{message_of, reversed}
 use Rattle.dt_endpoint.specs.Acts.{OutFrameValue}
 use Rattle.dt_endpoint.specs.Calls.{arrive_event, arrive_refusal, send_answer}
 use Rattle.dt_endpoint.specs.Endpoints.{Breaks, EndpointValue, after_event, moment_of}
-use Rattle.dt_service_model.specs.declared.counts.Counts.{Counts}
+use Rattle.dt_service_model.specs.declared.call_counts.CallCounts.{CallCounts}
 use Rattle.dt_service_model.specs.declared.happenings.Happening.{Happening}
 use Rattle.dt_service_model.specs.declared.names.CallNumber.{CallNumber}
 use Rattle.dt_service_model.specs.declared.names.Token.{Token}
@@ -37,7 +37,7 @@ pub data EventStops (now : ℕ) (event : Event (Unit {0})) (n m : Node) : Type 0
 pub data ReadStops (now : ℕ) (f : Flow) (n m : Node) : Type 0 where
   not_read : m ≡ n → ReadStops now f n m
   in_read : (comes_in n f && may_read f n.halves) ≡ true → EventStops now (Read f most_read) n m → ReadStops now f n m
-  at_piece : (comes_in n f && may_read f n.halves) ≡ true → (begun : List (Flow × List ℕ)) (counts : Counts) → m ≡ with_halves (λ h. record h { begun = begun; counts = counts }) (happens now (Read f most_read) n) → ReadStops now f n m
+  at_piece : (comes_in n f && may_read f n.halves) ≡ true → (begun : List (Flow × List ℕ)) (counts : CallCounts) → m ≡ with_halves (λ h. record h { begun = begun; counts = counts }) (happens now (Read f most_read) n) → ReadStops now f n m
 
 -- THE END OF A TURN stops: before it; at a flow, when those before it were read to their end and it was read so often; or where calls were to be judged
 pub data EndStops (now : ℕ) (n m : Node) : Type 0 where

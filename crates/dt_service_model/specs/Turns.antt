@@ -10,7 +10,7 @@ use Rattle.dt_world_model.specs.Tables.{earliest, has_key, same_flow}
 use Rattle.dt_calls_model.specs.Messages.{Piece}
 use Rattle.dt_endpoint.specs.Calls.{read_answer}
 use Rattle.dt_endpoint.specs.Endpoints.{EndpointValue, after_event, endpoint_wake, moment_of}
-use Rattle.dt_service_model.specs.declared.calls.Call.{Call}
+use Rattle.dt_service_model.specs.declared.calls.OpenCall.{OpenCall}
 use Rattle.dt_service_model.specs.Halves.{Halves, counted_by, may_read}
 use Rattle.dt_service_model.specs.Hearing.{hear_all}
 use Rattle.dt_service_model.specs.Whole.{take_piece}
@@ -90,7 +90,7 @@ abbrev pub turn : (now : ℕ) → Event (Unit {0}) → Node → Node
 turn now event n = turn_end now (happens now event n)
 
 -- THE WAKE: the least moment at which a tick does something
-abbrev pub deadline_of : Call → Option ℕ
+abbrev pub deadline_of : OpenCall → Option ℕ
 deadline_of call = if call.waits then Some call.deadline else None
 
 abbrev pub wake : Node → Option ℕ

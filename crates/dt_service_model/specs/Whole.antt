@@ -5,34 +5,34 @@ use Rattle.dt_units.specs.declared.endpoints.Flow.{Flow}
 use Rattle.dt_world_model.specs.Tables.{same_flow}
 use Rattle.dt_calls_model.specs.Messages.{Piece, carried_in, has_number, number_in, reversed}
 use Rattle.dt_messages.specs.Joining.{begun_within, outgrows, whole_within}
-use Rattle.dt_service_model.specs.declared.calls.Call.{Call}
-use Rattle.dt_service_model.specs.declared.counts.Counts.{Counts}
+use Rattle.dt_service_model.specs.declared.calls.OpenCall.{OpenCall}
+use Rattle.dt_service_model.specs.declared.call_counts.CallCounts.{CallCounts}
 use Rattle.dt_service_model.specs.declared.happenings.Happening.TheVariants.{Answered, Request}
 use Rattle.dt_service_model.specs.declared.names.CallNumber.{CallNumber}
 use Rattle.dt_service_model.specs.declared.names.Token.{Token}
-use Rattle.dt_service_model.specs.declared.ports.Kind.{Kind}
-use Rattle.dt_service_model.specs.declared.ports.Kind.TheVariants.{Caller, Service}
+use Rattle.dt_service_model.specs.declared.ports.PortKind.{PortKind}
+use Rattle.dt_service_model.specs.declared.ports.PortKind.TheVariants.{Caller, Service}
 use Rattle.dt_service_model.specs.Names.{call_number, same_number, same_token, token_with}
 use Rattle.dt_service_model.specs.Halves.{Halves, counted_up, kind_in, most_octets}
 
 -- A REPLY of number n on the reverse of f: the call of that number that waits on f is answered with it. Else it is dropped and counted.
-abbrev pub is_waiting_call : Flow → CallNumber → Call → Bool
+abbrev pub is_waiting_call : Flow → CallNumber → OpenCall → Bool
 is_waiting_call f n call = call.waits && same_number call.number n && same_flow call.flow f
 
-abbrev pub ended : Call → Call
+abbrev pub ended : OpenCall → OpenCall
 ended call = record call { waits = false }
 
 -- whether a call of this number waits, on any flow
-abbrev pub waits_anywhere : CallNumber → List Call → Bool
-waits_anywhere n calls = list_any (λ (call : Call). call.waits && same_number call.number n) calls
+abbrev pub waits_anywhere : CallNumber → List OpenCall → Bool
+waits_anywhere n calls = list_any (λ (call : OpenCall). call.waits && same_number call.number n) calls
 
-abbrev pub stray_counted : CallNumber → Halves → Counts
+abbrev pub stray_counted : CallNumber → Halves → CallCounts
 stray_counted n h =
     if not (n.life == h.life) then record (h.counts) { old = counted_up h.counts.old }
     else if nat_lt n.count h.count && not (waits_anywhere n h.calls) then record (h.counts) { late = counted_up h.counts.late }
     else record (h.counts) { strange = counted_up h.counts.strange }
 
-abbrev pub answered_at : (place : ℕ) → List Call → List Call
+abbrev pub answered_at : (place : ℕ) → List OpenCall → List OpenCall
 answered_at place [] = []
 answered_at zero (call ∷ calls) = ended call ∷ calls
 answered_at (suc place) (call ∷ calls) = call ∷ answered_at place calls
@@ -57,7 +57,7 @@ take_request token payload h =
     else record h { tokens = h.tokens ++ token ∷ []; happenings = h.happenings ++ Request token payload ∷ [] }
 
 -- A WHOLE MESSAGE, by the kind of the port to which it came
-abbrev pub take_as : Option Kind → Flow → CallNumber → List ℕ → Halves → Halves
+abbrev pub take_as : Option PortKind → Flow → CallNumber → List ℕ → Halves → Halves
 take_as None f n carried h = h
 take_as (Some Caller) f n carried h = take_reply (reversed f) n carried h
 take_as (Some Service) f n carried h = take_request (token_with f n) carried h
@@ -91,10 +91,10 @@ with_begun f (Some octets) begun = begun ++ (f, octets) ∷ []
 abbrev pub is_cut : Option (List ℕ) → Piece → Bool
 is_cut begun p = is_some begun && (p.begin || p.run)
 
-abbrev pub cut_counted : Bool → Counts → Counts
+abbrev pub cut_counted : Bool → CallCounts → CallCounts
 cut_counted cut c = if cut then record c { cut = counted_up c.cut } else c
 
-abbrev pub long_counted : Bool → Counts → Counts
+abbrev pub long_counted : Bool → CallCounts → CallCounts
 long_counted long c = if long then record c { long = counted_up c.long } else c
 
 abbrev pub grown : Flow → Option (List ℕ) → Piece → Halves → Halves

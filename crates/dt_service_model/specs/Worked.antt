@@ -6,12 +6,12 @@ use Rattle.dt_endpoint.specs.Acts.{OutFrameValue}
 use Rattle.dt_endpoint.specs.Endpoints.{EndpointValue, opened}
 use Rattle.dt_service_model.specs.declared.answers.Made.{Made}
 use Rattle.dt_service_model.specs.declared.answers.Replied.{Replied}
-use Rattle.dt_service_model.specs.declared.calls.Call.{Call}
-use Rattle.dt_service_model.specs.declared.counts.Counts.{Counts}
+use Rattle.dt_service_model.specs.declared.calls.OpenCall.{OpenCall}
+use Rattle.dt_service_model.specs.declared.call_counts.CallCounts.{CallCounts}
 use Rattle.dt_service_model.specs.declared.happenings.Happening.{Happening}
 use Rattle.dt_service_model.specs.declared.names.CallNumber.{CallNumber}
 use Rattle.dt_service_model.specs.declared.names.Token.{Token}
-use Rattle.dt_service_model.specs.declared.ports.Kind.TheVariants.{Caller, Service}
+use Rattle.dt_service_model.specs.declared.ports.PortKind.TheVariants.{Caller, Service}
 use Rattle.dt_service_model.specs.declared.ports.Most.{Most}
 use Rattle.dt_service_model.specs.Names.{number_with, token_with}
 use Rattle.dt_service_model.specs.Halves.{new_halves}
@@ -104,12 +104,12 @@ told_by deeds p = (run_of deeds p).0
 pub record Rest : Type 0 where
   pub waiting : List CallNumber
   pub open_names : List CallNumber
-  pub at_client : Counts
-  pub at_server : Counts
+  pub at_client : CallCounts
+  pub at_server : CallCounts
 
 abbrev pub rest_of : Pair → Rest
 rest_of p = record {
-  waiting = map (λ (call : Call). call.number) (filter (λ (call : Call). call.waits) p.client.halves.calls);
+  waiting = map (λ (call : OpenCall). call.number) (filter (λ (call : OpenCall). call.waits) p.client.halves.calls);
   open_names = map (λ (token : Token). token.number) p.server.halves.tokens;
   at_client = p.client.halves.counts;
   at_server = p.server.halves.counts;

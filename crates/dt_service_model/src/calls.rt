@@ -3,7 +3,7 @@ use dt_units::Flow;
 
 /// What a client keeps of a call that has no end yet, or has octets that have no fate yet.
 #[derive(Clone, Copy, Debug, PartialEq, Eq)]
-pub struct Call {
+pub struct OpenCall {
     pub number: CallNumber,
     /// The flow of the request.
     pub flow: Flow,

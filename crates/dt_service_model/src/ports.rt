@@ -1,6 +1,6 @@
 /// What a port is for. It has its kind for good.
 #[derive(Clone, Copy, Debug, PartialEq, Eq)]
-pub enum Kind {
+pub enum PortKind {
     /// Requests go from it alone, and what comes to it are replies.
     Caller,
     /// Requests come to it alone, and what goes from it are replies.
@@ -11,7 +11,7 @@ pub enum Kind {
 #[derive(Clone, Copy, Debug, PartialEq, Eq)]
 pub struct Port {
     pub port: u16,
-    pub kind: Kind,
+    pub kind: PortKind,
 }
 
 /// How much a node takes on.

@@ -3,7 +3,7 @@ use dt_items::NoMemory;
 use dt_messages::Marks;
 use dt_reports::Report;
 use dt_service_halves::{Halves, reversed, write_message};
-use dt_service_model::{CallNumber, Cause, Happening, Kind, Most, Token};
+use dt_service_model::{CallNumber, Cause, Happening, Most, PortKind, Token};
 use dt_units::{Flow, NodeId};
 use std::alloc::Global;
 
@@ -25,7 +25,7 @@ const FIRST: CallNumber = CallNumber { life: 5, count: 0 };
 
 // The first call of a life: it is made at 0 and waits until 1,000.
 fn calls(client: &mut Halves) -> Result<bool, NoMemory> {
-    let is_new = client.set_kind(10, Kind::Caller)?;
+    let is_new = client.set_kind(10, PortKind::Caller)?;
     if client.next_number() != Some(FIRST) {
         return Ok(false);
     }
@@ -71,7 +71,7 @@ fn is_unsure(happening: &Option<Happening>, why: Cause) -> bool {
 }
 
 fn serves(alloc: Global, server: &mut Halves) -> Result<bool, NoMemory> {
-    let is_new = server.set_kind(20, Kind::Service)?;
+    let is_new = server.set_kind(20, PortKind::Service)?;
     let accepted = Report::Accepted {
         flow: FLOW,
         number: 0,

@@ -1,9 +1,9 @@
 //! A client and a server over their endpoints: the frames of the one are handed to the other.
-use dt_endpoint::{Arrived, InLink, Links, OutLink, Route, Routed, Ticked};
+use dt_endpoint::{InLink, Links, OutLink, Received, Route, Routed, Ticked};
 use dt_items::NoMemory;
-use dt_service::{Service, Start};
+use dt_service::{Service, ServiceStart};
 use dt_service_model::{
-    CallNumber, Cause, Declined, Forgot, Happening, Kind, Made, Most, Replied, Token, Unfit,
+    CallNumber, Cause, Declined, Forgot, Happening, Made, Most, PortKind, Replied, Token, Unfit,
 };
 use dt_units::{Flow, NodeId, Params};
 use std::alloc::Global;
@@ -53,15 +53,15 @@ fn open(rt: &impl Abort, alloc: Global, me: u32, again: Option<u64>) -> Result<S
         ins: &INS,
         routes: &routes,
     };
-    let start = Start {
+    let start = ServiceStart {
         me: NodeId(me),
         again,
         life: 5,
         most: MOST,
     };
     let mut service = Service::open(alloc, &rules, &start, &links)?;
-    service.port(10, Kind::Caller)?;
-    service.port(20, Kind::Service)?;
+    service.port(10, PortKind::Caller)?;
+    service.port(20, PortKind::Service)?;
     Ok(service)
 }
 
@@ -81,7 +81,7 @@ fn token(count: u32) -> Token {
 fn hands_over(one: &mut Service, two: &mut Service, now: u64) -> bool {
     for _ in 0..2 {
         if let Some(out) = one.next_frame()
-            && two.arrive(now, 7, out.octets(), 0) != Arrived::Done
+            && two.arrive(now, 7, out.octets(), 0) != Received::Done
         {
             return false;
         }
@@ -199,7 +199,7 @@ fn refuses(client: &mut Service) -> bool {
         && client.reply(0, token(0), b"a") == Replied::Gone
         && client.forget(0, &token(0)) == Forgot::Gone
         && !client.raise(5)
-        && client.arrive(0, 8, b"", 0) == Arrived::NoLink
+        && client.arrive(0, 8, b"", 0) == Received::NoLink
         && client.endpoint().counts().refused == 1
 }
 

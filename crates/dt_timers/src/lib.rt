@@ -2,8 +2,8 @@
 #![tactic(auto)]
 
 mod deadline;
+mod deadline_nodes;
 mod deadlines;
-mod node;
 mod tournament;
 
 pub use deadlines::Deadlines;

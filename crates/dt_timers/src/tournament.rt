@@ -3,7 +3,7 @@ ghost use Rattle.std.specs.Prelude.{ℕ, ◌≡◌, ◌+◌, ◌<◌, ◌≤◌,
 ghost use Rattle.dt_timers.specs.Tournaments.{ArePlayed, ArePlayedBut, IsSoonestOf, deadline_in, node};
 
 use crate::deadline::Deadline;
-use crate::node::{Node, sooner};
+use crate::deadline_nodes::{DeadlineNode, sooner};
 use dt_items::NoMemory;
 use std::alloc::Global;
 use std::marker::Model;
@@ -18,7 +18,7 @@ const MOST_ROOM: usize = 1 << 32;
 #[derive(Drop)]
 pub struct Tournament {
     room: usize,
-    nodes: Vec<Node>,
+    nodes: Vec<DeadlineNode>,
 }
 
 impl Model for Tournament {
@@ -62,7 +62,7 @@ impl Tournament {
         if room > MOST_ROOM {
             return Err(NoMemory);
         }
-        self.nodes.resize(room + room, Node::none())?;
+        self.nodes.resize(room + room, DeadlineNode::none())?;
         self.nodes
             .copy_within(self.room..self.room + self.room, room);
         play_all(&mut self.nodes);
@@ -77,7 +77,7 @@ impl Tournament {
         ensures { self.new ≡ set self.old place (deadline_in place moment) }
     {
         let leaf = self.room + place;
-        let placed = Node::of(place, moment);
+        let placed = DeadlineNode::of(place, moment);
         if self.nodes[leaf].is(&placed) {
             return;
         }
@@ -106,7 +106,7 @@ impl Tournament {
 }
 
 /// Plays all nodes, from the last one up.
-fn play_all(nodes: &mut [Node])
+fn play_all(nodes: &mut [DeadlineNode])
     requires even { (half : ℕ) × (length nodes.old ≡ half + half) }
     ensures played { ArePlayed nodes.new }
     ensures places { (k : ℕ) → length nodes.old ≤ k + k → node nodes.new k ≡ node nodes.old k }
@@ -130,7 +130,7 @@ fn rival(at: usize) -> usize
 
 /// Plays again the nodes above one whose deadline changed, up to the first that stays as it was: those
 /// above it stay too.
-fn play_from(nodes: &mut [Node], leaf: usize)
+fn play_from(nodes: &mut [DeadlineNode], leaf: usize)
     requires within { leaf < length nodes.old }
     requires some { 1 ≤ leaf }
     requires even { (half : ℕ) × (length nodes.old ≡ half + half) }

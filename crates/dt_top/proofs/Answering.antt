@@ -12,8 +12,8 @@ use Rattle.dt_node.specs.Answering.{Answers as NodeLeaves, AnswersBy}
 use Rattle.dt_script.specs.Drafts.{refusal_text, script_of}
 use Rattle.dt_script.specs.Orders.{Orders}
 use Rattle.dt_node.specs.Serving.{Edges, edges}
-use Rattle.dt_node.specs.declared.forms.Form.{Form}
-use Rattle.dt_node.specs.declared.forms.Form.TheVariants as forms
+use Rattle.dt_node.specs.declared.output_forms.OutputForm.{OutputForm}
+use Rattle.dt_node.specs.declared.output_forms.OutputForm.TheVariants as forms
 use Rattle.dt_node.specs.declared.outcomes.NodeOutcome.TheVariants as node
 use Rattle.dt_replay.proofs.Scenes.{all_safe}
 use Rattle.dt_replay.specs.Schedules.{is_accepted, replay_text, world_of}
@@ -361,14 +361,14 @@ reads_failed (Some (Serve job)) s h = elim h [ inl owes ↦ (owes.0, owes.1.out)
 reads_failed (Some (Make n)) s h = elim h [ inl owes ↦ absurd owes.1 | inr lacks ↦ absurd (let e = lacks.0 in cc) ]
 
 -- a node whose wire failed, and one whose put failed
-wire_of_node : (form : Form) (octets : List ℕ) (e : Effects) → NodeAnswers form node.WireFault octets e → HasRisen e.wire_before.take_faults e.wire_after.take_faults
+wire_of_node : (form : OutputForm) (octets : List ℕ) (e : Effects) → NodeAnswers form node.WireFault octets e → HasRisen e.wire_before.take_faults e.wire_after.take_faults
 wire_of_node form octets e h = by_orders (script_of octets) h.answers
   where
     by_orders : (o : Option Orders) → AnswersBy form o (refusal_text octets) node.WireFault (before e) (after e) → HasRisen e.wire_before.take_faults e.wire_after.take_faults
     by_orders None a = absurd a.may
     by_orders (Some o) a = a.take_faults
 
-put_of_node : (form : Form) (octets : List ℕ) (old new : Edges) → NodeLeaves form octets node.WriteFault old new → HasRisen old.faults new.faults
+put_of_node : (form : OutputForm) (octets : List ℕ) (old new : Edges) → NodeLeaves form octets node.WriteFault old new → HasRisen old.faults new.faults
 put_of_node form octets old new h = by_orders (script_of octets) h
   where
     by_orders : (o : Option Orders) → AnswersBy form o (refusal_text octets) node.WriteFault old new → HasRisen old.faults new.faults

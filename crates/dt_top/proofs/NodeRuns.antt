@@ -4,8 +4,8 @@ use Rattle.dt_edges.specs.Counts.{HasRisen}
 use Rattle.dt_node.specs.Completing.{ReachesStop}
 use Rattle.dt_script.specs.Drafts.{script_of}
 use Rattle.dt_script.specs.Orders.{Orders}
-use Rattle.dt_node.specs.declared.forms.Form.{Form}
-use Rattle.dt_node.specs.declared.forms.Form.TheVariants as forms
+use Rattle.dt_node.specs.declared.output_forms.OutputForm.{OutputForm}
+use Rattle.dt_node.specs.declared.output_forms.OutputForm.TheVariants as forms
 use Rattle.dt_node.specs.declared.outcomes.NodeOutcome.{NodeOutcome}
 use Rattle.dt_node.specs.declared.outcomes.NodeOutcome.TheVariants as node
 use Rattle.dt_top.specs.declared.command.Command.TheVariants.{Serve}
@@ -39,12 +39,12 @@ by_outcome outcome h = elim h [
   | inr e ↦ subst (λ n. Ended (status_of (node_ending n))) (sym e) (inr refl)
 ]
 
-by_answers : (form : Form) (outcome : NodeOutcome) (octets : List ℕ) (o : Orders) (plan : List ℕ) (s : StreamSights) → Runs octets o plan s → Served (NodeAnswers form outcome) s → Ended (status_of (node_ending outcome))
+by_answers : (form : OutputForm) (outcome : NodeOutcome) (octets : List ℕ) (o : Orders) (plan : List ℕ) (s : StreamSights) → Runs octets o plan s → Served (NodeAnswers form outcome) s → Ended (status_of (node_ending outcome))
 by_answers form outcome octets o plan s runs h =
     let is : octets ≡ h.octets = subst (λ l. IfSome l (λ all. all ≡ h.octets)) runs.left h.input.whole in
     by_outcome outcome (h.owes.completes o plan (subst (λ xs. script_of xs ≡ Some o) is runs.script) runs.planned runs.fresh runs.reaches runs.take runs.out)
 
-by_owes : (form : Form) (ending : Ending) (octets : List ℕ) (o : Orders) (plan : List ℕ) (s : StreamSights) → Runs octets o plan s → OwesFor (node_owes form) ending s → Ended (status_of ending)
+by_owes : (form : OutputForm) (ending : Ending) (octets : List ℕ) (o : Orders) (plan : List ℕ) (s : StreamSights) → Runs octets o plan s → OwesFor (node_owes form) ending s → Ended (status_of ending)
 by_owes form Done octets o plan s runs h = inl refl
 by_owes form Usage octets o plan s runs h = absurd h
 by_owes form TooLong octets o plan s runs h =

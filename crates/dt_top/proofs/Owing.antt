@@ -12,8 +12,8 @@ use Rattle.dt_edges.specs.Wires.{WireSight}
 use Rattle.dt_node.specs.Answering.{Answers}
 use Rattle.dt_node.specs.Completing.{Completes}
 use Rattle.dt_node.specs.Serving.{Edges, edges}
-use Rattle.dt_node.specs.declared.forms.Form.{Form}
-use Rattle.dt_node.specs.declared.forms.Form.TheVariants as forms
+use Rattle.dt_node.specs.declared.output_forms.OutputForm.{OutputForm}
+use Rattle.dt_node.specs.declared.output_forms.OutputForm.TheVariants as forms
 use Rattle.dt_node.specs.declared.outcomes.NodeOutcome.{NodeOutcome}
 use Rattle.dt_node.specs.declared.outcomes.NodeOutcome.TheVariants as node
 use Rattle.dt_replay.specs.Replays.{Replays}
@@ -37,7 +37,7 @@ replay_owed : (result : Outcome) (ending : Ending) (octets : List ℕ) (e : Effe
     → Replays result octets e.out_before e.out_after → replay_owes ending octets e
 replay_owed result ending octets e is h = subst (λ n. replay_owes n octets e) (sym is) (replay_of result octets e h)
 
-node_of : (form : Form) (result : NodeOutcome) (octets : List ℕ) (e : Effects) → NodeAnswers form result octets e → node_owes form (node_ending result) octets e
+node_of : (form : OutputForm) (result : NodeOutcome) (octets : List ℕ) (e : Effects) → NodeAnswers form result octets e → node_owes form (node_ending result) octets e
 node_of form node.Done octets e h = h
 node_of form node.Refused octets e h = h
 node_of form node.NoMemory octets e h = h
@@ -45,7 +45,7 @@ node_of form node.WireFault octets e h = h
 node_of form node.ClockStill octets e h = h
 node_of form node.WriteFault octets e h = h
 
-node_owed : (form : Form) (result : NodeOutcome) (ending : Ending) (octets : List ℕ) (e : Effects) → ending ≡ node_ending result
+node_owed : (form : OutputForm) (result : NodeOutcome) (ending : Ending) (octets : List ℕ) (e : Effects) → ending ≡ node_ending result
     → Answers form octets result (before e) (after e) → Completes octets result (before e) (after e) → node_owes form ending octets e
 node_owed form result ending octets e is answers completes =
     subst (λ n. node_owes form n octets e) (sym is) (node_of form result octets e (record { answers = answers; completes = completes }))
@@ -108,7 +108,7 @@ with_after : (P : Edges → Type 0) (e : Effects) (wire : WireSight) (clock : Cl
 with_after P e wire clock out w c o h =
     subst (λ s. P (edges s e.clock_after e.out_after)) (sym w) (subst (λ s. P (edges wire s e.out_after)) (sym c) (subst (λ s. P (edges wire clock s)) (sym o) h))
 
-by_form : (form : Form) (ending own : Ending) (octets : List ℕ) (e : Effects) (result : NodeOutcome) (wire : WireSight) (clock : ClockSight) (out : SinkSight) → ending ≡ own → own ≡ node_ending result
+by_form : (form : OutputForm) (ending own : Ending) (octets : List ℕ) (e : Effects) (result : NodeOutcome) (wire : WireSight) (clock : ClockSight) (out : SinkSight) → ending ≡ own → own ≡ node_ending result
     → e.wire_after ≡ wire → e.clock_after ≡ clock → e.out_after ≡ out → Answers form octets result (before e) (edges wire clock out) → Completes octets result (before e) (edges wire clock out) → node_owes form ending octets e
 by_form form ending own octets e result wire clock out i is w c o answers completes =
     node_owed form result ending octets e (i ∙ is)

@@ -7,7 +7,7 @@ use Rattle.dt_node.specs.Acts.{fates, log_lines}
 use Rattle.dt_script.specs.Drafts.{script_of}
 use Rattle.dt_script.specs.Orders.{Orders}
 use Rattle.dt_node.specs.Serving.{Edges, IsWhole, Serves}
-use Rattle.dt_node.specs.declared.forms.Form.TheVariants as forms
+use Rattle.dt_node.specs.declared.output_forms.OutputForm.TheVariants as forms
 use Rattle.dt_node.specs.declared.outcomes.NodeOutcome.{NodeOutcome}
 use Rattle.dt_node.specs.declared.outcomes.NodeOutcome.TheVariants as node
 use Rattle.dt_retrace.specs.Completing.{GoesToStop}

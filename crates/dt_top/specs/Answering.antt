@@ -13,7 +13,7 @@ use Rattle.dt_script.specs.Drafts.{script_of}
 use Rattle.dt_script.specs.Orders.{Orders}
 use Rattle.dt_node.specs.Serving.{Edges, IsWhole}
 use Rattle.dt_node.specs.Serving as nodes
-use Rattle.dt_node.specs.declared.forms.Form.TheVariants as forms
+use Rattle.dt_node.specs.declared.output_forms.OutputForm.TheVariants as forms
 use Rattle.dt_node.specs.declared.outcomes.NodeOutcome.{NodeOutcome}
 use Rattle.dt_node.specs.declared.outcomes.NodeOutcome.TheVariants as node
 use Rattle.dt_replay.specs.Schedules.{is_accepted, replay_text, world_of}

@@ -11,8 +11,8 @@ use Rattle.dt_make.specs.Schedules.{make_text}
 use Rattle.dt_node.specs.Answering.{Answers}
 use Rattle.dt_node.specs.Completing.{Completes}
 use Rattle.dt_node.specs.Serving.{Edges, edges}
-use Rattle.dt_node.specs.declared.forms.Form.{Form}
-use Rattle.dt_node.specs.declared.forms.Form.TheVariants as forms
+use Rattle.dt_node.specs.declared.output_forms.OutputForm.{OutputForm}
+use Rattle.dt_node.specs.declared.output_forms.OutputForm.TheVariants as forms
 use Rattle.dt_node.specs.declared.outcomes.NodeOutcome.{NodeOutcome}
 use Rattle.dt_node.specs.declared.outcomes.NodeOutcome.TheVariants as node
 use Rattle.dt_replay.specs.declared.outcomes.Outcome.TheVariants as outcome
@@ -47,11 +47,11 @@ before e = edges e.wire_before e.clock_before e.out_before
 abbrev pub after : Effects → Edges
 after e = edges e.wire_after e.clock_after e.out_after
 
-pub record NodeAnswers (form : Form) (outcome : NodeOutcome) (octets : List ℕ) (e : Effects) : Type 0 where
+pub record NodeAnswers (form : OutputForm) (outcome : NodeOutcome) (octets : List ℕ) (e : Effects) : Type 0 where
   pub answers : Answers form octets outcome (before e) (after e)
   pub completes : Completes octets outcome (before e) (after e)
 
-abbrev pub node_owes : Form → Ending → List ℕ → Effects → Type 0
+abbrev pub node_owes : OutputForm → Ending → List ℕ → Effects → Type 0
 node_owes form Done octets e = NodeAnswers form node.Done octets e
 node_owes form Usage octets e = ⊥
 node_owes form TooLong octets e = ⊥

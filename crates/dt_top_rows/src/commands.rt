@@ -1,7 +1,7 @@
 //! The top call over the forms in memory: worked inputs of each command, each a row of a table, and each
 //! way in which reading and writing can fail.
 use dt_edges::MemWire;
-use dt_trial::{FREELY, Left, Trial, Untried, ends, is_cut_short, tried, tried_over};
+use dt_trial::{FREELY, RunResult, Trial, Untried, ends, is_cut_short, tried, tried_over};
 use std::alloc::Global;
 use std::test::Fail;
 
@@ -296,7 +296,7 @@ const AMPLE: Trial<'static> = Trial {
 };
 
 /// What the replay of the schedule leaves that these words make.
-fn replay_of_made(alloc: Global, words: &[&str]) -> Result<Left, Untried> {
+fn replay_of_made(alloc: Global, words: &[&str]) -> Result<RunResult, Untried> {
     let trial = Trial { words, ..AMPLE };
     let made = tried(alloc, &trial)?;
     let replay = Trial {
@@ -307,7 +307,7 @@ fn replay_of_made(alloc: Global, words: &[&str]) -> Result<Left, Untried> {
 }
 
 /// Whether a run ended with status 0 and an output that ends so.
-fn is_done_with(left: &Left, end: &str) -> bool {
+fn is_done_with(left: &RunResult, end: &str) -> bool {
     left.status == 0 && left.out.as_slice().ends_with(end.as_bytes())
 }
 

@@ -53,12 +53,12 @@ fn hears(alloc: Global, octets: &[u8], log: &str) -> Result<bool, Fail> {
 
 /// One octet that is changed: its place in the frame, and its value.
 #[derive(Clone, Copy)]
-struct Change {
+struct ChangedOctet {
     place: usize,
     value: u8,
 }
 
-impl Change {
+impl ChangedOctet {
     /// The frame with this octet changed.
     fn octets(self) -> [u8; 35] {
         let mut octets = FRAME;
@@ -146,7 +146,7 @@ fn refuses_at(alloc: Global, place: usize) -> Result<bool, Fail> {
     let mut readings = vec![in alloc; 1000]?;
     let mut log = String::new(alloc);
     for value in 0..=255 {
-        let change = Change { place, value };
+        let change = ChangedOctet { place, value };
         let octets = change.octets();
         if let Some(fault) = change.fault(alloc)?
             && octets != FRAME
@@ -178,7 +178,7 @@ const VALUES: [u8; 11] = [0, 1, 2, 3, 4, 5, 6, 7, 127, 128, 255];
 fn octets_that_read_are_heard(rt: HostRuntime) -> Result<(), Fail> {
     for place in 0..FRAME.len() {
         for value in VALUES {
-            let change = Change { place, value };
+            let change = ChangedOctet { place, value };
             let octets = change.octets();
             if octets != FRAME && change.fault(rt.alloc())?.is_none() {
                 let log = change.log(rt.alloc())?;

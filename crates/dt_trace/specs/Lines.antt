@@ -9,8 +9,8 @@ use Rattle.dt_text.specs.Lines.{◌>>=◌}
 use Rattle.dt_text.specs.Numerals.{numeral}
 use Rattle.dt_text.specs.Splitting.{word, words}
 use Rattle.dt_trace.specs.Inputs.{Input, Reading, Taken, FailedTake, FailedGive, FailedOpen}
-use Rattle.dt_trace.specs.declared.lines.Line.{Line}
-use Rattle.dt_trace.specs.declared.lines.Line.TheVariants as lines
+use Rattle.dt_trace.specs.declared.trace_lines.TraceLine.{TraceLine}
+use Rattle.dt_trace.specs.declared.trace_lines.TraceLine.TheVariants as lines
 
 -- the greatest reading and the greatest number of a give
 abbrev pub most_number : ℕ
@@ -92,14 +92,14 @@ unfoldable pub input_of : List ℕ → Result Input LineFault
 input_of octets = input_said (words octets)
 
 -- THE LINE OF THE CODE, whose octets are the digits that spell them
-abbrev pub input_seen : Line → Input
+abbrev pub input_seen : TraceLine → Input
 input_seen (lines.Reading reading) = Reading reading
 input_seen lines.Nothing = Taken None
 input_seen (lines.Datagram link hex) = datagram link (octets_of_hex hex.now)
 input_seen lines.FailedTake = FailedTake
 input_seen (lines.Failure number) = failure number
 
-abbrev pub HasPairs : Line → Type 0
+abbrev pub HasPairs : TraceLine → Type 0
 HasPairs (lines.Reading reading) = Unit {0}
 HasPairs lines.Nothing = Unit {0}
 HasPairs (lines.Datagram link hex) = IsTrue (are_pairs hex.now)
@@ -107,6 +107,6 @@ HasPairs lines.FailedTake = Unit {0}
 HasPairs (lines.Failure number) = Unit {0}
 
 -- what was read is what the definition says: this line, or this fault
-abbrev pub ReadsAs : Result Line LineFault → Result Input LineFault → Type 0
+abbrev pub ReadsAs : Result TraceLine LineFault → Result Input LineFault → Type 0
 ReadsAs (Ok line) said = (said ≡ Ok (input_seen line)) × HasPairs line
 ReadsAs (Err fault) said = said ≡ Err fault

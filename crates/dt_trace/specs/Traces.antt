@@ -7,9 +7,9 @@ use Rattle.dt_reports.specs.declared.faults.LineFault.TheVariants.{Order}
 use Rattle.dt_text.specs.InputLines.{lines_of}
 use Rattle.dt_trace.specs.Inputs.{Input, Reading, Taken, FailedTake, FailedGive, FailedOpen}
 use Rattle.dt_trace.specs.Lines.{input_of}
-use Rattle.dt_trace.specs.declared.taken.Taken as code
-use Rattle.dt_trace.specs.declared.refusals.Refusal.{Refusal}
-use Rattle.dt_trace.specs.declared.refusals.Refusal.TheVariants as refusals
+use Rattle.dt_trace.specs.declared.taken_datagrams.TakenDatagram as code
+use Rattle.dt_trace.specs.declared.trace_refusals.TraceRefusal.{TraceRefusal}
+use Rattle.dt_trace.specs.declared.trace_refusals.TraceRefusal.TheVariants as refusals
 use Rattle.dt_trace.specs.declared.trace_faults.TraceFault.{TraceFault}
 use Rattle.dt_trace.specs.declared.trace_faults.TraceFault.TheVariants as trace_faults
 
@@ -77,7 +77,7 @@ abbrev pub taken_seen : code.Taken → Datagram
 taken_seen t = record { link = t.link; octets = t.octets.items }
 
 -- A line was noted, or refused for its fault and changed nothing. Where memory ran out nothing more is said.
-abbrev pub Notes : ℕ → Result Input LineFault → Result (Unit {0}) Refusal → Recorded → Recorded → Type 0
+abbrev pub Notes : ℕ → Result Input LineFault → Result (Unit {0}) TraceRefusal → Recorded → Recorded → Type 0
 Notes line input (Ok done) before after = (rest : Recorded → Result Recorded (ℕ × LineFault)) → note_then line before input rest ≡ rest after
 Notes line input (Err (refusals.Line fault)) before after = (rest : Recorded → Result Recorded (ℕ × LineFault)) → note_then line before input rest ≡ Err (line, fault)
 Notes line input (Err refusals.NoMemory) before after = Unit {0}

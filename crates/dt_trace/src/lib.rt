@@ -4,13 +4,13 @@
 
 mod inputs;
 pub mod laws;
-mod lines;
-mod refusals;
-mod taken;
+mod taken_datagrams;
 mod trace_faults;
+mod trace_lines;
+mod trace_refusals;
 mod traces;
 
 pub use inputs::{Input, put_input};
-pub use lines::MOST_TAKEN;
 pub use trace_faults::TraceFault;
+pub use trace_lines::MOST_TAKEN;
 pub use traces::{Trace, read_trace};

@@ -5,10 +5,10 @@ ghost use Rattle.dt_text.specs.Hexadecimal.{are_pairs, octets_of_hex};
 ghost use Rattle.dt_trace.specs.Lines.{HasPairs, input_of, input_seen};
 ghost use Rattle.dt_trace.specs.Traces.{Notes, Reads, clock_of, is_placed, last_number, noted, nothing, taken_seen, trace_of, wire_of};
 
-use crate::lines::{Line, read_line};
-use crate::refusals::Refusal;
-use crate::taken::Taken;
+use crate::taken_datagrams::TakenDatagram;
 use crate::trace_faults::TraceFault;
+use crate::trace_lines::{TraceLine, read_line};
+use crate::trace_refusals::TraceRefusal;
 use dt_edges::{MemClock, MemWire};
 use dt_items::NoMemory;
 use dt_reports::LineFault;
@@ -22,7 +22,7 @@ use std::marker::Model;
 #[derive(Drop)]
 pub struct Trace {
     readings: Vec<u64>,
-    takes: Vec<Option<Taken>>,
+    takes: Vec<Option<TakenDatagram>>,
     failing_takes: Vec<u64>,
     failing_gives: Vec<u64>,
     open_fails: bool,
@@ -45,17 +45,17 @@ impl Model for Trace {
 }
 
 /// A datagram with the octets that the pairs of hexadecimal digits spell.
-fn taken(alloc: Global, link: u8, hex: &[u8]) -> Result<Taken, NoMemory>
+fn taken(alloc: Global, link: u8, hex: &[u8]) -> Result<TakenDatagram, NoMemory>
     requires { IsTrue (are_pairs hex.now) }
     ensures { IfOk result (λ taken. taken_seen taken ≡ record { link = link; octets = octets_of_hex hex.now }) }
 {
     let mut octets = Vec::new(alloc);
     decode_hex(hex, &mut octets)?;
-    Ok(Taken { link, octets })
+    Ok(TakenDatagram { link, octets })
 }
 
 /// Adds what a take found to what the takes of a wire find.
-fn add_found(found: &Option<Taken>, wire: &mut MemWire) -> Result<(), NoMemory>
+fn add_found(found: &Option<TakenDatagram>, wire: &mut MemWire) -> Result<(), NoMemory>
     ensures { OnOk result (wire.new ≡ record wire.old { entries = wire.old.entries ++ option_map taken_seen found.now ∷ [] }) }
 {
     match found {
@@ -79,42 +79,42 @@ impl Trace {
     }
 
     /// Whether what the line with this number says may stand there.
-    fn is_placed(&self, line: u64, said: &Line<'_>) -> bool
+    fn is_placed(&self, line: u64, said: &TraceLine<'_>) -> bool
         ensures { result ≡ is_placed line self.now (input_seen said.now) }
     {
         match said {
-            Line::Failure(0) => line == 1,
-            Line::Failure(number) => self.failing_gives.last().copied().unwrap_or(0) < *number,
+            TraceLine::Failure(0) => line == 1,
+            TraceLine::Failure(number) => self.failing_gives.last().copied().unwrap_or(0) < *number,
             _ => true,
         }
     }
 
     /// Notes what a line says.
-    fn add(&mut self, alloc: Global, said: &Line<'_>) -> Result<(), NoMemory>
+    fn add(&mut self, alloc: Global, said: &TraceLine<'_>) -> Result<(), NoMemory>
         requires { HasPairs said.now }
         ensures { OnOk result (self.new ≡ noted self.old (input_seen said.now)) }
     {
         match *said {
-            Line::Reading(reading) => self.readings.push(reading)?,
-            Line::Nothing => self.takes.push(None)?,
-            Line::Datagram { link, hex } => self.takes.push(Some(taken(alloc, link, hex)?))?,
-            Line::FailedTake => {
+            TraceLine::Reading(reading) => self.readings.push(reading)?,
+            TraceLine::Nothing => self.takes.push(None)?,
+            TraceLine::Datagram { link, hex } => self.takes.push(Some(taken(alloc, link, hex)?))?,
+            TraceLine::FailedTake => {
                 let number = (self.takes.len() + self.failing_takes.len()) as u64 + 1;
                 self.failing_takes.push(number)?;
             }
-            Line::Failure(0) => self.open_fails = true,
-            Line::Failure(number) => self.failing_gives.push(number)?,
+            TraceLine::Failure(0) => self.open_fails = true,
+            TraceLine::Failure(number) => self.failing_gives.push(number)?,
         }
         Ok(())
     }
 
     /// Reads the line with this number, and notes what it says.
-    fn add_line(&mut self, alloc: Global, line: u64, bytes: &[u8]) -> Result<(), Refusal>
+    fn add_line(&mut self, alloc: Global, line: u64, bytes: &[u8]) -> Result<(), TraceRefusal>
         ensures { Notes line (input_of bytes.now) result self.old self.new }
     {
         let said = read_line(bytes)?;
         if !self.is_placed(line, &said) {
-            return Err(Refusal::Line(LineFault::Order));
+            return Err(TraceRefusal::Line(LineFault::Order));
         }
         self.add(alloc, &said)?;
         Ok(())
@@ -172,13 +172,13 @@ pub fn read_trace(alloc: Global, bytes: &[u8]) -> Result<Trace, TraceFault>
         let (line, more) = split_line(rest);
         match trace.add_line(alloc, number, line) {
             Ok(()) => (),
-            Err(Refusal::Line(fault)) => {
+            Err(TraceRefusal::Line(fault)) => {
                 return Err(TraceFault::Line {
                     line: number,
                     fault,
                 });
             }
-            Err(Refusal::NoMemory) => return Err(TraceFault::NoMemory),
+            Err(TraceRefusal::NoMemory) => return Err(TraceFault::NoMemory),
         }
         rest = more;
         number += 1;

@@ -11,8 +11,8 @@ use Rattle.dt_top.specs.Runs.{Run}
 use Rattle.dt_top.specs.Streams.{effects}
 use Rattle.dt_top.specs.Words.{without_mark}
 use Rattle.dt_top.specs.declared.command.Command.{Command}
-use Rattle.dt_trial.specs.declared.left.Left.{Left}
-use Rattle.dt_trial.specs.declared.start.Start.{Start}
+use Rattle.dt_trial.specs.declared.run_results.RunResult.{RunResult}
+use Rattle.dt_trial.specs.declared.run_starts.RunStart.{RunStart}
 use Rattle.dt_trial.specs.declared.trials.Trial.{Trial}
 use Rattle.dt_trial.specs.declared.untried.Untried.{Untried}
 use Rattle.dt_trial.specs.declared.untried.Untried.TheVariants.{NoMemory, NoReading}
@@ -40,7 +40,7 @@ pub record StartSeen : Type 0 where
   pub out : SinkInMemory
   pub err : SinkInMemory
 
-abbrev pub start_seen : Start → StartSeen
+abbrev pub start_seen : RunStart → StartSeen
 start_seen start = record { words = map string_bytes start.words.items; source = start.source; clock = start.clock; out = start.out; err = start.err }
 
 -- that of a trial: nothing was read of the input and of the clock, and nothing was written. What is said of a run tells nothing of the room of its sinks but what they hold, so that each has the room of the trial is seen here alone.
@@ -60,7 +60,7 @@ abbrev pub command_in : List (List ℕ) → Option Command
 command_in words = named (without_mark words)
 
 -- one run of the program that begins so: what it left, and the source and the clock after it
-abbrev pub run_from : StartSeen → WireInMemory → WireInMemory → Left → SourceSight → ClockSight → Run
+abbrev pub run_from : StartSeen → WireInMemory → WireInMemory → RunResult → SourceSight → ClockSight → Run
 run_from start wire wire_after left source_after clock_after = record {
   command = command_in start.words;
   status = left.status;
@@ -74,22 +74,22 @@ run_from start wire wire_after left source_after clock_after = record {
 }
 
 -- The program ran from this start over this wire, and left that: all that is said of a run of it is true.
-pub record IsRunFrom (start : StartSeen) (wire wire_after : WireInMemory) (left : Left) : Type 0 where
+pub record IsRunFrom (start : StartSeen) (wire wire_after : WireInMemory) (left : RunResult) : Type 0 where
   pub source_after : SourceSight
   pub clock_after : ClockSight
   pub answers : Answers (run_from start wire wire_after left source_after clock_after)
   pub same_wire : uses_wire (command_in start.words) ≡ false → wire_after ≡ wire
 
 -- It ran the trial over this wire, and left that.
-abbrev pub IsRun : Trial → WireInMemory → WireInMemory → Left → Type 0
+abbrev pub IsRun : Trial → WireInMemory → WireInMemory → RunResult → Type 0
 IsRun trial wire wire_after left = IsRunFrom (start_of trial) wire wire_after left
 
 -- It ran the trial over the trial's own wire, and left that.
-abbrev pub IsRunOf : Trial → Left → Type 0
+abbrev pub IsRunOf : Trial → RunResult → Type 0
 IsRunOf trial left = (wire_after : WireInMemory) × IsRun trial (wire_of trial) wire_after left
 
 -- What is left has this status, this output and this text on standard error.
-pub record HasEnd (status : ℕ) (out said : List ℕ) (left : Left) : Type 0 where
+pub record HasEnd (status : ℕ) (out said : List ℕ) (left : RunResult) : Type 0 where
   pub status_is : left.status ≡ status
   pub out_is : left.out.held ≡ out
   pub said_is : left.err.held ≡ said

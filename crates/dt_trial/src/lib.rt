@@ -2,11 +2,11 @@
 //! it left.
 #![tactic(auto)]
 
-mod left;
-mod start;
+mod run_results;
+mod run_starts;
 mod trials;
 mod untried;
 
-pub use left::Left;
+pub use run_results::RunResult;
 pub use trials::{FREELY, Trial, ends, is_cut_short, tried, tried_over};
 pub use untried::Untried;

@@ -1,10 +1,10 @@
 ghost use Rattle.std.specs.Prelude.{◌≡◌, ◌↔◌, [], codes, take, IfErr, IfOk, IsErr, IsTrue, OnErr};
 ghost use Rattle.dt_trial.specs.Trials as trials;
 ghost use Rattle.dt_trial.specs.Trials.{HasEnd, IsRun, IsRunOf, Lacks};
-ghost use Rattle.dt_trial.specs.declared.left.Left.{Left};
+ghost use Rattle.dt_trial.specs.declared.run_results.RunResult.{RunResult};
 
-use crate::left::Left;
-use crate::start::Start;
+use crate::run_results::RunResult;
+use crate::run_starts::RunStart;
 use crate::untried::Untried;
 use dt_edges::MemWire;
 use dt_items::NoMemory;
@@ -66,7 +66,11 @@ fn wire_of(alloc: Global, trial: &Trial<'_>) -> Result<MemWire, NoMemory>
 
 /// Runs the trial over a wire in place of its own. After an error the wire is as it was. It costs what the
 /// program does, and the room of both sinks.
-pub fn tried_over(alloc: Global, trial: &Trial<'_>, wire: &mut MemWire) -> Result<Left, Untried>
+pub fn tried_over(
+    alloc: Global,
+    trial: &Trial<'_>,
+    wire: &mut MemWire,
+) -> Result<RunResult, Untried>
     ensures runs { IfOk result (λ left. IsRun trial.now wire.old wire.new left) }
     ensures no_reading { trial.now.readings.now ≡ [] → IsErr result }
     ensures untried { IfErr result (λ why. Lacks why trial.now) }
@@ -75,12 +79,12 @@ pub fn tried_over(alloc: Global, trial: &Trial<'_>, wire: &mut MemWire) -> Resul
     if trial.readings.is_empty() {
         return Err(Untried::NoReading);
     }
-    let start = Start::new(alloc, trial)?;
+    let start = RunStart::new(alloc, trial)?;
     Ok(start.run(alloc, wire))
 }
 
 /// Runs the trial. It costs what the program does, and the room of both sinks.
-pub fn tried(alloc: Global, trial: &Trial<'_>) -> Result<Left, Untried>
+pub fn tried(alloc: Global, trial: &Trial<'_>) -> Result<RunResult, Untried>
     ensures runs { IfOk result (λ left. IsRunOf trial.now left) }
     ensures no_reading { trial.now.readings.now ≡ [] → IsErr result }
     ensures untried { IfErr result (λ why. Lacks why trial.now) }
@@ -100,7 +104,7 @@ pub fn ends(
     out: &[u8],
     said: &[u8],
 ) -> Result<bool, Untried>
-    ensures ran { IfOk result (λ ended. (left : Left) × IsRunOf trial.now left × (IsTrue ended ↔ HasEnd status out.now said.now left)) }
+    ensures ran { IfOk result (λ ended. (left : RunResult) × IsRunOf trial.now left × (IsTrue ended ↔ HasEnd status out.now said.now left)) }
     ensures no_reading { trial.now.readings.now ≡ [] → IsErr result }
     ensures untried { IfErr result (λ why. Lacks why trial.now) }
 {
@@ -111,7 +115,7 @@ pub fn ends(
 /// Whether a run of the trial ends for want of room on standard output, where it leaves as much of its whole
 /// output as there is room for.
 pub fn is_cut_short(alloc: Global, trial: &Trial<'_>, whole: &[u8]) -> Result<bool, Untried>
-    ensures ran { IfOk result (λ cut. (left : Left) × IsRunOf trial.now left × (IsTrue cut ↔ HasEnd 8 (take trial.now.out_room whole.now) (codes "write failed\n") left)) }
+    ensures ran { IfOk result (λ cut. (left : RunResult) × IsRunOf trial.now left × (IsTrue cut ↔ HasEnd 8 (take trial.now.out_room whole.now) (codes "write failed\n") left)) }
     ensures no_reading { trial.now.readings.now ≡ [] → IsErr result }
     ensures untried { IfErr result (λ why. Lacks why trial.now) }
 {

@@ -5,7 +5,7 @@ use Rattle.dt_reports.specs.Told.{Told}
 use Rattle.dt_world_model.specs.Host.{Host}
 use Rattle.dt_world_model.specs.Relay.{Parcel}
 use Rattle.dt_world_model.specs.Script.{Ask, Concludes, Done, Hand, Plays, Script, Stops, Tell}
-use Rattle.dt_turn.specs.declared.heard.Listener.{Listener}
+use Rattle.dt_turn.specs.declared.packet_answers.Listener.{Listener}
 use Rattle.dt_turn.specs.Hearing.{heard_in, listens_fails, listens_hands, listens_tags, listens_tells}
 
 module _ {V : Type 0} (tells : V → Told → V → Type 0) (tags : V → Host → List ℕ → Unit {0} → V → Type 0) (hands : V → ℕ → Parcel (Unit {0}) → V → Type 0) (fails : V → V → Type 0) where

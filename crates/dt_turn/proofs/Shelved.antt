@@ -15,8 +15,8 @@ use Rattle.dt_shelf.specs.declared.taken.Taken.{Taken}
 use Rattle.dt_shelf.specs.declared.taken.Taken.TheVariants as taken
 use Rattle.dt_shelf.specs.Shelves.{Shelf, held_packet, hold, take_held}
 use Rattle.dt_shelf.proofs.Keeping.{take_falls}
-use Rattle.dt_turn.specs.declared.heard.Heard.{Heard}
-use Rattle.dt_turn.specs.declared.heard.Heard.TheVariants as heard
+use Rattle.dt_turn.specs.declared.packet_answers.PacketAnswer.{PacketAnswer}
+use Rattle.dt_turn.specs.declared.packet_answers.PacketAnswer.TheVariants as heard
 use Rattle.dt_turn.specs.Hearing.{heard_in}
 use Rattle.dt_turn.specs.Shelving.{Round, arrive, datagram, early_number, fetch, fetch_on, fetch_turns, first_round, hold_if, inside, plain, round, round_with, rounds, told_held, use_shelf}
 
@@ -79,11 +79,11 @@ module _ {V : Type 0} (tells : V → Told → V → Type 0) (tags : V → Host �
         let event = station_event p now (Arrive d.link (plain d.octets)) station in
         stops_within tells tags hands fails event (λ after. use_shelf now d (heard_in event heard.Nothing) after shelf) v w h
 
-    pub round_ends : {U E : Type 0} (result : Result U E) (m w : V) (after : Station (Unit {0})) (h : Heard) (b : Round) → h ≡ heard_in (station_event p now (Arrive d.link (plain d.octets)) station) heard.Nothing → Plays tells tags hands (station_event p now (Arrive d.link (plain d.octets)) station) v m after → Concludes tells tags hands fails result (use_shelf now d h after shelf) m w b → Concludes tells tags hands fails result (round p now d station shelf) v w b
+    pub round_ends : {U E : Type 0} (result : Result U E) (m w : V) (after : Station (Unit {0})) (h : PacketAnswer) (b : Round) → h ≡ heard_in (station_event p now (Arrive d.link (plain d.octets)) station) heard.Nothing → Plays tells tags hands (station_event p now (Arrive d.link (plain d.octets)) station) v m after → Concludes tells tags hands fails result (use_shelf now d h after shelf) m w b → Concludes tells tags hands fails result (round p now d station shelf) v w b
     round_ends result m w after h b is plays ends =
         let event = station_event p now (Arrive d.link (plain d.octets)) station in
         ends_after tells tags hands fails event (λ after. use_shelf now d (heard_in event heard.Nothing) after shelf) v m w after b result plays
-        (subst (λ (h : Heard). Concludes tells tags hands fails result (use_shelf now d h after shelf) m w b) is ends)
+        (subst (λ (h : PacketAnswer). Concludes tells tags hands fails result (use_shelf now d h after shelf) m w b) is ends)
 
   -- what is done after an answer
   pub fetched_ends : {U E : Type 0} (result : Result U E) (now : ℕ) (d : Datagram) (flow : Flow) (next : ℕ) (station : Station (Unit {0})) (shelf after : Shelf) (handed : Option Datagram) (v w : V) → Concludes tells tags hands fails result (fetch flow next now shelf) v w (handed, after) → Concludes tells tags hands fails result (use_shelf now d (heard.Accepted flow next) station shelf) v w (round_with station after handed)

@@ -15,7 +15,7 @@ use Rattle.dt_world_model.specs.Station.{Station, station_event, station_wake, T
 use Rattle.dt_world_laws.proofs.Wakes.{tick_before_wake}
 use Rattle.dt_station.proofs.Playing.{Leads, leads_after, plays_bind, stops_within, stops_after, ends_after}
 use Rattle.dt_shelf.specs.Shelves.{Shelf}
-use Rattle.dt_script.specs.declared.orders.Command as code
+use Rattle.dt_script.specs.declared.orders.TimedCommand as code
 use Rattle.dt_script.specs.Codes.{IsCommandOf, IsTaskOf, command_seen}
 use Rattle.dt_script.specs.Orders.{Command, Orders}
 use Rattle.dt_turn.specs.Nodes.{Node, node_with}

@@ -9,7 +9,7 @@ use Rattle.dt_script.specs.declared.orders.Orders.{Orders}
 use Rattle.dt_text.specs.Tasks.{most_octets}
 use Rattle.dt_script.specs.Codes.{IsGood, command_seen, orders_seen}
 use Rattle.dt_script.specs.Orders as model
-use Rattle.dt_turn.specs.declared.arrivals.Arrival.{Arrival}
+use Rattle.dt_turn.specs.declared.datagrams.LinkDatagram.{LinkDatagram}
 use Rattle.dt_turn.specs.declared.came.Came.{Came}
 use Rattle.dt_turn.specs.declared.incoming.Incoming.{Incoming}
 use Rattle.dt_turn.specs.declared.nodes.Node.{Node}
@@ -56,10 +56,10 @@ pub record MayTurn (o : Orders) (now : ℕ) (node : Node) : Type 0 where
   pub moment : now ≤ most_moment
 
 -- what came for a turn
-abbrev pub arrival_seen : Arrival → Datagram
+abbrev pub arrival_seen : LinkDatagram → Datagram
 arrival_seen a = record { link = a.link; octets = a.octets.now }
 
-abbrev pub arrived : Option Arrival → Option Datagram
+abbrev pub arrived : Option LinkDatagram → Option Datagram
 arrived came = option_map arrival_seen came
 
 -- the same where it reads as a Deltagram

@@ -7,12 +7,12 @@ use Rattle.dt_reports.specs.Matters.{Matter, matter_of}
 use Rattle.dt_world_model.specs.Host.{Host}
 use Rattle.dt_world_model.specs.Relay.{Parcel}
 use Rattle.dt_world_model.specs.Script.{Script, Done, Tell, Ask, Hand}
-use Rattle.dt_turn.specs.declared.heard.Heard.{Heard}
-use Rattle.dt_turn.specs.declared.heard.Heard.TheVariants as heard
-use Rattle.dt_turn.specs.declared.heard.Listener.{Listener}
+use Rattle.dt_turn.specs.declared.packet_answers.PacketAnswer.{PacketAnswer}
+use Rattle.dt_turn.specs.declared.packet_answers.PacketAnswer.TheVariants as heard
+use Rattle.dt_turn.specs.declared.packet_answers.Listener.{Listener}
 
 -- what is heard after a report: what was accepted, and what was replied to or dropped; all else leaves it as it was
-abbrev pub hears_by : Matter → Heard → Heard
+abbrev pub hears_by : Matter → PacketAnswer → PacketAnswer
 hears_by (matter.Accepted flow number count run) before = heard.Accepted flow (number_after number count)
 hears_by (matter.Replied flow number) before = heard.Refused flow (Some number)
 hears_by (matter.Dropped flow) before = heard.Refused flow None
@@ -28,11 +28,11 @@ hears_by (matter.Left link life) before = before
 hears_by (matter.Begun life) before = before
 hears_by matter.Neither before = before
 
-abbrev pub hears : Told → Heard → Heard
+abbrev pub hears : Told → PacketAnswer → PacketAnswer
 hears told before = hears_by (matter_of told) before
 
 -- what is heard in the end of a script over plain frames
-abbrev pub heard_in : {A : Type 0} → Script (Unit {0}) A → Heard → Heard
+abbrev pub heard_in : {A : Type 0} → Script (Unit {0}) A → PacketAnswer → PacketAnswer
 heard_in (Done a) before = before
 heard_in (Tell told script) before = heard_in script (hears told before)
 heard_in (Ask host octets script) before = heard_in (script tt) before

@@ -17,8 +17,8 @@ use Rattle.dt_world_model.specs.Station.{Station, Arrive, station_event}
 use Rattle.dt_shelf.specs.declared.taken.Taken.{Taken}
 use Rattle.dt_shelf.specs.declared.taken.Taken.TheVariants as taken
 use Rattle.dt_shelf.specs.Shelves.{Shelf, held_packet, hold, take_held}
-use Rattle.dt_turn.specs.declared.heard.Heard.{Heard}
-use Rattle.dt_turn.specs.declared.heard.Heard.TheVariants as heard
+use Rattle.dt_turn.specs.declared.packet_answers.PacketAnswer.{PacketAnswer}
+use Rattle.dt_turn.specs.declared.packet_answers.PacketAnswer.TheVariants as heard
 use Rattle.dt_turn.specs.Hearing.{heard_in}
 
 -- a frame as a packet on which nothing is written
@@ -87,7 +87,7 @@ pub record Round : Type 0 where
 abbrev pub round_with : Station (Unit {0}) → Shelf → Option Datagram → Round
 round_with station shelf next = record { station = station; shelf = shelf; next = next }
 
-abbrev pub use_shelf : ℕ → Datagram → Heard → Station (Unit {0}) → Shelf → Script (Unit {0}) Round
+abbrev pub use_shelf : ℕ → Datagram → PacketAnswer → Station (Unit {0}) → Shelf → Script (Unit {0}) Round
 use_shelf now d heard.Nothing station shelf = Done (round_with station shelf None)
 use_shelf now d (heard.Refused flow replied) station shelf = hold_if now d flow (early_number replied d.octets) shelf >>= λ after. Done (round_with station after None)
 use_shelf now d (heard.Accepted flow next) station shelf = fetch flow next now shelf >>= λ r. Done (round_with station r.1 r.0)

@@ -3,15 +3,15 @@ ghost use Rattle.std.specs.Prelude.{◌≡◌, ◌<◌, IfOk, IfSome, None, OnEr
 ghost use Rattle.dt_shelf.specs.Shelves.{IsShelfUpTo};
 ghost use Rattle.dt_world_model.specs.Script.{Concludes, Plays};
 ghost use Rattle.dt_world_model.specs.Station.{Arrive, station_event};
-ghost use Rattle.dt_turn.specs.declared.heard.Heard.TheVariants.{Nothing};
+ghost use Rattle.dt_turn.specs.declared.packet_answers.PacketAnswer.TheVariants.{Nothing};
 ghost use Rattle.dt_turn.specs.Codes.{GoesOn, MayGo, came_seen, incoming_seen, next_seen};
 ghost use Rattle.dt_turn.specs.Hearing.{heard_in};
 ghost use Rattle.dt_turn.specs.Shelving.{arrive, data_number, early_number, fetch, first_round, hold_if, inside, is_early, plain, round, round_with, rounds};
 
 use crate::came::Came;
-use crate::heard::{Heard, hear_arrival};
 use crate::incoming::Incoming;
 use crate::nodes::Dock;
+use crate::packet_answers::{PacketAnswer, hear_arrival};
 use dt_flow_model::Reading;
 use dt_items::NoMemory;
 use dt_layout::{Frame, GramOctets, Packet, read_packet};
@@ -112,7 +112,7 @@ fn answer<V: Visitor<Frame>>(
     came: &Came,
     now: u64,
     visitor: &mut V,
-) -> Result<Heard, NoMemory>
+) -> Result<PacketAnswer, NoMemory>
     requires go { MayGo now dock.old.station }
     ensures ends { let script = station_event dock.old.station.rules now (Arrive came.now.link (plain came.now.frame)) dock.old.station.state in
         Concludes V.tells (V.tags now) V.hands V.fails result script visitor.old visitor.new dock.new.station.state }
@@ -147,12 +147,12 @@ fn round<V: Visitor<Frame>>(
     ensures fewer { IfOk result (λ next. IfSome next (λ came. length shelf.new.held < length shelf.old.held)) }
 {
     match answer(dock, came, now, visitor)? {
-        Heard::Nothing => Ok(None),
-        Heard::Accepted { flow, next } => {
+        PacketAnswer::Nothing => Ok(None),
+        PacketAnswer::Accepted { flow, next } => {
             let now = Reading { ms: now };
             Ok(fetch(shelf, flow, next, now, visitor))
         }
-        Heard::Refused { flow, replied } => {
+        PacketAnswer::Refused { flow, replied } => {
             let number = early_number(replied, came.frame.as_gram());
             hold_if(shelf, came, Early { flow, number }, now, visitor);
             Ok(None)

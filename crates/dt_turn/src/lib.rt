@@ -1,14 +1,14 @@
 //! A node's turn: a station with its shelf, what a turn hands in and does, and who hears of it.
 #![tactic(auto)]
 
-mod arrivals;
 mod arriving;
 mod came;
-mod heard;
+mod datagrams;
 mod incoming;
 mod nodes;
+mod packet_answers;
 mod turns;
 
-pub use arrivals::{Arrival, arrival_of};
+pub use datagrams::{LinkDatagram, datagram_of};
 pub use nodes::{Dock, Node};
 pub use turns::turn;

@@ -14,8 +14,8 @@ ghost use Rattle.dt_turn.specs.Codes.{GoesOn, IsReady, MayGo, MayTurn, arrival_s
 ghost use Rattle.dt_turn.specs.Shelving.{inside};
 ghost use Rattle.dt_turn.specs.Turns.{comes, do_due, event_of, finish, hand_in, turn};
 
-use crate::arrivals::Arrival;
 use crate::arriving::arrive;
+use crate::datagrams::LinkDatagram;
 use crate::incoming::Incoming;
 use crate::nodes::{Dock, Node};
 use dt_flow_model::Reading;
@@ -50,7 +50,7 @@ fn do_event<V: Visitor<Frame>>(
 fn comes<V: Visitor<Frame>>(
     dock: &mut Dock,
     shelf: &mut Option<Shelf>,
-    arrival: Arrival<'_>,
+    arrival: LinkDatagram<'_>,
     now: u64,
     visitor: &mut V,
 ) -> Result<(), NoMemory>
@@ -81,7 +81,7 @@ fn comes<V: Visitor<Frame>>(
 fn hand_in<V: Visitor<Frame>>(
     node: &mut Node,
     ins: &[InLink],
-    came: Option<Arrival<'_>>,
+    came: Option<LinkDatagram<'_>>,
     now: u64,
     visitor: &mut V,
 ) -> Result<(), NoMemory>
@@ -236,7 +236,7 @@ pub fn turn<V: Visitor<Frame>>(
     orders: &Orders,
     node: &mut Node,
     now: u64,
-    came: Option<Arrival<'_>>,
+    came: Option<LinkDatagram<'_>>,
     visitor: &mut V,
 ) -> Result<bool, NoMemory>
     requires may { MayTurn orders.now now node.old }

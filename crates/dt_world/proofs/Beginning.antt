@@ -17,7 +17,7 @@ use Rattle.dt_world_model.specs.World.{Copy, Placed, World}
 use Rattle.dt_world_model.specs.WorldFacts.{WorldFacts}
 use Rattle.dt_world_laws.proofs.Starts.{new_world_facts}
 use Rattle.dt_world.specs.declared.notes.Notes.{Notes}
-use Rattle.dt_world.specs.declared.parts.Parts.{Parts}
+use Rattle.dt_world.specs.declared.world_parts.WorldParts.{WorldParts}
 use Rattle.dt_world.specs.declared.placed_stations.PlacedStation.{PlacedStation}
 use Rattle.dt_world.specs.Notes.{ledgers_seen}
 use Rattle.dt_world.specs.Setups.{AreNumbered, links_of}
@@ -115,7 +115,7 @@ pub new_buf : (old new : List ℕ) (len : ℕ) → old ≡ [] → len ≡ 0 → 
 new_buf old new len a b c = grind (arith, common_steps)
 
 -- THE WORLD THAT BEGINS is the definition's, and whole: its parts are made of a setup's tables
-module _ (s : Setup) (parts : Parts) (links : List (ℕ × Link)) (rules : parts.rules ≡ s.params) (ls : links_of links ≡ s.links) (moment : parts.now ≡ 0) (same : parts.links.entries ≡ links)
+module _ (s : Setup) (parts : WorldParts) (links : List (ℕ × Link)) (rules : parts.rules ≡ s.params) (ls : links_of links ≡ s.links) (moment : parts.now ≡ 0) (same : parts.links.entries ≡ links)
     (made : stations_seen parts.stations.entries ≡ begun_stations s s.stations) (copies : parts.notes.copies ≡ []) (rows : parts.notes.ledger ≡ []) (runs : parts.notes.runs.entries ≡ []) where
   pub begun_world : world_seen parts ≡ new_world s
   begun_world =

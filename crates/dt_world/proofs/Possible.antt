@@ -20,7 +20,7 @@ use Rattle.dt_world_model.proofs.Tables.{all_look, nat_is, nat_self}
 use Rattle.dt_world_laws.proofs.Sending.{settle_bounded}
 use Rattle.dt_world_laws.proofs.Worlds.{placed_is}
 use Rattle.dt_station.specs.Events.{MaySend}
-use Rattle.dt_world.specs.declared.parts.Parts.{Parts}
+use Rattle.dt_world.specs.declared.world_parts.WorldParts.{WorldParts}
 use Rattle.dt_world.specs.declared.placed_stations.PlacedStation.{PlacedStation}
 use Rattle.dt_world.specs.Outcomes.{HasStopped}
 use Rattle.dt_world.specs.Stopping.{CameTo, ComesAt}
@@ -33,7 +33,7 @@ use Rattle.dt_world.proofs.Stopping.{all_kept, first_on_the_way}
 pub station_there : (n : ℕ) (s : PlacedStation) (es : List (ℕ × PlacedStation)) → look ◌==◌ n es ≡ Some s → look ◌==◌ n (stations_seen es) ≡ Some (placed_seen s)
 station_there n s es h = look_seen n es ∙ ap (λ (o : Option PlacedStation). option_map placed_seen o) (look_keyed PlacedStation n es ∙ h)
 
-module _ (parts : Parts) (whole : IsWhole parts) where
+module _ (parts : WorldParts) (whole : IsWhole parts) where
   abbrev w : World
   w = world_seen parts
 

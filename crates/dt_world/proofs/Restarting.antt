@@ -16,7 +16,7 @@ use Rattle.dt_world_model.specs.WorldStep.{Restarts, after_event, noted_at, rest
 use Rattle.dt_world.specs.declared.placed_stations.PlacedStation.{PlacedStation}
 use Rattle.dt_world.specs.declared.events.Event.{Event}
 use Rattle.dt_world.specs.declared.events.Event.TheVariants as event
-use Rattle.dt_world.specs.declared.parts.Parts.{Parts}
+use Rattle.dt_world.specs.declared.world_parts.WorldParts.{WorldParts}
 use Rattle.dt_world.specs.Outcomes.{Happens, HasHappened}
 use Rattle.dt_world.specs.Stopping.{ComesTo}
 use Rattle.dt_world.specs.Worlds.{IsStationOf, IsWhole, event_of, placed_seen, world_seen}
@@ -58,7 +58,7 @@ later_stations p now later [] le h = tt
 later_stations p now later (e ∷ es) le h = (record { rules = h.0.rules; unspent = h.0.unspent; past = (let was = h.0.past in omega (arith, was, le)); relay = h.0.relay }, later_stations p now later es le h.1)
 
 -- TIME PASSES, or its moment would pass its end
-pub pass_happened : {L U E : Type 0} (tells : L → Entry → L → Type 0) (r : Result U E) (parts after : Parts) (whole : IsWhole parts) (by by' : ℕ) (e : Event) (v : L) → e ≡ event.Pass by' → by ≡ by' → OnOk r (after ≡ record parts { now = parts.now + by }) → OnErr r (after ≡ parts)
+pub pass_happened : {L U E : Type 0} (tells : L → Entry → L → Type 0) (r : Result U E) (parts after : WorldParts) (whole : IsWhole parts) (by by' : ℕ) (e : Event) (v : L) → e ≡ event.Pass by' → by ≡ by' → OnOk r (after ≡ record parts { now = parts.now + by }) → OnErr r (after ≡ parts)
     → Happens tells r (world_seen parts) (ComesTo (world_seen parts) (event_of e)) (after_event (world_seen parts) (event_of e)) v v (world_seen after)
 pass_happened tells (Ok done) parts after whole by by' e v is same ok err =
     subst (λ (x : Event). HasHappened tells (after_event (world_seen parts) (event_of x)) v v (world_seen after)) (sym (is ∙ ap event.Pass (sym same))) (record { lines = refl; world_is = ap world_seen ok })
@@ -66,6 +66,6 @@ pass_happened tells (Err fault) parts after whole by by' e v is same ok err =
     stopped_at_once parts whole tells (ComesTo (world_seen parts) (event_of e)) (after_event (world_seen parts) (event_of e)) v (world_seen after)
     (subst (λ (x : Event). ComesTo (world_seen parts) (event_of x) (noted_at (world_seen parts))) (sym is) refl) (ap world_seen err)
 
-pub passed_stations : (parts after : Parts) (by : ℕ) → IsWhole parts → after ≡ record parts { now = parts.now + by } → AllEntries (IsStationOf after.rules after.now) after.stations.entries
+pub passed_stations : (parts after : WorldParts) (by : ℕ) → IsWhole parts → after ≡ record parts { now = parts.now + by } → AllEntries (IsStationOf after.rules after.now) after.stations.entries
 passed_stations parts after by whole is =
-    subst (λ (q : Parts). AllEntries (IsStationOf q.rules q.now) q.stations.entries) (sym is) (later_stations parts.rules parts.now (parts.now + by) parts.stations.entries (omega arith) whole.stations)
+    subst (λ (q : WorldParts). AllEntries (IsStationOf q.rules q.now) q.stations.entries) (sym is) (later_stations parts.rules parts.now (parts.now + by) parts.stations.entries (omega arith) whole.stations)

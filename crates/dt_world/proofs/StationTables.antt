@@ -10,7 +10,7 @@ use Rattle.dt_world_model.specs.Relay.{new_relay}
 use Rattle.dt_world_model.specs.Station.{station_with}
 use Rattle.dt_world_model.specs.World.{Placed, World, placed}
 use Rattle.dt_world_model.proofs.Tables.{nat_is}
-use Rattle.dt_world.specs.declared.parts.Parts.{Parts}
+use Rattle.dt_world.specs.declared.world_parts.WorldParts.{WorldParts}
 use Rattle.dt_world.specs.declared.placed_stations.PlacedStation.{PlacedStation}
 use Rattle.dt_world.specs.Worlds.{placed_seen, stations_seen, world_seen}
 
@@ -41,7 +41,7 @@ pub not_there : (n : ℕ) (es : List (ℕ × PlacedStation)) → None ≡ lookup
 not_there n es none = look_seen n es ∙ ap (option_map placed_seen) (sym none)
 
 -- the world of these parts with other stations
-abbrev pub with_stations : Parts → List (ℕ × Placed) → World
+abbrev pub with_stations : WorldParts → List (ℕ × Placed) → World
 with_stations p stations = record (world_seen p) { stations = stations }
 
 -- what is written as it was changes nothing

@@ -12,7 +12,7 @@ use Rattle.dt_world_model.specs.WorldStep.{Refused, Stepped, WorldEvent, after_e
 use Rattle.dt_world_laws.proofs.Lifting.{lifted_fates}
 use Rattle.dt_world_laws.proofs.Promise.{facts_are_safe}
 use Rattle.dt_world_laws.proofs.Worlds.{GoesTo, effect_keeps}
-use Rattle.dt_world.specs.declared.parts.Parts.{Parts}
+use Rattle.dt_world.specs.declared.world_parts.WorldParts.{WorldParts}
 use Rattle.dt_world.specs.Outcomes.{HasHappened, HasStopped, IsDone, IsSpent}
 use Rattle.dt_world.specs.Setups.{AreNumbered}
 use Rattle.dt_world.specs.Moments.{most_now}
@@ -22,7 +22,7 @@ use Rattle.dt_world.specs.Worlds.{IsStationOf, IsWhole, WorldValue, most_read, w
 abbrev pub unspent : World → WorldValue
 unspent w = record { state = w; spent = false }
 
-module _ (parts : Parts) (whole : IsWhole parts) (e : WorldEvent) (can : CanHappen e) (begun : first_refusal (refusals (world_seen parts) e) ≡ None) (after : Parts) where
+module _ (parts : WorldParts) (whole : IsWhole parts) (e : WorldEvent) (can : CanHappen e) (begun : first_refusal (refusals (world_seen parts) e) ≡ None) (after : WorldParts) where
   abbrev w : World
   w = world_seen parts
 

@@ -3,9 +3,9 @@ use Rattle.std.specs.Prelude.{ℕ, ◌+◌, ◌≤◌, false, true, All, List, [
 use Rattle.dt_flow_model.specs.Frames.{Mark}
 use Rattle.dt_world_model.specs.World.{Copy}
 use Rattle.dt_world.specs.declared.copies.LinkCopy.{LinkCopy}
-use Rattle.dt_world.specs.declared.copies.Slot.{Slot}
+use Rattle.dt_world.specs.declared.copies.CopySlot.{CopySlot}
 
-abbrev pub copy_of : List ℕ → Slot → Copy
+abbrev pub copy_of : List ℕ → CopySlot → Copy
 copy_of octets slot =
     record {
       link = slot.link;
@@ -14,14 +14,14 @@ copy_of octets slot =
       lost = slot.lost;
     }
 
-abbrev pub copies_of : List ℕ → List Slot → List Copy
+abbrev pub copies_of : List ℕ → List CopySlot → List Copy
 copies_of octets slots = map (copy_of octets) slots
 
 -- the octets of each slot are there
-abbrev pub IsWithin : ℕ → Slot → Type 0
+abbrev pub IsWithin : ℕ → CopySlot → Type 0
 IsWithin most slot = slot.start + slot.length ≤ most
 
-abbrev pub AreWithin : ℕ → List Slot → Type 0
+abbrev pub AreWithin : ℕ → List CopySlot → Type 0
 AreWithin most slots = All (IsWithin most) slots
 
 -- what stands for a copy that isn't there: a lost one

@@ -6,7 +6,7 @@ use Rattle.dt_ledger.specs.Reads.{read_of_all}
 use Rattle.dt_world_model.specs.Ledgers.{Accepts, Change, FlowLedger, FlowRun, GivesUp, Ledgers, ReadsOut, Settles, Takes, Transmits, TransmitsAgain, ledger_of, run_of}
 use Rattle.dt_world_model.specs.Tables.{look, same_flow, write}
 use Rattle.dt_world.specs.declared.notes.Notes.{Notes}
-use Rattle.dt_world.specs.declared.occasions.Occasion.{Occasion}
+use Rattle.dt_world.specs.declared.event_contexts.EventContext.{EventContext}
 
 abbrev pub ledgers_seen : Notes → Ledgers
 ledgers_seen n = record { rows = n.ledger; runs = n.runs.entries }
@@ -27,7 +27,7 @@ abbrev pub begun : Flow → Ledgers → Ledgers
 begun f all = record { rows = write same_flow f (ledger_of all f) all.rows; runs = write same_flow f (run_of all f) all.runs }
 
 -- WHERE A CHANGE OF A FLOW THAT IS THERE FINDS NO MEMORY. Octets that are taken or given want room, and so does the first read of a life.
-abbrev pub WantsRoom : Occasion → Change → FlowLedger → Type 0
+abbrev pub WantsRoom : EventContext → Change → FlowLedger → Type 0
 WantsRoom o Takes l = Unit {0}
 WantsRoom o (Transmits count) l = ⊥
 WantsRoom o TransmitsAgain l = ⊥
@@ -37,7 +37,7 @@ WantsRoom o (Accepts run) l = Unit {0}
 WantsRoom o (ReadsOut count) l = HasNoEntry o.life l.reads
 
 -- The places of given octets, and the count of those that were read, would not end below 2^62.
-abbrev pub IsBeyond : Occasion → Change → FlowLedger → Type 0
+abbrev pub IsBeyond : EventContext → Change → FlowLedger → Type 0
 IsBeyond o Takes l = ⊥
 IsBeyond o (Transmits count) l = ⊥
 IsBeyond o TransmitsAgain l = ⊥

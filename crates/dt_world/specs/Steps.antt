@@ -11,7 +11,7 @@ use Rattle.dt_world_model.specs.World.{Noted, World, world_handler}
 use Rattle.dt_world_model.specs.WorldStep.{items_with, occasion}
 use Rattle.dt_world_laws.specs.Visits.{IsOnTheWay}
 use Rattle.dt_world.specs.declared.notes.Notes.{Notes}
-use Rattle.dt_world.specs.declared.occasions.Brought.{Brought}
+use Rattle.dt_world.specs.declared.event_contexts.Brought.{Brought}
 use Rattle.dt_world.specs.declared.reporters.Reporter.{Reporter}
 use Rattle.dt_world.specs.Notes.{ledgers_seen}
 use Rattle.dt_world.specs.Reporters.{TellsAll, copies_of, ledgers_of, occasion_of}

@@ -10,7 +10,7 @@ use Rattle.dt_world_model.specs.WorldStep.{Arrives, Loses, Passes, Reads, Restar
 use Rattle.dt_world.specs.declared.events.Event.{Event}
 use Rattle.dt_world.specs.declared.events.Event.TheVariants as event
 use Rattle.dt_world.specs.declared.placed_stations.PlacedStation.{PlacedStation}
-use Rattle.dt_world.specs.declared.parts.Parts.{Parts}
+use Rattle.dt_world.specs.declared.world_parts.WorldParts.{WorldParts}
 use Rattle.dt_world.specs.Notes.{ledgers_seen}
 use Rattle.dt_world.specs.Setups.{AreNumbered, links_of}
 use Rattle.dt_world.specs.Moments.{most_now}
@@ -37,7 +37,7 @@ abbrev pub stations_seen : List (ℕ × PlacedStation) → List (ℕ × Placed)
 stations_seen [] = []
 stations_seen (e ∷ es) = (e.0, placed_seen e.1) ∷ stations_seen es
 
-abbrev pub world_seen : Parts → World
+abbrev pub world_seen : WorldParts → World
 world_seen w =
     record {
       params = w.rules;
@@ -71,7 +71,7 @@ MayStep (Loses copy) = Unit {0}
 MayStep (Restarts n) = Unit {0}
 
 -- THE PARTS OF A WORLD that isn't spent
-pub record IsWhole (w : Parts) : Type 0 where
+pub record IsWhole (w : WorldParts) : Type 0 where
   pub limits : IsWithinLimits w.rules
   pub moment : w.now ≤ most_now
   pub numbers : AreNumbered w.links.entries

@@ -15,12 +15,12 @@ use std::marker::Model;
 pub struct Copies {
     /// Those of all copies, one after another.
     octets: Vec<u8>,
-    slots: Vec<Slot>,
+    slots: Vec<CopySlot>,
 }
 
 /// What is kept of one copy beside its octets.
 #[derive(Clone, Copy)]
-pub struct Slot {
+pub struct CopySlot {
     pub start: u64,
     pub put: u64,
     pub birth: u64,
@@ -88,7 +88,7 @@ impl Copies {
         self.slots.reserve(1)?;
         let start = self.octets.len() as u64;
         self.octets.extend_from_slice(octets)?;
-        self.slots.push_reserved(Slot {
+        self.slots.push_reserved(CopySlot {
             start,
             put,
             birth: mark.birth(),

@@ -16,14 +16,14 @@ ghost use Rattle.dt_world.specs.Steps.{BringsPacket};
 ghost use Rattle.dt_world.specs.Stopping.{ComesAt, ComesTo, IsLastLife};
 ghost use Rattle.dt_world.specs.Worlds.{IsStationOf, IsWhole, world_seen};
 
+use crate::event_contexts::Brought;
 use crate::marked::Mark;
 use crate::moments::Moment;
-use crate::occasions::Brought;
-use crate::parts::{Parts, event_at};
 use crate::placed_events::PlacedEvent;
 use crate::placed_stations::start_again;
 use crate::refusals::link_of;
 use crate::reporters::Lines;
+use crate::world_parts::{WorldParts, event_at};
 use dt_items::{MarkedOctets, NoMemory};
 use dt_layout::{Frame, GramOctets, Packet, read_packet};
 use dt_reports::{LogLine, Report};
@@ -31,7 +31,7 @@ use dt_units::Flow;
 
 /// Octets are sent at the station where their flow begins.
 pub fn send<L: Lines>(
-    parts: &mut Parts,
+    parts: &mut WorldParts,
     flow: Flow,
     sent: MarkedOctets<'_>,
     lines: &mut L,
@@ -62,7 +62,7 @@ pub fn send<L: Lines>(
 
 /// Unread octets are read at the station where their flow ends, at most as many as the buffer holds.
 pub fn read<L: Lines>(
-    parts: &mut Parts,
+    parts: &mut WorldParts,
     flow: Flow,
     buf: &mut [u8],
     lines: &mut L,
@@ -82,7 +82,7 @@ pub fn read<L: Lines>(
 }
 
 /// The station does what is due.
-pub fn tick<L: Lines>(parts: &mut Parts, node: u32, lines: &mut L) -> Result<(), NoMemory>
+pub fn tick<L: Lines>(parts: &mut WorldParts, node: u32, lines: &mut L) -> Result<(), NoMemory>
     requires whole { IsWhole parts.old }
     ensures happens { let w = world_seen parts.old in
         Happens L.tells result w (ComesAt w node Tick) (at_station w node Tick) lines.old lines.new (world_seen parts.new) }
@@ -96,7 +96,7 @@ pub fn tick<L: Lines>(parts: &mut Parts, node: u32, lines: &mut L) -> Result<(),
 
 /// A copy comes to the station at its link's end.
 pub fn arrive<L: Lines>(
-    parts: &mut Parts,
+    parts: &mut WorldParts,
     copy: u32,
     buf: &mut [u8],
     frame: &mut Frame,
@@ -177,7 +177,7 @@ fn no_octets(place: u64) -> Brought<'static>
 }
 
 /// A copy is lost.
-pub fn lose<L: Lines>(parts: &mut Parts, copy: u32, lines: &mut L)
+pub fn lose<L: Lines>(parts: &mut WorldParts, copy: u32, lines: &mut L)
     requires begun { first_refusal (refusals (world_seen parts.old) (Loses copy)) ≡ None }
     ensures happens { let w = world_seen parts.old in
         HasHappened L.tells (loss w copy) lines.old lines.new (world_seen parts.new) }
@@ -196,7 +196,7 @@ pub fn lose<L: Lines>(parts: &mut Parts, copy: u32, lines: &mut L)
 
 /// The station starts again: its next life, with empty tables and an empty relay, and silent for a while.
 /// Copies on links stay. One that isn't there does nothing.
-pub fn restart<L: Lines>(parts: &mut Parts, node: u32, lines: &mut L) -> Result<(), NoMemory>
+pub fn restart<L: Lines>(parts: &mut WorldParts, node: u32, lines: &mut L) -> Result<(), NoMemory>
     requires whole { IsWhole parts.old }
     ensures happens { let w = world_seen parts.old in
         Happens L.tells result w (ComesTo w (Restarts node)) (after_event w (Restarts node)) lines.old lines.new (world_seen parts.new) }
@@ -231,7 +231,7 @@ const MOST_NOW: u64 = 1 << 61;
 
 /// `by` milliseconds pass. `NoMemory` comes exactly where the moment would be above 2^61, and changes
 /// nothing.
-pub fn pass(parts: &mut Parts, by: u32) -> Result<(), NoMemory>
+pub fn pass(parts: &mut WorldParts, by: u32) -> Result<(), NoMemory>
     requires whole { IsWhole parts.old }
     ensures passed { OnOk result (parts.new ≡ record parts.old { now = parts.old.now + by }) }
     ensures moment { OnOk result (parts.new.now ≤ most_now) }

@@ -4,13 +4,12 @@
 mod copies;
 mod doing;
 mod effects;
+mod event_contexts;
 mod events;
 mod marked;
 mod marks;
 mod moments;
 mod notes;
-mod occasions;
-mod parts;
 mod placed_events;
 mod placed_stations;
 mod readings;
@@ -20,6 +19,7 @@ mod runs;
 mod setups;
 mod starts;
 mod steps;
+mod world_parts;
 mod worlds;
 
 pub use copies::{Copies, LinkCopy};

@@ -11,9 +11,9 @@ ghost use Rattle.dt_world.specs.Marks.{IsForeign, LacksMark};
 ghost use Rattle.dt_world.specs.Notes.{ledgers_seen};
 ghost use Rattle.dt_world.specs.Occasions.{occasion_seen};
 
+use crate::event_contexts::EventContext;
 use crate::marked::Mark;
 use crate::notes::Notes;
-use crate::occasions::Occasion;
 use dt_host::{Host, flow_of_packet};
 use dt_layout::{GramOctets, Packet, read_packet};
 use dt_ledger::Ledger;
@@ -24,7 +24,7 @@ use dt_units::{Flow, NodeId};
 /// packet, or one that a sender made, of a host whose numbers begin elsewhere than the event's.
 pub fn mark_of(
     notes: &Notes,
-    occasion: &Occasion<'_>,
+    occasion: &EventContext<'_>,
     host: &Host,
     gram: GramOctets<'_>,
 ) -> Option<Mark>
@@ -47,7 +47,7 @@ pub fn mark_of(
 /// begin elsewhere than the event's.
 fn place_of(
     notes: &Notes,
-    occasion: &Occasion<'_>,
+    occasion: &EventContext<'_>,
     host: &Host,
     flow: &Flow,
     packet: &Packet<'_>,
@@ -69,7 +69,7 @@ fn place_of(
 /// far the number is before the next one. None comes exactly where the host's numbers begin elsewhere.
 fn sent_place(
     notes: &Notes,
-    occasion: &Occasion<'_>,
+    occasion: &EventContext<'_>,
     host: &Host,
     flow: &Flow,
     number: u32,
@@ -93,7 +93,7 @@ fn sent_place(
 /// expected one, else that of the packet that it answers.
 fn acknowledged_place(
     notes: &Notes,
-    occasion: &Occasion<'_>,
+    occasion: &EventContext<'_>,
     host: &Host,
     flow: &Flow,
     number: u32,

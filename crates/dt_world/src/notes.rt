@@ -12,7 +12,7 @@ ghost use Rattle.dt_world.specs.Occasions.{occasion_seen};
 
 use crate::copies::Copies;
 use crate::effects::Change;
-use crate::occasions::Occasion;
+use crate::event_contexts::EventContext;
 use crate::runs::FlowRun;
 use dt_items::NoMemory;
 use dt_ledger::{Fate, Instant, Ledger};
@@ -39,7 +39,7 @@ pub struct Notes {
 /// below 2^62.
 pub fn change(
     notes: &mut Notes,
-    occasion: &Occasion<'_>,
+    occasion: &EventContext<'_>,
     flow: &Flow,
     change: Change,
 ) -> Result<(), NoMemory>
@@ -114,7 +114,7 @@ fn begin_run(runs: &mut Runs, flow: &Flow)
 }
 
 /// The flow takes the octets of the event.
-fn take_octets(notes: &mut Notes, occasion: &Occasion<'_>, flow: &Flow) -> Result<(), NoMemory>
+fn take_octets(notes: &mut Notes, occasion: &EventContext<'_>, flow: &Flow) -> Result<(), NoMemory>
     ensures ok { OnOk result (ledgers_seen notes.new ≡ ledgers_by (occasion_seen occasion.entry.now) (Changes flow.now Takes) (ledgers_seen notes.old)) }
     ensures err { OnErr result (ledgers_seen notes.new ≡ ledgers_seen notes.old) }
     ensures copies { notes.new.copies ≡ notes.old.copies }
@@ -129,7 +129,7 @@ fn take_octets(notes: &mut Notes, occasion: &Occasion<'_>, flow: &Flow) -> Resul
 }
 
 /// `count` octets of the flow go out for the first time.
-fn transmit(notes: &mut Notes, occasion: &Occasion<'_>, flow: &Flow, count: u32)
+fn transmit(notes: &mut Notes, occasion: &EventContext<'_>, flow: &Flow, count: u32)
     requires there { IsThere flow.now (ledgers_seen notes.old) }
     ensures becomes { ledgers_seen notes.new ≡ ledgers_by (occasion_seen occasion.entry.now) (Changes flow.now (Transmits count)) (ledgers_seen notes.old) }
     ensures copies { notes.new.copies ≡ notes.old.copies }
@@ -148,7 +148,7 @@ fn transmit(notes: &mut Notes, occasion: &Occasion<'_>, flow: &Flow, count: u32)
 }
 
 /// Something of the flow's run goes out again.
-fn retransmit(notes: &mut Notes, occasion: &Occasion<'_>, flow: &Flow)
+fn retransmit(notes: &mut Notes, occasion: &EventContext<'_>, flow: &Flow)
     requires there { IsThere flow.now (ledgers_seen notes.old) }
     ensures becomes { ledgers_seen notes.new ≡ ledgers_by (occasion_seen occasion.entry.now) (Changes flow.now TransmitsAgain) (ledgers_seen notes.old) }
     ensures copies { notes.new.copies ≡ notes.old.copies }
@@ -160,7 +160,7 @@ fn retransmit(notes: &mut Notes, occasion: &Occasion<'_>, flow: &Flow)
 }
 
 /// The `count` leftmost open octets of the present life are given up.
-fn give_up(notes: &mut Notes, occasion: &Occasion<'_>, flow: &Flow, count: u32)
+fn give_up(notes: &mut Notes, occasion: &EventContext<'_>, flow: &Flow, count: u32)
     requires there { IsThere flow.now (ledgers_seen notes.old) }
     ensures becomes { ledgers_seen notes.new ≡ ledgers_by (occasion_seen occasion.entry.now) (Changes flow.now (GivesUp count)) (ledgers_seen notes.old) }
     ensures copies { notes.new.copies ≡ notes.old.copies }
@@ -172,7 +172,7 @@ fn give_up(notes: &mut Notes, occasion: &Occasion<'_>, flow: &Flow, count: u32)
 }
 
 /// The `count` leftmost open octets of the present life are acknowledged.
-fn acknowledge(notes: &mut Notes, occasion: &Occasion<'_>, flow: &Flow, count: u32)
+fn acknowledge(notes: &mut Notes, occasion: &EventContext<'_>, flow: &Flow, count: u32)
     requires there { IsThere flow.now (ledgers_seen notes.old) }
     ensures becomes { ledgers_seen notes.new ≡ ledgers_by (occasion_seen occasion.entry.now) (Changes flow.now (Settles count)) (ledgers_seen notes.old) }
     ensures copies { notes.new.copies ≡ notes.old.copies }
@@ -186,7 +186,7 @@ fn acknowledge(notes: &mut Notes, occasion: &Occasion<'_>, flow: &Flow, count: u
 /// The octets of the event are given to the flow's receiver, from the event's place on.
 fn accept(
     notes: &mut Notes,
-    occasion: &Occasion<'_>,
+    occasion: &EventContext<'_>,
     flow: &Flow,
     run: bool,
 ) -> Result<(), NoMemory>
@@ -216,7 +216,12 @@ fn accept(
 }
 
 /// `count` unread octets of the flow are read.
-fn read(notes: &mut Notes, occasion: &Occasion<'_>, flow: &Flow, count: u64) -> Result<(), NoMemory>
+fn read(
+    notes: &mut Notes,
+    occasion: &EventContext<'_>,
+    flow: &Flow,
+    count: u64,
+) -> Result<(), NoMemory>
     ensures ok { OnOk result (ledgers_seen notes.new ≡ ledgers_by (occasion_seen occasion.entry.now) (Changes flow.now (ReadsOut count)) (ledgers_seen notes.old)) }
     ensures err { OnErr result (ledgers_seen notes.new ≡ ledgers_seen notes.old) }
     ensures copies { notes.new.copies ≡ notes.old.copies }

@@ -9,10 +9,10 @@ ghost use Rattle.dt_world.specs.PlacedEvents.{MayCome, event_seen};
 ghost use Rattle.dt_world.specs.Steps.{Happened, Played, noted_first};
 ghost use Rattle.dt_world.specs.Reporters.{Ends, occasion_of};
 
+use crate::event_contexts::EventContext;
 use crate::marked::MarkedFrame;
 use crate::moments::Moment;
 use crate::notes::Notes;
-use crate::occasions::Occasion;
 use crate::placed_events::PlacedEvent;
 use crate::readings::read_clock;
 use crate::reporters::{Lines, Reporter};
@@ -115,7 +115,7 @@ pub fn play<L: Lines>(
 pub fn deliver_to_station<'a, 'o, L: Lines>(
     placed: &mut PlacedStation,
     event: PlacedEvent<'_>,
-    occasion: Occasion<'o>,
+    occasion: EventContext<'o>,
     notes: &'a mut Notes,
     lines: &'a mut L,
 ) -> Result<(), NoMemory>

@@ -6,13 +6,13 @@ ghost use Rattle.dt_world.specs.Setups.{AreNumbered};
 ghost use Rattle.dt_world.specs.Worlds.{event_of, world_seen};
 
 use crate::events::Event;
-use crate::parts::Parts;
+use crate::world_parts::WorldParts;
 use dt_reports::StepFault;
 use dt_units::Flow;
 use dt_world_model::Link;
 
 /// The fault with which the event is refused, if it is.
-pub fn refusal(parts: &Parts, event: &Event<'_>) -> Option<StepFault>
+pub fn refusal(parts: &WorldParts, event: &Event<'_>) -> Option<StepFault>
     requires numbers { AreNumbered parts.now.links.entries }
     ensures { result ≡ first_refusal (refusals (world_seen parts.entry.now) (event_of event.now)) }
 {
@@ -27,7 +27,7 @@ pub fn refusal(parts: &Parts, event: &Event<'_>) -> Option<StepFault>
     }
 }
 
-fn station_refusal(parts: &Parts, n: u32) -> Option<StepFault>
+fn station_refusal(parts: &WorldParts, n: u32) -> Option<StepFault>
     ensures { result ≡ first_refusal (lacks_station (world_seen parts.entry.now) n ∷ []) }
 {
     if !has_station(parts, n) {
@@ -36,7 +36,7 @@ fn station_refusal(parts: &Parts, n: u32) -> Option<StepFault>
     None
 }
 
-fn flow_refusal(parts: &Parts, flow: &Flow, n: u32) -> Option<StepFault>
+fn flow_refusal(parts: &WorldParts, flow: &Flow, n: u32) -> Option<StepFault>
     ensures { result ≡ first_refusal (is_own flow.now ∷ lacks_station (world_seen parts.entry.now) n ∷ []) }
 {
     if flow.from.0 == flow.to.0 {
@@ -48,7 +48,7 @@ fn flow_refusal(parts: &Parts, flow: &Flow, n: u32) -> Option<StepFault>
     None
 }
 
-fn loss_refusal(parts: &Parts, copy: u32) -> Option<StepFault>
+fn loss_refusal(parts: &WorldParts, copy: u32) -> Option<StepFault>
     ensures { let w = world_seen parts.entry.now in
         result ≡ first_refusal (lacks_copy w copy ∷ is_lost w copy ∷ []) }
 {
@@ -63,7 +63,7 @@ fn loss_refusal(parts: &Parts, copy: u32) -> Option<StepFault>
     }
 }
 
-fn arrival_refusal(parts: &Parts, copy: u32) -> Option<StepFault>
+fn arrival_refusal(parts: &WorldParts, copy: u32) -> Option<StepFault>
     requires numbers { AreNumbered parts.now.links.entries }
     ensures { let w = world_seen parts.entry.now in
         result ≡ first_refusal (lacks_copy w copy ∷ is_lost w copy ∷ is_late_copy w copy ∷ []) }
@@ -85,14 +85,14 @@ fn arrival_refusal(parts: &Parts, copy: u32) -> Option<StepFault>
 }
 
 /// Whether the station is there.
-pub fn has_station(parts: &Parts, n: u32) -> bool
+pub fn has_station(parts: &WorldParts, n: u32) -> bool
     ensures { result ≡ has_key ◌==◌ n (world_seen parts.entry.now).stations }
 {
     parts.stations.contains_key(&n)
 }
 
 /// The link of that number. Where there is none, which no copy meets, it is a link of node 0.
-pub fn link_of(parts: &Parts, number: u16) -> Link
+pub fn link_of(parts: &WorldParts, number: u16) -> Link
     requires numbers { AreNumbered parts.now.links.entries }
     ensures { result ≡ link_in number (world_seen parts.entry.now).links }
 {

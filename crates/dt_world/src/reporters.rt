@@ -9,10 +9,10 @@ ghost use Rattle.dt_world.specs.Notes.{ledgers_seen};
 ghost use Rattle.dt_world.specs.Occasions.{occasion_seen};
 
 use crate::effects::{Effect, effect_of};
+use crate::event_contexts::EventContext;
 use crate::marked::{Mark, MarkedFrame};
 use crate::marks::mark_of;
 use crate::notes::{Notes, change};
-use crate::occasions::Occasion;
 use dt_host::Host;
 use dt_items::NoMemory;
 use dt_layout::Frame;
@@ -34,7 +34,7 @@ pub trait Lines {
 pub struct Reporter<'a, 'o, L> {
     pub notes: &'a mut Notes,
     pub lines: &'a mut L,
-    pub occasion: Occasion<'o>,
+    pub occasion: EventContext<'o>,
     pub failed: bool,
 }
 
@@ -89,7 +89,7 @@ impl<'a, 'o, L: Lines> Visitor<MarkedFrame> for Reporter<'a, 'o, L> {
 }
 
 /// What a report says of the world is noted. After `NoMemory` nothing was.
-fn note(notes: &mut Notes, occasion: &Occasion<'_>, effect: &Effect) -> Result<(), NoMemory>
+fn note(notes: &mut Notes, occasion: &EventContext<'_>, effect: &Effect) -> Result<(), NoMemory>
     ensures ok { OnOk result (ledgers_seen notes.new ≡ ledgers_by (occasion_seen occasion.entry.now) (effect_seen effect.now) (ledgers_seen notes.old)) }
     ensures err { OnErr result (ledgers_seen notes.new ≡ ledgers_seen notes.old) }
     ensures copies { notes.new.copies ≡ notes.old.copies }

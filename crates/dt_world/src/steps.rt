@@ -14,8 +14,8 @@ ghost use Rattle.dt_world.specs.Worlds.{IsStationOf, IsWhole, MayStep, event_of,
 use crate::doing;
 use crate::events::Event;
 use crate::notes::stays_below;
-use crate::parts::Parts;
 use crate::reporters::Lines;
+use crate::world_parts::WorldParts;
 use dt_items::{MarkedOctets, NoMemory};
 use dt_layout::Frame;
 use dt_units::Flow;
@@ -23,7 +23,7 @@ use dt_units::Flow;
 /// The event happens. `NoMemory` comes also where a count would pass its end: 2^62 octets of a flow,
 /// 2^32 lives of a station, a moment of 2^61 ms.
 pub fn apply_event<L: Lines>(
-    parts: &mut Parts,
+    parts: &mut WorldParts,
     event: &Event<'_>,
     buf: &mut [u8],
     frame: &mut Frame,
@@ -69,7 +69,7 @@ pub fn apply_event<L: Lines>(
 }
 
 /// Whether the flow can take `count` octets more.
-fn can_take(parts: &Parts, flow: Flow, count: u64) -> bool
+fn can_take(parts: &WorldParts, flow: Flow, count: u64) -> bool
     ensures can { IsTrue result ↔ (length (ledger_of (world_seen parts.entry.now).ledgers flow).taken + count < octets_below) }
     ensures flow { IsFlow flow }
 {

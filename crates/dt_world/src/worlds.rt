@@ -10,12 +10,12 @@ ghost use Rattle.dt_world.specs.Worlds.{MayStep, event_of};
 use crate::copies::Copies;
 use crate::events::Event;
 use crate::notes::Notes;
-use crate::parts::Parts;
 use crate::refusals::{has_station, refusal};
 use crate::reporters::Lines;
 use crate::setups::Setup;
 use crate::starts::{first_stations, same_links};
 use crate::steps::apply_event;
+use crate::world_parts::WorldParts;
 use dt_items::NoMemory;
 use dt_layout::Frame;
 use dt_ledger::Ledger;
@@ -30,7 +30,7 @@ use std::mem::size_of;
 /// Stations and links, the copies of packets on the links, and what became of each octet.
 #[derive(Drop)]
 pub struct World {
-    parts: Box<Parts>,
+    parts: Box<WorldParts>,
     /// Into which octets are read, 65,536 of them.
     buf: Vec<u8>,
     /// In which a copy that comes is read.
@@ -76,7 +76,7 @@ impl World {
         let mut buf = Vec::new(alloc);
         buf.resize(MOST_OCTETS as usize, 0)?;
         let frame = Box::new(alloc, Frame::new())?;
-        let parts = Parts {
+        let parts = WorldParts {
             rules,
             now: 0,
             stations,

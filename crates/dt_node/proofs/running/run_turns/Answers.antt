@@ -17,7 +17,7 @@ use Rattle.dt_fold.specs.Logging.{HasAll, HasPart}
 use Rattle.dt_turn.specs.Turns.{turn}
 use Rattle.dt_node.specs.Logging.{NotesBehind, NotesFault, noted_text}
 use Rattle.dt_turn.proofs.Readying.{ready_later, not_equal}
-use Rattle.dt_node.specs.declared.forms.Form.{Form}
+use Rattle.dt_node.specs.declared.output_forms.OutputForm.{OutputForm}
 use Rattle.dt_node.specs.declared.recorders.Writer.{Writer}
 use Rattle.dt_node.specs.declared.watch.Watch.{Watch}
 use Rattle.dt_script.specs.Orders.{Orders}
@@ -40,7 +40,7 @@ use Rattle.dt_node.proofs.running.run_turns.Goals as goal
 
 -- THE TURN THAT WAS TAKEN: how it stood before all turns and before this one, and what this one left
 module _ (g : Over) (c : After-take_turn g) where
-  abbrev form : Form
+  abbrev form : OutputForm
   form = c.args.run.now.recorder.writer.form
 
   abbrev orders : Orders
@@ -58,17 +58,17 @@ module _ (g : Over) (c : After-take_turn g) where
   abbrev after : Node
   after = node_seen c.args.orders.now c.take_turn.new.self.node
 
-  abbrev Ends : Result Bool Stop → Form → Option Datagram → Type 0
+  abbrev Ends : Result Bool Stop → OutputForm → Option Datagram → Type 0
   Ends r f came =
       let now = c.moment-moment.result in
       TurnEnds r f orders.setup.me now (noted_text f (Reading c.turns.reading)) (turn orders now came (node_seen c.args.orders.now c.turns.run.node)) (turned r after) (scene_of c.turns.run.recorder.writer.gives before) left
 
   -- its call speaks of the form that is written now, and of the datagram as it was lent
   abbrev Ended : Result Bool Stop → Type 0
-  Ended r = Ends r c.turns.run.recorder.writer.form (arrived c.arrival_of-arrival.result)
+  Ended r = Ends r c.turns.run.recorder.writer.form (arrived c.datagram_of-arrival.result)
 
   ends : (r : Result Bool Stop) → Ended r → Ends r form (handed c.turns.came c.turns.octets)
-  ends r h = subst (λ (d : Option Datagram). Ends r form d) c.arrival_of-arrival.ensures (subst (λ (f : Form). Ends r f (arrived c.arrival_of-arrival.result)) c.turns.invariant.form h)
+  ends r h = subst (λ (d : Option Datagram). Ends r form d) c.datagram_of-arrival.ensures (subst (λ (f : OutputForm). Ends r f (arrived c.datagram_of-arrival.result)) c.turns.invariant.form h)
 
   -- it was played whole
   passed : (stopped now : Bool) → stopped ≡ now → Ended (Ok stopped) → Passed form orders first left.gives c.turns.watch (turned (Ok now) after) (edges_of left before.clock)
@@ -101,7 +101,7 @@ module _ (g : Over) (c : After-take_turn g) where
 
     in_form : {T E : Type 0} (r : Result T E) → NotesBehind c.take_turn.new.self.recorder.writer.form input r (g.K.Sink.sight c.take_turn.new.out) z → NotesBehind form (Found found) r (g.K.Sink.sight c.take_turn.new.out) z
     in_form r h =
-        subst (λ (f : Form). NotesBehind f (Found found) r (g.K.Sink.sight c.take_turn.new.out) z) w.same
+        subst (λ (f : OutputForm). NotesBehind f (Found found) r (g.K.Sink.sight c.take_turn.new.out) z) w.same
         (subst (λ (i : Input). NotesBehind c.take_turn.new.self.recorder.writer.form i r (g.K.Sink.sight c.take_turn.new.out) z) says h)
 
     written : NotesBehind {T = Unit {0}} {E = Failed} c.take_turn.new.self.recorder.writer.form input (Ok tt) (g.K.Sink.sight c.take_turn.new.out) z → Noted form orders first left.gives c.turns.watch after found (edges v before.clock z)
@@ -163,7 +163,7 @@ returns-in-Err-take-clause-serves g c =
     let wait = c.wait_for-wait.result in
     let a = g.K.Sink.sight c.take_turn.new.out in
     let z = g.K.Sink.sight c.fail-in-Err-take.new.out in
-    let noted = subst (λ (f : Form). NotesFault FailedTake f c.fail-in-Err-take.result a z) w.same c.fail-in-Err-take.ensures.notes in
+    let noted = subst (λ (f : OutputForm). NotesFault FailedTake f c.fail-in-Err-take.result a z) w.same c.fail-in-Err-take.ensures.notes in
     untaken_ends (form g k) (orders g k) (first g k) (left g k).gives c.turns.watch (after g k) (left g k).wire (g.W.Wire.sight c.take.new.self) (before g k).clock a z wait c.fail-in-Err-take.result w.goes c.in-Err-take.ensures.failed c.take.ensures.waited (w.asks wait c.wait_for-wait.ensures) noted
 
 pub returns-in-Err-note-clause-serves : goal.returns-in-Err-note-clause-serves

@@ -1,4 +1,4 @@
-use Rattle.dt_node.specs.declared.forms.Form.TheVariants.{Trace}
+use Rattle.dt_node.specs.declared.output_forms.OutputForm.TheVariants.{Trace}
 use Rattle.dt_node.specs.Serving.{edges}
 use Rattle.dt_node.proofs.Completed.{completes}
 use Rattle.dt_node.proofs.serving.serve_traced.Goals as goal

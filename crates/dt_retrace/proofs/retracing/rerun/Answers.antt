@@ -1,7 +1,7 @@
 use Rattle.std.proofs.Common.{subst}
 use Rattle.dt_edges.specs.Clocks.{ClockInMemory, clock_in_memory}
 use Rattle.dt_edges.specs.Wires.{WireInMemory, wire_in_memory}
-use Rattle.dt_node.specs.declared.forms.Form.TheVariants.{Log}
+use Rattle.dt_node.specs.declared.output_forms.OutputForm.TheVariants.{Log}
 use Rattle.dt_node.specs.Answering.{Answers}
 use Rattle.dt_node.specs.Completing.{Completes}
 use Rattle.dt_node.specs.Serving.{edges}

@@ -1,6 +1,6 @@
 use Rattle.std.proofs.Common.{ℕ, arith, subst}
 use Rattle.dt_messages.specs.declared.joiners.Marks.{Marks}
-use Rattle.dt_endpoint.specs.declared.answers.Piece.TheVariants as piece
+use Rattle.dt_endpoint.specs.declared.answers.Delivered.TheVariants as piece
 use Rattle.dt_endpoint.specs.Calls.{Reads}
 use Rattle.dt_service_model.specs.Turns.{most_read}
 use Rattle.dt_service.proofs.Events.{reads_nothing, reads_some}

@@ -2,7 +2,7 @@ use Rattle.std.proofs.Common.{◌≡◌, ◌∙◌, None, Ok, Option, Result, ap
 use Rattle.std.proofs.lemmas.Result.{err_from_is_err_and}
 use Rattle.dt_items.specs.declared.memory.NoMemory.{NoMemory}
 use Rattle.dt_turn.specs.declared.came.Came.{Came}
-use Rattle.dt_turn.specs.declared.heard.Heard.TheVariants as heard
+use Rattle.dt_turn.specs.declared.packet_answers.PacketAnswer.TheVariants as heard
 use Rattle.dt_turn.specs.Codes.{came_seen, next_seen}
 use Rattle.dt_turn.specs.Hearing.{heard_in}
 use Rattle.dt_turn.specs.Shelving.{early_number, plain, round_with}

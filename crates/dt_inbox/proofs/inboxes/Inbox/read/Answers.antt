@@ -1,6 +1,6 @@
 use Rattle.std.proofs.Common.{length, refl, subst}
 use Rattle.dt_endpoint.specs.Calls.{Reads}
-use Rattle.dt_endpoint.specs.declared.answers.Piece.TheVariants as piece
+use Rattle.dt_endpoint.specs.declared.answers.Delivered.TheVariants as piece
 use Rattle.dt_inbox.specs.Inboxes.{InboxValue}
 use Rattle.dt_inbox.proofs.Readings.{piece_read}
 use Rattle.dt_inbox.proofs.inboxes.Inbox.read.Goals as goal

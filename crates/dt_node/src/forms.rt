@@ -1,8 +1,0 @@
-/// What is written of a run.
-#[derive(Clone, Copy, Debug, PartialEq, Eq)]
-pub enum Form {
-    /// Its log: a line for each report.
-    Log,
-    /// A trace: a line for each input.
-    Trace,
-}

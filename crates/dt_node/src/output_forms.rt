@@ -1,0 +1,8 @@
+/// What is written of a run.
+#[derive(Clone, Copy, Debug, PartialEq, Eq)]
+pub enum OutputForm {
+    /// Its log: a line for each report.
+    Log,
+    /// A trace: a line for each input.
+    Trace,
+}

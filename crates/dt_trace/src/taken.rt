@@ -1,6 +1,0 @@
-/// A datagram that a take found.
-#[derive(Drop)]
-pub struct Taken {
-    pub link: u8,
-    pub octets: Vec<u8>,
-}

@@ -1,0 +1,6 @@
+/// A datagram that a take found.
+#[derive(Drop)]
+pub struct TakenDatagram {
+    pub link: u8,
+    pub octets: Vec<u8>,
+}
