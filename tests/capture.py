@@ -19,7 +19,6 @@ import os
 import pathlib
 import random
 import shutil
-import socket
 import subprocess
 import sys
 import tempfile
@@ -31,10 +30,9 @@ TOOL = ROOT / "tools" / "capture.py"
 LUA = ROOT / "tools" / "wireshark" / "deltat.lua"
 sys.path.insert(0, str(ROOT / "tools"))
 import capture  # noqa: E402
-from lib import is_up  # noqa: E402
+from lib import HOST, bound, free_port, is_up  # noqa: E402
 import wire  # noqa: E402
 
-HOST = "127.0.0.1"
 PARAMS = "params 400 700 60 150 250 1300 65536 65536 3000 2147483648"
 NO_RESENDS = "params 400 700 60 2000 250 1300 65536 65536 3000 2147483648"
 SLACK = 0.3  # seconds: from a reading of the clock to the datagram, where other jobs run too
@@ -46,19 +44,6 @@ class Packet(NamedTuple):
     sender: int
     receiver: int
     payload: str
-
-
-def bound() -> socket.socket:
-    """A socket at a port that the machine chooses."""
-    it = socket.socket(socket.AF_INET, socket.SOCK_DGRAM)
-    it.bind((HOST, 0))
-    it.settimeout(5)
-    return it
-
-
-def free_port() -> int:
-    with bound() as it:
-        return it.getsockname()[1]
 
 
 class Tshark:

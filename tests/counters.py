@@ -26,6 +26,8 @@ import time
 import urllib.request
 from collections import Counter
 
+from lib import free_port
+
 ROOT = pathlib.Path(__file__).resolve().parent.parent
 TOOL = [sys.executable, str(ROOT / "tools" / "counters.py")]
 SAMPLE = re.compile(r'([a-z_]+)(?:\{((?:[a-z]+="[^"\\\n]*",?)+)\})? (-?\d+)')
@@ -102,12 +104,6 @@ def totals(program: str) -> tuple[bool, str]:
     logs = [log for it in schedules if b"\nstation " in it and (log := replay(program, it))]
     wrong = [it for log in logs for it in differences(log)]
     return not wrong and len(logs) > 20, f"{len(logs)} logs, {len(wrong)} counts differ {wrong[:5]}"
-
-
-def free_port() -> int:
-    with socket.socket(socket.AF_INET, socket.SOCK_DGRAM) as it:
-        it.bind(("127.0.0.1", 0))
-        return it.getsockname()[1]
 
 
 def script(me: int, ports: list[int]) -> str:

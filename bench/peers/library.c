@@ -53,7 +53,7 @@ static void must(uint8_t status, const char *what) {
 static dt_node *opened(uint32_t me) {
     uint32_t charge = setting("DELAY_MS", 1) + 2 * LATE, rto = setting("RTO_MS", 40), mpl = 2 * charge, a = 5;
     uint32_t room = getenv("MANY_FLOWS") == NULL ? MOST : 4096;
-    struct dt_params params = {mpl, 12 * rto, a, rto, 2 * rto, 1400, room, room, room, 2147483648u, 0};
+    struct dt_params params = {mpl, 20 * rto, a, rto, 2 * rto, 1400, room, room, room, 2147483648u, 0};
     struct dt_start start = {clock_ms(CLOCK_BOOTTIME), me, me == SERVER && getenv("AGAIN") != NULL};
     struct dt_link link = {charge, 0, LINK};
     struct dt_route routes[CLIENTS + 1] = {{SERVER, LINK}};
