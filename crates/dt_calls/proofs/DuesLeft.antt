@@ -20,7 +20,7 @@ use Rattle.dt_calls_model.specs.Messages.{Piece, reversed}
 use Rattle.dt_calls_model.specs.Reads.{happens, post}
 use Rattle.dt_calls.specs.declared.dues.Due.{Due}
 use Rattle.dt_calls.specs.declared.dues.Due.TheVariants as due
-use Rattle.dt_calls.specs.Dues.{BothRest, IsDue, IsThere, RestsBut, due_after, due_behind, due_of, due_with}
+use Rattle.dt_calls.specs.Dues.{BothRest, IsDue, IsThere, RestsBut, due_after, due_after_event, due_of, due_with}
 use Rattle.dt_calls.specs.Hearing.{HeardValue, first_piece, for_event, heard_all, heard_with, is_other}
 use Rattle.dt_calls.specs.Parts.{IsKeptWorld, keys_in}
 use Rattle.dt_calls.specs.Resting.{RestsAt}
@@ -194,7 +194,7 @@ pub by_same_keys : (d : Due) (w : World) (flows others : List (Flow × Begun)) �
 by_same_keys d w flows others same h = with_keys d w flows others same h
 
 module _ (w : World) (kept : IsKeptWorld w) (flows : List (Flow × Begun)) (settled : IsDue due.Nothing w flows) (h0 : HeardValue) where
-  behind : (e : WorldEvent) → IsNoSendOrRead e → IsDue (due_behind e flows (heard_all (happens e w).0 (for_event h0))) (happens e w).1 flows
+  behind : (e : WorldEvent) → IsNoSendOrRead e → IsDue (due_after_event e flows (heard_all (happens e w).0 (for_event h0))) (happens e w).1 flows
   behind (Passes by) may = record { rest = λ k there. tt; there = tt }
   behind (Sends f octets begin end) may = absurd may
   behind (Reads f most) may = absurd may
@@ -203,7 +203,7 @@ module _ (w : World) (kept : IsKeptWorld w) (flows : List (Flow × Begun)) (sett
   behind (Loses copy) may = record { rest = rests_behind w kept flows settled.rest h0 (Loses copy) tt tt (λ g. tt); there = there_behind w kept flows settled.rest h0 (Loses copy) tt tt (λ g. tt) }
   behind (Restarts n) may = record { rest = λ k there side. restart_rests w kept n (flow_read side k) (settled.rest k there side); there = tt }
 
-  pub due_left : (e : WorldEvent) → IsNoSendOrRead e → IsDue (due_behind e (flows_after e flows) (heard_all (happens e w).0 (for_event h0))) (happens e w).1 (flows_after e flows)
+  pub due_left : (e : WorldEvent) → IsNoSendOrRead e → IsDue (due_after_event e (flows_after e flows) (heard_all (happens e w).0 (for_event h0))) (happens e w).1 (flows_after e flows)
   due_left (Passes by) may = behind (Passes by) may
   due_left (Sends f octets begin end) may = absurd may
   due_left (Reads f most) may = absurd may

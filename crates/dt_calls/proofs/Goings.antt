@@ -13,7 +13,7 @@ use Rattle.dt_calls_model.specs.Reads.{happens}
 use Rattle.dt_calls.specs.declared.dues.Due.{Due}
 use Rattle.dt_calls.specs.declared.dues.Due.TheVariants as due
 use Rattle.dt_calls.specs.declared.world_calls.CallsParts.{CallsParts}
-use Rattle.dt_calls.specs.Dues.{IsDue, due_behind}
+use Rattle.dt_calls.specs.Dues.{IsDue, due_after_event}
 use Rattle.dt_calls.specs.Flows.{flows_seen}
 use Rattle.dt_calls.specs.Happening.{HasHappened}
 use Rattle.dt_calls.specs.Hearing.{HeardValue, Hears, for_event}
@@ -42,10 +42,10 @@ module _ {H : Type 0} (e : WorldEvent) (p : CallsParts H) (whole : IsWhole p) (w
       pub world_after : IsKeptWorld world.state
       world_after = subst IsKeptWorld (sym has_happened.world) (happens_keeps e p.world.state (can_come e may) whole.world)
 
-      pub due_then : (flows : List (Flow × Begun)) (d : Due) → IsDue due.Nothing p.world.state (flows_seen p.flows.entries) → flows ≡ flows_after e (flows_seen p.flows.entries) → d ≡ due_behind e flows t → IsDue d world.state flows
+      pub due_then : (flows : List (Flow × Begun)) (d : Due) → IsDue due.Nothing p.world.state (flows_seen p.flows.entries) → flows ≡ flows_after e (flows_seen p.flows.entries) → d ≡ due_after_event e flows t → IsDue d world.state flows
       due_then flows d settled named is =
           let old = flows_seen p.flows.entries in
-          let one = subst (λ (h : HeardValue). IsDue (due_behind e (flows_after e old) h) (happens e p.world.state).1 (flows_after e old)) (sym has_happened.heard_is) (due_left p.world.state whole.world old settled p.heard e may) in
-          let two = subst (λ (w : World). IsDue (due_behind e (flows_after e old) t) w (flows_after e old)) (sym has_happened.world) one in
-          let three = subst (λ (fs : List (Flow × Begun)). IsDue (due_behind e fs t) world.state fs) (sym named) two in
+          let one = subst (λ (h : HeardValue). IsDue (due_after_event e (flows_after e old) h) (happens e p.world.state).1 (flows_after e old)) (sym has_happened.heard_is) (due_left p.world.state whole.world old settled p.heard e may) in
+          let two = subst (λ (w : World). IsDue (due_after_event e (flows_after e old) t) w (flows_after e old)) (sym has_happened.world) one in
+          let three = subst (λ (fs : List (Flow × Begun)). IsDue (due_after_event e fs t) world.state fs) (sym named) two in
           subst (λ (x : Due). IsDue x world.state flows) (sym is) three

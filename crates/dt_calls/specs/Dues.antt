@@ -25,14 +25,14 @@ due_of flows (Some f) = due_with (has_key same_flow f flows) (has_key same_flow 
 abbrev pub due_after : List (Flow × Begun) → HeardValue → Due
 due_after flows h = if is_some h.piece || h.several then due.All else due_of flows h.accepted
 
-abbrev pub due_behind : WorldEvent → List (Flow × Begun) → HeardValue → Due
-due_behind (Passes by) flows h = due.All
-due_behind (Sends f octets begin end) flows h = due.All
-due_behind (Reads f most) flows h = due.All
-due_behind (Ticks n) flows h = due_after flows h
-due_behind (Arrives copy) flows h = due_after flows h
-due_behind (Loses copy) flows h = due_after flows h
-due_behind (Restarts n) flows h = due.Nothing
+abbrev pub due_after_event : WorldEvent → List (Flow × Begun) → HeardValue → Due
+due_after_event (Passes by) flows h = due.All
+due_after_event (Sends f octets begin end) flows h = due.All
+due_after_event (Reads f most) flows h = due.All
+due_after_event (Ticks n) flows h = due_after flows h
+due_after_event (Arrives copy) flows h = due_after flows h
+due_after_event (Loses copy) flows h = due_after flows h
+due_after_event (Restarts n) flows h = due.Nothing
 
 -- NOTHING NEED BE READ at the sides of a flow
 abbrev pub BothRest : World → Flow → Type 0

@@ -1,11 +1,11 @@
 //! Which sides must be read after an event.
 ghost use Rattle.std.specs.Prelude.{◌≡◌};
 ghost use Rattle.dt_world.specs.Worlds.{event_of};
-ghost use Rattle.dt_calls.specs.Dues.{due_after, due_behind};
+ghost use Rattle.dt_calls.specs.Dues.{due_after, due_after_event};
 ghost use Rattle.dt_calls.specs.Flows.{flows_seen};
 
 use crate::flows::Flows;
-use crate::hearing::Heard;
+use crate::heard::Heard;
 use dt_messages::reversed;
 use dt_units::Flow;
 use dt_world::Event;
@@ -21,8 +21,8 @@ pub enum Due {
 }
 
 /// What must be read after an event: all where time has passed, and else what it gave.
-pub fn due_behind(event: &Event<'_>, flows: &Flows, heard: &Heard) -> Due
-    ensures { result ≡ due_behind (event_of event.now) (flows_seen flows.now.entries) heard.now }
+pub fn due_after_event(event: &Event<'_>, flows: &Flows, heard: &Heard) -> Due
+    ensures { result ≡ due_after_event (event_of event.now) (flows_seen flows.now.entries) heard.now }
 {
     match *event {
         Event::Pass { .. } | Event::Send { .. } | Event::Read { .. } => Due::All,

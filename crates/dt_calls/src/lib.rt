@@ -9,7 +9,7 @@ mod dues;
 mod flow_sides;
 mod flows;
 mod handlers;
-mod hearing;
+mod heard;
 mod reading;
 mod totals;
 mod unsure_calls;

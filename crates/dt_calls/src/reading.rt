@@ -23,7 +23,7 @@ use crate::dues::Due;
 use crate::flow_sides::Side;
 use crate::flows;
 use crate::handlers::Handler;
-use crate::hearing::Heard;
+use crate::heard::Heard;
 use crate::totals::is_waiting;
 use crate::world_calls::CallsParts;
 use dt_calls_model::{Call, CallState, Posted};

@@ -26,10 +26,10 @@ ghost use Rattle.dt_calls.specs.declared.dues.Due.TheVariants as due;
 
 use crate::call_events::CallEvent;
 use crate::call_lines::{CallLine, CallLines};
-use crate::dues::{Due, due_behind};
+use crate::dues::{Due, due_after_event};
 use crate::flows::{Flows, add_flow, drop_begun};
 use crate::handlers::Handler;
-use crate::hearing::Heard;
+use crate::heard::Heard;
 use crate::reading::{post, read_due};
 use crate::totals::{CallTotals, totals_of};
 use crate::unsure_calls::mark_unsure;
@@ -390,5 +390,5 @@ fn advance_world<H>(parts: &mut CallsParts<H>, event: &Event<'_>) -> Result<Due,
         return Err(StepFault::NoMemory);
     }
     drop_begun(&mut parts.flows, event);
-    Ok(due_behind(event, &parts.flows, &parts.heard))
+    Ok(due_after_event(event, &parts.flows, &parts.heard))
 }

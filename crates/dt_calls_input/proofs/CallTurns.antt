@@ -20,7 +20,7 @@ use Rattle.dt_scenario.specs.Scenes.{event_by}
 use Rattle.dt_scenario.specs.Writing.{Writes}
 use Rattle.dt_scenario.proofs.Steps.{done_says, refused_says, stopped_says}
 use Rattle.dt_scenario.proofs.Writing.{same_name}
-use Rattle.dt_calls_input.specs.declared.writing.CallLog.{CallLog}
+use Rattle.dt_calls_input.specs.declared.call_logs.CallLog.{CallLog}
 use Rattle.dt_calls_input.specs.CallInputs.{by_calls}
 use Rattle.dt_calls.specs.CallOutcomes.{IsRefused, StepsTo}
 use Rattle.dt_calls_input.specs.CallTexts.{call_text}

@@ -6,7 +6,7 @@ ghost use Rattle.dt_scenario.specs.Scenes.{event_by};
 ghost use Rattle.dt_calls_input.specs.CallInputs.{by_calls};
 ghost use Rattle.dt_calls.specs.CallOutcomes.{MayCome, call_event};
 
-use crate::writing::CallLog;
+use crate::call_logs::CallLog;
 use dt_calls::{CallEvent, Calls, Reversing};
 use dt_edges::Sink;
 use dt_fold::Stop;

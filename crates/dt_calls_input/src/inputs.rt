@@ -5,8 +5,8 @@ ghost use Rattle.dt_world_model.specs.Setup.{new_world};
 ghost use Rattle.dt_calls_model.specs.Calls.{new_calls};
 ghost use Rattle.dt_calls_input.specs.CallInputs.{last_text};
 
+use crate::call_logs::put_totals;
 use crate::calling::{apply_world_line, step};
-use crate::writing::put_totals;
 use dt_calls::{CallEvent, Calls, Reversing};
 use dt_edges::{Failed, Sink};
 use dt_fold::Stop;

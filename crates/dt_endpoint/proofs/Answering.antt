@@ -18,8 +18,8 @@ use Rattle.dt_world_model.specs.Host.{Host, read_octets, read_piece, receiver_at
 use Rattle.dt_world_model.specs.Station.{Event, Read, Send, Station, settle_station, station_event, told_piece, told_sent}
 use Rattle.dt_endpoint.specs.declared.answers.Sent.{Sent}
 use Rattle.dt_endpoint.specs.declared.answers.Delivered.{Delivered}
-use Rattle.dt_endpoint.specs.declared.noting.HeardAnswer.{HeardAnswer}
-use Rattle.dt_endpoint.specs.declared.noting.HeardAnswer.TheVariants as heard
+use Rattle.dt_endpoint.specs.declared.heard_answers.HeardAnswer.{HeardAnswer}
+use Rattle.dt_endpoint.specs.declared.heard_answers.HeardAnswer.TheVariants as heard
 use Rattle.dt_endpoint.specs.Acts.{answer_of}
 use Rattle.dt_endpoint.specs.Hearing.{heard_in, hears, piece_after, piece_in}
 use Rattle.dt_endpoint.specs.Endpoints.{EndpointValue, after_event, moment_of, script_of}

@@ -17,7 +17,7 @@ use Rattle.dt_world_model.specs.Host.{Host, HostAct, Offer, Turn, least, next_tu
 use Rattle.dt_world_model.specs.Relay.{Expired, Goes, Left, Out, Parcel, Relay, enter, leave, with_outs}
 use Rattle.dt_world_model.specs.Script.{Ask, Done, Hand, Script, Tell, ◌>>=◌}
 use Rattle.dt_world_model.specs.Station.{Event, Station, do_turns, flush, flush_at, flush_entered, flush_links, flush_on, flush_turns, go_on, happen, pass_on, send_off, settle_station, station_event, station_with}
-use Rattle.dt_endpoint.specs.declared.noting.HeardAnswer.{HeardAnswer}
+use Rattle.dt_endpoint.specs.declared.heard_answers.HeardAnswer.{HeardAnswer}
 use Rattle.dt_endpoint.specs.Acts.{answer_of}
 use Rattle.dt_endpoint.specs.Hearing.{heard_in, hears, piece_after, piece_in}
 

@@ -28,8 +28,8 @@ use Rattle.dt_endpoint.specs.declared.answers.Delivered.{Delivered}
 use Rattle.dt_endpoint.specs.declared.answers.Routed.{Routed}
 use Rattle.dt_endpoint.specs.declared.answers.Routed.TheVariants as routed
 use Rattle.dt_endpoint.specs.declared.answers.Delivered.TheVariants as piece
-use Rattle.dt_endpoint.specs.declared.noting.HeardAnswer.{HeardAnswer}
-use Rattle.dt_endpoint.specs.declared.noting.HeardAnswer.TheVariants as heard
+use Rattle.dt_endpoint.specs.declared.heard_answers.HeardAnswer.{HeardAnswer}
+use Rattle.dt_endpoint.specs.declared.heard_answers.HeardAnswer.TheVariants as heard
 use Rattle.dt_endpoint.specs.Acts.{answer_of, plain}
 use Rattle.dt_endpoint.specs.Endpoints.{Breaks, EndpointValue, after_event, moment_of, with_refused, with_route}
 

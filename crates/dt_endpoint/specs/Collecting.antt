@@ -4,8 +4,8 @@ use Rattle.dt_reports.specs.Told.{Told}
 use Rattle.dt_world_model.specs.Host.{Host}
 use Rattle.dt_world_model.specs.Relay.{Parcel}
 use Rattle.dt_world_model.specs.Script.{Script}
-use Rattle.dt_endpoint.specs.declared.noting.HeardAnswer.{HeardAnswer}
-use Rattle.dt_endpoint.specs.declared.noting.HeardAnswer.TheVariants as heard
+use Rattle.dt_endpoint.specs.declared.heard_answers.HeardAnswer.{HeardAnswer}
+use Rattle.dt_endpoint.specs.declared.heard_answers.HeardAnswer.TheVariants as heard
 use Rattle.dt_endpoint.specs.Acts.{Hands, OutFrameValue, Tells, acts_of, answer_of, frames_in, out_frame, reports_in}
 use Rattle.dt_endpoint.specs.Counts.{Counted, counts_act, counts_acts}
 use Rattle.dt_endpoint.specs.Hearing.{heard_in, hears, kept, piece_after, piece_in}

@@ -9,7 +9,7 @@ ghost use Rattle.dt_endpoint.specs.Collecting.{CollectEnds, begun};
 ghost use Rattle.dt_endpoint.specs.Endpoints.{GoesOn, MayGo};
 ghost use Rattle.dt_world_laws.specs.Counting.{octets_sent};
 
-use crate::collecting::Collector;
+use crate::collectors::Collector;
 use dt_flow_model::Reading;
 use dt_items::NoMemory;
 use dt_layout::Frame;

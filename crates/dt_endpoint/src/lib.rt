@@ -3,16 +3,16 @@
 #![tactic(auto)]
 
 mod answers;
-mod collecting;
+mod collectors;
 mod counts;
 mod endpoints;
 mod events;
 mod followed_totals;
 mod frames;
 mod guards;
+mod heard_answers;
 mod laws;
 mod links;
-mod noting;
 
 pub use answers::{Delivered, Received, Routed, Sent, Ticked};
 pub use counts::{Counts, Octets};

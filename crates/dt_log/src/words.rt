@@ -131,7 +131,7 @@ fn put_ended<K: Sink>(words: &[Word<'_>], out: &mut K) -> Result<(), Failed>
 
 /// Puts some words and more words, each after a space, and a line feed.
 #[tactic(auto, using(dt_edges::proofs::Puts::two_parts))]
-fn put_behind<K: Sink>(some: &[Word<'_>], more: &[Word<'_>], out: &mut K) -> Result<(), Failed>
+fn put_following<K: Sink>(some: &[Word<'_>], more: &[Word<'_>], out: &mut K) -> Result<(), Failed>
     ensures { Puts K.sight (after_spaces some.now ++ (after_spaces more.now ++ codes "\n")) result out.old out.new }
 {
     put_words(some, out)?;
@@ -149,5 +149,5 @@ pub fn put_row<K: Sink>(
     ensures { Puts K.sight (row_text (word_text first.entry ∷ map word_text some.now ++ map word_text more.now)) result out.old out.new }
 {
     put_word(&first, out)?;
-    put_behind(some, more, out)
+    put_following(some, more, out)
 }

@@ -17,14 +17,14 @@ before_params stages.Start next = Some next
 before_params _ next = None
 
 -- after the parameters of a script alone
-abbrev pub behind_params : Stage → Stage → Option Stage
-behind_params stages.Params next = Some next
-behind_params _ next = None
+abbrev pub after_params : Stage → Stage → Option Stage
+after_params stages.Params next = Some next
+after_params _ next = None
 
 -- after the number of the node alone
-abbrev pub behind_me : Stage → Stage → Option Stage
-behind_me stages.Me next = Some next
-behind_me _ next = None
+abbrev pub after_me : Stage → Stage → Option Stage
+after_me stages.Me next = Some next
+after_me _ next = None
 
 -- in the setup alone
 abbrev pub in_setup : Stage → Stage → Option Stage
@@ -65,8 +65,8 @@ world_after run stage (lines.Script line) = None
 -- A script: the parameters, the node's number, its address, then peers, routes and the shelf, then `go`, then
 -- what happens at moments that never fall, and the stop last.
 abbrev pub script_line_after : Stage → ScriptLine → Option Stage
-script_line_after stage (Me n again) = behind_params stage stages.Me
-script_line_after stage (Local address) = behind_me stage stages.Setup
+script_line_after stage (Me n again) = after_params stage stages.Me
+script_line_after stage (Local address) = after_me stage stages.Setup
 script_line_after stage (Node line) = in_setup stage stages.Setup
 script_line_after stage (At at does) = not_before stage at (stages.Run at)
 script_line_after stage (Stop at) = not_before stage at stages.Ended

@@ -1,6 +1,6 @@
 ghost use Rattle.std.specs.Prelude.{◌≡◌};
 ghost use Rattle.dt_text.specs.Said.{run_said, said, script_said};
-ghost use Rattle.dt_text.specs.Stages.{before_params, behind_me, behind_params, calls_run, in_run, in_setup, not_before, schedule_run, script_after, script_line_after, stage_after, world_after};
+ghost use Rattle.dt_text.specs.Stages.{before_params, after_me, after_params, calls_run, in_run, in_setup, not_before, schedule_run, script_after, script_line_after, stage_after, world_after};
 
 use crate::lines::{Form, Line, RunLine, ScriptLine};
 use dt_reports::{Fault, LineFault};
@@ -37,8 +37,8 @@ fn before_params(stage: Stage, next: Stage) -> Option<Stage>
 }
 
 /// After the parameters of a script alone, and then in the next stage.
-fn behind_params(stage: Stage, next: Stage) -> Option<Stage>
-    ensures { result ≡ behind_params stage next }
+fn after_params(stage: Stage, next: Stage) -> Option<Stage>
+    ensures { result ≡ after_params stage next }
 {
     match stage {
         Stage::Params => Some(next),
@@ -47,8 +47,8 @@ fn behind_params(stage: Stage, next: Stage) -> Option<Stage>
 }
 
 /// After the number of the node alone, and then in the next stage.
-fn behind_me(stage: Stage, next: Stage) -> Option<Stage>
-    ensures { result ≡ behind_me stage next }
+fn after_me(stage: Stage, next: Stage) -> Option<Stage>
+    ensures { result ≡ after_me stage next }
 {
     match stage {
         Stage::Me => Some(next),
@@ -139,8 +139,8 @@ fn script_line_after(stage: Stage, line: &ScriptLine<'_>) -> Option<Stage>
     ensures { result ≡ script_line_after stage (script_said line.now) }
 {
     match line {
-        ScriptLine::Me { .. } => behind_params(stage, Stage::Me),
-        ScriptLine::Local(_) => behind_me(stage, Stage::Setup),
+        ScriptLine::Me { .. } => after_params(stage, Stage::Me),
+        ScriptLine::Local(_) => after_me(stage, Stage::Setup),
         ScriptLine::Node(_) => in_setup(stage, Stage::Setup),
         ScriptLine::At { at, .. } => not_before(stage, *at, Stage::Run { last: *at }),
         ScriptLine::Stop { at } => not_before(stage, *at, Stage::Ended),

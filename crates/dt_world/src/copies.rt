@@ -2,7 +2,7 @@
 ghost use Rattle.std.specs.Prelude.{◌≡◌, ◌<◌, ◌^◌, ◌↔◌, [], ◌∷◌, ◌++◌, IfSome, IsSome, OnErr, OnOk, length, set};
 ghost use Rattle.dt_world.specs.Copies.{copy_in, copy_seen, lost_copy, put_copy};
 
-use crate::marked::Mark;
+use crate::marked_frames::Mark;
 use dt_items::NoMemory;
 use std::alloc::Global;
 use std::marker::Model;

@@ -17,7 +17,7 @@ ghost use Rattle.dt_world.specs.Stopping.{ComesAt, ComesTo, IsLastLife};
 ghost use Rattle.dt_world.specs.Worlds.{IsStationOf, IsWhole, world_seen};
 
 use crate::event_contexts::Brought;
-use crate::marked::Mark;
+use crate::marked_frames::Mark;
 use crate::moments::Moment;
 use crate::placed_events::PlacedEvent;
 use crate::placed_stations::start_again;

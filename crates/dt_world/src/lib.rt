@@ -6,7 +6,7 @@ mod doing;
 mod effects;
 mod event_contexts;
 mod events;
-mod marked;
+mod marked_frames;
 mod marks;
 mod moments;
 mod notes;

@@ -12,7 +12,7 @@ ghost use Rattle.dt_world.specs.Notes.{ledgers_seen};
 ghost use Rattle.dt_world.specs.Occasions.{occasion_seen};
 
 use crate::event_contexts::EventContext;
-use crate::marked::Mark;
+use crate::marked_frames::Mark;
 use crate::notes::Notes;
 use dt_host::{Host, flow_of_packet};
 use dt_layout::{GramOctets, Packet, read_packet};

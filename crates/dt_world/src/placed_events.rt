@@ -1,5 +1,5 @@
 //! An event at a station of the world.
-use crate::marked::Mark;
+use crate::marked_frames::Mark;
 use dt_layout::Frame;
 use dt_units::Flow;
 

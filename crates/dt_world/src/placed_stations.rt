@@ -10,7 +10,7 @@ ghost use Rattle.dt_world.specs.Steps.{Happened, Played, noted_first};
 ghost use Rattle.dt_world.specs.Reporters.{Ends, occasion_of};
 
 use crate::event_contexts::EventContext;
-use crate::marked::MarkedFrame;
+use crate::marked_frames::MarkedFrame;
 use crate::moments::Moment;
 use crate::notes::Notes;
 use crate::placed_events::PlacedEvent;

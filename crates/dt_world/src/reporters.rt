@@ -10,7 +10,7 @@ ghost use Rattle.dt_world.specs.Occasions.{occasion_seen};
 
 use crate::effects::{Effect, effect_of};
 use crate::event_contexts::EventContext;
-use crate::marked::{Mark, MarkedFrame};
+use crate::marked_frames::{Mark, MarkedFrame};
 use crate::marks::mark_of;
 use crate::notes::{Notes, change};
 use dt_host::Host;

@@ -21,5 +21,5 @@ returns g c =
       flows = c.drop_begun.ensures;
       handler = refl;
       whole = record { unspent = done.unspent; heard = heard; world = world_after e p c.requires.whole world t done c.requires.may heard; waiting = c.requires.whole.waiting; requests = c.requires.whole.requests };
-      due = due_then e p c.requires.whole world t done c.requires.may heard (flows_seen c.drop_begun.new.flows.entries) c.due_behind.result c.requires.rest c.drop_begun.ensures c.due_behind.ensures;
+      due = due_then e p c.requires.whole world t done c.requires.may heard (flows_seen c.drop_begun.new.flows.entries) c.due_after_event.result c.requires.rest c.drop_begun.ensures c.due_after_event.ensures;
     }

@@ -12,4 +12,4 @@ returns-in_err-put_word g c =
 pub returns : goal.returns
 returns g c =
     puts_as _ _ _ _ _ _ (row_parts c.args.first c.args.some.now c.args.more.now (codes "\n"))
-    (puts_then _ (word_text c.args.first) (after_spaces c.args.some.now ++ (after_spaces c.args.more.now ++ codes "\n")) _ _ _ _ c.in_ok-put_word.ensures c.put_behind.ensures)
+    (puts_then _ (word_text c.args.first) (after_spaces c.args.some.now ++ (after_spaces c.args.more.now ++ codes "\n")) _ _ _ _ c.in_ok-put_word.ensures c.put_following.ensures)

@@ -1,7 +1,7 @@
 //! Who sees the events of an endpoint's station: it collects what leaves and what is reported.
 ghost use Rattle.std.specs.Prelude.{◌≡◌, ◌≤◌, [], IfOk, OnErr, OnOk, drop, false, option_map, option_to_list, ◌++◌};
 ghost use Rattle.dt_reports.specs.Told.{told};
-ghost use Rattle.dt_endpoint.specs.declared.noting.HeardAnswer.TheVariants.{Nothing};
+ghost use Rattle.dt_endpoint.specs.declared.heard_answers.HeardAnswer.TheVariants.{Nothing};
 ghost use Rattle.dt_endpoint.specs.Acts.{plain};
 ghost use Rattle.dt_endpoint.specs.Collecting.{CollectFails, CollectHands, Same, begun, with_told};
 ghost use Rattle.dt_endpoint.specs.Counts.{counts_arrived, counts_refused, none_counted, with_flow};
@@ -11,7 +11,7 @@ ghost use Rattle.dt_endpoint.specs.Hearing.{piece_after};
 use crate::counts::{Counts, Octets, more};
 use crate::followed_totals::FollowedTotals;
 use crate::frames::OutFrame;
-use crate::noting::{HeardAnswer, heard_after, kept_report};
+use crate::heard_answers::{HeardAnswer, heard_after, kept_report};
 use dt_host::Host;
 use dt_items::NoMemory;
 use dt_layout::{Frame, GramOctets};

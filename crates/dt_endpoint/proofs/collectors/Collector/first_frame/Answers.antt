@@ -2,7 +2,7 @@ use Rattle.std.proofs.Common.{◌≡◌, ◌++◌, arith, drop, subst}
 use Rattle.std.specs.Prelude.{option_map, option_to_list}
 use Rattle.dt_endpoint.specs.Collecting.{Collected}
 use Rattle.dt_endpoint.proofs.Fronts.{front_is}
-use Rattle.dt_endpoint.proofs.collecting.Collector.first_frame.Goals as goal
+use Rattle.dt_endpoint.proofs.collectors.Collector.first_frame.Goals as goal
 
 pub returns : goal.returns
 returns c =
