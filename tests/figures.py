@@ -13,7 +13,7 @@ import tempfile
 from lib import TOP
 
 LOG = """   10.0 rt: dt_items proved
-   12.5 rt: dt_items: its tests proved
+   12.5 rt: dt_items: its tests are proved
    20.0 rt: must-fail dt_items/a.edit: refused, as it must be
    30.0 rt: dt_items: its tests passed
    31.0 41 passed, 0 failed

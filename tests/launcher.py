@@ -1,9 +1,11 @@
 #!/usr/bin/env python3
 """The launcher `./deltat` and `./build` in a small repository of their own, with a toolchain that only pretends,
-so all of this takes seconds. `tests/launcher.py [TEST ..]`. Ends with 1 where a test fails.
+so all of this takes seconds. `tests/launcher.py [TEST ..]`. Ends with 1 where a test fails. What `./build` does is tried
+as it proves from nothing, by the pretended `rattle`, and as `--kept` keeps proofs, by the pretended `rt`.
 
-The pretended `rt` notes when it begins and ends with which crate, makes a library of the sources' sum, refuses one
-over libraries that aren't those of the sources below, and links a program that prints its words.
+Both note when they begin and end with which crate, make a library of the sources' sum, and link a program that prints its
+words. `rt` refuses a crate over libraries that aren't those of the sources below; what `rattle` was given stands in what
+it makes.
 
 In tests/all: no words, 240 s."""
 import json
@@ -57,6 +59,9 @@ word = sys.argv[1]
 if word == "version":
     print(os.environ.get("PRETENDED_VERSION", "a kit that pretends"))
     sys.exit()
+if word == "doc":
+    print({page!r})
+    sys.exit()
 note("begins", word, name, *sys.argv[2:])
 if word == "try":
     given = sys.stdin.buffer.read()
@@ -88,12 +93,47 @@ if word == "run":
 note("ends", word, name)
 """
 
+RATTLE = r"""#!{python}
+import hashlib, json, os, pathlib, sys, time
+
+def note(*what):
+    with open({log!r}, "a") as it:
+        it.write(json.dumps([time.monotonic(), *what]) + "\n")
+
+words = sys.argv[1:]
+after = lambda flag: [words[i + 1] for i, it in enumerate(words) if it == flag]
+made = pathlib.Path(after("-o")[0])
+if words[0] != "build":
+    made.write_text('#!/bin/sh\necho "program $*"\nexit 4\n')
+    made.chmod(0o755)
+    sys.exit()
+name = after("--crate-name")[0]
+note("begins", "rattle", name, "--jobs", *after("--jobs"))
+time.sleep(float(os.environ.get("PRETENDED_SECONDS", "0.1")))
+if os.environ.get("PRETENDED_KILL") and after("--jobs") != ["1"]:
+    os.kill(os.getpid(), 9)
+text = "".join(it.read_text() for it in sorted(pathlib.Path("src").glob("*.rt")))
+print("\n".join(f"line {{i}}" for i in range(30)))
+if "broken" in text:
+    print("not proved")
+    sys.exit(1)
+below = [pathlib.Path(it.partition("=")[2]) for it in after("--extern") if not it.startswith("std=")]
+sum = hashlib.sha256((text + "".join((it / "made").read_text() for it in below)).encode()).hexdigest()
+if "--statements" in words:
+    made.mkdir(exist_ok=True)
+    (made / "made").unlink(missing_ok=True)
+    made /= "made"
+made.write_text(sum)
+note("ends", "rattle", name)
+"""
+
 
 class Place:
     """The small repository, with the pretended toolchain before all else on PATH."""
 
-    def __init__(self, folder: pathlib.Path) -> None:
-        self.top, self.log = folder / "repository", folder / "log"
+    def __init__(self, folder: pathlib.Path, *more: str) -> None:
+        self.top, self.log, self.build = folder / "repository", folder / "log", ["./build", *more]
+        self.is_kept = "--kept" in more
         for name in re.findall(r"(?m)^(\w+):", CRATES):
             source = self.top / "crates" / name / "src" / ("main.rt" if name == "deltat" else "lib.rt")
             source.parent.mkdir(parents=True)
@@ -104,12 +144,15 @@ class Place:
             shutil.copy2(TOP / name, self.top / name)
         bin_folder = folder / "bin"
         bin_folder.mkdir()
-        (bin_folder / "rt").write_text(RT.format(python=sys.executable, log=str(self.log)))
-        (bin_folder / "rt").chmod(0o755)
+        said = {"python": sys.executable, "log": str(self.log), "page": str(folder / "page")}
+        for name, text in (("rt", RT), ("rattle", RATTLE), ("rattle-link", RATTLE)):
+            (bin_folder / name).write_text(text.format(**said))
+            (bin_folder / name).chmod(0o755)
         self.env = {**os.environ, "PATH": f"{bin_folder}:{os.environ['PATH']}", "TMPDIR": str(folder)}
         self.program = self.top / "crates" / "deltat" / "out" / "deltat"
 
     def run(self, *words: str, given: str = "", **env: str) -> "subprocess.CompletedProcess[str]":
+        words = (*self.build, *words[1:]) if words[0] == "./build" else words
         return subprocess.run(words, cwd=self.top, input=given, capture_output=True, text=True, env={**self.env, **env}, check=False, timeout=60)
 
     def noted(self) -> list[list]:
@@ -124,6 +167,10 @@ class Place:
 
     def change(self, name: str, text: str) -> None:
         next((self.top / "crates" / name / "src").glob("*.rt")).write_text(text)
+
+    def library(self, name: str) -> pathlib.Path:
+        """What is made of a library for those above it."""
+        return self.top / "crates" / name / "out" / "rlib" if self.is_kept else self.top / "out" / "libraries" / f"{name}.rlib"
 
     def rooms(self) -> list[pathlib.Path]:
         """What is left of rooms and of the launcher's temporary folders."""
@@ -203,7 +250,7 @@ def order(place: Place) -> bool:
     ran = place.run("./build", "--jobs", "1")
     notes = place.noted()
     begun = [it[2] for it in notes if it[0] == "begins"]
-    words = {tuple(it[3:]) for it in notes if it[:2] == ["begins", "lib"]}
+    words = {tuple(it[3:]) for it in notes if it[:2] in (["begins", "lib"], ["begins", "rattle"])}
     return ran.returncode == 0 and [it[0] for it in notes] == ["begins", "ends"] * 6 and words == {("--jobs", "1")} \
         and begun == ["low", "long_one", "long_two", "short", "apex", "deltat"] and "6 of 6: deltat" in ran.stdout
 
@@ -222,8 +269,8 @@ def side_by_side(place: Place) -> bool:
 
 
 def changed(place: Place) -> bool:
-    """Only what a change reaches is built again, and a library that somebody made anew since; what is touched
-    alone isn't, and neither is what nothing needs."""
+    """Only what a change reaches is built again, and a library that somebody made anew since, where something is to be built
+    over it or proofs are kept; what is touched alone isn't, and neither is what nothing needs."""
     place.run("./build")
     place.noted()
     place.change("short", "// short, changed\n")
@@ -235,10 +282,11 @@ def changed(place: Place) -> bool:
     touched = place.run("./deltat", "replay")
     place.noted()
     second = place.run("./build").returncode == 0 and not place.built() and place.run("./deltat", "replay").stdout == "program replay\n"
-    library = place.top / "crates" / "low" / "out" / "rlib"
-    (library / "made").write_text("of other sources")
-    (library / "more").touch()
-    remade = place.run("./build").returncode == 0 and place.built() == ["low"]
+    (place.library("low") / "made").write_text("of other sources")
+    (place.library("low") / "more").touch()
+    remade = place.run("./build").returncode == 0 and place.built() == (["low"] if place.is_kept else [])
+    place.change("side", "// side, changed\n")
+    remade = remade and place.run("./build", "--only", "side").returncode == 0 and place.built() == (["side"] if place.is_kept else ["low", "side"])
     other_kit = place.run("./build", PRETENDED_VERSION="another kit").returncode == 0 and len(place.built()) == 6
     return first and second and remade and other_kit and "unproved" in tried.stderr and "unproved" in touched.stderr
 
@@ -274,7 +322,7 @@ def seconds(place: Place) -> bool:
 
 def killed(place: Place) -> bool:
     """After a build that was killed the next one proves what is missing, and removes its rooms."""
-    build = subprocess.Popen(["./build"], cwd=place.top, env={**place.env, "PRETENDED_SECONDS": "1"}, stdout=subprocess.DEVNULL, stderr=subprocess.DEVNULL)
+    build = subprocess.Popen(place.build, cwd=place.top, env={**place.env, "PRETENDED_SECONDS": "1"}, stdout=subprocess.DEVNULL, stderr=subprocess.DEVNULL)
     wait_for(place.log.exists)
     build.kill()
     build.wait()
@@ -288,7 +336,7 @@ def interrupt(place: Place) -> bool:
     """An interrupted build ends at once and leaves no process; the next one goes on."""
     place.run("./build", "--only", "long_one")
     for number in (signal.SIGINT, signal.SIGTERM):
-        build = subprocess.Popen(["./build"], cwd=place.top, env={**place.env, "PRETENDED_SECONDS": "60"}, stdout=subprocess.DEVNULL, stderr=subprocess.DEVNULL)
+        build = subprocess.Popen(place.build, cwd=place.top, env={**place.env, "PRETENDED_SECONDS": "60"}, stdout=subprocess.DEVNULL, stderr=subprocess.DEVNULL)
         place.noted()
         wait_for(place.log.exists)
         build.send_signal(number)
@@ -323,22 +371,42 @@ def only(place: Place) -> bool:
 
 def two_builds(place: Place) -> bool:
     """The second of two builds waits for the first, and finds all done."""
-    builds = [subprocess.Popen(["./build"], cwd=place.top, env=place.env, stdout=subprocess.PIPE, stderr=subprocess.PIPE) for _ in range(2)]
+    builds = [subprocess.Popen(place.build, cwd=place.top, env=place.env, stdout=subprocess.PIPE, stderr=subprocess.PIPE) for _ in range(2)]
     said = [it.communicate(timeout=60)[0] for it in builds]
     return [it.returncode for it in builds] == [0, 0] and len(place.built()) == 6 and any(b"waiting" in it for it in said)
 
 
-TESTS = (faulty_words, unproved_run, no_answer, installed, failing_streams, order, side_by_side, changed, failure, interrupt, killed, seconds, live_output, only, two_builds)
+def over_other_libraries(place: Place) -> bool:
+    """What is made of a crate is made over the libraries of the sources below it: as by a build from nothing."""
+    place.run("./build")
+    place.change("low", "// low, changed\n")
+    again = place.run("./build").returncode
+    over = {it: (place.library(it) / "made").read_text() for it in ("low", "long_one", "apex")}
+    shutil.rmtree(place.top / "out")
+    for it in place.top.glob("crates/*/out"):
+        shutil.rmtree(it)
+    return again == 0 == place.run("./build").returncode and over == {it: (place.library(it) / "made").read_text() for it in over}
 
 
-def holds(test) -> bool:
+def want_of_memory(place: Place) -> bool:
+    """A crate whose proof was killed is proved once more by one process."""
+    ran = place.run("./build", "--only", "low", "--jobs", "2", PRETENDED_KILL="yes")
+    return ran.returncode == 0 and [it[4] for it in place.noted() if it[0] == "begins"] == ["2", "1"]
+
+
+LAUNCHER = (faulty_words, unproved_run, no_answer, installed, failing_streams, live_output, want_of_memory)
+BUILD = (order, side_by_side, changed, over_other_libraries, failure, interrupt, killed, seconds, only, two_builds)
+TESTS = [(test.__name__ + "".join(more), test, more) for tests, forms in ((LAUNCHER, [[]]), (BUILD, [[], ["--kept"]])) for test in tests for more in forms]
+
+
+def holds(test, more: list[str]) -> bool:
     with tempfile.TemporaryDirectory(prefix="launcher-") as folder:
-        return test(Place(pathlib.Path(folder)))
+        return test(Place(pathlib.Path(folder), *more))
 
 
 def main() -> int:
-    chosen = [it for it in TESTS if it.__name__ in sys.argv[1:] or len(sys.argv) == 1]
-    failed = [it.__name__ for it in chosen if not holds(it)]
+    chosen = [it for it in TESTS if it[1].__name__ in sys.argv[1:] or len(sys.argv) == 1]
+    failed = [name for name, test, more in chosen if not holds(test, more)]
     for name in failed:
         print(f"{name} failed")
     print(f"{len(chosen) - len(failed)} of {len(chosen)} hold")

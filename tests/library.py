@@ -1,8 +1,8 @@
 #!/usr/bin/env python3
 """Compiles the C programs of tests/library over libdeltat, and runs them.
 
-`tests/library.py [ARCHIVE] [--datagrams N]` takes the archive at that path; with no word it is the one that `rt lib`
-leaves in crates/dt_c/out, which it builds where there is none. The header is compiled alone too. Compilers are gcc and
+`tests/library.py [ARCHIVE] [--datagrams N]` takes the archive at that path; with no word it is the one that
+`./build --only dt_c` leaves in crates/dt_c/out, which it builds where there is none. The header is compiled alone too. Compilers are gcc and
 clang, languages C99, C11 and C++17, all with -Wall -Wextra -Werror; each program runs bare, and those of C99 also under
 valgrind and with the address and undefined-behaviour sanitizers, where the machine has them:
 
@@ -92,7 +92,7 @@ def archive(named: pathlib.Path | None) -> pathlib.Path:
     if not ARCHIVE.exists():
         if shutil.which("rt") is None:
             skip("there is no libdt_c.a, and no rt to build it")
-        subprocess.run(["rt", "lib"], cwd=ARCHIVE.parent.parent, check=True)
+        subprocess.run([TOP / "build", "--only", "dt_c"], check=True)
     return ARCHIVE
 
 

@@ -75,9 +75,6 @@ def built(words: Sequence[str | pathlib.Path], out: pathlib.Path) -> pathlib.Pat
 def instrumented(folder: pathlib.Path) -> pathlib.Path:
     """The library's code, proved and compiled once more, with the sanitizer and with counters in it."""
     kit = pathlib.Path(run(["rt", "doc"]).stdout.strip()).parent
-    libraries = aarch64.below()
-    if not all((aarch64.CRATES / it / "out" / "rlib").exists() for it in aarch64.order(libraries, aarch64.CRATE, [])):
-        subprocess.run(["rt", "lib"], cwd=aarch64.CRATES / aarch64.CRATE, check=True)
     tools, code = folder / "toolchain", folder / "library.bc"
     (tools / "bin").mkdir(parents=True)
     (tools / "lib").symlink_to(kit / "toolchain" / "lib")
@@ -86,13 +83,7 @@ def instrumented(folder: pathlib.Path) -> pathlib.Path:
     (tools / "bin" / "clang").unlink()
     (tools / "bin" / "clang").write_text(f'#!/bin/sh\ncp module.bc "{code}"\nexec "{kit}/toolchain/bin/clang" "$@"\n')
     (tools / "bin" / "clang").chmod(0o755)
-    words = aarch64.words(kit, libraries, folder / "unused.a", TARGET, tools)
-    kept = aarch64.CRATES / aarch64.CRATE / "out" / "incremental"
-    if kept.exists():
-        # what was proved there isn't proved once more; it stays as it is
-        shutil.copytree(kept, folder / "incremental")
-        words += ["--incremental", str(folder / "incremental")]
-    ran = run(words, cwd=aarch64.CRATES / aarch64.CRATE)
+    ran = run(aarch64.words(folder / "unused.a", TARGET, tools), cwd=aarch64.CRATES / aarch64.CRATE)
     if ran.returncode or not code.exists():
         sys.exit(f"the library isn't proved, or wasn't compiled:\n{ran.stdout[-2000:]}{ran.stderr[-2000:]}")
     clang = [kit / "toolchain" / "bin" / "clang", f"--target={TARGET}", "-x", "ir"]
