@@ -73,7 +73,7 @@ abbrev pub clock_of : Recorded → ClockInMemory
 clock_of t = record { plan = or_zero t.readings; taken = 0 }
 
 -- THE TRACE OF THE CODE
-abbrev pub taken_seen : code.Taken → Datagram
+abbrev pub taken_seen : code.TakenDatagram → Datagram
 taken_seen t = record { link = t.link; octets = t.octets.items }
 
 -- A line was noted, or refused for its fault and changed nothing. Where memory ran out nothing more is said.

@@ -28,12 +28,12 @@ due_later : (p : Params) (now : ℕ) (shelf : Option Shelf) (c : Command) (rest 
 due_later p now shelf c rest st h = let n : nat_le c.at now ≡ false = lt-leb _ _ h in rw n refl
 
 -- the next command of those that are left
-pub left_next : (cs : List code.Command) (n : ℕ) (c : code.Command) → n < length cs → c ≡ get_or cs n c → map command_seen (drop n cs) ≡ command_seen c ∷ map command_seen (drop (n + 1) cs)
-left_next cs n c h e = rw add-one (ap (map command_seen) (drop-cons cs n c h) ∙ ap (λ (x : code.Command). command_seen x ∷ map command_seen (drop (suc n) cs)) (sym e))
+pub left_next : (cs : List code.TimedCommand) (n : ℕ) (c : code.TimedCommand) → n < length cs → c ≡ get_or cs n c → map command_seen (drop n cs) ≡ command_seen c ∷ map command_seen (drop (n + 1) cs)
+left_next cs n c h e = rw add-one (ap (map command_seen) (drop-cons cs n c h) ∙ ap (λ (x : code.TimedCommand). command_seen x ∷ map command_seen (drop (suc n) cs)) (sym e))
 
-pub task_at : (me : ℕ) (cs : List code.Command) (n : ℕ) (c : code.Command) → n < length cs → c ≡ get_or cs n c → All (IsCommandOf me) (map command_seen cs) → IsTaskOf me (command_seen c).task
+pub task_at : (me : ℕ) (cs : List code.TimedCommand) (n : ℕ) (c : code.TimedCommand) → n < length cs → c ≡ get_or cs n c → All (IsCommandOf me) (map command_seen cs) → IsTaskOf me (command_seen c).task
 task_at me [] n c h e t = absurd (omega arith)
-task_at me (d ∷ cs) zero c h e t = subst (λ (x : code.Command). IsTaskOf me (command_seen x).task) (sym e) (All-head (IsCommandOf me) (command_seen d) (map command_seen cs) t)
+task_at me (d ∷ cs) zero c h e t = subst (λ (x : code.TimedCommand). IsTaskOf me (command_seen x).task) (sym e) (All-head (IsCommandOf me) (command_seen d) (map command_seen cs) t)
 task_at me (d ∷ cs) (suc n) c h e t = task_at me cs n c (omega arith) e (All-tail (IsCommandOf me) (command_seen d) (map command_seen cs) t)
 
 module _ {V : Type 0} (tells : V → Told → V → Type 0) (tags : V → Host → List ℕ → Unit {0} → V → Type 0) (hands : V → ℕ → Parcel (Unit {0}) → V → Type 0) (fails : V → V → Type 0) where
