@@ -1,11 +1,12 @@
 //! What the world's events tell of messages.
 ghost use Rattle.std.specs.Prelude.{◌≡◌, true, false, [], None, Some, MatchOption};
-ghost use Rattle.dt_calls_model.specs.Heard.{AnAcceptance};
+ghost use Rattle.dt_reports.specs.Matters.{matter_seen};
+ghost use Rattle.dt_calls_model.specs.Heard.{AnAcceptance, heard_by};
 ghost use Rattle.dt_calls.specs.Hearing.{first_piece, for_event, heard_with};
 ghost use Rattle.dt_messages.specs.Joining.{piece_with};
 
 use dt_messages::Marks;
-use dt_reports::{LogLine, Report};
+use dt_reports::{LogLine, Matter};
 use dt_units::Flow;
 use dt_world::Lines;
 use std::alloc::Global;
@@ -96,6 +97,35 @@ impl Heard {
         self.several
     }
 
+    /// What is said of octets is heard.
+    fn hear_of(&mut self, matter: Matter<'_>)
+        requires { self.old.failed ≡ false }
+        ensures { self.new.failed ≡ false → self.new ≡ heard_with (heard_by (matter_seen matter.entry)) self.old }
+    {
+        match matter {
+            Matter::Refused { .. } => self.refused = true,
+            Matter::Accepted { flow, .. } => self.accept(flow),
+            Matter::ReadOut {
+                run,
+                begin,
+                end,
+                octets,
+                ..
+            } => self.keep_piece(Marks { run, begin, end }, octets),
+            Matter::Taken { .. }
+            | Matter::Transmitted { .. }
+            | Matter::Retransmitted { .. }
+            | Matter::GivenUp { .. }
+            | Matter::Acknowledged { .. }
+            | Matter::Replied { .. }
+            | Matter::Dropped { .. }
+            | Matter::NothingRead { .. }
+            | Matter::Left { .. }
+            | Matter::Begun { .. }
+            | Matter::Neither => {}
+        }
+    }
+
     /// Data of the flow was accepted.
     fn accept(&mut self, flow: Flow)
         ensures { self.new ≡ heard_with (AnAcceptance flow) self.old }
@@ -131,17 +161,6 @@ impl Lines for Heard {
         if self.failed {
             return;
         }
-        match line.report {
-            Report::Read {
-                run,
-                begin,
-                end,
-                octets,
-                ..
-            } => self.keep_piece(Marks { run, begin, end }, octets),
-            Report::Refused { .. } => self.refused = true,
-            Report::Accepted { flow, .. } => self.accept(flow),
-            _ => {}
-        }
+        self.hear_of(line.report.matter());
     }
 }
