@@ -12,11 +12,13 @@ It refuses, each with page and line:
 - a table of docs/clauses.md that differs from the public functions and their clauses;
 - a word of a line that is written or read and that docs/formats.md doesn't name;
 - a count of the files that have a row for each written or read line, where the sources have other files;
+- a list of docs/headline.md that differs from the definitions that its sentences rest on;
 - a file of a crate that says nothing of itself, so that docs/files.py would list it without a word;
 - a must-fail edit whose text doesn't stand once in its file: `rt ci` counts it for nothing, and passes.
 
 Usage: docs/check.py            compares
-       docs/check.py write      writes the "stands on" column, the files that a new line costs, and docs/clauses.md anew
+       docs/check.py write      writes the "stands on" column, the files that a new line costs, docs/clauses.md and the
+                                lists of docs/headline.md anew
 """
 
 import re
@@ -26,6 +28,7 @@ from pathlib import Path
 from typing import Iterator, NamedTuple
 
 import files as headings
+import headline
 
 TOP = Path(__file__).resolve().parent.parent
 PAGES = sorted([TOP / "README.md", TOP / "conformance" / "README.md", *(TOP / "docs").glob("*.md")])
@@ -552,6 +555,12 @@ def check_edits() -> Iterator[Complaint]:
             yield Complaint(edit, 1, "it changes nothing")
 
 
+def check_headline() -> Iterator[Complaint]:
+    """The lists of definitions of the headline."""
+    if headline.rewritten(text := headline.PAGE.read_text()) != text:
+        yield Complaint(headline.PAGE, 1, "it lists other definitions, or other lines of them")
+
+
 def complaints() -> Iterator[Complaint]:
     for page in PAGES:
         yield from check_links(page)
@@ -565,6 +574,7 @@ def complaints() -> Iterator[Complaint]:
     yield from check_costs()
     yield from check_files()
     yield from check_edits()
+    yield from check_headline()
 
 
 def main(words: list[str]) -> int:
@@ -579,6 +589,7 @@ def main(words: list[str]) -> int:
             write_crates()
             write_costs()
             CLAUSES.write_text(page_of_clauses())
+            headline.main(words)
             return 0
         case ["-h" | "--help"]:
             print(__doc__)

@@ -75,15 +75,20 @@ def tables() -> str:
     return "\n".join(parts)
 
 
+def rewritten(page: str) -> str:
+    """The page with the lists that the sources make."""
+    before, rest = page.split(BEGIN)
+    return before + BEGIN + tables() + END + rest.split(END)[1]
+
+
 def main(words: list[str]) -> int:
-    before, rest = PAGE.read_text().split(BEGIN)
-    listed, after = rest.split(END)
+    page = PAGE.read_text()
     if words == ["write"]:
-        PAGE.write_text(before + BEGIN + tables() + END + after)
+        PAGE.write_text(rewritten(page))
     elif words:
         print(__doc__)
         return 2
-    elif listed != tables():
+    elif rewritten(page) != page:
         print("docs/headline.md lists other definitions: docs/headline.py write mends it")
         return 1
     return 0

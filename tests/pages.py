@@ -33,6 +33,7 @@ SPOILT = [
     ("a link that leads to no file", "README.md", "(docs/headline.md)", "(docs/headlin.md)"),
     ("a link that leads to no heading", "docs/formats.md", "(#the-schedules-of-make)", "(#the-schedule-of-make)"),
     ("a name that nothing has", "docs/protocol.md", "\n", "\nThe function `" + "_".join(["nobody", "wrote", "this"]) + "` does it.\n"),
+    ("a list of the headline that differs", "docs/headline.md", "| crates/dt_flow_model/specs/Safe.antt | 42 |", "| crates/dt_flow_model/specs/Safe.antt | 41 |"),
     ("a file that says nothing of itself", "crates/dt_relay/proofs/Links.antt", "-- Out links by", "use Out links by"),
     ("an edit that can't be applied", "crates/dt_endpoint/must-fail/clock_that_goes_back_is_followed.edit", "(MOST_MOMENT))", "(MOST_MOMENTS))"),
 ]
