@@ -5,8 +5,15 @@ use Rattle.dt_calls_model.specs.Reads.{Course, read_side, take_whole}
 use Rattle.dt_calls.specs.Courses.{HasGoneOn, HasStopped}
 use Rattle.dt_calls.specs.Parts.{calls_seen}
 use Rattle.dt_calls.specs.Sides.{side_seen}
-use Rattle.dt_calls.proofs.ReadSides.{message_is_short, none_stays, none_taken, one_read, piece_lost, reading_begins, reading_ends, reading_falls, reading_goes, reading_stops, still_served_once, stopped_with, taken_by, whole_read}
+use Rattle.dt_calls.proofs.ReadSides.{OneRead, message_is_short, none_stays, none_taken, one_read, piece_lost, reading_begins, reading_ends, reading_falls, reading_goes, reading_stops, still_served_once, stopped_with, taken_by, whole_read}
+use Rattle.dt_calls.proofs.reading.read_side.Given.{Over}
+use Rattle.dt_calls.proofs.reading.read_side.Goals.{After-piece}
 use Rattle.dt_calls.proofs.reading.read_side.Goals as goal
+
+-- THE READ that was tried, from the parts before it to the world and to what was heard of it
+module _ (g : Over) (c : After-piece g) where
+  abbrev one : OneRead g.L.CallLines.tells (g.H.Handler.answer c.args.parts.now.handler) (side_seen c.args.side) c.args.flow.now g.row.H.Denot
+  one = one_read g.L.CallLines.tells (g.H.Handler.answer c.args.parts.now.handler) (side_seen c.args.side) c.args.flow.now c.args.parts.now c.args.lines.now c.loop-parts.parts c.loop-parts.lines c.loop-parts.invariant c.flow_read.result c.try_event.new.world c.try_event.new.heard c.flow_read.ensures.flow c.flow_read.ensures.range c.in_ok-try_event.ensures
 
 pub loop-parts-init : goal.loop-parts-init
 loop-parts-init g c =
@@ -14,62 +21,62 @@ loop-parts-init g c =
 
 pub returns-then-is_none-clause-goes : goal.returns-then-is_none-clause-goes
 returns-then-is_none-clause-goes g c =
-    let one = one_read g.L.CallLines.tells (g.H.Handler.answer c.args.parts.now.handler) (side_seen c.args.side) c.args.flow.now c.args.parts.now c.args.lines.now c.loop-parts.parts c.loop-parts.lines c.loop-parts.invariant c.flow_read.result c.try_event.new.world c.try_event.new.heard c.flow_read.ensures.flow c.flow_read.ensures.range c.in_ok-try_event.ensures in
-    reading_ends one (piece_lost _ c.piece.result c.try_event.new.heard.piece c.piece.ensures c.if-is_none.ensures)
+    let k = (goal.at.returns-then-is_none-clause-goes g c).After-piece in
+    reading_ends (one g k) (piece_lost _ c.piece.result c.try_event.new.heard.piece c.piece.ensures c.if-is_none.ensures)
 
 pub returns-then-is_none-clause-whole : goal.returns-then-is_none-clause-whole
 returns-then-is_none-clause-whole g c =
-    let one = one_read g.L.CallLines.tells (g.H.Handler.answer c.args.parts.now.handler) (side_seen c.args.side) c.args.flow.now c.args.parts.now c.args.lines.now c.loop-parts.parts c.loop-parts.lines c.loop-parts.invariant c.flow_read.result c.try_event.new.world c.try_event.new.heard c.flow_read.ensures.flow c.flow_read.ensures.range c.in_ok-try_event.ensures in
-    whole_read one
+    let k = (goal.at.returns-then-is_none-clause-whole g c).After-piece in
+    whole_read (one g k)
 
 pub returns-in_err-take_message-clause-goes : goal.returns-in_err-take_message-clause-goes
 returns-in_err-take_message-clause-goes g c =
-    let one = one_read g.L.CallLines.tells (g.H.Handler.answer c.args.parts.now.handler) (side_seen c.args.side) c.args.flow.now c.args.parts.now c.args.lines.now c.loop-parts.parts c.loop-parts.lines c.loop-parts.invariant c.flow_read.result c.try_event.new.world c.try_event.new.heard c.flow_read.ensures.flow c.flow_read.ensures.range c.in_ok-try_event.ensures in
+    let k = (goal.at.returns-in_err-take_message-clause-goes g c).After-piece in
     let j = c.in_ok-message.ensures.joined in
     let some = ap (option_map (λ m. m.items)) c.in-Some.is ∙ ap (λ (os : List ℕ). Some os) (sym c.deref.ensures.value) in
-    let stop = taken_by one c.join.new.parts _ j g.H.Handler.answer refl (λ a o. HasStopped g.L.CallLines.tells (take_whole a (side_seen c.args.side) c.args.flow.now o) (calls_seen c.join.new.parts) c.loop-parts.lines c.take_message.new.lines) c.deref.result.now some c.in_err-take_message.ensures.goes in
+    let stop = taken_by (one g k) c.join.new.parts _ j g.H.Handler.answer refl (λ a o. HasStopped g.L.CallLines.tells (take_whole a (side_seen c.args.side) c.args.flow.now o) (calls_seen c.join.new.parts) c.loop-parts.lines c.take_message.new.lines) c.deref.result.now some c.in_err-take_message.ensures.goes in
     let e = err_from_is_err_and c.from_residual-in_err-take_message.result c.from_residual-in_err-take_message.ensures.1 in
     stopped_with g.L.CallLines.tells (λ (r : Course). read_side (g.H.Handler.answer c.args.parts.now.handler) (side_seen c.args.side) r c.args.flow.now) (calls_seen c.args.parts.now) c.args.lines.now c.take_message.new.lines _ c.from_residual-in_err-take_message.result e.0 e.1
-    (reading_stops one c.join.new.parts _ j c.take_message.new.lines stop)
+    (reading_stops (one g k) c.join.new.parts _ j c.take_message.new.lines stop)
 
 pub take_message-requires-clause-served : goal.take_message-requires-clause-served
 take_message-requires-clause-served g c =
-    let one = one_read g.L.CallLines.tells (g.H.Handler.answer c.args.parts.now.handler) (side_seen c.args.side) c.args.flow.now c.args.parts.now c.args.lines.now c.loop-parts.parts c.loop-parts.lines c.loop-parts.invariant c.flow_read.result c.try_event.new.world c.try_event.new.heard c.flow_read.ensures.flow c.flow_read.ensures.range c.in_ok-try_event.ensures in
-    still_served_once one c.join.new.parts _ c.in_ok-message.ensures.joined
+    let k = (goal.at.take_message-requires-clause-served g c).After-piece in
+    still_served_once (one g k) c.join.new.parts _ c.in_ok-message.ensures.joined
 
 pub take_message-requires-clause-short : goal.take_message-requires-clause-short
 take_message-requires-clause-short g c =
-    let one = one_read g.L.CallLines.tells (g.H.Handler.answer c.args.parts.now.handler) (side_seen c.args.side) c.args.flow.now c.args.parts.now c.args.lines.now c.loop-parts.parts c.loop-parts.lines c.loop-parts.invariant c.flow_read.result c.try_event.new.world c.try_event.new.heard c.flow_read.ensures.flow c.flow_read.ensures.range c.in_ok-try_event.ensures in
+    let k = (goal.at.take_message-requires-clause-short g c).After-piece in
     let some = ap (option_map (λ m. m.items)) c.in-Some.is ∙ ap (λ (os : List ℕ). Some os) (sym c.deref.ensures.value) in
-    message_is_short one c.join.new.parts _ c.in_ok-message.ensures.joined c.deref.result.now some
+    message_is_short (one g k) c.join.new.parts _ c.in_ok-message.ensures.joined c.deref.result.now some
 
 pub loop-parts-smaller-in-Some : goal.loop-parts-smaller-in-Some
 loop-parts-smaller-in-Some g c =
-    let one = one_read g.L.CallLines.tells (g.H.Handler.answer c.args.parts.now.handler) (side_seen c.args.side) c.args.flow.now c.args.parts.now c.args.lines.now c.loop-parts.parts c.loop-parts.lines c.loop-parts.invariant c.flow_read.result c.try_event.new.world c.try_event.new.heard c.flow_read.ensures.flow c.flow_read.ensures.range c.in_ok-try_event.ensures in
+    let k = (goal.at.loop-parts-smaller-in-Some g c).After-piece in
     let j = c.in_ok-message.ensures.joined in
     let some = ap (option_map (λ m. m.items)) c.in-Some.is ∙ ap (λ (os : List ℕ). Some os) (sym c.deref.ensures.value) in
-    let gone = taken_by one c.join.new.parts _ j g.H.Handler.answer refl (λ a o. HasGoneOn g.L.CallLines.tells (take_whole a (side_seen c.args.side) c.args.flow.now o) (calls_seen c.join.new.parts) c.loop-parts.lines c.take_message.new.lines (calls_seen c.take_message.new.parts)) c.deref.result.now some c.in_ok-take_message.ensures.goes in
-    reading_falls one c.join.new.parts _ j c.take_message.new.lines c.take_message.new.parts gone
+    let gone = taken_by (one g k) c.join.new.parts _ j g.H.Handler.answer refl (λ a o. HasGoneOn g.L.CallLines.tells (take_whole a (side_seen c.args.side) c.args.flow.now o) (calls_seen c.join.new.parts) c.loop-parts.lines c.take_message.new.lines (calls_seen c.take_message.new.parts)) c.deref.result.now some c.in_ok-take_message.ensures.goes in
+    reading_falls (one g k) c.join.new.parts _ j c.take_message.new.lines c.take_message.new.parts gone
 
 pub loop-parts-preserved-in-Some : goal.loop-parts-preserved-in-Some
 loop-parts-preserved-in-Some g c =
-    let one = one_read g.L.CallLines.tells (g.H.Handler.answer c.args.parts.now.handler) (side_seen c.args.side) c.args.flow.now c.args.parts.now c.args.lines.now c.loop-parts.parts c.loop-parts.lines c.loop-parts.invariant c.flow_read.result c.try_event.new.world c.try_event.new.heard c.flow_read.ensures.flow c.flow_read.ensures.range c.in_ok-try_event.ensures in
+    let k = (goal.at.loop-parts-preserved-in-Some g c).After-piece in
     let j = c.in_ok-message.ensures.joined in
     let some = ap (option_map (λ m. m.items)) c.in-Some.is ∙ ap (λ (os : List ℕ). Some os) (sym c.deref.ensures.value) in
-    let gone = taken_by one c.join.new.parts _ j g.H.Handler.answer refl (λ a o. HasGoneOn g.L.CallLines.tells (take_whole a (side_seen c.args.side) c.args.flow.now o) (calls_seen c.join.new.parts) c.loop-parts.lines c.take_message.new.lines (calls_seen c.take_message.new.parts)) c.deref.result.now some c.in_ok-take_message.ensures.goes in
-    reading_goes one c.join.new.parts _ j c.take_message.new.lines c.take_message.new.parts gone
+    let gone = taken_by (one g k) c.join.new.parts _ j g.H.Handler.answer refl (λ a o. HasGoneOn g.L.CallLines.tells (take_whole a (side_seen c.args.side) c.args.flow.now o) (calls_seen c.join.new.parts) c.loop-parts.lines c.take_message.new.lines (calls_seen c.take_message.new.parts)) c.deref.result.now some c.in_ok-take_message.ensures.goes in
+    reading_goes (one g k) c.join.new.parts _ j c.take_message.new.lines c.take_message.new.parts gone
     (record { unspent = c.in_ok-take_message.ensures.unspent; heard = c.in_ok-take_message.ensures.heard; waiting = c.take_message.ensures.waiting; flows = c.take_message.ensures.flows; handler = c.take_message.ensures.handler })
 
 pub loop-parts-smaller : goal.loop-parts-smaller
 loop-parts-smaller g c =
-    let one = one_read g.L.CallLines.tells (g.H.Handler.answer c.args.parts.now.handler) (side_seen c.args.side) c.args.flow.now c.args.parts.now c.args.lines.now c.loop-parts.parts c.loop-parts.lines c.loop-parts.invariant c.flow_read.result c.try_event.new.world c.try_event.new.heard c.flow_read.ensures.flow c.flow_read.ensures.range c.in_ok-try_event.ensures in
+    let k = (goal.at.loop-parts-smaller g c).After-piece in
     let j = c.in_ok-message.ensures.joined in
-    let none = none_taken one c.join.new.parts _ j (ap (option_map (λ m. m.items)) c.in_default.is) in
-    reading_falls one c.join.new.parts _ j c.loop-parts.lines c.join.new.parts none
+    let none = none_taken (one g k) c.join.new.parts _ j (ap (option_map (λ m. m.items)) c.in_default.is) in
+    reading_falls (one g k) c.join.new.parts _ j c.loop-parts.lines c.join.new.parts none
 
 pub loop-parts-preserved : goal.loop-parts-preserved
 loop-parts-preserved g c =
-    let one = one_read g.L.CallLines.tells (g.H.Handler.answer c.args.parts.now.handler) (side_seen c.args.side) c.args.flow.now c.args.parts.now c.args.lines.now c.loop-parts.parts c.loop-parts.lines c.loop-parts.invariant c.flow_read.result c.try_event.new.world c.try_event.new.heard c.flow_read.ensures.flow c.flow_read.ensures.range c.in_ok-try_event.ensures in
+    let k = (goal.at.loop-parts-preserved g c).After-piece in
     let j = c.in_ok-message.ensures.joined in
-    let none = none_taken one c.join.new.parts _ j (ap (option_map (λ m. m.items)) c.in_default.is) in
-    reading_goes one c.join.new.parts _ j c.loop-parts.lines c.join.new.parts none (none_stays one c.join.new.parts _ j)
+    let none = none_taken (one g k) c.join.new.parts _ j (ap (option_map (λ m. m.items)) c.in_default.is) in
+    reading_goes (one g k) c.join.new.parts _ j c.loop-parts.lines c.join.new.parts none (none_stays (one g k) c.join.new.parts _ j)
