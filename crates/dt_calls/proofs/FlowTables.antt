@@ -1,6 +1,6 @@
 -- The flows with a call under the calls of their map.
-use Rattle.std.proofs.Common.{ℕ, zero, suc, ◌+◌, ◌≡◌, ◌==◌, ◌<◌, Bool, true, false, List, [], ◌∷◌, ◌++◌, length, map, set, drop, take, Option, Some, None, Result, Ok, Err, refl, sym, ap, ◌∙◌, inl, inr, arith, add-one, length-set}
-use Rattle.std.specs.Prelude.{◌&&◌, IfOk, MatchOption, is_some, option_map, slice_get, slice_index_or, unwrap_or}
+use Rattle.std.proofs.Common.{ℕ, zero, suc, ◌+◌, ◌≡◌, ◌<◌, Bool, true, false, List, [], ◌∷◌, ◌++◌, length, map, set, drop, take, Option, Some, None, Result, Ok, Err, refl, sym, ap, ◌∙◌, inl, inr, arith, add-one, length-set}
+use Rattle.std.specs.Prelude.{IfOk, MatchOption, is_some, option_map, slice_get, slice_index_or, unwrap_or}
 use Rattle.std.specs.Map.{lookup, set_value}
 use Rattle.std.proofs.lemmas.Bool.{cases_Bool}
 use Rattle.indexmap.specs.IndexMap.{insert_entry, set_value_at}

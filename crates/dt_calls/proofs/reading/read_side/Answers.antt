@@ -1,4 +1,4 @@
-use Rattle.std.proofs.Common.{ℕ, ◌≡◌, List, Option, Some, refl, ap, sym, ◌∙◌}
+use Rattle.std.proofs.Common.{ℕ, List, Some, refl, ap, sym, ◌∙◌}
 use Rattle.std.specs.Prelude.{option_map}
 use Rattle.std.proofs.lemmas.Result.{err_from_is_err_and}
 use Rattle.dt_calls_model.specs.Reads.{Course, read_side, take_whole}
