@@ -14,6 +14,7 @@ It refuses, each with page and line:
 - a count of the files that have a row for each written or read line, where the sources have other files;
 - a list of docs/headline.md that differs from the definitions that its sentences rest on;
 - a file of a crate that says nothing of itself, so that docs/files.py would list it without a word;
+- a script that can't be run as the pages say, since it isn't executable;
 - a must-fail edit whose text doesn't stand once in its file: `rt ci` counts it for nothing, and passes.
 
 Usage: docs/check.py            compares
@@ -21,6 +22,7 @@ Usage: docs/check.py            compares
                                 lists of docs/headline.md anew
 """
 
+import os
 import re
 import sys
 from functools import cache
@@ -555,6 +557,17 @@ def check_edits() -> Iterator[Complaint]:
             yield Complaint(edit, 1, "it changes nothing")
 
 
+SCRIPTS = ("tests", "tools", "bench", "lib", "docs", "release", "examples", "conformance")
+
+
+def check_scripts() -> Iterator[Complaint]:
+    """The scripts that name what runs them."""
+    for path in sorted(it for folder in SCRIPTS for it in (TOP / folder).rglob("*") if it.is_file()):
+        with path.open("rb") as it:
+            if it.read(2) == b"#!" and not os.access(path, os.X_OK):
+                yield Complaint(path, 1, "it isn't executable")
+
+
 def check_headline() -> Iterator[Complaint]:
     """The lists of definitions of the headline."""
     if headline.rewritten(text := headline.PAGE.read_text()) != text:
@@ -575,6 +588,7 @@ def complaints() -> Iterator[Complaint]:
     yield from check_files()
     yield from check_edits()
     yield from check_headline()
+    yield from check_scripts()
 
 
 def main(words: list[str]) -> int:

@@ -71,7 +71,12 @@ def main() -> int:
             why = is_refused(copy, page, old, new)
             print(f"{what}: {why or 'refused'}")
             failed += bool(why)
-    print(f"{len(SPOILT) + 1 - failed} passed, {failed} failed")
+        (copy / "tests" / "soak.py").chmod(0o644)
+        ran = check(copy)
+        is_seen = ran.returncode == 1 and "tests/soak.py" in ran.stdout
+        print(f"a script that isn't executable: {'refused' if is_seen else ran.stdout[-200:]}")
+        failed += not is_seen
+    print(f"{len(SPOILT) + 2 - failed} passed, {failed} failed")
     return 1 if failed else 0
 
 
