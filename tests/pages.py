@@ -6,7 +6,7 @@ Usage: tests/pages.py
 Runs docs/check.py, and again on a copy in which one sentence is spoilt, for each kind of sentence
 that it looks at. Prints a line a case; ends with 1 where one isn't as it should be. Takes 30 seconds.
 
-In tests/all: no words, 400 s.
+In tests/all: no words, 1200 s.
 """
 
 import shutil
@@ -41,7 +41,7 @@ SPOILT = [
 
 def check(top: Path) -> subprocess.CompletedProcess[str]:
     words = [sys.executable, str(top / "docs" / "check.py")]
-    return subprocess.run(words, capture_output=True, text=True, timeout=60)
+    return subprocess.run(words, capture_output=True, text=True, timeout=240)
 
 
 def is_refused(copy: Path, page: str, old: str, new: str) -> str:
