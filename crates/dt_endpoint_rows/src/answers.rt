@@ -1,108 +1,97 @@
 //! The answers of calls that are refused, or that come too late.
-use crate::fixtures::{BACK, FLOW, STANDARD, hands_over, open};
-use dt_endpoint::{Delivered, Endpoint, Received, Route, Routed, Sent, Ticked};
+use crate::calls::{Call, answers, is_answered};
+use crate::fixtures::{BACK, FLOW, STANDARD, open};
+use dt_endpoint::{Delivered, Endpoint, Received, Routed, Sent, Ticked};
 use dt_fingerprint::fingerprint;
 use dt_items::NoMemory;
 use dt_layout::LayoutFault;
 use dt_units::{Flow, NodeId};
-
-/// Whether a send of a message at 0 answers so.
-fn sends(one: &mut Endpoint, flow: Flow, octets: &[u8], answer: Sent) -> bool {
-    one.send(0, flow, octets, true, true) == answer
-}
-
-/// Whether octets that come at 0 on a link are answered so.
-fn comes(one: &mut Endpoint, link: u16, octets: &[u8], answer: Received) -> bool {
-    one.arrive(0, link, octets, 0) == answer
-}
-
-/// Whether a read at 0 of so many octets, at most four, answers so.
-fn reads(one: &mut Endpoint, flow: Flow, most: usize, answer: Delivered) -> bool {
-    let mut buf = [0; 4];
-    most <= 4 && one.read(0, flow, &mut buf[..most]) == answer
-}
 
 const OWN: Flow = Flow {
     from: NodeId(1),
     ..BACK
 };
 
+static REFUSED_SENDS: [(u64, Call); 3] = [
+    (0, Call::Send(BACK, b"a", true, true, Sent::BadFlow)),
+    (0, Call::Send(OWN, b"a", true, true, Sent::BadFlow)),
+    (0, Call::Send(FLOW, b"", true, true, Sent::Empty)),
+];
+
 #[test]
 fn refused_sends_say_why(rt: HostRuntime) -> Result<(), NoMemory> {
-    let mut one = open(&rt, rt.alloc(), 1, 2, None)?;
-    assert!(rt; sends(&mut one, BACK, b"a", Sent::BadFlow));
-    assert!(rt; sends(&mut one, OWN, b"a", Sent::BadFlow));
-    assert!(rt; sends(&mut one, FLOW, b"", Sent::Empty));
-    Ok(())
+    answers(&rt, rt.alloc(), 1, None, &REFUSED_SENDS)
 }
+
+const SHORT: Received = Received::Bad {
+    fault: LayoutFault::Short { len: 3 },
+};
+
+static REFUSED_DATAGRAMS_AND_READS: [(u64, Call); 5] = [
+    (0, Call::Arrive(8, b"", Received::NoLink)),
+    (0, Call::Arrive(7, b"abc", SHORT)),
+    (0, Call::Read(FLOW, 4, Delivered::BadFlow, b"")),
+    (0, Call::Read(BACK, 0, Delivered::NoRoom, b"")),
+    (0, Call::Datagrams(0, 2)),
+];
 
 #[test]
 fn refused_datagrams_and_reads_say_why(rt: HostRuntime) -> Result<(), NoMemory> {
-    let mut one = open(&rt, rt.alloc(), 1, 2, None)?;
-    let short = Received::Bad {
-        fault: LayoutFault::Short { len: 3 },
-    };
-    assert!(rt; comes(&mut one, 8, b"", Received::NoLink));
-    assert!(rt; comes(&mut one, 7, b"abc", short));
-    assert!(rt; reads(&mut one, FLOW, 4, Delivered::BadFlow));
-    assert!(rt; reads(&mut one, BACK, 0, Delivered::NoRoom));
-    assert!(rt; one.counts().refused == 2 && one.counts().came == 0);
-    Ok(())
-}
-
-/// Whether the record is filled, and takes no octet more.
-fn fills(one: &mut Endpoint) -> bool {
-    one.send(0, FLOW, &[1; 4096], true, false) == Sent::Done
-        && one.send(0, FLOW, b"a", false, true) == Sent::Full { free: 0 }
-}
-
-#[test]
-fn full_and_stale_are_told(rt: HostRuntime) -> Result<(), NoMemory> {
-    let mut one = open(&rt, rt.alloc(), 1, 2, None)?;
-    let mut two = open(&rt, rt.alloc(), 2, 1, None)?;
-    assert!(rt; fills(&mut one));
-    assert!(rt; hands_over(&mut one, &mut two, 1_000_000, Received::Stale));
-    Ok(())
+    answers(&rt, rt.alloc(), 1, None, &REFUSED_DATAGRAMS_AND_READS)
 }
 
 /// A node that starts again is silent for 3 mpl + r + a ms.
+static SILENT: [(u64, Call); 2] = [
+    (
+        0,
+        Call::Send(BACK, b"a", true, true, Sent::Quiet { until: 6300 }),
+    ),
+    (0, Call::IsSpent(false)),
+];
+
 #[test]
 fn silence_is_told(rt: HostRuntime) -> Result<(), NoMemory> {
-    let mut two = open(&rt, rt.alloc(), 2, 1, Some(100))?;
-    assert!(rt; sends(&mut two, BACK, b"a", Sent::Quiet { until: 6300 }));
-    assert!(rt; !two.is_spent());
-    Ok(())
+    answers(&rt, rt.alloc(), 2, Some(100), &SILENT)
 }
+
+static GOING_BACK: [(u64, Call); 4] = [
+    (u64::MAX, Call::Tick(Ticked::Done)),
+    (0, Call::Tick(Ticked::Done)),
+    (5, Call::Send(FLOW, b"a", true, true, Sent::Done)),
+    (5, Call::Wake(Some((1 << 62) + 500))),
+];
 
 #[test]
 fn moments_never_go_back(rt: HostRuntime) -> Result<(), NoMemory> {
-    let mut one = open(&rt, rt.alloc(), 1, 2, None)?;
-    assert!(rt; one.tick(u64::MAX) == Ticked::Done);
-    assert!(rt; one.tick(0) == Ticked::Done);
-    assert!(rt; one.send(5, FLOW, b"a", true, true) == Sent::Done);
-    assert!(rt; one.wake() == Some((1 << 62) + 500));
-    Ok(())
+    answers(&rt, rt.alloc(), 1, None, &GOING_BACK)
 }
 
-/// Whether every call says that the endpoint is spent.
-fn is_spent(one: &mut Endpoint) -> bool {
-    one.is_spent()
-        && sends(one, FLOW, b"abc", Sent::Spent)
-        && comes(one, 7, b"abc", Received::Spent)
-        && reads(one, BACK, 4, Delivered::Spent)
-        && one.tick(9) == Ticked::Spent
-        && one.wake().is_none()
-        && one.add_route(Route { to: 9, link: 5 }) == Routed::Spent
+/// Every call says that the endpoint is spent.
+static SPENT: [(u64, Call); 7] = [
+    (0, Call::IsSpent(true)),
+    (0, Call::Send(FLOW, b"abc", true, true, Sent::Spent)),
+    (0, Call::Arrive(7, b"abc", Received::Spent)),
+    (0, Call::Read(BACK, 4, Delivered::Spent, b"")),
+    (9, Call::Tick(Ticked::Spent)),
+    (9, Call::Wake(None)),
+    (9, Call::AddRoute(9, 5, Routed::Spent)),
+];
+
+/// Whether the send is taken, or want of memory is told at it and at every call from then on.
+fn is_told_once(one: &mut Endpoint) -> bool {
+    match one.send(0, FLOW, b"abc", true, true) {
+        Sent::Done => !one.is_spent(),
+        answer => {
+            answer == Sent::NoMemory && SPENT.iter().all(|(now, call)| is_answered(one, *now, call))
+        }
+    }
 }
 
-/// With memory the send is taken. After want of memory every call says that the endpoint is spent.
 #[test]
 fn want_of_memory_is_told_once(rt: HostRuntime) {
-    if let Ok(mut one) = open(&rt, rt.alloc(), 1, 2, None) {
-        match one.send(0, FLOW, b"abc", true, true) {
-            Sent::Done => assert!(rt; !one.is_spent()),
-            answer => assert!(rt; answer == Sent::NoMemory && is_spent(&mut one)),
-        }
+    if let Ok(mut one) = open(&rt, rt.alloc(), 1, None) {
+        let is = is_told_once(&mut one);
+        assert!(rt; is);
     }
 }
 

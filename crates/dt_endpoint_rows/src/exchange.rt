@@ -1,21 +1,84 @@
 //! Octets go from one endpoint to another, and come back as settled.
-use crate::fixtures::{FLOW, hands_over, open};
+use crate::calls::{Call, is_answered};
+use crate::fixtures::{FLOW, open};
 use dt_endpoint::{Counts, Delivered, Endpoint, Octets, Received, Sent, Ticked};
 use dt_items::NoMemory;
-use dt_reports::Report;
+use std::alloc::Global;
+use std::process::Abort;
 
-/// What the node counts that sent five octets, and heard that they came.
+/// The endpoints of nodes 1 and 2.
+#[derive(Drop)]
+struct Pair {
+    one: Endpoint,
+    two: Endpoint,
+}
+
+/// A call of one of them, or a frame that goes between them and its answer.
+enum Step {
+    One(u64, Call),
+    Two(u64, Call),
+    /// A frame waits for node 2, which takes it so at 12, where it waited so many ms on the machine.
+    HandOver(u32, Received),
+    /// A frame waits at node 2 on link 5, and node 1 takes it so at 215.
+    HandBack(Received),
+}
+
+fn comes(two: &mut Endpoint, now: u64, octets: &[u8], waited: u32, answer: Received) -> bool {
+    two.arrive(now, 7, octets, waited) == answer
+}
+
+fn hands_over(one: &mut Endpoint, two: &mut Endpoint, waited: u32, answer: Received) -> bool {
+    match one.next_frame() {
+        Some(out) => out.to() == 2 && comes(two, 12, out.octets(), waited, answer),
+        None => false,
+    }
+}
+
+fn hands_back(two: &mut Endpoint, one: &mut Endpoint, answer: Received) -> bool {
+    match two.next_frame() {
+        Some(out) => out.link() == 5 && comes(one, 215, out.octets(), 0, answer),
+        None => false,
+    }
+}
+
+/// Whether a step goes as it says.
+fn goes(pair: &mut Pair, step: &Step) -> bool {
+    let Pair { one, two } = pair;
+    match step {
+        Step::One(now, call) => is_answered(one, *now, call),
+        Step::Two(now, call) => is_answered(two, *now, call),
+        Step::HandOver(waited, answer) => hands_over(one, two, *waited, *answer),
+        Step::HandBack(answer) => hands_back(two, one, *answer),
+    }
+}
+
+/// Each step of two nodes goes as it says.
+fn follows(rt: &impl Abort, alloc: Global, steps: &[Step]) -> Result<(), NoMemory> {
+    let one = open(rt, alloc, 1, None)?;
+    let two = open(rt, alloc, 2, None)?;
+    let mut pair = Pair { one, two };
+    for (place, step) in steps.iter().enumerate() {
+        let is = goes(&mut pair, step);
+        assert!(rt; is, "step {place}");
+    }
+    Ok(())
+}
+
+/// The five octets that were sent, and are known to have come.
+const SENT: Octets = Octets {
+    taken: 5,
+    settled: 5,
+    uncertain: 0,
+    accepted: 0,
+    read: 0,
+};
+
+/// What the node counts that sent them.
 const SENDER: Counts = Counts {
     came: 1,
     refused: 0,
     left: 1,
-    octets: Octets {
-        taken: 5,
-        settled: 5,
-        uncertain: 0,
-        accepted: 0,
-        read: 0,
-    },
+    octets: SENT,
 };
 
 /// What the node counts that read them.
@@ -32,65 +95,51 @@ const READER: Counts = Counts {
     },
 };
 
-/// Whether five octets are taken.
-fn sends_hello(one: &mut Endpoint) -> bool {
-    let took = Report::Took {
-        flow: FLOW,
-        count: 5,
-    };
-    one.send(10, FLOW, b"hello", true, true) == Sent::Done && one.next_report() == Some(took)
-}
-
-/// Whether `hello` is read whole.
-fn reads_hello(two: &mut Endpoint) -> bool {
-    let mut buf = [0; 16];
-    let piece = Delivered::Read {
-        len: 5,
-        run: true,
-        begin: true,
-        end: true,
-    };
-    two.read(12, FLOW, &mut buf) == piece && buf.starts_with(b"hello")
-}
-
-/// Whether nothing is there to be read.
-fn reads_nothing(two: &mut Endpoint) -> bool {
-    let mut buf = [0; 16];
-    two.read(12, FLOW, &mut buf) == Delivered::Nothing
-}
-
-/// Whether the one frame that waits is taken by the other.
-fn answers(one: &mut Endpoint, two: &mut Endpoint) -> bool {
-    match two.next_frame() {
-        Some(out) => out.link() == 5 && one.arrive(215, 7, out.octets(), 0) == Received::Done,
-        None => false,
-    }
-}
-
-/// Whether one of the next reports settles five octets.
-fn is_settled(one: &mut Endpoint) -> bool {
-    for _ in 0..20 {
-        if let Some(Report::Settled { count: 5, .. }) = one.next_report() {
-            return true;
-        }
-    }
-    false
-}
+/// The piece that is all of a message of five octets.
+const WHOLE: Delivered = Delivered::Read {
+    len: 5,
+    run: true,
+    begin: true,
+    end: true,
+};
 
 /// The read opened the window again, so the acknowledgement has left. The receive record stands for
 /// r + mpl + a ms.
+static THERE_AND_BACK: [Step; 16] = [
+    Step::One(0, Call::Follow(FLOW)),
+    Step::Two(0, Call::Totals(FLOW, None)),
+    Step::One(10, Call::Send(FLOW, b"hello", true, true, Sent::Done)),
+    Step::One(10, Call::Took(FLOW, 5)),
+    Step::One(10, Call::FirstFrame),
+    Step::HandOver(3, Received::Done),
+    Step::Two(12, Call::Read(FLOW, 16, WHOLE, b"hello")),
+    Step::Two(12, Call::Read(FLOW, 16, Delivered::Nothing, b"")),
+    Step::Two(15, Call::Wake(Some(4212))),
+    Step::Two(15, Call::Tick(Ticked::Done)),
+    Step::HandBack(Received::Done),
+    Step::Two(15, Call::NoFrame),
+    Step::One(215, Call::Settled(5)),
+    Step::One(215, Call::Counts(SENDER)),
+    Step::Two(215, Call::Counts(READER)),
+    Step::One(215, Call::Totals(FLOW, Some(SENT))),
+];
+
 #[test]
 fn octets_go_from_one_to_the_other(rt: HostRuntime) -> Result<(), NoMemory> {
-    let mut one = open(&rt, rt.alloc(), 1, 2, None)?;
-    let mut two = open(&rt, rt.alloc(), 2, 1, None)?;
-    assert!(rt; one.follow(&FLOW).is_ok() && two.totals(&FLOW).is_none());
-    assert!(rt; sends_hello(&mut one) && one.first_frame().is_some());
-    assert!(rt; hands_over(&mut one, &mut two, 3, Received::Done));
-    assert!(rt; reads_hello(&mut two) && reads_nothing(&mut two));
-    assert!(rt; two.wake() == Some(4212) && two.tick(15) == Ticked::Done);
-    assert!(rt; answers(&mut one, &mut two) && two.next_frame().is_none());
-    assert!(rt; is_settled(&mut one));
-    assert!(rt; one.counts() == SENDER && two.counts() == READER);
-    assert!(rt; one.totals(&FLOW) == Some(SENDER.octets));
-    Ok(())
+    follows(&rt, rt.alloc(), &THERE_AND_BACK)
+}
+
+/// The record is filled and takes no octet more, and its frame comes too late.
+static FULL_AND_STALE: [Step; 3] = [
+    Step::One(0, Call::Send(FLOW, &[1; 4096], true, false, Sent::Done)),
+    Step::One(
+        0,
+        Call::Send(FLOW, b"a", false, true, Sent::Full { free: 0 }),
+    ),
+    Step::HandOver(1_000_000, Received::Stale),
+];
+
+#[test]
+fn full_and_stale_are_told(rt: HostRuntime) -> Result<(), NoMemory> {
+    follows(&rt, rt.alloc(), &FULL_AND_STALE)
 }

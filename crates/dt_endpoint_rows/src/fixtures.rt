@@ -1,5 +1,5 @@
 //! Endpoints of two nodes.
-use dt_endpoint::{Endpoint, InLink, Links, OutLink, Received, Route};
+use dt_endpoint::{Endpoint, InLink, Links, OutLink, Route};
 use dt_items::NoMemory;
 use dt_units::{Flow, NodeId, Params};
 use std::alloc::Global;
@@ -42,28 +42,23 @@ const INS: [InLink; 1] = [InLink {
     charge: 50,
 }];
 
-/// The endpoint of a node that begins for the first time, or again at a moment, with a route to another.
+/// The endpoint of node 1 or 2, which begins for the first time, or again at a moment, with a route to the
+/// other.
 pub fn open(
     rt: &impl Abort,
     alloc: Global,
     me: u32,
-    other: u32,
     again: Option<u64>,
 ) -> Result<Endpoint, NoMemory> {
     let rules = STANDARD.check().expect(rt, "the parameters are refused");
-    let routes = [Route { to: other, link: 5 }];
+    let routes = [Route {
+        to: 3 - me.min(2),
+        link: 5,
+    }];
     let links = Links {
         outs: &OUTS,
         ins: &INS,
         routes: &routes,
     };
     Endpoint::open(alloc, &rules, NodeId(me), again, &links)
-}
-
-/// Whether a frame waits for node 2 that the other takes so, where it waited so many ms on the machine.
-pub fn hands_over(one: &mut Endpoint, two: &mut Endpoint, waited: u32, answer: Received) -> bool {
-    match one.next_frame() {
-        Some(out) => out.to() == 2 && two.arrive(12, 7, out.octets(), waited) == answer,
-        None => false,
-    }
 }

@@ -1,6 +1,6 @@
 //! A node that learns of another while it lives.
-use crate::fixtures::open;
-use dt_endpoint::{Endpoint, Route, Routed, Sent, Ticked};
+use crate::calls::{Call, answers};
+use dt_endpoint::{Routed, Sent, Ticked};
 use dt_items::NoMemory;
 use dt_units::{Flow, NodeId};
 
@@ -12,31 +12,20 @@ const FAR: Flow = Flow {
     to_port: 20,
 };
 
-/// Whether a route is answered so.
-fn routes(one: &mut Endpoint, to: u32, link: u16, answer: Routed) -> bool {
-    one.add_route(Route { to, link }) == answer
-}
-
-/// Whether octets are taken, for which no frame leaves.
-fn sends_nowhere(one: &mut Endpoint) -> bool {
-    one.send(0, FAR, b"a", true, true) == Sent::Done && one.next_frame().is_none()
-}
-
-/// Whether they go again at 500 ms, to node 3 by link 5.
-fn goes_again(one: &mut Endpoint) -> bool {
-    one.tick(500) == Ticked::Done
-        && match one.next_frame() {
-            Some(out) => out.to() == 3 && out.link() == 5,
-            None => false,
-        }
-}
+/// Octets are taken, for which no frame leaves. They go again at 500 ms, when a route leads to node 3.
+static LATE_ROUTE: [(u64, Call); 9] = [
+    (0, Call::Send(FAR, b"a", true, true, Sent::Done)),
+    (0, Call::NoFrame),
+    (0, Call::HasRoute(3, false)),
+    (0, Call::AddRoute(3, 6, Routed::NoLink)),
+    (0, Call::AddRoute(2, 5, Routed::Known)),
+    (0, Call::AddRoute(3, 5, Routed::Done)),
+    (0, Call::HasRoute(3, true)),
+    (500, Call::Tick(Ticked::Done)),
+    (500, Call::NextFrame(3, 5)),
+];
 
 #[test]
 fn route_that_is_added_leads(rt: HostRuntime) -> Result<(), NoMemory> {
-    let mut one = open(&rt, rt.alloc(), 1, 2, None)?;
-    assert!(rt; sends_nowhere(&mut one) && !one.has_route(NodeId(3)));
-    assert!(rt; routes(&mut one, 3, 6, Routed::NoLink) && routes(&mut one, 2, 5, Routed::Known));
-    assert!(rt; routes(&mut one, 3, 5, Routed::Done) && one.has_route(NodeId(3)));
-    assert!(rt; goes_again(&mut one));
-    Ok(())
+    answers(&rt, rt.alloc(), 1, None, &LATE_ROUTE)
 }

@@ -1,9 +1,9 @@
-//! Whole messages taken from two endpoints that hand their frames to each other.
+//! Whole messages taken from two endpoints that hand their frames to each other, step by step in rows.
 use dt_endpoint::{Endpoint, InLink, Links, OutLink, Received, Route, Sent};
 use dt_inbox::{FlowInboxes, Handed, Inbox, Mailbox, TakenMessage};
 use dt_items::NoMemory;
 use dt_reports::Report;
-use dt_units::{Flow, NodeId, Params, Rules};
+use dt_units::{Flow, NodeId, Params};
 use std::alloc::Global;
 use std::process::Abort;
 
@@ -29,191 +29,135 @@ const FLOW: Flow = Flow {
     to_port: 20,
 };
 
-const OUTS: [OutLink; 1] = [OutLink { link: 5, pace: 0 }];
-
-const INS: [InLink; 1] = [InLink { link: 7, charge: 0 }];
-
-fn rules(rt: &impl Abort) -> Result<Rules, NoMemory> {
-    match STANDARD.check() {
-        Ok(rules) => Ok(rules),
-        Err(_) => {
-            assert!(rt; false, "the parameters are refused");
-            Err(NoMemory)
-        }
-    }
-}
-
-fn open(rt: &impl Abort, alloc: Global, me: u32, other: u32) -> Result<Endpoint, NoMemory> {
-    let routes = [Route { to: other, link: 5 }];
-    let links = Links {
-        outs: &OUTS,
-        ins: &INS,
-        routes: &routes,
-    };
-    Endpoint::open(alloc, &rules(rt)?, NodeId(me), None, &links)
-}
-
-// All frames that wait come to the other.
-fn hands_over(rt: &impl Abort, one: &mut Endpoint, two: &mut Endpoint) {
-    for _ in 0..20 {
-        if let Some(out) = one.next_frame() {
-            assert_eq!(rt; two.arrive(12, 7, out.octets(), 0), Received::Done);
-        }
-    }
-}
-
-fn is_message(answer: &TakenMessage, octets: &[u8], gap: bool) -> bool {
-    match answer {
-        TakenMessage::Whole(message) => message.octets.as_slice() == octets && message.gap == gap,
-        _ => false,
-    }
-}
-
-fn is_nothing(answer: &TakenMessage) -> bool {
-    matches!(answer, TakenMessage::Nothing)
-}
-
-// The second message comes in three frames, and is read in pieces of 64 octets.
-fn takes_both(alloc: Global, inbox: &mut Inbox, two: &mut Endpoint) -> bool {
-    let mut buf = [0; 64];
-    is_message(&inbox.take(alloc, two, 12, &mut buf), b"hello", true)
-        && is_message(&inbox.take(alloc, two, 12, &mut buf), &[7; 300], false)
-        && is_nothing(&inbox.take(alloc, two, 12, &mut buf))
-}
-
-fn sends_both(rt: &impl Abort, one: &mut Endpoint) {
-    assert_eq!(rt; one.send(10, FLOW, b"hello", true, true), Sent::Done);
-    assert_eq!(rt; one.send(10, FLOW, &[7; 300], true, true), Sent::Done);
-}
-
-#[test]
-fn whole_messages_are_taken(rt: HostRuntime) -> Result<(), NoMemory> {
-    let mut one = open(&rt, rt.alloc(), 1, 2)?;
-    let mut two = open(&rt, rt.alloc(), 2, 1)?;
-    let mut inbox = Inbox::new(FLOW, None);
-    sends_both(&rt, &mut one);
-    hands_over(&rt, &mut one, &mut two);
-    let right = takes_both(rt.alloc(), &mut inbox, &mut two);
-    assert!(rt; right);
-    Ok(())
-}
-
-// Of a message that isn't whole yet nothing is answered. The rest of it comes later.
-fn takes_late(alloc: Global, inbox: &mut Inbox, two: &mut Endpoint) -> bool {
-    let mut buf = [0; 64];
-    is_nothing(&inbox.take(alloc, two, 12, &mut buf))
-}
-
-#[test]
-fn half_a_message_waits(rt: HostRuntime) -> Result<(), NoMemory> {
-    let mut one = open(&rt, rt.alloc(), 1, 2)?;
-    let mut two = open(&rt, rt.alloc(), 2, 1)?;
-    let mut inbox = Inbox::new(FLOW, None);
-    let mut buf = [0; 64];
-    assert_eq!(rt; one.send(10, FLOW, b"he", true, false), Sent::Done);
-    hands_over(&rt, &mut one, &mut two);
-    let waits = takes_late(rt.alloc(), &mut inbox, &mut two);
-    assert!(rt; waits);
-    assert_eq!(rt; one.send(10, FLOW, b"llo", false, true), Sent::Done);
-    hands_over(&rt, &mut one, &mut two);
-    let answer = inbox.take(rt.alloc(), &mut two, 12, &mut buf);
-    let right = is_message(&answer, b"hello", true);
-    assert!(rt; right);
-    Ok(())
-}
-
-#[test]
-fn long_message_is_dropped_and_the_next_is_taken(rt: HostRuntime) -> Result<(), NoMemory> {
-    let mut one = open(&rt, rt.alloc(), 1, 2)?;
-    let mut two = open(&rt, rt.alloc(), 2, 1)?;
-    let mut inbox = Inbox::new(FLOW, Some(5));
-    let mut buf = [0; 4];
-    assert_eq!(rt; one.send(10, FLOW, b"longer", true, true), Sent::Done);
-    assert_eq!(rt; one.send(10, FLOW, b"short", true, true), Sent::Done);
-    hands_over(&rt, &mut one, &mut two);
-    let answer = inbox.take(rt.alloc(), &mut two, 12, &mut buf);
-    let right = is_message(&answer, b"short", true);
-    assert!(rt; right);
-    assert_eq!(rt; inbox.dropped(), 1);
-    Ok(())
-}
-
-#[test]
-fn refused_reads_are_told(rt: HostRuntime) -> Result<(), NoMemory> {
-    let mut one = open(&rt, rt.alloc(), 1, 2)?;
-    let mut two = open(&rt, rt.alloc(), 2, 1)?;
-    let mut inbox = Inbox::new(FLOW, None);
-    let own = matches!(
-        inbox.take(rt.alloc(), &mut one, 0, &mut [0; 4]),
-        TakenMessage::BadFlow
-    );
-    assert!(rt; own);
-    let full = matches!(
-        inbox.take(rt.alloc(), &mut two, 0, &mut []),
-        TakenMessage::NoRoom
-    );
-    assert!(rt; full);
-    Ok(())
-}
-
 // From port 11 of node 1 to port 20 of node 2.
 const OTHER: Flow = Flow {
     from_port: 11,
     ..FLOW
 };
 
+const OUTS: [OutLink; 1] = [OutLink { link: 5, pace: 0 }];
+
+const INS: [InLink; 1] = [InLink { link: 7, charge: 0 }];
+
+fn open(rt: &impl Abort, alloc: Global, me: u32, other: u32) -> Result<Endpoint, NoMemory> {
+    let rules = STANDARD.check().expect(rt, "the parameters are refused");
+    let routes = [Route { to: other, link: 5 }];
+    let links = Links {
+        outs: &OUTS,
+        ins: &INS,
+        routes: &routes,
+    };
+    Endpoint::open(alloc, &rules, NodeId(me), None, &links)
+}
+
+// Two nodes, and what takes the messages that come to node 2.
+#[derive(Drop)]
+struct Exchange {
+    one: Endpoint,
+    two: Endpoint,
+    inbox: Inbox,
+    inboxes: FlowInboxes,
+    mailbox: Mailbox,
+}
+
+// What taking a message answers. A message has octets and maybe a gap before it.
+enum Answer {
+    Whole(&'static [u8], bool),
+    Nothing,
+    BadFlow,
+    NoRoom,
+}
+
+// What is done, and what comes of it.
+enum Step {
+    // node 1 sends octets of a flow that begin a message and end it, or don't
+    Send(Flow, &'static [u8], bool, bool),
+    // all frames that wait at node 1 come to node 2
+    HandOver,
+    // the inbox takes in pieces of so many octets, from node 2 or from node 1
+    Take(usize, Answer),
+    TakeOfSender(usize, Answer),
+    // so many messages were too long for it
+    Dropped(u64),
+    // the inboxes hear of what was accepted, take of a flow or find none due, and forget a flow
+    HearAll,
+    TakeOf(Flow, Answer),
+    TakeOfNone,
+    Forget(Flow),
+    Left(usize),
+    // the mailbox hears of a flow, and hands out into a buffer of so many octets
+    Hear(Flow),
+    HandOut,
+}
+
+fn sends(one: &mut Endpoint, flow: Flow, octets: &[u8], begin: bool, end: bool) -> bool {
+    one.send(10, flow, octets, begin, end) == Sent::Done
+}
+
+fn comes(two: &mut Endpoint, octets: &[u8]) -> bool {
+    two.arrive(12, 7, octets, 0) == Received::Done
+}
+
+fn hands_one_over(one: &mut Endpoint, two: &mut Endpoint) -> bool {
+    match one.next_frame() {
+        Some(out) => comes(two, out.octets()),
+        None => true,
+    }
+}
+
+fn hands_over(one: &mut Endpoint, two: &mut Endpoint) -> bool {
+    (0..20).all(|_| hands_one_over(one, two))
+}
+
+fn is_answer(taken: &TakenMessage, wanted: &Answer) -> bool {
+    match (taken, wanted) {
+        (TakenMessage::Whole(message), Answer::Whole(octets, gap)) => {
+            message.octets.as_slice() == *octets && message.gap == *gap
+        }
+        (TakenMessage::Nothing, Answer::Nothing)
+        | (TakenMessage::BadFlow, Answer::BadFlow)
+        | (TakenMessage::NoRoom, Answer::NoRoom) => true,
+        _ => false,
+    }
+}
+
+fn takes(
+    alloc: Global,
+    inbox: &mut Inbox,
+    endpoint: &mut Endpoint,
+    room: usize,
+    wanted: &Answer,
+) -> bool {
+    let mut buf = [0; 64];
+    room <= 64 && is_answer(&inbox.take(alloc, endpoint, 12, &mut buf[..room]), wanted)
+}
+
+fn hears(inboxes: &mut FlowInboxes, two: &mut Endpoint) -> bool {
+    for _ in 0..20 {
+        if let Some(Report::Accepted { flow, .. }) = two.next_report() {
+            if inboxes.hear(flow).is_err() {
+                return false;
+            }
+        }
+    }
+    true
+}
+
 fn takes_of(
     alloc: Global,
     inboxes: &mut FlowInboxes,
     two: &mut Endpoint,
     flow: Flow,
-    octets: &[u8],
+    wanted: &Answer,
 ) -> bool {
     match inboxes.take(alloc, two, 12, &mut [0; 64]) {
-        Some((of, answer)) => of == flow && is_message(&answer, octets, true),
+        Some((of, taken)) => of == flow && is_answer(&taken, wanted),
         None => false,
     }
 }
 
-fn finds_nothing(alloc: Global, inboxes: &mut FlowInboxes, two: &mut Endpoint, flow: Flow) -> bool {
-    match inboxes.take(alloc, two, 12, &mut [0; 64]) {
-        Some((of, answer)) => of == flow && is_nothing(&answer),
-        None => false,
-    }
-}
-
-// The flows that were heard of are taken of in order, and then none is due.
-fn takes_of_both(alloc: Global, inboxes: &mut FlowInboxes, two: &mut Endpoint) -> bool {
-    takes_of(alloc, inboxes, two, FLOW, b"one")
-        && finds_nothing(alloc, inboxes, two, FLOW)
-        && takes_of(alloc, inboxes, two, OTHER, b"two")
-        && finds_nothing(alloc, inboxes, two, OTHER)
-        && inboxes.take(alloc, two, 12, &mut [0; 64]).is_none()
-}
-
-fn hears(inboxes: &mut FlowInboxes, two: &mut Endpoint) -> Result<(), NoMemory> {
-    for _ in 0..20 {
-        if let Some(Report::Accepted { flow, .. }) = two.next_report() {
-            inboxes.hear(flow)?;
-        }
-    }
-    Ok(())
-}
-
-#[test]
-fn messages_of_any_flow_are_taken(rt: HostRuntime) -> Result<(), NoMemory> {
-    let mut one = open(&rt, rt.alloc(), 1, 2)?;
-    let mut two = open(&rt, rt.alloc(), 2, 1)?;
-    let mut inboxes = FlowInboxes::new(rt.alloc(), None);
-    assert_eq!(rt; one.send(10, FLOW, b"one", true, true), Sent::Done);
-    assert_eq!(rt; one.send(10, OTHER, b"two", true, true), Sent::Done);
-    hands_over(&rt, &mut one, &mut two);
-    hears(&mut inboxes, &mut two)?;
-    let right = takes_of_both(rt.alloc(), &mut inboxes, &mut two);
-    assert!(rt; right);
-    inboxes.forget(&FLOW);
-    assert_eq!(rt; inboxes.len(), 0);
-    Ok(())
+fn takes_of_none(alloc: Global, inboxes: &mut FlowInboxes, two: &mut Endpoint) -> bool {
+    inboxes.take(alloc, two, 12, &mut [0; 64]).is_none()
 }
 
 // A buffer that is too small is told so, and the message waits for one that isn't.
@@ -229,15 +173,140 @@ fn hands_out(alloc: Global, mailbox: &mut Mailbox, two: &mut Endpoint) -> bool {
         && buf == *b"hello."
 }
 
+// Whether a step goes as it says.
+fn goes(alloc: Global, exchange: &mut Exchange, step: &Step) -> bool {
+    let Exchange {
+        one,
+        two,
+        inbox,
+        inboxes,
+        mailbox,
+    } = exchange;
+    match step {
+        Step::Send(flow, octets, begin, end) => sends(one, *flow, octets, *begin, *end),
+        Step::HandOver => hands_over(one, two),
+        Step::Take(room, wanted) => takes(alloc, inbox, two, *room, wanted),
+        Step::TakeOfSender(room, wanted) => takes(alloc, inbox, one, *room, wanted),
+        Step::Dropped(count) => inbox.dropped() == *count,
+        Step::HearAll => hears(inboxes, two),
+        Step::TakeOf(flow, wanted) => takes_of(alloc, inboxes, two, *flow, wanted),
+        Step::TakeOfNone => takes_of_none(alloc, inboxes, two),
+        Step::Forget(flow) => {
+            inboxes.forget(flow);
+            true
+        }
+        Step::Left(count) => inboxes.len() == *count,
+        Step::Hear(flow) => mailbox.hear(*flow).is_ok(),
+        Step::HandOut => hands_out(alloc, mailbox, two),
+    }
+}
+
+fn opened(rt: &impl Abort, alloc: Global, longest: Option<usize>) -> Result<Exchange, NoMemory> {
+    Ok(Exchange {
+        one: open(rt, alloc, 1, 2)?,
+        two: open(rt, alloc, 2, 1)?,
+        inbox: Inbox::new(FLOW, longest),
+        inboxes: FlowInboxes::new(alloc, longest),
+        mailbox: Mailbox::new(alloc, longest),
+    })
+}
+
+// Each step goes as it says, where a message has so many octets at most.
+fn follows(
+    rt: &impl Abort,
+    alloc: Global,
+    longest: Option<usize>,
+    steps: &[Step],
+) -> Result<(), NoMemory> {
+    let mut exchange = opened(rt, alloc, longest)?;
+    for (place, step) in steps.iter().enumerate() {
+        let is = goes(alloc, &mut exchange, step);
+        assert!(rt; is, "step {place}");
+    }
+    Ok(())
+}
+
+// The second message comes in three frames, and is read in pieces of 64 octets.
+static WHOLE: [Step; 6] = [
+    Step::Send(FLOW, b"hello", true, true),
+    Step::Send(FLOW, &[7; 300], true, true),
+    Step::HandOver,
+    Step::Take(64, Answer::Whole(b"hello", true)),
+    Step::Take(64, Answer::Whole(&[7; 300], false)),
+    Step::Take(64, Answer::Nothing),
+];
+
+#[test]
+fn whole_messages_are_taken(rt: HostRuntime) -> Result<(), NoMemory> {
+    follows(&rt, rt.alloc(), None, &WHOLE)
+}
+
+// Of a message that isn't whole yet nothing is answered. The rest of it comes later.
+static HALF: [Step; 6] = [
+    Step::Send(FLOW, b"he", true, false),
+    Step::HandOver,
+    Step::Take(64, Answer::Nothing),
+    Step::Send(FLOW, b"llo", false, true),
+    Step::HandOver,
+    Step::Take(64, Answer::Whole(b"hello", true)),
+];
+
+#[test]
+fn half_a_message_waits(rt: HostRuntime) -> Result<(), NoMemory> {
+    follows(&rt, rt.alloc(), None, &HALF)
+}
+
+static LONG: [Step; 5] = [
+    Step::Send(FLOW, b"longer", true, true),
+    Step::Send(FLOW, b"short", true, true),
+    Step::HandOver,
+    Step::Take(4, Answer::Whole(b"short", true)),
+    Step::Dropped(1),
+];
+
+#[test]
+fn long_message_is_dropped_and_the_next_is_taken(rt: HostRuntime) -> Result<(), NoMemory> {
+    follows(&rt, rt.alloc(), Some(5), &LONG)
+}
+
+static REFUSED: [Step; 2] = [
+    Step::TakeOfSender(4, Answer::BadFlow),
+    Step::Take(0, Answer::NoRoom),
+];
+
+#[test]
+fn refused_reads_are_told(rt: HostRuntime) -> Result<(), NoMemory> {
+    follows(&rt, rt.alloc(), None, &REFUSED)
+}
+
+// The flows that were heard of are taken of in order, and then none is due.
+static TWO_FLOWS: [Step; 11] = [
+    Step::Send(FLOW, b"one", true, true),
+    Step::Send(OTHER, b"two", true, true),
+    Step::HandOver,
+    Step::HearAll,
+    Step::TakeOf(FLOW, Answer::Whole(b"one", true)),
+    Step::TakeOf(FLOW, Answer::Nothing),
+    Step::TakeOf(OTHER, Answer::Whole(b"two", true)),
+    Step::TakeOf(OTHER, Answer::Nothing),
+    Step::TakeOfNone,
+    Step::Forget(FLOW),
+    Step::Left(0),
+];
+
+#[test]
+fn messages_of_any_flow_are_taken(rt: HostRuntime) -> Result<(), NoMemory> {
+    follows(&rt, rt.alloc(), None, &TWO_FLOWS)
+}
+
+static MAIL: [Step; 4] = [
+    Step::Send(FLOW, b"hello", true, true),
+    Step::HandOver,
+    Step::Hear(FLOW),
+    Step::HandOut,
+];
+
 #[test]
 fn mailbox_hands_a_message_out_once(rt: HostRuntime) -> Result<(), NoMemory> {
-    let mut one = open(&rt, rt.alloc(), 1, 2)?;
-    let mut two = open(&rt, rt.alloc(), 2, 1)?;
-    let mut mailbox = Mailbox::new(rt.alloc(), Some(5));
-    assert_eq!(rt; one.send(10, FLOW, b"hello", true, true), Sent::Done);
-    hands_over(&rt, &mut one, &mut two);
-    mailbox.hear(FLOW)?;
-    let right = hands_out(rt.alloc(), &mut mailbox, &mut two);
-    assert!(rt; right);
-    Ok(())
+    follows(&rt, rt.alloc(), Some(5), &MAIL)
 }

@@ -12,7 +12,7 @@ type Row = (
     u64,
 );
 
-const ANY_LENGTH: [Row; 16] = [
+static ANY_LENGTH: [Row; 16] = [
     (b"rbe", b"one", Some((b"one", true)), 0),
     (b"be", b"two", Some((b"two", false)), 0),
     // in three pieces
@@ -35,7 +35,7 @@ const ANY_LENGTH: [Row; 16] = [
     (b"rbe", b"end", Some((b"end", true)), 0),
 ];
 
-const FOUR_AT_MOST: [Row; 9] = [
+static FOUR_AT_MOST: [Row; 9] = [
     (b"be", b"four", Some((b"four", false)), 0),
     (b"be", b"five!", None, 1),
     // the rest of one that has outgrown it is no part of any, and isn't counted again
