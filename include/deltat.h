@@ -60,7 +60,8 @@ enum dt_status {
     DT_ROOM = 6,      /* the buffer is too small, and what was to go into it waits on */
     DT_FULL = 7,      /* the octets don't fit, and weren't taken; what else was due is done */
     DT_QUIET = 8,     /* the node is silent, and took none; what else was due is done */
-    DT_SPENT = 9,     /* an earlier call found no memory, or the service was stopped; nothing changed */
+    DT_SPENT = 9,     /* an earlier call found no memory, or the service was stopped; nothing changed, but that dt_take
+                         looks for no message of that flow any more */
     DT_BAD = 11,      /* the datagram doesn't read; nothing changed but a count */
     DT_STALE = 12,    /* the datagram waited for all of its life, or longer; nothing changed but a count */
     DT_KEPT_OUT = 13, /* the guard doesn't admit the datagram, which is lost and counted; nothing else changed */
@@ -226,8 +227,8 @@ uint8_t dt_hear(dt_node *n, const struct dt_flow *f);
  * flows were longer than `longest` since dt_inbox, 2^64 - 1 at most. Flows are read as by dt_read, and what is due at
  * `now` is done then. DONE CLOSED, and where it isn't DONE the buffer is as it was; NOTHING: no flow has one; ROOM: it
  * has `len` octets, and waits; LOST: the message of this flow is lost, and the next one has a gap; MORE: 65,537 flows
- * had none, and others may have one; NO_MEMORY SPENT: a flow can't be read. A message that waits for room is handed
- * out all the same. */
+ * had none, and others may have one; NO_MEMORY SPENT: a flow can't be read, and dt_take looks at it no more, so the
+ * next one answers NOTHING where no other flow was heard of. A message that waits for room is handed out all the same. */
 struct dt_message dt_take(dt_node *n, uint64_t now, uint8_t *buf, size_t room);
 
 /* THE GUARD: what strangers may open. From now on the node receives at these ports, or at all ports where `all` is set,

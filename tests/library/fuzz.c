@@ -7,7 +7,7 @@
 
    - a call answers with a status that deltat.h doesn't give it, or with another one than its arguments ask for;
    - a call that changed nothing by its status changed something: each node is there twice, the second one isn't asked
-     what the first refused, and both have to go on alike;
+     what the first refused (but a dt_take of a spent node), and both have to go on alike;
    - a frame doesn't read, isn't the one that its report tells, or the octets behind it or behind a message changed;
    - a report has a field that its kind hasn't, or isn't of this node;
    - counts and totals aren't the sums of the reports;
@@ -432,6 +432,8 @@ static bool takes(struct node *n, size_t room) {
     BOTH(CALL, one, other, FIELD, moment)
 #undef CALL
     uint8_t status = one.status;
+    /* a flow that can't be read is looked at no more */
+    if (status == DT_SPENT) WANT(dt_take(n->handle[1], moment, twin, room).status == DT_SPENT);
     WANT(status == DT_DONE || status == DT_NOTHING || status == DT_CLOSED || status == DT_SPENT || status == DT_NO_MEMORY || status == DT_ROOM || status == DT_LOST || status == DT_MORE);
     WANT(n->has_inbox || status == DT_CLOSED);
     WANT(status != DT_LOST || !found);
