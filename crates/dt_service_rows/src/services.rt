@@ -1,4 +1,4 @@
-//! A client and a server over their endpoints: the frames of the one are handed to the other.
+//! A client and a server over their endpoints, step by step in rows: the frames of the one are handed to the other.
 use dt_endpoint::{InLink, Links, OutLink, Received, Route, Routed, Ticked};
 use dt_items::NoMemory;
 use dt_service::{Service, ServiceStart};
@@ -31,17 +31,52 @@ const FLOW: Flow = Flow {
     to_port: 20,
 };
 
+/// From the other's port to this one's, which node 1 can't call.
+const BACK: Flow = Flow {
+    from: NodeId(2),
+    ..FLOW
+};
+
+/// From a port of node 1 that is no caller's.
+const PLAIN: Flow = Flow {
+    from_port: 11,
+    ..FLOW
+};
+
 const MOST: Most = Most {
     calls: 2,
     requests: 8,
     of_a_flow: 8,
 };
 
+/// The number of the first call of the first life.
+const NUMBER: CallNumber = CallNumber { life: 5, count: 0 };
+
+const TOKEN: Token = Token {
+    flow: FLOW,
+    number: NUMBER,
+};
+
+/// The answers to the first two calls of the first life.
+const FIRST: Made = Made::Call(NUMBER);
+
+const SECOND: Made = Made::Call(CallNumber { life: 5, count: 1 });
+
+/// The answer to the first call of the life after it.
+const RAISED: Made = Made::Call(CallNumber { life: 6, count: 0 });
+
 const OUTS: [OutLink; 1] = [OutLink { link: 5, pace: 0 }];
 
 const INS: [InLink; 1] = [InLink { link: 7, charge: 0 }];
 
-/// The service of a node with a route to the other. Node 1 calls from port 10, and node 2 serves at port 20.
+/// Node 1 calls from port 10, and node 2 serves at port 20.
+fn names_ports(service: &mut Service) -> Result<(), NoMemory> {
+    service.port(10, PortKind::Caller)?;
+    service.port(20, PortKind::Service)?;
+    Ok(())
+}
+
+/// The service of a node with a route to the other.
 fn open(rt: &impl Abort, alloc: Global, me: u32, again: Option<u64>) -> Result<Service, NoMemory> {
     let rules = STANDARD.check().expect(rt, "the parameters are refused");
     let routes = [Route {
@@ -60,33 +95,8 @@ fn open(rt: &impl Abort, alloc: Global, me: u32, again: Option<u64>) -> Result<S
         most: MOST,
     };
     let mut service = Service::open(alloc, &rules, &start, &links)?;
-    service.port(10, PortKind::Caller)?;
-    service.port(20, PortKind::Service)?;
+    names_ports(&mut service)?;
     Ok(service)
-}
-
-/// The number of a call of the first life.
-fn five(count: u32) -> CallNumber {
-    CallNumber { life: 5, count }
-}
-
-fn token(count: u32) -> Token {
-    Token {
-        flow: FLOW,
-        number: five(count),
-    }
-}
-
-/// Whether the first two frames that wait for the other are taken by it at a moment.
-fn hands_over(one: &mut Service, two: &mut Service, now: u64) -> bool {
-    for _ in 0..2 {
-        if let Some(out) = one.next_frame()
-            && two.arrive(now, 7, out.octets(), 0) != Received::Done
-        {
-            return false;
-        }
-    }
-    true
 }
 
 /// What happens, in words that compare.
@@ -97,6 +107,32 @@ enum Told {
     Answered { count: u32, first: u8 },
     Unsure { count: u32, cause: Cause },
 }
+
+/// The request of one octet, its answer, and what a call comes to without one.
+const REQUEST: Told = Told::Request {
+    count: 0,
+    first: b'a',
+};
+
+const ANSWERED: Told = Told::Answered {
+    count: 0,
+    first: b'A',
+};
+
+const IMPATIENT: Told = Told::Unsure {
+    count: 0,
+    cause: Cause::Patience,
+};
+
+const CLOSED: Told = Told::Unsure {
+    count: 0,
+    cause: Cause::Closed,
+};
+
+const CLOSED_TOO: Told = Told::Unsure {
+    count: 1,
+    cause: Cause::Closed,
+};
 
 fn first_of(octets: &[u8]) -> u8 {
     octets.first().copied().unwrap_or(0)
@@ -121,176 +157,290 @@ fn next(service: &mut Service) -> Told {
     }
 }
 
-/// Whether a call of one octet at a moment is made with this number.
-fn makes(client: &mut Service, now: u64, patience: u32, count: u32) -> bool {
-    client.call(now, FLOW, b"a", patience) == Made::Call(five(count))
+/// What is asked of a service at some moment, and its answer, which stands last.
+enum Ask {
+    /// A call of a flow with this payload, which waits so many ms.
+    Call(Flow, &'static [u8], u32, Made),
+    /// The first request is replied to, or forgotten.
+    Reply(&'static [u8], Replied),
+    Forget(Forgot),
+    /// Octets come on a link.
+    Arrive(u16, &'static [u8], Received),
+    Tick(Ticked),
+    Wake(Option<u64>),
+    NextSize(Option<usize>),
+    Next(Told),
+    Raise(u32, bool),
+    /// A route to a node by a link.
+    AddRoute(u32, u16, Routed),
+    Close,
+    IsClosed(bool),
+    /// So many replies came too late, and so many datagrams were refused.
+    Late(u64),
+    Refused(u64),
 }
 
-/// Whether the request comes, is handed out once, and takes one reply.
-fn serves(client: &mut Service, server: &mut Service) -> bool {
-    let request = Told::Request {
-        count: 0,
-        first: b'a',
-    };
-    hands_over(client, server, 40)
-        && server.next_size() == Some(1)
-        && next(server) == request
-        && next(server) == Told::Nothing
-        && server.reply(40, token(0), b"A") == Replied::Done
-        && server.reply(40, token(0), b"B") == Replied::Gone
+fn calls(
+    one: &mut Service,
+    now: u64,
+    flow: Flow,
+    payload: &[u8],
+    patience: u32,
+    answer: Made,
+) -> bool {
+    one.call(now, flow, payload, patience) == answer
 }
+
+fn replies(one: &mut Service, now: u64, payload: &[u8], answer: Replied) -> bool {
+    one.reply(now, TOKEN, payload) == answer
+}
+
+fn forgets(one: &mut Service, now: u64, answer: Forgot) -> bool {
+    one.forget(now, &TOKEN) == answer
+}
+
+fn arrives(one: &mut Service, now: u64, link: u16, octets: &[u8], answer: Received) -> bool {
+    one.arrive(now, link, octets, 0) == answer
+}
+
+fn ticks(one: &mut Service, now: u64, answer: Ticked) -> bool {
+    one.tick(now) == answer
+}
+
+fn raises(one: &mut Service, life: u32, answer: bool) -> bool {
+    one.raise(life) == answer
+}
+
+fn adds_route(one: &mut Service, to: u32, link: u16, answer: Routed) -> bool {
+    one.add_route(Route { to, link }) == answer
+}
+
+fn closes(one: &mut Service) -> bool {
+    one.close();
+    true
+}
+
+/// Whether a service answers as it says.
+fn is_answered(one: &mut Service, now: u64, ask: &Ask) -> bool {
+    match ask {
+        Ask::Call(flow, payload, patience, answer) => {
+            calls(one, now, *flow, payload, *patience, *answer)
+        }
+        Ask::Reply(payload, answer) => replies(one, now, payload, *answer),
+        Ask::Forget(answer) => forgets(one, now, *answer),
+        Ask::Arrive(link, octets, answer) => arrives(one, now, *link, octets, *answer),
+        Ask::Tick(answer) => ticks(one, now, *answer),
+        Ask::Wake(answer) => one.wake() == *answer,
+        Ask::NextSize(answer) => one.next_size() == *answer,
+        Ask::Next(answer) => next(one) == *answer,
+        Ask::Raise(life, answer) => raises(one, *life, *answer),
+        Ask::AddRoute(to, link, answer) => adds_route(one, *to, *link, *answer),
+        Ask::Close => closes(one),
+        Ask::IsClosed(answer) => one.is_closed() == *answer,
+        Ask::Late(count) => one.counts().late == *count,
+        Ask::Refused(count) => one.endpoint().counts().refused == *count,
+    }
+}
+
+/// The services of nodes 1 and 2.
+#[derive(Drop)]
+struct Pair {
+    client: Service,
+    server: Service,
+}
+
+/// What is asked of one of them, or the frames that wait at one are taken by the other at a moment.
+enum Step {
+    Client(u64, Ask),
+    Server(u64, Ask),
+    HandOver(u64),
+    HandBack(u64),
+}
+
+/// Whether the first frame that waits for the other, if any, is taken by it.
+fn hands_one_over(one: &mut Service, two: &mut Service, now: u64) -> bool {
+    match one.next_frame() {
+        Some(out) => arrives(two, now, 7, out.octets(), Received::Done),
+        None => true,
+    }
+}
+
+/// Whether the first two are.
+fn hands_over(one: &mut Service, two: &mut Service, now: u64) -> bool {
+    (0..2).all(|_| hands_one_over(one, two, now))
+}
+
+/// Whether a step goes as it says.
+fn goes(pair: &mut Pair, step: &Step) -> bool {
+    let Pair { client, server } = pair;
+    match step {
+        Step::Client(now, ask) => is_answered(client, *now, ask),
+        Step::Server(now, ask) => is_answered(server, *now, ask),
+        Step::HandOver(now) => hands_over(client, server, *now),
+        Step::HandBack(now) => hands_over(server, client, *now),
+    }
+}
+
+fn opened(rt: &impl Abort, alloc: Global, again: Option<u64>) -> Result<Pair, NoMemory> {
+    Ok(Pair {
+        client: open(rt, alloc, 1, again)?,
+        server: open(rt, alloc, 2, None)?,
+    })
+}
+
+/// Each step goes as it says, where the client starts again at a moment or for the first time.
+fn follows(
+    rt: &impl Abort,
+    alloc: Global,
+    again: Option<u64>,
+    steps: &[Step],
+) -> Result<(), NoMemory> {
+    let mut pair = opened(rt, alloc, again)?;
+    for (place, step) in steps.iter().enumerate() {
+        let is = goes(&mut pair, step);
+        assert!(rt; is, "step {place}");
+    }
+    Ok(())
+}
+
+/// The request is handed out once, and takes one reply.
+static ANSWER: [Step; 10] = [
+    Step::Client(0, Ask::Call(FLOW, b"a", 3000, FIRST)),
+    Step::HandOver(40),
+    Step::Server(40, Ask::NextSize(Some(1))),
+    Step::Server(40, Ask::Next(REQUEST)),
+    Step::Server(40, Ask::Next(Told::Nothing)),
+    Step::Server(40, Ask::Reply(b"A", Replied::Done)),
+    Step::Server(40, Ask::Reply(b"B", Replied::Gone)),
+    Step::HandBack(80),
+    Step::Client(80, Ask::Next(ANSWERED)),
+    Step::Client(80, Ask::Next(Told::Nothing)),
+];
 
 #[test]
 fn a_call_is_handed_out_and_answered(rt: HostRuntime) -> Result<(), NoMemory> {
-    let mut client = open(&rt, rt.alloc(), 1, None)?;
-    let mut server = open(&rt, rt.alloc(), 2, None)?;
-    let answer = Told::Answered {
-        count: 0,
-        first: b'A',
-    };
-    assert!(rt; makes(&mut client, 0, 3000, 0));
-    assert!(rt; serves(&mut client, &mut server));
-    assert!(rt; hands_over(&mut server, &mut client, 80));
-    assert!(rt; next(&mut client) == answer);
-    assert!(rt; next(&mut client) == Told::Nothing);
-    Ok(())
+    follows(&rt, rt.alloc(), None, &ANSWER)
 }
 
-/// Whether patience is over at 300, and no sooner; and the reply that comes then is counted.
-fn loses_patience(client: &mut Service, server: &mut Service) -> bool {
-    let unsure = Told::Unsure {
-        count: 0,
-        cause: Cause::Patience,
-    };
-    client.wake() == Some(300)
-        && client.tick(299) == Ticked::Done
-        && next(client) == Told::Nothing
-        && client.tick(300) == Ticked::Done
-        && next(client) == unsure
-        && hands_over(server, client, 310)
-        && next(client) == Told::Nothing
-        && client.counts().late == 1
-}
+/// Patience is over at 300, and no sooner; and the reply that comes then is counted.
+static LATE: [Step; 15] = [
+    Step::Client(0, Ask::Call(FLOW, b"a", 300, FIRST)),
+    Step::HandOver(40),
+    Step::Server(40, Ask::NextSize(Some(1))),
+    Step::Server(40, Ask::Next(REQUEST)),
+    Step::Server(40, Ask::Next(Told::Nothing)),
+    Step::Server(40, Ask::Reply(b"A", Replied::Done)),
+    Step::Server(40, Ask::Reply(b"B", Replied::Gone)),
+    Step::Client(40, Ask::Wake(Some(300))),
+    Step::Client(299, Ask::Tick(Ticked::Done)),
+    Step::Client(299, Ask::Next(Told::Nothing)),
+    Step::Client(300, Ask::Tick(Ticked::Done)),
+    Step::Client(300, Ask::Next(IMPATIENT)),
+    Step::HandBack(310),
+    Step::Client(310, Ask::Next(Told::Nothing)),
+    Step::Client(310, Ask::Late(1)),
+];
 
 #[test]
 fn patience_ends_a_call_and_a_late_reply_is_counted(rt: HostRuntime) -> Result<(), NoMemory> {
-    let mut client = open(&rt, rt.alloc(), 1, None)?;
-    let mut server = open(&rt, rt.alloc(), 2, None)?;
-    assert!(rt; makes(&mut client, 0, 300, 0));
-    assert!(rt; serves(&mut client, &mut server));
-    assert!(rt; loses_patience(&mut client, &mut server));
-    Ok(())
+    follows(&rt, rt.alloc(), None, &LATE)
 }
 
-/// Whether what can't be called is refused by its cause.
-fn refuses(client: &mut Service) -> bool {
-    let back = Flow {
-        from: NodeId(2),
-        ..FLOW
-    };
-    let plain = Flow {
-        from_port: 11,
-        ..FLOW
-    };
-    client.call(0, back, b"a", 300) == Made::Refused(Unfit::BadFlow)
-        && client.call(0, plain, b"a", 300) == Made::Refused(Unfit::NotACaller)
-        && client.call(0, FLOW, &[1; 33], 300) == Made::Refused(Unfit::TooLong)
-        && client.call(0, FLOW, b"a", 0) == Made::Refused(Unfit::NoPatience)
-        && client.reply(0, token(0), b"a") == Replied::Gone
-        && client.forget(0, &token(0)) == Forgot::Gone
-        && !client.raise(5)
-        && client.arrive(0, 8, b"", 0) == Received::NoLink
-        && client.endpoint().counts().refused == 1
-}
-
-/// Whether a call that doesn't fit is declined, and no more wait than may.
-fn declines(client: &mut Service) -> bool {
-    makes(client, 0, 300, 0)
-        && client.call(0, FLOW, &[1; 32], 300) == Made::Declined(Declined::Full { free: 31 })
-        && makes(client, 0, 300, 1)
-        && client.call(0, FLOW, b"a", 300) == Made::Declined(Declined::Many)
-        && client.add_route(Route { to: 2, link: 5 }) == Routed::Known
-}
-
-/// Whether both calls end when the service closes, in their order, and it does nothing more.
-fn closes(client: &mut Service) -> bool {
-    let closed = Cause::Closed;
-    client.close();
-    client.is_closed()
-        && client.wake().is_none()
-        && client.tick(1) == Ticked::Spent
-        && client.call(1, FLOW, b"a", 300) == Made::Refused(Unfit::Closed)
-        && client.next_size() == Some(0)
-        && next(client)
-            == Told::Unsure {
-                count: 0,
-                cause: closed,
-            }
-        && next(client)
-            == Told::Unsure {
-                count: 1,
-                cause: closed,
-            }
-        && next(client) == Told::Nothing
-        && client.next_size().is_none()
-}
+/// What can't be called is refused by its cause. A call that doesn't fit is declined, and no more wait than
+/// may. Both calls end when the service closes, in their order, and it does nothing more.
+static REFUSED: [Step; 24] = [
+    Step::Client(0, Ask::Call(BACK, b"a", 300, Made::Refused(Unfit::BadFlow))),
+    Step::Client(
+        0,
+        Ask::Call(PLAIN, b"a", 300, Made::Refused(Unfit::NotACaller)),
+    ),
+    Step::Client(
+        0,
+        Ask::Call(FLOW, &[1; 33], 300, Made::Refused(Unfit::TooLong)),
+    ),
+    Step::Client(
+        0,
+        Ask::Call(FLOW, b"a", 0, Made::Refused(Unfit::NoPatience)),
+    ),
+    Step::Client(0, Ask::Reply(b"a", Replied::Gone)),
+    Step::Client(0, Ask::Forget(Forgot::Gone)),
+    Step::Client(0, Ask::Raise(5, false)),
+    Step::Client(0, Ask::Arrive(8, b"", Received::NoLink)),
+    Step::Client(0, Ask::Refused(1)),
+    Step::Client(0, Ask::Call(FLOW, b"a", 300, FIRST)),
+    Step::Client(
+        0,
+        Ask::Call(
+            FLOW,
+            &[1; 32],
+            300,
+            Made::Declined(Declined::Full { free: 31 }),
+        ),
+    ),
+    Step::Client(0, Ask::Call(FLOW, b"a", 300, SECOND)),
+    Step::Client(
+        0,
+        Ask::Call(FLOW, b"a", 300, Made::Declined(Declined::Many)),
+    ),
+    Step::Client(0, Ask::AddRoute(2, 5, Routed::Known)),
+    Step::Client(0, Ask::Close),
+    Step::Client(0, Ask::IsClosed(true)),
+    Step::Client(0, Ask::Wake(None)),
+    Step::Client(1, Ask::Tick(Ticked::Spent)),
+    Step::Client(1, Ask::Call(FLOW, b"a", 300, Made::Refused(Unfit::Closed))),
+    Step::Client(1, Ask::NextSize(Some(0))),
+    Step::Client(1, Ask::Next(CLOSED)),
+    Step::Client(1, Ask::Next(CLOSED_TOO)),
+    Step::Client(1, Ask::Next(Told::Nothing)),
+    Step::Client(1, Ask::NextSize(None)),
+];
 
 #[test]
 fn calls_are_refused_declined_and_closed(rt: HostRuntime) -> Result<(), NoMemory> {
-    let mut client = open(&rt, rt.alloc(), 1, None)?;
-    assert!(rt; refuses(&mut client));
-    assert!(rt; declines(&mut client));
-    assert!(rt; closes(&mut client));
-    Ok(())
+    follows(&rt, rt.alloc(), None, &REFUSED)
 }
 
-/// Whether a node that starts again is silent, and its calls then have another life.
-fn raises(client: &mut Service) -> bool {
-    let made = Made::Call(CallNumber { life: 6, count: 0 });
-    client.call(0, FLOW, b"a", 300) == Made::Declined(Declined::Quiet { until: 6300 })
-        && client.raise(6)
-        && client.call(6300, FLOW, b"a", 300) == made
-        && !client.raise(6)
-}
+/// A node that starts again is silent, and its calls then have another life.
+static RAISE: [Step; 4] = [
+    Step::Client(
+        0,
+        Ask::Call(
+            FLOW,
+            b"a",
+            300,
+            Made::Declined(Declined::Quiet { until: 6300 }),
+        ),
+    ),
+    Step::Client(0, Ask::Raise(6, true)),
+    Step::Client(6300, Ask::Call(FLOW, b"a", 300, RAISED)),
+    Step::Client(6300, Ask::Raise(6, false)),
+];
 
 #[test]
 fn a_life_is_raised(rt: HostRuntime) -> Result<(), NoMemory> {
-    let mut client = open(&rt, rt.alloc(), 1, Some(100))?;
-    assert!(rt; raises(&mut client));
-    Ok(())
+    follows(&rt, rt.alloc(), Some(100), &RAISE)
 }
 
-/// Whether a request that is forgotten takes no reply.
-fn forgets(client: &mut Service, server: &mut Service) -> bool {
-    let request = Told::Request {
-        count: 0,
-        first: b'a',
-    };
-    hands_over(client, server, 40)
-        && next(server) == request
-        && server.forget(40, &token(0)) == Forgot::Done
-        && server.reply(40, token(0), b"A") == Replied::Gone
-}
+/// A request that is forgotten takes no reply.
+static FORGOTTEN: [Step; 5] = [
+    Step::Client(0, Ask::Call(FLOW, b"a", 300, FIRST)),
+    Step::HandOver(40),
+    Step::Server(40, Ask::Next(REQUEST)),
+    Step::Server(40, Ask::Forget(Forgot::Done)),
+    Step::Server(40, Ask::Reply(b"A", Replied::Gone)),
+];
 
 #[test]
 fn a_request_is_forgotten(rt: HostRuntime) -> Result<(), NoMemory> {
-    let mut client = open(&rt, rt.alloc(), 1, None)?;
-    let mut server = open(&rt, rt.alloc(), 2, None)?;
-    assert!(rt; makes(&mut client, 0, 300, 0));
-    assert!(rt; forgets(&mut client, &mut server));
-    Ok(())
+    follows(&rt, rt.alloc(), None, &FORGOTTEN)
 }
 
 /// Whether the service is closed for want of memory: each call that waited is reported so, and none else.
 fn is_spent(client: &mut Service, waits: bool) -> bool {
-    let unsure = Told::Unsure {
-        count: 0,
-        cause: Cause::Closed,
-    };
     client.is_closed()
         && client.tick(9) == Ticked::Spent
         && client.wake().is_none()
-        && (!waits || next(client) == unsure)
+        && (!waits || next(client) == CLOSED)
 }
 
 /// With memory both calls are made. After want of memory the service is closed, and a call that waited is
@@ -300,7 +450,7 @@ fn want_of_memory_ends_what_waits(rt: HostRuntime) {
     if let Ok(mut client) = open(&rt, rt.alloc(), 1, None) {
         match client.call(0, FLOW, b"a", 300) {
             Made::NoMemory => assert!(rt; is_spent(&mut client, false)),
-            made => assert!(rt; made == Made::Call(five(0)) && goes_on(&mut client)),
+            made => assert!(rt; made == FIRST && goes_on(&mut client)),
         }
     }
 }
@@ -309,6 +459,6 @@ fn want_of_memory_ends_what_waits(rt: HostRuntime) {
 fn goes_on(client: &mut Service) -> bool {
     match client.call(1, FLOW, b"b", 300) {
         Made::NoMemory => is_spent(client, true),
-        made => made == Made::Call(five(1)) && !client.is_closed(),
+        made => made == SECOND && !client.is_closed(),
     }
 }
