@@ -69,13 +69,6 @@ const OUTS: [OutLink; 1] = [OutLink { link: 5, pace: 0 }];
 
 const INS: [InLink; 1] = [InLink { link: 7, charge: 0 }];
 
-/// Node 1 calls from port 10, and node 2 serves at port 20.
-fn names_ports(service: &mut Service) -> Result<(), NoMemory> {
-    service.port(10, PortKind::Caller)?;
-    service.port(20, PortKind::Service)?;
-    Ok(())
-}
-
 /// The service of a node with a route to the other.
 fn open(rt: &impl Abort, alloc: Global, me: u32, again: Option<u64>) -> Result<Service, NoMemory> {
     let rules = STANDARD.check().expect(rt, "the parameters are refused");
@@ -94,9 +87,14 @@ fn open(rt: &impl Abort, alloc: Global, me: u32, again: Option<u64>) -> Result<S
         life: 5,
         most: MOST,
     };
-    let mut service = Service::open(alloc, &rules, &start, &links)?;
-    names_ports(&mut service)?;
-    Ok(service)
+    Service::open(alloc, &rules, &start, &links)
+}
+
+/// Node 1 calls from port 10, and node 2 serves at port 20.
+fn names_ports(service: &mut Service) -> Result<(), NoMemory> {
+    service.port(10, PortKind::Caller)?;
+    service.port(20, PortKind::Service)?;
+    Ok(())
 }
 
 /// What happens, in words that compare.
@@ -288,6 +286,11 @@ fn opened(rt: &impl Abort, alloc: Global, again: Option<u64>) -> Result<Pair, No
     })
 }
 
+fn names_ports_of(pair: &mut Pair) -> bool {
+    let Pair { client, server } = pair;
+    names_ports(client).is_ok() && names_ports(server).is_ok()
+}
+
 /// Each step goes as it says, where the client starts again at a moment or for the first time.
 fn follows(
     rt: &impl Abort,
@@ -296,6 +299,8 @@ fn follows(
     steps: &[Step],
 ) -> Result<(), NoMemory> {
     let mut pair = opened(rt, alloc, again)?;
+    let has_ports = names_ports_of(&mut pair);
+    assert!(rt; has_ports);
     for (place, step) in steps.iter().enumerate() {
         let is = goes(&mut pair, step);
         assert!(rt; is, "step {place}");
@@ -448,10 +453,8 @@ fn is_spent(client: &mut Service, waits: bool) -> bool {
 #[test]
 fn want_of_memory_ends_what_waits(rt: HostRuntime) {
     if let Ok(mut client) = open(&rt, rt.alloc(), 1, None) {
-        match client.call(0, FLOW, b"a", 300) {
-            Made::NoMemory => assert!(rt; is_spent(&mut client, false)),
-            made => assert!(rt; made == FIRST && goes_on(&mut client)),
-        }
+        let is = goes_on_or_is_spent(&mut client);
+        assert!(rt; is);
     }
 }
 
@@ -460,5 +463,16 @@ fn goes_on(client: &mut Service) -> bool {
     match client.call(1, FLOW, b"b", 300) {
         Made::NoMemory => is_spent(client, true),
         made => made == SECOND && !client.is_closed(),
+    }
+}
+
+/// Whether a first call is made and it goes on, or it is closed for want of memory, where the ports found some.
+fn goes_on_or_is_spent(client: &mut Service) -> bool {
+    if names_ports(client).is_err() {
+        return true;
+    }
+    match client.call(0, FLOW, b"a", 300) {
+        Made::NoMemory => is_spent(client, false),
+        made => made == FIRST && goes_on(client),
     }
 }
