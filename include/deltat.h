@@ -348,8 +348,9 @@ struct dt_made dt_call(dt_service *s, uint64_t now, const struct dt_flow *f, con
  * service is stopped, and the reply may have been sent. */
 struct dt_replied dt_reply(dt_service *s, uint64_t now, const struct dt_token *t, const uint8_t *payload, size_t len);
 
-/* A request gets no reply: its token is open no more, and there is room for another. DONE CLOSED GONE; NO_MEMORY: the service
- * is stopped. */
+/* A request gets no reply: its token is open no more, and there is room for another. Beside this the turn reads what waits to be
+ * read, and ends calls whose patience is over; what the node has to do at `now` waits for a call that does it, as
+ * dt_service_tick. DONE CLOSED GONE; NO_MEMORY: the service is stopped. */
 uint8_t dt_forget(dt_service *s, uint64_t now, const struct dt_token *t);
 
 /* What happened, in its order and each once: `len` octets at the head of the buffer, the rest of which is as it was; a flow is

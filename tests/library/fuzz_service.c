@@ -343,7 +343,9 @@ static void forgets(struct node *n, struct call *call) {
     WANT(one == DT_DONE || one == DT_CLOSED || one == DT_GONE || one == DT_SPENT || one == DT_NO_MEMORY);
     if (n->is_open && !n->is_spent && keeps_duties) WANT((one == DT_GONE) == !is_token_of(call, n));
     if (one == DT_DONE) call->is_token = false;
-    turned(n, one, moment, found);
+    /* no event of the node: what is due at that moment may be due yet, but one that reads may have come too late */
+    n->was_late = n->was_late || (!has_changed_nothing(one) && counted(n, moment) > n->wake);
+    turned(n, one, n->greatest, found);
 }
 
 /* a life that the node had never, or the one that it has */
