@@ -38,8 +38,8 @@ took_said line = do
   Ok (Took flow count)
 
 -- octets of a flow, by the number of the first and how many they are, in a line of seven words
-abbrev pub stretch_said : List (List ℕ) → Result (Flow × ℕ × ℕ) LineFault
-stretch_said line = do
+abbrev pub range_said : List (List ℕ) → Result (Flow × ℕ × ℕ) LineFault
+range_said line = do
   _ ← counted 7 line
   flow ← value_read FlowWord (word 3 line)
   number ← value_read any_number (word 4 line)
@@ -48,7 +48,7 @@ stretch_said line = do
 
 abbrev pub sent_said : List (List ℕ) → Result Fact LineFault
 sent_said line = do
-  octets ← stretch_said line
+  octets ← range_said line
   _ ← letters_read (word 6 line)
   Ok (Sent octets.0 octets.1 octets.2)
 
@@ -69,7 +69,7 @@ uncertain_said line = do
 
 abbrev pub accepted_said : List (List ℕ) → Result Fact LineFault
 accepted_said line = do
-  octets ← stretch_said line
+  octets ← range_said line
   run ← run_read (word 6 line)
   Ok (Accepted octets.0 octets.1 octets.2 run)
 

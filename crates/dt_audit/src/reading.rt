@@ -1,6 +1,6 @@
 //! Which fact a line of a log states.
 ghost use Rattle.std.specs.Prelude.{◌≡◌, ◌≤◌, length};
-ghost use Rattle.dt_audit.specs.Facts.{accepted_said, fact_of, is_told, named_fact, restarted_said, sent_said, settled_said, stretch_said, took_said, uncertain_said};
+ghost use Rattle.dt_audit.specs.Facts.{accepted_said, fact_of, is_told, named_fact, restarted_said, sent_said, settled_said, range_said, took_said, uncertain_said};
 
 use crate::facts::Fact;
 use crate::words::{letters, run};
@@ -21,8 +21,8 @@ fn took(words: &Words<'_>) -> Result<Fact, LineFault>
 }
 
 /// `FLOW NUMBER LENGTH` after the name, in a line of seven words.
-fn stretch(words: &Words<'_>) -> Result<(Flow, u32, u32), LineFault>
-    ensures { result ≡ stretch_said words.now }
+fn range(words: &Words<'_>) -> Result<(Flow, u32, u32), LineFault>
+    ensures { result ≡ range_said words.now }
 {
     has(7, words)?;
     let flow = flow(words.word(3))?;
@@ -35,7 +35,7 @@ fn stretch(words: &Words<'_>) -> Result<(Flow, u32, u32), LineFault>
 fn sent(words: &Words<'_>) -> Result<Fact, LineFault>
     ensures { result ≡ sent_said words.now }
 {
-    let (flow, number, length) = stretch(words)?;
+    let (flow, number, length) = range(words)?;
     letters(words.word(6))?;
     Ok(Fact::Sent {
         flow,
@@ -69,7 +69,7 @@ fn uncertain(words: &Words<'_>) -> Result<Fact, LineFault>
 fn accepted(words: &Words<'_>) -> Result<Fact, LineFault>
     ensures { result ≡ accepted_said words.now }
 {
-    let (flow, number, length) = stretch(words)?;
+    let (flow, number, length) = range(words)?;
     let run = run(words.word(6))?;
     Ok(Fact::Accepted {
         flow,

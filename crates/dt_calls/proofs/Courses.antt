@@ -8,7 +8,7 @@ use Rattle.dt_calls_model.specs.declared.calls.CallState.{CallState}
 use Rattle.dt_calls_model.specs.declared.calls.CallState.TheVariants as state
 use Rattle.dt_calls_model.specs.Calls.{Calls, Client, Server, Side, begun_at, begun_of, call_at, flow_read, is_call, with_begun, with_sides}
 use Rattle.dt_calls_model.specs.CallTold.{CallEntry}
-use Rattle.dt_calls_model.specs.CallStep.{doubt_all, finish}
+use Rattle.dt_calls_model.specs.CallStep.{judge_all, finish}
 use Rattle.dt_calls_model.specs.Heard.{piece_in}
 use Rattle.dt_calls_model.specs.Messages.{Piece, begun_with, carried_in, has_number, number_in, whole_with}
 use Rattle.dt_calls_model.specs.Reads.{Course, answered_if, happens, in_world, most_read, read_all, read_side, read_sides, read_times, take_message, take_piece, take_read, take_whole}
@@ -85,7 +85,7 @@ module _ (answer : List ℕ → List ℕ) where
   adds_all = adds_then (read_sides answer Server) (read_sides answer Client) (adds_sides Server) (adds_sides Client)
 
   pub adds_finish : Adds (finish answer)
-  adds_finish = adds_then (read_all answer) doubt_all adds_all (λ told c. refl)
+  adds_finish = adds_then (read_all answer) judge_all adds_all (λ told c. refl)
 
 -- LINES one after the other
 module _ {L : Type 0} (tells : L → CallEntry → L → Type 0) where

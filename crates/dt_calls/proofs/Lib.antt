@@ -2,7 +2,7 @@ pub mod Courses
 pub mod Worlds
 pub mod Readings
 pub mod SidesRead
-pub mod Doubts
+pub mod Verdicts
 pub mod Servings
 pub mod Steps
 pub mod Givings
@@ -15,13 +15,13 @@ pub mod Boths
 pub mod DuesLeft
 pub mod Kept
 pub mod ReadSides
-pub mod DoubtParts
+pub mod JudgeParts
 pub mod Makings
 pub mod Goings
 pub mod Beginnings
 pub mod CoursesOn
 pub mod Waiting
-pub mod DoubtWaiting
+pub mod JudgeWaiting
 pub mod WaitingLeft
 pub mod Ways
 pub mod Requests

@@ -19,7 +19,7 @@ use Rattle.dt_calls_model.specs.declared.calls.Posted.{Posted}
 use Rattle.dt_calls_model.specs.declared.calls.Posted.TheVariants.{Refused, Taken}
 use Rattle.dt_calls_model.specs.CallFacts.{CourseFacts}
 use Rattle.dt_calls_model.specs.Calls.{Begun, Calls, Client, Server, Side, begun_at, begun_of, call_at, call_in, flow_read, is_call, none_begun, with_begun}
-use Rattle.dt_calls_model.specs.CallStep.{becomes_unsure, doubted}
+use Rattle.dt_calls_model.specs.CallStep.{becomes_unsure, judged}
 use Rattle.dt_calls_model.specs.Heard.{piece_in, tells_refusal}
 use Rattle.dt_calls_model.specs.Messages.{Piece, begun_with, carried_in, has_number, number_in, whole_with}
 use Rattle.dt_calls_model.specs.Promises.{octets_posted, payload_of}
@@ -42,14 +42,14 @@ short_at [] i less h = absurd (omega arith)
 short_at (x ∷ xs) zero less h = h.0
 short_at (x ∷ xs) (suc i) less h = short_at xs i (omega arith) h.1
 
--- and all are doubted
+-- and all are judged
 unsure_short : (b : Bool) (call : Call) → IsShort call.request → IsShort (if b then record call { state = state.Unsure } else call).request
 unsure_short true call h = h
 unsure_short false call h = h
 
-pub doubted_short : (w : World) (calls : List Call) → AreShort calls → AreShort (map (doubted w) calls)
-doubted_short w [] h = tt
-doubted_short w (x ∷ xs) h = (unsure_short (becomes_unsure w x) x h.0, doubted_short w xs h.1)
+pub judged_short : (w : World) (calls : List Call) → AreShort calls → AreShort (map (judged w) calls)
+judged_short w [] h = tt
+judged_short w (x ∷ xs) h = (unsure_short (becomes_unsure w x) x h.0, judged_short w xs h.1)
 
 -- A MESSAGE IS TAKEN: at most one call changes
 module _ (answer : List ℕ → List ℕ) where

@@ -5,7 +5,7 @@ use Rattle.dt_calls_model.specs.declared.calls.Call.{Call}
 use Rattle.dt_calls_model.specs.Calls.{call_in, no_call}
 use Rattle.dt_calls_model.specs.CallStep.{is_waiting}
 use Rattle.dt_calls.specs.Waiting.{Covers, waiting_from}
-use Rattle.dt_calls.proofs.DoubtWaiting.{none_from, take_set}
+use Rattle.dt_calls.proofs.JudgeWaiting.{none_from, take_set}
 
 -- each of these numbers is that of a call that waits, of the calls from a number on
 abbrev pub Wait : ℕ → List ℕ → List Call → Type 0

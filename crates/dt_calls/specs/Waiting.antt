@@ -1,4 +1,4 @@
--- The numbers that a step looks at when it doubts: those of all calls that wait are among them, in their order.
+-- The numbers that a step looks at when it judges: those of all calls that wait are among them, in their order.
 use Rattle.std.specs.Prelude.{ℕ, suc, ◌≡◌, ◌⊎◌, false, if◌then◌else◌, List, [], ◌∷◌, ◌++◌}
 use Rattle.dt_calls_model.specs.declared.calls.Call.{Call}
 use Rattle.dt_calls_model.specs.CallStep.{is_waiting}

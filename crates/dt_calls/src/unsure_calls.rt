@@ -1,6 +1,6 @@
 //! At the end of a step the calls that wait become unsure whose answers may never come.
 ghost use Rattle.std.specs.Prelude.{◌≡◌};
-ghost use Rattle.dt_calls_model.specs.CallStep.{becomes_unsure, doubt_all, is_doubtful, is_posted_in_vain, is_replied_in_vain};
+ghost use Rattle.dt_calls_model.specs.CallStep.{becomes_unsure, judge_all, is_in_vain, is_posted_in_vain, is_replied_in_vain};
 ghost use Rattle.dt_calls_model.specs.Messages.{reversed};
 ghost use Rattle.dt_calls.specs.Courses.{HasGoneOn};
 ghost use Rattle.dt_calls.specs.Parts.{calls_seen};
@@ -20,7 +20,7 @@ use dt_world::World;
 /// those that wait.
 pub fn mark_unsure<H, L: CallLines>(parts: &mut CallsParts<H>, lines: &mut L)
     requires { Covers 0 parts.old.waiting.items parts.old.calls.items }
-    ensures goes { HasGoneOn L.tells doubt_all (calls_seen parts.old) lines.old lines.new (calls_seen parts.new) }
+    ensures goes { HasGoneOn L.tells judge_all (calls_seen parts.old) lines.old lines.new (calls_seen parts.new) }
     ensures covers { Covers 0 parts.new.waiting.items parts.new.calls.items }
     ensures left { parts.new.waiting.items ≡ waiting_from 0 parts.new.calls.items }
     ensures same { parts.new ≡ record parts.old { calls = parts.new.calls; waiting = parts.new.waiting } }
@@ -32,7 +32,7 @@ pub fn mark_unsure<H, L: CallLines>(parts: &mut CallsParts<H>, lines: &mut L)
 /// The calls become unsure.
 fn mark_waiting_unsure<H, L: CallLines>(parts: &mut CallsParts<H>, lines: &mut L)
     requires { Covers 0 parts.old.waiting.items parts.old.calls.items }
-    ensures goes { HasGoneOn L.tells doubt_all (calls_seen parts.old) lines.old lines.new (calls_seen parts.new) }
+    ensures goes { HasGoneOn L.tells judge_all (calls_seen parts.old) lines.old lines.new (calls_seen parts.new) }
     ensures covers { Covers 0 parts.old.waiting.items parts.new.calls.items }
     ensures same { parts.new ≡ record parts.old { calls = parts.new.calls } }
 {
@@ -96,15 +96,15 @@ fn is_posted_in_vain(world: &World, flow: &Flow, posted: Posted) -> bool
         .saturating_add(u64::from(count))
         .min(ledger.taken_count(flow));
     for at in place..end {
-        if is_doubtful(life, &ledger.taken_at(flow, at)) {
+        if is_in_vain(life, &ledger.taken_at(flow, at)) {
             return true;
         }
     }
     false
 }
 
-fn is_doubtful(life: u32, row: &Taken) -> bool
-    ensures { result ≡ is_doubtful life row.now }
+fn is_in_vain(life: u32, row: &Taken) -> bool
+    ensures { result ≡ is_in_vain life row.now }
 {
     match row.fate {
         Fate::Uncertain => true,

@@ -1,4 +1,4 @@
--- States of calls change: a reply answers its call, and doubts are reported.
+-- States of calls change: a reply answers its call, and calls that became unsure are reported.
 use Rattle.std.proofs.Common.{ℕ, zero, suc, ◌≡◌, Bool, true, false, if◌then◌else◌, List, [], ◌∷◌, ◌++◌, length, map, set, refl, ap, sym, ◌∙◌, arith, append-nil}
 use Rattle.std.specs.Prelude.{nat_lt, ◌&&◌, ◌||◌}
 use Rattle.std.specs.List.{All}
@@ -13,7 +13,7 @@ use Rattle.dt_calls_model.specs.declared.calls.CallState.TheVariants as state
 use Rattle.dt_calls_model.specs.declared.calls.Posted.{Posted}
 use Rattle.dt_calls_model.specs.CallFacts.{CallIsKept, CourseFacts, FlowIsKept, Span, requests_from, span_of}
 use Rattle.dt_calls_model.specs.Calls.{Calls, call_at, call_in, is_call_in, no_call}
-use Rattle.dt_calls_model.specs.CallStep.{becomes_unsure, doubted, is_posted_in_vain, is_replied_in_vain, is_waiting}
+use Rattle.dt_calls_model.specs.CallStep.{becomes_unsure, judged, is_posted_in_vain, is_replied_in_vain, is_waiting}
 use Rattle.dt_calls_model.specs.Messages.{reversed}
 use Rattle.dt_calls_model.specs.Promises.{IsServedOnce}
 use Rattle.dt_calls_laws.specs.Comes.{ReplyComes}
@@ -167,42 +167,42 @@ unsure_or w true call e =
 unsure_or w false call e = only_same call
 
 module _ (w : World) where
-  only_doubted : (call : Call) → OnlyState call (doubted w call)
-  only_doubted call = unsure_or w (becomes_unsure w call) call refl
+  only_judged : (call : Call) → OnlyState call (judged w call)
+  only_judged call = unsure_or w (becomes_unsure w call) call refl
 
-  doubt_kept : (b : Bool) (c : Calls) (call : Call) → becomes_unsure w call ≡ b → CallIsKept c call → CallIsKept c (if b then record call { state = state.Unsure } else call)
-  doubt_kept true c call e h =
+  judge_kept : (b : Bool) (c : Calls) (call : Call) → becomes_unsure w call ≡ b → CallIsKept c call → CallIsKept c (if b then record call { state = state.Unsure } else call)
+  judge_kept true c call e h =
       let waits = (and_parts (is_waiting call.state) (is_posted_in_vain w call.flow call.request || is_replied_in_vain w (reversed call.flow) call.reply) e).0 in
       record { flow = h.flow; served_is_gone = h.served_is_gone; replied = h.replied; declined = λ r. absurd (waits_not call.state waits (h.declined r)); declined_only = λ e. absurd cc }
-  doubt_kept false c call e h = h
+  judge_kept false c call e h = h
 
-  doubt_once : (b : Bool) (call : Call) → IsServedOnce call → IsServedOnce (if b then record call { state = state.Unsure } else call)
-  doubt_once true call h = record { at_most_once = h.at_most_once; answered_once = λ e. absurd cc; never_declined = λ e. absurd cc }
-  doubt_once false call h = h
+  judge_once : (b : Bool) (call : Call) → IsServedOnce call → IsServedOnce (if b then record call { state = state.Unsure } else call)
+  judge_once true call h = record { at_most_once = h.at_most_once; answered_once = λ e. absurd cc; never_declined = λ e. absurd cc }
+  judge_once false call h = h
 
-  doubt_sure : (b : Bool) (call : Call) → becomes_unsure w call ≡ b → becomes_unsure w (if b then record call { state = state.Unsure } else call) ≡ false
-  doubt_sure true call e = refl
-  doubt_sure false call e = e
+  judge_sure : (b : Bool) (call : Call) → becomes_unsure w call ≡ b → becomes_unsure w (if b then record call { state = state.Unsure } else call) ≡ false
+  judge_sure true call e = refl
+  judge_sure false call e = e
 
 module _ (answer : List ℕ → List ℕ) (c : Calls) (facts : CourseFacts answer c) where
-  abbrev pub doubted_calls : List Call
-  doubted_calls = map (doubted c.world) c.calls
+  abbrev pub judged_calls : List Call
+  judged_calls = map (judged c.world) c.calls
 
-  only_doubts : OnlyStates c.calls doubted_calls
-  only_doubts = states_map (doubted c.world) (only_doubted c.world) c.calls
+  only_verdicts : OnlyStates c.calls judged_calls
+  only_verdicts = states_map (judged c.world) (only_judged c.world) c.calls
 
-  pub doubt_course : CourseFacts answer (with_calls doubted_calls c)
-  doubt_course =
-      states_course answer c doubted_calls only_doubts facts
-      (All-map (CallIsKept (with_calls doubted_calls c)) (doubted c.world) c.calls (All-weaker (CallIsKept c) (λ call. CallIsKept (with_calls doubted_calls c) (doubted c.world call)) (λ call h. doubt_kept c.world (becomes_unsure c.world call) (with_calls doubted_calls c) call refl (same_facts c doubted_calls call h)) c.calls facts.calls))
-      (All-map IsServedOnce (doubted c.world) c.calls (All-weaker IsServedOnce (λ call. IsServedOnce (doubted c.world call)) (λ call h. doubt_once c.world (becomes_unsure c.world call) call h) c.calls facts.once))
+  pub judge_course : CourseFacts answer (with_calls judged_calls c)
+  judge_course =
+      states_course answer c judged_calls only_verdicts facts
+      (All-map (CallIsKept (with_calls judged_calls c)) (judged c.world) c.calls (All-weaker (CallIsKept c) (λ call. CallIsKept (with_calls judged_calls c) (judged c.world call)) (λ call h. judge_kept c.world (becomes_unsure c.world call) (with_calls judged_calls c) call refl (same_facts c judged_calls call h)) c.calls facts.calls))
+      (All-map IsServedOnce (judged c.world) c.calls (All-weaker IsServedOnce (λ call. IsServedOnce (judged c.world call)) (λ call h. judge_once c.world (becomes_unsure c.world call) call h) c.calls facts.once))
 
-  pub doubt_onward : Onward c (with_calls doubted_calls c)
-  doubt_onward = states_onward answer c doubted_calls only_doubts
+  pub judge_onward : Onward c (with_calls judged_calls c)
+  judge_onward = states_onward answer c judged_calls only_verdicts
 
-  all_sure : (calls : List Call) → All (λ call. becomes_unsure c.world (doubted c.world call) ≡ false) calls
-  all_sure [] = All-nil (λ call. becomes_unsure c.world (doubted c.world call) ≡ false)
-  all_sure (call ∷ calls) = All-cons (λ call. becomes_unsure c.world (doubted c.world call) ≡ false) call calls (doubt_sure c.world (becomes_unsure c.world call) call refl) (all_sure calls)
+  all_sure : (calls : List Call) → All (λ call. becomes_unsure c.world (judged c.world call) ≡ false) calls
+  all_sure [] = All-nil (λ call. becomes_unsure c.world (judged c.world call) ≡ false)
+  all_sure (call ∷ calls) = All-cons (λ call. becomes_unsure c.world (judged c.world call) ≡ false) call calls (judge_sure c.world (becomes_unsure c.world call) call refl) (all_sure calls)
 
-  pub doubts_sure : All (λ call. becomes_unsure c.world call ≡ false) doubted_calls
-  doubts_sure = All-map (λ call. becomes_unsure c.world call ≡ false) (doubted c.world) c.calls (all_sure c.calls)
+  pub verdicts_sure : All (λ call. becomes_unsure c.world call ≡ false) judged_calls
+  verdicts_sure = All-map (λ call. becomes_unsure c.world call ≡ false) (judged c.world) c.calls (all_sure c.calls)

@@ -18,7 +18,7 @@ use Rattle.dt_calls_model.specs.declared.calls.Posted.TheVariants.{Refused, Take
 use Rattle.dt_calls_model.specs.CallFacts.{CallFacts, CourseFacts, FlowRests}
 use Rattle.dt_calls_model.specs.CallRuns.{call_run, call_run_from, payloads_run, then_call}
 use Rattle.dt_calls_model.specs.Calls.{Begun, Calls, Client, Server, Side, call_at, flow_read, new_calls}
-use Rattle.dt_calls_model.specs.CallStep.{CallEvent, Faulty, Happens, Makes, Outcome, Stepped, becomes_unsure, call_refusals, call_step, doubt_all, doubted, doubts_from, finish, go_on, make, make_unless, say_posted}
+use Rattle.dt_calls_model.specs.CallStep.{CallEvent, Faulty, Happens, Makes, Outcome, Stepped, becomes_unsure, call_refusals, call_step, judge_all, judged, verdicts_from, finish, go_on, make, make_unless, say_posted}
 use Rattle.dt_calls_model.specs.CallTold as told
 use Rattle.dt_calls_model.specs.CallTold.{CallEntry, CallTold}
 use Rattle.dt_calls_model.specs.Messages.{message_of}
@@ -33,17 +33,17 @@ use Rattle.dt_calls_laws.proofs.Happening.{event_course, event_onward, happened}
 use Rattle.dt_calls_laws.proofs.Making.{made, made_payload, make_course, make_onward, new_call, only_one}
 use Rattle.dt_calls_laws.proofs.SideReads.{all_read}
 use Rattle.dt_calls_laws.proofs.Starting.{new_calls_facts}
-use Rattle.dt_calls_laws.proofs.States.{all_entries_on, doubt_course, doubt_onward, doubts_sure}
+use Rattle.dt_calls_laws.proofs.States.{all_entries_on, judge_course, judge_onward, verdicts_sure}
 
--- doubts are reported of no answer
-doubt_told : (answer : List ℕ → List ℕ) (after : Calls) (b : Bool) (moment n : ℕ) → AreTold answer after (if b then record { moment = moment; told = told.Unsure n } ∷ [] else [])
-doubt_told answer after true moment n = All-cons (λ (e : CallEntry). IsTold answer after e.told) (record { moment = moment; told = told.Unsure n }) [] tt (All-nil (λ (e : CallEntry). IsTold answer after e.told))
-doubt_told answer after false moment n = All-nil (λ (e : CallEntry). IsTold answer after e.told)
+-- the judged calls' reports tell no answer
+judge_told : (answer : List ℕ → List ℕ) (after : Calls) (b : Bool) (moment n : ℕ) → AreTold answer after (if b then record { moment = moment; told = told.Unsure n } ∷ [] else [])
+judge_told answer after true moment n = All-cons (λ (e : CallEntry). IsTold answer after e.told) (record { moment = moment; told = told.Unsure n }) [] tt (All-nil (λ (e : CallEntry). IsTold answer after e.told))
+judge_told answer after false moment n = All-nil (λ (e : CallEntry). IsTold answer after e.told)
 
-doubts_told : (answer : List ℕ → List ℕ) (after : Calls) (w : World) (n : ℕ) (calls : List Call) → AreTold answer after (doubts_from w n calls)
-doubts_told answer after w n [] = All-nil (λ (e : CallEntry). IsTold answer after e.told)
-doubts_told answer after w n (call ∷ calls) =
-    All-append (λ (e : CallEntry). IsTold answer after e.told) (if becomes_unsure w call then record { moment = w.now; told = told.Unsure n } ∷ [] else []) (doubts_from w (suc n) calls) (doubt_told answer after (becomes_unsure w call) w.now n) (doubts_told answer after w (suc n) calls)
+verdicts_told : (answer : List ℕ → List ℕ) (after : Calls) (w : World) (n : ℕ) (calls : List Call) → AreTold answer after (verdicts_from w n calls)
+verdicts_told answer after w n [] = All-nil (λ (e : CallEntry). IsTold answer after e.told)
+verdicts_told answer after w n (call ∷ calls) =
+    All-append (λ (e : CallEntry). IsTold answer after e.told) (if becomes_unsure w call then record { moment = w.now; told = told.Unsure n } ∷ [] else []) (verdicts_from w (suc n) calls) (judge_told answer after (becomes_unsure w call) w.now n) (verdicts_told answer after w (suc n) calls)
 
 -- what is told right is the handler's to what the call was made with
 answers_of : (answer : List ℕ → List ℕ) (payloads : List (List ℕ)) (c : Calls) (t : CallTold) → AreMadeWith payloads c → IsTold answer c t → IsItsAnswer answer payloads t
@@ -114,48 +114,48 @@ module _ (answer : List ℕ → List ℕ) where
     pub payloads : GainsPayloads c more after
 
   -- DOUBTS
-  doubts_on : (d : Course) → IsOn answer d → IsOn answer (doubt_all d) × Onward d.calls (doubt_all d).calls × (length (doubt_all d).calls.calls ≡ length d.calls.calls)
-  doubts_on d on =
-      let after = (doubt_all d).calls in
-      let onward : Onward d.calls after = doubt_onward answer d.calls on.facts in
-      let many = length-map d.calls.calls (doubted d.calls.world) in (
+  verdicts_on : (d : Course) → IsOn answer d → IsOn answer (judge_all d) × Onward d.calls (judge_all d).calls × (length (judge_all d).calls.calls ≡ length d.calls.calls)
+  verdicts_on d on =
+      let after = (judge_all d).calls in
+      let onward : Onward d.calls after = judge_onward answer d.calls on.facts in
+      let many = length-map d.calls.calls (judged d.calls.world) in (
         record {
-          facts = doubt_course answer d.calls on.facts;
+          facts = judge_course answer d.calls on.facts;
           few = subst (λ (k : ℕ). k ≤ 2 ^ 64) (sym many) on.few;
-          told = All-append (λ (e : CallEntry). IsTold answer after e.told) d.told (doubts_from d.calls.world 0 d.calls.calls) (all_told answer d.calls after d.told on.facts onward on.told) (doubts_told answer after d.calls.world 0 d.calls.calls);
+          told = All-append (λ (e : CallEntry). IsTold answer after e.told) d.told (verdicts_from d.calls.world 0 d.calls.calls) (all_told answer d.calls after d.told on.facts onward on.told) (verdicts_told answer after d.calls.world 0 d.calls.calls);
         },
         onward,
         many,
       )
 
-  pub doubted_on : (d : Course) → IsOn answer d → IsOn answer (doubt_all d)
-  doubted_on d on = (doubts_on d on).0
+  pub judged_on : (d : Course) → IsOn answer d → IsOn answer (judge_all d)
+  judged_on d on = (verdicts_on d on).0
 
-  -- ITS END: all sides are read, and doubts are reported
+  -- ITS END: all sides are read, and calls that became unsure are reported
   finished : (c : Calls) (d : Course) (more : List (List ℕ)) → Onward c d.calls → length d.calls.calls ≤ length c.calls + 1 → GainsPayloads c more d.calls → IsOn answer d → ComesTo c (finish answer d).calls more (finish answer d).told
   finished c d more onward few gains on =
       let read = read_all answer d in
       let all : AllRead answer d read = all_read answer d on in
       let after = (finish answer d).calls in
       let rest : AllEntries (FlowRests read.calls) read.calls.flows = all_rest read.calls read.calls.flows all.servers all.clients in
-      let doubts = doubts_on read all.leads.on in
+      let verdicts = verdicts_on read all.leads.on in
       record {
         facts = record {
-          course = doubts.0.facts;
+          course = verdicts.0.facts;
           rest = all_entries_on (FlowRests read.calls) (FlowRests after) read.calls.flows (λ k x h. record { client_rests = h.client_rests; server_rests = h.server_rests; all_read = h.all_read }) rest;
-          sure = doubts_sure answer read.calls all.leads.on.facts;
+          sure = verdicts_sure answer read.calls all.leads.on.facts;
         };
-        told = doubts.0.told;
-        onward = onward_then answer c read.calls after (onward_then answer c d.calls read.calls onward all.leads.onward) doubts.1;
-        count = let l = doubts.2 in let same = all.leads.count in omega (arith, l, same, few);
-        payloads = λ payloads own. payloads_same (payloads ++ more) d.calls after on.facts (onward_then answer d.calls read.calls after all.leads.onward doubts.1) (doubts.2 ∙ all.leads.count) (gains payloads own);
+        told = verdicts.0.told;
+        onward = onward_then answer c read.calls after (onward_then answer c d.calls read.calls onward all.leads.onward) verdicts.1;
+        count = let l = verdicts.2 in let same = all.leads.count in omega (arith, l, same, few);
+        payloads = λ payloads own. payloads_same (payloads ++ more) d.calls after on.facts (onward_then answer d.calls read.calls after all.leads.onward verdicts.1) (verdicts.2 ∙ all.leads.count) (gains payloads own);
       }
 
   finish_onward : (d : Course) → IsOn answer d → Onward d.calls (finish answer d).calls
   finish_onward d on =
       let read = read_all answer d in
       let all : AllRead answer d read = all_read answer d on in
-      onward_then answer d.calls read.calls (finish answer d).calls all.leads.onward (doubts_on read all.leads.on).1
+      onward_then answer d.calls read.calls (finish answer d).calls all.leads.onward (verdicts_on read all.leads.on).1
 
   -- A CALL IS MADE
   said : (c : Course) (t : CallTold) → IsTold answer c.calls t → IsOn answer c → IsOn answer (say t c)

@@ -44,7 +44,7 @@ pub use gone::{
     unread_is_the_end_of_what_was_given, what_is_given_is_unread,
 };
 pub use parts::{
-    all_sides_are_read, doubts_keep_the_facts, event_keeps_the_facts, made_call_keeps_the_facts,
+    all_sides_are_read, event_keeps_the_facts, judging_keeps_the_facts, made_call_keeps_the_facts,
     piece_keeps_the_facts, read_of_nothing_leads_on, side_is_read_until_nothing_is_there,
     whole_message_leads_on,
 };

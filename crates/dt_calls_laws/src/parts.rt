@@ -7,7 +7,7 @@ ghost use Rattle.dt_world_model.specs.World.{view};
 ghost use Rattle.dt_world_model.specs.WorldStep.{Reads, WorldEvent, after_event, first_refusal, refusals};
 ghost use Rattle.dt_calls_model.specs.CallFacts.{CourseFacts};
 ghost use Rattle.dt_calls_model.specs.Calls.{Begun, Calls, Side, begun_at, flow_read, with_begun};
-ghost use Rattle.dt_calls_model.specs.CallStep.{call_refusals, doubt_all, flows_after, make};
+ghost use Rattle.dt_calls_model.specs.CallStep.{call_refusals, judge_all, flows_after, make};
 ghost use Rattle.dt_calls_model.specs.Heard.{piece_in};
 ghost use Rattle.dt_calls_model.specs.Messages.{Piece, begun_with};
 ghost use Rattle.dt_calls_model.specs.Reads.{Course, happens, in_world, most_read, read_all, read_side, take_whole};
@@ -54,7 +54,7 @@ pub fn event_keeps_the_facts()
     ensures { (answer : List ℕ → List ℕ) (c : Calls) (e : WorldEvent) → CourseFacts answer c → IsNoSendOrRead e → first_refusal (refusals c.world e) ≡ None → CourseFacts answer (record { world = (after_event c.world e).1; calls = c.calls; flows = flows_after e c.flows }) }
 {}
 
-/// Doubts are reported.
-pub fn doubts_keep_the_facts()
-    ensures { (answer : List ℕ → List ℕ) (c : Course) → IsOn answer c → IsOn answer (doubt_all c) }
+/// The calls that wait are judged, and those that became unsure reported.
+pub fn judging_keeps_the_facts()
+    ensures { (answer : List ℕ → List ℕ) (c : Course) → IsOn answer c → IsOn answer (judge_all c) }
 {}

@@ -37,7 +37,7 @@ pub fn each_call_is_served_at_most_once()
 
 /// What became of a call stays: over a step, and over all further events, a call keeps its flow and its
 /// request, isn't served less often, and keeps its state where it doesn't wait. So an answer that was
-/// reported is the last word, and so is a doubt.
+/// reported is the last word, and so is that a call is unsure.
 pub fn what_became_of_a_call_stays()
     ensures step { (answer : List ℕ → List ℕ) (c : Calls) (e : CallEvent) (lines : List CallEntry) (after : Calls) → CallFacts answer c → length c.calls < 2 ^ 64 → MayCome e → call_step answer c e ≡ Stepped lines after → (n : ℕ) → n < length c.calls → CallGoesOn (call_at c n) (call_at after n) }
     ensures run { (answer : List ℕ → List ℕ) (setup : Setup) (events more : List CallEvent) → IsWithinLimits setup.params → All MayCome events → All MayCome more → length events + length more ≤ 2 ^ 64 → let c = new_calls (new_world setup) in (n : ℕ) → n < length (call_run answer events c).1.calls → CallGoesOn (call_at (call_run answer events c).1 n) (call_at (call_run answer (events ++ more) c).1 n) }

@@ -122,7 +122,7 @@ module _ (answer : List ℕ → List ℕ) where
     pub calls : All (CallIsKept c) c.calls
     pub once : AreServedOnce c
 
-  -- between two steps no call that waits is to be doubted
+  -- between two steps no call that waits is to be judged
   pub record CallFacts (c : Calls) : Type 0 where
     pub course : CourseFacts c
     pub rest : AllEntries (FlowRests c) c.flows

@@ -29,11 +29,11 @@ is_uncertain fate.Open = false
 is_uncertain fate.Acked = false
 is_uncertain fate.Uncertain = true
 
-abbrev pub is_doubtful : ℕ → rows.Taken → Bool
-is_doubtful life row = is_uncertain row.fate || nat_lt row.life life
+abbrev pub is_in_vain : ℕ → rows.Taken → Bool
+is_in_vain life row = is_uncertain row.fate || nat_lt row.life life
 
 abbrev pub is_posted_in_vain : World → Flow → Posted → Bool
-is_posted_in_vain w f (Taken place count) = list_any (is_doubtful (placed w f.from.0).life) (take count (drop place (ledger_of w.ledgers f).taken))
+is_posted_in_vain w f (Taken place count) = list_any (is_in_vain (placed w f.from.0).life) (take count (drop place (ledger_of w.ledgers f).taken))
 is_posted_in_vain w f Refused = true
 
 abbrev pub is_replied_in_vain : World → Flow → Option Posted → Bool
@@ -49,18 +49,18 @@ is_waiting state.Declined = false
 abbrev pub becomes_unsure : World → Call → Bool
 becomes_unsure w call = is_waiting call.state && (is_posted_in_vain w call.flow call.request || is_replied_in_vain w (reversed call.flow) call.reply)
 
-abbrev pub doubted : World → Call → Call
-doubted w call = if becomes_unsure w call then record call { state = state.Unsure } else call
+abbrev pub judged : World → Call → Call
+judged w call = if becomes_unsure w call then record call { state = state.Unsure } else call
 
 -- the calls from a number on that become unsure, in their order
-abbrev pub doubts_from : World → ℕ → List Call → List CallEntry
-doubts_from w n [] = []
-doubts_from w n (call ∷ calls) = (if becomes_unsure w call then record { moment = w.now; told = told.Unsure n } ∷ [] else []) ++ doubts_from w (suc n) calls
+abbrev pub verdicts_from : World → ℕ → List Call → List CallEntry
+verdicts_from w n [] = []
+verdicts_from w n (call ∷ calls) = (if becomes_unsure w call then record { moment = w.now; told = told.Unsure n } ∷ [] else []) ++ verdicts_from w (suc n) calls
 
-abbrev pub doubt_all : Course → Course
-doubt_all c =
+abbrev pub judge_all : Course → Course
+judge_all c =
     let w = c.calls.world in
-    record { told = c.told ++ doubts_from w 0 c.calls.calls; calls = record (c.calls) { calls = map (doubted w) c.calls.calls } }
+    record { told = c.told ++ verdicts_from w 0 c.calls.calls; calls = record (c.calls) { calls = map (judged w) c.calls.calls } }
 
 -- A RESTART of a station drops what was begun at the sides that read there: at the server's side of a flow that ends there, at the client's side of one that begins there.
 abbrev pub kept_unless : Bool → Option (List ℕ) → Option (List ℕ)
@@ -109,14 +109,14 @@ make_with f count request c =
 abbrev pub make : Flow → List ℕ → Calls → Course
 make f payload c = make_with f (length payload) (post f (message_of (length c.calls) payload) c.world) c
 
--- THE STEP: what happens, and then all sides are read, and doubts are reported.
+-- THE STEP: what happens, and then all sides are read, and the calls that wait are judged.
 pub data Outcome : Type 0 where
   Faulty : (fault : StepFault) → Outcome
   Stepped : (lines : List CallEntry) → (after : Calls) → Outcome
 
 module _ (answer : List ℕ → List ℕ) where
   abbrev pub finish : Course → Course
-  finish c = doubt_all (read_all answer c)
+  finish c = judge_all (read_all answer c)
 
   abbrev pub to_outcome : Course → Outcome
   to_outcome c = Stepped c.told c.calls

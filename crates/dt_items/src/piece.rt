@@ -1,4 +1,4 @@
-/// What a read took: octets of one message, or of one stretch of a message. An end mark stands only
+/// What a read took: octets of one message, or of one part of a message. An end mark stands only
 /// on the last of them, and a begin or run mark only on the first.
 #[derive(Clone, Copy, Debug, PartialEq, Eq)]
 pub struct Piece {

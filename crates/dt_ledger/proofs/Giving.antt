@@ -1,4 +1,4 @@
--- Given rows from stretches and octets.
+-- Given rows from gives and octets.
 use Rattle.std.proofs.Common.{ℕ, zero, suc, ◌≡◌, ◌+◌, ◌-◌, ◌<◌, ◌^◌, Bool, false, List, [], ◌∷◌, ◌++◌, length, take, drop, get_or, slice_get, Some, append_assoc, refl, sym, ap, subst, ◌∙◌, arith}
 use Rattle.std.proofs.lemmas.List.{append-nil, drop-append-le, length-append, length-drop, length-take-le, nil_from_length, take-append-le, take_all}
 use Rattle.std.proofs.lemmas.Option.{get_or_from_slice_get}
@@ -33,7 +33,7 @@ length-given_in_all (give ∷ gives) octets h =
       h.1,
     )
 
--- a stretch more
+-- a give more
 pub given_in_all-push : (gives : List Give) (octets : List ℕ) (give : Give) (more : List ℕ) → HaveOctets gives octets → give.count ≡ length more → given_in_all (gives ++ give ∷ []) (octets ++ more) ≡ given_in_all gives octets ++ rows_of give more
 given_in_all-push [] octets give more h e =
     let none : octets ≡ [] = nil_from_length octets h in
@@ -60,7 +60,7 @@ have_octets-push (first ∷ gives) octets give more h e some below =
       subst (HaveOctets (gives ++ give ∷ [])) (sym (drop-append-le first.count octets more h.1)) (have_octets-push gives rest give more h.3 e some below),
     )
 
--- the last stretch
+-- the last give
 last_has : (gives : List Give) (octets : List ℕ) (d : Give) (last : ℕ) → HaveOctets gives octets → suc last ≡ length gives → (0 < (get_or gives last d).count) × ((get_or gives last d).place + (get_or gives last d).count < 2 ^ 62)
 last_has [] octets d last h l = absurd (omega arith)
 last_has (give ∷ []) octets d zero h l = (h.0, h.2)
@@ -97,7 +97,7 @@ top_from-last (give ∷ next ∷ gives) octets d from (suc last) h l =
     top_from-append from rows (given_in_all (next ∷ gives) rest)
     ∙ top_from-last (next ∷ gives) rest d (top_from from rows) last h.3 (omega arith)
 
--- where there is a stretch there are rows
+-- where there is a give there are rows
 some_rows : (gives : List Give) (octets : List ℕ) → HaveOctets gives octets → 0 < length gives → 0 < length (given_in_all gives octets)
 some_rows [] octets h l = absurd (omega arith)
 some_rows (give ∷ gives) octets h l = omega (arith, length-given_in_all (give ∷ gives) octets h, h.0, h.1)
@@ -106,7 +106,7 @@ there_is : (gives : List Give) (last : Give) → slice_get gives (length gives -
 there_is [] last e = absurd cc
 there_is (give ∷ gives) last e = omega arith
 
--- what the last stretch says of the rows
+-- what the last give says of the rows
 pub record IsLast (gives : List Give) (octets : List ℕ) (last : Give) : Type 0 where
   pub some : 0 < last.count
   pub below : last.place + last.count < 2 ^ 62

@@ -1,4 +1,4 @@
--- Given rows as they are kept: a stretch for the octets that were given together, and the octets of all stretches, one after the other.
+-- Given rows as they are kept: a give for the octets that were given together, and the octets of all gives, one after the other.
 use Rattle.std.specs.Prelude.{ℕ, ◌+◌, ◌^◌, ◌<◌, ◌≤◌, ◌≡◌, false, List, [], ◌∷◌, ◌++◌, length, take, drop}
 use Rattle.dt_items.specs.Unread.{items_of, marked}
 use Rattle.dt_flow_model.specs.declared.rows.Given.{Given}
@@ -17,7 +17,7 @@ abbrev pub given_in_all : List Give → List ℕ → List Given
 given_in_all [] octets = []
 given_in_all (give ∷ gives) octets = rows_of give (take give.count octets) ++ given_in_all gives (drop give.count octets)
 
--- each stretch has octets, at places below 2^62, and there are no others
+-- each give has octets, at places below 2^62, and there are no others
 abbrev pub HaveOctets : List Give → List ℕ → Type 0
 HaveOctets [] octets = length octets ≡ 0
 HaveOctets (give ∷ gives) octets =

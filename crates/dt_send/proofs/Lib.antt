@@ -1,4 +1,4 @@
-pub mod StretchLemmas
+pub mod SentSegmentLemmas
 pub mod RingLemmas
 pub mod Cuts
 pub mod Scans

@@ -14,7 +14,7 @@ use Rattle.dt_send.specs.declared.sent_segments.SentSegment.{SentSegment}
 use Rattle.dt_send.specs.declared.send_buffer.SendBuffer.{SendBuffer}
 use Rattle.dt_send.specs.SentSegments.{segments_of, octets_in}
 use Rattle.dt_send.specs.SendBuffer.{IsSendBuffer, record_of}
-use Rattle.dt_send.proofs.StretchLemmas.{drop_at, segments-length}
+use Rattle.dt_send.proofs.SentSegmentLemmas.{drop_at, segments-length}
 use Rattle.dt_send.proofs.RingLemmas.{waits}
 
 no_zero : (n : ℕ) → (suc n == 0) ≡ false
@@ -40,8 +40,8 @@ shut_is x [] [] = refl
 shut_is x [] (i ∷ is) = rw (no_zero (length is)) refl
 shut_is x (s ∷ ss) items = rw (no_zero (length ss)) refl
 
-pub shut : (p : Params) (k : SendBuffer) → IsSendBuffer p k → ((length k.stretches.items == 0) && not (length k.items.items == 0) && nat_le k.edge k.next) ≡ could_meet (record_of k) (record_of k).outstanding (record_of k).waiting
-shut p k r = ap (λ (n : ℕ). (length k.stretches.items == 0) && not (length k.items.items == 0) && nat_le k.edge n) r.next ∙ shut_is (record_of k) k.stretches.items k.items.items
+pub shut : (p : Params) (k : SendBuffer) → IsSendBuffer p k → ((length k.outstanding_segments.items == 0) && not (length k.items.items == 0) && nat_le k.edge k.next) ≡ could_meet (record_of k) (record_of k).outstanding (record_of k).waiting
+shut p k r = ap (λ (n : ℕ). (length k.outstanding_segments.items == 0) && not (length k.items.items == 0) && nat_le k.edge n) r.next ∙ shut_is (record_of k) k.outstanding_segments.items k.items.items
 
 first_in : (b : Bool) → (b && not true) ≡ false
 first_in true = refl
@@ -60,12 +60,12 @@ more_wait : (a b w : ℕ) → w + a ≡ b → nat_lt a b ≡ nat_lt 0 w
 more_wait a b zero h = grind (arith, nat_tests)
 more_wait a b (suc w) h = grind (arith, nat_tests)
 
-pub sendable : (p : Params) (k : SendBuffer) → IsSendBuffer p k → (nat_lt 0 (may_go p (record_of k)) && nat_lt (octets_in k.stretches.items) (length k.items.items) && nat_lt (length k.stretches.items) 64) ≡ can_send p (record_of k)
+pub sendable : (p : Params) (k : SendBuffer) → IsSendBuffer p k → (nat_lt 0 (may_go p (record_of k)) && nat_lt (octets_in k.outstanding_segments.items) (length k.items.items) && nat_lt (length k.outstanding_segments.items) 64) ≡ can_send p (record_of k)
 sendable p k r =
     let x = record_of k in
-    ap (λ (b : Bool). nat_lt 0 (may_go p x) && b && nat_lt (length k.stretches.items) 64) (more_wait (octets_in k.stretches.items) (length k.items.items) (length x.waiting) (waits p k r))
-    ∙ ap (λ (b : Bool). b && nat_lt (length k.stretches.items) 64) (sym (cut_some (may_go p x) x.waiting))
-    ∙ ap (λ (n : ℕ). nat_lt 0 (cut_size p x) && nat_lt n 64) (sym (segments-length k.stretches.items k.items.items))
+    ap (λ (b : Bool). nat_lt 0 (may_go p x) && b && nat_lt (length k.outstanding_segments.items) 64) (more_wait (octets_in k.outstanding_segments.items) (length k.items.items) (length x.waiting) (waits p k r))
+    ∙ ap (λ (b : Bool). b && nat_lt (length k.outstanding_segments.items) 64) (sym (cut_some (may_go p x) x.waiting))
+    ∙ ap (λ (n : ℕ). nat_lt 0 (cut_size p x) && nat_lt n 64) (sym (segments-length k.outstanding_segments.items k.items.items))
 
 -- no segment stands after the last
 pub none_behind : (ss : List SentSegment) (items : List Item) (place : ℕ) → place ≡ length ss → drop place (segments_of ss items) ≡ []

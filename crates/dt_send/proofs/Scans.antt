@@ -11,7 +11,7 @@ use Rattle.dt_flow_model.specs.Numbering.{number_of}
 use Rattle.dt_flow_model.specs.SendRecord.{Segment, acknowledged, before_all, end_of}
 use Rattle.dt_flow_model.specs.SendActs.{Act, better, give_up, meet, release, renew, resend, send}
 use Rattle.dt_send.specs.SentSegments.{IsPlaceOf, earlier_place}
-use Rattle.dt_send.proofs.StretchLemmas.{drop_at}
+use Rattle.dt_send.proofs.SentSegmentLemmas.{drop_at}
 
 not_later : (m n : ℕ) → nat_le m n ≡ true → nat_lt n m ≡ false
 not_later m n h = grind (arith, nat_tests)

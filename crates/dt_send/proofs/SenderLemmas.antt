@@ -34,7 +34,7 @@ all_items (s ∷ ss) items =
     ∙ take-append-drop s.length items
 
 pub ring_is : (p : Params) (k : SendBuffer) → IsSendBuffer p k → k.items ≡ buffer (outstanding_items (record_of k).outstanding ++ (record_of k).waiting) p.cap
-ring_is p k r = ap (λ n. buffer k.items.items n) r.room ∙ ap (λ l. buffer l p.cap) (sym (all_items k.stretches.items k.items.items))
+ring_is p k r = ap (λ n. buffer k.items.items n) r.room ∙ ap (λ l. buffer l p.cap) (sym (all_items k.outstanding_segments.items k.items.items))
 
 abbrev pub seen : Params → Flow → SendRecord → SenderValue
 seen p f x = record { rules = p; flow = f; state = x }

@@ -22,7 +22,7 @@ use Rattle.dt_send.specs.declared.sent_segments.SentSegment.{SentSegment}
 use Rattle.dt_send.specs.declared.send_buffer.SendBuffer.{SendBuffer}
 use Rattle.dt_send.specs.SentSegments.{segment_of, segments_of, octets_in}
 use Rattle.dt_send.specs.SendBuffer.{Acts, IsSendBuffer, IsChosen, IsEndAt, IsWithin, record_of}
-use Rattle.dt_send.proofs.StretchLemmas.{items_in-segments, next-segments, no_segments, octets-take-more, octets_in-parts, segments-drop, segments-length, segments-more, segments-take, waiting-drop, drop_at}
+use Rattle.dt_send.proofs.SentSegmentLemmas.{items_in-segments, next-segments, no_segments, octets-take-more, octets_in-parts, segments-drop, segments-length, segments-more, segments-take, waiting-drop, drop_at}
 use Rattle.dt_send.proofs.RingLemmas.{found, found_offset, waits}
 use Rattle.dt_send.proofs.ActLemmas.{act_within, acts_by, gives_up_chosen, releases_chosen}
 
@@ -42,7 +42,7 @@ put_within p x items h plain fits counted = record {
 module _ (p : Params) (k : SendBuffer) (r : IsSendBuffer p k) (added : List Item) (ring : Buffer Item) (e : ring ≡ buffer (k.items.items ++ added) k.items.capacity) where
   pub put_is : record_of (record k { items = ring }) ≡ put added (record_of k)
   put_is =
-      let ss = k.stretches.items in
+      let ss = k.outstanding_segments.items in
       let is : ring.items ≡ k.items.items ++ added = ap (λ (b : Buffer Item). b.items) e in
       let x = record_of k in
       let gs : segments_of ss ring.items ≡ segments_of ss k.items.items = ap (λ l. segments_of ss l) is ∙ segments-more ss k.items.items added r.lie in
@@ -61,24 +61,24 @@ module _ (p : Params) (k : SendBuffer) (r : IsSendBuffer p k) (added : List Item
 
 -- THE FIRST SEGMENTS GO
 module _ (p : Params) (k : SendBuffer) (r : IsSendBuffer p k) (n end : ℕ) (h : IsEndAt k n end) where
-  gone_is : end - k.left ≡ octets_in (take n k.stretches.items)
+  gone_is : end - k.left ≡ octets_in (take n k.outstanding_segments.items)
   gone_is = omega (arith, h.end_is)
 
   rest_of_rings : SendBuffer
   rest_of_rings =
       record k {
         left = end;
-        stretches = buffer (drop n k.stretches.items) k.stretches.capacity;
+        outstanding_segments = buffer (drop n k.outstanding_segments.items) k.outstanding_segments.capacity;
         items = buffer (drop (end - k.left) k.items.items) k.items.capacity;
       }
 
   pub dropped_is : record_of (record k {
     left = end;
-    stretches = buffer (drop n k.stretches.items) k.stretches.capacity;
+    outstanding_segments = buffer (drop n k.outstanding_segments.items) k.outstanding_segments.capacity;
     items = buffer (drop (end - k.left) k.items.items) k.items.capacity;
   }) ≡ record (record_of k) { left = end; outstanding = drop n (record_of k).outstanding }
   dropped_is =
-      let ss = k.stretches.items in
+      let ss = k.outstanding_segments.items in
       let is = k.items.items in
       let x = record_of k in
       ap (λ (m : ℕ). record x { left = end; outstanding = segments_of (drop n ss) (drop m is); waiting = drop (octets_in (drop n ss)) (drop m is) }) gone_is
@@ -86,20 +86,20 @@ module _ (p : Params) (k : SendBuffer) (r : IsSendBuffer p k) (n end : ℕ) (h :
       ∙ ap (λ (l : List Item). record x { left = end; outstanding = drop n x.outstanding; waiting = l }) (waiting-drop ss is n)
 
   -- the end of the first segments
-  lie_front : octets_in (take n k.stretches.items) ≤ length k.items.items
-  lie_front = omega (arith, r.lie, octets_in-parts k.stretches.items n)
+  lie_front : octets_in (take n k.outstanding_segments.items) ≤ length k.items.items
+  lie_front = omega (arith, r.lie, octets_in-parts k.outstanding_segments.items n)
 
   pub front_ends : next_from k.left (take n (record_of k).outstanding) ≡ end
   front_ends =
-      let ss = take n k.stretches.items in
-      let same = segments-take k.stretches.items k.items.items n in
+      let ss = take n k.outstanding_segments.items in
+      let same = segments-take k.outstanding_segments.items k.items.items n in
       let whole = take-append-drop n (record_of k).outstanding in
       let chain : Chain k.left (take n (record_of k).outstanding) = chain_front k.left (take n (record_of k).outstanding) (drop n (record_of k).outstanding) (subst (λ (gs : List Segment). Chain k.left gs) (sym whole) r.within.kept.chain) in
       let short : Chain k.left (segments_of ss k.items.items) = subst (λ (gs : List Segment). Chain k.left gs) (sym same) chain in
       ap (λ (gs : List Segment). next_from k.left gs) (sym same) ∙ next-segments k.left ss k.items.items lie_front short ∙ sym h.end_is
 
   pub front_count : items_in (take n (record_of k).outstanding) ≡ end - k.left
-  front_count = ap items_in (sym (segments-take k.stretches.items k.items.items n)) ∙ items_in-segments (take n k.stretches.items) k.items.items lie_front ∙ sym gone_is
+  front_count = ap items_in (sym (segments-take k.outstanding_segments.items k.items.items n)) ∙ items_in-segments (take n k.outstanding_segments.items) k.items.items lie_front ∙ sym gone_is
 
   next_stays : next_from end (drop n (record_of k).outstanding) ≡ next_of (record_of k)
   next_stays =
@@ -111,7 +111,7 @@ module _ (p : Params) (k : SendBuffer) (r : IsSendBuffer p k) (n end : ℕ) (h :
   pub dropped_rings : (edge : ℕ) → IsWithin p (record (record_of k) { left = end; edge = edge; outstanding = drop n (record_of k).outstanding }) → IsSendBuffer p (record k {
     left = end;
     edge = edge;
-    stretches = buffer (drop n k.stretches.items) k.stretches.capacity;
+    outstanding_segments = buffer (drop n k.outstanding_segments.items) k.outstanding_segments.capacity;
     items = buffer (drop (end - k.left) k.items.items) k.items.capacity;
   })
   dropped_rings edge w =
@@ -119,7 +119,7 @@ module _ (p : Params) (k : SendBuffer) (r : IsSendBuffer p k) (n end : ℕ) (h :
       record {
         limits = r.limits;
         within = subst (λ (x : SendRecord). IsWithin p x) (sym same) w;
-        lie = omega (arith, r.lie, octets_in-parts k.stretches.items n, length-drop (end - k.left) k.items.items, gone_is);
+        lie = omega (arith, r.lie, octets_in-parts k.outstanding_segments.items n, length-drop (end - k.left) k.items.items, gone_is);
         next = r.next ∙ sym next_stays ∙ ap next_of (sym same);
         room = r.room;
         places = r.places;
@@ -140,7 +140,7 @@ module _ (p : Params) (k : SendBuffer) (r : IsSendBuffer p k) (n end : ℕ) (h :
   pub acked_rings : (w : ℕ) → w ≤ 65536 → IsSendBuffer p (record k {
     left = end;
     edge = end + w;
-    stretches = buffer (drop n k.stretches.items) k.stretches.capacity;
+    outstanding_segments = buffer (drop n k.outstanding_segments.items) k.outstanding_segments.capacity;
     items = buffer (drop (end - k.left) k.items.items) k.items.capacity;
   })
   acked_rings w le = dropped_rings (end + w) (acked_within w le)
@@ -148,7 +148,7 @@ module _ (p : Params) (k : SendBuffer) (r : IsSendBuffer p k) (n end : ℕ) (h :
   pub acked_is : (w : ℕ) → record_acked (record_of k) (take n (record_of k).outstanding) (drop n (record_of k).outstanding) w ≡ record_of (record k {
     left = end;
     edge = end + w;
-    stretches = buffer (drop n k.stretches.items) k.stretches.capacity;
+    outstanding_segments = buffer (drop n k.outstanding_segments.items) k.outstanding_segments.capacity;
     items = buffer (drop (end - k.left) k.items.items) k.items.capacity;
   })
   acked_is w =
@@ -171,8 +171,8 @@ renewed p now x c some after e f frame =
     ]
 
 module _ (p : Params) (now : ℕ) (k : SendBuffer) (r : IsSendBuffer p k) (c : IsChosen p now (record_of k) kind.Release) where
-  nothing_out : k.stretches.items ≡ []
-  nothing_out = no_segments k.stretches.items k.items.items (releases_chosen p now (record_of k) c).0
+  nothing_out : k.outstanding_segments.items ≡ []
+  nothing_out = no_segments k.outstanding_segments.items k.items.items (releases_chosen p now (record_of k) c).0
 
   pub all_wait : length (record_of k).waiting ≡ length k.items.items
   all_wait = omega (arith, waits p k r, ap octets_in nothing_out)
@@ -197,22 +197,22 @@ module _ (p : Params) (now : ℕ) (k : SendBuffer) (r : IsSendBuffer p k) (c : I
       }
 
 -- GIVING UP
-no_stretch : SentSegment
-no_stretch = record { offset = 0; length = 0; first = 0; last = 0 }
+no_sent_segment : SentSegment
+no_sent_segment = record { offset = 0; length = 0; first = 0; last = 0 }
 
 module _ (p : Params) (now : ℕ) (le : now ≤ 2 ^ 62) (k : SendBuffer) (r : IsSendBuffer p k) (c : IsChosen p now (record_of k) kind.GiveUp) where
-  pub some_out : 0 < length k.stretches.items
+  pub some_out : 0 < length k.outstanding_segments.items
   some_out =
       let g = gives_up_chosen p now (record_of k) c in
-      omega (arith, segments-length k.stretches.items k.items.items, ap (λ (gs : List Segment). length gs) g.3)
+      omega (arith, segments-length k.outstanding_segments.items k.items.items, ap (λ (gs : List Segment). length gs) g.3)
 
-  -- the stretch of the leftmost segment
-  pub leftmost_there : (s : SentSegment) × (slice_get k.stretches.items 0 ≡ Some s)
-  leftmost_there = (get_or k.stretches.items 0 no_stretch, slice_get-get_or k.stretches.items 0 no_stretch some_out)
+  -- the items of the leftmost segment
+  pub leftmost_there : (s : SentSegment) × (slice_get k.outstanding_segments.items 0 ≡ Some s)
+  leftmost_there = (get_or k.outstanding_segments.items 0 no_sent_segment, slice_get-get_or k.outstanding_segments.items 0 no_sent_segment some_out)
 
-  module _ (s : SentSegment) (is : slice_get k.stretches.items 0 ≡ Some s) where
+  module _ (s : SentSegment) (is : slice_get k.outstanding_segments.items 0 ≡ Some s) where
     pub first_ends : IsEndAt k 1 (s.offset + s.length)
-    first_ends = record { there = omega (arith, some_out); end_is = let m = octets-take-more k.stretches.items 0 s is in omega (arith, found_offset p k r 0 s is) }
+    first_ends = record { there = omega (arith, some_out); end_is = let m = octets-take-more k.outstanding_segments.items 0 s is in omega (arith, found_offset p k r 0 s is) }
 
     -- the leftmost segment
     leftmost : (record_of k).outstanding ≡ segment_of s k.items.items ∷ drop 1 (record_of k).outstanding
@@ -227,14 +227,14 @@ module _ (p : Params) (now : ℕ) (le : now ≤ 2 ^ 62) (k : SendBuffer) (r : Is
         g.2 ∙ ap (λ (h : Segment). give_up h g.1) head ∙ ap (λ (gs : List Segment). give_up (segment_of s k.items.items) gs) tail
 
     lies : length (take s.length k.items.items) ≡ s.length
-    lies = length-take-le s.length k.items.items (let m = octets-take-more k.stretches.items 0 s is in let parts = octets_in-parts k.stretches.items 1 in omega (arith, r.lie))
+    lies = length-take-le s.length k.items.items (let m = octets-take-more k.outstanding_segments.items 0 s is in let parts = octets_in-parts k.outstanding_segments.items 1 in omega (arith, r.lie))
 
     gives_after : record (record_of k) { left = s.offset + s.length; outstanding = drop 1 (record_of k).outstanding } ≡ unwrap_or (record_after p now (record_of k) c.act) (record_of k)
     gives_after = rw given_up (ap (λ (m : ℕ). record (record_of k) { left = s.offset + m; outstanding = drop 1 (record_of k).outstanding }) (sym lies))
 
     pub gives_rings : IsSendBuffer p (record k {
       left = s.offset + s.length;
-      stretches = buffer (drop 1 k.stretches.items) k.stretches.capacity;
+      outstanding_segments = buffer (drop 1 k.outstanding_segments.items) k.outstanding_segments.capacity;
       items = buffer (drop (s.offset + s.length - k.left) k.items.items) k.items.capacity;
     })
     gives_rings =
@@ -244,7 +244,7 @@ module _ (p : Params) (now : ℕ) (le : now ≤ 2 ^ 62) (k : SendBuffer) (r : Is
 
     pub gives_acts : (f : Flow) (frame : List ℕ) → Acts p f now (record_of k) (GaveUp s.length) (record_of (record k {
       left = s.offset + s.length;
-      stretches = buffer (drop 1 k.stretches.items) k.stretches.capacity;
+      outstanding_segments = buffer (drop 1 k.outstanding_segments.items) k.outstanding_segments.capacity;
       items = buffer (drop (s.offset + s.length - k.left) k.items.items) k.items.capacity;
     })) frame frame
     gives_acts f frame =

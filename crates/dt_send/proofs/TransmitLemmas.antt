@@ -11,7 +11,7 @@ use Rattle.dt_items.proofs.Marks.{blank, marked-at}
 use Rattle.dt_flow_model.specs.Keeping.{IsPieceSent}
 use Rattle.dt_flow_model.specs.SendRecord.{begins, ends}
 
--- an item of a stretch
+-- an item of a sent segment
 pub item_within : (all : List Item) (from n i place : ℕ) (x : Item) → place ≡ from + i → i < n → slice_get all place ≡ Some x → get_or (take n (drop from all)) i blank ≡ x
 item_within all from n i place x e lt h = get_or-take n (drop from all) i blank lt ∙ get_or-drop from all i blank ∙ ap (λ (k : ℕ). get_or all k blank) (sym e) ∙ get_or_from_slice_get all place x blank h
 

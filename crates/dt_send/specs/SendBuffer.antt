@@ -12,7 +12,7 @@ use Rattle.dt_flow_model.specs.Keeping.{IsBy, IsSendRecord, most_moment, octets_
 use Rattle.dt_send.specs.declared.send_buffer.SendBuffer.{SendBuffer}
 use Rattle.dt_send.specs.SentSegments.{segments_of, octets_in}
 
--- the outstanding items stand first, a stretch for each segment, and then the waiting ones
+-- the outstanding items stand first, segment by segment, and then the waiting ones
 abbrev pub record_of : SendBuffer → SendRecord
 record_of k =
     record {
@@ -20,8 +20,8 @@ record_of k =
       edge = k.edge;
       touched = k.touched;
       crossed = k.crossed;
-      outstanding = segments_of k.stretches.items k.items.items;
-      waiting = drop (octets_in k.stretches.items) k.items.items;
+      outstanding = segments_of k.outstanding_segments.items k.items.items;
+      waiting = drop (octets_in k.outstanding_segments.items) k.items.items;
     }
 
 -- each moment that a record notes is at most this one
@@ -41,16 +41,16 @@ pub record IsWithin (p : Params) (x : SendRecord) : Type 0 where
 pub record IsSendBuffer (p : Params) (k : SendBuffer) : Type 0 where
   pub limits : IsWithinLimits p
   pub within : IsWithin p (record_of k)
-  -- the stretches lie within the items
-  pub lie : octets_in k.stretches.items ≤ length k.items.items
+  -- the outstanding segments lie within the items
+  pub lie : octets_in k.outstanding_segments.items ≤ length k.items.items
   pub next : k.next ≡ next_of (record_of k)
   pub room : k.items.capacity ≡ p.cap
-  pub places : k.stretches.capacity ≡ most_segments
+  pub places : k.outstanding_segments.capacity ≡ most_segments
 
 -- the first so many segments end at an offset
 pub record IsEndAt (k : SendBuffer) (segments end : ℕ) : Type 0 where
-  pub there : segments ≤ length k.stretches.items
-  pub end_is : end ≡ k.left + octets_in (take segments k.stretches.items)
+  pub there : segments ≤ length k.outstanding_segments.items
+  pub end_is : end ≡ k.left + octets_in (take segments k.outstanding_segments.items)
 
 -- The act that is chosen at now is of this kind.
 pub record IsChosen (p : Params) (now : ℕ) (x : SendRecord) (kind : SendKind) : Type 0 where

@@ -1,4 +1,4 @@
--- How segments lie in one list of items: as stretches of it, one after another from its front.
+-- How sent segments lie in one list of items: as parts of it, one after another from its front.
 use Rattle.std.specs.Prelude.{ℕ, ◌+◌, ◌≡◌, nat_lt, if◌then◌else◌, List, [], ◌∷◌, length, take, drop, Option, Some, None}
 use Rattle.dt_items.specs.declared.item.Item.{Item}
 use Rattle.dt_flow_model.specs.SendRecord.{Segment}

@@ -20,7 +20,7 @@ use crate::dues::due_first;
 use crate::kept_segments::KeptSegment;
 use crate::numbering::{crosses, crossing_after, number_at};
 use crate::octets::{append_octets, cut_at};
-use crate::sent_segments::{SentSegment, stretch_at};
+use crate::sent_segments::{SentSegment, sent_segment_at};
 use circular_buffer::HeapCircularBuffer;
 use dt_flow_model::{Cut, SendAct, SendKind, SendMoments};
 use dt_items::{Item, MarkedOctets, NoMemory, append_marked, item_in};
@@ -32,7 +32,7 @@ use std::alloc::Global;
 const MOST_SEGMENTS: usize = 64;
 
 /// What a send record keeps, in two rings: the items, the outstanding ones first and then those that
-/// wait, and the outstanding segments, each a stretch of the items. Offsets count octets since the
+/// wait, and the outstanding segments, each a part of the items. Offsets count octets since the
 /// record began, and moments are milliseconds.
 #[derive(Drop)]
 pub struct SendBuffer {
@@ -46,7 +46,7 @@ pub struct SendBuffer {
     pub crossed: Option<u64>,
     /// The offset of the next octet that goes out.
     pub next: u64,
-    pub stretches: HeapCircularBuffer<KeptSegment>,
+    pub outstanding_segments: HeapCircularBuffer<KeptSegment>,
     pub items: HeapCircularBuffer<Item>,
 }
 
@@ -63,7 +63,7 @@ impl SendBuffer {
             touched: now,
             crossed: None,
             next: 0,
-            stretches: HeapCircularBuffer::with_capacity(alloc, MOST_SEGMENTS)?,
+            outstanding_segments: HeapCircularBuffer::with_capacity(alloc, MOST_SEGMENTS)?,
             items: HeapCircularBuffer::with_capacity(alloc, params.cap as usize)?,
         })
     }
@@ -71,7 +71,7 @@ impl SendBuffer {
     /// How many octets are outstanding.
     pub fn sent(&self, rules: &Rules) -> usize
         requires { IsSendBuffer rules.now self.now }
-        ensures value { result ≡ octets_in self.now.stretches.items }
+        ensures value { result ≡ octets_in self.now.outstanding_segments.items }
         ensures within { result ≤ length self.now.items.items }
     {
         (self.next - self.left) as usize
@@ -82,10 +82,10 @@ impl SendBuffer {
         requires { IsSendBuffer rules.now self.now }
         ensures { result ≡ acts.gives_up_from rules.now (record_of self.now).outstanding }
     {
-        if self.stretches.is_empty() {
+        if self.outstanding_segments.is_empty() {
             return None;
         }
-        let leftmost = stretch_at(&self.stretches, 0);
+        let leftmost = sent_segment_at(&self.outstanding_segments, 0);
         Some(leftmost.first + rules.times().give)
     }
 
@@ -94,7 +94,7 @@ impl SendBuffer {
         requires { IsSendBuffer rules.now self.now }
         ensures { result ≡ acts.releases_from rules.now (record_of self.now) (record_of self.now).outstanding }
     {
-        let nothing_out = self.stretches.is_empty();
+        let nothing_out = self.outstanding_segments.is_empty();
         if nothing_out {
             Some(self.touched + rules.times().send)
         } else {
@@ -108,11 +108,11 @@ impl SendBuffer {
         ensures { result ≡ acts.resends_from rules.now now (record_of self.now).outstanding }
     {
         let mut first = None;
-        let mut place = self.stretches.len();
+        let mut place = self.outstanding_segments.len();
         while 0 < place {
             place -= 1;
-            let stretch = stretch_at(&self.stretches, place);
-            first = earlier(stretch.resend_from(rules, now), first);
+            let sent_segment = sent_segment_at(&self.outstanding_segments, place);
+            first = earlier(sent_segment.resend_from(rules, now), first);
         }
         first
     }
@@ -131,11 +131,11 @@ impl SendBuffer {
     /// Whether a cut can be made: octets wait and may go out, and there is room for one segment more.
     fn can_send(&self, rules: &Rules) -> bool
         requires { IsSendBuffer rules.now self.now }
-        ensures { result ≡ (nat_lt 0 (may_go rules.now (record_of self.now)) && nat_lt (octets_in self.now.stretches.items) (length self.now.items.items) && nat_lt (length self.now.stretches.items) 64) }
+        ensures { result ≡ (nat_lt 0 (may_go rules.now (record_of self.now)) && nat_lt (octets_in self.now.outstanding_segments.items) (length self.now.items.items) && nat_lt (length self.now.outstanding_segments.items) 64) }
     {
         self.most(rules) > 0
             && self.sent(rules) < self.items.len()
-            && self.stretches.len() < MOST_SEGMENTS
+            && self.outstanding_segments.len() < MOST_SEGMENTS
     }
 
     /// When the next cut goes out, if one can be made.
@@ -164,9 +164,9 @@ impl SendBuffer {
 
     /// Whether octets wait before a window that is used up, with nothing outstanding.
     fn is_shut(&self) -> bool
-        ensures { result ≡ ((length self.now.stretches.items == 0) && not (length self.now.items.items == 0) && nat_le self.now.edge self.now.next) }
+        ensures { result ≡ ((length self.now.outstanding_segments.items == 0) && not (length self.now.items.items == 0) && nat_le self.now.edge self.now.next) }
     {
-        self.stretches.is_empty() && !self.items.is_empty() && self.edge <= self.next
+        self.outstanding_segments.is_empty() && !self.items.is_empty() && self.edge <= self.next
     }
 
     /// When a rendezvous packet goes out, where the window is used up and nothing is outstanding.
@@ -216,15 +216,15 @@ impl SendBuffer {
         ensures end { IfSome result (λ split. IsEndAt self.now split.0 split.1) }
     {
         let mut end = self.left;
-        for place in 0..self.stretches.len() {
+        for place in 0..self.outstanding_segments.len() {
             if number_at(rules, end) == number {
                 return Some((place, end));
             }
-            let stretch = stretch_at(&self.stretches, place);
-            end = stretch.offset + u64::from(stretch.length);
+            let sent_segment = sent_segment_at(&self.outstanding_segments, place);
+            end = sent_segment.offset + u64::from(sent_segment.length);
         }
         if number_at(rules, end) == number {
-            Some((self.stretches.len(), end))
+            Some((self.outstanding_segments.len(), end))
         } else {
             None
         }
@@ -233,17 +233,17 @@ impl SendBuffer {
     /// Lets the first segments go, which end at this offset, with their items. No item is moved.
     fn drop_front(&mut self, segments: usize, end: u64)
         requires end { IsEndAt self.old segments end }
-        requires lie { octets_in self.old.stretches.items ≤ length self.old.items.items }
+        requires lie { octets_in self.old.outstanding_segments.items ≤ length self.old.items.items }
         ensures { self.new ≡ record self.old {
           left = end;
-          stretches = buffer (drop segments self.old.stretches.items) self.old.stretches.capacity;
+          outstanding_segments = buffer (drop segments self.old.outstanding_segments.items) self.old.outstanding_segments.capacity;
           items = buffer (drop (end - self.old.left) self.old.items.items) self.old.items.capacity;
         } }
     {
         let gone = (end - self.left) as usize;
         self.items.truncate_front(self.items.len() - gone);
-        self.stretches
-            .truncate_front(self.stretches.len() - segments);
+        self.outstanding_segments
+            .truncate_front(self.outstanding_segments.len() - segments);
         self.left = end;
     }
 
@@ -269,22 +269,22 @@ impl SendBuffer {
 
     /// Gives the leftmost segment up.
     fn give_up(&mut self) -> SendAct
-        requires some { 0 < length self.old.stretches.items }
-        requires lie { octets_in self.old.stretches.items ≤ length self.old.items.items }
-        requires end { (s : SentSegment) → slice_get self.old.stretches.items 0 ≡ Some s
+        requires some { 0 < length self.old.outstanding_segments.items }
+        requires lie { octets_in self.old.outstanding_segments.items ≤ length self.old.items.items }
+        requires end { (s : SentSegment) → slice_get self.old.outstanding_segments.items 0 ≡ Some s
             → IsEndAt self.old 1 (s.offset + s.length) × (s.offset + s.length < 2 ^ 63) }
-        ensures told { (s : SentSegment) → slice_get self.old.stretches.items 0 ≡ Some s → result ≡ GaveUp s.length }
-        ensures gone { (s : SentSegment) → slice_get self.old.stretches.items 0 ≡ Some s
+        ensures told { (s : SentSegment) → slice_get self.old.outstanding_segments.items 0 ≡ Some s → result ≡ GaveUp s.length }
+        ensures gone { (s : SentSegment) → slice_get self.old.outstanding_segments.items 0 ≡ Some s
             → self.new ≡ record self.old {
               left = s.offset + s.length;
-              stretches = buffer (drop 1 self.old.stretches.items) self.old.stretches.capacity;
+              outstanding_segments = buffer (drop 1 self.old.outstanding_segments.items) self.old.outstanding_segments.capacity;
               items = buffer (drop (s.offset + s.length - self.old.left) self.old.items.items) self.old.items.capacity;
             } }
     {
-        let stretch = stretch_at(&self.stretches, 0);
-        self.drop_front(1, stretch.offset + u64::from(stretch.length));
+        let sent_segment = sent_segment_at(&self.outstanding_segments, 0);
+        self.drop_front(1, sent_segment.offset + u64::from(sent_segment.length));
         SendAct::GaveUp {
-            count: stretch.length,
+            count: sent_segment.length,
         }
     }
 
@@ -308,22 +308,27 @@ impl SendBuffer {
     }
 
     /// Writes the packet of a segment into the frame. Tells the cut.
-    fn transmit(&self, occasion: &ActContext<'_>, stretch: &SentSegment, frame: &mut Frame) -> Cut
-        requires there { (self.now.left ≤ stretch.now.offset) × (stretch.now.offset + stretch.now.length ≤ self.now.left + length self.now.items.items) }
+    fn transmit(
+        &self,
+        occasion: &ActContext<'_>,
+        sent_segment: &SentSegment,
+        frame: &mut Frame,
+    ) -> Cut
+        requires there { (self.now.left ≤ sent_segment.now.offset) × (sent_segment.now.offset + sent_segment.now.length ≤ self.now.left + length self.now.items.items) }
         requires bounded { self.now.left + length self.now.items.items < 2 ^ 62 }
-        requires segment { IsSegment occasion.now.rules.now (segment_of stretch.now (drop (stretch.now.offset - self.now.left) self.now.items.items)) }
-        ensures cut { let g = segment_of stretch.now (drop (stretch.now.offset - self.now.left) self.now.items.items) in
+        requires segment { IsSegment occasion.now.rules.now (segment_of sent_segment.now (drop (sent_segment.now.offset - self.now.left) self.now.items.items)) }
+        ensures cut { let g = segment_of sent_segment.now (drop (sent_segment.now.offset - self.now.left) self.now.items.items) in
             result ≡ cut_told occasion.now.rules.now (record_of self.now) g.offset g.items }
-        ensures frame { let g = segment_of stretch.now (drop (stretch.now.offset - self.now.left) self.now.items.items) in
+        ensures frame { let g = segment_of sent_segment.now (drop (sent_segment.now.offset - self.now.left) self.now.items.items) in
             frame.new ≡ forth occasion.now.rules.now occasion.now.flow.now (data_packet occasion.now.flow.now (number_of occasion.now.rules.now g.offset) (leads (record_of self.now) g.offset) g.items) }
     {
         let ActContext { rules, flow, .. } = *occasion;
-        let count = stretch.length as usize;
-        let from = (stretch.offset - self.left) as usize;
+        let count = sent_segment.length as usize;
+        let from = (sent_segment.offset - self.left) as usize;
         let cut = Cut {
-            number: number_at(rules, stretch.offset),
-            length: stretch.length,
-            drf: stretch.offset == self.left,
+            number: number_at(rules, sent_segment.offset),
+            length: sent_segment.length,
+            drf: sent_segment.offset == self.left,
             begin: item_in(&self.items, from).begin,
             end: item_in(&self.items, from + count - 1).end,
         };
@@ -348,12 +353,12 @@ impl SendBuffer {
         ensures { IsPlaceOf 0 (acts.resending rules.now now (record_of self.now).outstanding) result }
     {
         let mut best = None;
-        let mut place = self.stretches.len();
+        let mut place = self.outstanding_segments.len();
         while 0 < place {
             place -= 1;
-            let stretch = stretch_at(&self.stretches, place);
-            if stretch.is_late(rules, now) {
-                best = earlier_of((place, stretch.last), best);
+            let sent_segment = sent_segment_at(&self.outstanding_segments, place);
+            if sent_segment.is_late(rules, now) {
+                best = earlier_of((place, sent_segment.last), best);
             }
         }
         best
@@ -361,15 +366,15 @@ impl SendBuffer {
 
     /// Notes that the segment at a place goes out again at this moment.
     fn note_again(&mut self, place: usize, at: u64)
-        requires there { place < length self.old.stretches.items }
-        requires late { (s : SentSegment) → slice_get self.old.stretches.items place ≡ Some s → (s.last ≤ at) × (at < s.first + 2 ^ 32) }
-        ensures { (s : SentSegment) → slice_get self.old.stretches.items place ≡ Some s →
+        requires there { place < length self.old.outstanding_segments.items }
+        requires late { (s : SentSegment) → slice_get self.old.outstanding_segments.items place ≡ Some s → (s.last ≤ at) × (at < s.first + 2 ^ 32) }
+        ensures { (s : SentSegment) → slice_get self.old.outstanding_segments.items place ≡ Some s →
             self.new ≡ record self.old {
               touched = at;
-              stretches = buffer (slice_set self.old.stretches.items place (record s { last = at })) self.old.stretches.capacity;
+              outstanding_segments = buffer (slice_set self.old.outstanding_segments.items place (record s { last = at })) self.old.outstanding_segments.capacity;
             } }
     {
-        if let Some(kept) = self.stretches.get_mut(place) {
+        if let Some(kept) = self.outstanding_segments.get_mut(place) {
             *kept = kept.again(at);
         }
         self.touched = at;
@@ -386,30 +391,31 @@ impl SendBuffer {
             Some((place, _)) => place,
             None => unreachable!(),
         };
-        let stretch = stretch_at(&self.stretches, place);
-        let cut = self.transmit(occasion, &stretch, frame);
+        let sent_segment = sent_segment_at(&self.outstanding_segments, place);
+        let cut = self.transmit(occasion, &sent_segment, frame);
         self.note_again(place, occasion.at);
         SendAct::Resent(cut)
     }
 
     /// Notes that this segment went out at now, for the first time.
-    fn note_sent(&mut self, rules: &Rules, stretch: SentSegment, now: u64)
-        requires few { length self.old.stretches.items < self.old.stretches.capacity }
-        requires bounded { self.old.next + stretch.length < 2 ^ 63 }
-        requires ordered { stretch.first ≤ stretch.last }
-        requires near { stretch.last < stretch.first + 2 ^ 32 }
+    fn note_sent(&mut self, rules: &Rules, sent_segment: SentSegment, now: u64)
+        requires few { length self.old.outstanding_segments.items < self.old.outstanding_segments.capacity }
+        requires bounded { self.old.next + sent_segment.length < 2 ^ 63 }
+        requires ordered { sent_segment.first ≤ sent_segment.last }
+        requires near { sent_segment.last < sent_segment.first + 2 ^ 32 }
         ensures { self.new ≡ record self.old {
           touched = now;
           crossed = (if is_crossing rules.now self.old.next then Some now else self.old.crossed);
-          next = self.old.next + stretch.length;
-          stretches = buffer (self.old.stretches.items ++ stretch ∷ []) self.old.stretches.capacity;
+          next = self.old.next + sent_segment.length;
+          outstanding_segments = buffer (self.old.outstanding_segments.items ++ sent_segment ∷ []) self.old.outstanding_segments.capacity;
         } }
     {
         if crosses(rules, self.next) {
             self.crossed = Some(now);
         }
-        self.stretches.push_back(KeptSegment::of(&stretch));
-        self.next += u64::from(stretch.length);
+        self.outstanding_segments
+            .push_back(KeptSegment::of(&sent_segment));
+        self.next += u64::from(sent_segment.length);
         self.touched = now;
     }
 
@@ -422,14 +428,14 @@ impl SendBuffer {
     {
         let rules = occasion.rules;
         let length = cut_at(&self.items, self.sent(rules), self.most(rules));
-        let stretch = SentSegment {
+        let sent_segment = SentSegment {
             offset: self.next,
             length: length as u32,
             first: occasion.at,
             last: occasion.at,
         };
-        let cut = self.transmit(occasion, &stretch, frame);
-        self.note_sent(rules, stretch, occasion.at);
+        let cut = self.transmit(occasion, &sent_segment, frame);
+        self.note_sent(rules, sent_segment, occasion.at);
         SendAct::Sent(cut)
     }
 

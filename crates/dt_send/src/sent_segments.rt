@@ -6,7 +6,7 @@ use crate::kept_segments::KeptSegment;
 use circular_buffer::HeapCircularBuffer;
 use dt_units::Rules;
 
-/// A segment that went out, as a stretch of the ring of items. Its begin and end marks are those of
+/// A segment that went out, as a part of the ring of items. Its begin and end marks are those of
 /// its first and of its last item. Moments are milliseconds.
 #[derive(Clone, Copy)]
 pub struct SentSegment {
@@ -49,12 +49,15 @@ impl SentSegment {
     }
 }
 
-/// The stretch at a place of the ring.
-pub fn stretch_at(stretches: &HeapCircularBuffer<KeptSegment>, place: usize) -> SentSegment
-    requires { place < length stretches.now.items }
-    ensures { slice_get stretches.now.items place ≡ Some result }
+/// The segment at a place of the ring.
+pub fn sent_segment_at(
+    outstanding_segments: &HeapCircularBuffer<KeptSegment>,
+    place: usize,
+) -> SentSegment
+    requires { place < length outstanding_segments.now.items }
+    ensures { slice_get outstanding_segments.now.items place ≡ Some result }
 {
-    match stretches.get(place) {
+    match outstanding_segments.get(place) {
         Some(kept) => kept.segment(),
         None => unreachable!(),
     }

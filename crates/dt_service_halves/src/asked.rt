@@ -117,7 +117,7 @@ impl Halves {
             deadline,
             left: count,
             waits: true,
-            doubted: false,
+            has_given_up: false,
         })?;
         self.count += 1;
         Ok(())

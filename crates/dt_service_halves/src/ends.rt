@@ -14,7 +14,7 @@ use std::collections::VecDeque;
 fn cause_of(now: u64, call: &OpenCall) -> Option<Cause>
     ensures { result ≡ cause_of now call.now }
 {
-    if call.waits && call.doubted {
+    if call.waits && call.has_given_up {
         Some(Cause::GivenUp)
     } else if call.waits && call.deadline <= now {
         Some(Cause::Patience)
@@ -30,7 +30,7 @@ fn judge_call(now: u64, call: &mut OpenCall)
     if cause_of(now, call).is_some() {
         call.waits = false;
     }
-    call.doubted = false;
+    call.has_given_up = false;
 }
 
 fn is_kept(call: &OpenCall) -> bool

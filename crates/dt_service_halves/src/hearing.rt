@@ -25,7 +25,7 @@ fn is_on(call: &OpenCall, flow: &Flow) -> bool
 fn with_fate(given_up: bool, count: u32, call: &mut OpenCall)
     ensures { call.new ≡ with_fate given_up count call.old }
 {
-    call.doubted = call.doubted || (given_up && count > 0 && call.left > 0);
+    call.has_given_up = call.has_given_up || (given_up && count > 0 && call.left > 0);
     call.left = call.left.saturating_sub(count);
 }
 

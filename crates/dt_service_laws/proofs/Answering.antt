@@ -138,7 +138,7 @@ reply_gives : (f : Flow) (m : List ℕ) (h : Halves) (o : Option ℕ) → positi
 reply_gives f m h None is = gives_none f (Some m) h _ refl (λ t. omega arith)
 reply_gives f m h (Some place) is =
     let n = call_number (number_in m) in
-    let d : OpenCall = record { number = n; flow = f; deadline = 0; left = 0; waits = false; doubted = false } in
+    let d : OpenCall = record { number = n; flow = f; deadline = 0; left = 0; waits = false; has_given_up = false } in
     let at = position-Some (is_waiting_call (reversed f) n) h.calls place d is in
     let call = get_or h.calls place d in
     let p = and_parts (call.waits && same_number call.number n) (same_flow call.flow (reversed f)) at.1 in

@@ -56,8 +56,8 @@ given_on deed x y z n g h = record {
 }
 
 -- CALLS THAT ARE DOUBTED, by what holds of their numbers
-abbrev pub IsDoubt : (CallNumber → Type 0) → OpenCall → Type 0
-IsDoubt P call = call.doubted ≡ true → P call.number
+abbrev pub HasReason : (CallNumber → Type 0) → OpenCall → Type 0
+HasReason P call = call.has_given_up ≡ true → P call.number
 
 -- the first octets of an owner and those after them
 taken_first : (count left : ℕ) (n : CallNumber) (rest : List CallNumber) → nat_lt 0 count ≡ true → nat_lt 0 left ≡ true → Contains (take count (replicate left n ++ rest)) n
@@ -72,100 +72,100 @@ taken_later (suc count) (suc left) n m rest there =
     let e : suc count - suc left ≡ count - left = omega arith in
     contains_more n m (take count (replicate left n ++ rest)) (taken_later count left n m rest (subst (λ (k : ℕ). Contains (take k rest) m) e there))
 
-fate_doubt : (P : CallNumber → Type 0) (given_up : Bool) (count : ℕ) (call : OpenCall) (rest : List CallNumber) → IsDoubt P call → ((n : CallNumber) → given_up ≡ true → Contains (take count (replicate call.left call.number ++ rest)) n → P n) → IsDoubt P (with_fate given_up count call)
-fate_doubt P given_up count call rest was new doubted =
-    elim (cases_Bool call.doubted) [
+fate_reason : (P : CallNumber → Type 0) (given_up : Bool) (count : ℕ) (call : OpenCall) (rest : List CallNumber) → HasReason P call → ((n : CallNumber) → given_up ≡ true → Contains (take count (replicate call.left call.number ++ rest)) n → P n) → HasReason P (with_fate given_up count call)
+fate_reason P given_up count call rest was new has_given_up =
+    elim (cases_Bool call.has_given_up) [
       | inl y ↦ was y
       | inr o ↦
-          let now : (given_up && nat_lt 0 count && nat_lt 0 call.left) ≡ true = subst (λ (b : Bool). (b || (given_up && nat_lt 0 count && nat_lt 0 call.left)) ≡ true) o doubted in
+          let now : (given_up && nat_lt 0 count && nat_lt 0 call.left) ≡ true = subst (λ (b : Bool). (b || (given_up && nat_lt 0 count && nat_lt 0 call.left)) ≡ true) o has_given_up in
           let p = and_parts (given_up && nat_lt 0 count) (nat_lt 0 call.left) now in
           let q = and_parts given_up (nat_lt 0 count) p.0 in
           new call.number q.0 (taken_first count call.left call.number rest q.1 p.1)
     ]
 
-fates_doubt : (P : CallNumber → Type 0) (given_up : Bool) (f : Flow) (count : ℕ) (cs : List OpenCall) → All (IsDoubt P) cs → ((n : CallNumber) → given_up ≡ true → Contains (take count (owners f cs)) n → P n) → All (IsDoubt P) (with_fates given_up f count cs)
-fates_doubt P given_up f count [] all new = All-nil (IsDoubt P)
-fates_doubt P given_up f count (call ∷ cs) all new =
-    by_flow (same_flow call.flow f) new (λ more. fates_doubt P given_up f (count - call.left) cs (All-tail (IsDoubt P) call cs all) more) (λ more. fates_doubt P given_up f count cs (All-tail (IsDoubt P) call cs all) more)
+fates_reason : (P : CallNumber → Type 0) (given_up : Bool) (f : Flow) (count : ℕ) (cs : List OpenCall) → All (HasReason P) cs → ((n : CallNumber) → given_up ≡ true → Contains (take count (owners f cs)) n → P n) → All (HasReason P) (with_fates given_up f count cs)
+fates_reason P given_up f count [] all new = All-nil (HasReason P)
+fates_reason P given_up f count (call ∷ cs) all new =
+    by_flow (same_flow call.flow f) new (λ more. fates_reason P given_up f (count - call.left) cs (All-tail (HasReason P) call cs all) more) (λ more. fates_reason P given_up f count cs (All-tail (HasReason P) call cs all) more)
   where
     by_flow : (b : Bool) → ((n : CallNumber) → given_up ≡ true → Contains (take count (cond b (replicate call.left call.number ++ owners f cs) (owners f cs))) n → P n)
-        → (((n : CallNumber) → given_up ≡ true → Contains (take (count - call.left) (owners f cs)) n → P n) → All (IsDoubt P) (with_fates given_up f (count - call.left) cs))
-        → (((n : CallNumber) → given_up ≡ true → Contains (take count (owners f cs)) n → P n) → All (IsDoubt P) (with_fates given_up f count cs))
-        → All (IsDoubt P) (cond b (with_fate given_up count call ∷ with_fates given_up f (count - call.left) cs) (call ∷ with_fates given_up f count cs))
+        → (((n : CallNumber) → given_up ≡ true → Contains (take (count - call.left) (owners f cs)) n → P n) → All (HasReason P) (with_fates given_up f (count - call.left) cs))
+        → (((n : CallNumber) → given_up ≡ true → Contains (take count (owners f cs)) n → P n) → All (HasReason P) (with_fates given_up f count cs))
+        → All (HasReason P) (cond b (with_fate given_up count call ∷ with_fates given_up f (count - call.left) cs) (call ∷ with_fates given_up f count cs))
     by_flow true new here other =
-        All-cons (IsDoubt P) (with_fate given_up count call) _ (fate_doubt P given_up count call (owners f cs) (All-head (IsDoubt P) call cs all) new)
+        All-cons (HasReason P) (with_fate given_up count call) _ (fate_reason P given_up count call (owners f cs) (All-head (HasReason P) call cs all) new)
         (here (λ n g there. new n g (taken_later count call.left call.number n (owners f cs) there)))
-    by_flow false new here other = All-cons (IsDoubt P) call _ (All-head (IsDoubt P) call cs all) (other new)
+    by_flow false new here other = All-cons (HasReason P) call _ (All-head (HasReason P) call cs all) (other new)
 
 -- WHAT IS HEARD, report by report
-same_calls : (P : CallNumber → Type 0) (cs ds : List OpenCall) → ds ≡ cs → All (IsDoubt P) cs → All (IsDoubt P) ds
-same_calls P cs ds same all = subst (λ (es : List OpenCall). All (IsDoubt P) es) (sym same) all
+same_calls : (P : CallNumber → Type 0) (cs ds : List OpenCall) → ds ≡ cs → All (HasReason P) cs → All (HasReason P) ds
+same_calls P cs ds same all = subst (λ (es : List OpenCall). All (HasReason P) es) (sym same) all
 
 accepted_calls : (b : Bool) (f : Flow) (h : Halves) → (cond b (record h { unread = with_flow f h.unread }) h).calls ≡ h.calls
 accepted_calls true f h = refl
 accepted_calls false f h = refl
 
-hear_doubts : (P : CallNumber → Type 0) (what : Heard) (h : Halves) → All (IsDoubt P) h.calls → ((f : Flow) (count : ℕ) (n : CallNumber) → what ≡ GivesUp f count → Contains (take count (owners f h.calls)) n → P n) → All (IsDoubt P) (hear_as what h).calls
-hear_doubts P (Settles f count) h all new = fates_doubt P false f count h.calls all (λ n g there. absurd cc)
-hear_doubts P (GivesUp f count) h all new = fates_doubt P true f count h.calls all (λ n g there. new f count n refl there)
-hear_doubts P (Accepts f) h all new = same_calls P h.calls _ (accepted_calls (is_some (kind_in f.to_port h.ports)) f h) all
-hear_doubts P NoMatter h all new = all
+hear_reasons : (P : CallNumber → Type 0) (what : Heard) (h : Halves) → All (HasReason P) h.calls → ((f : Flow) (count : ℕ) (n : CallNumber) → what ≡ GivesUp f count → Contains (take count (owners f h.calls)) n → P n) → All (HasReason P) (hear_as what h).calls
+hear_reasons P (Settles f count) h all new = fates_reason P false f count h.calls all (λ n g there. absurd cc)
+hear_reasons P (GivesUp f count) h all new = fates_reason P true f count h.calls all (λ n g there. new f count n refl there)
+hear_reasons P (Accepts f) h all new = same_calls P h.calls _ (accepted_calls (is_some (kind_in f.to_port h.ports)) f h) all
+hear_reasons P NoMatter h all new = all
 
 module _ (deed : Deed) (x at : Node) (event : Event (Unit {0})) (may : IsOfTurn deed event) (before : Within deed x at) where
   abbrev Given : CallNumber → Type 0
   Given n = WasGivenUp deed x (happens (moment_told deed) event at) n
 
-  told_doubts : (first rest : List Told) → (after_event (moment_told deed) event at.endpoint).reports ≡ first ++ rest → All (IsDoubt Given) (hear_all first at.halves).calls → All (IsDoubt Given) (hear_all (first ++ rest) at.halves).calls
-  told_doubts first [] is all = same_calls Given (hear_all first at.halves).calls _ (ap (λ (rs : List Told). (hear_all rs at.halves).calls) (append-nil first)) all
-  told_doubts first (r ∷ rest) is all =
+  told_reasons : (first rest : List Told) → (after_event (moment_told deed) event at.endpoint).reports ≡ first ++ rest → All (HasReason Given) (hear_all first at.halves).calls → All (HasReason Given) (hear_all (first ++ rest) at.halves).calls
+  told_reasons first [] is all = same_calls Given (hear_all first at.halves).calls _ (ap (λ (rs : List Told). (hear_all rs at.halves).calls) (append-nil first)) all
+  told_reasons first (r ∷ rest) is all =
       let h = hear_all first at.halves in
       let one : hear_all (first ++ r ∷ []) at.halves ≡ hear h r = fold-append hear at.halves first (r ∷ []) in
-      let next = hear_doubts Given (heard r) h all (λ f count n gives there. record { at = at; before = before; event = event; of_turn = may; first = first; told = r; rest = rest; reports = is; flow = f; count = count; gives_up = gives; among = there; after = itself }) in
+      let next = hear_reasons Given (heard r) h all (λ f count n gives there. record { at = at; before = before; event = event; of_turn = may; first = first; told = r; rest = rest; reports = is; flow = f; count = count; gives_up = gives; among = there; after = itself }) in
       let split : (first ++ r ∷ []) ++ rest ≡ first ++ r ∷ rest = append_assoc first (r ∷ []) rest in
-      let more = told_doubts (first ++ r ∷ []) rest (is ∙ sym split) (same_calls Given (hear h r).calls _ (ap (λ (k : Halves). k.calls) one) next) in
+      let more = told_reasons (first ++ r ∷ []) rest (is ∙ sym split) (same_calls Given (hear h r).calls _ (ap (λ (k : Halves). k.calls) one) next) in
       same_calls Given _ _ (ap (λ (rs : List Told). (hear_all rs at.halves).calls) (sym split)) more
 
--- A NODE WITHIN A TURN whose doubted calls were given up in it
-pub record Doubts (deed : Deed) (x y : Node) : Type 0 where
+-- A NODE WITHIN A TURN: a call that has given up has a reason in it
+pub record Reasons (deed : Deed) (x y : Node) : Type 0 where
   pub within : Within deed x y
-  pub doubts : All (IsDoubt (WasGivenUp deed x y)) y.halves.calls
+  pub reasons : All (HasReason (WasGivenUp deed x y)) y.halves.calls
 
-pub doubts_hear : (deed : Deed) (x y : Node) (event : Event (Unit {0})) → IsOfTurn deed event → Doubts deed x y → Doubts deed x (happens (moment_told deed) event y)
-doubts_hear deed x y event may d =
+pub reasons_hear : (deed : Deed) (x y : Node) (event : Event (Unit {0})) → IsOfTurn deed event → Reasons deed x y → Reasons deed x (happens (moment_told deed) event y)
+reasons_hear deed x y event may d =
     let z = happens (moment_told deed) event y in
     let on : Within deed y z = hears event may itself in
     record {
       within = within_then d.within on;
-      doubts = told_doubts deed x y event may d.within [] (after_event (moment_told deed) event y.endpoint).reports refl
-          (All-weaker (IsDoubt (WasGivenUp deed x y)) (IsDoubt (WasGivenUp deed x z)) (λ call was doubted. given_on deed x y z call.number (was doubted) on) y.halves.calls d.doubts);
+      reasons = told_reasons deed x y event may d.within [] (after_event (moment_told deed) event y.endpoint).reports refl
+          (All-weaker (HasReason (WasGivenUp deed x y)) (HasReason (WasGivenUp deed x z)) (λ call was has_given_up. given_on deed x y z call.number (was has_given_up) on) y.halves.calls d.reasons);
     }
 
 -- calls that stay
-pub doubts_stay : (deed : Deed) (x y : Node) (h : Halves) → LeavesCalls y.halves h → Doubts deed x y → Doubts deed x (record y { halves = h })
-doubts_stay deed x y h same d =
+pub reasons_stay : (deed : Deed) (x y : Node) (h : Halves) → LeavesCalls y.halves h → Reasons deed x y → Reasons deed x (record y { halves = h })
+reasons_stay deed x y h same d =
     let z : Node = record y { halves = h } in
     let on : Within deed y z = changes h same itself in
     record {
       within = within_then d.within on;
-      doubts = same_calls (WasGivenUp deed x z) y.halves.calls h.calls same.calls (All-weaker (IsDoubt (WasGivenUp deed x y)) (IsDoubt (WasGivenUp deed x z)) (λ call was doubted. given_on deed x y z call.number (was doubted) on) y.halves.calls d.doubts);
+      reasons = same_calls (WasGivenUp deed x z) y.halves.calls h.calls same.calls (All-weaker (HasReason (WasGivenUp deed x y)) (HasReason (WasGivenUp deed x z)) (λ call was has_given_up. given_on deed x y z call.number (was has_given_up) on) y.halves.calls d.reasons);
     }
 
--- a call that is made is not doubted
-pub doubts_call : (deed : Deed) {now patience : ℕ} {payload : List ℕ} (x y : Node) (f : Flow) (count deadline : ℕ) → deed ≡ MakesCall now f payload patience → Doubts deed x y → Doubts deed x (with_halves (with_call f count deadline) y)
-doubts_call deed x y f count deadline asked d =
+-- a call that is made has given up nothing
+pub reasons_call : (deed : Deed) {now patience : ℕ} {payload : List ℕ} (x y : Node) (f : Flow) (count deadline : ℕ) → deed ≡ MakesCall now f payload patience → Reasons deed x y → Reasons deed x (with_halves (with_call f count deadline) y)
+reasons_call deed x y f count deadline asked d =
     let z = with_halves (with_call f count deadline) y in
     let on : Within deed y z = makes f count deadline asked itself in
     record {
       within = within_then d.within on;
-      doubts = All-append (IsDoubt (WasGivenUp deed x z)) y.halves.calls _ (All-weaker (IsDoubt (WasGivenUp deed x y)) (IsDoubt (WasGivenUp deed x z)) (λ call was doubted. given_on deed x y z call.number (was doubted) on) y.halves.calls d.doubts)
-          (All-cons (IsDoubt (WasGivenUp deed x z)) _ [] (λ doubted. absurd cc) (All-nil (IsDoubt (WasGivenUp deed x z))));
+      reasons = All-append (HasReason (WasGivenUp deed x z)) y.halves.calls _ (All-weaker (HasReason (WasGivenUp deed x y)) (HasReason (WasGivenUp deed x z)) (λ call was has_given_up. given_on deed x y z call.number (was has_given_up) on) y.halves.calls d.reasons)
+          (All-cons (HasReason (WasGivenUp deed x z)) _ [] (λ has_given_up. absurd cc) (All-nil (HasReason (WasGivenUp deed x z))));
     }
 
--- a piece may end a call, and doubts none
-answered_doubts : (P : CallNumber → Type 0) (place : ℕ) (cs : List OpenCall) → All (IsDoubt P) cs → All (IsDoubt P) (answered_at place cs)
-answered_doubts P place [] all = All-nil (IsDoubt P)
-answered_doubts P zero (call ∷ cs) all = All-cons (IsDoubt P) _ cs (All-head (IsDoubt P) call cs all) (All-tail (IsDoubt P) call cs all)
-answered_doubts P (suc place) (call ∷ cs) all = All-cons (IsDoubt P) call _ (All-head (IsDoubt P) call cs all) (answered_doubts P place cs (All-tail (IsDoubt P) call cs all))
+-- a piece may end a call, and makes none give up
+answered_reasons : (P : CallNumber → Type 0) (place : ℕ) (cs : List OpenCall) → All (HasReason P) cs → All (HasReason P) (answered_at place cs)
+answered_reasons P place [] all = All-nil (HasReason P)
+answered_reasons P zero (call ∷ cs) all = All-cons (HasReason P) _ cs (All-head (HasReason P) call cs all) (All-tail (HasReason P) call cs all)
+answered_reasons P (suc place) (call ∷ cs) all = All-cons (HasReason P) call _ (All-head (HasReason P) call cs all) (answered_reasons P place cs (All-tail (HasReason P) call cs all))
 
 -- what a piece leaves of calls: the same, or one of them has ended
 whole_calls : (P : List OpenCall → Type 0) (f : Flow) (o : Option (List ℕ)) (h : Halves) → P h.calls → ((place : ℕ) → P (answered_at place h.calls)) → P (take_whole f o h).calls
@@ -192,32 +192,32 @@ whole_calls P f (Some m) h same ended = by_number (has_number m)
 pub piece_calls : (P : List OpenCall → Type 0) (f : Flow) (p : Piece) (h : Halves) → P h.calls → ((place : ℕ) → P (answered_at place h.calls)) → P (take_piece f p h).calls
 piece_calls P f p h same ended = whole_calls P f (whole_within (Some most_octets) (begun_of f h) p) (grown f (begun_of f h) p h) same ended
 
-doubts_take : (deed : Deed) (x y : Node) (f : Flow) (p : Piece) → Doubts deed x y → Doubts deed x (with_halves (take_piece f p) y)
-doubts_take deed x y f p d =
+reasons_take : (deed : Deed) (x y : Node) (f : Flow) (p : Piece) → Reasons deed x y → Reasons deed x (with_halves (take_piece f p) y)
+reasons_take deed x y f p d =
     let z = with_halves (take_piece f p) y in
     let on : Within deed y z = takes f p itself in
     record {
       within = within_then d.within on;
-      doubts = (let all = All-weaker (IsDoubt (WasGivenUp deed x y)) (IsDoubt (WasGivenUp deed x z)) (λ call was doubted. given_on deed x y z call.number (was doubted) on) y.halves.calls d.doubts in piece_calls (λ (cs : List OpenCall). All (IsDoubt (WasGivenUp deed x z)) cs) f p y.halves all (λ place. answered_doubts (WasGivenUp deed x z) place y.halves.calls all));
+      reasons = (let all = All-weaker (HasReason (WasGivenUp deed x y)) (HasReason (WasGivenUp deed x z)) (λ call was has_given_up. given_on deed x y z call.number (was has_given_up) on) y.halves.calls d.reasons in piece_calls (λ (cs : List OpenCall). All (HasReason (WasGivenUp deed x z)) cs) f p y.halves all (λ place. answered_reasons (WasGivenUp deed x z) place y.halves.calls all));
     }
 
-doubts_kept : (deed : Deed) (x : Node) → IsKept (moment_told deed) (λ (y z : Node). Doubts deed x y → Doubts deed x z)
-doubts_kept deed x = record {
+reasons_kept : (deed : Deed) (x : Node) → IsKept (moment_told deed) (λ (y z : Node). Reasons deed x y → Reasons deed x z)
+reasons_kept deed x = record {
   itself = λ y d. d;
   through = λ u v w one two d. two (one d);
-  hears = λ f y d. doubts_hear deed x y (Read f most_read) (of_read f) d;
-  done = λ f y d. doubts_stay deed x y (done_with f y.halves) (record { calls = refl; happenings = refl; closed = refl }) d;
-  takes = λ f p y d. doubts_take deed x y f p d;
-  swept = λ y d. doubts_stay deed x y (sweep y.endpoint.state.host y.halves) (record { calls = refl; happenings = refl; closed = refl }) d;
+  hears = λ f y d. reasons_hear deed x y (Read f most_read) (of_read f) d;
+  done = λ f y d. reasons_stay deed x y (done_with f y.halves) (record { calls = refl; happenings = refl; closed = refl }) d;
+  takes = λ f p y d. reasons_take deed x y f p d;
+  swept = λ y d. reasons_stay deed x y (sweep y.endpoint.state.host y.halves) (record { calls = refl; happenings = refl; closed = refl }) d;
 }
 
-pub doubts_read : (deed : Deed) (x y : Node) → Doubts deed x y → Doubts deed x (read_through (moment_told deed) y)
-doubts_read deed x y d = reads_kept (moment_told deed) (λ (u v : Node). Doubts deed x u → Doubts deed x v) (doubts_kept deed x) y d
+pub reasons_read : (deed : Deed) (x y : Node) → Reasons deed x y → Reasons deed x (read_through (moment_told deed) y)
+reasons_read deed x y d = reads_kept (moment_told deed) (λ (u v : Node). Reasons deed x u → Reasons deed x v) (reasons_kept deed x) y d
 
-pub doubts_begin : (deed : Deed) (x : Node) → All (λ (c : OpenCall). c.doubted ≡ false) x.halves.calls → Doubts deed x x
-doubts_begin deed x sure = record { within = itself; doubts = All-weaker (λ (c : OpenCall). c.doubted ≡ false) (IsDoubt (WasGivenUp deed x x)) (λ call calm doubted. absurd cc) x.halves.calls sure }
+pub reasons_begin : (deed : Deed) (x : Node) → All (λ (c : OpenCall). c.has_given_up ≡ false) x.halves.calls → Reasons deed x x
+reasons_begin deed x sure = record { within = itself; reasons = All-weaker (λ (c : OpenCall). c.has_given_up ≡ false) (HasReason (WasGivenUp deed x x)) (λ call calm has_given_up. absurd cc) x.halves.calls sure }
 
--- WITHIN A TURN nothing is told of unsure calls, and a call that is doubted stays so
+-- WITHIN A TURN nothing is told of unsure calls, and a call that has given up stays so
 pub within_tells : {deed : Deed} {x y : Node} → Within deed x y → Tells x.halves y.halves
 within_tells (itself {x}) = tells_same x.halves x.halves refl refl
 within_tells (makes {x} {y} f count deadline asked more) = let h = with_call f count deadline x.halves in tells_through x.halves h y.halves (tells_same x.halves h refl refl) (within_tells more)
@@ -225,60 +225,60 @@ within_tells {deed} (hears {x} {y} event may more) = tells_through x.halves (hap
 within_tells (takes {x} {y} f piece more) = tells_through x.halves (take_piece f piece x.halves) y.halves (piece_tells f piece x.halves) (within_tells more)
 within_tells (changes {x} {y} h leaves more) = tells_through x.halves h y.halves (tells_same x.halves h leaves.closed leaves.happenings) (within_tells more)
 
-pub record HasDoubted (n : CallNumber) (cs : List OpenCall) : Type 0 where
+pub record HasGivenUp (n : CallNumber) (cs : List OpenCall) : Type 0 where
   pub call : OpenCall
   pub there : Contains cs call
   pub number : call.number ≡ n
-  pub doubted : call.doubted ≡ true
+  pub has_given_up : call.has_given_up ≡ true
 
-doubted_more : (n : CallNumber) (call : OpenCall) (cs : List OpenCall) → HasDoubted n cs → HasDoubted n (call ∷ cs)
-doubted_more n call cs h = record { call = h.call; there = contains_more call h.call cs h.there; number = h.number; doubted = h.doubted }
+given_up_more : (n : CallNumber) (call : OpenCall) (cs : List OpenCall) → HasGivenUp n cs → HasGivenUp n (call ∷ cs)
+given_up_more n call cs h = record { call = h.call; there = contains_more call h.call cs h.there; number = h.number; has_given_up = h.has_given_up }
 
-doubted_first : (n : CallNumber) (call : OpenCall) (cs : List OpenCall) → call.number ≡ n → call.doubted ≡ true → HasDoubted n (call ∷ cs)
-doubted_first n call cs number doubted = record { call = call; there = contains_first call call cs refl; number = number; doubted = doubted }
+given_up_first : (n : CallNumber) (call : OpenCall) (cs : List OpenCall) → call.number ≡ n → call.has_given_up ≡ true → HasGivenUp n (call ∷ cs)
+given_up_first n call cs number has_given_up = record { call = call; there = contains_first call call cs refl; number = number; has_given_up = has_given_up }
 
 -- a call by itself, or among those after it
-doubted_parts : (n : CallNumber) (call : OpenCall) (cs : List OpenCall) → HasDoubted n (call ∷ cs) → ((call.number ≡ n) × (call.doubted ≡ true)) ⊎ HasDoubted n cs
-doubted_parts n call cs h =
+given_up_parts : (n : CallNumber) (call : OpenCall) (cs : List OpenCall) → HasGivenUp n (call ∷ cs) → ((call.number ≡ n) × (call.has_given_up ≡ true)) ⊎ HasGivenUp n cs
+given_up_parts n call cs h =
     elim (contains_parts call h.call cs h.there) [
-      | inl same ↦ inl (ap (λ (c : OpenCall). c.number) same ∙ h.number, ap (λ (c : OpenCall). c.doubted) same ∙ h.doubted)
-      | inr more ↦ inr (record { call = h.call; there = more; number = h.number; doubted = h.doubted })
+      | inl same ↦ inl (ap (λ (c : OpenCall). c.number) same ∙ h.number, ap (λ (c : OpenCall). c.has_given_up) same ∙ h.has_given_up)
+      | inr more ↦ inr (record { call = h.call; there = more; number = h.number; has_given_up = h.has_given_up })
     ]
 
-fates_stay : (n : CallNumber) (given_up : Bool) (f : Flow) (count : ℕ) (cs : List OpenCall) → HasDoubted n cs → HasDoubted n (with_fates given_up f count cs)
+fates_stay : (n : CallNumber) (given_up : Bool) (f : Flow) (count : ℕ) (cs : List OpenCall) → HasGivenUp n cs → HasGivenUp n (with_fates given_up f count cs)
 fates_stay n given_up f count [] h = h
-fates_stay n given_up f count (call ∷ cs) h = by_flow (same_flow call.flow f) (doubted_parts n call cs h) (λ d. fates_stay n given_up f (count - call.left) cs d) (λ d. fates_stay n given_up f count cs d)
+fates_stay n given_up f count (call ∷ cs) h = by_flow (same_flow call.flow f) (given_up_parts n call cs h) (λ d. fates_stay n given_up f (count - call.left) cs d) (λ d. fates_stay n given_up f count cs d)
   where
-    by_flow : (b : Bool) → ((call.number ≡ n) × (call.doubted ≡ true)) ⊎ HasDoubted n cs → (HasDoubted n cs → HasDoubted n (with_fates given_up f (count - call.left) cs)) → (HasDoubted n cs → HasDoubted n (with_fates given_up f count cs))
-        → HasDoubted n (cond b (with_fate given_up count call ∷ with_fates given_up f (count - call.left) cs) (call ∷ with_fates given_up f count cs))
-    by_flow true (inl first) here other = doubted_first n (with_fate given_up count call) _ first.0 (ap (λ (b : Bool). b || (given_up && nat_lt 0 count && nat_lt 0 call.left)) first.1)
-    by_flow true (inr more) here other = doubted_more n (with_fate given_up count call) _ (here more)
-    by_flow false (inl first) here other = doubted_first n call _ first.0 first.1
-    by_flow false (inr more) here other = doubted_more n call _ (other more)
+    by_flow : (b : Bool) → ((call.number ≡ n) × (call.has_given_up ≡ true)) ⊎ HasGivenUp n cs → (HasGivenUp n cs → HasGivenUp n (with_fates given_up f (count - call.left) cs)) → (HasGivenUp n cs → HasGivenUp n (with_fates given_up f count cs))
+        → HasGivenUp n (cond b (with_fate given_up count call ∷ with_fates given_up f (count - call.left) cs) (call ∷ with_fates given_up f count cs))
+    by_flow true (inl first) here other = given_up_first n (with_fate given_up count call) _ first.0 (ap (λ (b : Bool). b || (given_up && nat_lt 0 count && nat_lt 0 call.left)) first.1)
+    by_flow true (inr more) here other = given_up_more n (with_fate given_up count call) _ (here more)
+    by_flow false (inl first) here other = given_up_first n call _ first.0 first.1
+    by_flow false (inr more) here other = given_up_more n call _ (other more)
 
-hear_stay : (n : CallNumber) (what : Heard) (h : Halves) → HasDoubted n h.calls → HasDoubted n (hear_as what h).calls
+hear_stay : (n : CallNumber) (what : Heard) (h : Halves) → HasGivenUp n h.calls → HasGivenUp n (hear_as what h).calls
 hear_stay n (Settles f count) h d = fates_stay n false f count h.calls d
 hear_stay n (GivesUp f count) h d = fates_stay n true f count h.calls d
-hear_stay n (Accepts f) h d = subst (HasDoubted n) (sym (accepted_calls (is_some (kind_in f.to_port h.ports)) f h)) d
+hear_stay n (Accepts f) h d = subst (HasGivenUp n) (sym (accepted_calls (is_some (kind_in f.to_port h.ports)) f h)) d
 hear_stay n NoMatter h d = d
 
-told_stay : (n : CallNumber) (told : List Told) (h : Halves) → HasDoubted n h.calls → HasDoubted n (fold hear h told).calls
+told_stay : (n : CallNumber) (told : List Told) (h : Halves) → HasGivenUp n h.calls → HasGivenUp n (fold hear h told).calls
 told_stay n [] h d = d
 told_stay n (r ∷ told) h d = told_stay n told (hear h r) (hear_stay n (heard r) h d)
 
-answered_stay : (n : CallNumber) (place : ℕ) (cs : List OpenCall) → HasDoubted n cs → HasDoubted n (answered_at place cs)
+answered_stay : (n : CallNumber) (place : ℕ) (cs : List OpenCall) → HasGivenUp n cs → HasGivenUp n (answered_at place cs)
 answered_stay n place [] h = h
-answered_stay n zero (call ∷ cs) h = elim (doubted_parts n call cs h) [ inl here ↦ doubted_first n _ cs here.0 here.1 | inr more ↦ doubted_more n _ cs more ]
-answered_stay n (suc place) (call ∷ cs) h = elim (doubted_parts n call cs h) [ inl here ↦ doubted_first n call _ here.0 here.1 | inr more ↦ doubted_more n call _ (answered_stay n place cs more) ]
+answered_stay n zero (call ∷ cs) h = elim (given_up_parts n call cs h) [ inl here ↦ given_up_first n _ cs here.0 here.1 | inr more ↦ given_up_more n _ cs more ]
+answered_stay n (suc place) (call ∷ cs) h = elim (given_up_parts n call cs h) [ inl here ↦ given_up_first n call _ here.0 here.1 | inr more ↦ given_up_more n call _ (answered_stay n place cs more) ]
 
-within_stay : (n : CallNumber) {deed : Deed} {x y : Node} → Within deed x y → HasDoubted n x.halves.calls → HasDoubted n y.halves.calls
+within_stay : (n : CallNumber) {deed : Deed} {x y : Node} → Within deed x y → HasGivenUp n x.halves.calls → HasGivenUp n y.halves.calls
 within_stay n itself d = d
-within_stay n (makes {x} f count deadline asked more) d = within_stay n more (record { call = d.call; there = Contains-append_left x.halves.calls _ d.call d.there; number = d.number; doubted = d.doubted })
+within_stay n (makes {x} f count deadline asked more) d = within_stay n more (record { call = d.call; there = Contains-append_left x.halves.calls _ d.call d.there; number = d.number; has_given_up = d.has_given_up })
 within_stay n {deed} (hears {x} event may more) d = within_stay n more (told_stay n (after_event (moment_told deed) event x.endpoint).reports x.halves d)
-within_stay n (takes {x} f piece more) d = within_stay n more (piece_calls (HasDoubted n) f piece x.halves d (λ place. answered_stay n place x.halves.calls d))
-within_stay n (changes {x} h leaves more) d = within_stay n more (subst (HasDoubted n) (sym leaves.calls) d)
+within_stay n (takes {x} f piece more) d = within_stay n more (piece_calls (HasGivenUp n) f piece x.halves d (λ place. answered_stay n place x.halves.calls d))
+within_stay n (changes {x} h leaves more) d = within_stay n more (subst (HasGivenUp n) (sym leaves.calls) d)
 
--- A CALL OF WHICH AN OCTET IS GIVEN UP is doubted
+-- A CALL OF WHICH AN OCTET IS GIVEN UP has given up
 some : (k : ℕ) → nat_lt 0 (suc k) ≡ true
 some k = grind (arith, nat_tests)
 
@@ -298,29 +298,29 @@ or_true : (b : Bool) → (b || true) ≡ true
 or_true true = refl
 or_true false = refl
 
-given_doubted : (n : CallNumber) (f : Flow) (count : ℕ) (cs : List OpenCall) → Contains (take count (owners f cs)) n → HasDoubted n (with_fates true f count cs)
-given_doubted n f count [] there = absurd (none_taken count there)
+taken_given_up : (n : CallNumber) (f : Flow) (count : ℕ) (cs : List OpenCall) → Contains (take count (owners f cs)) n → HasGivenUp n (with_fates true f count cs)
+taken_given_up n f count [] there = absurd (none_taken count there)
   where
     none_taken : (k : ℕ) → Contains (take k []) n → ⊥
     none_taken zero there = (let lt = there.1 in omega (arith, lt))
     none_taken (suc k) there = (let lt = there.1 in omega (arith, lt))
-given_doubted n f count (call ∷ cs) there = by_flow (same_flow call.flow f) there (λ more. given_doubted n f (count - call.left) cs more) (λ more. given_doubted n f count cs more)
+taken_given_up n f count (call ∷ cs) there = by_flow (same_flow call.flow f) there (λ more. taken_given_up n f (count - call.left) cs more) (λ more. taken_given_up n f count cs more)
   where
-    by_flow : (b : Bool) → Contains (take count (cond b (replicate call.left call.number ++ owners f cs) (owners f cs))) n → (Contains (take (count - call.left) (owners f cs)) n → HasDoubted n (with_fates true f (count - call.left) cs)) → (Contains (take count (owners f cs)) n → HasDoubted n (with_fates true f count cs))
-        → HasDoubted n (cond b (with_fate true count call ∷ with_fates true f (count - call.left) cs) (call ∷ with_fates true f count cs))
+    by_flow : (b : Bool) → Contains (take count (cond b (replicate call.left call.number ++ owners f cs) (owners f cs))) n → (Contains (take (count - call.left) (owners f cs)) n → HasGivenUp n (with_fates true f (count - call.left) cs)) → (Contains (take count (owners f cs)) n → HasGivenUp n (with_fates true f count cs))
+        → HasGivenUp n (cond b (with_fate true count call ∷ with_fates true f (count - call.left) cs) (call ∷ with_fates true f count cs))
     by_flow true there here other =
         elim (owned count call.left call.number n (owners f cs) there) [
           | inl first ↦
               let now : (nat_lt 0 count && nat_lt 0 call.left) ≡ true = ap (λ (b : Bool). b && nat_lt 0 call.left) first.1 ∙ first.2 in
-              doubted_first n (with_fate true count call) _ first.0 (ap (λ (b : Bool). call.doubted || b) now ∙ or_true call.doubted)
-          | inr later ↦ doubted_more n (with_fate true count call) _ (here later)
+              given_up_first n (with_fate true count call) _ first.0 (ap (λ (b : Bool). call.has_given_up || b) now ∙ or_true call.has_given_up)
+          | inr later ↦ given_up_more n (with_fate true count call) _ (here later)
         ]
-    by_flow false there here other = doubted_more n call _ (other there)
+    by_flow false there here other = given_up_more n call _ (other there)
 
-pub given_stays : (deed : Deed) (x y : Node) (n : CallNumber) → WasGivenUp deed x y n → HasDoubted n y.halves.calls
+pub given_stays : (deed : Deed) (x y : Node) (n : CallNumber) → WasGivenUp deed x y n → HasGivenUp n y.halves.calls
 given_stays deed x y n g =
     let h = hear_all g.first g.at.halves in
-    let now : HasDoubted n (hear h g.told).calls = subst (λ (what : Heard). HasDoubted n (hear_as what h).calls) (sym g.gives_up) (given_doubted n g.flow g.count h.calls g.among) in
+    let now : HasGivenUp n (hear h g.told).calls = subst (λ (what : Heard). HasGivenUp n (hear_as what h).calls) (sym g.gives_up) (taken_given_up n g.flow g.count h.calls g.among) in
     let split : fold hear g.at.halves (g.first ++ g.told ∷ g.rest) ≡ fold hear (hear h g.told) g.rest = fold-append hear g.at.halves g.first (g.told ∷ g.rest) in
-    let behind : HasDoubted n (fold hear g.at.halves (g.first ++ g.told ∷ g.rest)).calls = subst (λ (k : Halves). HasDoubted n k.calls) (sym split) (told_stay n g.rest (hear h g.told) now) in
-    within_stay n g.after (subst (λ (rs : List Told). HasDoubted n (fold hear g.at.halves rs).calls) (sym g.reports) behind)
+    let behind : HasGivenUp n (fold hear g.at.halves (g.first ++ g.told ∷ g.rest)).calls = subst (λ (k : Halves). HasGivenUp n k.calls) (sym split) (told_stay n g.rest (hear h g.told) now) in
+    within_stay n g.after (subst (λ (rs : List Told). HasGivenUp n (fold hear g.at.halves rs).calls) (sym g.reports) behind)

@@ -46,7 +46,7 @@ use Rattle.dt_service_laws.specs.Services.{Arrives, Closes, Deed, Does, FindsNoM
 use Rattle.dt_service_laws.proofs.Accounts.{broken_open, closed_again, closed_now, either_false, either_first, taken_told, told_beside, told_closing, told_more, told_of}
 use Rattle.dt_service_laws.proofs.Answering.{contains_first, contains_more, contains_parts, not_in_none}
 use Rattle.dt_service_laws.proofs.Asked.{all_clear}
-use Rattle.dt_service_laws.proofs.Causes.{Doubts, IsDoubt, doubts_begin, doubts_call, doubts_hear, doubts_read, doubts_stay, given_stays, within_tells}
+use Rattle.dt_service_laws.proofs.Causes.{Reasons, HasReason, reasons_begin, reasons_call, reasons_hear, reasons_read, reasons_stay, given_stays, within_tells}
 use Rattle.dt_service_laws.proofs.Everywhere.{IsOfEach, written_each}
 use Rattle.dt_service_model.proofs.Growing.{NotUnsure, Tells, grows_through, judge_grows, tells_same, tells_stopped}
 use Rattle.dt_service_model.proofs.Halting.{Any}
@@ -54,17 +54,17 @@ use Rattle.dt_service_laws.proofs.Halting.{Halts, IsKeptByDeeds, halts}
 use Rattle.dt_service_laws.proofs.Quiet.{all_filtered}
 use Rattle.dt_service_model.proofs.Walking.{read_through}
 
--- A CALL after a turn: nothing is doubted of it, and its deadline is to come
+-- A CALL after a turn: it has given up nothing, and its deadline is to come
 pub record IsCalm (latest : ℕ) (call : OpenCall) : Type 0 where
-  pub sure : call.doubted ≡ false
+  pub sure : call.has_given_up ≡ false
   pub patient : IsPatient latest call
 
 -- A NODE whose calls have no cause. At one that is closed each has its end
 abbrev pub AreSure : Node → Type 0
 AreSure x = x.halves.closed ≡ false → All (IsCalm x.endpoint.latest) x.halves.calls
 
-undoubted : (x : Node) → x.halves.closed ≡ false → AreSure x → All (λ (c : OpenCall). c.doubted ≡ false) x.halves.calls
-undoubted x open_x sure = All-weaker (IsCalm x.endpoint.latest) (λ (c : OpenCall). c.doubted ≡ false) (λ c s. s.sure) x.halves.calls (sure open_x)
+none_given_up : (x : Node) → x.halves.closed ≡ false → AreSure x → All (λ (c : OpenCall). c.has_given_up ≡ false) x.halves.calls
+none_given_up x open_x sure = All-weaker (IsCalm x.endpoint.latest) (λ (c : OpenCall). c.has_given_up ≡ false) (λ c s. s.sure) x.halves.calls (sure open_x)
 
 -- CALLS ARE JUDGED
 not_unsure : (deed : Deed) (x y : Node) (happening : Happening) → NotUnsure happening → HasCause deed x y happening
@@ -82,20 +82,20 @@ module _ (deed : Deed) (x y : Node) (end : EndsAt deed x y) where
   abbrev moment : ℕ
   moment = moment_of (moment_told deed) end.judges.endpoint
 
-  judged_cause : (call : OpenCall) (rest : List Happening) → Contains end.judges.halves.calls call → IsDoubt (WasGivenUp deed x end.judges) call → All (HasCause deed x y) rest → (a b : Bool) → (call.waits && call.doubted) ≡ a → (call.waits && nat_le call.deadline moment) ≡ b
+  judged_cause : (call : OpenCall) (rest : List Happening) → Contains end.judges.halves.calls call → HasReason (WasGivenUp deed x end.judges) call → All (HasCause deed x y) rest → (a b : Bool) → (call.waits && call.has_given_up) ≡ a → (call.waits && nat_le call.deadline moment) ≡ b
       → All (HasCause deed x y) (cons_option (unsure_by call (cond a (Some cause.GivenUp) (cond b (Some cause.Patience) None))) rest)
-  judged_cause call rest there doubt more true b is over = All-cons (HasCause deed x y) (Unsure call.number cause.GivenUp) rest (end, doubt (and_parts call.waits call.doubted is).1) more
-  judged_cause call rest there doubt more false true is over =
+  judged_cause call rest there reason more true b is over = All-cons (HasCause deed x y) (Unsure call.number cause.GivenUp) rest (end, reason (and_parts call.waits call.has_given_up is).1) more
+  judged_cause call rest there reason more false true is over =
       let p = and_parts call.waits (nat_le call.deadline moment) over in
       All-cons (HasCause deed x y) (Unsure call.number cause.Patience) rest (end, record { call = call; there = there; waits = p.0; number_is = refl; deadline = le_by _ _ p.1 }) more
-  judged_cause call rest there doubt more false false is over = more
+  judged_cause call rest there reason more false false is over = more
 
-  judged_causes : (cs : List OpenCall) → All (Contains end.judges.halves.calls) cs → All (IsDoubt (WasGivenUp deed x end.judges)) cs → All (HasCause deed x y) (filter_map (unsure_of moment) cs)
-  judged_causes [] there doubts = All-nil (HasCause deed x y)
-  judged_causes (call ∷ cs) there doubts =
-      judged_cause call (filter_map (unsure_of moment) cs) (All-head (Contains end.judges.halves.calls) call cs there) (All-head (IsDoubt (WasGivenUp deed x end.judges)) call cs doubts)
-      (judged_causes cs (All-tail (Contains end.judges.halves.calls) call cs there) (All-tail (IsDoubt (WasGivenUp deed x end.judges)) call cs doubts))
-      (call.waits && call.doubted) (call.waits && nat_le call.deadline moment) refl refl
+  judged_causes : (cs : List OpenCall) → All (Contains end.judges.halves.calls) cs → All (HasReason (WasGivenUp deed x end.judges)) cs → All (HasCause deed x y) (filter_map (unsure_of moment) cs)
+  judged_causes [] there reasons = All-nil (HasCause deed x y)
+  judged_causes (call ∷ cs) there reasons =
+      judged_cause call (filter_map (unsure_of moment) cs) (All-head (Contains end.judges.halves.calls) call cs there) (All-head (HasReason (WasGivenUp deed x end.judges)) call cs reasons)
+      (judged_causes cs (All-tail (Contains end.judges.halves.calls) call cs there) (All-tail (HasReason (WasGivenUp deed x end.judges)) call cs reasons))
+      (call.waits && call.has_given_up) (call.waits && nat_le call.deadline moment) refl refl
 
 -- and none is left with a cause
 judged_sure : (latest now : ℕ) → latest ≤ now → (call : OpenCall) (a b : Bool) → (call.waits && nat_le call.deadline now) ≡ b → IsCalm latest (judged_as call (cond a (Some cause.GivenUp) (cond b (Some cause.Patience) None)))
@@ -111,18 +111,18 @@ judged_sure latest now le call false false is = record {
 
 all_judged : (latest now : ℕ) → latest ≤ now → (cs : List OpenCall) → All (IsCalm latest) (map (judged_call now) cs)
 all_judged latest now le [] = All-nil (IsCalm latest)
-all_judged latest now le (call ∷ cs) = All-cons (IsCalm latest) (judged_call now call) (map (judged_call now) cs) (judged_sure latest now le call (call.waits && call.doubted) (call.waits && nat_le call.deadline now) refl) (all_judged latest now le cs)
+all_judged latest now le (call ∷ cs) = All-cons (IsCalm latest) (judged_call now call) (map (judged_call now) cs) (judged_sure latest now le call (call.waits && call.has_given_up) (call.waits && nat_le call.deadline now) refl) (all_judged latest now le cs)
 
 -- WHERE AN OCTET WAS GIVEN UP the call ends
-told_there : (now : ℕ) (call : OpenCall) (cs : List OpenCall) → Contains cs call → call.waits ≡ true → call.doubted ≡ true → Contains (filter_map (unsure_of now) cs) (Unsure call.number cause.GivenUp)
-told_there now call [] there waits doubted = absurd (let lt = there.1 in omega (arith, lt))
-told_there now call (c ∷ cs) there waits doubted =
+told_there : (now : ℕ) (call : OpenCall) (cs : List OpenCall) → Contains cs call → call.waits ≡ true → call.has_given_up ≡ true → Contains (filter_map (unsure_of now) cs) (Unsure call.number cause.GivenUp)
+told_there now call [] there waits has_given_up = absurd (let lt = there.1 in omega (arith, lt))
+told_there now call (c ∷ cs) there waits has_given_up =
     elim (contains_parts c call cs there) [
       | inl same ↦
-          let why : cause_of now c ≡ Some cause.GivenUp = subst (λ (k : OpenCall). cause_of now k ≡ Some cause.GivenUp) (sym same) (ap (λ (b : Bool). cond b (Some cause.GivenUp) (cond (call.waits && nat_le call.deadline now) (Some cause.Patience) None)) (ap (λ (b : Bool). b && call.doubted) waits ∙ doubted)) in
+          let why : cause_of now c ≡ Some cause.GivenUp = subst (λ (k : OpenCall). cause_of now k ≡ Some cause.GivenUp) (sym same) (ap (λ (b : Bool). cond b (Some cause.GivenUp) (cond (call.waits && nat_le call.deadline now) (Some cause.Patience) None)) (ap (λ (b : Bool). b && call.has_given_up) waits ∙ has_given_up)) in
           let first : cons_option (unsure_by c (cause_of now c)) (filter_map (unsure_of now) cs) ≡ Unsure c.number cause.GivenUp ∷ filter_map (unsure_of now) cs = ap (λ (o : Option Cause). cons_option (unsure_by c o) (filter_map (unsure_of now) cs)) why in
           subst (λ (ts : List Happening). Contains ts (Unsure call.number cause.GivenUp)) (sym first) (contains_first (Unsure c.number cause.GivenUp) (Unsure call.number cause.GivenUp) (filter_map (unsure_of now) cs) (ap (λ (k : OpenCall). Unsure k.number cause.GivenUp) same))
-      | inr more ↦ later (unsure_by c (cause_of now c)) (told_there now call cs more waits doubted)
+      | inr more ↦ later (unsure_by c (cause_of now c)) (told_there now call cs more waits has_given_up)
     ]
   where
     later : (o : Option Happening) → Contains (filter_map (unsure_of now) cs) (Unsure call.number cause.GivenUp) → Contains (cons_option o (filter_map (unsure_of now) cs)) (Unsure call.number cause.GivenUp)
@@ -143,7 +143,7 @@ given_up_ends deed x y open_x end n given =
       there = d.there;
       number_is = d.number;
       tells = λ waits.
-          let one = told_there moment d.call z.halves.calls d.there waits d.doubted in
+          let one = told_there moment d.call z.halves.calls d.there waits d.has_given_up in
           subst (λ (m : CallNumber). Contains (told_of x.halves y.halves) (Unsure m cause.GivenUp)) d.number
           (subst (λ (ts : List Happening). Contains ts (Unsure d.call.number cause.GivenUp)) (sym told) (Contains-append_right t.grows.told (filter_map (unsure_of moment) z.halves.calls) (Unsure d.call.number cause.GivenUp) one));
     }
@@ -161,13 +161,13 @@ stays : (deed : Deed) (x y : Node) → y.halves ≡ x.halves → AreSure y → J
 stays deed x y same sure = nothing_told deed x y (ap (told_of x.halves) same ∙ drop-length (told_by x.halves)) sure
 
 -- from a node within the turn on
-ends : (deed : Deed) (x z : Node) → x.halves.closed ≡ false → Doubts deed x z → Judged deed x (turn_end (moment_told deed) z)
+ends : (deed : Deed) (x z : Node) → x.halves.closed ≡ false → Reasons deed x z → Judged deed x (turn_end (moment_told deed) z)
 unfolding grows_through judge_grows
-ends deed x z open_x doubts =
+ends deed x z open_x reasons =
     let now = moment_told deed in
     let r = read_through now z in
     let y = turn_end now z in
-    let d = doubts_read deed x z doubts in
+    let d = reasons_read deed x z reasons in
     let t = within_tells d.within in
     let moment = moment_of now r.endpoint in
     let g = grows_through x.halves r.halves y.halves t.grows (judge_grows moment r.halves) in
@@ -177,15 +177,15 @@ ends deed x z open_x doubts =
     record {
       causes = subst (λ (ts : List Happening). All (HasCause deed x y) ts) (sym (told_more x.halves y.halves open_x g))
           (All-append (HasCause deed x y) t.grows.told (filter_map (unsure_of moment) r.halves.calls) (All-weaker NotUnsure (HasCause deed x y) (λ happening h. not_unsure deed x y happening h) t.grows.told t.sure)
-          (judged_causes deed x y end r.halves.calls (All-contains_itself r.halves.calls) d.doubts));
+          (judged_causes deed x y end r.halves.calls (All-contains_itself r.halves.calls) d.reasons));
       answers = λ m answer there. subst (λ (ts : List Happening). Contains ts (Answered m answer)) told there;
       sure = λ open_y. all_filtered (IsCalm r.endpoint.latest) is_kept (map (judged_call moment) r.halves.calls) (all_judged r.endpoint.latest moment le r.halves.calls);
     }
 
 -- A CALL
-call_doubts : (o : Option Refusal) (deed : Deed) {now patience : ℕ} {payload : List ℕ} (x z : Node) (f : Flow) (count deadline : ℕ) → deed ≡ MakesCall now f payload patience → Doubts deed x z → Doubts deed x (with_halves (with_call_unless o f count deadline) z)
-call_doubts None deed x z f count deadline asked d = doubts_call deed x z f count deadline asked d
-call_doubts (Some r) deed x z f count deadline asked d = d
+call_reasons : (o : Option Refusal) (deed : Deed) {now patience : ℕ} {payload : List ℕ} (x z : Node) (f : Flow) (count deadline : ℕ) → deed ≡ MakesCall now f payload patience → Reasons deed x z → Reasons deed x (with_halves (with_call_unless o f count deadline) z)
+call_reasons None deed x z f count deadline asked d = reasons_call deed x z f count deadline asked d
+call_reasons (Some r) deed x z f count deadline asked d = d
 
 call_judged : (o : Option Made) (now : ℕ) (f : Flow) (payload message : List ℕ) (patience : ℕ) (x : Node) → IsEventOf (MakesCall now f payload patience) (message_event f message) → first_refusal (call_refusals x f payload patience) ≡ o → AreSure x → Judged (MakesCall now f payload patience) x (unless o x (made_by now f message patience x)).1
 call_judged (Some a) now f payload message patience x own is sure = stays (MakesCall now f payload patience) x x refl sure
@@ -196,12 +196,12 @@ call_judged None now f payload message patience x own is sure =
     let z = happens now (message_event f message) x in
     let open_x = either_false x.endpoint.spent x.halves.closed (all_clear (call_refusals x f payload patience) is).0 in
     ends deed x (with_halves (with_call_unless refused f (length message) deadline) z) open_x
-    (call_doubts refused deed x z f (length message) deadline refl (doubts_hear deed x x (message_event f message) (of_deed own) (doubts_begin deed x (undoubted x open_x sure))))
+    (call_reasons refused deed x z f (length message) deadline refl (reasons_hear deed x x (message_event f message) (of_deed own) (reasons_begin deed x (none_given_up x open_x sure))))
 
 -- A REPLY
-forgot_doubts : (o : Option Refusal) (deed : Deed) (x z : Node) (token : Token) → Doubts deed x z → Doubts deed x (with_halves (forgotten_unless o token) z)
-forgot_doubts None deed x z token d = doubts_stay deed x z (forgotten token z.halves) (record { calls = refl; happenings = refl; closed = refl }) d
-forgot_doubts (Some r) deed x z token d = d
+forgot_reasons : (o : Option Refusal) (deed : Deed) (x z : Node) (token : Token) → Reasons deed x z → Reasons deed x (with_halves (forgotten_unless o token) z)
+forgot_reasons None deed x z token d = reasons_stay deed x z (forgotten token z.halves) (record { calls = refl; happenings = refl; closed = refl }) d
+forgot_reasons (Some r) deed x z token d = d
 
 reply_judged : (o : Option Replied) (now : ℕ) (token : Token) (payload message : List ℕ) (x : Node) → IsEventOf (GivesReply now token payload) (message_event (reversed token.flow) message) → first_refusal (reply_refusals x token payload) ≡ o → AreSure x → Judged (GivesReply now token payload) x (unless o x (replied_by now token message x)).1
 reply_judged (Some a) now token payload message x own is sure = stays (GivesReply now token payload) x x refl sure
@@ -211,18 +211,18 @@ reply_judged None now token payload message x own is sure =
     let z = happens now (message_event (reversed token.flow) message) x in
     let open_x = either_false x.endpoint.spent x.halves.closed (all_clear (reply_refusals x token payload) is).0 in
     ends deed x (with_halves (forgotten_unless refused token) z) open_x
-    (forgot_doubts refused deed x z token (doubts_hear deed x x (message_event (reversed token.flow) message) (of_deed own) (doubts_begin deed x (undoubted x open_x sure))))
+    (forgot_reasons refused deed x z token (reasons_hear deed x x (message_event (reversed token.flow) message) (of_deed own) (reasons_begin deed x (none_given_up x open_x sure))))
 
 forget_judged : (o : Option Forgot) (now : ℕ) (token : Token) (x : Node) → first_refusal (forget_refusals x token) ≡ o → AreSure x → Judged (Forgets now token) x (unless o x (forgot.Done, turn_end now (with_halves (forgotten token) x))).1
 forget_judged (Some a) now token x is sure = stays (Forgets now token) x x refl sure
 forget_judged None now token x is sure =
     let open_x = either_false x.endpoint.spent x.halves.closed (either_first (is_closed x) _ (all_clear (forget_refusals x token) is).0) in
     ends (Forgets now token) x (with_halves (forgotten token) x) open_x
-    (doubts_stay (Forgets now token) x x (forgotten token x.halves) (record { calls = refl; happenings = refl; closed = refl }) (doubts_begin (Forgets now token) x (undoubted x open_x sure)))
+    (reasons_stay (Forgets now token) x x (forgotten token x.halves) (record { calls = refl; happenings = refl; closed = refl }) (reasons_begin (Forgets now token) x (none_given_up x open_x sure)))
 
 tick_judged : (b : Bool) (now : ℕ) (x : Node) → is_closed x ≡ b → AreSure x → Judged (Ticks now) x (cond {A = Ticked × Node} b (ticked.Spent, x) (ticked.Done, turn now Tick x)).1
 tick_judged true now x is sure = stays (Ticks now) x x refl sure
-tick_judged false now x is sure = let open_x = either_false x.endpoint.spent x.halves.closed is in ends (Ticks now) x (happens now Tick x) open_x (doubts_hear (Ticks now) x x Tick (of_deed refl) (doubts_begin (Ticks now) x (undoubted x open_x sure)))
+tick_judged false now x is sure = let open_x = either_false x.endpoint.spent x.halves.closed is in ends (Ticks now) x (happens now Tick x) open_x (reasons_hear (Ticks now) x x Tick (of_deed refl) (reasons_begin (Ticks now) x (none_given_up x open_x sure)))
 
 arrive_judged : (c : Bool) (o : Option Received) (now link : ℕ) (datagram : List ℕ) (waited : ℕ) (x : Node) → is_closed x ≡ c → AreSure x
     → Judged (Arrives now link datagram waited) x (cond {A = Received × Node} c (arrived.Spent, x) (or_counted o x (arrived.Done, turn now (arrive_event link datagram waited) x))).1
@@ -232,7 +232,7 @@ arrive_judged false None now link datagram waited x is sure =
     let event = arrive_event link datagram waited in
     let open_x = either_false x.endpoint.spent x.halves.closed is in
     let deed = Arrives now link datagram waited in
-    ends deed x (happens now event x) open_x (doubts_hear deed x x event (of_deed refl) (doubts_begin deed x (undoubted x open_x sure)))
+    ends deed x (happens now event x) open_x (reasons_hear deed x x event (of_deed refl) (reasons_begin deed x (none_given_up x open_x sure)))
 
 -- WHAT IS NO TURN
 kind_judged : (port : ℕ) (o : Option PortKind) (kind : PortKind) (x : Node) → AreSure x → Judged (GivesKind port kind) x (with_halves (with_port port o kind) x)

@@ -65,7 +65,7 @@ judged_account : (n : CallNumber) (now : ℕ) (calls : List OpenCall) → waits_
 judged_account n now [] = refl
 judged_account n now (call ∷ calls) =
     judged_with n call (cause_of now call) (map (judged_call now) calls) (filter_map (unsure_of now) calls) (waits_in n calls) (judged_account n now calls)
-    ∙ ap (λ (k : ℕ). k + waits_in n calls) (counted_when (same_number call.number n) call.waits call.doubted (nat_le call.deadline now))
+    ∙ ap (λ (k : ℕ). k + waits_in n calls) (counted_when (same_number call.number n) call.waits call.has_given_up (nat_le call.deadline now))
 
 pub judge_keeps : (n : CallNumber) (now : ℕ) (h : Halves) → account n (judge now h) ≡ account n h
 judge_keeps n now h =
@@ -103,7 +103,7 @@ cause_as now call None = refl
 cause_as now call (Some c) = refl
 
 sure_one : (now : ℕ) (call : OpenCall) → cause_of now (judged_call now call) ≡ None
-sure_one now call = cause_as now call (cause_of now call) ∙ sure_when call.waits call.doubted (nat_le call.deadline now)
+sure_one now call = cause_as now call (cause_of now call) ∙ sure_when call.waits call.has_given_up (nat_le call.deadline now)
 
 sure_if : (now : ℕ) (b : Bool) (call : OpenCall) (calls : List OpenCall) → cause_of now call ≡ None → list_any (has_cause now) calls ≡ false → list_any (has_cause now) (cond b (call ∷ calls) calls) ≡ false
 sure_if now true call calls h e = ap (λ (o : Option Cause). is_some o || list_any (has_cause now) calls) h ∙ e

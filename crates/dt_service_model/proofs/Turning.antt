@@ -59,7 +59,7 @@ answered_waits n m f d (suc i) (call ∷ calls) lt h = let e = answered_waits n 
 reply_keeps : (n m : CallNumber) (f : Flow) (answer : List ℕ) (h : Halves) (o : Option ℕ) → position (is_waiting_call f m) h.calls ≡ o → account n (take_reply_at o m answer h) ≡ account n h
 reply_keeps n m f answer h None is = refl
 reply_keeps n m f answer h (Some i) is =
-    let d : OpenCall = record { number = m; flow = f; deadline = 0; left = 0; waits = false; doubted = false } in
+    let d : OpenCall = record { number = m; flow = f; deadline = 0; left = 0; waits = false; has_given_up = false } in
     let at = position-Some (is_waiting_call f m) h.calls i d is in
     let a = answered_waits n m f d i h.calls at.0 at.1 in
     let b = ends_append n h.happenings (Answered m answer ∷ []) in

@@ -67,7 +67,7 @@ abbrev pub next_number : Halves → CallNumber
 next_number h = number_with h.life h.count
 
 abbrev pub new_call : Flow → (count deadline : ℕ) → Halves → OpenCall
-new_call f count deadline h = record { number = next_number h; flow = f; deadline = deadline; left = count; waits = true; doubted = false }
+new_call f count deadline h = record { number = next_number h; flow = f; deadline = deadline; left = count; waits = true; has_given_up = false }
 
 abbrev pub with_call : Flow → (count deadline : ℕ) → Halves → Halves
 with_call f count deadline h = record h { count = h.count + 1; calls = h.calls ++ new_call f count deadline h ∷ [] }

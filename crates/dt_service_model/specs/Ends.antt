@@ -10,7 +10,7 @@ use Rattle.dt_service_model.specs.Halves.{Halves}
 -- WHY A CALL IS UNSURE at a moment, if it is: it waits, and an octet of its request was given up, or else its patience is over
 abbrev pub cause_of : (now : ℕ) → OpenCall → Option Cause
 cause_of now call =
-    if call.waits && call.doubted then Some cause.GivenUp
+    if call.waits && call.has_given_up then Some cause.GivenUp
     else if call.waits && nat_le call.deadline now then Some cause.Patience
     else None
 
@@ -22,8 +22,8 @@ unsure_of now call = unsure_by call (cause_of now call)
 
 -- what is kept of it: nothing once it has an end and each octet its fate
 abbrev pub judged_as : OpenCall → Option Cause → OpenCall
-judged_as call None = record call { doubted = false }
-judged_as call (Some cause) = record call { waits = false; doubted = false }
+judged_as call None = record call { has_given_up = false }
+judged_as call (Some cause) = record call { waits = false; has_given_up = false }
 
 abbrev pub judged_call : (now : ℕ) → OpenCall → OpenCall
 judged_call now call = judged_as call (cause_of now call)

@@ -34,9 +34,9 @@ heard_by matter.Neither = NoMatter
 abbrev pub heard : Told → Heard
 heard told = heard_by (matter_of told)
 
--- SO MANY OCTETS OF A FLOW HAVE THEIR FATE, the leftmost first: those of its calls, in the order of making. A call of which one was given up is doubted.
+-- SO MANY OCTETS OF A FLOW HAVE THEIR FATE, the leftmost first: those of its calls, in the order of making. A call of which one was given up has given up.
 abbrev pub with_fate : (given_up : Bool) → (count : ℕ) → OpenCall → OpenCall
-with_fate given_up count call = record call { left = call.left - count; doubted = call.doubted || (given_up && nat_lt 0 count && nat_lt 0 call.left) }
+with_fate given_up count call = record call { left = call.left - count; has_given_up = call.has_given_up || (given_up && nat_lt 0 count && nat_lt 0 call.left) }
 
 abbrev pub with_fates : (given_up : Bool) → Flow → (count : ℕ) → List OpenCall → List OpenCall
 with_fates given_up f count [] = []

@@ -14,7 +14,7 @@ pub struct OpenCall {
     /// Whether it has no end yet.
     pub waits: bool,
     /// Whether an octet of the request was given up since the last turn.
-    pub doubted: bool,
+    pub has_given_up: bool,
 }
 
 /// Why a call ended without an answer. It was served once or not at all, and may still be.

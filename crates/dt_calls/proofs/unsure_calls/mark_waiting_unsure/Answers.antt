@@ -1,8 +1,8 @@
 use Rattle.std.proofs.Common.{ℕ, ◌+◌, ◌≡◌, ◌<◌, ◌≤◌, List, drop, length, refl, sym, ap, subst, ◌∙◌, arith, rules}
 use Rattle.dt_calls_model.specs.CallStep.{becomes_unsure}
 use Rattle.dt_calls.specs.Parts.{calls_seen}
-use Rattle.dt_calls.proofs.DoubtParts.{is_there, same_read, sure_next, to_number, unsure_next}
-use Rattle.dt_calls.proofs.DoubtWaiting.{DoubtsTo, all_doubted, none_from}
+use Rattle.dt_calls.proofs.JudgeParts.{is_there, same_read, sure_next, to_number, unsure_next}
+use Rattle.dt_calls.proofs.JudgeWaiting.{JudgesTo, all_judged, none_from}
 use Rattle.dt_calls.proofs.unsure_calls.mark_waiting_unsure.Goals as goal
 use Rattle.dt_calls.proofs.unsure_calls.mark_waiting_unsure.Goals.{then-becomes_unsure, else-becomes_unsure}
 
@@ -54,6 +54,6 @@ returns-clause-goes g c =
     let loop = c.loop-place.parts in
     let inv = c.loop-place.invariant in
     let past : length fn.waiting.items ≤ c.loop-place.place = search rules in
-    let to = subst (λ (ns : List ℕ). DoubtsTo g.L.CallLines.tells fn.world.state fn.calls.items c.args.lines.now ns loop.calls.items c.loop-place.lines) (none_from fn.waiting.items c.loop-place.place past) inv.to in
-    let gone = all_doubted g.L.CallLines.tells fn.world.state fn.calls.items c.args.lines.now loop.calls.items c.loop-place.lines to (calls_seen fn) refl refl in
+    let to = subst (λ (ns : List ℕ). JudgesTo g.L.CallLines.tells fn.world.state fn.calls.items c.args.lines.now ns loop.calls.items c.loop-place.lines) (none_from fn.waiting.items c.loop-place.place past) inv.to in
+    let gone = all_judged g.L.CallLines.tells fn.world.state fn.calls.items c.args.lines.now loop.calls.items c.loop-place.lines to (calls_seen fn) refl refl in
     record { lines = gone.lines; calls = ap calls_seen inv.same ∙ gone.calls }

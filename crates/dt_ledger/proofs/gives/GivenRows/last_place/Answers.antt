@@ -5,7 +5,7 @@ use Rattle.dt_ledger.specs.declared.gives.Give.{Give}
 use Rattle.dt_ledger.proofs.Giving.{IsLast, last_is}
 use Rattle.dt_ledger.proofs.gives.GivenRows.last_place.Goals as goal
 
--- the last stretch, by what the call of `last` says
+-- the last give, by what the call of `last` says
 last : (c : goal.In-Some) → IsLast c.self.inside.gives.items c.self.inside.octets.items c.in-Some.give.now
 last c =
     let gives = c.self.inside.gives.items in

@@ -5,4 +5,4 @@ use Rattle.dt_send.proofs.Scans.{HasPassed}
 use Rattle.dt_send.proofs.send_buffer.SendBuffer.acknowledged.Given as goal
 
 abbrev pub invariant-loop-place : goal.invariant-loop-place
-invariant-loop-place l = (l.end ≡ l.self.left + octets_in (take l.place l.self.stretches.items)) × HasPassed l.rules l.number l.self.left (record_of l.self).outstanding l.place l.end
+invariant-loop-place l = (l.end ≡ l.self.left + octets_in (take l.place l.self.outstanding_segments.items)) × HasPassed l.rules l.number l.self.left (record_of l.self).outstanding l.place l.end

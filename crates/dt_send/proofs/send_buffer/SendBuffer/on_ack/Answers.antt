@@ -7,14 +7,14 @@ use Rattle.dt_send.specs.declared.send_buffer.SendBuffer.{SendBuffer}
 use Rattle.dt_send.specs.SendBuffer.{IsSendBuffer, record_of}
 use Rattle.dt_send.proofs.RingLemmas.{bounded, held_fits}
 use Rattle.dt_send.proofs.StepLemmas.{acked_is, acked_rings, front_count}
-use Rattle.dt_send.proofs.StretchLemmas.{octets_in-parts}
+use Rattle.dt_send.proofs.SentSegmentLemmas.{octets_in-parts}
 use Rattle.dt_send.proofs.send_buffer.SendBuffer.on_ack.Goals as goal
 
 pub overflow_add-self : goal.overflow_add-self
-overflow_add-self c = omega (arith, c.in-Some.ensures.end.end_is, octets_in-parts c.args.self.now.stretches.items c.in-Some.segments, bounded c.args.rules.now c.args.self.now c.requires.rings, c.requires.rings.lie)
+overflow_add-self c = omega (arith, c.in-Some.ensures.end.end_is, octets_in-parts c.args.self.now.outstanding_segments.items c.in-Some.segments, bounded c.args.rules.now c.args.self.now c.requires.rings, c.requires.rings.lie)
 
 pub overflow_cast-result : goal.overflow_cast-result
-overflow_cast-result c = omega (arith, c.in-Some.ensures.end.end_is, octets_in-parts c.args.self.now.stretches.items c.in-Some.segments, held_fits c.args.rules.now c.args.self.now c.requires.rings, c.requires.rings.lie, c.requires.rings.limits.cap)
+overflow_cast-result c = omega (arith, c.in-Some.ensures.end.end_is, octets_in-parts c.args.self.now.outstanding_segments.items c.in-Some.segments, held_fits c.args.rules.now c.args.self.now c.requires.rings, c.requires.rings.lie, c.requires.rings.limits.cap)
 
 pub returns-clause-rings : goal.returns-clause-rings
 returns-clause-rings c =

@@ -6,17 +6,17 @@ use Rattle.dt_send.proofs.RingLemmas.{bounded}
 use Rattle.dt_send.proofs.SendLemmas.{again_acts, again_is_segment, again_late, again_rings, again_there, place_there}
 use Rattle.dt_send.proofs.send_buffer.SendBuffer.resend.Goals as goal
 
-pub stretch_at-stretch-requires : goal.stretch_at-stretch-requires
-stretch_at-stretch-requires c = place_there c.args.occasion.now.rules.now c.args.occasion.now.at c.args.occasion.now.timely c.args.self.now c.requires.rings c.requires.chosen c.in-Some.place c.in-Some.field-0-1 c.in-Some.ensures
+pub sent_segment_at-sent_segment-requires : goal.sent_segment_at-sent_segment-requires
+sent_segment_at-sent_segment-requires c = place_there c.args.occasion.now.rules.now c.args.occasion.now.at c.args.occasion.now.timely c.args.self.now c.requires.rings c.requires.chosen c.in-Some.place c.in-Some.field-0-1 c.in-Some.ensures
 
 pub transmit-cut-requires-clause-there : goal.transmit-cut-requires-clause-there
-transmit-cut-requires-clause-there c = again_there c.args.occasion.now.rules.now c.args.occasion.now.at c.args.occasion.now.timely c.args.self.now c.requires.rings c.requires.chosen c.in-Some.place c.in-Some.field-0-1 c.in-Some.ensures c.stretch_at-stretch.result c.stretch_at-stretch.ensures
+transmit-cut-requires-clause-there c = again_there c.args.occasion.now.rules.now c.args.occasion.now.at c.args.occasion.now.timely c.args.self.now c.requires.rings c.requires.chosen c.in-Some.place c.in-Some.field-0-1 c.in-Some.ensures c.sent_segment_at-sent_segment.result c.sent_segment_at-sent_segment.ensures
 
 pub transmit-cut-requires-clause-bounded : goal.transmit-cut-requires-clause-bounded
 transmit-cut-requires-clause-bounded c = bounded c.args.occasion.now.rules.now c.args.self.now c.requires.rings
 
 pub transmit-cut-requires-clause-segment : goal.transmit-cut-requires-clause-segment
-transmit-cut-requires-clause-segment c = again_is_segment c.args.occasion.now.rules.now c.args.occasion.now.at c.args.occasion.now.timely c.args.self.now c.requires.rings c.requires.chosen c.in-Some.place c.in-Some.field-0-1 c.in-Some.ensures c.stretch_at-stretch.result c.stretch_at-stretch.ensures (c.stretch_at-stretch.result.offset - c.args.self.now.left) refl
+transmit-cut-requires-clause-segment c = again_is_segment c.args.occasion.now.rules.now c.args.occasion.now.at c.args.occasion.now.timely c.args.self.now c.requires.rings c.requires.chosen c.in-Some.place c.in-Some.field-0-1 c.in-Some.ensures c.sent_segment_at-sent_segment.result c.sent_segment_at-sent_segment.ensures (c.sent_segment_at-sent_segment.result.offset - c.args.self.now.left) refl
 
 pub note_again-requires-clause-there : goal.note_again-requires-clause-there
 note_again-requires-clause-there c = place_there c.args.occasion.now.rules.now c.args.occasion.now.at c.args.occasion.now.timely c.args.self.now c.requires.rings c.requires.chosen c.in-Some.place c.in-Some.field-0-1 c.in-Some.ensures
@@ -26,12 +26,12 @@ note_again-requires-clause-late c = again_late c.args.occasion.now.rules.now c.a
 
 pub returns-clause-rings : goal.returns-clause-rings
 returns-clause-rings c =
-    let s = c.stretch_at-stretch.result in
-    subst (λ (j : SendBuffer). IsSendBuffer c.args.occasion.now.rules.now j) (sym (c.note_again.ensures s c.stretch_at-stretch.ensures))
-    (again_rings c.args.occasion.now.rules.now c.args.occasion.now.at c.args.occasion.now.timely c.args.self.now c.requires.rings c.requires.chosen c.in-Some.place c.in-Some.field-0-1 c.in-Some.ensures s c.stretch_at-stretch.ensures)
+    let s = c.sent_segment_at-sent_segment.result in
+    subst (λ (j : SendBuffer). IsSendBuffer c.args.occasion.now.rules.now j) (sym (c.note_again.ensures s c.sent_segment_at-sent_segment.ensures))
+    (again_rings c.args.occasion.now.rules.now c.args.occasion.now.at c.args.occasion.now.timely c.args.self.now c.requires.rings c.requires.chosen c.in-Some.place c.in-Some.field-0-1 c.in-Some.ensures s c.sent_segment_at-sent_segment.ensures)
 
 pub returns-clause-acts : goal.returns-clause-acts
 returns-clause-acts c =
-    let s = c.stretch_at-stretch.result in
-    subst (λ (j : SendBuffer). Acts c.args.occasion.now.rules.now c.args.occasion.now.flow.now c.args.occasion.now.at (record_of c.args.self.now) (Resent c.transmit-cut.result) (record_of j) c.args.frame.now c.transmit-cut.new.frame) (sym (c.note_again.ensures s c.stretch_at-stretch.ensures))
-    (again_acts c.args.occasion.now.rules.now c.args.occasion.now.at c.args.occasion.now.timely c.args.self.now c.requires.rings c.requires.chosen c.in-Some.place c.in-Some.field-0-1 c.in-Some.ensures s c.stretch_at-stretch.ensures c.args.occasion.now.flow.now c.transmit-cut.result (s.offset - c.args.self.now.left) c.args.frame.now c.transmit-cut.new.frame refl c.transmit-cut.ensures.cut c.transmit-cut.ensures.frame)
+    let s = c.sent_segment_at-sent_segment.result in
+    subst (λ (j : SendBuffer). Acts c.args.occasion.now.rules.now c.args.occasion.now.flow.now c.args.occasion.now.at (record_of c.args.self.now) (Resent c.transmit-cut.result) (record_of j) c.args.frame.now c.transmit-cut.new.frame) (sym (c.note_again.ensures s c.sent_segment_at-sent_segment.ensures))
+    (again_acts c.args.occasion.now.rules.now c.args.occasion.now.at c.args.occasion.now.timely c.args.self.now c.requires.rings c.requires.chosen c.in-Some.place c.in-Some.field-0-1 c.in-Some.ensures s c.sent_segment_at-sent_segment.ensures c.args.occasion.now.flow.now c.transmit-cut.result (s.offset - c.args.self.now.left) c.args.frame.now c.transmit-cut.new.frame refl c.transmit-cut.ensures.cut c.transmit-cut.ensures.frame)

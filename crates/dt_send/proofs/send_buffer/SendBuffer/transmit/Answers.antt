@@ -15,7 +15,7 @@ append_octets-requires-clause-bounded c = omega (arith, c.requires.bounded)
 
 pub returns-clause-cut : goal.returns-clause-cut
 returns-clause-cut c =
-    let s = c.args.stretch.now in
+    let s = c.args.sent_segment.now in
     let from = s.offset - c.args.self.now.left in
     let all = c.args.self.now.items.items in
     let items = take s.length (drop from all) in
@@ -28,7 +28,7 @@ returns-clause-cut c =
 
 pub returns-clause-frame : goal.returns-clause-frame
 returns-clause-frame c =
-    let s = c.args.stretch.now in
+    let s = c.args.sent_segment.now in
     let f = c.args.occasion.now.flow.now in
     let from = s.offset - c.args.self.now.left in
     let all = c.args.self.now.items.items in

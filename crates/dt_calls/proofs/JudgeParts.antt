@@ -1,4 +1,4 @@
--- The calls of the parts are doubted one after another.
+-- The calls of the parts are judged one after another.
 use Rattle.std.proofs.Common.{ℕ, zero, suc, ◌+◌, ◌≡◌, ◌<◌, ◌≤◌, Bool, true, false, List, [], ◌∷◌, length, set, get_or, take, drop, Some, refl, ap, sym, subst, ◌∙◌, arith}
 use Rattle.std.specs.Prelude.{◌||◌, slice_get}
 use Rattle.std.specs.List.{list_any}
@@ -13,7 +13,7 @@ use Rattle.dt_calls_model.specs.CallTold as told
 use Rattle.dt_calls_model.specs.CallTold.{CallEntry}
 use Rattle.dt_calls.specs.declared.world_calls.CallsParts.{CallsParts}
 use Rattle.dt_calls.specs.Waiting.{Covers}
-use Rattle.dt_calls.proofs.DoubtWaiting.{DoubtsTo, call_is_there, drop_at, looked_sure, looked_unsure}
+use Rattle.dt_calls.proofs.JudgeWaiting.{JudgesTo, call_is_there, drop_at, looked_sure, looked_unsure}
 use Rattle.dt_calls.proofs.Waiting.{covers_set}
 
 -- one item, read twice
@@ -22,20 +22,20 @@ same_read xs i x y h e f = e ∙ get_or_default xs i x y h ∙ sym f
 
 -- THE DOUBTS HAVE COME to the number that is looked at, which is that of a call
 module _ {H L : Type 0} (tells : L → CallEntry → L → Type 0) (fn loop : CallsParts H) (l m : L) (i k : ℕ) (less : i < length fn.waiting.items) (same : loop ≡ record fn { calls = loop.calls }) (number : k ≡ get_or loop.waiting.items i k)
-    (on : DoubtsTo tells fn.world.state fn.calls.items l (drop i fn.waiting.items) loop.calls.items m) where
-  pub to_number : DoubtsTo tells fn.world.state fn.calls.items l (k ∷ drop (i + 1) fn.waiting.items) loop.calls.items m
-  to_number = subst (λ (ns : List ℕ). DoubtsTo tells fn.world.state fn.calls.items l ns loop.calls.items m) (drop_at i fn.waiting.items k less (subst (λ (p : CallsParts H). k ≡ get_or p.waiting.items i k) same number)) on
+    (on : JudgesTo tells fn.world.state fn.calls.items l (drop i fn.waiting.items) loop.calls.items m) where
+  pub to_number : JudgesTo tells fn.world.state fn.calls.items l (k ∷ drop (i + 1) fn.waiting.items) loop.calls.items m
+  to_number = subst (λ (ns : List ℕ). JudgesTo tells fn.world.state fn.calls.items l ns loop.calls.items m) (drop_at i fn.waiting.items k less (subst (λ (p : CallsParts H). k ≡ get_or p.waiting.items i k) same number)) on
 
   pub is_there : k < length loop.calls.items
   is_there = call_is_there tells fn.world.state fn.calls.items l loop.calls.items m k (drop (i + 1) fn.waiting.items) to_number
 
 pub record Next {H L : Type 0} (tells : L → CallEntry → L → Type 0) (fn : CallsParts H) (l : L) (ks : List ℕ) (after : CallsParts H) (n : L) : Type 0 where
-  pub to : DoubtsTo tells fn.world.state fn.calls.items l ks after.calls.items n
+  pub to : JudgesTo tells fn.world.state fn.calls.items l ks after.calls.items n
   pub same : after ≡ record fn { calls = after.calls }
   pub covers : Covers 0 fn.waiting.items after.calls.items
 
 module _ {H L : Type 0} (tells : L → CallEntry → L → Type 0) (fn loop after : CallsParts H) (l m n : L) (k : ℕ) (ks : List ℕ) (x : Call)
-    (to : DoubtsTo tells fn.world.state fn.calls.items l (k ∷ ks) loop.calls.items m) (same : loop ≡ record fn { calls = loop.calls }) (covers : Covers 0 fn.waiting.items loop.calls.items)
+    (to : JudgesTo tells fn.world.state fn.calls.items l (k ∷ ks) loop.calls.items m) (same : loop ≡ record fn { calls = loop.calls }) (covers : Covers 0 fn.waiting.items loop.calls.items)
     (is : x ≡ get_or loop.calls.items k x) (changed : after ≡ record loop { calls = after.calls }) where
   still : after ≡ record fn { calls = after.calls }
   still = changed ∙ ap (λ (p : CallsParts H). let q : CallsParts H = record p { calls = after.calls } in q) same
@@ -45,8 +45,8 @@ module _ {H L : Type 0} (tells : L → CallEntry → L → Type 0) (fn loop afte
 
   pub sure_next : becomes_unsure loop.world.state x ≡ false → after.calls.items ≡ loop.calls.items → n ≡ m → Next tells fn l ks after n
   sure_next sure items lines = record {
-    to = subst (λ (o : L). DoubtsTo tells fn.world.state fn.calls.items l ks after.calls.items o) (sym lines)
-        (subst (λ (cs : List Call). DoubtsTo tells fn.world.state fn.calls.items l ks cs m) (sym items)
+    to = subst (λ (o : L). JudgesTo tells fn.world.state fn.calls.items l ks after.calls.items o) (sym lines)
+        (subst (λ (cs : List Call). JudgesTo tells fn.world.state fn.calls.items l ks cs m) (sym items)
         (looked_sure tells fn.world.state fn.calls.items l loop.calls.items m k ks to x is (ap (λ (w : World). becomes_unsure w x) (sym world_is) ∙ sure)));
     same = still;
     covers = subst (λ (cs : List Call). Covers 0 fn.waiting.items cs) (sym items) covers;
@@ -54,7 +54,7 @@ module _ {H L : Type 0} (tells : L → CallEntry → L → Type 0) (fn loop afte
 
   pub unsure_next : (moment : ℕ) → becomes_unsure loop.world.state x ≡ true → after.calls.items ≡ set loop.calls.items k (record x { state = state.Unsure }) → moment ≡ fn.world.state.now → tells m (record { moment = moment; told = told.Unsure k }) n → Next tells fn l ks after n
   unsure_next moment unsure items at tell = record {
-    to = subst (λ (cs : List Call). DoubtsTo tells fn.world.state fn.calls.items l ks cs n) (sym items)
+    to = subst (λ (cs : List Call). JudgesTo tells fn.world.state fn.calls.items l ks cs n) (sym items)
         (looked_unsure tells fn.world.state fn.calls.items l loop.calls.items m k ks to x is (ap (λ (w : World). becomes_unsure w x) (sym world_is) ∙ unsure) n (subst (λ (t : ℕ). tells m (record { moment = t; told = told.Unsure k }) n) at tell));
     same = still;
     covers = subst (λ (cs : List Call). Covers 0 fn.waiting.items cs) (sym items) (covers_set 0 fn.waiting.items loop.calls.items k (record x { state = state.Unsure }) (λ e. absurd cc) covers);

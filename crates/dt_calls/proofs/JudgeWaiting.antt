@@ -5,14 +5,14 @@ use Rattle.std.proofs.lemmas.List.{get_or_default}
 use Rattle.dt_world_model.specs.World.{World}
 use Rattle.dt_calls_model.specs.declared.calls.Call.{Call}
 use Rattle.dt_calls_model.specs.declared.calls.CallState.TheVariants as state
-use Rattle.dt_calls_model.specs.CallStep.{becomes_unsure, doubt_all, is_posted_in_vain, is_replied_in_vain, is_waiting}
+use Rattle.dt_calls_model.specs.CallStep.{becomes_unsure, judge_all, is_posted_in_vain, is_replied_in_vain, is_waiting}
 use Rattle.dt_calls_model.specs.CallTold as told
 use Rattle.dt_calls_model.specs.CallTold.{CallEntry}
 use Rattle.dt_calls_model.specs.Calls.{Calls, call_in, no_call}
 use Rattle.dt_calls_model.specs.Messages.{reversed}
 use Rattle.dt_calls.specs.Courses.{HasGoneOn}
 use Rattle.dt_calls.specs.Waiting.{Covers}
-use Rattle.dt_calls.proofs.Doubts.{DoubtsOn, begun, ended, next_sure, next_unsure}
+use Rattle.dt_calls.proofs.Verdicts.{JudgesOn, begun, ended, next_sure, next_unsure}
 use Rattle.dt_calls.proofs.Waiting.{covers_drop, covers_there}
 
 -- LISTS from a place on
@@ -68,44 +68,44 @@ sure_if : (w : World) (call : Call) → is_waiting call.state ≡ false → beco
 sure_if w call not = not_both (is_waiting call.state) (is_posted_in_vain w call.flow call.request || is_replied_in_vain w (reversed call.flow) call.reply) not
 
 module _ {L : Type 0} (tells : L → CallEntry → L → Type 0) (w : World) (all : List Call) (l : L) where
-  -- The doubts have come to a call, and these numbers are left.
-  pub record DoubtsTo (ks : List ℕ) (calls : List Call) (m : L) : Type 0 where
+  -- Those before a call are judged, and these numbers are left.
+  pub record JudgesTo (ks : List ℕ) (calls : List Call) (m : L) : Type 0 where
     pub at : ℕ
-    pub on : DoubtsOn tells w all l at calls m
+    pub on : JudgesOn tells w all l at calls m
     pub left : Covers at ks (drop at calls)
 
-  pub starts : (ks : List ℕ) → Covers 0 ks all → DoubtsTo ks all l
+  pub starts : (ks : List ℕ) → Covers 0 ks all → JudgesTo ks all l
   starts ks h = record { at = 0; on = begun tells w all l; left = h }
 
   record Reached (k : ℕ) (ks : List ℕ) (calls : List Call) (m : L) : Type 0 where
     there : k < length calls
-    on : DoubtsOn tells w all l k calls m
+    on : JudgesOn tells w all l k calls m
     left : Covers (suc k) ks (drop (suc k) calls)
 
   module _ (calls : List Call) (m : L) where
     -- a call that doesn't wait is passed over
-    pass : (at : ℕ) (x : Call) (xs : List Call) → drop at calls ≡ x ∷ xs → is_waiting x.state ≡ false → DoubtsOn tells w all l at calls m → DoubtsOn tells w all l (suc at) calls m
-    pass at x xs is not on = subst (λ (n : ℕ). DoubtsOn tells w all l n calls m) (add-one at) (next_sure tells w all l at calls m on x (drop_there at calls x xs is) (drop_first at calls x xs is) (sure_if w x not))
+    pass : (at : ℕ) (x : Call) (xs : List Call) → drop at calls ≡ x ∷ xs → is_waiting x.state ≡ false → JudgesOn tells w all l at calls m → JudgesOn tells w all l (suc at) calls m
+    pass at x xs is not on = subst (λ (n : ℕ). JudgesOn tells w all l n calls m) (add-one at) (next_sure tells w all l at calls m on x (drop_there at calls x xs is) (drop_first at calls x xs is) (sure_if w x not))
 
-    reach : (rest : List Call) (at k : ℕ) (ks : List ℕ) → drop at calls ≡ rest → Covers at (k ∷ ks) rest → DoubtsOn tells w all l at calls m → Reached k ks calls m
+    reach : (rest : List Call) (at k : ℕ) (ks : List ℕ) → drop at calls ≡ rest → Covers at (k ∷ ks) rest → JudgesOn tells w all l at calls m → Reached k ks calls m
     reach [] at k ks is h on = absurd h
     reach (x ∷ xs) at k ks is (inl h) on = record {
       there = subst (λ (n : ℕ). n < length calls) (sym h.0) (drop_there at calls x xs is);
-      on = subst (λ (n : ℕ). DoubtsOn tells w all l n calls m) (sym h.0) on;
+      on = subst (λ (n : ℕ). JudgesOn tells w all l n calls m) (sym h.0) on;
       left = subst (λ (n : ℕ). Covers (suc n) ks (drop (suc n) calls)) (sym h.0) (subst (λ (r : List Call). Covers (suc at) ks r) (sym (drop_rest at calls x xs is)) h.1);
     }
     reach (x ∷ xs) at k ks is (inr h) on = reach xs (suc at) k ks (drop_rest at calls x xs is) h.1 (pass at x xs is h.0 on)
 
-    pass_all : (rest : List Call) (at : ℕ) → drop at calls ≡ rest → Covers at [] rest → DoubtsOn tells w all l at calls m → (n : ℕ) × (length calls ≤ n) × DoubtsOn tells w all l n calls m
+    pass_all : (rest : List Call) (at : ℕ) → drop at calls ≡ rest → Covers at [] rest → JudgesOn tells w all l at calls m → (n : ℕ) × (length calls ≤ n) × JudgesOn tells w all l n calls m
     pass_all [] at is h on = (at, drop_past at calls is, on)
     pass_all (x ∷ xs) at is h on = pass_all xs (suc at) (drop_rest at calls x xs is) h.1 (pass at x xs is h.0 on)
 
-    pub all_doubted : DoubtsTo [] calls m → (c : Calls) → c.world ≡ w → c.calls ≡ all → HasGoneOn tells doubt_all c l m (record c { calls = calls })
-    all_doubted to c is_world is_all =
+    pub all_judged : JudgesTo [] calls m → (c : Calls) → c.world ≡ w → c.calls ≡ all → HasGoneOn tells judge_all c l m (record c { calls = calls })
+    all_judged to c is_world is_all =
         let e = pass_all (drop to.at calls) to.at refl to.left to.on in
         ended tells w all l e.0 calls m e.2 e.1 c is_world is_all
 
-    module _ (k : ℕ) (ks : List ℕ) (to : DoubtsTo (k ∷ ks) calls m) where
+    module _ (k : ℕ) (ks : List ℕ) (to : JudgesTo (k ∷ ks) calls m) where
       reached : Reached k ks calls m
       reached = reach (drop to.at calls) to.at k ks refl to.left to.on
 
@@ -113,14 +113,14 @@ module _ {L : Type 0} (tells : L → CallEntry → L → Type 0) (w : World) (al
       call_is_there = reached.there
 
       module _ (call : Call) (is : call ≡ get_or calls k call) where
-        pub looked_sure : becomes_unsure w call ≡ false → DoubtsTo ks calls m
+        pub looked_sure : becomes_unsure w call ≡ false → JudgesTo ks calls m
         looked_sure sure = record {
           at = k + 1;
           on = next_sure tells w all l k calls m reached.on call reached.there is sure;
           left = subst (λ (n : ℕ). Covers n ks (drop n calls)) (sym (add-one k)) reached.left;
         }
 
-        pub looked_unsure : becomes_unsure w call ≡ true → (n : L) → tells m (record { moment = w.now; told = told.Unsure k }) n → DoubtsTo ks (set calls k (record call { state = state.Unsure })) n
+        pub looked_unsure : becomes_unsure w call ≡ true → (n : L) → tells m (record { moment = w.now; told = told.Unsure k }) n → JudgesTo ks (set calls k (record call { state = state.Unsure })) n
         looked_unsure unsure n tell =
             let new : Call = record call { state = state.Unsure } in
             record {
