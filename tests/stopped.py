@@ -145,10 +145,19 @@ def late(deltat: str) -> tuple[bool, bool, bool]:
     return settled, read, "7a" * 4000 in told
 
 
+def tried(deltat: str) -> tuple[bool, bool, bool]:
+    """The same. A run whose sender wasn't blocked shows nothing, and there is another attempt, unless it lost octets."""
+    for _ in range(ATTEMPTS):
+        settled, read, waits = late(deltat)
+        if waits or (settled and not read):
+            break
+    return settled, read, waits
+
+
 def frames(deltat: str, runs: int) -> tuple[bool, str]:
     """So many runs of a sender whose frames leave late."""
     with ThreadPoolExecutor(AT_ONCE) as pool:
-        found = list(pool.map(lambda _: late(deltat), range(runs)))
+        found = list(pool.map(lambda _: tried(deltat), range(runs)))
     lost = sum(settled and not read for settled, read, _ in found)
     count = sum(it for _, _, it in found)
     return lost == 0 and count == runs, f"octets were acknowledged and never delivered in {lost} of {runs} runs, {count} of which blocked"
