@@ -6,12 +6,12 @@ tests/library/fuzz.c, and of services by fuzz_service.c.
 [--input FILE] [--plain]`; an --input wants an --only. The heads of both files tell what an input is and where it is a
 fault. Each of the two has the time that is given.
 
-With --minutes libFuzzer draws the inputs: those that reach other code of the library, or make something happen behind
-something else for the first time, are kept and drawn from again. For that the library's code is compiled once more: rattle
-proves crates/dt_c and hands what it would compile to a compiler between, which keeps it; then clang compiles the
-same with the address sanitizer in each function and a counter at each branch. So a read or a write beyond a block is
-seen in the library itself, not in its caller alone. It wants `rt` and a clang with libFuzzer. With --plain the archive is
-linked as it is, which is faster, and only what happens is counted.
+With --minutes libFuzzer draws the inputs, of both side by side: those that reach other code of the library, or make
+something happen behind something else for the first time, are kept and drawn from again. For that the library's code is
+compiled once more: rattle proves crates/dt_c and hands what it would compile to a compiler between, which keeps it; then
+clang compiles the same with the address sanitizer in each function and a counter at each branch. So a read or a write
+beyond a block is seen in the library itself, not in its caller alone. It wants `rt` and a clang with libFuzzer. With
+--plain the archive is linked as it is, which is faster, and only what happens is counted.
 
 With --seconds the archive is linked as it is by gcc or clang, and inputs are drawn by chance. Ends with 1 where an input
 fails, which is kept, cut down to the records that it takes, in a folder that is named; with 77 where there is no compiler
@@ -26,8 +26,10 @@ import shutil
 import subprocess
 import sys
 import tempfile
+import threading
 import time
 from collections.abc import Sequence
+from concurrent.futures import ThreadPoolExecutor
 from typing import NamedTuple
 
 from lib import TOP, skip
@@ -46,6 +48,8 @@ COMPILER = next((it for it in ("clang", "gcc") if shutil.which(it)), None)
 HEAD, RECORD, MOST = 24, 4, 24 + 4 * 300
 # the inputs that are tried until one is a fault of a spoilt library
 ENOUGH = 4_000
+# of the folder where inputs are kept, and of what is said
+ALONE = threading.Lock()
 
 
 class Source(NamedTuple):
@@ -169,26 +173,36 @@ def by_coverage(source: Source, program: pathlib.Path, single: pathlib.Path, min
     # a busy machine lets an input wait: what is slow by the clock alone is no fault
     words = [program, corpus, f"-max_total_time={max(int(minutes * 60), 1)}", f"-seed={seed}", f"-max_len={MOST}", "-len_control=0", "-timeout=3600",
              "-report_slow_units=3600", "-rss_limit_mb=3000", "-print_final_stats=1", "-verbosity=1", f"-artifact_prefix={found}/"]
-    begun, before = time.monotonic(), os.times()
-    ran = run(words)
-    seconds, after = time.monotonic() - begun, os.times()
-    processor = after.children_user + after.children_system - before.children_user - before.children_system
-    figures = dict(re.findall(r"(?m)^stat::(\w+): +(\d+)", ran.stderr))
-    reached = re.findall(r"cov: (\d+) ft: (\d+) corp: (\d+)", ran.stderr)
-    branches = re.search(r"\((\d+) inline 8-bit counters\)", ran.stderr)
+    begun = time.monotonic()
+    status, wrote, processor = measured(words)
+    seconds = time.monotonic() - begun
+    figures = dict(re.findall(r"(?m)^stat::(\w+): +(\d+)", wrote))
+    reached = re.findall(r"cov: (\d+) ft: (\d+) corp: (\d+)", wrote)
+    branches = re.search(r"\((\d+) inline 8-bit counters\)", wrote)
     cov, features, kept_count = reached[-1] if reached else ("0", "0", "0")
     print(f"{source.name}: {figures.get('number_of_executed_units', '?')} inputs in {seconds:.0f} s, {processor:.0f} s of processor; {cov} branches reached"
           f"{f' of {branches[1]}' if branches else ''}, {features} features, {kept_count} inputs kept; at most {figures.get('peak_rss_mb', '?')} MB; seed {seed}")
     artifacts = sorted(found.iterdir())
-    if ran.returncode == 0 and not artifacts:
+    if status == 0 and not artifacts:
         return 0
-    fault = re.search(r"(?m)^fuzz\w*\.[ch]:\d+: at record", ran.stderr)
-    said = ran.stderr[fault.start():] if fault else ran.stderr[-4000:]
+    fault = re.search(r"(?m)^fuzz\w*\.[ch]:\d+: at record", wrote)
+    said = wrote[fault.start():] if fault else wrote[-4000:]
     if not artifacts:
         print(said)
-    for it in artifacts:
-        keep(source, single, it.read_bytes(), said, folder, kept)
+    with ALONE:
+        for it in artifacts:
+            keep(source, single, it.read_bytes(), said, folder, kept)
     return 1
+
+
+def measured(words: Sequence[str | pathlib.Path]) -> tuple[int, str, float]:
+    """The status of a command, what it wrote on standard error, and its seconds of processor."""
+    with tempfile.TemporaryFile("w+", errors="replace") as wrote:
+        child = subprocess.Popen([str(it) for it in words], stdin=subprocess.DEVNULL, stdout=subprocess.DEVNULL, stderr=wrote)
+        _, status, used = os.wait4(child.pid, 0)
+        child.returncode = os.waitstatus_to_exitcode(status)
+        wrote.seek(0)
+        return child.returncode, wrote.read(), used.ru_utime + used.ru_stime
 
 
 def positive(word: str) -> float:
@@ -236,10 +250,14 @@ def main() -> int:
             if unseen:
                 print(f"no fault found with a library that is spoilt in the way {', '.join(map(str, unseen))} of {it.spoil}")
                 return 1
-        code = None
-        if given.minutes and not given.input:
-            code = archive if given.plain else instrumented(folder)
-        return max([tried(it, code, folder, given) for it in sources])
+        if given.input or not given.minutes:
+            return max([tried(it, None, folder, given) for it in sources])
+        code = archive if given.plain else instrumented(folder)
+        rooms = [folder / it.name for it in sources]
+        for it in rooms:
+            it.mkdir()
+        with ThreadPoolExecutor(len(sources)) as pool:
+            return max(pool.map(lambda it, room: tried(it, code, room, given), sources, rooms))
 
 
 if __name__ == "__main__":

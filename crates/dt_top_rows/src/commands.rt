@@ -1,7 +1,8 @@
 //! The top call over the forms in memory: worked inputs of each command, each a row of a table, and each
 //! way in which reading and writing can fail.
+use crate::rows::is_cut_off;
 use dt_edges::MemWire;
-use dt_trial::{FREELY, RunResult, Trial, Untried, ends, is_cut_short, tried, tried_over};
+use dt_trial::{FREELY, RunResult, Trial, Untried, ends, tried, tried_over};
 use std::alloc::Global;
 use std::test::Fail;
 
@@ -109,7 +110,7 @@ end 70
 ";
 
 /// The parameters of a schedule, what stands after its setup, its log and its status.
-const SCHEDULES: [(&str, &str, &str, u8); 15] = [
+static SCHEDULES: [(&str, &str, &str, u8); 15] = [
     (PARAMS, "", "end 0\n", 0),
     (PARAMS, "\n# nothing\n", "end 0\n", 0),
     (
@@ -169,7 +170,7 @@ fn worked_schedules(rt: HostRuntime) -> Result<(), Fail> {
 
 /// A command and its whole input, what is written and the status. An input of `replay` that ends early is
 /// refused; of the two logs that are audited one has a flaw.
-const INPUTS: [(&str, &str, &str, u8); 7] = [
+static INPUTS: [(&str, &str, &str, u8); 7] = [
     ("replay", "", "line 1: order\n", 3),
     ("replay", "params 1000", "line 1: count\n", 3),
     ("replay", "station 1 0\n", "line 1: order\n", 3),
@@ -356,20 +357,6 @@ fn five_thousand_rounds(rt: HostRuntime) -> Result<(), Fail> {
     Ok(())
 }
 
-/// Whether the trial is cut off at each room below that for what it writes.
-fn is_cut_off(alloc: Global, trial: &Trial<'_>, whole: &[u8]) -> Result<bool, Untried> {
-    for room in 0..whole.len() {
-        let less = Trial {
-            out_room: room,
-            ..*trial
-        };
-        if !is_cut_short(alloc, &less, whole)? {
-            return Ok(false);
-        }
-    }
-    Ok(true)
-}
-
 #[test]
 fn a_schedule_that_finds_no_room(rt: HostRuntime) -> Result<(), Fail> {
     let one = joined(rt.alloc(), &[PARAMS, SETUP, ONE_ROUND])?;
@@ -419,7 +406,7 @@ const SENDS: &str = "0 1 took 1:10>2:20 5\n0 1 sent 1:10>2:20 0 5 dbe\n0 1 put 1
 const NODE_LOG: &str = "0 1 took 1:10>2:20 5\n0 1 sent 1:10>2:20 0 5 dbe\n0 1 put 1 999\nend 100\n";
 
 /// Whether the wire fails to open, the node's readings, its status, its log, and what is said.
-const NODE_ENDS: [(bool, [u64; 2], u8, &str, &str); 3] = [
+static NODE_ENDS: [(bool, [u64; 2], u8, &str, &str); 3] = [
     (false, [1000, 1100], 0, NODE_LOG, ""),
     (true, [1000, 1100], 5, "", "wire failed\n"),
     (false, [1000, 1000], 6, SENDS, "clock stands still\n"),
@@ -479,7 +466,7 @@ const CALL: &str = "call 1:10>2:20 010203\narrive 0\narrive 2\n";
 const CALL_TEXT: &str = "0 call 0 1:10>2:20 3\n0 served 0\n0 answered 0 030201\n";
 
 /// What stands after these, what is reported of it, and the status.
-const CALLS: [(&str, &str, u8); 3] = [
+static CALLS: [(&str, &str, u8); 3] = [
     (
         "",
         "calls 1 served 1 answered 1 unsure 0 declined 0 waiting 0\nend 0\n",

@@ -139,28 +139,59 @@ const HEARD: &str = "10 2 accepted 1:10>2:20 0 5 run
 end 100
 ";
 
+/// What comes to the node, one datagram at each reading, and what it is to write of them.
+#[derive(Drop)]
+struct Arrivals {
+    wire: MemWire,
+    readings: Vec<u64>,
+    log: String,
+}
+
+impl Arrivals {
+    /// Nothing has come yet.
+    fn new(alloc: Global) -> Result<Self, Fail> {
+        Ok(Arrivals {
+            wire: calm_wire(alloc)?,
+            readings: vec![in alloc; 1000]?,
+            log: String::new(alloc),
+        })
+    }
+
+    /// These octets come at 10, of which the node writes this.
+    fn add(&mut self, octets: &[u8], lines: &str) -> Result<(), Fail> {
+        self.wire.add_take(1, octets).ok().ok_or("memory")?;
+        self.readings.push(1010)?;
+        self.log.push_str(lines)?;
+        Ok(())
+    }
+
+    /// The frame comes with this octet changed, where it is refused for that.
+    fn add_refused(&mut self, alloc: Global, change: ChangedOctet) -> Result<(), Fail> {
+        match change.fault(alloc)? {
+            Some(fault) if change.octets() != FRAME => {
+                let line = format!(in alloc; "10 2 bad {fault}\n")?;
+                self.add(&change.octets(), line.as_str())
+            }
+            _ => Ok(()),
+        }
+    }
+
+    /// Whether the node that they come to writes that, and ends at 100.
+    fn are_heard(&mut self, alloc: Global) -> Result<bool, Fail> {
+        self.readings.push(1100)?;
+        Ok(writes(alloc, &mut self.wire, &self.readings, self.log.as_str())?)
+    }
+}
+
 /// Whether the node reports each frame that is refused for this octet, and then hears the frame itself as
 /// if none had come.
 fn refuses_at(alloc: Global, place: usize) -> Result<bool, Fail> {
-    let mut wire = calm_wire(alloc)?;
-    let mut readings = vec![in alloc; 1000]?;
-    let mut log = String::new(alloc);
+    let mut arrivals = Arrivals::new(alloc)?;
     for value in 0..=255 {
-        let change = ChangedOctet { place, value };
-        let octets = change.octets();
-        if let Some(fault) = change.fault(alloc)?
-            && octets != FRAME
-        {
-            wire.add_take(1, &octets).ok().ok_or("memory")?;
-            readings.push(1010)?;
-            log.push_str(format!(in alloc; "10 2 bad {fault}\n")?.as_str())?;
-        }
+        arrivals.add_refused(alloc, ChangedOctet { place, value })?;
     }
-    wire.add_take(1, &FRAME).ok().ok_or("memory")?;
-    readings.push(1010)?;
-    readings.push(1100)?;
-    log.push_str(HEARD)?;
-    Ok(writes(alloc, &mut wire, &readings, log.as_str())?)
+    arrivals.add(&FRAME, HEARD)?;
+    arrivals.are_heard(alloc)
 }
 
 #[test]

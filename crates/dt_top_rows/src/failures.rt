@@ -1,5 +1,6 @@
 //! Each failure, and what the program does then.
-use dt_trial::{FREELY, Trial, ends, is_cut_short};
+use crate::rows::{TrialRow, first_other, is_cut_off};
+use dt_trial::{FREELY, Trial, ends};
 use std::test::Fail;
 
 /// A message is sent, acknowledged and read.
@@ -122,28 +123,114 @@ const AUDIT: Trial<'static> = Trial {
     ..FREELY
 };
 
+/// Where nothing fails.
+static CALM: [TrialRow; 4] = [
+    TrialRow {
+        trial: REPLAY,
+        status: 0,
+        out: SHORT_LOG,
+        said: b"",
+    },
+    TrialRow {
+        trial: NODE,
+        status: 0,
+        out: NODE_LOG,
+        said: b"",
+    },
+    TrialRow {
+        trial: CALLS,
+        status: 0,
+        out: ANSWERS,
+        said: b"",
+    },
+    TrialRow {
+        trial: AUDIT,
+        status: 0,
+        out: b"audit yes\n",
+        said: b"",
+    },
+];
+
+/// Where the text of the status finds no room, the wire fails or loses what it is given, or the clock stands still.
+static FAILING: [TrialRow; 6] = [
+    TrialRow {
+        trial: Trial {
+            err_room: 0,
+            ..FREELY
+        },
+        status: 3,
+        out: b"line 1: order\n",
+        said: b"",
+    },
+    TrialRow {
+        trial: Trial {
+            open_fails: true,
+            ..NODE
+        },
+        status: 5,
+        out: b"",
+        said: b"wire failed\n",
+    },
+    TrialRow {
+        trial: Trial {
+            failing_takes: &[1],
+            ..NODE
+        },
+        status: 5,
+        out: SENT,
+        said: b"wire failed\n",
+    },
+    TrialRow {
+        trial: Trial {
+            failing_takes: &[2],
+            ..NODE
+        },
+        status: 5,
+        out: SETTLED,
+        said: b"wire failed\n",
+    },
+    TrialRow {
+        trial: Trial {
+            failing_gives: &[1],
+            ..NODE
+        },
+        status: 0,
+        out: UNSENT_LOG,
+        said: b"",
+    },
+    TrialRow {
+        trial: Trial {
+            readings: &[1000],
+            takes: &[],
+            ..NODE
+        },
+        status: 6,
+        out: SENT,
+        said: b"clock stands still\n",
+    },
+];
+
 #[test]
 fn nothing_fails(rt: HostRuntime) -> Result<(), Fail> {
-    let alloc = rt.alloc();
-    assert!(rt; ends(alloc, &REPLAY, 0, SHORT_LOG, b"")?);
-    assert!(rt; ends(alloc, &NODE, 0, NODE_LOG, b"")?);
-    assert!(rt; ends(alloc, &CALLS, 0, ANSWERS, b"")?);
-    assert!(rt; ends(alloc, &AUDIT, 0, b"audit yes\n", b"")?);
+    assert_eq!(rt; first_other(rt.alloc(), &CALM)?, None);
+    Ok(())
+}
+
+#[test]
+fn a_text_a_wire_or_a_clock_fails(rt: HostRuntime) -> Result<(), Fail> {
+    assert_eq!(rt; first_other(rt.alloc(), &FAILING)?, None);
     Ok(())
 }
 
 #[test]
 fn a_read_fails(rt: HostRuntime) -> Result<(), Fail> {
-    for trial in &[REPLAY, NODE, CALLS, AUDIT] {
-        for read in 1..=2 {
+    for row in &CALM {
+        for failing_reads in &[[1], [2]] {
             let failing = Trial {
-                failing_reads: &[read],
-                ..*trial
+                failing_reads,
+                ..row.trial
             };
-            assert!(rt;
-                ends(rt.alloc(), &failing, 7, b"", b"read failed\n")?,
-                "{read}"
-            );
+            assert!(rt; ends(rt.alloc(), &failing, 7, b"", b"read failed\n")?);
         }
     }
     Ok(())
@@ -151,67 +238,8 @@ fn a_read_fails(rt: HostRuntime) -> Result<(), Fail> {
 
 #[test]
 fn a_log_finds_no_room(rt: HostRuntime) -> Result<(), Fail> {
-    let rows = [
-        (REPLAY, SHORT_LOG),
-        (NODE, NODE_LOG),
-        (CALLS, ANSWERS),
-        (AUDIT, b"audit yes\n".as_slice()),
-    ];
-    for (trial, log) in &rows {
-        for room in 0..log.len() {
-            let less = Trial {
-                out_room: room,
-                ..*trial
-            };
-            assert!(rt; is_cut_short(rt.alloc(), &less, log)?, "{room}");
-        }
+    for row in &CALM {
+        assert!(rt; is_cut_off(rt.alloc(), &row.trial, row.out)?);
     }
-    Ok(())
-}
-
-#[test]
-fn the_text_of_the_status_finds_no_room(rt: HostRuntime) -> Result<(), Fail> {
-    let empty = Trial {
-        err_room: 0,
-        ..FREELY
-    };
-    assert!(rt; ends(rt.alloc(), &empty, 3, b"line 1: order\n", b"")?);
-    Ok(())
-}
-
-#[test]
-fn the_wire_fails(rt: HostRuntime) -> Result<(), Fail> {
-    let alloc = rt.alloc();
-    let closed = Trial {
-        open_fails: true,
-        ..NODE
-    };
-    assert!(rt; ends(alloc, &closed, 5, b"", b"wire failed\n")?);
-    let first = Trial {
-        failing_takes: &[1],
-        ..NODE
-    };
-    assert!(rt; ends(alloc, &first, 5, SENT, b"wire failed\n")?);
-    let second = Trial {
-        failing_takes: &[2],
-        ..NODE
-    };
-    assert!(rt; ends(alloc, &second, 5, SETTLED, b"wire failed\n")?);
-    let lost = Trial {
-        failing_gives: &[1],
-        ..NODE
-    };
-    assert!(rt; ends(alloc, &lost, 0, UNSENT_LOG, b"")?);
-    Ok(())
-}
-
-#[test]
-fn the_clock_stands_still(rt: HostRuntime) -> Result<(), Fail> {
-    let still = Trial {
-        readings: &[1000],
-        takes: &[],
-        ..NODE
-    };
-    assert!(rt; ends(rt.alloc(), &still, 6, SENT, b"clock stands still\n")?);
     Ok(())
 }

@@ -13,3 +13,5 @@ mod failures;
 mod inputs;
 #[cfg(test)]
 mod retraces;
+#[cfg(test)]
+mod rows;
