@@ -1,23 +1,14 @@
 //! Traces, written and read.
-use dt_edges::{Address, Clock, MemSink, Wire};
+use dt_edges::{Address, Clock, Failed, MemSink, MemWire, Wire};
 use dt_items::NoMemory;
 use dt_reports::LineFault;
 use dt_trace::{Input, Trace, TraceFault, put_input, read_trace};
 use std::alloc::Global;
-use std::process::Abort;
 use std::test::Fail;
 
 /// The trace is read.
 fn read(alloc: Global, text: &str) -> Result<Trace, TraceFault> {
     read_trace(alloc, text.as_bytes())
-}
-
-/// This line of the trace is refused for this fault.
-fn refuses(rt: &impl Abort, alloc: Global, text: &str, line: u64, fault: LineFault) {
-    match read(alloc, text) {
-        Err(found) => assert_eq!(rt; found, TraceFault::Line { line, fault }, "{text}"),
-        Ok(_) => assert!(rt; false, "{text}"),
-    }
 }
 
 #[test]
@@ -40,32 +31,57 @@ fn lines_are_written(rt: HostRuntime) -> Result<(), Fail> {
     Ok(())
 }
 
+/// A trace of readings, of what takes found and of gives that failed.
+const TRACE: &str = "@ 1000\n! 2\n< 1 0aFF\n@ 1040\n< -\n! 7\n< 255\n< x\n@ 5";
+
+/// Where a node of it listens.
+const LOCAL: Address = Address {
+    ip: [127, 0, 0, 1],
+    port: 4000,
+};
+
 #[test]
-fn lines_are_read(rt: HostRuntime) -> Result<(), Fail> {
-    let alloc = rt.alloc();
-    let text = "@ 1000\n! 2\n< 1 0aFF\n@ 1040\n< -\n! 7\n< 255\n< x\n@ 5";
-    let trace = read(alloc, text)?;
-    let mut clock = trace.clock(alloc)?;
-    assert_eq!(rt; clock.now(), 1000);
-    assert_eq!(rt; clock.now(), 1040);
-    assert_eq!(rt; clock.now(), 5);
-    assert_eq!(rt; clock.now(), 5);
-    let mut wire = trace.wire(alloc)?;
-    let local = Address {
-        ip: [127, 0, 0, 1],
-        port: 4000,
-    };
-    assert!(rt; wire.open(local, &[]).is_ok());
+fn readings_are_read(rt: HostRuntime) -> Result<(), Fail> {
+    let mut clock = read(rt.alloc(), TRACE)?.clock(rt.alloc())?;
+    for reading in [1000, 1040, 5, 5] {
+        assert_eq!(rt; clock.now(), reading);
+    }
+    Ok(())
+}
+
+/// The wire of the trace, open.
+fn open_wire(alloc: Global) -> Result<MemWire, Fail> {
+    let mut wire = read(alloc, TRACE)?.wire(alloc)?;
+    wire.open(LOCAL, &[]).ok().ok_or("closed")?;
+    Ok(wire)
+}
+
+/// What each take of the wire finds.
+static TAKES: [Result<Option<(u16, usize)>, Failed>; 5] = [
+    Ok(Some((1, 2))),
+    Ok(None),
+    Ok(Some((255, 0))),
+    Err(Failed),
+    Ok(None),
+];
+
+#[test]
+fn takes_are_read(rt: HostRuntime) -> Result<(), Fail> {
+    let mut wire = open_wire(rt.alloc())?;
     let mut buffer = [0; 4];
-    assert!(rt; wire.take(1, &mut buffer) == Ok(Some((1, 2))));
-    assert!(rt; buffer[0] == 10 && buffer[1] == 255);
-    assert!(rt; wire.take(1, &mut buffer) == Ok(None));
-    assert!(rt; wire.take(1, &mut buffer) == Ok(Some((255, 0))));
-    assert!(rt; wire.take(1, &mut buffer).is_err());
-    assert!(rt; wire.take(1, &mut buffer) == Ok(None));
-    assert!(rt; wire.give(1, &[1]).is_ok());
-    assert!(rt; wire.give(1, &[1]).is_err());
-    assert!(rt; wire.give(1, &[1]).is_ok());
+    for found in &TAKES {
+        assert!(rt; wire.take(1, &mut buffer) == *found);
+        assert!(rt; buffer[0] == 10 && buffer[1] == 255);
+    }
+    Ok(())
+}
+
+#[test]
+fn gives_are_read(rt: HostRuntime) -> Result<(), Fail> {
+    let mut wire = open_wire(rt.alloc())?;
+    for is_sent in [true, false, true] {
+        assert!(rt; wire.give(1, &[1]).is_ok() == is_sent);
+    }
     Ok(())
 }
 
@@ -73,36 +89,42 @@ fn lines_are_read(rt: HostRuntime) -> Result<(), Fail> {
 fn an_empty_trace_reads_zero(rt: HostRuntime) -> Result<(), Fail> {
     let trace = read(rt.alloc(), "! 0\n")?;
     assert_eq!(rt; trace.clock(rt.alloc())?.now(), 0);
-    let local = Address {
-        ip: [127, 0, 0, 1],
-        port: 4000,
-    };
-    assert!(rt; trace.wire(rt.alloc())?.open(local, &[]).is_err());
+    assert!(rt; trace.wire(rt.alloc())?.open(LOCAL, &[]).is_err());
     Ok(())
 }
 
+/// A trace, the line at which it is refused, and the fault.
+static REFUSED: [(&str, u64, LineFault); 20] = [
+    ("? 1\n", 1, LineFault::Word),
+    ("@ 1\n\n@ 2\n", 2, LineFault::Word),
+    ("# @ 1\n", 1, LineFault::Word),
+    ("@\n", 1, LineFault::Count),
+    ("@ 1 2\n", 1, LineFault::Count),
+    ("@ 01\n", 1, LineFault::Number),
+    ("@ 18446744073709551616\n", 1, LineFault::Number),
+    ("<\n", 1, LineFault::Count),
+    ("< - 00\n", 1, LineFault::Count),
+    ("< x 00\n", 1, LineFault::Count),
+    ("< 256\n", 1, LineFault::Number),
+    ("< y 0\n", 1, LineFault::Number),
+    ("< 1 0\n", 1, LineFault::Hex),
+    ("< 1 \n", 1, LineFault::Hex),
+    ("< 1 00 00\n", 1, LineFault::Count),
+    ("! 1\n! 1\n", 2, LineFault::Order),
+    ("! 2\n@ 0\n! 1\n", 3, LineFault::Order),
+    ("@ 1\n! 0\n", 2, LineFault::Order),
+    ("! 0\n! 0\n", 2, LineFault::Order),
+    ("! -1\n", 1, LineFault::Number),
+];
+
 #[test]
-fn lines_are_refused(rt: HostRuntime) -> Result<(), Fail> {
-    let alloc = rt.alloc();
-    refuses(&rt, alloc, "? 1\n", 1, LineFault::Word);
-    refuses(&rt, alloc, "@ 1\n\n@ 2\n", 2, LineFault::Word);
-    refuses(&rt, alloc, "# @ 1\n", 1, LineFault::Word);
-    refuses(&rt, alloc, "@\n", 1, LineFault::Count);
-    refuses(&rt, alloc, "@ 1 2\n", 1, LineFault::Count);
-    refuses(&rt, alloc, "@ 01\n", 1, LineFault::Number);
-    refuses(&rt, alloc, "@ 18446744073709551616\n", 1, LineFault::Number);
-    refuses(&rt, alloc, "<\n", 1, LineFault::Count);
-    refuses(&rt, alloc, "< - 00\n", 1, LineFault::Count);
-    refuses(&rt, alloc, "< x 00\n", 1, LineFault::Count);
-    refuses(&rt, alloc, "< 256\n", 1, LineFault::Number);
-    refuses(&rt, alloc, "< y 0\n", 1, LineFault::Number);
-    refuses(&rt, alloc, "< 1 0\n", 1, LineFault::Hex);
-    refuses(&rt, alloc, "< 1 \n", 1, LineFault::Hex);
-    refuses(&rt, alloc, "< 1 00 00\n", 1, LineFault::Count);
-    refuses(&rt, alloc, "! 1\n! 1\n", 2, LineFault::Order);
-    refuses(&rt, alloc, "! 2\n@ 0\n! 1\n", 3, LineFault::Order);
-    refuses(&rt, alloc, "@ 1\n! 0\n", 2, LineFault::Order);
-    refuses(&rt, alloc, "! 0\n! 0\n", 2, LineFault::Order);
-    refuses(&rt, alloc, "! -1\n", 1, LineFault::Number);
-    Ok(())
+fn lines_are_refused(rt: HostRuntime) {
+    for (text, line, fault) in &REFUSED {
+        let wanted = TraceFault::Line {
+            line: *line,
+            fault: *fault,
+        };
+        let found = read(rt.alloc(), text).err();
+        assert!(rt; found == Some(wanted), "{text}");
+    }
 }
