@@ -47,7 +47,8 @@ struct node {
     bool is_open, is_again, is_spent, was_late, is_lazy, is_guarded;
     unsigned openings;
     uint32_t life, count;
-    uint64_t greatest, until, wake, offset;
+    /* judged: the greatest moment at which a turn ended calls, which one that is no event does too */
+    uint64_t greatest, judged, until, wake, offset;
 };
 
 static struct node nodes[NODES];
@@ -129,7 +130,7 @@ static void is_unsure(struct node *n, const struct dt_event *it) {
     struct call *call = own_call(n, it->number);
     WANT(call != NULL && call->fate == WAITS && is_no_flow(&it->flow) && it->len == 0);
     WANT(it->cause == DT_GIVEN_UP || it->cause == DT_PATIENCE || it->cause == DT_WAS_CLOSED);
-    if (it->cause == DT_PATIENCE) WANT(n->greatest >= call->due);
+    if (it->cause == DT_PATIENCE) WANT(n->judged >= call->due);
     WANT((it->cause == DT_WAS_CLOSED) <= n->is_spent);
     call->fate = UNSURE;
 }
@@ -207,6 +208,11 @@ static bool has_changed_nothing(uint8_t status) {
            status == DT_NUMBERS || status == DT_GONE;
 }
 
+/* A turn that changed something judges the calls at its moment. */
+static void judges(struct node *n, uint8_t status, uint64_t moment) {
+    if (!has_changed_nothing(status) && counted(n, moment) > n->judged) n->judged = counted(n, moment);
+}
+
 /* Behind a turn: its status, and whether memory was refused. */
 static void turned(struct node *n, uint8_t status, uint64_t moment, bool found) {
     happens(100u + status);
@@ -215,6 +221,7 @@ static void turned(struct node *n, uint8_t status, uint64_t moment, bool found) 
     WANT(status != DT_SPENT || n->is_spent);
     WANT((status == DT_CLOSED) == !n->is_open);
     if (n->is_spent) WANT(has_changed_nothing(status));
+    judges(n, status, moment);
     if (!has_changed_nothing(status)) {
         n->greatest = counted(n, moment);
         n->was_late = n->was_late || n->greatest > n->wake;
@@ -345,6 +352,7 @@ static void forgets(struct node *n, struct call *call) {
     if (one == DT_DONE) call->is_token = false;
     /* no event of the node: what is due at that moment may be due yet, but one that reads may have come too late */
     n->was_late = n->was_late || (!has_changed_nothing(one) && counted(n, moment) > n->wake);
+    judges(n, one, moment);
     turned(n, one, n->greatest, found);
 }
 
@@ -417,7 +425,7 @@ static void opens(struct node *n, bool again, bool new_life) {
     n->is_again = again;
     n->is_spent = n->was_late = n->is_guarded = false;
     n->wake = UINT64_MAX;
-    n->greatest = again ? counted(n, n->start.now) : 0;
+    n->greatest = n->judged = again ? counted(n, n->start.now) : 0;
     n->until = again ? (n->start.now < LAST ? n->start.now : LAST) + dt_quiet(&n->params) : 0;
     for (uint16_t i = 0; i < PORTS; i++) {
         has_port(n, CALLER_PORT + i, DT_CALLER);
