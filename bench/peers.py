@@ -119,7 +119,7 @@ PEERS = [
     Peer("UDT", [*CXX, "udt.cc", "-o", "udt", "-ludt", "-lpthread"], built("udt")),
     Peer("QUIC", ["sh", "-c", "command -v gtlsclient && test -x /usr/sbin/gtlsserver && command -v openssl"], quic, lacks=("answers",), tells=False),
     Peer("deltat", [], node, lacks=("16 MiB",)),
-    Peer("libdeltat", [*C, f"-I{TOP / 'include'}", "library.c", str(TOP / "lib" / "libdeltat.a"), "-o", "library"], library, lacks=("16 MiB",)),
+    Peer("libdeltat", [*C, f"-I{TOP / 'include'}", "library.c", str(TOP / "lib" / "libdeltat.a"), "-o", "library"], library),
 ]
 
 

@@ -19,6 +19,9 @@
 /* a client has a number of its own each time: one that is used again would have to be silent first */
 enum { SERVER = 1, FIRST_CLIENT = 1000, CLIENTS = 64, LINK = 1, PORT = 20, LATE = 20, MOST = 65536, BATCH = 64 };
 
+/* what is handed in at once of a message that a flow has no room for */
+enum { PART = 8192 };
+
 struct end {
     dt_node *node;
     int door;
@@ -211,16 +214,23 @@ static size_t message_of(struct end *it, const struct dt_flow *flow, uint64_t at
     return octets;
 }
 
-/* Hands a message in. Whether there was room for it: what was sent before may not be acknowledged yet. */
-static int takes(struct end *it, uint64_t at, struct dt_flow flow, const unsigned char *octets, size_t len) {
+/* Hands in of a message what isn't handed in yet, whole or in parts, as far as there is room: what was sent before may not be
+ * acknowledged yet. How much of it is handed in then. */
+static size_t hand_in(struct end *it, uint64_t at, struct dt_flow flow, const unsigned char *octets, size_t len, size_t handed) {
+    size_t most = len > MOST ? PART : len;
     happens(it, at);
-    struct dt_sent sent = dt_send(it->node, at, &flow, octets, len, true, true);
-    must(sent.status, "a message");
-    return sent.status == DT_DONE;
+    while (handed < len) {
+        size_t part = len - handed < most ? len - handed : most;
+        struct dt_sent sent = dt_send(it->node, at, &flow, octets + handed, part, handed == 0, handed + part == len);
+        must(sent.status, "a message");
+        if (sent.status != DT_DONE) break;
+        handed += part;
+    }
+    return handed;
 }
 
 static void give(struct end *it, uint64_t at, struct dt_flow flow, const unsigned char *octets, size_t len) {
-    if (!takes(it, at, flow, octets, len)) fail("a message isn't taken");
+    if (hand_in(it, at, flow, octets, len, 0) < len) fail("a message isn't taken");
 }
 
 /* takes what the node told, answers each message with ANSWER octets where it serves, and tells how many came */
@@ -272,19 +282,24 @@ static void serve(const char *address, int port) {
 static int exchange(struct end *it, uint32_t me, uint16_t port, uint32_t octets, double until) {
     struct dt_flow flow = {me, SERVER, port, PORT};
     double patience = 0.001 * (2 * 12 * setting("RTO_MS", 40)), asked_at = 0;
-    int taken = 0, answered = 0;
+    size_t len = HEAD + (size_t)octets, handed = 0;
+    unsigned char *sent = NULL;
+    int answered = 0;
     while (!answered && now() < until) {
-        if (taken && (it->given_up || now() - asked_at > patience)) taken = 0;
-        if (!taken) {
-            unsigned char *sent = request(octets);
+        if (sent == NULL || it->given_up || (handed == len && now() - asked_at > patience)) {
+            free(sent);
+            sent = request(octets);
             memcpy(it->asked, sent + HEAD, NUMBER);
             it->given_up = 0;
+            handed = 0;
+        }
+        if (handed < len) {
+            handed = hand_in(it, clock_ms(CLOCK_BOOTTIME), flow, sent, len, handed);
             asked_at = now();
-            taken = takes(it, clock_ms(CLOCK_BOOTTIME), flow, sent, HEAD + (size_t)octets);
-            free(sent);
         }
         answered = turn(it, 0) > 0;
     }
+    free(sent);
     return answered;
 }
 
@@ -378,7 +393,8 @@ static void ask_flow(struct end *it, uint32_t me, const struct question *asked, 
 }
 
 static void ask(const char *address, int port, const struct question *asked) {
-    uint32_t me = FIRST_CLIENT + (uint32_t)getpid() % CLIENTS, octets = asked->octets > MOST - HEAD ? MOST - HEAD : asked->octets;
+    int is_long = asked->octets > MOST && strcmp(asked->what, "message") == 0;
+    uint32_t me = FIRST_CLIENT + (uint32_t)getpid() % CLIENTS, octets = asked->octets > MOST - HEAD && !is_long ? MOST - HEAD : asked->octets;
     if (strcmp(asked->what, "memory") == 0) {
         in_memory((uint32_t)asked->count, octets);
         return;
