@@ -1,6 +1,6 @@
 //! Which fact a line of a log states.
 ghost use Rattle.std.specs.Prelude.{◌≡◌, ◌≤◌, length};
-ghost use Rattle.dt_audit.specs.Facts.{accepted_said, fact_of, is_told, named_fact, restarted_said, sent_said, settled_said, range_said, took_said, uncertain_said};
+ghost use Rattle.dt_audit.specs.Facts.{accepted_said, fact_of, is_told, named_fact, range_said, restarted_said, sent_said, settled_said, took_said, uncertain_said};
 
 use crate::facts::Fact;
 use crate::words::{letters, run};

@@ -1,9 +1,10 @@
 -- Out links by their place and by their number, and what a packet that enters or leaves does to the list of them.
-use Rattle.std.proofs.Common.{All, ◌≡◌, ℕ, zero, suc, ◌+◌, ◌<◌, ◌≤◌, ◌==◌, List, [], ◌∷◌, Bool, true, false, cond, Option, Some, None, slice_get, slice_set, get_or, length, refl, sym, subst, ◌∙◌, ap, arith}
+use Rattle.std.proofs.Common.{◌≡◌, ℕ, zero, suc, ◌+◌, ◌<◌, ◌≤◌, ◌==◌, nat_lt, List, [], ◌∷◌, ◌++◌, Bool, true, false, cond, Option, Some, None, slice_get, slice_set, get_or, length, refl, sym, subst, ◌∙◌, ap, arith}
 use Rattle.std.proofs.lemmas.Option.{slice_get-get_or}
 use Rattle.dt_layout.specs.Carried.{to_of}
-use Rattle.dt_world_model.specs.declared.links.Entered.TheVariants.{NoRoute}
-use Rattle.dt_world_model.specs.Relay.{Out, IsOutUpTo, Parcel, Relay, enter, on_link, push, route_to, with_outs}
+use Rattle.dt_world_model.specs.declared.links.Entered.{Entered}
+use Rattle.dt_world_model.specs.declared.links.Entered.TheVariants.{Full, NoRoute, Queued}
+use Rattle.dt_world_model.specs.Relay.{Left, Out, Parcel, Relay, Waiting, enter, last_out, leave, leave_first, left_of, may_leave_from, most_on_link, on_link, push, route_to, with_outs, with_waits}
 use Rattle.dt_relay.specs.Places.{link_of, place_from, place_of}
 
 after_step : (b : Bool) (i k : ℕ) (rest : Option ℕ) → (rest ≡ Some k → i + 1 ≤ k) → cond b (Some i) rest ≡ Some k → i ≤ k
@@ -53,9 +54,6 @@ pub on_link_at : {A T : Type 0} (link : ℕ) (otherwise : A) (change : Out T →
 on_link_at link otherwise change outs out k h small at =
     on_link_from link 0 otherwise change outs out k k (omega arith) (sym h) (slice_get-get_or outs k out small ∙ ap Some (sym at))
 
-pub past_at : {T : Type 0} (now : ℕ) (outs : List (Out T)) (out : Out T) (k : ℕ) → All (IsOutUpTo now) outs → k < length outs → out ≡ get_or outs k out → IsOutUpTo now out
-past_at now outs out k past small at = subst (λ (o : Out _). IsOutUpTo now o) (sym at) (past k out small)
-
 no_step : {A T : Type 0} (b : Bool) (i : ℕ) (rest : Option ℕ) (otherwise : A) (here : A × List (Out T)) (o : Out T) (outs : List (Out T)) (r : A × List (Out T)) →
     (rest ≡ None → r ≡ unchanged otherwise outs) → cond b (Some i) rest ≡ None → cond b here (put_later o r) ≡ unchanged otherwise (o ∷ outs)
 no_step true i rest otherwise here o outs r ih h = absurd (cc)
@@ -86,3 +84,25 @@ pub enter_nowhere : {T : Type 0} (p : Parcel T) (to now link : ℕ) (relay : Rel
     enter p now relay ≡ put_in relay (unchanged (NoRoute (to_of p.octets)) relay.outs)
 enter_nowhere p to now link relay t r h =
     let there : Some link ≡ route_to (to_of p.octets) relay.routes = rw t at r in rw (← there, on_link_nowhere link (NoRoute (to_of p.octets)) (push p now) relay.outs h) refl
+
+module _ {T : Type 0} where
+  -- a queue stays that of its link
+  pushed_link : (b : Bool) (parcel : Parcel T) (now : ℕ) (out : Out T) →
+      (cond {A = Entered × Out T} b (Queued out.link, with_waits out (out.waits ++ (record { parcel = parcel; since = now }) ∷ []) out.last) (Full out.link, out)).1.link ≡ out.link
+  pushed_link true parcel now out = refl
+  pushed_link false parcel now out = refl
+
+  pub push_link : (parcel : Parcel T) (now : ℕ) (out : Out T) → (push parcel now out).1.link ≡ out.link
+  push_link parcel now out = pushed_link (nat_lt (length out.waits) most_on_link) parcel now out
+
+  left_link : (b : Bool) (now : ℕ) (out : Out T) (w : Waiting T) (ws : List (Waiting T)) →
+      (cond {A = Option (Left T) × Out T} b (None, out) (Some (left_of now w), with_waits out ws (last_out now out.last (left_of now w)))).1.link ≡ out.link
+  left_link true now out w ws = refl
+  left_link false now out w ws = refl
+
+  first_link : (now : ℕ) (out : Out T) (ws : List (Waiting T)) → (leave_first now out ws).1.link ≡ out.link
+  first_link now out [] = refl
+  first_link now out (w ∷ ws) = left_link (nat_lt now (may_leave_from out.pace out.last)) now out w ws
+
+  pub leave_link : (now : ℕ) (out : Out T) → (leave now out).1.link ≡ out.link
+  leave_link now out = first_link now out out.waits

@@ -1,20 +1,18 @@
 -- A packet that goes straight on: what its passage means, in the words of entering and leaving.
-use Rattle.std.proofs.Common.{◌≡◌, ℕ, ◌+◌, ◌-◌, ◌<◌, ◌≤◌, All, List, [], ◌∷◌, Bool, true, false, cond, Option, Some, None, get_or, length, nat_lt, nat_le, option_and_then, refl, sym, subst, slice_set, ◌∙◌, ap, arith}
+use Rattle.std.proofs.Common.{◌≡◌, ℕ, ◌+◌, ◌-◌, ◌<◌, ◌≤◌, List, [], ◌∷◌, Bool, true, false, cond, Option, Some, None, get_or, length, nat_lt, nat_le, option_and_then, refl, sym, subst, slice_set, ◌∙◌, ap, arith}
 use Rattle.std.proofs.lemmas.List.{get_or-set_same, length-set, set-get_or, set-set}
 use Rattle.std.proofs.lemmas.Bool.Decides.{nat_tests}
-use Rattle.std.proofs.lemmas.List.Elements.{All-set}
 use Rattle.dt_layout.specs.Carried.{life_of, to_of}
 use Rattle.dt_world_model.specs.declared.links.Entered.{Entered}
 use Rattle.dt_world_model.specs.declared.links.Entered.TheVariants as entered
-use Rattle.dt_world_model.specs.Relay.{Expired, Goes, IsOutUpTo, Left, Out, Parcel, Relay, Waiting, enter, leave, left_of, lower_parcel, may_leave_from, most_on_link, on_link, push, route_to, with_outs, with_waits}
+use Rattle.dt_world_model.specs.Relay.{Expired, Goes, Left, Out, Parcel, Relay, Waiting, enter, leave, left_of, lower_parcel, may_leave_from, most_on_link, on_link, push, route_to, with_outs, with_waits}
 use Rattle.dt_relay.specs.declared.passages.Passage.{Passage}
 use Rattle.dt_relay.specs.declared.passages.Passage.TheVariants as passage
 use Rattle.dt_relay.specs.Passages.{GoesStraight, IsTurnedAway, Passes, WouldWait, passage_on, passed_on}
 use Rattle.dt_relay.specs.Places.{link_of, place_of}
 use Rattle.dt_relay.specs.Ways.{queue_of, way_to}
-use Rattle.dt_relay.proofs.Links.{enter_nowhere, enter_there, on_link_at, past_at, put_at, put_in}
+use Rattle.dt_relay.proofs.Links.{enter_nowhere, enter_there, on_link_at, push_link, put_at, put_in}
 use Rattle.dt_relay.proofs.Lookups.{found_key, place_set, value_at, value_by, value_nowhere}
-use Rattle.dt_relay.proofs.Past.{push_link}
 
 none_before : {T : Type 0} (ws : List (Waiting T)) → nat_lt 0 (length ws) ≡ false → ws ≡ []
 none_before [] h = refl
@@ -135,18 +133,6 @@ module _ {T : Type 0} where
   pub way_nowhere : (to link : ℕ) (relay : Relay T) → Some link ≡ route_to to relay.routes → None ≡ place_of link_of link relay.outs → way_to to relay ≡ None
   way_nowhere to link relay way none =
       ap (option_and_then (λ link. queue_of link relay.outs)) (sym way) ∙ queue_by link relay.outs ∙ value_nowhere link_of (λ (o : Out T). Some o) None link relay.outs none
-
-  -- what is past stays so
-  passed_past : (answer : Passage) (now : ℕ) (out : Out T) → IsOutUpTo now out → IsOutUpTo now (passed_on answer now out)
-  passed_past (passage.Leaves link) now out past = record { waits = past.waits; last = omega arith }
-  passed_past (passage.Expired link) now out past = past
-  passed_past (passage.Waits link) now out past = past
-  passed_past (passage.NoRoute to) now out past = past
-  passed_past (passage.Full link) now out past = past
-
-  pub passes_past : (answer : Passage) (now k : ℕ) (outs : List (Out T)) (out queue : Out T) → k < length outs → out ≡ get_or outs k out → queue ≡ passed_on answer now out → All (IsOutUpTo now) outs → All (IsOutUpTo now) (slice_set outs k queue)
-  passes_past answer now k outs out queue small is q past =
-      All-set (IsOutUpTo now) outs k queue (subst (λ (o : Out T). IsOutUpTo now o) (sym q) (passed_past answer now out (past_at now outs out k past small is))) past
 
   pub passed_link : (answer : Passage) (now : ℕ) (out : Out T) → link_of (passed_on answer now out) ≡ link_of out
   passed_link (passage.Leaves link) now out = refl

@@ -1,6 +1,6 @@
 ghost use Rattle.std.specs.Prelude.{◌≡◌, IfOk, IfSome, is_some};
 ghost use Rattle.dt_layout.specs.Carried.{IsGram};
-ghost use Rattle.dt_world_model.specs.Relay.{IsOutUpTo, empty_out, leave, may_leave_from, out_wake, push};
+ghost use Rattle.dt_world_model.specs.Relay.{empty_out, leave, may_leave_from, out_wake, push};
 ghost use Rattle.dt_relay.specs.Carrying.{IfOut, left_seen, parcel_seen};
 ghost use Rattle.dt_relay.specs.Passages.{HasLife, passage_on, passed_on};
 
@@ -89,7 +89,6 @@ impl<P: Carry> LinkQueue<P> {
 
     /// Takes the first that waits, unless the link keeps its pace.
     pub(crate) fn leave(&mut self, now: Reading) -> Option<Left<P>>
-        requires { IsOutUpTo now.ms self.old }
         ensures left { left_seen P.octets P.label result ≡ (leave now.ms self.old).0 }
         ensures queue { self.new ≡ (leave now.ms self.old).1 }
         ensures gram { IfOut result (λ packet. IsGram (P.octets packet)) }

@@ -1,8 +1,8 @@
-ghost use Rattle.std.specs.Prelude.{ℕ, ◌≡◌, ◌≢◌, ◌≤◌, ◌<◌, All, IfOk, IfSome, None, OnErr, OnOk, Some, false, if◌then◌else◌, is_some, length, map, nat_eq, option_map};
+ghost use Rattle.std.specs.Prelude.{ℕ, ◌≡◌, ◌≢◌, ◌≤◌, ◌<◌, IfOk, IfSome, None, OnErr, OnOk, Some, false, if◌then◌else◌, is_some, length, map, nat_eq, option_map};
 ghost use Rattle.std.specs.HashMap.{get};
 ghost use Rattle.dt_layout.specs.Carried.{IsGram, life_of, to_of};
 ghost use Rattle.dt_flow_model.specs.Keeping.{most_moment};
-ghost use Rattle.dt_world_model.specs.Relay.{IsOutUpTo, Parcel, admit, charge_of, empty_out, enter, leave, new_relay, on_link, relay_wake, route_to, with_outs};
+ghost use Rattle.dt_world_model.specs.Relay.{Parcel, admit, charge_of, empty_out, enter, leave, new_relay, on_link, relay_wake, route_to, with_outs};
 ghost use Rattle.dt_relay.specs.Carrying.{IfOut, left_seen, parcel_seen};
 ghost use Rattle.dt_relay.specs.Passages.{HasLife, Passes, passage_by};
 ghost use Rattle.dt_relay.specs.Places.{link_in, link_of, place_of};
@@ -63,8 +63,6 @@ impl<P: Carry> Relay<P> {
         routes: &[Route],
     ) -> Result<Relay<P>, NoMemory>
         ensures made { IfOk result (λ relay. relay ≡ new_relay outs.now ins.now routes.now) }
-        // Nothing that it keeps is past.
-        ensures past { (now : ℕ) → IfOk result (λ relay. All (IsOutUpTo now) relay.outs) }
     {
         let out_places = places_in(alloc, outs)?;
         let firsts = firsts_of(alloc, outs, &out_places)?;
@@ -130,7 +128,6 @@ impl<P: Carry> Relay<P> {
         // Which answer comes, and where: each cause exactly.
         ensures cause { let to = to_of (P.octets packet) in result ≡ entered_by to (way_to to self.old) }
         ensures stays { StaysUnlessQueued result self.old self.new }
-        ensures past { All (IsOutUpTo now) self.old.outs → All (IsOutUpTo now) self.new.outs }
     {
         let to = packet.to();
         match self.route(to) {
@@ -158,13 +155,11 @@ impl<P: Carry> Relay<P> {
     ///
     /// Its cost is that of two look-ups.
     pub fn pass(&mut self, to: u32, life: u32, now: Reading) -> Passage
-        requires past { All (IsOutUpTo now.ms) self.old.outs }
         ensures passes { (parcel : Parcel P.Tag) → to_of parcel.octets ≡ to → life_of parcel.octets ≡ life → Passes parcel now.ms result self.old self.new }
         // Which answer comes, and where: each cause exactly.
         ensures cause { result ≡ passage_by to life now.ms (way_to to self.old) }
         ensures life { HasLife life result }
         ensures others { self.new ≡ with_outs self.old self.new.outs }
-        ensures past { All (IsOutUpTo now.ms) self.new.outs }
     {
         match self.route(to) {
             None => Passage::NoRoute { to },
@@ -178,8 +173,8 @@ impl<P: Carry> Relay<P> {
         }
     }
 
-    /// The first that waits on the link is taken at `now`, which is at most 2^62, and no moment that the
-    /// relay keeps is after it.
+    /// The first that waits on the link is taken at `now`, which is at most 2^62. One that waits since a
+    /// later moment has waited no time.
     ///
     /// - None: nothing waits, or a packet has left the link before and that was less than `pace` ago.
     ///   Nothing changes. So it is for a link that isn't there.
@@ -187,11 +182,9 @@ impl<P: Carry> Relay<P> {
     ///   millisecond more. It is gone, and the last moment out stays.
     /// - `Out`: it is handed over with its life less by the charge, and the last moment out is `now`.
     pub fn leave(&mut self, link: u16, now: u64) -> Option<Left<P>>
-        requires past { All (IsOutUpTo now) self.old.outs }
         requires moment { now ≤ most_moment }
         ensures left { left_seen P.octets P.label result ≡ (on_link link None (leave now) self.old.outs).0 }
         ensures after { self.new ≡ with_outs self.old (on_link link None (leave now) self.old.outs).1 }
-        ensures past { All (IsOutUpTo now) self.new.outs }
         ensures gram { IfOut result (λ packet. IsGram (P.octets packet)) }
     {
         match self.place(link) {
@@ -220,12 +213,10 @@ impl<P: Carry> Relay<P> {
     /// number up.
     pub fn leave_at(&mut self, place: usize, now: Reading) -> Option<Left<P>>
         requires place { place < length self.old.outs }
-        requires past { All (IsOutUpTo now.ms) self.old.outs }
         ensures left { let link = link_in self.old.outs place in
             left_seen P.octets P.label result ≡ (on_link link None (leave now.ms) self.old.outs).0 }
         ensures after { let link = link_in self.old.outs place in
             self.new ≡ with_outs self.old (on_link link None (leave now.ms) self.old.outs).1 }
-        ensures past { All (IsOutUpTo now.ms) self.new.outs }
         ensures gram { IfOut result (λ packet. IsGram (P.octets packet)) }
     {
         match self.first(place) {

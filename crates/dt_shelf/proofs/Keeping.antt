@@ -1,12 +1,12 @@
 -- What leaves a shelf was held, and so was what stays.
-use Rattle.std.proofs.Common.{◌≡◌, ◌<◌, ◌≤◌, ◌∷◌, [], All, List, Option, Some, None, arith, inl, inr, length, nat_lt, refl, subst, sym, ℕ}
+use Rattle.std.proofs.Common.{◌≡◌, ◌<◌, ◌∷◌, [], All, List, Option, Some, None, arith, inl, inr, length, refl, subst, sym, ℕ}
 use Rattle.std.specs.Option.{option_map}
 use Rattle.std.proofs.lemmas.Bool.{cases_Bool}
-use Rattle.std.proofs.lemmas.List.Elements.{All-append, All-cons, All-head, All-nil, All-tail}
+use Rattle.std.proofs.lemmas.List.Elements.{All-cons, All-head, All-tail}
 use Rattle.dt_units.specs.declared.endpoints.Flow.{Flow}
 use Rattle.dt_shelf.specs.declared.held.Held.{Held}
 use Rattle.dt_shelf.specs.declared.taken.Taken.{Taken}
-use Rattle.dt_shelf.specs.Shelves.{IsShelfUpTo, Shelf, hold, is_of, pick, take_held, taken_at}
+use Rattle.dt_shelf.specs.Shelves.{Shelf, is_of, pick, take_held, taken_at}
 
 -- WHAT IS TAKEN WAS HELD, and what is left was held too
 module _ (flow : Flow) (number : ℕ) where
@@ -45,15 +45,3 @@ module _ (flow : Flow) (number : ℕ) where
   take_falls now shelf after t e left =
       let h = take_had now shelf t (sym e) in
       subst (λ (s : Shelf). length s.held < length shelf.held) (sym left) (pick_falls shelf.held h.0 h.1)
-
-  pub take_past : (now moment : ℕ) (shelf after : Shelf) → after ≡ (take_held flow number now shelf).1 → IsShelfUpTo moment shelf → IsShelfUpTo moment after
-  take_past now moment shelf after left h = subst (IsShelfUpTo moment) (sym left) (pick_keeps (λ (x : Held). x.since ≤ moment) shelf.held h)
-
--- A PACKET IS HELD
-pub hold_past : (now : ℕ) (x : Held) (shelf after : Shelf) → after ≡ (hold x shelf).1 → x.since ≤ now → IsShelfUpTo now shelf → IsShelfUpTo now after
-hold_past now x shelf after e here h =
-    subst (IsShelfUpTo now) (sym e)
-    (elim (cases_Bool (nat_lt (length shelf.held) shelf.room)) [
-      | inl y ↦ rw y (All-append (λ (h : Held). h.since ≤ now) shelf.held (x ∷ []) h (All-cons (λ (h : Held). h.since ≤ now) x [] here (All-nil (λ (h : Held). h.since ≤ now))))
-      | inr n ↦ rw n h
-    ])

@@ -1,5 +1,5 @@
 -- A shelf: packets that came too early, each with its link, its flow, the number of its first octet and the moment at which it was put there. The one that was put there first stands in front.
-use Rattle.std.specs.Prelude.{ℕ, ◌≤◌, ◌==◌, ◌&&◌, Bool, true, false, List, [], ◌∷◌, ◌++◌, All, length, nat_lt, nat_le, Option, Some, None, option_map, if◌then◌else◌}
+use Rattle.std.specs.Prelude.{ℕ, ◌==◌, ◌&&◌, Bool, true, false, List, [], ◌∷◌, ◌++◌, All, length, nat_lt, nat_le, Option, Some, None, option_map, if◌then◌else◌}
 use Rattle.dt_units.specs.declared.endpoints.Flow.{Flow}
 use Rattle.dt_layout.specs.Carried.{IsGram, life_of, lowered}
 use Rattle.dt_world_model.specs.Relay.{time_charge}
@@ -43,10 +43,6 @@ take_held flow number now shelf =
 -- What is held reads as a Deltagram.
 abbrev pub HoldsGram : Held → Type 0
 HoldsGram h = IsGram h.frame
-
--- All that is held was put there by now.
-abbrev pub IsShelfUpTo : ℕ → Shelf → Type 0
-IsShelfUpTo now shelf = All (λ (h : Held). h.since ≤ now) shelf.held
 
 -- what holds of a packet that is handed over again
 abbrev pub IfAgain : Option Taken → (ℕ → List ℕ → Type 0) → Type 0

@@ -2,8 +2,9 @@ ghost use Rattle.std.specs.Prelude.{◌≡◌, ◌≤◌, ◌<◌, ◌↔◌, If
 ghost use Rattle.std.specs.List.{position};
 ghost use Rattle.dt_layout.specs.Carried.{IsGram};
 ghost use Rattle.dt_flow_model.specs.Keeping.{most_moment};
-ghost use Rattle.dt_shelf.specs.Shelves.{IfAgain, IsShelfUpTo, empty_shelf, held_packet, hold, is_of, take_held};
+ghost use Rattle.dt_shelf.specs.Shelves.{IfAgain, empty_shelf, held_packet, hold, is_of, take_held};
 
+use crate::early_packet::EarlyPacket;
 use crate::held::Held;
 use crate::taken::Taken;
 use dt_flow_model::Reading;
@@ -17,7 +18,7 @@ use std::marker::Model;
 /// Packets that came too early, in the order in which they were put here. A contract sees its room and
 /// what it holds.
 ///
-/// Moments are readings of one clock in milliseconds, at most 2^62, and never fall.
+/// Moments are readings of one clock in milliseconds, at most 2^62.
 #[derive(Drop)]
 pub struct Shelf {
     room: u32,
@@ -54,14 +55,32 @@ impl Shelf {
         ensures shelf { self.new ≡ (hold (held_packet link flow number frame.now now) self.old).1 }
         ensures full { IsTrue result ↔ (length self.old.held < self.old.room) }
     {
-        if self.held.len() >= self.room as usize {
-            return false;
-        }
-        self.held.push_reserved(Held {
+        let gram = frame.as_gram();
+        let packet = EarlyPacket {
             link,
             flow,
             number,
-            frame: Frame::copy_of(frame),
+            gram,
+        };
+        self.hold_early(packet, now)
+    }
+
+    /// The same for a packet whose octets are lent. Where there is room they are copied once.
+    pub fn hold_early(&mut self, packet: EarlyPacket<'_>, now: u64) -> bool
+        ensures answer { let p = packet.entry in result ≡ (hold (held_packet p.link p.flow p.number p.gram.octets.now now) self.old).0 }
+        ensures shelf { let p = packet.entry in self.new ≡ (hold (held_packet p.link p.flow p.number p.gram.octets.now now) self.old).1 }
+        ensures full { IsTrue result ↔ (length self.old.held < self.old.room) }
+    {
+        if self.held.len() >= self.room as usize {
+            return false;
+        }
+        let mut frame = Frame::new();
+        packet.gram.copy_into(&mut frame);
+        self.held.push_reserved(Held {
+            link: packet.link,
+            flow: packet.flow,
+            number: packet.number,
+            frame,
             since: now,
         });
         true
@@ -73,7 +92,6 @@ impl Shelf {
     ///
     /// Its cost is that of going over the packets, and of moving those after the one that leaves.
     pub fn take(&mut self, flow: &Flow, number: u32, now: u64) -> Option<Taken>
-        requires past { IsShelfUpTo now self.old }
         requires moment { now ≤ most_moment }
         ensures taken { result ≡ (take_held flow.now number now self.old).0 }
         ensures left { self.new ≡ (take_held flow.now number now self.old).1 }

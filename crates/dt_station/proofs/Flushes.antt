@@ -5,8 +5,7 @@ use Rattle.std.proofs.Math.Seq.{drop-cons}
 use Rattle.dt_layout.specs.Carried.{life_of}
 use Rattle.dt_reports.specs.declared.reports.Report.TheVariants.{ExpiredOut, Put}
 use Rattle.dt_relay.specs.Places.{link_of, place_of}
-use Rattle.dt_relay.proofs.Links.{on_link_nowhere}
-use Rattle.dt_relay.proofs.Past.{leave_link}
+use Rattle.dt_relay.proofs.Links.{leave_link, on_link_nowhere}
 use Rattle.dt_world_model.specs.Relay.{Expired, Goes, Left, Out, Parcel, Relay, Waiting, last_out, leave, leave_first, left_of, may_leave_from, on_link, with_outs, with_waits}
 use Rattle.dt_world_model.specs.Script.{Done, Hand, Script, Tell, ◌>>=◌}
 use Rattle.dt_station.specs.Leaving.{let_out}

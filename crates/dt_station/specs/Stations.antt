@@ -1,12 +1,11 @@
 -- A station as its callers see it.
-use Rattle.std.specs.Prelude.{ℕ, ◌≡◌, ◌≤◌, All, Bool, true, false, List, Option, Some, None, Result, Ok, Err, unwrap_or}
+use Rattle.std.specs.Prelude.{ℕ, ◌≡◌, Bool, true, false, List, Option, Some, None, Result, Ok, Err, unwrap_or}
 use Rattle.dt_units.specs.declared.parameters.Params.{Params}
-use Rattle.dt_host.specs.Hosts.{HostValue}
 use Rattle.dt_world_model.specs.declared.links.OutLink.{OutLink}
 use Rattle.dt_world_model.specs.declared.links.InLink.{InLink}
 use Rattle.dt_world_model.specs.declared.links.Route.{Route}
 use Rattle.dt_world_model.specs.Host.{Host, first_host, restarted_host}
-use Rattle.dt_world_model.specs.Relay.{IsOutUpTo, Relay, new_relay, with_outs}
+use Rattle.dt_world_model.specs.Relay.{new_relay, with_outs}
 use Rattle.dt_world_model.specs.Station.{Station, station_with}
 use Rattle.dt_relay.specs.Ways as ways
 
@@ -17,11 +16,6 @@ pub record StationValue (T : Type 0) : Type 0 where
   -- an event found no memory: the station is used no more
   pub spent : Bool
   pub state : Station T
-
--- All that it keeps of the past is by the greatest moment that it was given.
-pub record IsStation {T : Type 0} (latest : ℕ) (host : HostValue) (relay : Relay T) : Type 0 where
-  pub host_past : host.latest ≤ latest
-  pub relay_past : All (IsOutUpTo latest) relay.outs
 
 -- WHAT NO PART OF AN EVENT CHANGES: the parameters, the moment, the node, and all of the relay but its queues.
 pub record Stays {T : Type 0} (old new : StationValue T) : Type 0 where

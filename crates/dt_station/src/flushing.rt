@@ -1,7 +1,7 @@
 //! Packets that leave on a link, until none may.
-ghost use Rattle.std.specs.Prelude.{◌≡◌, ◌<◌, None, All, length, map};
+ghost use Rattle.std.specs.Prelude.{◌≡◌, ◌<◌, None, length, map};
 ghost use Rattle.dt_relay.specs.Places.{link_in, link_of};
-ghost use Rattle.dt_world_model.specs.Relay.{IsOutUpTo, leave, on_link, with_outs};
+ghost use Rattle.dt_world_model.specs.Relay.{leave, on_link, with_outs};
 ghost use Rattle.dt_world_model.specs.Script.{Concludes};
 ghost use Rattle.dt_world_model.specs.Station.{flush_at, flush_links};
 ghost use Rattle.dt_station.specs.Leaving.{let_out};
@@ -21,12 +21,10 @@ fn let_out<P: Carry, V: Visitor<P>>(
     visitor: &mut V,
 ) -> Result<(), NoMemory>
     requires place { place < length relay.old.outs }
-    requires past { All (IsOutUpTo now.ms) relay.old.outs }
     ensures ends { let link = link_in relay.old.outs place in
         Concludes V.tells (V.tags now.ms) V.hands V.fails result (let_out link (on_link link None (leave now.ms) relay.old.outs)) visitor.old visitor.new relay.new.outs }
     ensures after { let link = link_in relay.old.outs place in
         relay.new ≡ with_outs relay.old (on_link link None (leave now.ms) relay.old.outs).1 }
-    ensures past { All (IsOutUpTo now.ms) relay.new.outs }
 {
     let link = relay.link_at(place);
     match relay.leave_at(place, now) {
@@ -54,11 +52,9 @@ pub(crate) fn flush<P: Carry, V: Visitor<P>>(
     visitor: &mut V,
 ) -> Result<(), NoMemory>
     requires place { place < length relay.old.outs }
-    requires past { All (IsOutUpTo now.ms) relay.old.outs }
     ensures ends { Concludes V.tells (V.tags now.ms) V.hands V.fails result (flush_at (link_in relay.old.outs place) now.ms relay.old.outs) visitor.old visitor.new relay.new.outs }
     ensures links { map link_of relay.new.outs ≡ map link_of relay.old.outs }
     ensures others { relay.new ≡ with_outs relay.old relay.new.outs }
-    ensures past { All (IsOutUpTo now.ms) relay.new.outs }
 {
     'flush: while relay.is_ready(place, now.ms) {
         let_out(relay, place, now, visitor)?;
@@ -73,10 +69,8 @@ pub(crate) fn flush_link<P: Carry, V: Visitor<P>>(
     now: Reading,
     visitor: &mut V,
 ) -> Result<(), NoMemory>
-    requires past { All (IsOutUpTo now.ms) relay.old.outs }
     ensures ends { Concludes V.tells (V.tags now.ms) V.hands V.fails result (flush_at link now.ms relay.old.outs) visitor.old visitor.new relay.new.outs }
     ensures others { relay.new ≡ with_outs relay.old relay.new.outs }
-    ensures past { All (IsOutUpTo now.ms) relay.new.outs }
 {
     match relay.place(link) {
         None => Ok(()),
@@ -90,10 +84,8 @@ pub(crate) fn flush_all<P: Carry, V: Visitor<P>>(
     now: Reading,
     visitor: &mut V,
 ) -> Result<(), NoMemory>
-    requires past { All (IsOutUpTo now.ms) relay.old.outs }
     ensures ends { Concludes V.tells (V.tags now.ms) V.hands V.fails result (flush_links now.ms (map link_of relay.old.outs) relay.old.outs) visitor.old visitor.new relay.new.outs }
     ensures others { relay.new ≡ with_outs relay.old relay.new.outs }
-    ensures past { All (IsOutUpTo now.ms) relay.new.outs }
 {
     for place in 0..relay.links() {
         flush(relay, place, now, visitor)?;

@@ -1,7 +1,7 @@
 //! Frames that go out on a link: those that came for other nodes, and those that the host made.
-ghost use Rattle.std.specs.Prelude.{◌≡◌, All, Some};
+ghost use Rattle.std.specs.Prelude.{◌≡◌, Some};
 ghost use Rattle.dt_layout.specs.Carried.{IsGram};
-ghost use Rattle.dt_world_model.specs.Relay.{IsOutUpTo, with_outs};
+ghost use Rattle.dt_world_model.specs.Relay.{with_outs};
 ghost use Rattle.dt_world_model.specs.Script.{Concludes};
 ghost use Rattle.dt_world_model.specs.Station.{flush_entered, pass_on, send_off, station_with};
 
@@ -23,10 +23,8 @@ pub(crate) fn pass_on<P: Carry, V: Visitor<P>>(
     visitor: &mut V,
 ) -> Result<(), NoMemory>
     requires gram { IsGram frame.old }
-    requires past { All (IsOutUpTo now.ms) relay.old.outs }
     ensures ends { Concludes V.tells (V.tags now.ms) V.hands V.fails result (pass_on (record { octets = frame.old; tag = tag }) now.ms relay.old) visitor.old visitor.new relay.new }
     ensures others { relay.new ≡ with_outs relay.old relay.new.outs }
-    ensures past { All (IsOutUpTo now.ms) relay.new.outs }
 {
     let life = Carry::life(frame);
     match relay.pass(Carry::to(frame), life, now) {
@@ -65,10 +63,8 @@ fn wait<P: Carry, V: Visitor<P>>(
     visitor: &mut V,
 ) -> Result<(), NoMemory>
     requires gram { IsGram frame.now }
-    requires past { All (IsOutUpTo now.ms) relay.old.outs }
     ensures ends { Concludes V.tells (V.tags now.ms) V.hands V.fails result (pass_on (record { octets = frame.now; tag = tag }) now.ms relay.old) visitor.old visitor.new relay.new }
     ensures others { relay.new ≡ with_outs relay.old relay.new.outs }
-    ensures past { All (IsOutUpTo now.ms) relay.new.outs }
 {
     let entered = relay.enter(P::make(frame, tag), now.ms);
     flush_entered(relay, entered, now, visitor)
@@ -81,10 +77,8 @@ fn flush_entered<P: Carry, V: Visitor<P>>(
     now: Reading,
     visitor: &mut V,
 ) -> Result<(), NoMemory>
-    requires past { All (IsOutUpTo now.ms) relay.old.outs }
     ensures ends { Concludes V.tells (V.tags now.ms) V.hands V.fails result (flush_entered now.ms (entered, relay.old)) visitor.old visitor.new relay.new }
     ensures others { relay.new ≡ with_outs relay.old relay.new.outs }
-    ensures past { All (IsOutUpTo now.ms) relay.new.outs }
 {
     match entered {
         Entered::Queued { link } => flush_link(relay, link, now, visitor),
@@ -108,10 +102,8 @@ pub(crate) fn send_off<P: Carry, V: Visitor<P>>(
     visitor: &mut V,
 ) -> Result<(), NoMemory>
     requires gram { IsGram frame.old }
-    requires past { All (IsOutUpTo now.ms) relay.old.outs }
     ensures ends { Concludes V.tells (V.tags now.ms) V.hands V.fails result (send_off now.ms host.now.state (Some frame.old) relay.old) visitor.old visitor.new (station_with host.now.state relay.new) }
     ensures others { relay.new ≡ with_outs relay.old relay.new.outs }
-    ensures past { All (IsOutUpTo now.ms) relay.new.outs }
 {
     let tag = visitor.tag(host, frame, now.ms);
     pass_on(relay, frame, tag, now, visitor)

@@ -46,13 +46,14 @@ const _: () = prove!(size_of::<Station<Frame>>() <= 512);
 
 impl<P: Carry> Model for Station<P> {
     ghost use Rattle.dt_world_model.specs.Station.{station_with};
-    ghost use Rattle.dt_station.specs.Stations.{IsStation, StationValue};
+    ghost use Rattle.std.specs.Prelude.{◌≤◌};
+    ghost use Rattle.dt_station.specs.Stations.{StationValue};
 
     ghost Value = { StationValue P.Tag };
 
     ghost view = { λ s. record { rules = s.host.value.rules; latest = s.latest.ms; spent = s.spent; state = station_with s.host.value.state s.relay.value } };
 
-    ghost invariant = { λ s. IsStation s.latest.ms s.host.value s.relay.value };
+    ghost invariant = { λ s. s.host.value.latest ≤ s.latest.ms };
 }
 
 impl<P: Carry> Station<P> {

@@ -1,6 +1,6 @@
 //! The top call over the forms in memory: worked inputs of each command, each a row of a table, and each
 //! way in which reading and writing can fail.
-use crate::rows::is_cut_off;
+use crate::trial_rows::is_cut_off;
 use dt_edges::MemWire;
 use dt_trial::{FREELY, RunResult, Trial, Untried, ends, tried, tried_over};
 use std::alloc::Global;

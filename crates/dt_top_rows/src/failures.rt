@@ -1,5 +1,5 @@
 //! Each failure, and what the program does then.
-use crate::rows::{TrialRow, first_other, is_cut_off};
+use crate::trial_rows::{TrialRow, first_other, is_cut_off};
 use dt_trial::{FREELY, Trial, ends};
 use std::test::Fail;
 

@@ -14,4 +14,4 @@ mod inputs;
 #[cfg(test)]
 mod retraces;
 #[cfg(test)]
-mod rows;
+mod trial_rows;

@@ -1,8 +1,7 @@
 -- A node that is ready, from its start on.
-use Rattle.std.proofs.Common.{◌≡◌, ◌==◌, ◌+◌, ◌*◌, ◌≤◌, ℕ, List, Bool, true, false, refl, arith, ap, subst, sym, inl, inr, ◌∙◌, vec_len, Option, Some, None, Result, Ok, Err}
-use Rattle.std.specs.Prelude.{IfSome, OnOk, unwrap_or}
+use Rattle.std.proofs.Common.{◌≡◌, ◌==◌, ◌+◌, ◌*◌, ◌≤◌, ℕ, List, Bool, true, false, refl, arith, ap, subst, sym, inl, inr, ◌∙◌, vec_len, Option, Result, Ok, Err}
+use Rattle.std.specs.Prelude.{OnOk, unwrap_or}
 use Rattle.std.proofs.lemmas.Bool.{cases_Bool, eqb-true}
-use Rattle.std.proofs.lemmas.List.Elements.{All-weaker}
 use Rattle.dt_units.specs.declared.parameters.Params.{Params}
 use Rattle.dt_reports.specs.Told.{Told}
 use Rattle.dt_world_model.specs.Host.{Host}
@@ -14,8 +13,6 @@ use Rattle.dt_world_model.specs.Script.{Concludes}
 use Rattle.dt_world_model.specs.Station.{Event, Station, station_event}
 use Rattle.dt_station.specs.Stations.{StationValue, host_started, is_spent_by, station_started}
 use Rattle.dt_station.proofs.Playing.{answers_hold}
-use Rattle.dt_shelf.specs.declared.held.Held.{Held}
-use Rattle.dt_shelf.specs.Shelves.{IsShelfUpTo, Shelf}
 use Rattle.dt_script.specs.declared.orders.Orders.{Orders}
 use Rattle.dt_text.specs.Tasks.{most_octets}
 use Rattle.dt_turn.specs.declared.nodes.Node.{Node}
@@ -24,16 +21,12 @@ use Rattle.dt_world_laws.specs.Counting.{HasTakenAtMost, octets_sent}
 use Rattle.dt_turn.specs.Nodes.{restart_of}
 use Rattle.dt_world_laws.proofs.Counting.{event_few, taken_more}
 
-pub shelf_later : (shelf : Option Shelf) (now after : ℕ) → now ≤ after → IfSome shelf (IsShelfUpTo now) → IfSome shelf (IsShelfUpTo after)
-shelf_later None now after h k = tt
-shelf_later (Some shelf) now after h k = All-weaker (λ (x : Held). x.since ≤ now) (λ (x : Held). x.since ≤ after) (λ x past. omega (arith, h, past)) shelf.held k
-
 pub ready_later : (o : Orders) (node : Node) (now after : ℕ) → now ≤ after → IsReady o now node → IsReady o after node
-ready_later o node now after h k = record { rules = k.rules; unspent = k.unspent; me = k.me; ins = k.ins; past = omega (arith, k.past); taken = k.taken; buf = k.buf; next = k.next; shelf = shelf_later node.shelf now after h k.shelf }
+ready_later o node now after h k = record { rules = k.rules; unspent = k.unspent; me = k.me; ins = k.ins; past = omega (arith, k.past); taken = k.taken; buf = k.buf; next = k.next }
 
 -- a node whose station went on, and which has done so many commands
-pub ready_on : (o : Orders) (now octets : ℕ) (before after : Node) → IsReady o now before → GoesOn now octets before.dock.station after.dock.station → before.next * most_octets + octets ≤ after.next * most_octets → vec_len after.buf ≡ most_octets → after.next ≤ vec_len o.commands → IfSome after.shelf (IsShelfUpTo now) → IsReady o now after
-ready_on o now octets before after h k more buf next shelf = record {
+pub ready_on : (o : Orders) (now octets : ℕ) (before after : Node) → IsReady o now before → GoesOn now octets before.dock.station after.dock.station → before.next * most_octets + octets ≤ after.next * most_octets → vec_len after.buf ≡ most_octets → after.next ≤ vec_len o.commands → IsReady o now after
+ready_on o now octets before after h k more buf next = record {
   rules = k.rules ∙ h.rules;
   unspent = k.unspent;
   me = k.me ∙ h.me;
@@ -42,7 +35,6 @@ ready_on o now octets before after h k more buf next shelf = record {
   taken = taken_more after.dock.station.state.host (before.next * most_octets + octets) (after.next * most_octets) more (k.taken (before.next * most_octets) h.taken);
   buf = buf;
   next = next;
-  shelf = shelf;
 }
 
 pub not_equal : (a b : ℕ) → (a ≡ b → ⊥) → (a == b) ≡ false
@@ -115,8 +107,8 @@ none_taken : (p : Params) (me bound : ℕ) (again : Bool) → HasTakenAtMost bou
 none_taken p me bound true = tt
 none_taken p me bound false = tt
 
-ready_started : (o : Orders) (node : Node) (outs : List OutLink) (ins : List InLink) (routes : List Route) → ins ≡ o.setup.ins.items → node.dock.station ≡ station_started o.setup.rules o.setup.me.0 (restart_of o.setup.again) outs ins routes → node.next ≡ 0 → vec_len node.buf ≡ most_octets → IfSome node.shelf (IsShelfUpTo 0) → IsReady o 0 node
-ready_started o node outs ins routes links station next buf shelf = record {
+ready_started : (o : Orders) (node : Node) (outs : List OutLink) (ins : List InLink) (routes : List Route) → ins ≡ o.setup.ins.items → node.dock.station ≡ station_started o.setup.rules o.setup.me.0 (restart_of o.setup.again) outs ins routes → node.next ≡ 0 → vec_len node.buf ≡ most_octets → IsReady o 0 node
+ready_started o node outs ins routes links station next buf = record {
   rules = ap (λ (s : StationValue (Unit {0})). s.rules) station;
   unspent = ap (λ (s : StationValue (Unit {0})). s.spent) station;
   me = ap (λ (s : StationValue (Unit {0})). s.state.host.me) station ∙ me_at o.setup.rules o.setup.me.0 o.setup.again;
@@ -125,9 +117,8 @@ ready_started o node outs ins routes links station next buf shelf = record {
   taken = subst (λ (s : StationValue (Unit {0})). HasTakenAtMost (node.next * most_octets) s.state.host) (sym station) (none_taken o.setup.rules o.setup.me.0 (node.next * most_octets) o.setup.again);
   buf = buf;
   next = omega (arith, next);
-  shelf = shelf;
 }
 
-pub ready_first : (o : Orders) (node : Node) (again : Option ℕ) (outs : List OutLink) (ins : List InLink) (routes : List Route) → again ≡ restart_of o.setup.again → ins ≡ o.setup.ins.items → node.dock.station ≡ station_started o.setup.rules o.setup.me.0 again outs ins routes → node.next ≡ 0 → vec_len node.buf ≡ most_octets → IfSome node.shelf (IsShelfUpTo 0) → IsReady o 0 node
-ready_first o node again outs ins routes is links station next buf shelf =
-    ready_started o node outs ins routes links (subst (λ (a : Option ℕ). node.dock.station ≡ station_started o.setup.rules o.setup.me.0 a outs ins routes) is station) next buf shelf
+pub ready_first : (o : Orders) (node : Node) (again : Option ℕ) (outs : List OutLink) (ins : List InLink) (routes : List Route) → again ≡ restart_of o.setup.again → ins ≡ o.setup.ins.items → node.dock.station ≡ station_started o.setup.rules o.setup.me.0 again outs ins routes → node.next ≡ 0 → vec_len node.buf ≡ most_octets → IsReady o 0 node
+ready_first o node again outs ins routes is links station next buf =
+    ready_started o node outs ins routes links (subst (λ (a : Option ℕ). node.dock.station ≡ station_started o.setup.rules o.setup.me.0 a outs ins routes) is station) next buf

@@ -1,9 +1,8 @@
 -- The node of the code, and what came for it, as the definitions have them.
-use Rattle.std.specs.Prelude.{◌≡◌, ℕ, ◌+◌, ◌*◌, ◌≤◌, Bool, true, false, List, map, drop, vec_len, Option, Some, None, Result, Ok, Err, IfSome, option_map}
+use Rattle.std.specs.Prelude.{◌≡◌, ℕ, ◌+◌, ◌*◌, ◌≤◌, Bool, true, false, List, map, drop, vec_len, Option, Some, None, Result, Ok, Err, option_map}
 use Rattle.dt_flow_model.specs.Keeping.{most_moment}
 use Rattle.dt_edges.specs.Wires.{Datagram}
 use Rattle.dt_station.specs.Stations.{StationValue}
-use Rattle.dt_shelf.specs.Shelves.{IsShelfUpTo}
 use Rattle.dt_world_laws.specs.Counting.{HasTakenAtMost}
 use Rattle.dt_script.specs.declared.orders.Orders.{Orders}
 use Rattle.dt_text.specs.Tasks.{most_octets}
@@ -47,7 +46,6 @@ pub record IsReady (o : Orders) (now : ℕ) (node : Node) : Type 0 where
   pub taken : HasTakenAtMost (node.next * most_octets) node.dock.station.state.host
   pub buf : vec_len node.buf ≡ most_octets
   pub next : node.next ≤ vec_len o.commands
-  pub shelf : IfSome node.shelf (IsShelfUpTo now)
 
 -- a turn may be taken at a moment
 pub record MayTurn (o : Orders) (now : ℕ) (node : Node) : Type 0 where

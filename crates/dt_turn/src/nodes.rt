@@ -1,6 +1,6 @@
 //! A node between two turns.
-ghost use Rattle.std.specs.Prelude.{◌≡◌, IfOk, IfSome, option_map};
-ghost use Rattle.dt_shelf.specs.Shelves.{IsShelfUpTo, empty_shelf};
+ghost use Rattle.std.specs.Prelude.{◌≡◌, IfOk, option_map};
+ghost use Rattle.dt_shelf.specs.Shelves.{empty_shelf};
 ghost use Rattle.dt_script.specs.Codes.{orders_seen};
 ghost use Rattle.dt_turn.specs.Codes.{IsReady, node_seen};
 ghost use Rattle.dt_turn.specs.Nodes.{first_node, restart_of};
@@ -77,7 +77,6 @@ fn restart(again: bool) -> Option<u64>
 /// An empty shelf, where one is asked for.
 fn new_shelf(alloc: Global, room: Option<u32>) -> Result<Option<Shelf>, NoMemory>
     ensures empty { IfOk result (λ shelf. shelf ≡ option_map empty_shelf room) }
-    ensures past { IfOk result (λ shelf. IfSome shelf (IsShelfUpTo 0)) }
 {
     match room {
         Some(room) => Ok(Some(Shelf::with_room(alloc, room)?)),

@@ -1,9 +1,8 @@
 //! A turn of a node.
-ghost use Rattle.std.specs.Prelude.{◌≡◌, ◌*◌, ◌<◌, ◌≤◌, All, IfOk, IfSome, OnErr, OnOk, false, length, true, vec_len};
+ghost use Rattle.std.specs.Prelude.{◌≡◌, ◌*◌, ◌<◌, ◌≤◌, All, IfOk, OnErr, OnOk, false, length, true, vec_len};
 ghost use Rattle.std.specs.Option.{IsSomeAnd};
 ghost use Rattle.dt_flow_model.specs.SendActs.{IsBefore};
 ghost use Rattle.dt_layout.specs.Reading.{gram_fault};
-ghost use Rattle.dt_shelf.specs.Shelves.{IsShelfUpTo};
 ghost use Rattle.dt_station.specs.Events.{MayHappenHere, local_seen};
 ghost use Rattle.dt_world_model.specs.Script.{Concludes};
 ghost use Rattle.dt_world_model.specs.Station.{Tick, station_event};
@@ -54,13 +53,11 @@ fn comes<V: Visitor<Frame>>(
     now: u64,
     visitor: &mut V,
 ) -> Result<(), NoMemory>
-    requires past { IfSome shelf.old (IsShelfUpTo now) }
     requires go { MayGo now dock.old.station }
     ensures ends { let script = comes dock.old.station.rules now (arrival_seen arrival.entry) (gram_fault arrival.entry.octets.now) dock.old.station.state shelf.old in
         Concludes V.tells (V.tags now) V.hands V.fails result script visitor.old visitor.new (inside dock.new.station.state shelf.new) }
     ensures on { OnOk result (GoesOn now 0 dock.old.station dock.new.station) }
     ensures memory { OnErr result (dock.new.station.spent ≡ true) }
-    ensures past { IfSome shelf.new (IsShelfUpTo now) }
 {
     match GramOctets::read(arrival.octets) {
         Err(fault) => {
@@ -86,13 +83,11 @@ fn hand_in<V: Visitor<Frame>>(
     visitor: &mut V,
 ) -> Result<(), NoMemory>
     requires ins { node.old.dock.station.state.relay.ins ≡ ins.now }
-    requires past { IfSome node.old.shelf (IsShelfUpTo now) }
     requires go { MayGo now node.old.dock.station }
     ensures ends { let script = hand_in node.old.dock.station.rules now (arrived came.entry) node.old.dock.station.state node.old.shelf in
         Concludes V.tells (V.tags now) V.hands V.fails result script visitor.old visitor.new (inside node.new.dock.station.state node.new.shelf) }
     ensures on { OnOk result (GoesOn now 0 node.old.dock.station node.new.dock.station) }
     ensures memory { OnErr result (node.new.dock.station.spent ≡ true) }
-    ensures past { IfSome node.new.shelf (IsShelfUpTo now) }
     ensures next { node.new.next ≡ node.old.next }
     ensures room { vec_len node.new.buf ≡ vec_len node.old.buf }
 {

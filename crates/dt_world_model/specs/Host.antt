@@ -29,7 +29,7 @@ use Rattle.dt_flow_model.specs.Acting.{record_for}
 use Rattle.dt_flow_model.specs.Frames.{flow_of, number_in, frame_of_act, recv_frame}
 use Rattle.dt_units.specs.Flows.{IsFlow}
 use Rattle.dt_units.specs.Moments.{earlier}
-use Rattle.dt_flow_model.specs.Keeping.{IsSendRecord, IsReceiverKept, IsUpTo, IsStandingUpTo}
+use Rattle.dt_flow_model.specs.Keeping.{IsSendRecord, IsReceiverKept}
 use Rattle.dt_world_model.specs.Tables.{same_flow, look, write_or_erase, Distinct, AllEntries, earliest, total}
 
 pub record Host : Type 0 where
@@ -248,8 +248,3 @@ pub record IsHost (p : Params) (host : Host) : Type 0 where
   pub one_receiver : Distinct same_flow host.receivers
   pub senders : AllEntries (IsSender p host.me) host.senders
   pub receivers : AllEntries (IsReceiver p host.me) host.receivers
-
--- What a host keeps of the past is by now: each later moment that it is given is no less.
-pub record IsHostUpTo (p : Params) (now : ℕ) (host : Host) : Type 0 where
-  pub senders : AllEntries (λ f x. IsUpTo now x) host.senders
-  pub receivers : AllEntries (λ f r. IsStandingUpTo p now r.standing) host.receivers

@@ -1,7 +1,6 @@
 -- A relay: a queue for each out link, and the routes. A packet pays with its life for its time in a queue, and for the link that it came over. Moments are readings of the station's clock.
-use Rattle.std.specs.Prelude.{ℕ, ◌+◌, ◌-◌, ◌==◌, ◌≤◌, List, [], ◌∷◌, ◌++◌, All, map, length, Option, Some, None, nat_lt, nat_le, if◌then◌else◌}
+use Rattle.std.specs.Prelude.{ℕ, ◌+◌, ◌-◌, ◌==◌, List, [], ◌∷◌, ◌++◌, map, length, Option, Some, None, nat_lt, nat_le, if◌then◌else◌}
 use Rattle.dt_layout.specs.Carried.{life_of, to_of, lowered}
-use Rattle.dt_flow_model.specs.Keeping.{IsBy}
 use Rattle.dt_world_model.specs.declared.links.Entered.{Entered}
 use Rattle.dt_world_model.specs.declared.links.Entered.TheVariants.{Queued, NoRoute, Full}
 use Rattle.dt_world_model.specs.declared.links.OutLink.{OutLink}
@@ -131,8 +130,3 @@ out_wake out (w ∷ ws) = Some (may_leave_from out.pace out.last)
 
 abbrev pub relay_wake : {T : Type 0} → List (Out T) → Option ℕ
 relay_wake outs = earliest (λ out. out_wake out out.waits) outs
-
--- What a queue keeps of the past is by now.
-pub record IsOutUpTo {T : Type 0} (now : ℕ) (out : Out T) : Type 0 where
-  pub waits : All (λ (w : Waiting T). w.since ≤ now) out.waits
-  pub last : IsBy now out.last

@@ -1,5 +1,5 @@
 -- What a station does in one event: it settles, does the event, and settles again.
-use Rattle.std.specs.Prelude.{Bool, true, false, ◌==◌, ℕ, zero, suc, List, [], ◌∷◌, All, length, map, Option, Some, None, Result, Ok, Err, if◌then◌else◌}
+use Rattle.std.specs.Prelude.{Bool, true, false, ◌==◌, ℕ, zero, suc, List, [], ◌∷◌, length, map, Option, Some, None, Result, Ok, Err, if◌then◌else◌}
 use Rattle.dt_items.specs.declared.piece.Piece.{Piece}
 use Rattle.dt_items.specs.Unread.{marked, octets_of, piece_told}
 use Rattle.dt_units.specs.declared.parameters.Params.{Params}
@@ -15,8 +15,8 @@ use Rattle.dt_reports.specs.Told.{Told, read_told}
 use Rattle.dt_flow_model.specs.Frames.{flow_of, reply_frame}
 use Rattle.dt_world_model.specs.declared.links.Entered.{Entered}
 use Rattle.dt_world_model.specs.declared.links.Entered.TheVariants.{Queued, NoRoute, Full}
-use Rattle.dt_world_model.specs.Host.{Host, Turn, next_turn, work, send_octets, read_octets, arrive, told_arrival, host_wake, IsHostUpTo}
-use Rattle.dt_world_model.specs.Relay.{Parcel, Out, Relay, Left, Goes, Expired, leave, with_outs, enter, admit, relay_wake, IsOutUpTo}
+use Rattle.dt_world_model.specs.Host.{Host, Turn, next_turn, work, send_octets, read_octets, arrive, told_arrival, host_wake}
+use Rattle.dt_world_model.specs.Relay.{Parcel, Out, Relay, Left, Goes, Expired, leave, with_outs, enter, admit, relay_wake}
 use Rattle.dt_world_model.specs.Script.{Script, Done, Tell, Ask, Hand, ◌>>=◌}
 
 pub record Station (T : Type 0) : Type 0 where
@@ -130,8 +130,3 @@ station_event p now e station = settle_station p now station >>= λ before. happ
 -- The wake: the least moment at which an act is due or a packet may leave.
 abbrev pub station_wake : {T : Type 0} → Params → Station T → Option ℕ
 station_wake p station = earlier (host_wake p station.host) (relay_wake station.relay.outs)
-
--- What a station keeps of the past is by now: each later moment that it is given is no less.
-pub record IsStationUpTo {T : Type 0} (p : Params) (now : ℕ) (station : Station T) : Type 0 where
-  pub host : IsHostUpTo p now station.host
-  pub relay : All (IsOutUpTo now) station.relay.outs

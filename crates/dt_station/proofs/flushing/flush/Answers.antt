@@ -23,7 +23,6 @@ flush-preserved g c =
     let leads = leads_is g.V.Visitor.tells (g.V.Visitor.tags c.args.now.ms) g.V.Visitor.hands g.V.Visitor.fails (flush_at first c.args.now.ms c.args.relay.now.outs) (flush_at first c.args.now.ms c.flush.relay.outs) (let_out link left >>= flush_at first c.args.now.ms) c.args.visitor.now c.flush.visitor (flush_on_link first link c.args.now.ms c.flush.relay.outs same c.flush-test.ensures) c.flush.invariant.leads in
     record {
       leads = leads_after g.V.Visitor.tells (g.V.Visitor.tags c.args.now.ms) g.V.Visitor.hands g.V.Visitor.fails (flush_at first c.args.now.ms c.args.relay.now.outs) c.args.visitor.now (let_out link left) (flush_at first c.args.now.ms) c.flush.visitor c.let_out.new.visitor c.let_out.new.relay.outs leads c.in_ok-let_out.ensures.ends;
-      past = c.in_ok-let_out.ensures.past;
       links = ap (λ (r : Relay _). map link_of r.outs) c.in_ok-let_out.ensures.after ∙ leave_links link c.args.now.ms c.flush.relay.outs ∙ c.flush.invariant.links;
       others = kept c.args.relay.now c.flush.relay c.let_out.new.relay _ c.in_ok-let_out.ensures.after c.flush.invariant.others;
     }

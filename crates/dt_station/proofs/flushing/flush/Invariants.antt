@@ -1,6 +1,6 @@
-use Rattle.std.proofs.Common.{◌≡◌, All, map}
+use Rattle.std.proofs.Common.{◌≡◌, map}
 use Rattle.dt_relay.specs.Places.{link_in, link_of}
-use Rattle.dt_world_model.specs.Relay.{IsOutUpTo, with_outs}
+use Rattle.dt_world_model.specs.Relay.{with_outs}
 use Rattle.dt_world_model.specs.Station.{flush_at}
 use Rattle.dt_station.proofs.Playing.{Leads}
 use Rattle.dt_station.proofs.Flushes.{waiting_on}
@@ -13,7 +13,6 @@ invariant-flush g l =
     let link = link_in l.fn.relay.outs l.place in
     record {
       leads : Leads visitor.tells (visitor.tags l.now.ms) visitor.hands visitor.fails (flush_at link l.now.ms l.fn.relay.outs) l.fn.visitor (flush_at link l.now.ms l.relay.outs) l.visitor;
-      past : All (IsOutUpTo l.now.ms) l.relay.outs;
       links : map link_of l.relay.outs ≡ map link_of l.fn.relay.outs;
       others : l.relay ≡ with_outs l.fn.relay l.relay.outs;
     }

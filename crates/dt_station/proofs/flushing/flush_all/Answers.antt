@@ -24,7 +24,6 @@ loop-place-preserved g c =
     let leads = rw next at c.loop-place.invariant.leads in
     record {
       leads = leads_after g.V.Visitor.tells (g.V.Visitor.tags c.args.now.ms) g.V.Visitor.hands g.V.Visitor.fails (flush_links c.args.now.ms links c.args.relay.now.outs) c.args.visitor.now (flush_at (link_in c.loop-place.relay.outs c.loop-place.place) c.args.now.ms c.loop-place.relay.outs) (flush_links c.args.now.ms (drop (c.loop-place.place + 1) links)) c.loop-place.visitor c.flush.new.visitor c.flush.new.relay.outs leads c.in_ok-flush.ensures.ends;
-      past = c.in_ok-flush.ensures.past;
       links = c.in_ok-flush.ensures.links ∙ c.loop-place.invariant.links;
       end = c.loop-place.invariant.end;
       others = kept c.args.relay.now c.loop-place.relay c.flush.new.relay _ c.in_ok-flush.ensures.others c.loop-place.invariant.others;

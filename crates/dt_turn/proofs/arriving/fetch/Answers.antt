@@ -2,7 +2,7 @@ use Rattle.std.proofs.Common.{◌≡◌, Some, arith}
 use Rattle.dt_shelf.specs.declared.taken.Taken.TheVariants as taken
 use Rattle.dt_shelf.specs.Shelves.{take_held}
 use Rattle.dt_turn.specs.Shelving.{fetch}
-use Rattle.dt_shelf.proofs.Keeping.{take_falls, take_past}
+use Rattle.dt_shelf.proofs.Keeping.{take_falls}
 use Rattle.dt_turn.proofs.Shelved.{again_plays, stale_goes}
 use Rattle.dt_turn.proofs.arriving.fetch.Goals as goal
 
@@ -26,7 +26,6 @@ fetching-preserved g c =
       most = step.0;
       enough = step.1;
       leads = step.2;
-      past = take_past flow n now now c.fetching.shelf c.take.new.self left i.past;
       fewer = omega (arith, less, i.fewer);
     }
 
@@ -42,14 +41,8 @@ returns-in-Again-clause-plays g c =
     let is : Some (taken.Again link octets) ≡ (take_held flow n now c.fetching.shelf).0 = cc (c.in-Some.ensures.taken, c.in-Again.is) in
     again_plays v.tells (v.tags now) v.hands v.fails (fetch flow n now c.args.shelf.now) c.args.visitor.now flow n now i.most c.fetching.shelf c.take.new.self c.fetching.visitor i.enough i.leads c.take.ensures.left c.tell-in-Again.new.self link octets is c.tell-in-Again.ensures
 
-pub returns-in-Again-clause-past : goal.returns-in-Again-clause-past
-returns-in-Again-clause-past g c = take_past c.args.flow c.args.number c.args.now.ms c.args.now.ms c.fetching.shelf c.take.new.self c.take.ensures.left c.fetching.invariant.past
-
 pub returns-in-Again-clause-fewer : goal.returns-in-Again-clause-fewer
 returns-in-Again-clause-fewer g c =
     let i = c.fetching.invariant in
     let less = take_falls c.args.flow c.args.number c.args.now.ms c.fetching.shelf c.take.new.self c.in-Some.taken c.in-Some.ensures.taken c.take.ensures.left in
     omega (arith, less, i.fewer)
-
-pub returns-clause-past : goal.returns-clause-past
-returns-clause-past g c = take_past c.args.flow c.args.number c.args.now.ms c.args.now.ms c.fetching.shelf c.take.new.self c.take.ensures.left c.fetching.invariant.past

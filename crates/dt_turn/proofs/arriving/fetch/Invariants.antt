@@ -1,5 +1,4 @@
 use Rattle.std.proofs.Common.{◌≤◌, length, ℕ}
-use Rattle.dt_shelf.specs.Shelves.{IsShelfUpTo}
 use Rattle.dt_station.proofs.Playing.{Leads}
 use Rattle.dt_turn.specs.Shelving.{fetch, fetch_turns}
 use Rattle.dt_turn.proofs.arriving.fetch.Given as goal
@@ -12,7 +11,6 @@ invariant-fetching g l =
       most : ℕ;
       enough : length l.shelf.held ≤ most;
       leads : Leads v.tells (v.tags l.now.ms) v.hands v.fails (fetch l.flow l.number l.now.ms l.fn.shelf) l.fn.visitor (fetch_turns most l.flow l.number l.now.ms l.shelf) l.visitor;
-      past : IsShelfUpTo l.now.ms l.shelf;
       fewer : length l.shelf.held ≤ length l.fn.shelf.held;
     }
 

@@ -65,6 +65,6 @@ due-preserved g c =
     let due : c.index-command.result.now.at ≤ now = omega (arith, c.if-from-now.false, c.from.ensures) in
     record {
       leads = due_goes v.tells (v.tags now) v.hands v.fails whole c.args.visitor.now c.due.visitor o.setup.rules c.due.node.dock.station.rules now c.args.node.now.shelf (left_of o c.due.node.next) (command_seen c.index-command.result.now) (left_of o (c.due.node.next + 1)) c.due.node.dock.station.state i.ready.rules (is_next g k) i.leads c.do_task.new.visitor c.do_task.new.station.state due c.in_ok-do_task.ensures.ends;
-      ready = ready_on o now most_octets c.due.node _ i.ready c.in_ok-do_task.ensures.on (omega arith) c.in_ok-do_task.ensures.room (omega (arith, here g k, o.commands.ok.0)) i.ready.shelf;
+      ready = ready_on o now most_octets c.due.node _ i.ready c.in_ok-do_task.ensures.on (omega arith) c.in_ok-do_task.ensures.room (omega (arith, here g k, o.commands.ok.0));
       shelf = i.shelf;
     }

@@ -30,4 +30,4 @@ returns-clause-ends g c =
 
 pub returns-clause-ready : goal.returns-clause-ready
 returns-clause-ready g c =
-    ready_on c.args.orders.now c.args.now 0 c.args.node.now _ c.requires.may.ready c.in_ok-tick.ensures.on (omega arith) c.requires.may.ready.buf c.requires.may.ready.next c.requires.may.ready.shelf
+    ready_on c.args.orders.now c.args.now 0 c.args.node.now _ c.requires.may.ready c.in_ok-tick.ensures.on (omega arith) c.requires.may.ready.buf c.requires.may.ready.next

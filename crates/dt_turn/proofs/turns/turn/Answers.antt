@@ -17,7 +17,7 @@ returns-in_err-hand_in-clause-ends g c =
 
 pub do_due-requires : goal.do_due-requires
 do_due-requires g c =
-    record { may = record { good = c.requires.may.good; ready = ready_on c.args.orders.now c.args.now 0 c.args.node.now c.hand_in.new.node c.requires.may.ready c.in_ok-hand_in.ensures.on (omega (arith, c.hand_in.ensures.next)) (omega (arith, c.hand_in.ensures.room, c.requires.may.ready.buf)) (omega (arith, c.hand_in.ensures.next, c.requires.may.ready.next)) c.hand_in.ensures.past; moment = c.requires.may.moment } }
+    record { may = record { good = c.requires.may.good; ready = ready_on c.args.orders.now c.args.now 0 c.args.node.now c.hand_in.new.node c.requires.may.ready c.in_ok-hand_in.ensures.on (omega (arith, c.hand_in.ensures.next)) (omega (arith, c.hand_in.ensures.room, c.requires.may.ready.buf)) (omega (arith, c.hand_in.ensures.next, c.requires.may.ready.next)); moment = c.requires.may.moment } }
 
 pub returns-in_err-do_due-clause-ends : goal.returns-in_err-do_due-clause-ends
 returns-in_err-do_due-clause-ends g c =

@@ -1,13 +1,6 @@
-use Rattle.std.proofs.Common.{◌≡◌, map, sym, ap, ◌∙◌}
 use Rattle.std.proofs.lemmas.List.Elements.{All-drop}
-use Rattle.dt_relay.specs.Carrying.{WaitsAsGram, waiting_seen}
-use Rattle.dt_relay.proofs.Queueing.{first_since}
+use Rattle.dt_relay.specs.Carrying.{WaitsAsGram}
 use Rattle.dt_relay.proofs.queues.LinkQueue.leave.Goals as goal
-
-pub wait_charge-requires : goal.wait_charge-requires
-wait_charge-requires g c =
-    let waits : map (waiting_seen g.P.Carry.octets g.P.Carry.label) c.self.inside.ring.items ≡ c.args.self.now.waits = ap (λ q. q.waits) c.self.view_is in
-    first_since g.P.Carry.octets g.P.Carry.label c.args.now.ms c.self.inside.ring.items c.in_ok-packet.field-0 (rw waits c.requires.waits) (sym c.pop_front.ensures.value ∙ c.in_ok-packet.was)
 
 pub invariant_of-self-in_default : goal.invariant_of-self-in_default
 invariant_of-self-in_default g c =

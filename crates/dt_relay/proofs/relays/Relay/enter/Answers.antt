@@ -1,12 +1,10 @@
-use Rattle.std.proofs.Common.{◌≡◌, All, List, ap, sym, subst, refl, ◌∙◌}
+use Rattle.std.proofs.Common.{◌≡◌, ap, sym, refl, ◌∙◌}
 use Rattle.dt_world_model.specs.declared.links.Entered.TheVariants.{NoRoute}
-use Rattle.dt_world_model.specs.Relay.{IsOutUpTo, Out}
 use Rattle.dt_relay.specs.Carrying.{parcel_seen}
 use Rattle.dt_relay.specs.Places.{link_of}
 use Rattle.dt_relay.proofs.Causes.{enter_cause}
-use Rattle.dt_relay.proofs.Links.{enter_there, enter_nowhere}
+use Rattle.dt_relay.proofs.Links.{enter_there, enter_nowhere, push_link}
 use Rattle.dt_relay.proofs.Lookups.{stays_placed}
-use Rattle.dt_relay.proofs.Past.{enter_past, push_link}
 use Rattle.dt_relay.proofs.relays.Relay.enter.Goals as goal
 
 pub returns-in-None-place-clause-answer : goal.returns-in-None-place-clause-answer
@@ -45,8 +43,3 @@ returns-in-None-place-clause-cause g c = returns-in-None-place-clause-answer g c
 
 pub returns-in-Some-place-clause-cause : goal.returns-in-Some-place-clause-cause
 returns-in-Some-place-clause-cause g c = returns-in-Some-place-clause-answer g c ∙ enter_cause (parcel_seen g.P.Carry.octets g.P.Carry.label c.args.packet) c.args.now c.args.self.now
-
-pub returns-in-Some-place-clause-past : goal.returns-in-Some-place-clause-past
-returns-in-Some-place-clause-past g c = λ past.
-    subst (λ (outs : List (Out _)). All (IsOutUpTo c.args.now) outs) (sym (ap (λ w. w.outs) (returns-in-Some-place-clause-after g c)))
-    (enter_past c.args.now (parcel_seen g.P.Carry.octets g.P.Carry.label c.args.packet) c.args.self.now past)

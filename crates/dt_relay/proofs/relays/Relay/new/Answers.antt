@@ -1,5 +1,4 @@
 use Rattle.dt_relay.proofs.Lookups.{firsts_queues, tells_queues}
-use Rattle.dt_relay.proofs.Past.{empty_past}
 use Rattle.dt_relay.proofs.relays.Relay.new.Goals as goal
 
 pub invariant_of-result : goal.invariant_of-result
@@ -9,6 +8,3 @@ invariant_of-result g c = record {
   by_node = rw c.in_ok-from_slice-2.ensures.items c.in_ok-places_in-2.ensures;
   by_place = firsts_queues c.args.outs.now c.in_ok-empty_queues.field-0.items c.in_ok-firsts.firsts.items c.in_ok-out_places.out_places c.in_ok-empty_queues.ensures (tells_queues c.args.outs.now c.in_ok-empty_queues.field-0.items c.in_ok-out_places.out_places c.in_ok-empty_queues.ensures c.in_ok-out_places.ensures) c.in_ok-firsts.ensures;
 }
-
-pub returns-clause-past : goal.returns-clause-past
-returns-clause-past g c = λ now. rw c.in_ok-empty_queues.ensures (empty_past now c.args.outs.now)

@@ -23,7 +23,6 @@ turns-preserved-then-not-makes_frame g c =
       me = ap (λ (h : HostValue). h.state.me) after ∙ next_me before.host.value.rules first.latest before.host.value.state ∙ here.me;
       latest = let e = ap (λ (h : HostValue). h.latest) after in omega (arith, e);
       others = here.others;
-      past = here.past;
     }
 
 pub turns-preserved : goal.turns-preserved
@@ -43,7 +42,6 @@ turns-preserved g c =
       me = ap (λ (h : HostValue). h.state.me) after ∙ next_me before.host.value.rules first.latest before.host.value.state ∙ here.me;
       latest = let e = ap (λ (h : HostValue). h.latest) after in omega (arith, e);
       others = kept first.state.relay before.relay.value c.send_off.new.relay _ (rw c.deref_mut-in-Some.ensures.value at c.in_ok-send_off.ensures.others) here.others;
-      past = rw here.now at c.in_ok-send_off.ensures.past;
     }
 
 pub returns-in_err-send_off-clause-ends : goal.returns-in_err-send_off-clause-ends

@@ -1,6 +1,6 @@
-use Rattle.std.proofs.Common.{◌≡◌, ◌≤◌, All}
+use Rattle.std.proofs.Common.{◌≡◌, ◌≤◌}
 use Rattle.dt_world_model.specs.Host.{work}
-use Rattle.dt_world_model.specs.Relay.{IsOutUpTo, with_outs}
+use Rattle.dt_world_model.specs.Relay.{with_outs}
 use Rattle.dt_world_model.specs.Station.{do_turns}
 use Rattle.dt_station.proofs.Turns.{Turning}
 use Rattle.dt_station.proofs.stations.Station.do_turns.Given as goal
@@ -19,7 +19,6 @@ invariant-turns g l =
       me : host.state.me ≡ first.state.host.me;
       latest : host.latest ≤ first.latest;
       others : relay ≡ with_outs first.state.relay relay.outs;
-      past : All (IsOutUpTo first.latest) relay.outs;
     }
 
 abbrev pub decreases-turns : goal.decreases-turns

@@ -6,7 +6,4 @@ pub invariant_of-result : goal.invariant_of-result
 invariant_of-result g c =
     let latest = ap (λ (h : HostValue). h.latest) c.in_ok-host.ensures in
     let kept = ap (λ (h : HostValue). h.latest) c.in_ok-new.ensures.ok in
-    record {
-      host_past = omega (arith, latest, kept, c.unwrap_or.ensures);
-      relay_past = rw c.in_ok-new-2.ensures.ok (c.in_ok-relay.ensures.past c.unwrap_or.result);
-    }
+    omega (arith, latest, kept, c.unwrap_or.ensures)

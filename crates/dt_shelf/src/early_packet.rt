@@ -1,0 +1,13 @@
+use dt_layout::GramOctets;
+use dt_units::Flow;
+
+/// A packet that came too early, whose octets are lent.
+#[derive(Clone, Copy)]
+pub struct EarlyPacket<'a> {
+    /// The link on which it came.
+    pub link: u16,
+    pub flow: Flow,
+    /// The sequence number of its first octet.
+    pub number: u32,
+    pub gram: GramOctets<'a>,
+}
