@@ -52,3 +52,21 @@ fn a_packet_is_held_and_taken(rt: HostRuntime) -> Result<(), Fail> {
     }
     Ok(())
 }
+
+/// One that was put there at a later moment was there for no time, and pays the one millisecond.
+#[test]
+fn a_later_moment_counts_as_no_time(rt: HostRuntime) -> Result<(), Fail> {
+    let mut shelf = Shelf::with_room(rt.alloc(), 1).ok().ok_or("memory")?;
+    let frame = packet(&rt, 100, 4);
+    assert!(rt; shelf.hold(1, FLOW, 4, &frame, 30));
+    let octets: &[u8] =
+        b"\x01\x01\x00\x12\x00\x00\x00\x63\x00\x00\x00\x01\x00\x00\x00\x02\x01\x04\x00\x0a\x00\x14\x00\x00\x00\x04\x00\x00\x00\x00abcd";
+    match shelf.take(&FLOW, 4, 20) {
+        Some(Taken::Again { link, frame }) => {
+            assert!(rt; link == 1);
+            assert!(rt; frame.as_slice() == octets);
+        }
+        _ => return Err("nothing".into()),
+    }
+    Ok(())
+}
