@@ -79,6 +79,15 @@ pub keys_seen : (es : List (Flow × FlowSides)) → keys_in (flows_seen es) ≡ 
 keys_seen [] = refl
 keys_seen (e ∷ es) = ap (λ (gs : List Flow). e.0 ∷ gs) (keys_seen es)
 
+pub keys_long : (es : List (Flow × FlowSides)) → length (keys_in (flows_seen es)) ≡ length es
+keys_long [] = refl
+keys_long (e ∷ es) = ap suc (keys_long es)
+
+pub key_at : (es : List (Flow × FlowSides)) (i : ℕ) (f : Flow) (s : FlowSides) → slice_get es i ≡ Some (f, s) → slice_get (keys_in (flows_seen es)) i ≡ Some f
+key_at [] i f s h = absurd cc
+key_at (e ∷ es) zero f s h = let same : e ≡ (f, s) = cc in ap (λ (x : Flow × FlowSides). Some x.0) same
+key_at (e ∷ es) (suc i) f s h = key_at es i f s h
+
 pub key_written : (f : Flow) (b : model.Begun) (es : List (Flow × model.Begun)) → has_key same_flow f (write same_flow f b es) ≡ true
 key_written f b es = ap is_some (look_write Flow model.Begun same_flow flow_self flow_is f b es)
 

@@ -12,7 +12,7 @@ use Rattle.dt_calls_model.specs.CallStep.{flows_after}
 use Rattle.dt_calls_model.specs.Reads.{happens}
 use Rattle.dt_calls.specs.declared.dues.Due.{Due}
 use Rattle.dt_calls.specs.declared.dues.Due.TheVariants as due
-use Rattle.dt_calls.specs.declared.world_calls.CallsParts.{CallsParts}
+use Rattle.dt_calls.specs.declared.call_courses.CallsParts.{CallsParts}
 use Rattle.dt_calls.specs.Dues.{IsDue, due_after_event}
 use Rattle.dt_calls.specs.Flows.{flows_seen}
 use Rattle.dt_calls.specs.Happening.{HasHappened}

@@ -11,7 +11,7 @@ use Rattle.dt_calls_model.specs.declared.calls.CallState.TheVariants as state
 use Rattle.dt_calls_model.specs.CallStep.{becomes_unsure}
 use Rattle.dt_calls_model.specs.CallTold as told
 use Rattle.dt_calls_model.specs.CallTold.{CallEntry}
-use Rattle.dt_calls.specs.declared.world_calls.CallsParts.{CallsParts}
+use Rattle.dt_calls.specs.declared.call_courses.CallsParts.{CallsParts}
 use Rattle.dt_calls.specs.Waiting.{Covers}
 use Rattle.dt_calls.proofs.JudgeWaiting.{JudgesTo, call_is_there, drop_at, looked_sure, looked_unsure}
 use Rattle.dt_calls.proofs.Waiting.{covers_set}

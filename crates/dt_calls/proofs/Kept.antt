@@ -1,10 +1,9 @@
 -- The facts of calls over the parts of a step, as the code comes to them.
-use Rattle.std.proofs.Common.{ℕ, ◌≡◌, ◌<◌, ◌≤◌, ◌^◌, false, List, length, Option, None, Some, Result, Ok, Err, refl, sym, subst}
+use Rattle.std.proofs.Common.{ℕ, ◌≡◌, ◌<◌, ◌≤◌, ◌^◌, List, length, Option, None, Some, Result, refl, sym, subst}
 use Rattle.dt_units.specs.declared.endpoints.Flow.{Flow}
 use Rattle.dt_units.specs.Flows.{IsFlow}
 use Rattle.dt_reports.specs.Entries.{Entry}
 use Rattle.dt_reports.specs.declared.faults.StepFault.{StepFault}
-use Rattle.dt_reports.specs.declared.faults.StepFault.TheVariants as fault
 use Rattle.dt_world_model.specs.World.{World}
 use Rattle.dt_world_model.specs.WorldStep as world
 use Rattle.dt_world_model.specs.WorldStep.{WorldEvent, after_event, first_refusal, refusals, step_unless, world_step}
@@ -18,6 +17,7 @@ use Rattle.dt_calls_model.specs.CallStep as step
 use Rattle.dt_calls_model.specs.CallStep.{call_refusals, flows_after, make}
 use Rattle.dt_calls_model.specs.CallTold.{CallEntry}
 use Rattle.dt_calls_model.specs.Promises.{AreServedOnce}
+use Rattle.dt_calls.specs.CallCourses.{CourseValue, calls_value}
 use Rattle.dt_calls.specs.CallOutcomes.{Answers, CallsValue, IsDone, StepsTo, lacks_memory}
 use Rattle.dt_calls.specs.Parts.{IsKeptWorld}
 
@@ -49,31 +49,19 @@ made_kept answer c d f payload course few flow fine is =
     let made = made_on answer c f payload course few flow fine in
     record { course = subst (CourseFacts answer) (sym is) made.facts; few = subst (λ (x : Calls). length x.calls ≤ 2 ^ 64) (sym is) made.few }
 
--- A STEP that found memory
-module _ {L : Type 0} (tells : L → CallEntry → L → Type 0) (answer : List ℕ → List ℕ) (c : Calls) (e : step.CallEvent) (l m : L) (facts : CallFacts answer c) (few : length c.calls < 2 ^ 64) (may : law.MayCome e) (new : Calls) where
-  same_facts : new ≡ c → CallFacts answer new
-  same_facts same = subst (CallFacts answer) (sym same) facts
-
-  pub facts_after : {U : Type 0} (result : Result U StepFault) → StepsTo tells answer c e l m result new → lacks_memory result ≡ false → CallFacts answer new
-  facts_after (Ok done) h fine = step_facts answer c e h.told new facts few may h.step
-  facts_after (Err fault.BadFlow) h fine = same_facts h.same
-  facts_after (Err (fault.NoStation n)) h fine = same_facts h.same
-  facts_after (Err (fault.NoCopy n)) h fine = same_facts h.same
-  facts_after (Err (fault.Lost n)) h fine = same_facts h.same
-  facts_after (Err (fault.TooLate held charge)) h fine = same_facts h.same
-  facts_after (Err fault.NoMemory) h fine = absurd cc
-
--- a step that is done
-pub once_done : {L : Type 0} (tells : L → CallEntry → L → Type 0) (answer : List ℕ → List ℕ) (c new : Calls) (e : step.CallEvent) (l m : L) → CallFacts answer c → length c.calls < 2 ^ 64 → law.MayCome e → IsDone tells answer c e l m new → AreServedOnce new
-once_done tells answer c new e l m facts few may h = (step_facts answer c e h.told new facts few may h.step).course.once
+-- A STEP that is done
+pub facts_done : {L : Type 0} (tells : L → CallEntry → L → Type 0) (answer : List ℕ → List ℕ) (c new : Calls) (e : step.CallEvent) (l m : L) → CallFacts answer c → length c.calls < 2 ^ 64 → law.MayCome e → IsDone tells answer c e l m new → CallFacts answer new
+facts_done tells answer c new e l m facts few may h = step_facts answer c e h.told new facts few may h.step
 
 -- WHAT A STEP ANSWERS, by what it told and left
-module _ {L H U : Type 0} (tells : L → CallEntry → L → Type 0) (answer : H → List ℕ → List ℕ) (v new : CallsValue H) (e : step.CallEvent) (l m : L) (result : Result U StepFault) (facts : CallFacts (answer v.handler) v.calls) (few : length v.calls.calls < 2 ^ 64) (may : law.MayCome e) where
-  pub answers_so : StepsTo tells (answer v.handler) v.calls e l m result new.calls → new.handler ≡ v.handler → new.spent ≡ lacks_memory result → AreServedOnce new.calls → Answers tells answer v e l m new result
-  answers_so steps handler spent once = record {
-    steps = steps;
-    handler = handler;
-    spent = spent;
-    once = once;
-    answers = λ payloads own told after is. (step_answers (answer v.handler) v.calls e told after facts few may is payloads own, step_made (answer v.handler) v.calls e told after facts few may is payloads own);
-  }
+module _ {L H U : Type 0} (tells : L → CallEntry → L → Type 0) (answer : H → List ℕ → List ℕ) (c new : CourseValue H) (v : CallsValue H) (seen : calls_value c ≡ v) (e : step.CallEvent) (l m : L) (result : Result U StepFault) (facts : CallFacts (answer c.handler) c.calls) (few : length c.calls.calls < 2 ^ 64) (may : law.MayCome e) where
+  pub answers_so : StepsTo tells (answer c.handler) c.calls e l m result new.calls → new.handler ≡ c.handler → new.spent ≡ lacks_memory result → AreServedOnce new.calls → Answers tells answer v e l m (calls_value new) result
+  answers_so steps handler spent once =
+      subst (λ (x : CallsValue H). Answers tells answer x e l m (calls_value new) result) seen
+      record {
+        steps = steps;
+        handler = handler;
+        spent = spent;
+        once = once;
+        answers = λ payloads own told after is. (step_answers (answer c.handler) c.calls e told after facts few may is payloads own, step_made (answer c.handler) c.calls e told after facts few may is payloads own);
+      }

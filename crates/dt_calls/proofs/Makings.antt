@@ -62,6 +62,10 @@ module _ {L : Type 0} (tells : L → CallEntry → L → Type 0) (f : Flow) (cou
   adds (Ok done) calls flows more named = added calls flows more named
   adds (Err e) calls flows more named = adding_stops
 
+-- the message that is handed in is that of the call
+pub handed_in : (f : Flow) (payload octets : List ℕ) (number : ℕ) (c : Calls) (r : Posted × World) → number ≡ length c.calls → octets ≡ message_of number payload → post f octets c.world ≡ r → post f (message_of (length c.calls) payload) c.world ≡ r
+handed_in f payload octets number c r is message posts = ap (λ (os : List ℕ). post f os c.world) (sym (message ∙ ap (λ (n : ℕ). message_of n payload) is)) ∙ posts
+
 -- THE REQUEST was handed in, and then the call is added.
 module _ (f : Flow) (payload : List ℕ) (c : Calls) (posted : Posted) (w : World) (is : post f (message_of (length c.calls) payload) c.world ≡ (posted, w)) where
   same_making : Making f payload (from_calls c) ≡ Adding f (length payload) posted (from_calls (in_world w c))
@@ -70,9 +74,12 @@ module _ (f : Flow) (payload : List ℕ) (c : Calls) (posted : Posted) (w : Worl
   world_is : (post f (message_of (length c.calls) payload) c.world).1 ≡ w
   world_is = ap (λ (r : Posted × World). r.1) is
 
-  pub makes : {L U E : Type 0} (tells : L → CallEntry → L → Type 0) (l m : L) (r : Result U E) (after : Calls) → GoesOn tells (Adding f (length payload) posted) (in_world w c) l m r after → GoesOn tells (Making f payload) c l m r after
-  makes tells l m (Ok done) after h = record { lines = subst (λ (d : Course). TellsCalls tells d.told l m) (sym same_making) h.lines; calls = h.calls ∙ ap (λ (d : Course). d.calls) (sym same_making) }
-  makes tells l m (Err e) after h = record { part = h.part; rest = h.rest; told = h.told ∙ ap (λ (d : Course). d.told) (sym same_making); lines = h.lines }
+  module _ {L : Type 0} (tells : L → CallEntry → L → Type 0) (l m : L) where
+    pub makes : (after : Calls) → HasGoneOn tells (Adding f (length payload) posted) (in_world w c) l m after → HasGoneOn tells (Making f payload) c l m after
+    makes after h = record { lines = subst (λ (d : Course). TellsCalls tells d.told l m) (sym same_making) h.lines; calls = h.calls ∙ ap (λ (d : Course). d.calls) (sym same_making) }
+
+    pub makes_part : HasStopped tells (Adding f (length payload) posted) (in_world w c) l m → HasStopped tells (Making f payload) c l m
+    makes_part h = record { part = h.part; rest = h.rest; told = h.told ∙ ap (λ (d : Course). d.told) (sym same_making); lines = h.lines }
 
   pub made_world : IsFlow f → IsKeptWorld c.world → IsKeptWorld w
   made_world flow kept = subst IsKeptWorld world_is (post_leaves f (message_of (length c.calls) payload) c.world flow kept).kept

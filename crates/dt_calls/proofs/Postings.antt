@@ -9,7 +9,7 @@ use Rattle.dt_calls_model.specs.declared.calls.Posted.{Posted}
 use Rattle.dt_calls_model.specs.declared.calls.Posted.TheVariants.{Refused, Taken}
 use Rattle.dt_calls_model.specs.Heard.{tells_refusal}
 use Rattle.dt_calls_model.specs.Reads.{happens, post}
-use Rattle.dt_calls.specs.declared.world_calls.CallsParts.{CallsParts}
+use Rattle.dt_calls.specs.declared.call_courses.CallsParts.{CallsParts}
 use Rattle.dt_calls.specs.Happening.{HasHappened}
 use Rattle.dt_calls.specs.Hearing.{HeardValue}
 use Rattle.dt_calls.specs.Parts.{HasPosted}

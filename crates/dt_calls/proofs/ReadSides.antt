@@ -1,5 +1,5 @@
 -- What the code has after a read of a side, and after the message that it makes whole.
-use Rattle.std.proofs.Common.{ℕ, ◌≡◌, ◌<◌, ◌≤◌, ◌^◌, true, false, List, length, Option, Some, None, Result, Err, refl, ap, sym, subst, ◌∙◌}
+use Rattle.std.proofs.Common.{ℕ, ◌≡◌, ◌<◌, ◌≤◌, ◌^◌, Bool, true, false, List, length, Option, Some, None, Result, Err, refl, ap, sym, subst, ◌∙◌}
 use Rattle.std.specs.Prelude.{MatchOption, is_some}
 use Rattle.dt_units.specs.declared.endpoints.Flow.{Flow}
 use Rattle.dt_units.specs.Flows.{IsFlow}
@@ -9,22 +9,22 @@ use Rattle.dt_world_model.specs.WorldStep.{Reads}
 use Rattle.dt_world.specs.Worlds.{WorldValue}
 use Rattle.dt_calls_laws.specs.Told.{IsOn}
 use Rattle.dt_calls_model.specs.declared.calls.Call.{Call}
-use Rattle.dt_calls_model.specs.CallFacts.{CourseFacts}
 use Rattle.dt_calls_model.specs.Calls.{Begun, Calls, Server, Side, flow_read}
 use Rattle.dt_calls_model.specs.CallTold.{CallEntry}
 use Rattle.dt_calls_model.specs.Heard.{piece_in}
 use Rattle.dt_calls_model.specs.Messages.{Piece, carried_in}
 use Rattle.dt_calls_model.specs.Promises.{AreServedOnce}
 use Rattle.dt_calls_model.specs.Reads.{Course, happens, most_read, read_side, take_whole}
-use Rattle.dt_calls.specs.declared.world_calls.CallsParts.{CallsParts}
+use Rattle.dt_calls.specs.declared.call_courses.CallsParts.{CallsParts}
+use Rattle.dt_calls.specs.CallCourses.{CourseValue, IsOnCourse, course_seen}
 use Rattle.dt_calls.specs.Courses.{GoesOn, HasGoneOn, HasStopped, from_calls}
 use Rattle.dt_calls.specs.Flows.{flows_seen}
 use Rattle.dt_calls.specs.Happening.{HasHappened}
 use Rattle.dt_calls.specs.Hearing.{HeardValue}
 use Rattle.dt_calls.specs.Waiting.{Covers}
 use Rattle.dt_calls.specs.Parts.{AreShort, HasJoined, IsKeptWorld, IsWhole, calls_seen, keys_in}
-use Rattle.dt_calls.proofs.CoursesOn.{piece_on, starts_on}
-use Rattle.dt_calls.proofs.FlowTables.{key_written, keys_seen, keys_written}
+use Rattle.dt_calls.proofs.CoursesOn.{piece_on, side_on, starts_on}
+use Rattle.dt_calls.proofs.FlowTables.{key_written, keys_written}
 use Rattle.dt_calls.proofs.Hearings.{piece_heard}
 use Rattle.dt_calls.proofs.Requests.{request_short, whole_short}
 use Rattle.dt_calls.proofs.Waiting.{whole_covers}
@@ -68,29 +68,33 @@ module _ {L : Type 0} (tells : L → CallEntry → L → Type 0) (answer : List 
   world_read : (w new : WorldValue) (t : HeardValue) → IsFlow (flow_read side f) → IsKeptWorld w.state → IsRead w new t → IsKeptWorld new.state
   world_read w new t flow kept read = subst IsKeptWorld (sym read.world) (happens_keeps (Reads (flow_read side f) most_read) w.state flow kept)
 
-  module _ {H : Type 0} (first : CallsParts H) (l0 : L) where
-    -- BETWEEN TWO READS: what the parts that were given have become, and the lines.
+  module _ {H : Type 0} (first : CourseValue H) (l0 : L) where
+    -- BETWEEN TWO READS: what the calls that were given have become, and the lines.
     pub record IsReading (p : CallsParts H) (l : L) : Type 0 where
-      pub on : ReadsOn tells answer side f (calls_seen first) l0 (calls_seen p) l
-      pub keys : keys_in p.flows.entries ≡ keys_in first.flows.entries
+      pub begun : IsOn answer (from_calls first.calls)
+      pub on : ReadsOn tells answer side f first.calls l0 (calls_seen p) l
+      pub keys : keys_in (flows_seen p.flows.entries) ≡ keys_in first.calls.flows
       pub there : has_key same_flow f (flows_seen p.flows.entries) ≡ true
       pub whole : IsWhole p
       pub handler : p.handler ≡ first.handler
       pub course : IsOn answer (from_calls (calls_seen p))
 
-    pub reading_begins : has_key same_flow f (flows_seen first.flows.entries) ≡ true → IsWhole first → CourseFacts answer (calls_seen first) → length first.calls.items ≤ 2 ^ 64 → IsReading first l0
-    reading_begins there whole course few = record {
-      on = begins tells answer side f (calls_seen first) l0;
-      keys = refl;
-      there = there;
-      whole = whole;
-      handler = refl;
-      course = starts_on answer (calls_seen first) course few;
-    }
+  pub reading_begins : {H : Type 0} (p : CallsParts H) (spent : Bool) (l0 : L) → has_key same_flow f (flows_seen p.flows.entries) ≡ true → IsOnCourse answer p → length p.calls.items ≤ 2 ^ 64 → IsReading (course_seen p spent) l0 p l0
+  reading_begins p spent l0 there on few =
+      let begun = starts_on answer (calls_seen p) on.course few in
+      record {
+        begun = begun;
+        on = begins tells answer side f (calls_seen p) l0;
+        keys = refl;
+        there = there;
+        whole = on.whole;
+        handler = refl;
+        course = begun;
+      }
 
   -- ONE READ, from the parts p to the world and to what was heard of it
   pub record OneRead (H : Type 0) : Type 0 where
-    pub first : CallsParts H
+    pub first : CourseValue H
     pub l0 : L
     pub p : CallsParts H
     pub l : L
@@ -100,7 +104,7 @@ module _ {L : Type 0} (tells : L → CallEntry → L → Type 0) (answer : List 
     pub flow : IsFlow (flow_read side f)
     pub read : IsRead p.world new t
 
-  abbrev pub one_read : {H : Type 0} (first : CallsParts H) (l0 : L) (p : CallsParts H) (l : L) → IsReading first l0 p l → (g : Flow) (new : WorldValue) (t : HeardValue) → g ≡ flow_read side f → IsFlow g → HasHappened (Reads g 65536) p.world p.heard new t → OneRead H
+  abbrev pub one_read : {H : Type 0} (first : CourseValue H) (l0 : L) (p : CallsParts H) (l : L) → IsReading first l0 p l → (g : Flow) (new : WorldValue) (t : HeardValue) → g ≡ flow_read side f → IsFlow g → HasHappened (Reads g 65536) p.world p.heard new t → OneRead H
   one_read first l0 p l is g new t same range has =
       record { first = first; l0 = l0; p = p; l = l; is = is; new = new; t = t; flow = subst IsFlow same range; read = is_read g p.world new p.heard t same has }
 
@@ -121,12 +125,18 @@ module _ {L H : Type 0} {tells : L → CallEntry → L → Type 0} {answer : Lis
   seen : calls_seen with_read ≡ read_calls
   seen = ap (λ (v : World). let x : Calls = record { world = v; calls = d.calls; flows = d.flows } in x) o.read.world
 
-  pub whole_read : IsWhole with_read
+  whole_read : IsWhole with_read
   whole_read = record { unspent = o.read.unspent; heard = o.read.heard; world = world_read tells answer side f o.p.world o.new o.t o.flow o.is.whole.world o.read; waiting = o.is.whole.waiting; requests = o.is.whole.requests }
 
   -- nothing was there
-  pub reading_ends : o.t.piece ≡ None → HasGoneOn tells Reading (calls_seen o.first) o.l0 o.l (calls_seen with_read)
-  reading_ends none = subst (λ (x : Calls). HasGoneOn tells Reading (calls_seen o.first) o.l0 o.l x) (sym seen) (ends_here tells answer side f (calls_seen o.first) o.l0 d o.l o.is.on (sym o.read.piece ∙ none))
+  pub reading_ends : o.t.piece ≡ None → HasGoneOn tells Reading o.first.calls o.l0 o.l (calls_seen with_read)
+  reading_ends none = subst (λ (x : Calls). HasGoneOn tells Reading o.first.calls o.l0 o.l x) (sym seen) (ends_here tells answer side f o.first.calls o.l0 d o.l o.is.on (sym o.read.piece ∙ none))
+
+  pub reading_on : has_key same_flow f o.first.calls.flows ≡ true → o.t.piece ≡ None → IsOnCourse answer with_read
+  reading_on key none = record {
+    whole = whole_read;
+    course = (side_on answer tells side o.first.calls (calls_seen with_read) o.l0 o.l o.is.begun f key (reading_ends none)).facts;
+  }
 
   -- THE PIECE IS JOINED
   module _ (after : CallsParts H) (whole : Option (List ℕ)) (j : HasJoined side f with_read whole after) where
@@ -162,9 +172,9 @@ module _ {L H : Type 0} {tells : L → CallEntry → L → Type 0} {answer : Lis
         subst (λ (w : Option (List ℕ)). P answer w) (sym some) (subst (λ (a : List ℕ → List ℕ). P a (Some message)) same holds)
 
     -- THE MESSAGE IS TAKEN, if there is one: it stopped
-    pub reading_stops : (n : L) → HasStopped tells (take_whole answer side f whole) (calls_seen after) o.l n → HasStopped tells Reading (calls_seen o.first) o.l0 n
+    pub reading_stops : (n : L) → HasStopped tells (take_whole answer side f whole) (calls_seen after) o.l n → HasStopped tells Reading o.first.calls o.l0 n
     reading_stops n stop =
-        stops_at_message tells answer side f (calls_seen o.first) o.l0 d o.l j.piece piece_is o.is.on n
+        stops_at_message tells answer side f o.first.calls o.l0 d o.l j.piece piece_is o.is.on n
         (subst (λ (w : Option (List ℕ)). HasStopped tells (take_whole answer side f w) now_joined o.l n) whole_seen
         (subst (λ (x : Calls). HasStopped tells (take_whole answer side f whole) x o.l n) joined_seen stop))
 
@@ -194,17 +204,18 @@ module _ {L H : Type 0} {tells : L → CallEntry → L → Type 0} {answer : Lis
           subst AreShort (sym calls_then) (whole_short answer side f now_whole (from_calls now_joined) before)
 
       pub reading_falls : left_unread tells answer side f (calls_seen next) < left_unread tells answer side f d
-      reading_falls = falls tells answer side f (calls_seen o.first) o.l0 d o.l j.piece piece_is o.flow o.is.whole.world n (calls_seen next) taken
+      reading_falls = falls tells answer side f o.first.calls o.l0 d o.l j.piece piece_is o.flow o.is.whole.world n (calls_seen next) taken
 
       pub reading_goes : StaysSo after next → IsReading tells answer side f o.first o.l0 next n
       reading_goes same = record {
-        on = reads_on tells answer side f (calls_seen o.first) o.l0 d o.l j.piece piece_is o.flow o.is.whole.world o.is.on n (calls_seen next) taken;
-        keys = ap (λ fs. keys_in fs.entries) same.flows ∙ sym (keys_seen after.flows.entries) ∙ ap keys_in j.flows ∙ keys_written f _ (flows_seen o.p.flows.entries) o.is.there ∙ keys_seen o.p.flows.entries ∙ o.is.keys;
+        begun = o.is.begun;
+        on = reads_on tells answer side f o.first.calls o.l0 d o.l j.piece piece_is o.flow o.is.whole.world o.is.on n (calls_seen next) taken;
+        keys = ap (λ fs. keys_in (flows_seen fs.entries)) same.flows ∙ ap keys_in j.flows ∙ keys_written f _ (flows_seen o.p.flows.entries) o.is.there ∙ o.is.keys;
         there = ap (λ fs. has_key same_flow f (flows_seen fs.entries)) same.flows ∙ ap (has_key same_flow f) j.flows ∙ key_written f _ (flows_seen o.p.flows.entries);
         whole = record {
           unspent = same.unspent;
           heard = same.heard;
-          world = still_kept tells answer side f (calls_seen o.first) o.l0 d o.l j.piece piece_is o.flow o.is.whole.world n (calls_seen next) taken;
+          world = still_kept tells answer side f o.first.calls o.l0 d o.l j.piece piece_is o.flow o.is.whole.world n (calls_seen next) taken;
           waiting = still_covers same.waiting;
           requests = still_short;
         };

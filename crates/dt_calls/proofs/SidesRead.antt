@@ -5,26 +5,20 @@ use Rattle.dt_units.specs.declared.endpoints.Flow.{Flow}
 use Rattle.dt_calls_model.specs.Calls.{Calls, Side}
 use Rattle.dt_calls_model.specs.CallTold.{CallEntry}
 use Rattle.dt_calls_model.specs.Reads.{Course, read_side, read_sides}
-use Rattle.dt_calls.specs.declared.flow_sides.FlowSides.{FlowSides}
 use Rattle.dt_calls.specs.Courses.{HasGoneOn, HasStopped, from_calls}
-use Rattle.dt_calls.specs.Flows.{flows_seen}
 use Rattle.dt_calls.specs.Parts.{keys_in}
 use Rattle.dt_calls.specs.Telling.{TellsCalls}
 use Rattle.dt_calls.proofs.Courses.{adds_fold, behind, behind_behind, at, tells_then}
-use Rattle.dt_calls.proofs.FlowTables.{keys_seen}
 
--- the key at a place, and those after it
-key_behind : {A : Type 0} (es : List (Flow × A)) (i : ℕ) (e : Flow × A) → slice_get es i ≡ Some e → drop i (keys_in es) ≡ e.0 ∷ drop (suc i) (keys_in es)
-key_behind [] i e h = absurd cc
-key_behind {A} (x ∷ xs) zero e h = let same : x ≡ e = cc in ap (λ (y : Flow × A). y.0 ∷ keys_in xs) same
-key_behind (x ∷ xs) (suc i) e h = key_behind xs i e h
+-- the flow at a place, and those after it
+flow_behind : (fs : List Flow) (i : ℕ) (f : Flow) → slice_get fs i ≡ Some f → drop i fs ≡ f ∷ drop (suc i) fs
+flow_behind [] i f h = absurd cc
+flow_behind (x ∷ xs) zero f h = let same : x ≡ f = cc in ap (λ (y : Flow). y ∷ xs) same
+flow_behind (x ∷ xs) (suc i) f h = flow_behind xs i f h
 
-key_at : {A : Type 0} (es : List (Flow × A)) (i : ℕ) (e : Flow × A) → slice_get es i ≡ Some e → drop i (keys_in es) ≡ e.0 ∷ drop (i + 1) (keys_in es)
-key_at es i e h = key_behind es i e h ∙ ap (λ (k : ℕ). e.0 ∷ drop k (keys_in es)) (sym (add-one i))
-
--- the flow at a place of the map, among those that a reading began with
-pub flow_at : (i : ℕ) (now first : List (Flow × FlowSides)) (f : Flow) (sides : FlowSides) → keys_in now ≡ keys_in first → slice_get now i ≡ Some (f, sides) → drop i (keys_in (flows_seen first)) ≡ f ∷ drop (i + 1) (keys_in (flows_seen first))
-flow_at i now first f sides same is = subst (λ (ks : List Flow). drop i ks ≡ f ∷ drop (i + 1) ks) (same ∙ sym (keys_seen first)) (key_at now i (f, sides) is)
+-- among those that a reading began with
+pub flow_there : (i : ℕ) (now first : List Flow) (f : Flow) → now ≡ first → slice_get now i ≡ Some f → drop i first ≡ f ∷ drop (i + 1) first
+flow_there i now first f same is = subst (λ (fs : List Flow). drop i fs ≡ f ∷ drop (i + 1) fs) same (flow_behind now i f is ∙ ap (λ (k : ℕ). f ∷ drop k now) (sym (add-one i)))
 
 none_behind : (keys : List Flow) (i : ℕ) → length keys ≤ i → drop i keys ≡ []
 none_behind [] zero h = refl

@@ -7,6 +7,7 @@ pub mod CallOutcomes
 pub mod Happening
 pub mod Flows
 pub mod Parts
+pub mod CallCourses
 pub mod Going
 pub mod Resting
 pub mod Dues

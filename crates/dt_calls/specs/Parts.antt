@@ -11,7 +11,7 @@ use Rattle.dt_calls_model.specs.Messages.{Piece, begun_with, whole_with}
 use Rattle.dt_calls_model.specs.Calls as model
 use Rattle.dt_calls_model.specs.Calls.{Calls}
 use Rattle.dt_calls_model.specs.Reads as reads
-use Rattle.dt_calls.specs.declared.world_calls.CallsParts.{CallsParts}
+use Rattle.dt_calls.specs.declared.call_courses.CallsParts.{CallsParts}
 use Rattle.dt_calls.specs.Flows.{flows_seen}
 use Rattle.dt_calls.specs.Waiting.{Covers}
 

@@ -3,6 +3,7 @@
 //! stations do. What is reported of them is reported to whoever listens; nothing here knows of any text.
 #![tactic(auto)]
 
+mod call_courses;
 mod call_events;
 mod call_lines;
 mod dues;
@@ -10,6 +11,7 @@ mod flow_sides;
 mod flows;
 mod handlers;
 mod heard;
+mod making;
 mod reading;
 mod totals;
 mod unsure_calls;

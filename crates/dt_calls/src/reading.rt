@@ -1,23 +1,24 @@
 //! Messages are handed in, and read out of the world.
-ghost use Rattle.std.specs.Prelude.{◌≡◌, ◌≢◌, ◌<◌, ◌≤◌, ◌^◌, true, false, fold, length, IfOk, IsSome, MatchOption, MatchResult, OnErr, OnOk, Some, option_map, vec_len};
+ghost use Rattle.std.specs.Prelude.{◌≡◌, ◌≢◌, ◌<◌, ◌≤◌, true, false, is_err, length, IfOk, IsSome, MatchOption, MatchResult, OnErr, OnOk, Some, option_map, slice_get, vec_len};
 ghost use Rattle.dt_units.specs.Flows.{IsFlow};
 ghost use Rattle.dt_world.specs.Worlds.{MayStep, event_of};
 ghost use Rattle.dt_world_model.specs.Tables.{has_key, same_flow};
-ghost use Rattle.dt_calls_model.specs.CallFacts.{CourseFacts};
+ghost use Rattle.dt_calls_laws.specs.Told.{IsOn};
 ghost use Rattle.dt_calls_model.specs.Calls.{Server, call_in, is_call_in};
 ghost use Rattle.dt_calls_model.specs.Messages.{carried_in, message_of, reversed};
 ghost use Rattle.dt_calls_model.specs.Promises.{AreServedOnce};
 ghost use Rattle.dt_calls_model.specs.Reads as reads;
 ghost use Rattle.dt_calls_model.specs.Reads.{answered_if, read_all, read_side, read_sides, serve_call, take_whole};
-ghost use Rattle.dt_calls.specs.Courses.{GoesOn, HasGoneOn};
+ghost use Rattle.dt_calls.specs.Courses.{GoesOn, HasGoneOn, from_calls};
 ghost use Rattle.dt_calls.specs.Dues.{IsDue};
 ghost use Rattle.dt_calls.specs.Flows.{flows_seen};
 ghost use Rattle.dt_calls.specs.Happening.{Happens, ended};
-ghost use Rattle.dt_calls.specs.Parts.{HasJoined, IsWhole, Posts, calls_seen, keys_in};
+ghost use Rattle.dt_calls.specs.Parts.{HasJoined, Posts, calls_seen, keys_in};
 ghost use Rattle.dt_calls.specs.Sides.{side_seen};
 ghost use Rattle.dt_calls.specs.declared.dues.Due.TheVariants as due;
 ghost use Rattle.dt_calls.specs.declared.dues.Due.TheVariants.{Nothing};
 
+use crate::call_courses::{CallCourse, CallsParts};
 use crate::call_lines::{CallLine, CallLines};
 use crate::dues::Due;
 use crate::flow_sides::Side;
@@ -25,7 +26,6 @@ use crate::flows;
 use crate::handlers::Handler;
 use crate::heard::Heard;
 use crate::totals::is_waiting;
-use crate::world_calls::CallsParts;
 use dt_calls_model::{Call, CallState, Posted};
 use dt_items::NoMemory;
 use dt_messages::{read_message, reversed, write_message};
@@ -81,106 +81,108 @@ pub fn post<H>(parts: &mut CallsParts<H>, flow: Flow) -> Result<Posted, NoMemory
     Ok(Posted::Taken { place, count })
 }
 
-/// The server's sides are read of the flows that are due, in the order of first calls, and then the
-/// clients'.
-pub fn read_due<H: Handler, L: CallLines>(
-    parts: &mut CallsParts<H>,
-    due: Due,
-    lines: &mut L,
-) -> Result<(), NoMemory>
-    requires whole { IsWhole parts.old }
-    requires course { CourseFacts (H.answer parts.old.handler) (calls_seen parts.old) }
-    requires few { length parts.old.calls.items ≤ 2 ^ 64 }
-    requires due { IsDue due parts.old.world.state (flows_seen parts.old.flows.entries) }
-    ensures goes { GoesOn L.tells (read_all (H.answer parts.old.handler)) (calls_seen parts.old) lines.old lines.new result (calls_seen parts.new) }
-    ensures once { OnErr result (AreServedOnce (calls_seen parts.new)) }
-    ensures whole { OnOk result (IsWhole parts.new) }
-    ensures memory { OnErr result (due ≢ Nothing) }
-    ensures handler { parts.new.handler ≡ parts.old.handler }
-{
-    match due {
-        Due::Nothing => Ok(()),
-        Due::Flow(flow) => read_both(parts, &flow, lines),
-        Due::All => {
-            read_sides(parts, Side::Server, lines)?;
-            read_sides(parts, Side::Client, lines)
+impl<H: Handler> CallCourse<H> {
+    /// The server's sides are read of the flows that are due, in the order of first calls, and then the
+    /// clients'.
+    pub fn read_due<L: CallLines>(&mut self, due: Due, lines: &mut L) -> Result<(), NoMemory>
+        requires unspent { self.old.spent ≡ false }
+        requires due { IsDue due self.old.calls.world self.old.calls.flows }
+        ensures goes { GoesOn L.tells (read_all (H.answer self.old.handler)) self.old.calls lines.old lines.new result self.new.calls }
+        ensures once { OnErr result (AreServedOnce self.new.calls) }
+        ensures memory { OnErr result (due ≢ Nothing) }
+        ensures handler { self.new.handler ≡ self.old.handler }
+        ensures spent { self.new.spent ≡ is_err result }
+    {
+        match due {
+            Due::Nothing => Ok(()),
+            Due::Flow(flow) => self.read_both(&flow, lines),
+            Due::All => {
+                self.read_sides(Side::Server, lines)?;
+                self.read_sides(Side::Client, lines)
+            }
         }
     }
-}
 
-/// Both sides are read of the one flow that is due.
-fn read_both<H: Handler, L: CallLines>(
-    parts: &mut CallsParts<H>,
-    flow: &Flow,
-    lines: &mut L,
-) -> Result<(), NoMemory>
-    requires whole { IsWhole parts.old }
-    requires course { CourseFacts (H.answer parts.old.handler) (calls_seen parts.old) }
-    requires few { length parts.old.calls.items ≤ 2 ^ 64 }
-    requires due { IsDue (due.Flow flow.now) parts.old.world.state (flows_seen parts.old.flows.entries) }
-    ensures goes { GoesOn L.tells (read_all (H.answer parts.old.handler)) (calls_seen parts.old) lines.old lines.new result (calls_seen parts.new) }
-    ensures once { OnErr result (AreServedOnce (calls_seen parts.new)) }
-    ensures whole { OnOk result (IsWhole parts.new) }
-    ensures handler { parts.new.handler ≡ parts.old.handler }
-{
-    read_side(parts, flow, Side::Server, lines)?;
-    read_side(parts, flow, Side::Client, lines)
-}
+    /// Both sides are read of the one flow that is due.
+    fn read_both<L: CallLines>(&mut self, flow: &Flow, lines: &mut L) -> Result<(), NoMemory>
+        requires unspent { self.old.spent ≡ false }
+        requires due { IsDue (due.Flow flow.now) self.old.calls.world self.old.calls.flows }
+        ensures goes { GoesOn L.tells (read_all (H.answer self.old.handler)) self.old.calls lines.old lines.new result self.new.calls }
+        ensures once { OnErr result (AreServedOnce self.new.calls) }
+        ensures handler { self.new.handler ≡ self.old.handler }
+        ensures spent { self.new.spent ≡ is_err result }
+    {
+        self.read_side(flow, Side::Server, lines)?;
+        self.read_side(flow, Side::Client, lines)
+    }
 
-/// One of the sides is read of all flows with a call.
-fn read_sides<H: Handler, L: CallLines>(
-    parts: &mut CallsParts<H>,
-    side: Side,
-    lines: &mut L,
-) -> Result<(), NoMemory>
-    requires whole { IsWhole parts.old }
-    requires course { CourseFacts (H.answer parts.old.handler) (calls_seen parts.old) }
-    requires few { length parts.old.calls.items ≤ 2 ^ 64 }
-    ensures goes { GoesOn L.tells (read_sides (H.answer parts.old.handler) (side_seen side)) (calls_seen parts.old) lines.old lines.new result (calls_seen parts.new) }
-    ensures once { OnErr result (AreServedOnce (calls_seen parts.new)) }
-    ensures whole { OnOk result (IsWhole parts.new) }
-    ensures keys { OnOk result (keys_in parts.new.flows.entries ≡ keys_in parts.old.flows.entries) }
-    ensures handler { parts.new.handler ≡ parts.old.handler }
-{
-    for place in 0..parts.flows.len() {
-        let flow = match parts.flows.get_index(place) {
+    /// One of the sides is read of all flows with a call.
+    fn read_sides<L: CallLines>(&mut self, side: Side, lines: &mut L) -> Result<(), NoMemory>
+        requires unspent { self.old.spent ≡ false }
+        ensures goes { GoesOn L.tells (read_sides (H.answer self.old.handler) (side_seen side)) self.old.calls lines.old lines.new result self.new.calls }
+        ensures once { OnErr result (AreServedOnce self.new.calls) }
+        ensures keys { OnOk result (keys_in self.new.calls.flows ≡ keys_in self.old.calls.flows) }
+        ensures handler { self.new.handler ≡ self.old.handler }
+        ensures spent { self.new.spent ≡ is_err result }
+    {
+        for place in 0..self.flow_count() {
+            let flow = self.flow_at(place);
+            self.read_side(&flow, side, lines)?;
+        }
+        Ok(())
+    }
+
+    /// How many flows have a call.
+    fn flow_count(&self) -> usize
+        ensures { result ≡ length (keys_in self.now.calls.flows) }
+    {
+        self.parts.flows.len()
+    }
+
+    /// The flow with this place, which is below their count.
+    fn flow_at(&self, place: usize) -> Flow
+        requires { place < length (keys_in self.now.calls.flows) }
+        ensures at { slice_get (keys_in self.now.calls.flows) place ≡ Some result }
+        ensures there { has_key same_flow result self.now.calls.flows ≡ true }
+    {
+        match self.parts.flows.get_index(place) {
             Some((flow, _)) => *flow,
             None => unreachable!(),
-        };
-        read_side(parts, &flow, side, lines)?;
-    }
-    Ok(())
-}
-
-/// Reads a side of the flow until nothing is there, and takes each message that becomes whole right
-/// after the read that completes it.
-fn read_side<H: Handler, L: CallLines>(
-    parts: &mut CallsParts<H>,
-    flow: &Flow,
-    side: Side,
-    lines: &mut L,
-) -> Result<(), NoMemory>
-    requires there { has_key same_flow flow.now (flows_seen parts.old.flows.entries) ≡ true }
-    requires whole { IsWhole parts.old }
-    requires course { CourseFacts (H.answer parts.old.handler) (calls_seen parts.old) }
-    requires few { length parts.old.calls.items ≤ 2 ^ 64 }
-    ensures goes { GoesOn L.tells (λ c. read_side (H.answer parts.old.handler) (side_seen side) c flow.now) (calls_seen parts.old) lines.old lines.new result (calls_seen parts.new) }
-    ensures once { OnErr result (AreServedOnce (calls_seen parts.new)) }
-    ensures whole { OnOk result (IsWhole parts.new) }
-    ensures keys { OnOk result (keys_in parts.new.flows.entries ≡ keys_in parts.old.flows.entries) }
-    ensures handler { parts.new.handler ≡ parts.old.handler }
-{
-    let read = Event::Read {
-        flow: side.flow_read(*flow),
-        max: MOST_OCTETS,
-    };
-    loop {
-        try_event(&mut parts.world, &mut parts.heard, &read)?;
-        if parts.heard.piece().is_none() {
-            return Ok(());
         }
-        if let Some(message) = join(parts, flow, side)? {
-            take_message(parts, flow, side, &message, lines)?;
+    }
+
+    /// Reads a side of the flow until nothing is there, and takes each message that becomes whole right
+    /// after the read that completes it.
+    fn read_side<L: CallLines>(
+        &mut self,
+        flow: &Flow,
+        side: Side,
+        lines: &mut L,
+    ) -> Result<(), NoMemory>
+        requires unspent { self.old.spent ≡ false }
+        requires there { has_key same_flow flow.now self.old.calls.flows ≡ true }
+        ensures goes { GoesOn L.tells (λ c. read_side (H.answer self.old.handler) (side_seen side) c flow.now) self.old.calls lines.old lines.new result self.new.calls }
+        // What is kept of the calls that it was given, for whoever reads both sides.
+        ensures on { IsOn (H.answer self.old.handler) (from_calls self.old.calls) }
+        ensures once { OnErr result (AreServedOnce self.new.calls) }
+        ensures keys { OnOk result (keys_in self.new.calls.flows ≡ keys_in self.old.calls.flows) }
+        ensures handler { self.new.handler ≡ self.old.handler }
+        ensures spent { self.new.spent ≡ is_err result }
+    {
+        self.spent = true;
+        let read = Event::Read {
+            flow: side.flow_read(*flow),
+            max: MOST_OCTETS,
+        };
+        loop {
+            try_event(&mut self.parts.world, &mut self.parts.heard, &read)?;
+            if self.parts.heard.piece().is_none() {
+                self.spent = false;
+                return Ok(());
+            }
+            if let Some(message) = join(&mut self.parts, flow, side)? {
+                take_message(&mut self.parts, flow, side, &message, lines)?;
+            }
         }
     }
 }

@@ -1,32 +1,34 @@
 //! At the end of a step the calls that wait become unsure whose answers may never come.
-ghost use Rattle.std.specs.Prelude.{◌≡◌};
+ghost use Rattle.std.specs.Prelude.{◌≡◌, false};
 ghost use Rattle.dt_calls_model.specs.CallStep.{becomes_unsure, judge_all, is_in_vain, is_posted_in_vain, is_replied_in_vain};
 ghost use Rattle.dt_calls_model.specs.Messages.{reversed};
 ghost use Rattle.dt_calls.specs.Courses.{HasGoneOn};
 ghost use Rattle.dt_calls.specs.Parts.{calls_seen};
 ghost use Rattle.dt_calls.specs.Waiting.{Covers, waiting_from};
 
+use crate::call_courses::{CallCourse, CallsParts};
 use crate::call_lines::{CallLine, CallLines};
+use crate::handlers::Handler;
 use crate::totals::is_waiting;
-use crate::world_calls::CallsParts;
 use dt_calls_model::{Call, CallState, Posted};
 use dt_flow_model::{Fate, Taken};
 use dt_messages::reversed;
 use dt_units::Flow;
 use dt_world::World;
 
-/// The calls that wait and whose answers may never come become unsure, in their order. The cost is the
-/// calls that waited after the step before or were made in this one, and the octets of the messages of
-/// those that wait.
-pub fn mark_unsure<H, L: CallLines>(parts: &mut CallsParts<H>, lines: &mut L)
-    requires { Covers 0 parts.old.waiting.items parts.old.calls.items }
-    ensures goes { HasGoneOn L.tells judge_all (calls_seen parts.old) lines.old lines.new (calls_seen parts.new) }
-    ensures covers { Covers 0 parts.new.waiting.items parts.new.calls.items }
-    ensures left { parts.new.waiting.items ≡ waiting_from 0 parts.new.calls.items }
-    ensures same { parts.new ≡ record parts.old { calls = parts.new.calls; waiting = parts.new.waiting } }
-{
-    mark_waiting_unsure(parts, lines);
-    drop_settled(&mut parts.waiting, &parts.calls);
+impl<H: Handler> CallCourse<H> {
+    /// The calls that wait and whose answers may never come become unsure, in their order. The cost is
+    /// the calls that waited after the step before or were made in this one, and the octets of the
+    /// messages of those that wait.
+    pub fn mark_unsure<L: CallLines>(&mut self, lines: &mut L)
+        requires unspent { self.old.spent ≡ false }
+        ensures goes { HasGoneOn L.tells judge_all self.old.calls lines.old lines.new self.new.calls }
+        ensures left { self.new.waiting ≡ waiting_from 0 self.new.calls.calls }
+        ensures same { self.new ≡ record self.old { calls = self.new.calls; waiting = self.new.waiting } }
+    {
+        mark_waiting_unsure(&mut self.parts, lines);
+        drop_settled(&mut self.parts.waiting, &self.parts.calls);
+    }
 }
 
 /// The calls become unsure.

@@ -5,7 +5,7 @@ use Rattle.dt_calls.specs.Waiting.{Covers}
 use Rattle.dt_calls.proofs.Makings.{call_for, on_ok}
 use Rattle.dt_calls.proofs.Requests.{short_added}
 use Rattle.dt_calls.proofs.Waiting.{covers_added}
-use Rattle.dt_calls.proofs.world_calls.add_call.Goals as goal
+use Rattle.dt_calls.proofs.making.add_call.Goals as goal
 
 pub returns-clause-waiting : goal.returns-clause-waiting
 returns-clause-waiting g c =
