@@ -1,5 +1,5 @@
 //! What the versions of the layout allow.
-ghost use Rattle.std.specs.Prelude.{◌≡◌, nat_le, if◌then◌else◌};
+ghost use Rattle.std.specs.Prelude.{◌≡◌, ◌==◌, ◌&&◌, nat_le, if◌then◌else◌};
 ghost use Rattle.dt_layout.specs.declared.limits.TheConstants.{MOST_SHORT_DATA, VERSION_1, VERSION_2};
 ghost use Rattle.dt_layout.specs.Spelling.{least_data, most_data, most_body, packet_of, version_of};
 ghost use Rattle.dt_layout.specs.Reading.{is_version};
@@ -23,6 +23,13 @@ pub fn longest_body(version: u8) -> usize
     } else {
         MOST_BODY
     }
+}
+
+/// Whether a body has as many octets as its header tells, and no more than there may be.
+pub fn allows_length(version: u8, told: usize, there: usize) -> bool
+    ensures { result ≡ (told == there && nat_le there (most_body version)) }
+{
+    told == there && there <= longest_body(version)
 }
 
 /// The least octets of data in a packet.
