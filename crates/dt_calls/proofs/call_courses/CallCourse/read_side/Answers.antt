@@ -1,7 +1,9 @@
-use Rattle.std.proofs.Common.{ℕ, ◌≡◌, ◌≤◌, ◌^◌, true, List, length, Some, refl, ap, sym, subst, ◌∙◌, rules}
-use Rattle.std.specs.Prelude.{option_map}
+use Rattle.std.proofs.Common.{ℕ, ◌≡◌, ◌≤◌, ◌^◌, true, false, List, length, Some, refl, ap, sym, subst, ◌∙◌, rules}
+use Rattle.std.specs.Prelude.{OnErr, option_map}
+use Rattle.std.specs.List.{All}
 use Rattle.std.proofs.lemmas.Result.{err_from_is_err_and}
 use Rattle.dt_world_model.specs.Tables.{has_key, same_flow}
+use Rattle.dt_calls_model.specs.Promises.{IsServedOnce}
 use Rattle.dt_calls_model.specs.Reads.{Course, read_side, take_whole}
 use Rattle.dt_calls.specs.CallCourses.{CourseValue, IsOnCourse}
 use Rattle.dt_calls.specs.Courses.{HasGoneOn, HasStopped}
@@ -50,6 +52,21 @@ returns-in_err-take_message-clause-goes g c =
     let e = err_from_is_err_and c.from_residual-in_err-take_message.result c.from_residual-in_err-take_message.ensures.1 in
     stopped_with g.L.CallLines.tells (λ (r : Course). read_side (g.H.Handler.answer c.args.self.now.handler) (side_seen c.args.side) r c.args.flow.now) c.args.self.now.calls c.args.lines.now c.take_message.new.lines _ c.from_residual-in_err-take_message.result e.0 e.1
     (reading_stops (one g k) c.join.new.parts _ j c.take_message.new.lines stop)
+
+pub invariant_of-self-in_err-take_message : goal.invariant_of-self-in_err-take_message
+invariant_of-self-in_err-take_message g c =
+    let k = (goal.at.invariant_of-self-in_err-take_message g c).After-piece in
+    record {
+      once = subst (λ cs. All IsServedOnce cs) (sym c.in_err-take_message.ensures.stays) (still_served_once (one g k) c.join.new.parts _ c.in_ok-message.ensures.joined);
+      on = λ fine. absurd (let wrong : true ≡ false = sym c.loop-self.invariant.spent ∙ fine in cc);
+    }
+
+pub returns-in_err-take_message-clause-once : goal.returns-in_err-take_message-clause-once
+returns-in_err-take_message-clause-once g c =
+    let k = (goal.at.returns-in_err-take_message-clause-once g c).After-piece in
+    let e = err_from_is_err_and c.from_residual-in_err-take_message.result c.from_residual-in_err-take_message.ensures.1 in
+    subst (λ r. OnErr r (All IsServedOnce c.take_message.new.parts.calls.items)) (sym e.1)
+    (subst (λ cs. All IsServedOnce cs) (sym c.in_err-take_message.ensures.stays) (still_served_once (one g k) c.join.new.parts _ c.in_ok-message.ensures.joined))
 
 pub take_message-requires-clause-served : goal.take_message-requires-clause-served
 take_message-requires-clause-served g c =
