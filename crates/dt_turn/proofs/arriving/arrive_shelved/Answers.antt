@@ -20,7 +20,7 @@ rounds-init g c =
     let fewer = rw c.in-Some.is at c.in_ok-came.ensures.fewer in
     let on = c.in_ok-came.ensures.on in
     let step = rounds_go v.tells (v.tags now) v.hands v.fails whole c.args.visitor.now c.args.visitor.now st.rules st.rules now (suc (length shelf.held)) (incoming_seen c.args.incoming) st.state shelf refl (omega arith)
-        (leads_here v.tells (v.tags now) v.hands v.fails whole c.args.visitor.now) c.round.new.visitor (came_seen came) c.round.new.dock.station.state c.round.new.shelf fewer ends in
+    (leads_here v.tells (v.tags now) v.hands v.fails whole c.args.visitor.now) c.round.new.visitor (came_seen came) c.round.new.dock.station.state c.round.new.shelf fewer ends in
     record {
       most = step.0;
       enough = step.1;
