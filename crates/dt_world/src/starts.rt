@@ -1,18 +1,47 @@
 //! The stations of a world that begins.
 ghost use Rattle.std.specs.Prelude.{◌≡◌, IfOk};
-ghost use Rattle.dt_world_model.specs.Setup.{ins_of, outs_of, placed_first, routes_of};
+ghost use Rattle.dt_world_model.specs.Setup.{ins_of, new_world, outs_of, placed_first, routes_of};
 ghost use Rattle.dt_world_model.specs.Tables.{AllEntries};
 ghost use Rattle.dt_world.specs.Setups.{links_of, stated_routes};
 ghost use Rattle.dt_world.specs.Starts.{begun_stations};
-ghost use Rattle.dt_world.specs.Worlds.{IsStationOf, placed_seen, stations_seen};
+ghost use Rattle.dt_world.specs.Worlds.{IsStationOf, IsWhole, placed_seen, stations_seen, world_seen};
 
+use crate::copies::Copies;
+use crate::notes::Notes;
 use crate::placed_stations::{PlacedStation, Plan, start_first};
 use crate::setups::Setup;
+use crate::world_parts::WorldParts;
 use dt_items::NoMemory;
+use dt_ledger::Ledger;
 use dt_station::{InLink, OutLink, Route};
 use dt_world_model::Link;
 use indexmap::IndexMap;
 use std::alloc::Global;
+
+/// The parts of the world of a setup in which nothing has happened. They stand apart from the world's
+/// buffer and frame, so that few values are dropped wherever memory runs out.
+pub fn first_parts(alloc: Global, setup: &Setup) -> Result<Box<WorldParts>, NoMemory>
+    ensures whole { IfOk result (λ parts. IsWhole parts.value) }
+    ensures seen { IfOk result (λ parts. world_seen parts.value ≡ new_world setup.now) }
+{
+    let rules = *setup.rules();
+    let stated = setup.links();
+    let stations = first_stations(alloc, setup)?;
+    let links = same_links(alloc, stated)?;
+    let notes = Notes {
+        ledger: Ledger::new(alloc),
+        runs: IndexMap::new(alloc),
+        copies: Copies::new(alloc),
+    };
+    let parts = WorldParts {
+        rules,
+        now: 0,
+        stations,
+        links,
+        notes,
+    };
+    Ok(Box::new(alloc, parts)?)
+}
 
 /// All stations of a setup, each with its links and routes, in the order of the setup. The cost is that
 /// of all links and routes for each station.

@@ -7,13 +7,11 @@ ghost use Rattle.dt_world_model.specs.WorldFacts.{SafeLedgers, SafeWorld, WorldF
 ghost use Rattle.dt_world.specs.Outcomes.{Answers};
 ghost use Rattle.dt_world.specs.Worlds.{MayStep, event_of};
 
-use crate::copies::Copies;
 use crate::events::Event;
-use crate::notes::Notes;
 use crate::refusals::{has_station, refusal};
 use crate::reporters::Lines;
 use crate::setups::Setup;
-use crate::starts::{first_stations, same_links};
+use crate::starts::first_parts;
 use crate::steps::apply_event;
 use crate::world_parts::WorldParts;
 use dt_items::NoMemory;
@@ -22,7 +20,6 @@ use dt_ledger::Ledger;
 use dt_reports::StepFault;
 use dt_units::NodeId;
 use dt_units::limits::MOST_OCTETS;
-use indexmap::IndexMap;
 use std::alloc::Global;
 use std::marker::Model;
 use std::mem::size_of;
@@ -64,27 +61,12 @@ impl World {
         ensures safe { IfOk result (λ world. SafeWorld world.state) }
         ensures facts { IfOk result (λ world. WorldFacts world.state) }
     {
-        let rules = *setup.rules();
-        let stated = setup.links();
-        let stations = first_stations(alloc, setup)?;
-        let links = same_links(alloc, stated)?;
-        let notes = Notes {
-            ledger: Ledger::new(alloc),
-            runs: IndexMap::new(alloc),
-            copies: Copies::new(alloc),
-        };
+        let parts = first_parts(alloc, setup)?;
         let mut buf = Vec::new(alloc);
         buf.resize(MOST_OCTETS as usize, 0)?;
         let frame = Box::new(alloc, Frame::new())?;
-        let parts = WorldParts {
-            rules,
-            now: 0,
-            stations,
-            links,
-            notes,
-        };
         Ok(World {
-            parts: Box::new(alloc, parts)?,
+            parts,
             buf,
             frame,
             spent: false,
