@@ -13,10 +13,9 @@ use Rattle.dt_layout.specs.Reading.{gram_fault}
 use Rattle.dt_layout.proofs.CarriedLemmas.{lowers}
 use Rattle.dt_world_model.specs.Script.{Done, Script, ◌>>=◌}
 use Rattle.dt_world_model.specs.Station.{Arrive, Station, Tick, station_event}
-use Rattle.dt_shelf.specs.declared.held.Held.{Held}
 use Rattle.dt_shelf.specs.declared.taken.Taken.{Taken}
 use Rattle.dt_shelf.specs.declared.taken.Taken.TheVariants as taken
-use Rattle.dt_shelf.specs.Shelves.{Shelf, empty_shelf, held_packet, hold, take_held, taken_at}
+use Rattle.dt_shelf.specs.Shelves.{Held, Shelf, empty_shelf, held_packet, hold, take_held, taken_at}
 use Rattle.dt_turn.specs.declared.packet_answers.PacketAnswer.{PacketAnswer}
 use Rattle.dt_turn.specs.declared.packet_answers.PacketAnswer.TheVariants as heard
 use Rattle.dt_node.specs.declared.watch.Watch.{Watch}

@@ -4,9 +4,8 @@ use Rattle.std.specs.Option.{option_map}
 use Rattle.std.proofs.lemmas.Bool.{cases_Bool}
 use Rattle.std.proofs.lemmas.List.Elements.{All-cons, All-head, All-tail}
 use Rattle.dt_units.specs.declared.endpoints.Flow.{Flow}
-use Rattle.dt_shelf.specs.declared.held.Held.{Held}
 use Rattle.dt_shelf.specs.declared.taken.Taken.{Taken}
-use Rattle.dt_shelf.specs.Shelves.{Shelf, is_of, pick, take_held, taken_at}
+use Rattle.dt_shelf.specs.Shelves.{Held, Shelf, is_of, pick, take_held, taken_at}
 
 -- WHAT IS TAKEN WAS HELD, and what is left was held too
 module _ (flow : Flow) (number : ℕ) where

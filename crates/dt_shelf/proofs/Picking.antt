@@ -7,10 +7,9 @@ use Rattle.std.proofs.lemmas.List.Quantifiers.{position-Some}
 use Rattle.std.proofs.lemmas.List.Sums.{fails_before_first}
 use Rattle.dt_units.specs.declared.endpoints.Flow.{Flow}
 use Rattle.dt_layout.specs.Carried.{life_of, lowered}
-use Rattle.dt_shelf.specs.declared.held.Held.{Held}
 use Rattle.dt_shelf.specs.declared.taken.Taken.{Taken}
 use Rattle.dt_shelf.specs.declared.taken.Taken.TheVariants.{Again, Stale}
-use Rattle.dt_shelf.specs.Shelves.{Shelf, is_of, pick, taken_at}
+use Rattle.dt_shelf.specs.Shelves.{Held, Shelf, is_of, pick, taken_at}
 
 module _ (flow : Flow) (number : ℕ) where
   passed_over : (h : Held) (hs : List Held) → is_of flow number h ≡ false → pick flow number (h ∷ hs) ≡ ((pick flow number hs).0, h ∷ (pick flow number hs).1)

@@ -4,9 +4,17 @@ use Rattle.dt_units.specs.declared.endpoints.Flow.{Flow}
 use Rattle.dt_layout.specs.Carried.{IsGram, life_of, lowered}
 use Rattle.dt_world_model.specs.Relay.{time_charge}
 use Rattle.dt_world_model.specs.Tables.{same_flow}
-use Rattle.dt_shelf.specs.declared.held.Held.{Held}
+use Rattle.dt_shelf.specs.declared.handed.Handed.{Handed}
+use Rattle.dt_shelf.specs.declared.handed.Handed.TheVariants as handed
 use Rattle.dt_shelf.specs.declared.taken.Taken.{Taken}
 use Rattle.dt_shelf.specs.declared.taken.Taken.TheVariants.{Again, Stale}
+
+pub record Held : Type 0 where
+  pub link : ℕ
+  pub flow : Flow
+  pub number : ℕ
+  pub frame : List ℕ
+  pub since : ℕ
 
 pub record Shelf : Type 0 where
   -- how many packets it holds at most
@@ -49,3 +57,9 @@ abbrev pub IfAgain : Option Taken → (ℕ → List ℕ → Type 0) → Type 0
 IfAgain None f = Unit {0}
 IfAgain (Some (Again link octets)) f = f link octets
 IfAgain (Some Stale) f = Unit {0}
+
+-- what is taken, where its octets are the caller's already
+abbrev pub handed_with : List ℕ → Option Handed → Option Taken
+handed_with octets None = None
+handed_with octets (Some (handed.Again link)) = Some (Again link octets)
+handed_with octets (Some handed.Stale) = Some Stale

@@ -1,7 +1,8 @@
 use dt_layout::Frame;
 use dt_units::Flow;
+use std::marker::Model;
 
-/// A packet on a shelf.
+/// A packet on a shelf. A contract sees the octets in place of their frame.
 #[derive(Drop)]
 pub struct Held {
     /// The link on which it came.
@@ -10,7 +11,15 @@ pub struct Held {
     /// The sequence number of its first octet.
     pub number: u32,
     /// As it was put there.
-    pub frame: Frame,
+    pub frame: Box<Frame>,
     /// The moment at which it was put there, in ms.
     pub since: u64,
+}
+
+impl Model for Held {
+    ghost use Rattle.dt_shelf.specs.Shelves as model;
+
+    ghost Value = { model.Held };
+
+    ghost view = { λ h. record { link = h.link; flow = h.flow; number = h.number; frame = h.frame.value; since = h.since } };
 }

@@ -10,10 +10,9 @@ use Rattle.dt_world_model.specs.Relay.{Parcel}
 use Rattle.dt_world_model.specs.Script.{Concludes, Done, Plays, Script, Stops, ◌>>=◌}
 use Rattle.dt_world_model.specs.Station.{Arrive, Station, station_event}
 use Rattle.dt_station.proofs.Playing.{Leads, ends_after, ends_with, leads_after, leads_tell, stops_within}
-use Rattle.dt_shelf.specs.declared.held.Held.{Held}
 use Rattle.dt_shelf.specs.declared.taken.Taken.{Taken}
 use Rattle.dt_shelf.specs.declared.taken.Taken.TheVariants as taken
-use Rattle.dt_shelf.specs.Shelves.{Shelf, held_packet, hold, take_held}
+use Rattle.dt_shelf.specs.Shelves.{Held, Shelf, held_packet, hold, take_held}
 use Rattle.dt_shelf.proofs.Keeping.{take_falls}
 use Rattle.dt_turn.specs.declared.packet_answers.PacketAnswer.{PacketAnswer}
 use Rattle.dt_turn.specs.declared.packet_answers.PacketAnswer.TheVariants as heard

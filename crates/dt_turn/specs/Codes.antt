@@ -2,6 +2,7 @@
 use Rattle.std.specs.Prelude.{◌≡◌, ℕ, ◌+◌, ◌*◌, ◌≤◌, Bool, true, false, List, map, drop, vec_len, Option, Some, None, Result, Ok, Err, option_map}
 use Rattle.dt_flow_model.specs.Keeping.{most_moment}
 use Rattle.dt_edges.specs.Wires.{Datagram}
+use Rattle.dt_layout.specs.Carried.{IsGram}
 use Rattle.dt_station.specs.Stations.{StationValue}
 use Rattle.dt_world_laws.specs.Counting.{HasTakenAtMost}
 use Rattle.dt_script.specs.declared.orders.Orders.{Orders}
@@ -9,10 +10,12 @@ use Rattle.dt_text.specs.Tasks.{most_octets}
 use Rattle.dt_script.specs.Codes.{IsGood, command_seen, orders_seen}
 use Rattle.dt_script.specs.Orders as model
 use Rattle.dt_turn.specs.declared.datagrams.LinkDatagram.{LinkDatagram}
-use Rattle.dt_turn.specs.declared.came.Came.{Came}
+use Rattle.dt_turn.specs.declared.handed_in.HandedIn.{HandedIn}
+use Rattle.dt_turn.specs.declared.handed_in.HandedIn.TheVariants as handed
 use Rattle.dt_turn.specs.declared.incoming.Incoming.{Incoming}
 use Rattle.dt_turn.specs.declared.nodes.Node.{Node}
 use Rattle.dt_turn.specs.Nodes as nodes
+use Rattle.dt_turn.specs.Shelving.{datagram}
 
 -- the commands that aren't done yet
 abbrev pub left_of : Orders → ℕ → List model.Command
@@ -64,13 +67,23 @@ arrived came = option_map arrival_seen came
 abbrev pub incoming_seen : Incoming → Datagram
 incoming_seen incoming = record { link = incoming.link; octets = incoming.gram.octets.now }
 
--- a packet that is handed in, and what is handed in next, where nothing failed
-abbrev pub came_seen : Came → Datagram
-came_seen came = record { link = came.link; octets = came.frame }
+-- a packet that is handed in, where these octets were taken from the shelf last
+abbrev pub handed_seen : List ℕ → HandedIn → Datagram
+handed_seen taken (handed.Came incoming) = incoming_seen incoming
+handed_seen taken (handed.Again link) = datagram link taken
 
-abbrev pub next_seen : {E : Type 0} → Result (Option Came) E → Option Datagram
-next_seen (Ok next) = option_map came_seen next
-next_seen (Err stop) = None
+-- what was taken reads as a Deltagram, where it is handed in
+abbrev pub IsTaken : List ℕ → HandedIn → Type 0
+IsTaken taken (handed.Came incoming) = Unit {0}
+IsTaken taken (handed.Again link) = IsGram taken
+
+-- what was taken from the shelf, by its link, and what is handed in next, where nothing failed
+abbrev pub again_seen : List ℕ → Option ℕ → Option Datagram
+again_seen taken link = option_map (λ link. datagram link taken) link
+
+abbrev pub next_seen : {E : Type 0} → List ℕ → Result (Option ℕ) E → Option Datagram
+next_seen taken (Ok next) = again_seen taken next
+next_seen taken (Err stop) = None
 
 -- what a turn answers: nothing where it met the stop
 abbrev pub turned : {E : Type 0} → Result Bool E → nodes.Node → Option nodes.Node

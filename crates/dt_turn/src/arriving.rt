@@ -1,11 +1,12 @@
 //! Packets that arrive, and the shelf for those that came too early.
-ghost use Rattle.std.specs.Prelude.{◌≡◌, ◌<◌, IfOk, IfSome, None, OnErr, OnOk, length, option_map, suc, true};
+ghost use Rattle.std.specs.Prelude.{◌≡◌, ◌<◌, IfOk, IfSome, None, OnErr, OnOk, length, suc, true};
+ghost use Rattle.dt_layout.specs.Carried.{IsGram};
 ghost use Rattle.dt_world_model.specs.Script.{Concludes, Plays};
 ghost use Rattle.dt_world_model.specs.Station.{Arrive, station_event};
-ghost use Rattle.dt_turn.specs.Codes.{GoesOn, MayGo, came_seen, incoming_seen, next_seen};
+ghost use Rattle.dt_turn.specs.Codes.{GoesOn, IsTaken, MayGo, again_seen, handed_seen, incoming_seen, next_seen};
 ghost use Rattle.dt_turn.specs.Shelving.{arrive, data_number, early_number, fetch, first_round, hold_if, inside, is_early, plain, round, round_with, rounds};
 
-use crate::came::Came;
+use crate::handed_in::HandedIn;
 use crate::incoming::Incoming;
 use crate::nodes::Dock;
 use crate::packet_answers::{PacketAnswer, hear_arrival};
@@ -13,7 +14,7 @@ use dt_flow_model::Reading;
 use dt_items::NoMemory;
 use dt_layout::{Frame, GramOctets, Packet, read_packet};
 use dt_reports::Report;
-use dt_shelf::{EarlyPacket, Shelf, Taken};
+use dt_shelf::{EarlyPacket, Handed, Shelf};
 use dt_station::Visitor;
 use dt_units::numbers::relation;
 use dt_units::{Flow, Relation};
@@ -23,6 +24,13 @@ use dt_units::{Flow, Relation};
 pub struct Early {
     pub flow: Flow,
     pub number: Option<u32>,
+}
+
+/// The data that are wanted next: their flow, and the sequence number of the first octet.
+#[derive(Clone, Copy)]
+pub struct Wanted {
+    pub flow: Flow,
+    pub number: u32,
 }
 
 /// The sequence number of the data in a Deltagram, if it has data.
@@ -82,23 +90,26 @@ fn hold_if<V: Visitor<Frame>>(
     }
 }
 
-/// Takes from the shelf what waits for a number. What is stale is passed over.
+/// Takes from the shelf what is wanted, into the frame, and answers the link on which it came. What is
+/// stale is passed over.
 fn fetch<V: Visitor<Frame>>(
     shelf: &mut Shelf,
-    flow: Flow,
-    number: u32,
+    wanted: Wanted,
     now: Reading,
+    taken: &mut Frame,
     visitor: &mut V,
-) -> Option<Came>
-    ensures plays { Plays V.tells (V.tags now.ms) V.hands (fetch flow number now.ms shelf.old) visitor.old visitor.new (option_map came_seen result, shelf.new) }
-    ensures fewer { IfSome result (λ came. length shelf.new.held < length shelf.old.held) }
+) -> Option<u16>
+    ensures plays { Plays V.tells (V.tags now.ms) V.hands (fetch wanted.flow wanted.number now.ms shelf.old) visitor.old visitor.new (again_seen taken.new result, shelf.new) }
+    ensures fewer { IfSome result (λ _. length shelf.new.held < length shelf.old.held) }
+    ensures gram { IfSome result (λ _. IsGram taken.new) }
 {
-    'fetching: while let Some(taken) = shelf.take(&flow, number, now.ms) {
-        match taken {
-            Taken::Stale => visitor.tell(&Report::Stale { flow, number }),
-            Taken::Again { link, frame } => {
+    let Wanted { flow, number } = wanted;
+    'fetching: while let Some(handed) = shelf.take_into(&flow, number, now.ms, taken) {
+        match handed {
+            Handed::Stale => visitor.tell(&Report::Stale { flow, number }),
+            Handed::Again { link } => {
                 visitor.tell(&Report::Again { flow, number });
-                return Some(Came { link, frame });
+                return Some(link);
             }
         }
     }
@@ -106,26 +117,31 @@ fn fetch<V: Visitor<Frame>>(
 }
 
 /// A packet arrives, and then the shelf is used: it is held where it came too early, and what waits
-/// for it is taken where it was accepted. It answers what is handed in next.
+/// for it is taken where it was accepted. It answers the link of what is handed in next, which is what
+/// was taken.
 fn round<V: Visitor<Frame>>(
     dock: &mut Dock,
     shelf: &mut Shelf,
-    incoming: Incoming<'_>,
+    handed: HandedIn<'_>,
     now: u64,
     visitor: &mut V,
-) -> Result<Option<Came>, NoMemory>
+) -> Result<Option<u16>, NoMemory>
     requires go { MayGo now dock.old.station }
-    ensures ends { let script = round dock.old.station.rules now (incoming_seen incoming.entry) dock.old.station.state shelf.old in
-        Concludes V.tells (V.tags now) V.hands V.fails result script visitor.old visitor.new (round_with dock.new.station.state shelf.new (next_seen result)) }
+    requires taken { IsTaken dock.old.taken.value handed }
+    ensures ends { let script = round dock.old.station.rules now (handed_seen dock.old.taken.value handed.entry) dock.old.station.state shelf.old in
+        Concludes V.tells (V.tags now) V.hands V.fails result script visitor.old visitor.new (round_with dock.new.station.state shelf.new (next_seen dock.new.taken.value result)) }
     ensures on { OnOk result (GoesOn now 0 dock.old.station dock.new.station) }
     ensures memory { OnErr result (dock.new.station.spent ≡ true) }
-    ensures fewer { IfOk result (λ next. IfSome next (λ came. length shelf.new.held < length shelf.old.held)) }
+    ensures fewer { IfOk result (λ next. IfSome next (λ _. length shelf.new.held < length shelf.old.held)) }
+    ensures taken { IfOk result (λ next. IfSome next (λ _. IsGram dock.new.taken.value)) }
 {
-    match hear_arrival(dock, incoming, now, visitor)? {
+    let incoming = handed.incoming(&dock.taken);
+    match hear_arrival(&mut dock.station, &mut dock.frame, incoming, now, visitor)? {
         PacketAnswer::Nothing => Ok(None),
         PacketAnswer::Accepted { flow, next } => {
+            let wanted = Wanted { flow, number: next };
             let now = Reading { ms: now };
-            Ok(fetch(shelf, flow, next, now, visitor))
+            Ok(fetch(shelf, wanted, now, &mut dock.taken, visitor))
         }
         PacketAnswer::Refused { flow, replied } => {
             let number = early_number(replied, incoming.gram);
@@ -149,11 +165,9 @@ fn arrive_shelved<V: Visitor<Frame>>(
     ensures on { OnOk result (GoesOn now 0 dock.old.station dock.new.station) }
     ensures memory { OnErr result (dock.new.station.spent ≡ true) }
 {
-    let Some(mut came) = round(dock, shelf, incoming, now, visitor)? else {
-        return Ok(());
-    };
-    'rounds: while let Some(next) = round(dock, shelf, came.as_incoming(), now, visitor)? {
-        came = next;
+    let mut handed = HandedIn::Came(incoming);
+    'rounds: while let Some(link) = round(dock, shelf, handed, now, visitor)? {
+        handed = HandedIn::Again { link };
     }
     Ok(())
 }

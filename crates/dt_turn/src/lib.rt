@@ -2,8 +2,8 @@
 #![tactic(auto)]
 
 mod arriving;
-mod came;
 mod datagrams;
+mod handed_in;
 mod incoming;
 mod nodes;
 mod packet_answers;

@@ -19,6 +19,8 @@ use std::mem::size_of;
 pub struct Dock {
     pub station: Station<Frame>,
     pub frame: Box<Frame>,
+    /// The packet that was taken from the shelf last.
+    pub taken: Box<Frame>,
 }
 
 /// A node between two turns.
@@ -58,8 +60,13 @@ impl Node {
             &setup.routes,
         )?;
         let frame = Box::new(alloc, Frame::new())?;
+        let taken = Box::new(alloc, Frame::new())?;
         Ok(Node {
-            dock: Dock { station, frame },
+            dock: Dock {
+                station,
+                frame,
+                taken,
+            },
             next: 0,
             buf,
             shelf,

@@ -11,7 +11,6 @@ ghost use Rattle.dt_turn.specs.Hearing.{heard_in, hears, hears_by};
 ghost use Rattle.dt_turn.specs.Shelving.{plain};
 
 use crate::incoming::Incoming;
-use crate::nodes::Dock;
 use dt_flow_model::Reading;
 use dt_host::Host;
 use dt_items::NoMemory;
@@ -133,33 +132,28 @@ fn listen<V: Visitor<Frame>>(
     station.arrive(now, link, frame, (), listener)
 }
 
-/// A datagram is copied into a dock's frame and arrives at its station. It answers what the station
-/// reported, as far as that concerns a shelf.
+/// A datagram is copied into this frame and arrives at a station. It answers what the station reported,
+/// as far as that concerns a shelf.
 pub fn hear_arrival<V: Visitor<Frame>>(
-    dock: &mut Dock,
+    station: &mut Station<Frame>,
+    frame: &mut Frame,
     incoming: Incoming<'_>,
     now: u64,
     visitor: &mut V,
 ) -> Result<PacketAnswer, NoMemory>
-    requires go { MayGo now dock.old.station }
-    ensures ends { let script = station_event dock.old.station.rules now (Arrive incoming.entry.link (plain incoming.entry.gram.octets.now)) dock.old.station.state in
-        Concludes V.tells (V.tags now) V.hands V.fails result script visitor.old visitor.new dock.new.station.state }
-    ensures heard { let script = station_event dock.old.station.rules now (Arrive incoming.entry.link (plain incoming.entry.gram.octets.now)) dock.old.station.state in
+    requires go { MayGo now station.old }
+    ensures ends { let script = station_event station.old.rules now (Arrive incoming.entry.link (plain incoming.entry.gram.octets.now)) station.old.state in
+        Concludes V.tells (V.tags now) V.hands V.fails result script visitor.old visitor.new station.new.state }
+    ensures heard { let script = station_event station.old.rules now (Arrive incoming.entry.link (plain incoming.entry.gram.octets.now)) station.old.state in
         IfOk result (λ answer. answer ≡ heard_in script heard.Nothing) }
-    ensures on { OnOk result (GoesOn now 0 dock.old.station dock.new.station) }
-    ensures memory { OnErr result (dock.new.station.spent ≡ true) }
+    ensures on { OnOk result (GoesOn now 0 station.old station.new) }
+    ensures memory { OnErr result (station.new.spent ≡ true) }
 {
     let mut listener = Listener {
         visitor,
         heard: PacketAnswer::Nothing,
     };
-    incoming.gram.copy_into(&mut *dock.frame);
-    listen(
-        &mut dock.station,
-        now,
-        incoming.link,
-        &mut dock.frame,
-        &mut listener,
-    )?;
+    incoming.gram.copy_into(frame);
+    listen(station, now, incoming.link, frame, &mut listener)?;
     Ok(listener.heard)
 }

@@ -1,6 +1,6 @@
 use Rattle.std.proofs.Common.{◌<◌, length, suc, ℕ}
 use Rattle.dt_station.proofs.Playing.{Leads}
-use Rattle.dt_turn.specs.Codes.{GoesOn, MayGo, came_seen, incoming_seen}
+use Rattle.dt_turn.specs.Codes.{GoesOn, IsTaken, MayGo, handed_seen, incoming_seen}
 use Rattle.dt_turn.specs.Shelving.{first_round, rounds}
 use Rattle.dt_turn.proofs.arriving.arrive_shelved.Given as goal
 
@@ -12,7 +12,8 @@ invariant-rounds g l =
     record {
       most : ℕ;
       enough : length l.shelf.held < most;
-      leads : Leads v.tells (v.tags l.now) v.hands v.fails (rounds (suc (length l.fn.shelf.held)) rules l.now (first_round (incoming_seen l.fn.incoming) l.fn.dock.station.state l.fn.shelf)) l.fn.visitor (rounds most rules l.now (first_round (came_seen l.came) l.dock.station.state l.shelf)) l.visitor;
+      leads : Leads v.tells (v.tags l.now) v.hands v.fails (rounds (suc (length l.fn.shelf.held)) rules l.now (first_round (incoming_seen l.fn.incoming) l.fn.dock.station.state l.fn.shelf)) l.fn.visitor (rounds most rules l.now (first_round (handed_seen l.dock.taken.value l.handed) l.dock.station.state l.shelf)) l.visitor;
+      taken : IsTaken l.dock.taken.value l.handed;
       go : MayGo l.now l.dock.station;
       on : GoesOn l.now 0 l.fn.dock.station l.dock.station;
     }

@@ -10,7 +10,7 @@ invariant-fetching g l =
     record {
       most : ℕ;
       enough : length l.shelf.held ≤ most;
-      leads : Leads v.tells (v.tags l.now.ms) v.hands v.fails (fetch l.flow l.number l.now.ms l.fn.shelf) l.fn.visitor (fetch_turns most l.flow l.number l.now.ms l.shelf) l.visitor;
+      leads : Leads v.tells (v.tags l.now.ms) v.hands v.fails (fetch l.fn.wanted.flow l.fn.wanted.number l.now.ms l.fn.shelf) l.fn.visitor (fetch_turns most l.fn.wanted.flow l.fn.wanted.number l.now.ms l.shelf) l.visitor;
       fewer : length l.shelf.held ≤ length l.fn.shelf.held;
     }
 
