@@ -6,7 +6,7 @@ ghost use Rattle.dt_relay.specs.Carrying.{parcel_seen};
 ghost use Rattle.dt_world_model.specs.Host.{IsCurrentHost};
 ghost use Rattle.dt_world_model.specs.Script.{Concludes};
 ghost use Rattle.dt_relay.specs.Places.{link_of, place_of};
-ghost use Rattle.dt_world_model.specs.Relay.{route_to};
+ghost use Rattle.dt_world_model.specs.Relay.{new_relay, route_to};
 ghost use Rattle.dt_world_model.specs.Station.{Arrive, station_event, station_wake};
 ghost use Rattle.dt_station.specs.Events.{LeavesBuffer, LeavesBufferHere, MayHappen, MayHappenHere, ReadsInto, ReadsIntoHere, event_seen, local_seen};
 ghost use Rattle.dt_station.specs.Stations.{Stays, host_started, is_spent_by, station_started, with_route};
@@ -74,13 +74,13 @@ impl<P: Carry> Station<P> {
         ensures { IfOk result (λ station. station ≡ station_started rules.now me.0 again outs.now ins.now routes.now) }
     {
         let host = start_host(alloc, rules, me, Start { again })?;
+        let relay = start_relay(alloc, outs, ins, routes)?;
         let latest = Reading {
             ms: again.unwrap_or(0),
         };
-        let relay = Relay::new(alloc, outs, ins, routes)?;
         Ok(Station {
-            host: Box::new(alloc, host)?,
-            relay: Box::new(alloc, relay)?,
+            host,
+            relay,
             frame: Box::new(alloc, Frame::new())?,
             latest,
             spent: false,
@@ -263,11 +263,24 @@ impl<P: Carry> Station<P> {
 }
 
 /// The host of a node that starts for the first time, or again.
-fn start_host(alloc: Global, rules: &Rules, me: NodeId, start: Start) -> Result<Host, NoMemory>
-    ensures { IfOk result (λ host. host ≡ record { rules = rules.now; latest = unwrap_or start.again 0; state = host_started rules.now me.0 start.again }) }
+fn start_host(alloc: Global, rules: &Rules, me: NodeId, start: Start) -> Result<Box<Host>, NoMemory>
+    ensures { IfOk result (λ host. host.value ≡ record { rules = rules.now; latest = unwrap_or start.again 0; state = host_started rules.now me.0 start.again }) }
 {
-    match start.again {
+    let host = match start.again {
         None => Host::first(alloc, rules, me),
         Some(now) => Host::restarted(alloc, rules, me, now),
-    }
+    };
+    Ok(Box::new(alloc, host?)?)
+}
+
+/// The relay of [`Relay::new`].
+fn start_relay<P: Carry>(
+    alloc: Global,
+    outs: &[OutLink],
+    ins: &[InLink],
+    routes: &[Route],
+) -> Result<Box<Relay<P>>, NoMemory>
+    ensures { IfOk result (λ relay. relay.value ≡ new_relay outs.now ins.now routes.now) }
+{
+    Ok(Box::new(alloc, Relay::new(alloc, outs, ins, routes)?)?)
 }

@@ -3,7 +3,4 @@ use Rattle.dt_host.specs.Hosts.{HostValue}
 use Rattle.dt_station.proofs.stations.Station.new.Goals as goal
 
 pub invariant_of-result : goal.invariant_of-result
-invariant_of-result g c =
-    let latest = ap (λ (h : HostValue). h.latest) c.in_ok-host.ensures in
-    let kept = ap (λ (h : HostValue). h.latest) c.in_ok-new.ensures.ok in
-    omega (arith, latest, kept, c.unwrap_or.ensures)
+invariant_of-result g c = omega (arith, ap (λ (h : HostValue). h.latest) c.in_ok-host.ensures, c.unwrap_or.ensures)
