@@ -1,12 +1,15 @@
--- A packet that came, and its reply; octets that were sent.
-use Rattle.std.proofs.Common.{◌≡◌, ℕ, ◌+◌, ◌≤◌, Bool, true, false, cond, List, Option, Some, None, Result, Ok, refl, sym, subst, length, nat_lt, nat_le, arith}
+-- A packet that came, and its reply; octets that were sent; a piece that was read.
+use Rattle.std.proofs.Common.{◌≡◌, ℕ, ◌+◌, ◌≤◌, ◌++◌, ◌∙◌, Bool, true, false, cond, List, [], ◌∷◌, Option, Some, None, Result, Ok, refl, sym, ap, subst, add-one, drop, length, take, nat_lt, nat_le, arith}
 use Rattle.std.specs.Option.{option_and_then}
 use Rattle.std.proofs.lemmas.Bool.Decides.{nat_tests}
 use Rattle.dt_items.specs.declared.item.Item.{Item}
+use Rattle.dt_items.specs.declared.piece.Piece.{Piece}
+use Rattle.dt_items.specs.Unread.{octets_of, piece_told}
 use Rattle.dt_units.specs.declared.parameters.Params.{Params}
 use Rattle.dt_units.specs.declared.endpoints.Flow.{Flow}
 use Rattle.dt_layout.specs.Spelling.{PacketValue, Data, Ack, Meet, Close}
-use Rattle.dt_reports.specs.Told.{Told}
+use Rattle.dt_reports.specs.Told.{Told, read_told}
+use Rattle.dt_reports.specs.declared.reports.Report.TheVariants as report
 use Rattle.dt_flow_model.specs.declared.arrivals.Arrived.{Arrived}
 use Rattle.dt_flow_model.specs.declared.arrivals.Arrived.TheVariants as arrived
 use Rattle.dt_flow_model.specs.declared.faults.PutFault.{PutFault}
@@ -19,7 +22,7 @@ use Rattle.dt_reports.specs.declared.faults.Refusal.TheVariants as refusal
 use Rattle.dt_world_model.specs.Host.{Host, ack_answer, arrive, comes, send_into, send_octets, sender_at, told_arrival}
 use Rattle.dt_world_model.specs.Relay.{Parcel, Relay}
 use Rattle.dt_world_model.specs.Script.{Concludes, Plays, Tell}
-use Rattle.dt_world_model.specs.Station.{come, deliver, pass_on, send_off, station_with}
+use Rattle.dt_world_model.specs.Station.{come, deliver, pass_on, send_off, station_with, told_piece}
 use Rattle.dt_station.proofs.Playing.{ends_with}
 
 -- the host stays that of its node
@@ -88,3 +91,31 @@ within_send false p f items x host quiet r q h = within_put (fits p x (length it
 pub taken_fits : (p : Params) (now : ℕ) (f : Flow) (items : List Item) (host : Host) → (send_octets p now f items host).0 ≡ None → length items ≤ p.cap
 taken_fits p now f items host h =
     within_send (nat_lt now host.until) p f items (record_for p now (sender_at host f)) host (Some (refusal.Quiet host.until), host) (refusal.Quiet host.until) refl h
+
+-- the octets of a piece stand first in the buffer
+read_first : (items : List Item) (rest : List ℕ) → take (length items) (octets_of items ++ rest) ≡ octets_of items
+read_first [] rest = refl
+read_first (item ∷ items) rest = ap (λ (octets : List ℕ). item.octet ∷ octets) (read_first items rest)
+
+abbrev len_of : Option Piece → ℕ
+len_of None = 0
+len_of (Some piece) = piece.len
+
+piece_len : (items : List Item) (piece : Piece) → Some piece ≡ piece_told items → piece.len ≡ length items
+piece_len [] piece h = absurd (cc)
+piece_len (first ∷ rest) piece h = ap len_of h ∙ add-one (length rest)
+
+-- what is told of a read is what it answered
+module _ {V : Type 0} (tells : V → Told → V → Type 0) (f : Flow) (items : List Item) (v m w : V) (same : w ≡ m) where
+  told_as : (o : Option Piece) → o ≡ piece_told items → tells v (told_piece f (octets_of items) o) m → tells v (told_piece f (octets_of items) (piece_told items)) w
+  told_as o is told =
+      subst (λ (u : V). tells v (told_piece f (octets_of items) (piece_told items)) u) (sym same) (subst (λ (p : Option Piece). tells v (told_piece f (octets_of items) p) m) is told)
+
+  pub nothing_told : None ≡ piece_told items → tells v (report.Nothing f) m → tells v (told_piece f (octets_of items) (piece_told items)) w
+  nothing_told none told = told_as None none told
+
+  pub read_as_told : (piece : Piece) (old new : List ℕ) → Some piece ≡ piece_told items → new ≡ octets_of items ++ drop (length items) old →
+      tells v (read_told f piece.run piece.begin piece.end (take piece.len new)) m → tells v (told_piece f (octets_of items) (piece_told items)) w
+  read_as_told piece old new is filled told =
+      let octets : take piece.len new ≡ octets_of items = rw (piece_len items piece is, filled) (read_first items (drop (length items) old)) in
+      told_as (Some piece) is (subst (λ (os : List ℕ). tells v (read_told f piece.run piece.begin piece.end os) m) octets told)
