@@ -53,13 +53,11 @@ module _ (change : FlowLedger → FlowLedger) (f : Flow) (old : List (Flow × Fl
     there_err h = on_err_weaker r (λ e. unchanged f old new l after there e (on_some loan b is wrote)) h
 
   -- it isn't, and comes after all others with what the call makes of an empty ledger
-  pub absent_ok : (first after : FlowLedger) (inside new : List (Flow × FlowLedger)) → None ≡ look same_flow f old → first ≡ record { taken = []; given = []; reads = [] } → after ≡ change first → inside ≡ old → new ≡ insert_entry equal_flows inside f after
-      → new ≡ write same_flow f (change (ledger_in old f)) old
-  absent_ok first after inside new none is made same e =
-      e
-      ∙ inserted f after inside
-      ∙ ap (λ (rows : List (Flow × FlowLedger)). write same_flow f after rows) same
-      ∙ ap (λ (l : FlowLedger). write same_flow f l old) (made ∙ ap change (is ∙ ledger_absent f old none))
+  pub absent_ok : {T E : Type 0} (r : Result T E) (first after : FlowLedger) (inside new : List (Flow × FlowLedger)) → None ≡ look same_flow f old → first ≡ record { taken = []; given = []; reads = [] } → after ≡ change first → inside ≡ old → OnOk r (new ≡ write same_flow f after inside)
+      → OnOk r (new ≡ write same_flow f (change (ledger_in old f)) old)
+  absent_ok r first after inside new none is made same h =
+      let made_of : after ≡ change (ledger_in old f) = made ∙ ap change (is ∙ ledger_absent f old none) in
+      on_ok_weaker r (λ e. e ∙ ap (λ (rows : List (Flow × FlowLedger)). write same_flow f after rows) same ∙ ap (λ (l : FlowLedger). write same_flow f l old) made_of) h
 
 -- a flow that is there is written as it was
 pub begun_already : (f : Flow) (r : Option (Bor FlowLedger)) (rows : List (Flow × FlowLedger)) → option_copied r ≡ look same_flow f rows → true ≡ is_some r → rows ≡ write same_flow f (ledger_in rows f) rows
@@ -72,5 +70,6 @@ none_there f None rows v e = v
 none_there f (Some b) rows v e = absurd cc
 
 -- what was written is there
-pub written_there : (f : Flow) (l : FlowLedger) (old new : List (Flow × FlowLedger)) → new ≡ write same_flow f l old → is_some (look same_flow f new) ≡ true
-written_there f l old new e = ap (λ (rows : List (Flow × FlowLedger)). is_some (look same_flow f rows)) e ∙ ap is_some (look_write Flow FlowLedger same_flow flow_self flow_is f l old)
+pub written_there : {T E : Type 0} (r : Result T E) (f : Flow) (l : FlowLedger) (old new : List (Flow × FlowLedger)) → OnOk r (new ≡ write same_flow f l old) → OnOk r (is_some (look same_flow f new) ≡ true)
+written_there r f l old new h =
+    on_ok_weaker r (λ e. ap (λ (rows : List (Flow × FlowLedger)). is_some (look same_flow f rows)) e ∙ ap is_some (look_write Flow FlowLedger same_flow flow_self flow_is f l old)) h

@@ -71,6 +71,16 @@ impl Ledger {
         self.flows.get_mut(flow)
     }
 
+    /// The flow has these rows; one that isn't there comes after all others. `NoMemory` leaves the
+    /// ledger as it was.
+    fn add(&mut self, flow: &Flow, rows: FlowRows) -> Result<(), NoMemory>
+        ensures ok { OnOk result (self.new ≡ write same_flow flow.now rows self.old) }
+        ensures err { OnErr result (self.new ≡ self.old) }
+    {
+        self.flows.insert(*flow, rows)?;
+        Ok(())
+    }
+
     /// Octets are taken. A flow that isn't there comes after all others. `NoMemory` leaves the ledger
     /// as it was.
     pub fn take(
@@ -91,8 +101,7 @@ impl Ledger {
         }
         let mut rows = FlowRows::new(self.alloc);
         rows.note_taken(life, &taken)?;
-        self.flows.insert(*flow, rows)?;
-        Ok(())
+        self.add(flow, rows)
     }
 
     /// The flow is there afterwards: one that isn't comes after all others, with nothing in its ledger.
@@ -106,8 +115,8 @@ impl Ledger {
         if self.rows(flow).is_some() {
             return Ok(());
         }
-        self.flows.insert(*flow, FlowRows::new(self.alloc))?;
-        Ok(())
+        let rows = FlowRows::new(self.alloc);
+        self.add(flow, rows)
     }
 
     /// `count` taken rows of the flow from a place on, which are there, get their first moment.
@@ -167,8 +176,7 @@ impl Ledger {
         }
         let mut rows = FlowRows::new(self.alloc);
         rows.give(&given)?;
-        self.flows.insert(*flow, rows)?;
-        Ok(())
+        self.add(flow, rows)
     }
 
     /// `count` octets more of the flow were read in a life of the receiving station. A flow that isn't
@@ -186,8 +194,7 @@ impl Ledger {
         }
         let mut rows = FlowRows::new(self.alloc);
         rows.note_read(life, count)?;
-        self.flows.insert(*flow, rows)?;
-        Ok(())
+        self.add(flow, rows)
     }
 
     /// The number of flows. Each stands once.

@@ -10,7 +10,7 @@ returns-then-is_some-clause-ok c = begun_already c.args.flow.now c.rows.result c
 pub returns-clause-ok : goal.returns-clause-ok
 returns-clause-ok c =
     let none = none_there c.args.flow.now c.rows.result c.args.self.now c.rows.ensures c.if-is_some.ensures in
-    absent_ok (λ (l : FlowLedger). l) c.args.flow.now c.args.self.now c.new.result c.new.result _ _ none c.new.ensures refl c.self.view_is c.in_ok-insert.ensures.entries
+    absent_ok (λ (l : FlowLedger). l) c.args.flow.now c.args.self.now c.add.result c.new-rows.result c.new-rows.result _ _ none c.new-rows.ensures refl refl c.add.ensures.ok
 
 pub returns-clause-there : goal.returns-clause-there
-returns-clause-there c = written_there c.args.flow.now (ledger_in c.args.self.now c.args.flow.now) c.args.self.now c.insert.new.self.entries (returns-clause-ok c)
+returns-clause-there c = written_there c.add.result c.args.flow.now (ledger_in c.args.self.now c.args.flow.now) c.args.self.now c.add.new.self (returns-clause-ok c)

@@ -1,4 +1,4 @@
-use Rattle.std.proofs.Common.{false, ◌++◌, ◌∙◌}
+use Rattle.std.proofs.Common.{false, ◌++◌}
 use Rattle.dt_items.specs.Unread.{marked}
 use Rattle.dt_flow_model.specs.Ledger.{given_rows}
 use Rattle.dt_world_model.specs.Ledgers.{FlowLedger}
@@ -18,4 +18,4 @@ returns-in-Some-clause-err c =
 pub returns-clause-ok : goal.returns-clause-ok
 returns-clause-ok c =
     absent_ok (λ (l : FlowLedger). record l { given = l.given ++ given_rows c.args.life c.args.at c.args.run c.args.place (marked c.args.octets.now c.args.begin c.args.end false) }) c.args.flow.now c.args.self.now
-    c.new-rows.result c.give-2.new.self _ _ c.in_default.ensures.value c.new-rows.ensures c.in_ok-give.ensures.ok (c.self.view_is ∙ c.rows_mut.follows.holds-at-none) c.in_ok-insert.ensures.entries
+    c.add.result c.new-rows.result c.give-2.new.self _ _ c.in_default.ensures.value c.new-rows.ensures c.in_ok-give.ensures.ok c.rows_mut.follows.holds-at-none c.add.ensures.ok

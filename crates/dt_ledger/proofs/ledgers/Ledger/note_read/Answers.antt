@@ -1,4 +1,3 @@
-use Rattle.std.proofs.Common.{◌∙◌}
 use Rattle.dt_flow_model.specs.Ledger.{note_read}
 use Rattle.dt_world_model.specs.Ledgers.{FlowLedger}
 use Rattle.dt_ledger.proofs.Entries.{absent_ok, there_err, there_ok}
@@ -17,4 +16,4 @@ returns-in-Some-clause-err c =
 pub returns-clause-ok : goal.returns-clause-ok
 returns-clause-ok c =
     absent_ok (λ (l : FlowLedger). record l { reads = note_read c.args.life c.args.count l.reads }) c.args.flow.now c.args.self.now
-    c.new-rows.result c.note_read-2.new.self _ _ c.in_default.ensures.value c.new-rows.ensures c.in_ok-note_read.ensures.ok (c.self.view_is ∙ c.rows_mut.follows.holds-at-none) c.in_ok-insert.ensures.entries
+    c.add.result c.new-rows.result c.note_read-2.new.self _ _ c.in_default.ensures.value c.new-rows.ensures c.in_ok-note_read.ensures.ok c.rows_mut.follows.holds-at-none c.add.ensures.ok
