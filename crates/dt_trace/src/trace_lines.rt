@@ -16,7 +16,7 @@ const MOST_LINK: u64 = 255;
 pub const MOST_TAKEN: usize = 8_223;
 
 /// What a line of a trace says.
-#[derive(Clone, Copy, Debug, PartialEq, Eq)]
+#[derive(Clone, Copy)]
 pub enum TraceLine<'a> {
     /// A reading of the clock.
     Reading(u64),

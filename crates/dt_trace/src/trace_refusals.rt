@@ -5,7 +5,7 @@ use dt_items::NoMemory;
 use dt_reports::LineFault;
 
 /// Why a line isn't noted.
-#[derive(Clone, Copy, Debug, PartialEq, Eq)]
+#[derive(Clone, Copy)]
 pub enum TraceRefusal {
     /// The line is refused for this fault.
     Line(LineFault),
