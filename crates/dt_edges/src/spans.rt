@@ -1,5 +1,5 @@
 /// Where the octets of a datagram stand among those of others, and its link.
-#[derive(Clone, Copy, Debug, PartialEq, Eq)]
+#[derive(Clone, Copy)]
 pub struct Span {
     pub(crate) link: u16,
     pub(crate) start: usize,
