@@ -13,7 +13,7 @@ const MOST_OCTETS: usize = 262_144;
 const MOST_PLACES: usize = 512;
 
 /// Where a datagram stands among the octets of all.
-#[derive(Clone, Copy, Debug, PartialEq, Eq)]
+#[derive(Clone, Copy)]
 pub struct Place {
     link: u16,
     start: usize,

@@ -28,7 +28,7 @@ const SLEEP: u64 = 1;
 const KEPT: i32 = 2_097_152;
 
 /// What a look into a socket found.
-#[derive(Clone, Copy, Debug, PartialEq, Eq)]
+#[derive(Clone, Copy, PartialEq, Eq)]
 pub enum Look {
     /// A datagram, and how many of its octets stand first in the buffer.
     Datagram { from: Address, count: usize },

@@ -1,5 +1,5 @@
 /// How often a wire was called, and how often a call failed. Each count stands still at 2^64 - 1.
-#[derive(Clone, Copy, Debug, PartialEq, Eq)]
+#[derive(Clone, Copy)]
 pub struct WireCounts {
     pub opens: u64,
     /// How long the last take was to wait, in ms.
