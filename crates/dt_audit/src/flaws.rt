@@ -4,7 +4,7 @@ ghost use Rattle.dt_audit.specs.Flaws.{promise_text};
 use dt_reports::LineFault;
 
 /// What a log can break.
-#[derive(Clone, Copy, Debug, PartialEq, Eq)]
+#[derive(Clone, Copy)]
 pub enum Promise {
     /// The places of accepted octets rise.
     InOrder,
@@ -17,7 +17,7 @@ pub enum Promise {
 }
 
 /// What is wrong with a line of a log.
-#[derive(Clone, Copy, Debug, PartialEq, Eq)]
+#[derive(Clone, Copy)]
 pub enum Flaw {
     /// It states a fact and isn't written as the log writes it.
     Line(LineFault),

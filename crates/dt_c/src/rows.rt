@@ -232,7 +232,7 @@ pub struct ReportRow {
 }
 
 /// The answer to an opening.
-#[derive(Clone, Copy, Debug, PartialEq, Eq)]
+#[derive(Clone, Copy)]
 pub enum Opened {
     Done,
     NoMemory,

@@ -12,7 +12,7 @@ use dt_world::Event;
 
 /// Which sides must be read. At all others nothing is unread, and their stations have done what is due,
 /// so that a read would report nothing and change nothing.
-#[derive(Clone, Copy, Debug, PartialEq, Eq)]
+#[derive(Clone, Copy)]
 pub enum Due {
     Nothing,
     /// Both sides of this flow.

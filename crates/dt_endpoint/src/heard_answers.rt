@@ -8,7 +8,7 @@ use dt_items::Piece;
 use dt_reports::{Matter, Refusal, Report};
 
 /// What the station answered to the call, as far as it was reported.
-#[derive(Clone, Copy, Debug, PartialEq, Eq)]
+#[derive(Clone, Copy)]
 pub enum HeardAnswer {
     /// Nothing yet.
     Nothing,

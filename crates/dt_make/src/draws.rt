@@ -15,7 +15,7 @@ pub fn next_x(x: u32) -> u32
 }
 
 /// What a round is drawn from: the upper bits of the generator's number.
-#[derive(Clone, Copy, Debug, PartialEq, Eq)]
+#[derive(Clone, Copy)]
 pub struct Draw(u32);
 
 impl Draw {

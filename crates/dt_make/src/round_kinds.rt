@@ -2,7 +2,7 @@ ghost use Rattle.std.specs.Prelude.{◌≡◌};
 ghost use Rattle.dt_make.specs.Kinds.{copies_of};
 
 /// What happens to the packets of a round.
-#[derive(Clone, Copy, Debug, PartialEq, Eq)]
+#[derive(Clone, Copy)]
 pub enum RoundKind {
     /// The message arrives, and so does its acknowledgement.
     Plain,

@@ -6,7 +6,7 @@ use dt_edges::{Failed, Sink};
 use dt_log::{Word, put_row};
 
 /// A line of a round that is a word and a number.
-#[derive(Clone, Copy, Debug, PartialEq, Eq)]
+#[derive(Clone, Copy)]
 pub enum RoundLine {
     /// This many milliseconds pass.
     Pass(u32),

@@ -1,5 +1,5 @@
 /// What is written of a run.
-#[derive(Clone, Copy, Debug, PartialEq, Eq)]
+#[derive(Clone, Copy)]
 pub enum OutputForm {
     /// Its log: a line for each report.
     Log,

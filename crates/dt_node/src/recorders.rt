@@ -9,7 +9,7 @@ use dt_edges::{Buffer, Buffered, Failed, Sink};
 use dt_trace::{Input, put_input};
 
 /// The form of what is written, and how many frames were given. The count stands still at 2^64 - 1.
-#[derive(Clone, Copy, Debug, PartialEq, Eq)]
+#[derive(Clone, Copy)]
 pub struct Writer {
     pub form: OutputForm,
     pub gives: u64,

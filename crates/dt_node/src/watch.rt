@@ -9,7 +9,7 @@ const LAST: u64 = 4_611_686_018_427_387_904;
 pub const MOST_EQUAL: u32 = 100_000;
 
 /// The readings so far, in short. A reading is in ms, and counts as at most 2^62.
-#[derive(Clone, Copy, Debug, PartialEq, Eq)]
+#[derive(Clone, Copy)]
 pub struct Watch {
     /// The first turn's reading.
     pub first: u64,

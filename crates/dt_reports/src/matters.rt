@@ -4,7 +4,7 @@ use dt_units::Flow;
 
 /// What a report says of octets, packets and lives. Counts and windows are octets, lives of packets
 /// milliseconds.
-#[derive(Clone, Copy, Debug, PartialEq, Eq)]
+#[derive(Clone, Copy)]
 pub enum Matter<'a> {
     /// `count` octets of a send were taken.
     Taken {

@@ -5,7 +5,7 @@ use dt_units::Flow;
 
 /// What a station itself reports, whoever drives it: the [`Report`](crate::Report) of the same name, but
 /// for the octets of a piece that was read. Counts, lengths and windows are octets.
-#[derive(Clone, Copy, Debug, PartialEq, Eq)]
+#[derive(Clone, Copy)]
 pub enum StationReport {
     /// A send was taken.
     Took {

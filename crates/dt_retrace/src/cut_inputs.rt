@@ -8,7 +8,7 @@ ghost use Rattle.dt_retrace.specs.Parts.{CutsTo, is_mark};
 use dt_text::split_line;
 
 /// An input that is cut at its first line `trace`.
-#[derive(Clone, Copy, Debug)]
+#[derive(Clone, Copy)]
 pub struct CutInput<'a> {
     /// The lines before it.
     pub script: &'a [u8],

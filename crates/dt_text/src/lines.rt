@@ -15,7 +15,7 @@ pub enum Form {
 
 /// A line of an input, as its words say. Lines of a kind have a type of their own: those of the setup of
 /// a world, those after its `go`, and those of a script alone.
-#[derive(Clone, Copy, Debug, PartialEq, Eq)]
+#[derive(Clone, Copy, Debug)]
 pub enum Line<'a> {
     /// An empty line, or one that begins with `#`.
     Blank,
@@ -33,7 +33,7 @@ pub enum Line<'a> {
 }
 
 /// A line of the setup of a world.
-#[derive(Clone, Copy, Debug, PartialEq, Eq)]
+#[derive(Clone, Copy, Debug)]
 pub enum SetupLine {
     /// The node `n` stands in the world. Its clock reads `zero` ms more than the world's.
     Station {
@@ -58,7 +58,7 @@ pub enum SetupLine {
 }
 
 /// A line after `go` in the input of a world.
-#[derive(Clone, Copy, Debug, PartialEq, Eq)]
+#[derive(Clone, Copy, Debug)]
 pub enum RunLine<'a> {
     /// Of schedules and of inputs of calls: what happens to the world.
     World(WorldLine),
@@ -69,7 +69,7 @@ pub enum RunLine<'a> {
 }
 
 /// What happens to a world.
-#[derive(Clone, Copy, Debug, PartialEq, Eq)]
+#[derive(Clone, Copy, Debug)]
 pub enum WorldLine {
     /// `by` ms pass.
     Pass { by: u32 },
@@ -84,7 +84,7 @@ pub enum WorldLine {
 }
 
 /// What a user of a node does.
-#[derive(Clone, Copy, Debug, PartialEq, Eq)]
+#[derive(Clone, Copy, Debug)]
 pub enum UserLine<'a> {
     /// Octets are handed in to be sent. `hex` lends the digits of the line, 1 to 65,536 pairs of
     /// hexadecimal digits.
@@ -102,7 +102,7 @@ pub enum UserLine<'a> {
 }
 
 /// A line of a script alone. The moments after its `go` are in ms after the first reading of the clock.
-#[derive(Clone, Copy, Debug, PartialEq, Eq)]
+#[derive(Clone, Copy, Debug)]
 pub enum ScriptLine<'a> {
     /// Before `go`: the node's number, and whether it begins again after an earlier life.
     Me { n: u32, again: bool },
@@ -117,7 +117,7 @@ pub enum ScriptLine<'a> {
 }
 
 /// A line by which a script sets up its node, whose number and address are known.
-#[derive(Clone, Copy, Debug, PartialEq, Eq)]
+#[derive(Clone, Copy, Debug)]
 pub enum NodeLine {
     /// The other end of a link in both directions. Its number is 0 to 255. Its charge and its pace are
     /// 0 to 86,400,000 ms.

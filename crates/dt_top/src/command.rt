@@ -9,7 +9,7 @@ use dt_make::MOST_ROUNDS;
 use dt_text::read_number;
 
 /// What the words ask for.
-#[derive(Clone, Copy, Debug, PartialEq, Eq)]
+#[derive(Clone, Copy)]
 pub enum Command {
     /// An input is read to its end, and this is done with it.
     Serve(Job),

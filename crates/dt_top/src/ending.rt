@@ -2,7 +2,7 @@ ghost use Rattle.std.specs.Prelude.{◌≡◌};
 ghost use Rattle.dt_top.specs.Endings.{status_of, text_of};
 
 /// How a run ends.
-#[derive(Clone, Copy, Debug, PartialEq, Eq)]
+#[derive(Clone, Copy)]
 pub enum Ending {
     /// All was served: a schedule and its log, a script or a run up to its stop, a generated schedule, an
     /// input of calls, or a log without a flaw.

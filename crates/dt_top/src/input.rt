@@ -12,7 +12,7 @@ const LIMIT: usize = 16_777_216;
 const PIECE: usize = 8192;
 
 /// Why no input is had.
-#[derive(Clone, Copy, Debug, PartialEq, Eq)]
+#[derive(Clone, Copy)]
 pub enum InputFault {
     /// It has more than 16,777,216 octets.
     TooLong,

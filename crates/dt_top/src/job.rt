@@ -2,7 +2,7 @@ ghost use Rattle.std.specs.Prelude.{◌≡◌};
 ghost use Rattle.dt_top.specs.Commands as commands;
 
 /// What is done with an input.
-#[derive(Clone, Copy, Debug, PartialEq, Eq)]
+#[derive(Clone, Copy)]
 pub enum Job {
     /// It is a schedule, whose log is written.
     Replay,

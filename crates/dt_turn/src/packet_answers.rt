@@ -20,7 +20,7 @@ use dt_station::{Station, Visitor};
 use dt_units::Flow;
 
 /// What a station answered to a packet, as far as it concerns a shelf.
-#[derive(Clone, Copy, Debug, PartialEq, Eq)]
+#[derive(Clone, Copy)]
 pub enum PacketAnswer {
     /// Nothing that concerns it.
     Nothing,

@@ -1,4 +1,4 @@
-use Rattle.std.proofs.Common.{arith, length, refl, suc}
+use Rattle.std.proofs.Common.{arith, length, suc}
 use Rattle.std.proofs.lemmas.Result.{err_from_is_err_and}
 use Rattle.dt_station.proofs.Playing.{leads_here}
 use Rattle.dt_turn.specs.Codes.{handed_seen, incoming_seen}
