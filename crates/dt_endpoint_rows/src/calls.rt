@@ -57,7 +57,13 @@ fn goes(one: &mut Endpoint, to: u32, link: u16) -> bool {
 }
 
 fn took(one: &mut Endpoint, flow: Flow, count: u32) -> bool {
-    one.next_report() == Some(Report::Took { flow, count })
+    match one.next_report() {
+        Some(Report::Took {
+            flow: of,
+            count: told,
+        }) => of == flow && told == count,
+        _ => false,
+    }
 }
 
 fn is_settled(one: &mut Endpoint, wanted: u32) -> bool {

@@ -11,7 +11,7 @@ use dt_layout::LayoutFault;
 use dt_units::Flow;
 
 /// What is reported in the log. Counts, lengths and windows are octets.
-#[derive(Clone, Copy, Debug, PartialEq, Eq)]
+#[derive(Clone, Copy)]
 pub enum Report<'a> {
     /// A send was taken.
     Took {

@@ -1,18 +1,113 @@
 //! A visitor that compares what it sees with what is wanted.
 use dt_host::Host;
 use dt_items::NoMemory;
-use dt_layout::Frame;
+use dt_layout::{Frame, LayoutFault};
 use dt_relay::Carry;
 use dt_reports::Report;
 use dt_station::Visitor;
+use dt_units::Flow;
 
-/// What a visitor sees: a report, a question for a tag, a packet with so much life that waited or that
-/// leaves at once.
-#[derive(Clone, Copy, Debug, PartialEq, Eq)]
+/// What a visitor sees: one of the reports that the rows want, a question for a tag, a packet with so much
+/// life that waited or that leaves at once.
+#[derive(Clone, Copy, PartialEq, Eq)]
 pub enum Seen {
-    Told(Report<'static>),
+    Took {
+        flow: Flow,
+        count: u32,
+    },
+    Sent {
+        flow: Flow,
+        number: u32,
+        length: u32,
+        drf: bool,
+        begin: bool,
+        end: bool,
+    },
+    Acked {
+        flow: Flow,
+        number: u32,
+        window: u32,
+    },
+    Accepted {
+        flow: Flow,
+        number: u32,
+        length: u32,
+        run: bool,
+    },
+    Nothing {
+        flow: Flow,
+    },
+    Put {
+        link: u16,
+        life: u32,
+    },
+    ExpiredIn {
+        link: u16,
+    },
+    ExpiredOut {
+        link: u16,
+    },
+    NoRoute {
+        to: u32,
+    },
+    Bad {
+        fault: LayoutFault,
+    },
     Asked,
-    Handed { link: u16, life: u32, at_once: bool },
+    Handed {
+        link: u16,
+        life: u32,
+        at_once: bool,
+    },
+}
+
+/// A report as the rows tell it, or nothing where none of them wants one of its kind.
+fn seen(report: &Report<'_>) -> Option<Seen> {
+    match *report {
+        Report::Took { flow, count } => Some(Seen::Took { flow, count }),
+        Report::Sent {
+            flow,
+            number,
+            length,
+            drf,
+            begin,
+            end,
+        } => Some(Seen::Sent {
+            flow,
+            number,
+            length,
+            drf,
+            begin,
+            end,
+        }),
+        Report::Acked {
+            flow,
+            number,
+            window,
+        } => Some(Seen::Acked {
+            flow,
+            number,
+            window,
+        }),
+        Report::Accepted {
+            flow,
+            number,
+            length,
+            run,
+        } => Some(Seen::Accepted {
+            flow,
+            number,
+            length,
+            run,
+        }),
+        Report::Nothing { flow } => Some(Seen::Nothing { flow }),
+        Report::Put { link, life } => Some(Seen::Put { link, life }),
+        Report::ExpiredIn { link } => Some(Seen::ExpiredIn { link }),
+        Report::ExpiredOut { link } => Some(Seen::ExpiredOut { link }),
+        Report::NoRoute { to } => Some(Seen::NoRoute { to }),
+        Report::Bad { fault } => Some(Seen::Bad { fault }),
+        _ => None,
+    }
 }
 
 /// Compares what it sees with what is wanted, and has memory for so many packets.
@@ -25,8 +120,8 @@ pub struct Audience<'a> {
 }
 
 fn is_told(wanted: Option<&Seen>, report: &Report<'_>) -> bool {
-    match wanted {
-        Some(Seen::Told(wanted)) => *wanted == *report,
+    match (wanted, seen(report)) {
+        (Some(wanted), Some(told)) => *wanted == told,
         _ => false,
     }
 }

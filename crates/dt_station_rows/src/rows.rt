@@ -2,7 +2,6 @@
 use crate::audience::Seen;
 use crate::fixtures::FLOW;
 use dt_layout::LayoutFault;
-use dt_reports::Report;
 
 pub enum Step {
     /// A rendezvous from node 1 comes on link 7, with so much life, to a node.
@@ -30,10 +29,10 @@ static FLUSHED: [Row; 8] = [
         0,
         Step::Meets(5000, 2),
         &[
-            Seen::Told(Report::Put {
+            Seen::Put {
                 link: 5,
                 life: 4949,
-            }),
+            },
             Seen::Handed {
                 link: 5,
                 life: 4949,
@@ -45,10 +44,10 @@ static FLUSHED: [Row; 8] = [
         0,
         Step::Meets(5000, 3),
         &[
-            Seen::Told(Report::Put {
+            Seen::Put {
                 link: 1,
                 life: 4949,
-            }),
+            },
             Seen::Handed {
                 link: 1,
                 life: 4949,
@@ -65,19 +64,19 @@ static FLUSHED: [Row; 8] = [
         1000,
         Step::Ticks,
         &[
-            Seen::Told(Report::Put {
+            Seen::Put {
                 link: 5,
                 life: 3949,
-            }),
+            },
             Seen::Handed {
                 link: 5,
                 life: 3949,
                 at_once: false,
             },
-            Seen::Told(Report::Put {
+            Seen::Put {
                 link: 1,
                 life: 3949,
-            }),
+            },
             Seen::Handed {
                 link: 1,
                 life: 3949,
@@ -97,17 +96,17 @@ static GOING_NOWHERE: [Row; 3] = [
     (
         0,
         Step::Meets(50, 2),
-        &[Seen::Told(Report::ExpiredIn { link: 7 })],
+        &[Seen::ExpiredIn { link: 7 }],
     ),
     (
         0,
         Step::Meets(5000, 4),
-        &[Seen::Told(Report::NoRoute { to: 4 })],
+        &[Seen::NoRoute { to: 4 }],
     ),
     (
         0,
         Step::Meets(51, 2),
-        &[Seen::Told(Report::ExpiredOut { link: 5 })],
+        &[Seen::ExpiredOut { link: 5 }],
     ),
 ];
 
@@ -120,19 +119,19 @@ static ACKNOWLEDGED: [Row; 1] = [(
     40,
     Step::Hello,
     &[
-        Seen::Told(Report::Accepted {
+        Seen::Accepted {
             flow: FLOW,
             number: 0,
             length: 5,
             run: true,
-        }),
-        Seen::Told(Report::Acked {
+        },
+        Seen::Acked {
             flow: FLOW,
             number: 5,
             window: 4091,
-        }),
+        },
         Seen::Asked,
-        Seen::Told(Report::NoRoute { to: 1 }),
+        Seen::NoRoute { to: 1 },
     ],
 )];
 
@@ -146,44 +145,44 @@ static NOT_READ: [Row; 6] = [
     (
         0,
         Step::Changed(1, 2, 35),
-        &[Seen::Told(Report::Bad {
+        &[Seen::Bad {
             fault: LayoutFault::Protocol { octet: 2 },
-        })],
+        }],
     ),
     (
         0,
         Step::Changed(16, 9, 35),
-        &[Seen::Told(Report::Bad {
+        &[Seen::Bad {
             fault: LayoutFault::Kind { octet: 9 },
-        })],
+        }],
     ),
     (
         0,
         Step::Changed(17, 8, 35),
-        &[Seen::Told(Report::Bad {
+        &[Seen::Bad {
             fault: LayoutFault::Flags { octet: 8 },
-        })],
+        }],
     ),
     (
         0,
         Step::Changed(29, 1, 35),
-        &[Seen::Told(Report::Bad {
+        &[Seen::Bad {
             fault: LayoutFault::Window { value: 1 },
-        })],
+        }],
     ),
     (
         0,
         Step::Changed(3, 13, 29),
-        &[Seen::Told(Report::Bad {
+        &[Seen::Bad {
             fault: LayoutFault::Short { len: 13 },
-        })],
+        }],
     ),
     (
         0,
         Step::Changed(3, 14, 30),
-        &[Seen::Told(Report::Bad {
+        &[Seen::Bad {
             fault: LayoutFault::Size { len: 0 },
-        })],
+        }],
     ),
 ];
 
@@ -193,20 +192,20 @@ pub fn not_read() -> &'static [Row] {
 }
 
 static SENT: [Seen; 5] = [
-    Seen::Told(Report::Took {
+    Seen::Took {
         flow: FLOW,
         count: 5,
-    }),
-    Seen::Told(Report::Sent {
+    },
+    Seen::Sent {
         flow: FLOW,
         number: 0,
         length: 5,
         drf: true,
         begin: true,
         end: true,
-    }),
+    },
     Seen::Asked,
-    Seen::Told(Report::Put { link: 5, life: 999 }),
+    Seen::Put { link: 5, life: 999 },
     Seen::Handed {
         link: 5,
         life: 999,
@@ -219,7 +218,7 @@ pub fn sent() -> &'static [Seen] {
     &SENT
 }
 
-static NOTHING_READ: [Seen; 1] = [Seen::Told(Report::Nothing { flow: FLOW })];
+static NOTHING_READ: [Seen; 1] = [Seen::Nothing { flow: FLOW }];
 
 /// There is nothing to read.
 pub fn nothing_read() -> &'static [Seen] {
