@@ -1,7 +1,7 @@
 #!/usr/bin/env python3
 """What many flows cost `replay`. `bench/flows.py [PROGRAM]`.
 
-- A schedule on 20,000 flows beside one of the same lines on 20, in seconds, peak memory and the factor between
+- A schedule on 20,000 flows beside one on 20 with as many lines and octets, in seconds, peak memory and the factor between
   their times, for two sizes of the records' rooms. Each flow's records stand to the end, so each event finds its
   act among those of all flows.
 - A release: each of 2,000 and of 20,000 flows has sent one message and goes quiet, and then one tick of either node
@@ -25,6 +25,8 @@ ROOMS = (64, 4096)
 ROUNDS = 3600
 RUNS = 3
 RELEASED = (2_000, 20_000)
+# from here on all ports have five digits, so that a schedule on few flows has as many octets as one on many
+FIRST_PORT = 10_000
 # longer than any record stands behind its flow's last packet, in ms
 QUIET = 10_000
 OCTETS = "".join(f"{i:02x}" for i in range(16))
@@ -42,7 +44,7 @@ def schedule(flows, room, rounds, out):
     out.write(setup(room))
     for number in range(rounds):
         first, copy = number * FEW, number * FEW * 2
-        names = [f"1:{i % flows}>2:{i % flows}" for i in range(first, first + FEW)]
+        names = [f"1:{FIRST_PORT + i % flows}>2:{FIRST_PORT + i % flows}" for i in range(first, first + FEW)]
         out.writelines(f"send {name} be {OCTETS}\n" for name in names)
         out.write("pass 1\n")
         out.writelines(f"arrive {copy + i}\n" for i in range(FEW))

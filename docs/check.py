@@ -15,7 +15,8 @@ It refuses, each with page and line:
 - a list of docs/headline.md that differs from the definitions that its sentences rest on;
 - a file of a crate that says nothing of itself, so that docs/files.py would list it without a word;
 - a script that can't be run as the pages say, since it isn't executable;
-- a must-fail edit whose text doesn't stand once in its file: `rt ci` counts it for nothing, and passes.
+- a must-fail edit whose text doesn't stand once in its file: `rt ci` counts it for nothing, and passes;
+- an answer that says that it refuses an edit which isn't there.
 
 Usage: docs/check.py            compares
        docs/check.py write      writes the "stands on" column, the files that a new line costs, docs/clauses.md and the
@@ -557,6 +558,18 @@ def check_edits() -> Iterator[Complaint]:
             yield Complaint(edit, 1, "it changes nothing")
 
 
+REFUSED = "-- refused here: "
+
+
+def check_refusals() -> Iterator[Complaint]:
+    """The edits that an answer says it refuses."""
+    for path in sources("proofs"):
+        for number, line in enumerate(text_of(path).splitlines(), 1):
+            for edit in line.removeprefix(REFUSED).split(", ") if line.startswith(REFUSED) else ():
+                if not (TOP / "crates" / path.relative_to(TOP / "crates").parts[0] / "must-fail" / f"{edit}.edit").is_file():
+                    yield Complaint(path, number, f"there is no edit {edit}")
+
+
 SCRIPTS = ("tests", "tools", "bench", "lib", "docs", "release", "examples", "conformance")
 
 
@@ -587,6 +600,7 @@ def complaints() -> Iterator[Complaint]:
     yield from check_costs()
     yield from check_files()
     yield from check_edits()
+    yield from check_refusals()
     yield from check_headline()
     yield from check_scripts()
 

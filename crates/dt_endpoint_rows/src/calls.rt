@@ -58,10 +58,12 @@ fn goes(one: &mut Endpoint, to: u32, link: u16) -> bool {
 
 fn took(one: &mut Endpoint, flow: Flow, count: u32) -> bool {
     match one.next_report() {
-        Some(Report::Took {
-            flow: of,
-            count: told,
-        }) => of == flow && told == count,
+        Some(
+            Report::Took {
+                flow: of,
+                count: told,
+            },
+        ) => of == flow && told == count,
         _ => false,
     }
 }

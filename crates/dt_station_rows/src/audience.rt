@@ -62,7 +62,7 @@ pub enum Seen {
 }
 
 /// A report as the rows tell it, or nothing where none of them wants one of its kind.
-fn seen(report: &Report<'_>) -> Option<Seen> {
+fn shown(report: &Report<'_>) -> Option<Seen> {
     match *report {
         Report::Took { flow, count } => Some(Seen::Took { flow, count }),
         Report::Sent {
@@ -120,7 +120,7 @@ pub struct Audience<'a> {
 }
 
 fn is_told(wanted: Option<&Seen>, report: &Report<'_>) -> bool {
-    match (wanted, seen(report)) {
+    match (wanted, shown(report)) {
         (Some(wanted), Some(told)) => *wanted == told,
         _ => false,
     }

@@ -93,21 +93,9 @@ pub fn flushed() -> &'static [Row] {
 }
 
 static GOING_NOWHERE: [Row; 3] = [
-    (
-        0,
-        Step::Meets(50, 2),
-        &[Seen::ExpiredIn { link: 7 }],
-    ),
-    (
-        0,
-        Step::Meets(5000, 4),
-        &[Seen::NoRoute { to: 4 }],
-    ),
-    (
-        0,
-        Step::Meets(51, 2),
-        &[Seen::ExpiredOut { link: 5 }],
-    ),
+    (0, Step::Meets(50, 2), &[Seen::ExpiredIn { link: 7 }]),
+    (0, Step::Meets(5000, 4), &[Seen::NoRoute { to: 4 }]),
+    (0, Step::Meets(51, 2), &[Seen::ExpiredOut { link: 5 }]),
 ];
 
 /// What can't be passed on is reported.
