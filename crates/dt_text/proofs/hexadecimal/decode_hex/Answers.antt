@@ -1,4 +1,4 @@
-use Rattle.std.proofs.Common.{◌∙◌, ◌+◌, ◌*◌, ◌<◌, length, length-set, arith}
+use Rattle.std.proofs.Common.{◌∙◌, ◌+◌, ◌*◌, ◌<◌, length, length-set, arith, rules}
 use Rattle.dt_text.proofs.HexLemmas.{octets_of_hex-next}
 use Rattle.dt_text.proofs.hexadecimal.decode_hex.Goals as goal
 
@@ -12,3 +12,7 @@ loop-i-preserved c =
       length-set c.loop-i.octets.items c.loop-i.i (16 * high + low) ∙ c.loop-i.invariant.0,
       octets_of_hex-next c.loop-i.i hex c.loop-i.octets.items high low inside room c.value_of.ensures.value c.value_of-in-loop-i.ensures.value c.loop-i.invariant.1,
     )
+
+-- refused here: cleared_digits
+pub returns-in_err-resize-clause-unchanged : goal.returns-in_err-resize-clause-unchanged
+returns-in_err-resize-clause-unchanged c = search rules

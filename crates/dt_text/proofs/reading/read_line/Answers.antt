@@ -1,4 +1,5 @@
-use Rattle.std.proofs.Common.{IfOk, subst, sym}
+use Rattle.std.proofs.lemmas.Grind.{common_steps}
+use Rattle.std.proofs.Common.{IfOk, subst, sym, arith}
 use Rattle.dt_text.specs.Said.{said}
 use Rattle.dt_text.specs.Spelling.{IsLine}
 use Rattle.dt_text.specs.declared.lines.Form.TheVariants.{Schedule, Script, Calls}
@@ -22,3 +23,7 @@ returns-in-Calls-clause-within c = subst (λ form. IfOk c.calls_line.result (λ 
 
 pub returns-in-Calls-clause-not_order : goal.returns-in-Calls-clause-not_order
 returns-in-Calls-clause-not_order c = reads-not_order Calls c.new-words.result c.calls_line.result c.calls_line.ensures
+
+-- refused here: no_comments
+pub schedule_line-requires : goal.schedule_line-requires
+schedule_line-requires c = grind (arith, common_steps)
