@@ -1,0 +1,6 @@
+use Rattle.std.proofs.Common.{rules}
+use Rattle.dt_log.proofs.log_lines.put_number_told.Goals as goal
+
+-- refused here: nothing_is_told
+pub returns : goal.returns
+returns g c = search rules

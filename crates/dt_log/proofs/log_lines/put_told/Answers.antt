@@ -1,0 +1,6 @@
+use Rattle.std.proofs.Common.{rules}
+use Rattle.dt_log.proofs.log_lines.put_told.Goals as goal
+
+-- refused here: node_of_the_world
+pub returns-in-None : goal.returns-in-None
+returns-in-None g c = search rules
