@@ -1,4 +1,4 @@
-use Rattle.std.proofs.Common.{◌≡◌, ◌+◌, length, arith, length-drop, ap}
+use Rattle.std.proofs.Common.{◌≡◌, ◌+◌, length, arith, length-drop, ap, rules}
 use Rattle.dt_edges.proofs.Puts.{puts_until, takes_further, rest_cut}
 use Rattle.dt_edges.proofs.sinks.put_all.Goals as goal
 
@@ -18,3 +18,7 @@ pub returns-in_err-taken-clause-puts : goal.returns-in_err-taken-clause-puts
 returns-in_err-taken-clause-puts g c =
     let i = c.loop-rest.invariant in
     puts_until g.K.Sink.sight c.args.bytes.now i.0 c.from_residual.result c.args.out.now c.loop-rest.out c.put.new.self i.3 c.from_residual.ensures.0 c.in_err-taken.ensures.taken c.in_err-taken.ensures.reached c.in_err-taken.ensures.counted c.in_err-taken.ensures.same_sink
+
+-- refused here: put_all_drops_the_last
+pub loop-rest-init : goal.loop-rest-init
+loop-rest-init g c = search rules

@@ -1,3 +1,4 @@
+use Rattle.std.proofs.lemmas.Grind.{common_steps}
 use Rattle.std.proofs.Common.{◌≡◌, ◌<◌, true, nat_lt, sym, ◌∙◌, arith}
 use Rattle.std.proofs.lemmas.Bool.Decides.{nat_tests}
 use Rattle.dt_items.proofs.Counts.{all_count_on}
@@ -11,3 +12,7 @@ loop-i-preserved c = λ (h : c.greater-greatest.result < 256).
     let this : c.whole.result < 256 = omega arith in
     let tested : nat_lt c.whole.result 256 ≡ true = grind (arith, nat_tests) in
     all_count_on c.args.items.now c.loop-i.i blank c.loop-i-test.true (c.loop-i.invariant below) (sym c.whole.ensures.unmarked ∙ tested)
+
+-- refused here: a_block_with_a_mark_is_passed_over
+pub returns : goal.returns
+returns c = grind (arith, common_steps)
