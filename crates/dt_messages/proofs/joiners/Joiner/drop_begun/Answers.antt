@@ -1,0 +1,6 @@
+use Rattle.std.proofs.Common.{rules}
+use Rattle.dt_messages.proofs.joiners.Joiner.drop_begun.Goals as goal
+
+-- refused here: long_message_is_not_counted
+pub returns : goal.returns
+returns c = search rules
