@@ -15,11 +15,13 @@ use Rattle.dt_host.specs.declared.acts.Done.{Done as DoneAct}
 use Rattle.dt_host.specs.Answers.{frame_made, host_after, told_act, told_done}
 use Rattle.dt_host.specs.Hosts.{HostValue}
 use Rattle.dt_world_model.specs.Host.{Host, HostAct, IsCurrentHost, Offer, Turn, least, next_turn, offers, recv_act, send_act, turn_of, work}
-use Rattle.dt_world_model.specs.Relay.{Parcel, Relay}
+use Rattle.dt_world_model.specs.Relay.{Parcel, Relay, with_outs}
 use Rattle.dt_world_model.specs.Script.{Done, Plays, Script, Stops, Tell, ◌>>=◌}
 use Rattle.dt_world_model.specs.Station.{Station, do_turns, send_off, station_with}
 use Rattle.dt_station.specs.Acts.{makes_frame}
-use Rattle.dt_station.proofs.Playing.{Leads, leads_after, stops_within}
+use Rattle.dt_station.specs.Stations.{StationValue, Stays}
+use Rattle.dt_station.proofs.Flushes.{kept}
+use Rattle.dt_station.proofs.Playing.{Leads, leads_after, leads_here, stops_within}
 
 -- WHICH ACTS MAKE A FRAME is seen of what is told
 abbrev tells_frame : Told → Bool
@@ -177,50 +179,139 @@ module _ {V T : Type 0} (tells : V → Told → V → Type 0) (tags : V → Host
     pub turning_stops : (w : V) → Turning p now whole first host relay here → Stops tells tags hands fails (act_script now done new left relay) here w → Stops tells tags hands fails whole first w
     turning_stops w t stopped = stops_by t.most w t.enough t.leads stopped
 
--- The same by what a call of next says of a host with its parameters.
-module _ {V T : Type 0} (tells : V → Told → V → Type 0) (tags : V → Host → List ℕ → T → V → Type 0) (hands : V → ℕ → Parcel T → V → Type 0) (fails : V → V → Type 0) where
-  module _ (p : Params) (now : ℕ) (whole : Script T (Station T)) (first here : V) (host new : HostValue) (relay : Relay T) (done : DoneAct) (was left : List ℕ) (rules : host.rules ≡ p)
-      (falls : work host.rules now new.state < work host.rules now host.state)
-      (turn : Some (told_done done) ≡ option_map (λ (t : Turn). t.told) (next_turn host.rules now host.state))
-      (frame : left ≡ unwrap_or (frame_made (next_turn host.rules now host.state)) was)
-      (after : new ≡ record { rules = host.rules; latest = now; state = host_after host.state (next_turn host.rules now host.state) }) where
-    t : Turned p now host.state new.state done was left
-        (subst (λ (q : Params). Some (told_done done) ≡ option_map (λ (t : Turn). t.told) (next_turn q now host.state)) rules turn)
-        (subst (λ (q : Params). left ≡ unwrap_or (frame_made (next_turn q now host.state)) was) rules frame)
-        (subst (λ (q : Params). new.state ≡ host_after host.state (next_turn q now host.state)) rules (ap (λ (h : HostValue). h.state) after))
-    t = turned p now host.state new.state done was left _ _ _
+-- THE LOOP OVER THE ACTS, of a station whose host is at its latest moment.
+module _ {V T : Type 0} (tells : V → Told → V → Type 0) (tags : ℕ → V → Host → List ℕ → T → V → Type 0) (hands : V → ℕ → Parcel T → V → Type 0) (fails : V → V → Type 0) where
+  -- before each act: what is left to do leads to the end of all
+  pub record Looping (first : StationValue T) (begin : V) (host : HostValue) (then : ℕ) (relay : Relay T) (here : V) : Type 0 where
+    pub turning : Turning tells (tags first.latest) hands fails first.rules first.latest (do_turns (work first.rules first.latest first.state.host) first.rules first.latest first.state) begin host.state relay here
+    pub rules : host.rules ≡ first.rules
+    pub now : then ≡ first.latest
+    pub me : host.state.me ≡ first.state.host.me
+    pub latest : host.latest ≤ then
+    pub others : relay ≡ with_outs first.state.relay relay.outs
 
-    lower : work p now new.state < work p now host.state
-    lower = subst (λ (q : Params). work q now new.state < work q now host.state) rules falls
+  pub loop_starts : (first : StationValue T) (begin : V) (host : HostValue) (then : ℕ) (spent : Bool) (relay : Relay T) →
+      record { rules = host.rules; latest = then; spent = spent; state = station_with host.state relay } ≡ first → host.latest ≤ then → Looping first begin host then relay begin
+  loop_starts first begin host then spent relay seen latest =
+      subst (λ (s : StationValue T). Looping s begin host then relay begin) seen
+      record {
+        turning = record {
+          most = work host.rules then host.state;
+          enough = omega arith;
+          leads = leads_here tells (tags then) hands fails (do_turns (work host.rules then host.state) host.rules then (station_with host.state relay)) begin;
+        };
+        rules = refl;
+        now = refl;
+        me = refl;
+        latest = latest;
+        others = refl;
+      }
 
-    pub loop_on : (rest : Relay T) (m : V) → Turning tells tags hands fails p now whole first host.state relay here → Plays tells tags hands (act_script now done new.state left relay) here m (station_with new.state rest) → Turning tells tags hands fails p now whole first new.state rest m
-    loop_on rest m turning played =
-        turning_on tells tags hands fails p now whole first here host.state new.state relay done left lower t.next t.is_next t.told t.made t.host_is rest m turning played
+  pub loop_past : (first : StationValue T) (begin here : V) (host lent : HostValue) (then : ℕ) (relay : Relay T) → Looping first begin host then relay here → lent ≡ host → lent.latest ≤ then
+  loop_past first begin here host lent then relay loop lends = subst (λ (h : HostValue). h.latest ≤ then) (sym lends) loop.latest
 
-    pub loop_stops : (w : V) → Turning tells tags hands fails p now whole first host.state relay here → Stops tells tags hands fails (act_script now done new.state left relay) here w → Stops tells tags hands fails whole first w
-    loop_stops w turning stopped =
-        turning_stops tells tags hands fails p now whole first here host.state new.state relay done left lower t.next t.is_next t.told t.made t.host_is w turning stopped
+  -- what a call of next left, which was lent the host at that moment
+  module _ (first : StationValue T) (begin here : V) (host lent new : HostValue) (then : ℕ) (relay : Relay T) (loop : Looping first begin host then relay here) (lends : lent ≡ host)
+      (after : new ≡ record { rules = lent.rules; latest = then; state = host_after lent.state (next_turn lent.rules then lent.state) }) where
+    by_first : (fact : Params → ℕ → Host → Type 0) → fact lent.rules then lent.state → fact first.rules first.latest host.state
+    by_first fact h =
+        subst (λ (n : ℕ). fact first.rules n host.state) loop.now
+        (subst (λ (p : Params). fact p then host.state) loop.rules
+        (subst (λ (v : HostValue). fact v.rules then v.state) lends h))
 
--- an act that was told, and its frame, where it made one
-module _ {V T : Type 0} (tells : V → Told → V → Type 0) (tags : ℕ → V → Host → List ℕ → T → V → Type 0) (hands : V → ℕ → Parcel T → V → Type 0) (fails : V → V → Type 0)
-    (now : ℕ) (done : DoneAct) (host : HostValue) (left : List ℕ) (relay : Relay T) (here m : V) (told : tells here (told_done done) m) where
-  pub plays_unmade : false ≡ makes_frame done.act → Plays tells (tags now) hands (act_script now done host.state left relay) here m (station_with host.state relay)
-  plays_unmade e = rw (← e) (m, told, (refl, refl))
+    state_is : new.state ≡ host_after host.state (next_turn first.rules first.latest host.state)
+    state_is = by_first (λ p now h. new.state ≡ host_after h (next_turn p now h)) (ap (λ (h : HostValue). h.state) after)
 
-  -- what a call of send_off did with the same host, frame and relay at the same moment
-  module _ (made : true ≡ makes_frame done.act) (then : ℕ) (sender : HostValue) (frame : List ℕ) (queues : Relay T) (at : then ≡ now) (by : sender ≡ host) (sent : frame ≡ left) (on : queues ≡ relay) (w : V) where
-    pub plays_act : (after : Relay T) → Plays tells (tags then) hands (send_off then sender.state (Some frame) queues) m w (station_with sender.state after) → Plays tells (tags now) hands (act_script now done host.state left relay) here w (station_with host.state after)
-    plays_act after played =
-        let moved = subst (λ (n : ℕ). Plays tells (tags n) hands (send_off n host.state (Some left) relay) m w (station_with host.state after)) at
-        (subst (λ (h : HostValue). Plays tells (tags then) hands (send_off then h.state (Some left) relay) m w (station_with h.state after)) by
-        (subst (λ (f : List ℕ). Plays tells (tags then) hands (send_off then sender.state (Some f) relay) m w (station_with sender.state after)) sent
-        (subst (λ (q : Relay T). Plays tells (tags then) hands (send_off then sender.state (Some frame) q) m w (station_with sender.state after)) on played))) in
-        rw (← made) (m, told, moved)
+    rules_is : new.rules ≡ first.rules
+    rules_is = ap (λ (h : HostValue). h.rules) after ∙ ap (λ (h : HostValue). h.rules) lends ∙ loop.rules
 
-    pub stops_act : Stops tells (tags then) hands fails (send_off then sender.state (Some frame) queues) m w → Stops tells (tags now) hands fails (act_script now done host.state left relay) here w
-    stops_act stopped =
-        let moved = subst (λ (n : ℕ). Stops tells (tags n) hands fails (send_off n host.state (Some left) relay) m w) at
-        (subst (λ (h : HostValue). Stops tells (tags then) hands fails (send_off then h.state (Some left) relay) m w) by
-        (subst (λ (f : List ℕ). Stops tells (tags then) hands fails (send_off then sender.state (Some f) relay) m w) sent
-        (subst (λ (q : Relay T). Stops tells (tags then) hands fails (send_off then sender.state (Some frame) q) m w) on stopped))) in
-        rw (← made) (inr (m, told, moved))
+    me_is : new.state.me ≡ first.state.host.me
+    me_is = ap (λ (h : Host). h.me) state_is ∙ next_me first.rules first.latest host.state ∙ loop.me
+
+    pub loop_latest : new.latest ≤ then
+    loop_latest = subst (λ (h : HostValue). h.latest ≤ then) (sym after) (omega arith)
+
+    -- the station with a relay of which the queues alone changed
+    pub loop_stays : (spent : Bool) (rest : Relay T) → rest ≡ with_outs first.state.relay rest.outs → Stays first (record { rules = new.rules; latest = then; spent = spent; state = station_with new.state rest })
+    loop_stays spent rest others = record { rules = rules_is; latest = loop.now; me = me_is; links = others }
+
+    -- no act was due
+    module _ (none : None ≡ option_map (λ (t : Turn). t.told) (next_turn lent.rules then lent.state)) where
+      not_next : next_turn first.rules first.latest host.state ≡ None
+      not_next = none_mapped (λ (t : Turn). t.told) (next_turn first.rules first.latest host.state) (sym (by_first (λ p now h. None ≡ option_map (λ (t : Turn). t.told) (next_turn p now h)) none))
+
+      same_state : new.state ≡ host.state
+      same_state = state_is ∙ ap (host_after host.state) not_next
+
+      current : IsCurrentHost first.rules first.latest host.state
+      current = current_of first.rules first.latest host.state (by_first (λ p now h. None ≡ option_map (λ (t : Turn). t.told) (next_turn p now h)) none)
+
+      pub loop_current : IsCurrentHost new.rules then new.state
+      loop_current =
+          subst (λ (p : Params). IsCurrentHost p then new.state) (sym rules_is)
+          (subst (λ (n : ℕ). IsCurrentHost first.rules n new.state) (sym loop.now)
+          (subst (λ (h : Host). IsCurrentHost first.rules first.latest h) (sym same_state) current))
+
+      pub loop_ends : Plays tells (tags first.latest) hands (do_turns (work first.rules first.latest first.state.host) first.rules first.latest first.state) begin here (station_with new.state relay)
+      loop_ends =
+          let t = loop.turning in
+          t.leads.plays here (station_with new.state relay)
+          (subst (λ (s : Script T (Station T)). Plays tells (tags first.latest) hands s here here (station_with new.state relay)) (sym (turns_none first.rules first.latest t.most host.state relay current))
+          (refl, ap (λ (h : Host). station_with h relay) (sym same_state)))
+
+    -- an act was done, and told
+    module _ (done : DoneAct) (was left : List ℕ) (turn : Some (told_done done) ≡ option_map (λ (t : Turn). t.told) (next_turn lent.rules then lent.state)) (frame : left ≡ unwrap_or (frame_made (next_turn lent.rules then lent.state)) was)
+        (falls : work lent.rules then new.state < work lent.rules then lent.state) where
+      t : Turned first.rules first.latest host.state new.state done was left
+          (by_first (λ p now h. Some (told_done done) ≡ option_map (λ (t : Turn). t.told) (next_turn p now h)) turn)
+          (by_first (λ p now h. left ≡ unwrap_or (frame_made (next_turn p now h)) was) frame) state_is
+      t = turned first.rules first.latest host.state new.state done was left _ _ _
+
+      pub loop_falls : work first.rules first.latest new.state < work first.rules first.latest host.state
+      loop_falls = by_first (λ p now h. work p now new.state < work p now h) falls
+
+      played_on : (rest : Relay T) (m : V) → rest ≡ with_outs first.state.relay rest.outs → Plays tells (tags first.latest) hands (act_script first.latest done new.state left relay) here m (station_with new.state rest) → Looping first begin new then rest m
+      played_on rest m others played = record {
+        turning = turning_on tells (tags first.latest) hands fails first.rules first.latest _ begin here host.state new.state relay done left loop_falls t.next t.is_next t.told t.made t.host_is rest m loop.turning played;
+        rules = rules_is;
+        now = loop.now;
+        me = me_is;
+        latest = loop_latest;
+        others = others;
+      }
+
+      module _ (m : V) (report : Told) (is_told : report ≡ told_done done) (tell : tells here report m) where
+        told : tells here (told_done done) m
+        told = subst (λ (r : Told). tells here r m) is_told tell
+
+        pub loop_unmade : false ≡ makes_frame done.act → Looping first begin new then relay m
+        loop_unmade e = played_on relay m loop.others (rw (← e) (m, told, (refl, refl)))
+
+        -- and send_off was lent the same host, frame and relay
+        module _ (made : true ≡ makes_frame done.act) (sender : HostValue) (sent : List ℕ) (queues : Relay T) (by : sender ≡ new) (sends : sent ≡ left) (on : queues ≡ relay) where
+          by_left : (fact : ℕ → Host → List ℕ → Relay T → Type 0) → fact then sender.state sent queues → fact first.latest new.state left relay
+          by_left fact h =
+              subst (λ (n : ℕ). fact n new.state left relay) loop.now
+              (subst (λ (v : HostValue). fact then v.state left relay) by
+              (subst (λ (f : List ℕ). fact then sender.state f relay) sends
+              (subst (λ (q : Relay T). fact then sender.state sent q) on h)))
+
+          pub loop_reads : IfSome (frame_made (next_turn lent.rules then lent.state)) (λ octets. IsGram octets) → IsGram sent
+          loop_reads reads = subst IsGram (sym sends) (reads_made lent.rules then lent.state new.state done was left turn frame (ap (λ (h : HostValue). h.state) after) reads (sym made))
+
+          relay_on : (rest : Relay T) → rest ≡ with_outs queues rest.outs → rest ≡ with_outs first.state.relay rest.outs
+          relay_on rest others = kept first.state.relay relay rest _ (subst (λ (q : Relay T). rest ≡ with_outs q rest.outs) on others) loop.others
+
+          pub loop_made : (w : V) (rest : Relay T) → rest ≡ with_outs queues rest.outs → Plays tells (tags then) hands (send_off then sender.state (Some sent) queues) m w (station_with sender.state rest) → Looping first begin new then rest w
+          loop_made w rest others played =
+              let moved = by_left (λ n h f q. Plays tells (tags n) hands (send_off n h (Some f) q) m w (station_with h rest)) played in
+              played_on rest w (relay_on rest others) (rw (← made) (m, told, moved))
+
+          pub loop_stops : (w : V) → Stops tells (tags then) hands fails (send_off then sender.state (Some sent) queues) m w →
+              Stops tells (tags first.latest) hands fails (do_turns (work first.rules first.latest first.state.host) first.rules first.latest first.state) begin w
+          loop_stops w stopped =
+              let moved = by_left (λ n h f q. Stops tells (tags n) hands fails (send_off n h (Some f) q) m w) stopped in
+              turning_stops tells (tags first.latest) hands fails first.rules first.latest _ begin here host.state new.state relay done left loop_falls t.next t.is_next t.told t.made t.host_is w loop.turning (rw (← made) (inr (m, told, moved)))
+
+          pub loop_stays_then : (spent : Bool) (rest : Relay T) → rest ≡ with_outs queues rest.outs → Stays first (record { rules = new.rules; latest = then; spent = spent; state = station_with new.state rest })
+          loop_stays_then spent rest others = loop_stays spent rest (relay_on rest others)
