@@ -1,5 +1,5 @@
 -- A packet that came, and its reply; octets that were sent; a piece that was read.
-use Rattle.std.proofs.Common.{◌≡◌, ℕ, ◌+◌, ◌≤◌, ◌++◌, ◌∙◌, Bool, true, false, cond, List, [], ◌∷◌, Option, Some, None, Result, Ok, refl, sym, ap, subst, add-one, drop, length, take, nat_lt, nat_le, arith}
+use Rattle.std.proofs.Common.{◌≡◌, ℕ, ◌+◌, ◌≤◌, ◌++◌, ◌∙◌, Bool, true, false, cond, List, [], ◌∷◌, Option, Some, None, Result, Ok, IfSome, refl, sym, ap, subst, add-one, drop, length, take, unwrap_or, nat_lt, nat_le, arith}
 use Rattle.std.specs.Option.{option_and_then}
 use Rattle.std.proofs.lemmas.Bool.Decides.{nat_tests}
 use Rattle.dt_items.specs.declared.item.Item.{Item}
@@ -7,6 +7,7 @@ use Rattle.dt_items.specs.declared.piece.Piece.{Piece}
 use Rattle.dt_items.specs.Unread.{octets_of, piece_told}
 use Rattle.dt_units.specs.declared.parameters.Params.{Params}
 use Rattle.dt_units.specs.declared.endpoints.Flow.{Flow}
+use Rattle.dt_layout.specs.Carried.{IsGram}
 use Rattle.dt_layout.specs.Spelling.{PacketValue, Data, Ack, Meet, Close}
 use Rattle.dt_reports.specs.Told.{Told, read_told}
 use Rattle.dt_reports.specs.declared.reports.Report.TheVariants as report
@@ -19,11 +20,14 @@ use Rattle.dt_flow_model.specs.Frames.{flow_of, reply_frame}
 use Rattle.dt_flow_model.specs.SendRecord.{SendRecord, fits, held_of, on_ack, put_fault, room_of}
 use Rattle.dt_reports.specs.declared.faults.Refusal.{Refusal}
 use Rattle.dt_reports.specs.declared.faults.Refusal.TheVariants as refusal
-use Rattle.dt_world_model.specs.Host.{Host, ack_answer, arrive, comes, send_into, send_octets, sender_at, told_arrival}
-use Rattle.dt_world_model.specs.Relay.{Parcel, Relay}
+use Rattle.dt_host.specs.Hosts.{HostValue}
+use Rattle.dt_world_model.specs.Host.{Host, IsCurrentHost, ack_answer, arrive, comes, send_into, send_octets, sender_at, told_arrival}
+use Rattle.dt_world_model.specs.Relay.{Parcel, Relay, with_outs}
 use Rattle.dt_world_model.specs.Script.{Concludes, Plays, Tell}
-use Rattle.dt_world_model.specs.Station.{come, deliver, pass_on, send_off, station_with, told_piece}
-use Rattle.dt_station.proofs.Playing.{ends_with}
+use Rattle.dt_world_model.specs.Station.{Station, come, deliver, pass_on, send_off, station_with, told_piece}
+use Rattle.dt_station.specs.Stations.{StationValue, Stays}
+use Rattle.dt_station.proofs.Flushes.{kept}
+use Rattle.dt_station.proofs.Playing.{ends_tell, ends_with}
 
 -- the host stays that of its node
 acked_me : (f : Flow) (host : Host) (acked : Option (SendRecord × ℕ)) → (ack_answer host f acked).1.me ≡ host.me
@@ -40,10 +44,10 @@ quiet_me : (b : Bool) (quiet rest : Arrived × Host) (me : ℕ) → quiet.1.me �
 quiet_me true quiet rest me h k = h
 quiet_me false quiet rest me h k = k
 
-pub arrive_me : (p : Params) (now from : ℕ) (v : PacketValue) (host : Host) → (arrive p now from v host).1.me ≡ host.me
+arrive_me : (p : Params) (now from : ℕ) (v : PacketValue) (host : Host) → (arrive p now from v host).1.me ≡ host.me
 arrive_me p now from v host = quiet_me (nat_lt now host.until) (arrived.Quiet host.until, host) (comes p now (flow_of from host.me v) v host) host.me refl (comes_me p now (flow_of from host.me v) v host)
 
-pub no_reply : (p : Params) (f : Flow) (a : Arrived) → ((number window : ℕ) → a ≡ arrived.Replied number window → ⊥) → reply_frame p f a ≡ None
+no_reply : (p : Params) (f : Flow) (a : Arrived) → ((number window : ℕ) → a ≡ arrived.Replied number window → ⊥) → reply_frame p f a ≡ None
 no_reply p f (arrived.Quiet until) h = refl
 no_reply p f (arrived.Accepted run count) h = refl
 no_reply p f (arrived.Replied number window) h = absurd (h number window refl)
@@ -51,23 +55,93 @@ no_reply p f arrived.Dropped h = refl
 no_reply p f (arrived.Acked count) h = refl
 no_reply p f (arrived.Closing number) h = refl
 
+-- the frame that is there after a reply is that of the reply
+pub reply_reads : (p : Params) (f : Flow) (a : Arrived) (number window : ℕ) (was left : List ℕ) → a ≡ arrived.Replied number window → left ≡ unwrap_or (reply_frame p f a) was → IfSome (reply_frame p f a) (λ octets. IsGram octets) → IsGram left
+reply_reads p f a number window was left e h reads =
+    let h : left ≡ unwrap_or (reply_frame p f (arrived.Replied number window)) was = subst (λ (b : Arrived). left ≡ unwrap_or (reply_frame p f b) was) e h in
+    subst IsGram (sym h) (subst (λ (b : Arrived). IfSome (reply_frame p f b) (λ octets. IsGram octets)) e reads)
+
+reply_made : (p : Params) (f : Flow) (a : Arrived) (number window : ℕ) (was left : List ℕ) → a ≡ arrived.Replied number window → left ≡ unwrap_or (reply_frame p f a) was → Some left ≡ reply_frame p f a
+reply_made p f a number window was left e h =
+    subst (λ (b : Arrived). Some left ≡ reply_frame p f b) (sym e) (ap Some (subst (λ (b : Arrived). left ≡ unwrap_or (reply_frame p f b) was) e h))
+
+-- A PACKET THAT WAS GIVEN TO THE HOST of a station, which was lent as it stood there.
+module _ {V T : Type 0} (tells : V → Told → V → Type 0) (tags : ℕ → V → Host → List ℕ → T → V → Type 0) (hands : V → ℕ → Parcel T → V → Type 0) (fails : V → V → Type 0)
+    (first : StationValue T) (from : ℕ) (v : PacketValue) (host lent new : HostValue) (then : ℕ) (spent : Bool) (relay : Relay T)
+    (seen : record { rules = host.rules; latest = then; spent = spent; state = station_with host.state relay } ≡ first) (lends : lent ≡ host) where
+  abbrev with_host : HostValue → StationValue T
+  with_host h = record { rules = h.rules; latest = then; spent = spent; state = station_with h.state relay }
+
+  at_first : (fact : StationValue T → Type 0) → fact (with_host lent) → fact first
+  at_first fact h = subst fact seen (subst (λ (x : HostValue). fact (with_host x)) lends h)
+
+  pub given_current : IsCurrentHost first.rules first.latest first.state.host → IsCurrentHost lent.rules then lent.state
+  given_current h =
+      subst (λ (x : HostValue). IsCurrentHost x.rules then x.state) (sym lends)
+      (subst (λ (s : StationValue T). IsCurrentHost s.rules s.latest s.state.host) (sym seen) h)
+
+  pub given_past : host.latest ≤ then → lent.latest ≤ then
+  given_past h = subst (λ (x : HostValue). x.latest ≤ then) (sym lends) h
+
+  -- there was no memory for it
+  pub failed_stays : new ≡ record { rules = lent.rules; latest = then; state = lent.state } → Stays first (record { rules = new.rules; latest = then; spent = spent; state = station_with new.state relay })
+  failed_stays after =
+      at_first (λ s. Stays s (with_host new))
+      (subst (λ (h : HostValue). Stays (with_host lent) (with_host h)) (sym after) record { rules = refl; latest = refl; me = refl; links = refl })
+
+  -- it was answered
+  module _ (after : new ≡ record { rules = lent.rules; latest = then; state = (arrive lent.rules then from v lent.state).1 }) where
+    pub given_stays : Stays first (with_host new)
+    given_stays =
+        at_first (λ s. Stays s (with_host new))
+        (subst (λ (h : HostValue). Stays (with_host lent) (with_host h)) (sym after) record { rules = refl; latest = refl; me = arrive_me lent.rules then from v lent.state; links = refl })
+
+    pub given_stays_then : (queues rest : Relay T) → queues ≡ relay → rest ≡ with_outs queues rest.outs → Stays first (record { rules = new.rules; latest = then; spent = spent; state = station_with new.state rest })
+    given_stays_then queues rest on others =
+        let stays = given_stays in
+        record { rules = stays.rules; latest = stays.latest; me = stays.me; links = kept first.state.relay relay rest _ (subst (λ (q : Relay T). rest ≡ with_outs q rest.outs) on others) stays.links }
+
+    -- and told
+    module _ (flow : Flow) (answer : Arrived) (answered : answer ≡ (arrive lent.rules then from v lent.state).0) (flows : flow ≡ flow_of from host.state.me v)
+        (here m : V) (report : Told) (is_told : report ≡ told_arrival flow v answer) (tell : tells here report m) where
+      told : tells here (told_arrival flow v answer) m
+      told = subst (λ (r : Told). tells here r m) is_told tell
+
+      lent_flow : flow ≡ flow_of from lent.state.me v
+      lent_flow = subst (λ (x : HostValue). flow ≡ flow_of from x.state.me v) (sym lends) flows
+
+      delivers : {U E : Type 0} (result : Result U E) (w : V) (s : Station T) → Concludes tells (tags then) hands fails result (Tell (told_arrival flow v answer) (send_off then new.state (reply_frame lent.rules flow answer) relay)) here w s →
+          Concludes tells (tags first.latest) hands fails result (deliver first.rules first.latest from (Ok v) first.state) here w s
+      delivers result w s h =
+          let r = arrive lent.rules then from v lent.state in
+          at_first (λ f. Concludes tells (tags f.latest) hands fails result (deliver f.rules f.latest from (Ok v) f.state) here w s)
+          (subst (λ (f : Flow). Concludes tells (tags then) hands fails result (Tell (told_arrival f v r.0) (send_off then r.1 (reply_frame lent.rules f r.0) relay)) here w s) lent_flow
+          (subst (λ (a : Arrived). Concludes tells (tags then) hands fails result (Tell (told_arrival flow v a) (send_off then r.1 (reply_frame lent.rules flow a) relay)) here w s) answered
+          (subst (λ (x : HostValue). Concludes tells (tags then) hands fails result (Tell (told_arrival flow v answer) (send_off then x.state (reply_frame lent.rules flow answer) relay)) here w s) after h)))
+
+      -- an answer that is no reply is told, and that is all
+      pub unreplied_ends : ((number window : ℕ) → answer ≡ arrived.Replied number window → ⊥) → Plays tells (tags first.latest) hands (deliver first.rules first.latest from (Ok v) first.state) here m (station_with new.state relay)
+      unreplied_ends none =
+          delivers {U = ℕ} {E = ℕ} (Ok 0) m (station_with new.state relay)
+          (m, told, subst (λ (o : Option (List ℕ)). Plays tells (tags then) hands (send_off then new.state o relay) m m (station_with new.state relay)) (sym (no_reply lent.rules flow answer none)) (refl, refl))
+
+      -- and a reply goes off: send_off was lent the same host, frame and relay
+      pub replied_ends : {U E : Type 0} (result : Result U E) (number window : ℕ) (sender : HostValue) (was left sent : List ℕ) (queues rest : Relay T) (w : V) → answer ≡ arrived.Replied number window → left ≡ unwrap_or (reply_frame lent.rules (flow_of from lent.state.me v) answer) was →
+          sender ≡ new → sent ≡ left → queues ≡ relay → Concludes tells (tags then) hands fails result (send_off then sender.state (Some sent) queues) m w (station_with sender.state rest) →
+          Concludes tells (tags first.latest) hands fails result (deliver first.rules first.latest from (Ok v) first.state) here w (station_with new.state rest)
+      replied_ends result number window sender was left sent queues rest w is_reply made by sends on ends =
+          let made : left ≡ unwrap_or (reply_frame lent.rules flow answer) was = subst (λ (f : Flow). left ≡ unwrap_or (reply_frame lent.rules f answer) was) (sym lent_flow) made in
+          let moved = subst (λ (x : HostValue). Concludes tells (tags then) hands fails result (send_off then x.state (Some left) relay) m w (station_with x.state rest)) by
+          (subst (λ (f : List ℕ). Concludes tells (tags then) hands fails result (send_off then sender.state (Some f) relay) m w (station_with sender.state rest)) sends
+          (subst (λ (q : Relay T). Concludes tells (tags then) hands fails result (send_off then sender.state (Some sent) q) m w (station_with sender.state rest)) on ends)) in
+          delivers result w (station_with new.state rest)
+          (ends_tell tells (tags then) hands fails (told_arrival flow v answer) (send_off then new.state (reply_frame lent.rules flow answer) relay) here m w (station_with new.state rest) result told
+          (subst (λ (o : Option (List ℕ)). Concludes tells (tags then) hands fails result (send_off then new.state o relay) m w (station_with new.state rest)) (reply_made lent.rules flow answer number window was left is_reply made) moved))
+
+pub latest_within : (new : HostValue) (then : ℕ) → new.latest ≡ then → new.latest ≤ then
+latest_within new then e = omega arith
+
 module _ {V T : Type 0} (tells : V → Told → V → Type 0) (tags : V → Host → List ℕ → T → V → Type 0) (hands : V → ℕ → Parcel T → V → Type 0) (fails : V → V → Type 0) where
-  unreplied : (p : Params) (now : ℕ) (v : PacketValue) (relay : Relay T) (f flow : Flow) (r : Arrived × Host) (answer : Arrived) (new : Host) (vis m : V) → answer ≡ r.0 → flow ≡ f → new ≡ r.1 →
-      reply_frame p flow answer ≡ None → tells vis (told_arrival flow v answer) m →
-      Plays tells tags hands (Tell (told_arrival f v r.0) (send_off now r.1 (reply_frame p f r.0) relay)) vis m (station_with new relay)
-  unreplied p now v relay f flow r answer new vis m ea ef eh none told =
-      subst (λ (g : Flow). Plays tells tags hands (Tell (told_arrival g v r.0) (send_off now r.1 (reply_frame p g r.0) relay)) vis m (station_with new relay)) ef
-      (subst (λ (a : Arrived). Plays tells tags hands (Tell (told_arrival flow v a) (send_off now r.1 (reply_frame p flow a) relay)) vis m (station_with new relay)) ea
-      (subst (λ (h : Host). Plays tells tags hands (Tell (told_arrival flow v answer) (send_off now h (reply_frame p flow answer) relay)) vis m (station_with new relay)) eh
-      (m, told, subst (λ (o : Option (List ℕ)). Plays tells tags hands (send_off now new o relay) m m (station_with new relay)) (sym none) (refl, refl))))
-
-  -- an answer that is no reply is told, and that is all
-  pub plays_unreplied : (p : Params) (now from : ℕ) (v : PacketValue) (host new : Host) (relay : Relay T) (flow : Flow) (answer : Arrived) (vis m : V) → answer ≡ (arrive p now from v host).0 → flow ≡ flow_of from host.me v →
-      new ≡ (arrive p now from v host).1 → reply_frame p flow answer ≡ None → tells vis (told_arrival flow v answer) m →
-      Plays tells tags hands (deliver p now from (Ok v) (station_with host relay)) vis m (station_with new relay)
-  plays_unreplied p now from v host new relay flow answer vis m ea ef eh none told =
-      unreplied p now v relay (flow_of from host.me v) flow (arrive p now from v host) answer new vis m ea ef eh none told
-
   -- a packet for another node is passed on
   pub ends_come : {U E : Type 0} (p : Params) (now : ℕ) (mine : Bool) (parcel : Parcel T) (host : Host) (relay new : Relay T) (v w : V) (result : Result U E) → mine ≡ false →
       Concludes tells tags hands fails result (pass_on parcel now relay) v w new → Concludes tells tags hands fails result (come p now mine parcel (station_with host relay)) v w (station_with host new)
