@@ -1,3 +1,4 @@
+pub mod Applying
 pub mod Beginning
 pub mod Arriving
 pub mod Happening

@@ -1,3 +1,4 @@
+pub mod Applying
 pub mod Copies
 pub mod Effects
 pub mod Marks

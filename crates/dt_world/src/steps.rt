@@ -1,15 +1,11 @@
 //! What happens to a world in an event that isn't refused.
-ghost use Rattle.std.specs.Prelude.{◌≡◌, ◌+◌, ◌<◌, ◌≤◌, ◌↔◌, IsTrue, OnErr, OnOk, length, None};
+ghost use Rattle.std.specs.Prelude.{◌≡◌, ◌+◌, ◌<◌, ◌↔◌, IsTrue, length, None};
 ghost use Rattle.dt_flow_model.specs.Keeping.{octets_below};
 ghost use Rattle.dt_world_model.specs.Ledgers.{ledger_of};
 ghost use Rattle.dt_units.specs.Flows.{IsFlow};
-ghost use Rattle.dt_world_model.specs.Tables.{AllEntries};
-ghost use Rattle.dt_world_model.specs.WorldFacts.{CanHappen};
-ghost use Rattle.dt_world_model.specs.WorldStep.{after_event, first_refusal, refusals};
-ghost use Rattle.dt_world.specs.Moments.{most_now};
-ghost use Rattle.dt_world.specs.Outcomes.{Happens};
-ghost use Rattle.dt_world.specs.Stopping.{ComesTo, IsAtItsEnd, MayStop};
-ghost use Rattle.dt_world.specs.Worlds.{IsStationOf, IsWhole, MayStep, event_of, most_read, world_seen};
+ghost use Rattle.dt_world_model.specs.WorldStep.{first_refusal, refusals};
+ghost use Rattle.dt_world.specs.Applying.{IsApplied};
+ghost use Rattle.dt_world.specs.Worlds.{IsWhole, MayStep, event_of, most_read, world_seen};
 
 use crate::doing;
 use crate::events::Event;
@@ -33,15 +29,7 @@ pub fn apply_event<L: Lines>(
     requires begun { first_refusal (refusals (world_seen parts.old) (event_of event.now)) ≡ None }
     requires may { MayStep (event_of event.now) }
     requires room { length buf.old ≡ most_read }
-    ensures happens { let w = world_seen parts.old in
-        Happens L.tells result w (ComesTo w (event_of event.now)) (after_event w (event_of event.now)) lines.old lines.new (world_seen parts.new) }
-    ensures stations { OnOk result (AllEntries (IsStationOf parts.new.rules parts.new.now) parts.new.stations.entries) }
-    ensures moment { OnOk result (parts.new.now ≤ most_now) }
-    ensures can { CanHappen (event_of event.now) }
-    ensures within { OnOk result (IsAtItsEnd (world_seen parts.old) (event_of event.now) → ⊥) }
-    ensures may { OnErr result (MayStop (world_seen parts.old) (event_of event.now)) }
-    ensures rules { parts.new.rules ≡ parts.old.rules }
-    ensures links { parts.new.links ≡ parts.old.links }
+    ensures { IsApplied L.tells result parts.old (event_of event.now) lines.old lines.new parts.new }
 {
     match *event {
         Event::Pass { by } => doing::pass(parts, by),
