@@ -1,9 +1,9 @@
 //! The stations of the world, and an event at one.
 ghost use Rattle.std.specs.Prelude.{◌≡◌, ◌+◌, ◌^◌, ◌<◌, ◌≤◌, IfOk, OnErr, OnOk, false};
-ghost use Rattle.dt_world_model.specs.Relay.{emptied, new_relay, with_outs};
+ghost use Rattle.dt_world_model.specs.Relay.{emptied, new_relay};
 ghost use Rattle.dt_world_model.specs.Host.{first_host, restarted_host};
 ghost use Rattle.dt_world_model.specs.Station.{station_event, station_with};
-ghost use Rattle.dt_station.specs.Stations.{is_spent_by};
+ghost use Rattle.dt_station.specs.Stations.{Stays, is_spent_by};
 ghost use Rattle.dt_world.specs.Occasions.{occasion_seen};
 ghost use Rattle.dt_world.specs.PlacedEvents.{MayCome, event_seen};
 ghost use Rattle.dt_world.specs.Steps.{Happened, Played, noted_first};
@@ -55,11 +55,8 @@ fn take_part<L: Lines>(
     requires may { MayCome station.old.rules now.ms station.old.state event }
     requires past { station.old.latest ≤ now.ms }
     ensures script { Ends L.tells result (station_event station.old.rules now.ms (event_seen event.entry) station.old.state) reporter.old reporter.new station.new.state }
-    ensures rules { station.new.rules ≡ station.old.rules }
-    ensures latest { station.new.latest ≡ now.ms }
     ensures spent { station.new.spent ≡ is_spent_by result }
-    ensures me { station.new.state.host.me ≡ station.old.state.host.me }
-    ensures links { station.new.state.relay ≡ with_outs station.old.state.relay station.new.state.relay.outs }
+    ensures stays { Stays (record station.old { latest = now.ms }) station.new }
 {
     match event {
         PlacedEvent::Send {
@@ -97,12 +94,9 @@ pub fn play<L: Lines>(
     ensures lines { reporter.new.lines.ghost_name ≡ reporter.old.lines.ghost_name }
     ensures played { let script = station_event station.old.rules now.ms (event_seen event.entry) station.old.state in
         Played L.tells result (occasion_of reporter.old) script (noted_first reporter.old) reporter.old.lines.now reporter.new station.new.state }
-    ensures rules { station.new.rules ≡ station.old.rules }
-    ensures latest { station.new.latest ≡ now.ms }
     ensures spent { OnOk result (station.new.spent ≡ false) }
     ensures relay { OnOk result (emptied station.new.state.relay ≡ emptied station.old.state.relay) }
-    ensures me { station.new.state.host.me ≡ station.old.state.host.me }
-    ensures links { station.new.state.relay ≡ with_outs station.old.state.relay station.new.state.relay.outs }
+    ensures stays { Stays (record station.old { latest = now.ms }) station.new }
 {
     take_part(station, now, event, reporter)?;
     if reporter.failed {

@@ -24,3 +24,27 @@ pub returns-in-Arrive-clause-script : goal.returns-in-Arrive-clause-script
 returns-in-Arrive-clause-script g c =
     subst (λ (e : PlacedEvent). Ends g.L.Lines.tells c.arrive.result (station_event c.args.station.now.rules c.args.now.ms (event_seen e) c.args.station.now.state) c.args.reporter.now c.arrive.new.visitor c.arrive.new.self.state)
     (sym c.in-Arrive.is) c.arrive.ensures.script
+
+pub returns-in-Send-clause-spent : goal.returns-in-Send-clause-spent
+returns-in-Send-clause-spent g c = c.local_event.ensures.spent
+
+pub returns-in-Send-clause-stays : goal.returns-in-Send-clause-stays
+returns-in-Send-clause-stays g c = c.local_event.ensures.stays
+
+pub returns-in-Read-clause-spent : goal.returns-in-Read-clause-spent
+returns-in-Read-clause-spent g c = c.local_event-in-Read.ensures.spent
+
+pub returns-in-Read-clause-stays : goal.returns-in-Read-clause-stays
+returns-in-Read-clause-stays g c = c.local_event-in-Read.ensures.stays
+
+pub returns-in-Tick-clause-spent : goal.returns-in-Tick-clause-spent
+returns-in-Tick-clause-spent g c = c.local_event-in-Tick.ensures.spent
+
+pub returns-in-Tick-clause-stays : goal.returns-in-Tick-clause-stays
+returns-in-Tick-clause-stays g c = c.local_event-in-Tick.ensures.stays
+
+pub returns-in-Arrive-clause-spent : goal.returns-in-Arrive-clause-spent
+returns-in-Arrive-clause-spent g c = c.arrive.ensures.spent
+
+pub returns-in-Arrive-clause-stays : goal.returns-in-Arrive-clause-stays
+returns-in-Arrive-clause-stays g c = c.arrive.ensures.stays
