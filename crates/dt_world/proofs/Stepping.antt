@@ -1,19 +1,21 @@
 -- A step of a whole world: it is the definition's, and the world is whole again.
-use Rattle.std.proofs.Common.{ℕ, ◌≤◌, ◌≡◌, ◌++◌, length, take, drop, Bool, false, true, List, Option, None, Some, refl, sym, ap, subst, ◌∙◌, arith}
+use Rattle.std.proofs.Common.{ℕ, ◌≤◌, ◌≡◌, ◌++◌, length, take, drop, Bool, false, true, List, [], ◌∷◌, Option, None, Some, refl, sym, ap, subst, ◌∙◌, arith}
+use Rattle.std.proofs.lemmas.Bool.{false≢true}
 use Rattle.std.proofs.lemmas.Grind.{common_steps}
 use Rattle.dt_reports.specs.Entries.{Entry}
 use Rattle.dt_reports.specs.declared.faults.StepFault.{StepFault}
+use Rattle.dt_reports.specs.declared.faults.StepFault.TheVariants as fault
 use Rattle.dt_units.specs.declared.parameters.Params.{Params}
 use Rattle.dt_units.specs.Limits.{IsWithinLimits}
 use Rattle.dt_world_model.specs.Tables.{AllEntries}
 use Rattle.dt_world_model.specs.World.{World, view}
 use Rattle.dt_world_model.specs.WorldFacts.{CanHappen}
-use Rattle.dt_world_model.specs.WorldStep.{Refused, Stepped, WorldEvent, after_event, first_refusal, refusals, step_unless, world_step}
+use Rattle.dt_world_model.specs.WorldStep.{Arrives, Loses, Passes, Reads, Refused, Restarts, Sends, Stepped, Ticks, WorldEvent, after_event, first_refusal, refusals, step_unless, world_step}
 use Rattle.dt_world_laws.proofs.Lifting.{lifted_fates}
 use Rattle.dt_world_laws.proofs.Promise.{facts_are_safe}
 use Rattle.dt_world_laws.proofs.Worlds.{GoesTo, effect_keeps}
 use Rattle.dt_world.specs.declared.world_parts.WorldParts.{WorldParts}
-use Rattle.dt_world.specs.Outcomes.{HasHappened, HasStopped, IsDone, IsSpent}
+use Rattle.dt_world.specs.Outcomes.{FailsWith, HasHappened, HasStopped, IsDone, IsRefused, IsSpent}
 use Rattle.dt_world.specs.Setups.{AreNumbered}
 use Rattle.dt_world.specs.Moments.{most_now}
 use Rattle.dt_world.specs.Stopping.{ComesTo, IsAtItsEnd, MayStop}
@@ -57,8 +59,47 @@ module _ (parts : WorldParts) (whole : IsWhole parts) (e : WorldEvent) (can : Ca
   is_spent tells u v may h = record { begun = begun; may = may; noted = h.noted; comes_to = h.comes_to; rest = h.rest; told = h.told; lines = h.lines; spent = refl; has_noted = h.has_noted; kept = h.kept; safe = h.safe }
 
 -- a refused event, by its fault
-pub refused_by : (w : World) (e : WorldEvent) (fault : StepFault) → first_refusal (refusals w e) ≡ Some fault → world_step w e ≡ Refused fault
+refused_by : (w : World) (e : WorldEvent) (fault : StepFault) → first_refusal (refusals w e) ≡ Some fault → world_step w e ≡ Refused fault
 refused_by w e fault h = ap (λ (o : Option StepFault). step_unless o (after_event w e)) h
+
+-- want of memory is no refusal
+abbrev says_memory : StepFault → Bool
+says_memory fault.BadFlow = false
+says_memory (fault.NoStation n) = false
+says_memory (fault.NoCopy n) = false
+says_memory (fault.Lost n) = false
+says_memory (fault.TooLate held charge) = false
+says_memory fault.NoMemory = true
+
+abbrev NoneSays : List (Bool × StepFault) → Type 0
+NoneSays [] = Unit {0}
+NoneSays (test ∷ tests) = (says_memory test.1 ≡ false) × NoneSays tests
+
+refusals_say : (world : World) (e : WorldEvent) → NoneSays (refusals world e)
+refusals_say world (Passes by) = tt
+refusals_say world (Sends f octets begin end) = (refl, (refl, tt))
+refusals_say world (Reads f most) = (refl, (refl, tt))
+refusals_say world (Ticks n) = (refl, tt)
+refusals_say world (Arrives n) = (refl, (refl, (refl, tt)))
+refusals_say world (Loses n) = (refl, (refl, tt))
+refusals_say world (Restarts n) = (refl, tt)
+
+first_says : (tests : List (Bool × StepFault)) (f : StepFault) → NoneSays tests → Some f ≡ first_refusal tests → says_memory f ≡ false
+first_says [] f h e = absurd (cc)
+first_says ((true, g) ∷ tests) f h e = let is : f ≡ g = cc in rw is h.0
+first_says ((false, g) ∷ tests) f h e = first_says tests f h.1 e
+
+fails_with : {L : Type 0} (tells : L → Entry → L → Type 0) (world : WorldValue) (e : WorldEvent) (v : L) (f : StepFault) → says_memory f ≡ false → IsRefused tells world e f v v world → FailsWith tells f world e v v world
+fails_with tells world e v fault.BadFlow m h = h
+fails_with tells world e v (fault.NoStation n) m h = h
+fails_with tells world e v (fault.NoCopy n) m h = h
+fails_with tells world e v (fault.Lost n) m h = h
+fails_with tells world e v (fault.TooLate held charge) m h = h
+fails_with tells world e v fault.NoMemory m h = absurd (false≢true (sym m))
+
+pub is_refused : {L : Type 0} (tells : L → Entry → L → Type 0) (world : WorldValue) (e : WorldEvent) (v : L) (f : StepFault) → Some f ≡ first_refusal (refusals world.state e) → FailsWith tells f world e v v world
+is_refused tells world e v f h =
+    fails_with tells world e v f (first_says (refusals world.state e) f (refusals_say world.state e) h) record { step = refused_by world.state e f (sym h); same = refl; lines = refl }
 
 -- a step's answer, said of the world's value
 pub done_in : {L : Type 0} (tells : L → Entry → L → Type 0) (begun after : World) (e : WorldEvent) (u v : L) (before : WorldValue) (spent : Bool) → spent ≡ false → (let x : WorldValue = record { state = begun; spent = spent } in x) ≡ before → IsDone tells (unspent begun) e u v (unspent after) → IsDone tells before e u v (record { state = after; spent = spent })

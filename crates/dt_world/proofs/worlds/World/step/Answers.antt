@@ -1,8 +1,9 @@
-use Rattle.std.proofs.Common.{rules, ap, subst, sym, ◌∙◌}
+use Rattle.std.proofs.Common.{rules, ◌≡◌, Some, ap, subst, sym, ◌∙◌}
+use Rattle.dt_world_model.specs.World.{World}
 use Rattle.dt_world_model.specs.WorldStep.{first_refusal, refusals}
 use Rattle.dt_world.specs.declared.world_parts.WorldParts.{WorldParts}
 use Rattle.dt_world.specs.Worlds.{IsWhole, WorldValue, event_of, world_seen}
-use Rattle.dt_world.proofs.Stepping.{buf_kept, done_in, is_done, is_spent, spent_in, whole_after}
+use Rattle.dt_world.proofs.Stepping.{buf_kept, done_in, is_done, is_refused, is_spent, spent_in, whole_after}
 use Rattle.dt_world.proofs.Possible.{safe_now}
 use Rattle.dt_world.proofs.worlds.World.step.Goals as goal
 
@@ -39,3 +40,9 @@ returns-in-Err g c =
     let seen = ap (λ (p : WorldParts). let v : WorldValue = record { state = world_seen p; spent = c.self.inside.spent } in v) is ∙ c.self.view_is in
     spent_in g.L.Lines.tells (world_seen parts) e c.args.lines.now c.apply_event.new.lines c.args.self.now _ c.self.inside.spent unspent seen
     (is_spent parts (subst (λ (p : WorldParts). IsWhole p) (sym is) (c.self.invariant.1 unspent)) e h.can begun c.apply_event.new.parts g.L.Lines.tells c.args.lines.now c.apply_event.new.lines h.may h.happens)
+
+pub returns-in-Some : goal.returns-in-Some
+returns-in-Some g c =
+    let e = event_of c.args.event.now in
+    is_refused g.L.Lines.tells c.args.self.now e c.args.lines.now c.in-Some.fault
+    (subst (λ (w : World). Some c.in-Some.fault ≡ first_refusal (refusals w e)) (ap world_seen c.deref.ensures ∙ ap (λ (x : WorldValue). x.state) c.self.view_is) c.in-Some.ensures)
