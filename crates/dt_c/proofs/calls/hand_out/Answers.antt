@@ -1,4 +1,4 @@
-use Rattle.std.proofs.Common.{◌∙◌, ap, sym}
+use Rattle.std.proofs.Common.{◌∙◌, ap, sym, rules}
 use Rattle.dt_c.specs.Calls.{buf_after, frames_after, out_row}
 use Rattle.dt_c.proofs.Fronts.{none_waits}
 use Rattle.dt_c.proofs.calls.hand_out.Goals as goal
@@ -12,3 +12,7 @@ returns-in_default c =
       sym (ap (λ fs. buf_after fs buf) none),
       ap (λ fs. record e { frames = fs }) (none ∙ sym (ap (λ fs. frames_after fs buf) none)),
     )
+
+-- refused here: frame_that_is_handed_out_waits_on
+pub returns-then-row-buf : goal.returns-then-row-buf
+returns-then-row-buf c = search rules
