@@ -1,10 +1,9 @@
 //! The top call over the forms in memory: worked inputs of each command, each a row of a table, and each
 //! way in which reading and writing can fail.
-use crate::trial_rows::is_cut_off;
+use crate::trial_rows::{ends_over, ends_so, is_cut_off, is_read_in_vain, said_of};
 use dt_edges::MemWire;
-use dt_trial::{FREELY, RunResult, Trial, Untried, ends, tried, tried_over};
+use dt_trial::{FREELY, RunResult, Trial, Untried, tried};
 use std::alloc::Global;
-use std::test::Fail;
 
 /// The parameters of the worked schedules.
 const PARAMS: &str = "params 1000 3000 200 500 800 100 4096 4096 512 2147483648\n";
@@ -13,47 +12,41 @@ const PARAMS: &str = "params 1000 3000 200 500 800 100 4096 4096 512 2147483648\
 const SETUP: &str =
     "station 1 0\nstation 2 0\nlink 1 1 2 50 0\nlink 2 2 1 50 0\nroute 1 2 1\nroute 2 1 2\ngo\n";
 
-/// What is said where an input is served or refused.
-fn said_of(status: u8) -> &'static [u8] {
-    match status {
-        0 => b"",
-        _ => b"input refused\n",
-    }
-}
-
 /// Whether words do so with an input.
-fn ends_as<'a>(
-    alloc: Global,
-    words: &'a [&'a str],
-    input: &'a str,
-    status: u8,
-    out: &str,
-) -> Result<bool, Untried> {
+fn ends_as<'a>(alloc: Global, words: &'a [&'a str], input: &'a str, status: u8, out: &str) -> bool {
     let trial = Trial {
         words,
         input: input.as_bytes(),
         ..FREELY
     };
-    ends(alloc, &trial, status, out.as_bytes(), said_of(status))
+    ends_so(alloc, &trial, status, out.as_bytes(), said_of(status))
 }
 
 /// These texts, one after another.
-fn joined(alloc: Global, texts: &[&str]) -> Result<String, Fail> {
+fn joined(alloc: Global, texts: &[&str]) -> Option<String> {
     let mut all = String::new(alloc);
     for text in texts {
-        all.push_str(text)?;
+        all.push_str(text).ok()?;
     }
-    Ok(all)
+    Some(all)
 }
 
-/// A message of 250 octets, as digits.
-fn long_send(alloc: Global) -> Result<String, Fail> {
-    let mut line = joined(alloc, &["send 1:10>2:20 be "])?;
-    for _ in 0..250 {
-        line.push_str("61")?;
+/// Whether a command does so with these texts, one after another, as its input.
+fn ends_on(alloc: Global, command: &str, texts: &[&str], status: u8, out: &str) -> bool {
+    match joined(alloc, texts) {
+        Some(input) => ends_as(alloc, &[command], input.as_str(), status, out),
+        None => false,
     }
-    line.push_str("\n")?;
-    Ok(line)
+}
+
+/// A schedule with a message of 250 octets.
+fn long_schedule(alloc: Global) -> Option<String> {
+    let mut input = joined(alloc, &[PARAMS, SETUP, "send 1:10>2:20 be "])?;
+    for _ in 0..250 {
+        input.push_str("61").ok()?;
+    }
+    input.push_str("\n").ok()?;
+    Some(input)
 }
 
 const LONG_LOG: &str = "0 1 took 1:10>2:20 250
@@ -159,13 +152,14 @@ static SCHEDULES: [(&str, &str, &str, u8); 15] = [
 ];
 
 #[test]
-fn worked_schedules(rt: HostRuntime) -> Result<(), Fail> {
+fn worked_schedules(rt: HostRuntime) {
     for (params, rest, log, status) in &SCHEDULES {
-        let input = joined(rt.alloc(), &[*params, SETUP, *rest])?;
-        let ends = ends_as(rt.alloc(), &["replay"], input.as_str(), *status, log)?;
-        assert!(rt; ends, "after {rest:?}");
+        let texts = [*params, SETUP, *rest];
+        assert!(rt;
+            ends_on(rt.alloc(), "replay", &texts, *status, log),
+            "after {rest:?}"
+        );
     }
-    Ok(())
 }
 
 /// A command and its whole input, what is written and the status. An input of `replay` that ends early is
@@ -191,14 +185,13 @@ static INPUTS: [(&str, &str, &str, u8); 7] = [
 ];
 
 #[test]
-fn worked_inputs(rt: HostRuntime) -> Result<(), Fail> {
+fn worked_inputs(rt: HostRuntime) {
     for (command, input, out, status) in &INPUTS {
         assert!(rt;
-            ends_as(rt.alloc(), &[*command], input, *status, out)?,
+            ends_as(rt.alloc(), &[*command], input, *status, out),
             "{command} of {input:?}"
         );
     }
-    Ok(())
 }
 
 /// Words that name no command.
@@ -235,27 +228,28 @@ static NO_COMMANDS: [&[&str]; 27] = [
 const USAGE: &[u8] = b"usage: deltat replay | node | make N | trace | retrace | calls | audit\n";
 
 /// Whether the words end so with no input.
-fn words_end(
-    alloc: Global,
-    words: &[&str],
-    status: u8,
-    out: &[u8],
-    said: &[u8],
-) -> Result<bool, Untried> {
+fn words_end(alloc: Global, words: &[&str], status: u8, out: &[u8], said: &[u8]) -> bool {
     let trial = Trial { words, ..FREELY };
-    ends(alloc, &trial, status, out, said)
+    ends_so(alloc, &trial, status, out, said)
 }
 
 #[test]
-fn other_words_are_no_command(rt: HostRuntime) -> Result<(), Fail> {
+fn other_words_are_no_command(rt: HostRuntime) {
     for words in &NO_COMMANDS {
-        assert!(rt; words_end(rt.alloc(), words, 2, b"", USAGE)?, "{words:?}");
+        assert!(rt; words_end(rt.alloc(), words, 2, b"", USAGE), "{words:?}");
     }
-    Ok(())
 }
 
-/// What follows the setup in the schedule of one round.
-const ONE_ROUND: &str = "send 1:10>2:20 be 0001
+/// The schedule of one round.
+const ONE_ROUND: &[u8] = b"params 1000 3000 200 500 800 100 4096 4096 512 2147483648
+station 1 0
+station 2 0
+link 1 1 2 50 0
+link 2 2 1 50 0
+route 1 2 1
+route 2 1 2
+go
+send 1:10>2:20 be 0001
 lose 0
 pass 500
 tick 1
@@ -277,17 +271,17 @@ static MAKES: [&[&str]; 4] = [
 static REPLAYS: [&[&str]; 2] = [&["--", "replay"], &["replay", "--"]];
 
 #[test]
-fn the_first_mark_is_left_out(rt: HostRuntime) -> Result<(), Fail> {
-    let one = joined(rt.alloc(), &[PARAMS, SETUP, ONE_ROUND])?;
+fn the_first_mark_is_left_out(rt: HostRuntime) {
     for words in &MAKES {
-        let ends = words_end(rt.alloc(), words, 0, one.as_bytes(), b"")?;
-        assert!(rt; ends, "{words:?}");
+        assert!(rt;
+            words_end(rt.alloc(), words, 0, ONE_ROUND, b""),
+            "{words:?}"
+        );
     }
     for words in &REPLAYS {
-        let ends = words_end(rt.alloc(), words, 3, b"line 1: order\n", b"input refused\n")?;
+        let ends = words_end(rt.alloc(), words, 3, b"line 1: order\n", b"input refused\n");
         assert!(rt; ends, "{words:?}");
     }
-    Ok(())
 }
 
 /// Room for a schedule of 5,000 rounds, and for its log.
@@ -296,20 +290,33 @@ const AMPLE: Trial<'static> = Trial {
     ..FREELY
 };
 
-/// What the replay of the schedule leaves that these words make.
-fn replay_of_made(alloc: Global, words: &[&str]) -> Result<RunResult, Untried> {
-    let trial = Trial { words, ..AMPLE };
-    let made = tried(alloc, &trial)?;
+/// What the replay of a schedule leaves.
+fn replay_of(alloc: Global, schedule: &[u8]) -> Result<RunResult, Untried> {
     let replay = Trial {
-        input: made.out.as_slice(),
+        input: schedule,
         ..AMPLE
     };
     tried(alloc, &replay)
 }
 
+/// What the replay of the schedule leaves that these words make.
+fn replay_of_made(alloc: Global, words: &[&str]) -> Result<RunResult, Untried> {
+    let trial = Trial { words, ..AMPLE };
+    let made = tried(alloc, &trial)?;
+    replay_of(alloc, made.out.as_slice())
+}
+
 /// Whether a run ended with status 0 and an output that ends so.
 fn is_done_with(left: &RunResult, end: &str) -> bool {
     left.status == 0 && left.out.as_slice().ends_with(end.as_bytes())
+}
+
+/// Whether the replay of the schedule that these words make ends so.
+fn is_replayed(alloc: Global, words: &[&str], end: &str) -> bool {
+    match replay_of_made(alloc, words) {
+        Ok(left) => is_done_with(&left, end),
+        Err(_) => false,
+    }
 }
 
 const ONE_END: &str = "520 2 read 1:10>2:20 rbe 0001
@@ -323,18 +330,15 @@ end 1060
 ";
 
 #[test]
-fn made_schedules_are_replayed(rt: HostRuntime) -> Result<(), Fail> {
-    let one = replay_of_made(rt.alloc(), &["make", "1"])?;
-    assert!(rt; is_done_with(&one, ONE_END));
-    let three = replay_of_made(rt.alloc(), &["make", "3"])?;
-    assert!(rt; is_done_with(&three, THREE_END));
-    Ok(())
+fn made_schedules_are_replayed(rt: HostRuntime) {
+    assert!(rt; is_replayed(rt.alloc(), &["make", "1"], ONE_END));
+    assert!(rt; is_replayed(rt.alloc(), &["make", "3"], THREE_END));
 }
 
 /// The last two lines of the log of so many rounds, from the numbers that the rounds are drawn from:
 /// all that was sent is read, and a round takes 520 milliseconds where its message is sent again, and
 /// 20 else.
-fn summary(alloc: Global, rounds: u32) -> Result<String, Fail> {
+fn summary(alloc: Global, rounds: u32) -> Option<String> {
     let (mut x, mut taken, mut end) = (1_u64, 0_u64, 0_u64);
     for _ in 0..rounds {
         x = x.wrapping_mul(1_103_515_245).wrapping_add(12_345) % 2_147_483_648;
@@ -342,50 +346,52 @@ fn summary(alloc: Global, rounds: u32) -> Result<String, Fail> {
         taken = taken.wrapping_add(1 + draw / 4 % 16);
         end = end.wrapping_add(if draw % 4 == 2 { 520 } else { 20 });
     }
-    Ok(format!(in alloc;
+    format!(in alloc;
         "\nflow 1:10>2:20 taken {taken} acked {taken} uncertain 0 open 0 given {taken} read {taken}\nend {end}\n"
-    )?)
+    ).ok()
+}
+
+/// Whether the replay of 5,000 rounds writes what this one wrote.
+fn is_replayed_again(alloc: Global, first: &RunResult) -> bool {
+    match replay_of_made(alloc, &["make", "5000"]) {
+        Ok(again) => again.has(0, first.out.as_slice(), b""),
+        Err(_) => false,
+    }
+}
+
+/// Whether the replay of 5,000 rounds ends so, and writes the same a second time.
+fn is_replayed_twice(alloc: Global, end: &str) -> bool {
+    match replay_of_made(alloc, &["make", "5000"]) {
+        Ok(first) => is_done_with(&first, end) && is_replayed_again(alloc, &first),
+        Err(_) => false,
+    }
 }
 
 #[test]
-fn five_thousand_rounds(rt: HostRuntime) -> Result<(), Fail> {
-    let end = summary(rt.alloc(), 5000)?;
-    let first = replay_of_made(rt.alloc(), &["make", "5000"])?;
-    let again = replay_of_made(rt.alloc(), &["make", "5000"])?;
-    assert!(rt; is_done_with(&first, end.as_str()));
-    assert!(rt; again.has(0, first.out.as_slice(), b""));
-    Ok(())
+fn five_thousand_rounds(rt: HostRuntime) {
+    let end = summary(rt.alloc(), 5000).expect(&rt, "memory");
+    assert!(rt; is_replayed_twice(rt.alloc(), end.as_str()));
 }
 
 #[test]
-fn a_schedule_that_finds_no_room(rt: HostRuntime) -> Result<(), Fail> {
-    let one = joined(rt.alloc(), &[PARAMS, SETUP, ONE_ROUND])?;
+fn a_schedule_that_finds_no_room(rt: HostRuntime) {
     let make = Trial {
         words: &["make", "1"],
         ..FREELY
     };
-    assert!(rt; is_cut_off(rt.alloc(), &make, one.as_bytes())?);
-    Ok(())
+    assert!(rt; is_cut_off(rt.alloc(), &make, ONE_ROUND));
 }
 
 #[test]
-fn failing_reads_and_writes(rt: HostRuntime) -> Result<(), Fail> {
-    let long = long_send(rt.alloc())?;
-    let input = joined(rt.alloc(), &[PARAMS, SETUP, long.as_str()])?;
+fn failing_reads_and_writes(rt: HostRuntime) {
+    let input = long_schedule(rt.alloc()).expect(&rt, "memory");
     let trial = Trial {
         input: input.as_bytes(),
         ..FREELY
     };
-    assert!(rt; ends(rt.alloc(), &trial, 0, LONG_LOG.as_bytes(), b"")?);
-    for failing_reads in &[[1], [2]] {
-        let failing = Trial {
-            failing_reads,
-            ..trial
-        };
-        assert!(rt; ends(rt.alloc(), &failing, 7, b"", b"read failed\n")?);
-    }
-    assert!(rt; is_cut_off(rt.alloc(), &trial, LONG_LOG.as_bytes())?);
-    Ok(())
+    assert!(rt; ends_so(rt.alloc(), &trial, 0, LONG_LOG.as_bytes(), b""));
+    assert!(rt; is_read_in_vain(rt.alloc(), &trial));
+    assert!(rt; is_cut_off(rt.alloc(), &trial, LONG_LOG.as_bytes()));
 }
 
 /// The script of a node that sends five octets at once and stops at 100.
@@ -405,11 +411,13 @@ const SENDS: &str = "0 1 took 1:10>2:20 5\n0 1 sent 1:10>2:20 0 5 dbe\n0 1 put 1
 /// Its log, where it meets its stop.
 const NODE_LOG: &str = "0 1 took 1:10>2:20 5\n0 1 sent 1:10>2:20 0 5 dbe\n0 1 put 1 999\nend 100\n";
 
-/// Whether the wire fails to open, the node's readings, its status, its log, and what is said.
-static NODE_ENDS: [(bool, [u64; 2], u8, &str, &str); 3] = [
-    (false, [1000, 1100], 0, NODE_LOG, ""),
-    (true, [1000, 1100], 5, "", "wire failed\n"),
-    (false, [1000, 1000], 6, SENDS, "clock stands still\n"),
+/// Whether the wire fails to open, the node's readings, its status and its log.
+type NodeEnd = (bool, [u64; 2], u8, &'static str);
+
+static NODE_ENDS: [NodeEnd; 3] = [
+    (false, [1000, 1100], 0, NODE_LOG),
+    (true, [1000, 1100], 5, ""),
+    (false, [1000, 1000], 6, SENDS),
 ];
 
 /// The node of the script, whose log or trace is written, by these readings.
@@ -422,73 +430,86 @@ fn node_trial<'a>(words: &'a [&'a str], readings: &'a [u64]) -> Trial<'a> {
     }
 }
 
-#[test]
-fn a_node_ends_by_its_stop_its_wire_or_its_clock(rt: HostRuntime) -> Result<(), Fail> {
-    for (open_fails, readings, status, log, said) in &NODE_ENDS {
-        let mut wire = MemWire::new(rt.alloc(), *open_fails, &[], &[], Some(64))
-            .ok()
-            .ok_or("memory")?;
-        let left = tried_over(rt.alloc(), &node_trial(&["node"], readings), &mut wire)?;
-        assert!(rt;
-            left.has(*status, log.as_bytes(), said.as_bytes()),
-            "{status}"
-        );
-        assert_eq!(rt; wire.given(0).is_some(), !*open_fails);
+/// Whether the node ends so, and has given a frame where the wire opened.
+fn node_ends(alloc: Global, row: &NodeEnd) -> bool {
+    let (open_fails, readings, status, log) = row;
+    match MemWire::new(alloc, *open_fails, &[], &[], Some(64)) {
+        Ok(mut wire) => {
+            let trial = node_trial(&["node"], readings);
+            ends_over(alloc, &trial, &mut wire, *status, log)
+                && wire.given(0).is_some() != *open_fails
+        }
+        Err(_) => false,
     }
-    Ok(())
+}
+
+#[test]
+fn a_node_ends_by_its_stop_its_wire_or_its_clock(rt: HostRuntime) {
+    for row in &NODE_ENDS {
+        assert!(rt; node_ends(rt.alloc(), row), "{}", row.2);
+    }
 }
 
 const TRACE: &str = "@ 1000\n! 1\n< -\n@ 1100\n";
 
+/// The log of it.
+const UNSENT_LOG: &str = "0 1 took 1:10>2:20 5
+0 1 sent 1:10>2:20 0 5 dbe
+0 1 put 1 999
+0 1 unsent 1
+end 100
+";
+
 #[test]
-fn a_trace_is_run_again(rt: HostRuntime) -> Result<(), Fail> {
+fn a_trace_is_run_again(rt: HostRuntime) {
     let trace = Trial {
         failing_gives: &[1],
         ..node_trial(&["trace"], &[1000, 1100])
     };
-    assert!(rt; ends(rt.alloc(), &trace, 0, TRACE.as_bytes(), b"")?);
-    let input = joined(rt.alloc(), &[SCRIPT, "trace\n", TRACE])?;
-    let log = joined(rt.alloc(), &[SENDS, "0 1 unsent 1\nend 100\n"])?;
-    assert!(rt; ends_as(rt.alloc(), &["retrace"], input.as_str(), 0, log.as_str())?);
-    let closed = joined(rt.alloc(), &[SCRIPT, "trace\n! 0\n"])?;
-    let retrace = Trial {
-        words: &["retrace"],
-        input: closed.as_bytes(),
-        ..FREELY
-    };
-    assert!(rt; ends(rt.alloc(), &retrace, 5, b"", b"wire failed\n")?);
-    Ok(())
+    assert!(rt; ends_so(rt.alloc(), &trace, 0, TRACE.as_bytes(), b""));
+    let whole = [SCRIPT, "trace\n", TRACE];
+    assert!(rt; ends_on(rt.alloc(), "retrace", &whole, 0, UNSENT_LOG));
+    let closed = [SCRIPT, "trace\n! 0\n"];
+    assert!(rt; ends_on(rt.alloc(), "retrace", &closed, 5, ""));
 }
 
 /// A call that is answered, and one that goes on the way of its replies.
 const CALL: &str = "call 1:10>2:20 010203\narrive 0\narrive 2\n";
 
-const CALL_TEXT: &str = "0 call 0 1:10>2:20 3\n0 served 0\n0 answered 0 030201\n";
+const ANSWERED: &str = "0 call 0 1:10>2:20 3
+0 served 0
+0 answered 0 030201
+calls 1 served 1 answered 1 unsure 0 declined 0 waiting 0
+end 0
+";
 
-/// What stands after these, what is reported of it, and the status.
+/// The same where the line after them is of a flow that no call may have, or isn't a line of calls.
+const BAD_FLOW: &str = "0 call 0 1:10>2:20 3
+0 served 0
+0 answered 0 030201
+line 12: bad flow
+";
+
+const NO_WORD: &str = "0 call 0 1:10>2:20 3
+0 served 0
+0 answered 0 030201
+line 12: word
+";
+
+/// What stands after these, what is reported, and the status.
 static CALLS: [(&str, &str, u8); 3] = [
-    (
-        "",
-        "calls 1 served 1 answered 1 unsure 0 declined 0 waiting 0\nend 0\n",
-        0,
-    ),
-    ("call 2:20>1:10 01\n", "line 12: bad flow\n", 3),
-    ("read 1:10>2:20 1\n", "line 12: word\n", 3),
+    ("", ANSWERED, 0),
+    ("call 2:20>1:10 01\n", BAD_FLOW, 3),
+    ("read 1:10>2:20 1\n", NO_WORD, 3),
 ];
 
 #[test]
-fn calls_are_made(rt: HostRuntime) -> Result<(), Fail> {
-    for (more, rest, status) in &CALLS {
-        let input = joined(rt.alloc(), &[PARAMS, SETUP, CALL, *more])?;
-        let text = joined(rt.alloc(), &[CALL_TEXT, *rest])?;
-        let ends = ends_as(
-            rt.alloc(),
-            &["calls"],
-            input.as_str(),
-            *status,
-            text.as_str(),
-        )?;
-        assert!(rt; ends, "after {more:?}");
+fn calls_are_made(rt: HostRuntime) {
+    for (more, text, status) in &CALLS {
+        let texts = [PARAMS, SETUP, CALL, *more];
+        assert!(rt;
+            ends_on(rt.alloc(), "calls", &texts, *status, text),
+            "after {more:?}"
+        );
     }
-    Ok(())
 }

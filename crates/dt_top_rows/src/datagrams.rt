@@ -1,8 +1,8 @@
 //! Datagrams of any octets: node 2 hears a frame of node 1 with one octet changed, or cut short.
+use crate::trial_rows::ends_over;
 use dt_edges::MemWire;
-use dt_trial::{FREELY, Trial, Untried, tried_over};
+use dt_trial::{FREELY, Trial};
 use std::alloc::Global;
-use std::test::Fail;
 
 /// Node 2, which hears and routes to node 1 alone.
 const SCRIPT: &[u8] = b"params 1000 3000 200 500 800 100 4096 4096 512 2147483648
@@ -30,25 +30,24 @@ const NODE: Trial<'static> = Trial {
 };
 
 /// A wire on which nothing comes and nothing fails.
-fn calm_wire(alloc: Global) -> Result<MemWire, Fail> {
-    let wire = MemWire::new(alloc, false, &[], &[], None)
-        .ok()
-        .ok_or("memory")?;
-    Ok(wire)
+fn calm_wire(alloc: Global) -> Option<MemWire> {
+    MemWire::new(alloc, false, &[], &[], None).ok()
 }
 
 /// Whether the node writes this log over a wire and by readings, and nothing fails.
-fn writes(alloc: Global, wire: &mut MemWire, readings: &[u64], log: &str) -> Result<bool, Untried> {
+fn writes(alloc: Global, wire: &mut MemWire, readings: &[u64], log: &str) -> bool {
     let trial = Trial { readings, ..NODE };
-    let left = tried_over(alloc, &trial, wire)?;
-    Ok(left.has(0, log.as_bytes(), b""))
+    ends_over(alloc, &trial, wire, 0, log)
 }
 
 /// Whether the node that finds these octets at 10 writes this log.
-fn hears(alloc: Global, octets: &[u8], log: &str) -> Result<bool, Fail> {
-    let mut wire = calm_wire(alloc)?;
-    wire.add_take(1, octets).ok().ok_or("memory")?;
-    Ok(writes(alloc, &mut wire, &[1000, 1010, 1100], log)?)
+fn hears(alloc: Global, octets: &[u8], log: &str) -> bool {
+    match calm_wire(alloc) {
+        Some(mut wire) => {
+            wire.add_take(1, octets).is_ok() && writes(alloc, &mut wire, &[1000, 1010, 1100], log)
+        }
+        None => false,
+    }
 }
 
 /// One octet that is changed: its place in the frame, and its value.
@@ -77,58 +76,70 @@ impl ChangedOctet {
         u32::from_be_bytes(octets)
     }
 
-    /// The words of the fault for which the frame is refused, if it is.
-    fn fault(self, alloc: Global) -> Result<Option<String>, Fail> {
+    /// The fault for which the frame is refused, if it is: its word, its number, and what stands behind it.
+    fn fault(self) -> Option<(&'static str, u32, &'static str)> {
         let value = u32::from(self.value);
-        let text = match self.place {
-            0 if value == 2 => String::from_str(alloc, "size 5")?,
-            0 => format!(in alloc; "version {value}")?,
-            1 => format!(in alloc; "protocol {value}")?,
-            2 => format!(in alloc; "length {} 19", 256 * value + 19)?,
-            3 => format!(in alloc; "length {value} 19")?,
-            16 if value == 2 || value == 3 => String::from_str(alloc, "flags 7")?,
-            16 => format!(in alloc; "kind {value}")?,
-            17 if value > 7 => format!(in alloc; "flags {value}")?,
-            26..=29 => format!(in alloc; "window {}", self.number(0, 4, 30))?,
-            _ => return Ok(None),
-        };
-        Ok(Some(text))
+        match self.place {
+            0 if value == 2 => Some(("size", 5, "")),
+            0 => Some(("version", value, "")),
+            1 => Some(("protocol", value, "")),
+            2 => Some(("length", 256 * value + 19, " 19")),
+            3 => Some(("length", value, " 19")),
+            16 if value == 2 || value == 3 => Some(("flags", 7, "")),
+            16 => Some(("kind", value, "")),
+            17 if value > 7 => Some(("flags", value, "")),
+            26..=29 => Some(("window", self.number(0, 4, 30), "")),
+            _ => None,
+        }
     }
 
-    /// The node's line or lines about a packet for it: the flow and the number are any, data without
+    /// The node's log of a packet for it: the flow and the number are any, data without
     /// the data-run flag meets no record, and a message that doesn't end is acknowledged later.
-    fn heard(self, alloc: Global) -> Result<String, Fail> {
+    fn heard(self, alloc: Global) -> Option<String> {
         let from = self.number(1, 4, 12);
         let from_port = self.number(10, 2, 20);
         let to_port = self.number(20, 2, 22);
         let number = self.number(0, 4, 26);
-        let flags = self.number(7, 1, 18);
-        let flow = format!(in alloc; "{from}:{from_port}>2:{to_port}")?;
-        if flags % 2 == 0 {
-            return Ok(format!(in alloc; "10 2 dropped {flow} {number}\n")?);
-        }
-        let accepted = format!(in alloc; "10 2 accepted {flow} {number} 5 run\n")?;
-        if flags < 4 {
-            return Ok(accepted);
-        }
         let next = number.wrapping_add(5);
-        let way = if from == 1 {
-            String::from_str(alloc, "put 1 999")?
+        let (way, last) = if from == 1 {
+            ("put 1", 999)
         } else {
-            format!(in alloc; "noroute {from}")?
+            ("noroute", from)
         };
-        Ok(format!(in alloc; "{accepted}10 2 acked {flow} {next} 4091\n10 2 {way}\n")?)
+        let text = match self.number(7, 1, 18) {
+            flags if flags % 2 == 0 => {
+                format!(in alloc; "10 2 dropped {from}:{from_port}>2:{to_port} {number}\nend 100\n")
+            }
+            0..=3 => format!(in alloc;
+                "10 2 accepted {from}:{from_port}>2:{to_port} {number} 5 run\nend 100\n"
+            ),
+            _ => format!(in alloc;
+                "10 2 accepted {from}:{from_port}>2:{to_port} {number} 5 run\n10 2 acked {from}:{from_port}>2:{to_port} {next} 4091\n10 2 {way} {last}\nend 100\n"
+            ),
+        };
+        text.ok()
     }
 
     /// The node's log where the frame reads.
-    fn log(self, alloc: Global) -> Result<String, Fail> {
-        let lines = match self.number(2, 4, 16) {
-            2 => self.heard(alloc)?,
+    fn log(self, alloc: Global) -> Option<String> {
+        match self.number(2, 4, 16) {
+            2 => self.heard(alloc),
             // It is passed on, with its life less by the charge of 50 and one millisecond.
-            1 => String::from_str(alloc, "10 2 put 1 948\n")?,
-            to => format!(in alloc; "10 2 noroute {to}\n")?,
-        };
-        Ok(format!(in alloc; "{lines}end 100\n")?)
+            1 => String::from_str(alloc, "10 2 put 1 948\nend 100\n").ok(),
+            to => format!(in alloc; "10 2 noroute {to}\nend 100\n").ok(),
+        }
+    }
+
+    /// Whether the node hears the frame with this octet changed, where it reads.
+    fn is_heard(self, alloc: Global) -> bool {
+        let octets = self.octets();
+        if octets == FRAME || self.fault().is_some() {
+            return true;
+        }
+        match self.log(alloc) {
+            Some(log) => hears(alloc, &octets, log.as_str()),
+            None => false,
+        }
     }
 }
 
@@ -149,93 +160,91 @@ struct Arrivals {
 
 impl Arrivals {
     /// Nothing has come yet.
-    fn new(alloc: Global) -> Result<Self, Fail> {
-        Ok(Arrivals {
+    fn new(alloc: Global) -> Option<Self> {
+        Some(Arrivals {
             wire: calm_wire(alloc)?,
-            readings: vec![in alloc; 1000]?,
+            readings: vec![in alloc; 1000].ok()?,
             log: String::new(alloc),
         })
     }
 
     /// These octets come at 10, of which the node writes this.
-    fn add(&mut self, octets: &[u8], lines: &str) -> Result<(), Fail> {
-        self.wire.add_take(1, octets).ok().ok_or("memory")?;
-        self.readings.push(1010)?;
-        self.log.push_str(lines)?;
-        Ok(())
+    fn add(&mut self, octets: &[u8], lines: &str) -> Option<()> {
+        self.wire.add_take(1, octets).ok()?;
+        self.readings.push(1010).ok()?;
+        self.log.push_str(lines).ok()
     }
 
     /// The frame comes with this octet changed, where it is refused for that.
-    fn add_refused(&mut self, alloc: Global, change: ChangedOctet) -> Result<(), Fail> {
-        match change.fault(alloc)? {
-            Some(fault) if change.octets() != FRAME => {
-                let line = format!(in alloc; "10 2 bad {fault}\n")?;
+    fn add_refused(&mut self, alloc: Global, change: ChangedOctet) -> Option<()> {
+        match change.fault() {
+            Some((word, number, rest)) if change.octets() != FRAME => {
+                let line = format!(in alloc; "10 2 bad {word} {number}{rest}\n").ok()?;
                 self.add(&change.octets(), line.as_str())
             }
-            _ => Ok(()),
+            _ => Some(()),
         }
     }
 
-    /// Whether the node that they come to writes that, and ends at 100.
-    fn are_heard(&mut self, alloc: Global) -> Result<bool, Fail> {
-        self.readings.push(1100)?;
-        Ok(writes(alloc, &mut self.wire, &self.readings, self.log.as_str())?)
+    /// Whether the node reports each frame that comes and is refused for this octet, and then hears the frame
+    /// itself as if none had come, and ends at 100.
+    fn are_heard(&mut self, alloc: Global, place: usize) -> Option<bool> {
+        for value in 0..=255 {
+            self.add_refused(alloc, ChangedOctet { place, value })?;
+        }
+        self.add(&FRAME, HEARD)?;
+        self.readings.push(1100).ok()?;
+        Some(writes(alloc, &mut self.wire, &self.readings, self.log.as_str()))
     }
 }
 
-/// Whether the node reports each frame that is refused for this octet, and then hears the frame itself as
-/// if none had come.
-fn refuses_at(alloc: Global, place: usize) -> Result<bool, Fail> {
-    let mut arrivals = Arrivals::new(alloc)?;
-    for value in 0..=255 {
-        arrivals.add_refused(alloc, ChangedOctet { place, value })?;
+/// Whether frames that are refused for this octet change nothing.
+fn refuses_at(alloc: Global, place: usize) -> bool {
+    match Arrivals::new(alloc) {
+        Some(mut arrivals) => arrivals.are_heard(alloc, place) == Some(true),
+        None => false,
     }
-    arrivals.add(&FRAME, HEARD)?;
-    arrivals.are_heard(alloc)
 }
 
 #[test]
-fn octets_that_do_not_read_change_nothing(rt: HostRuntime) -> Result<(), Fail> {
+fn octets_that_do_not_read_change_nothing(rt: HostRuntime) {
     for place in 0..FRAME.len() {
-        assert!(rt; refuses_at(rt.alloc(), place)?, "octet {place}");
+        assert!(rt; refuses_at(rt.alloc(), place), "octet {place}");
     }
-    Ok(())
 }
 
 /// Values that each octet is changed to, where the frame is read.
-const VALUES: [u8; 11] = [0, 1, 2, 3, 4, 5, 6, 7, 127, 128, 255];
+static VALUES: [u8; 11] = [0, 1, 2, 3, 4, 5, 6, 7, 127, 128, 255];
 
 #[test]
-fn octets_that_read_are_heard(rt: HostRuntime) -> Result<(), Fail> {
+fn octets_that_read_are_heard(rt: HostRuntime) {
     for place in 0..FRAME.len() {
-        for value in VALUES {
-            let change = ChangedOctet { place, value };
-            let octets = change.octets();
-            if octets != FRAME && change.fault(rt.alloc())?.is_none() {
-                let log = change.log(rt.alloc())?;
-                assert!(rt;
-                    hears(rt.alloc(), &octets, log.as_str())?,
-                    "{place} as {value}"
-                );
-            }
+        for value in &VALUES {
+            let change = ChangedOctet {
+                place,
+                value: *value,
+            };
+            assert!(rt; change.is_heard(rt.alloc()), "{place} as {value}");
         }
     }
-    Ok(())
+}
+
+/// Whether the node reports the first octets of the frame as too short.
+fn is_short(alloc: Global, octets: &[u8]) -> Option<bool> {
+    let count = octets.len();
+    let text = if count < 16 {
+        format!(in alloc; "10 2 bad short {count}\nend 100\n")
+    } else {
+        format!(in alloc; "10 2 bad length 19 {}\nend 100\n", count - 16)
+    };
+    let log = text.ok()?;
+    Some(hears(alloc, octets, log.as_str()))
 }
 
 #[test]
-fn each_length(rt: HostRuntime) -> Result<(), Fail> {
+fn each_length(rt: HostRuntime) {
     for count in 0..FRAME.len() {
-        let fault = if count < 16 {
-            format!(in rt.alloc(); "short {count}")?
-        } else {
-            format!(in rt.alloc(); "length 19 {}", count - 16)?
-        };
-        let log = format!(in rt.alloc(); "10 2 bad {fault}\nend 100\n")?;
-        assert!(rt;
-            hears(rt.alloc(), &FRAME[..count], log.as_str())?,
-            "{count} octets"
-        );
+        let is = is_short(rt.alloc(), &FRAME[..count]);
+        assert!(rt; is == Some(true), "{count} octets");
     }
-    Ok(())
 }

@@ -1,7 +1,7 @@
 //! Inputs that are cut short, and inputs that are too long.
-use dt_trial::{FREELY, Trial, ends, tried};
+use crate::trial_rows::ends_so;
+use dt_trial::{FREELY, Trial, tried};
 use std::alloc::Global;
-use std::test::Fail;
 
 /// A setup with two stations, and a link each way.
 const SETUP: &str = "params 1000 3000 200 500 800 100 4096 4096 512 2147483648
@@ -15,64 +15,85 @@ go
 ";
 
 /// A schedule that sends so many octets.
-fn sends(alloc: Global, count: usize) -> Result<String, Fail> {
-    let mut text = String::from_str(alloc, SETUP)?;
-    text.push_str("send 1:10>2:20 be ")?;
+fn sends(alloc: Global, count: usize) -> Option<String> {
+    let mut text = String::from_str(alloc, SETUP).ok()?;
+    text.push_str("send 1:10>2:20 be ").ok()?;
     for _ in 0..count {
-        text.push_str("61")?;
+        text.push_str("61").ok()?;
     }
-    Ok(text)
+    Some(text)
+}
+
+/// Whether a schedule that sends so many octets ends so.
+fn send_ends(alloc: Global, count: usize, status: u8, out: &[u8], said: &[u8]) -> bool {
+    match sends(alloc, count) {
+        Some(input) => {
+            let trial = Trial {
+                input: input.as_bytes(),
+                ..FREELY
+            };
+            ends_so(alloc, &trial, status, out, said)
+        }
+        None => false,
+    }
 }
 
 #[test]
-fn a_message_is_too_long(rt: HostRuntime) -> Result<(), Fail> {
-    let longest = sends(rt.alloc(), 65_536)?;
-    let trial = Trial {
-        input: longest.as_bytes(),
-        ..FREELY
-    };
+fn a_message_is_too_long(rt: HostRuntime) {
+    let alloc = rt.alloc();
     let log = b"0 1 refused 1:10>2:20 full 4096\nend 0\n";
-    assert!(rt; ends(rt.alloc(), &trial, 0, log, b"")?);
-    let longer = sends(rt.alloc(), 65_537)?;
-    let trial = Trial {
-        input: longer.as_bytes(),
-        ..FREELY
-    };
-    assert!(rt; ends(rt.alloc(), &trial, 3, b"line 9: hex\n", b"input refused\n")?);
-    Ok(())
+    assert!(rt; send_ends(alloc, 65_536, 0, log, b""));
+    assert!(rt; send_ends(alloc, 65_537, 3, b"line 9: hex\n", b"input refused\n"));
 }
 
-#[test]
-fn an_input_is_too_long(rt: HostRuntime) -> Result<(), Fail> {
-    let input = vec![in rt.alloc(); b'x'; 16_777_217]?;
-    for word in &["replay", "node", "calls", "audit"] {
+/// The commands that read an input.
+static READERS: [&[&str]; 4] = [&["replay"], &["node"], &["calls"], &["audit"]];
+
+/// Whether each of them says that this one is too long.
+fn is_too_long(alloc: Global, input: &[u8]) -> bool {
+    let said = b"input longer than 16777216 octets\n";
+    for words in &READERS {
         let trial = Trial {
-            words: &[*word],
-            input: &input,
+            words,
+            input,
             ..FREELY
         };
-        let said = b"input longer than 16777216 octets\n";
-        assert!(rt; ends(rt.alloc(), &trial, 3, b"", said)?, "{word}");
+        if !ends_so(alloc, &trial, 3, b"", said) {
+            return false;
+        }
     }
-    let longest = Trial {
-        input: input.get(1..).unwrap_or(b""),
-        ..FREELY
-    };
-    assert!(rt;
-        ends(
-            rt.alloc(),
-            &longest,
-            3,
-            b"line 1: word\n",
-            b"input refused\n"
-        )?
-    );
-    Ok(())
+    true
 }
 
-/// What follows the setup in a short exchange.
-const EXCHANGE: &str =
-    "send 1:10>2:20 be 68656c6c6f\npass 40\narrive 0\npass 30\narrive 1\nread 1:10>2:20 100\n";
+/// Whether an input of one word is read.
+fn is_read(alloc: Global, input: &[u8]) -> bool {
+    let trial = Trial { input, ..FREELY };
+    ends_so(alloc, &trial, 3, b"line 1: word\n", b"input refused\n")
+}
+
+#[test]
+fn an_input_is_too_long(rt: HostRuntime) {
+    let input = vec![in rt.alloc(); b'x'; 16_777_217].expect(&rt, "memory");
+    assert!(rt; is_too_long(rt.alloc(), &input));
+    assert!(rt; is_read(rt.alloc(), input.get(1..).unwrap_or(b"")));
+}
+
+/// A short exchange.
+const WHOLE: &str = "params 1000 3000 200 500 800 100 4096 4096 512 2147483648
+station 1 0
+station 2 0
+link 1 1 2 50 0
+link 2 2 1 50 0
+route 1 2 1
+route 2 1 2
+go
+send 1:10>2:20 be 68656c6c6f
+pass 40
+arrive 0
+pass 30
+arrive 1
+read 1:10>2:20 100
+";
 
 /// The lines of its log before the last two.
 const EXCHANGE_LOG: &[u8] = b"0 1 took 1:10>2:20 5
@@ -99,29 +120,30 @@ fn refuses(log: &[u8], line: &[u8]) -> bool {
     }
 }
 
+/// Whether a log is that of an input with so many line feeds, which is refused at its last line or after it.
+fn is_refused(alloc: Global, log: &[u8], feeds: usize) -> Option<bool> {
+    let at_last = format!(in alloc; "line {}: ", feeds.wrapping_add(1)).ok()?;
+    let behind = format!(in alloc; "line {}: order", feeds.wrapping_add(2)).ok()?;
+    Some(refuses(log, at_last.as_bytes()) || refuses(log, behind.as_bytes()))
+}
+
 /// A cut input is accepted, or refused at its last line or after it.
-fn is_cut(alloc: Global, input: &[u8]) -> Result<bool, Fail> {
+fn is_cut(alloc: Global, input: &[u8]) -> bool {
     let trial = Trial { input, ..FREELY };
-    let left = tried(alloc, &trial)?;
     let feeds = input.iter().filter(|octet| **octet == b'\n').count();
-    let at_last = format!(in alloc; "line {}: ", feeds.wrapping_add(1))?;
-    let behind = format!(in alloc; "line {}: order", feeds.wrapping_add(2))?;
-    let log = left.out.as_slice();
-    let status = left.status;
-    Ok(match status {
-        0 => true,
-        3 => refuses(log, at_last.as_bytes()) || refuses(log, behind.as_bytes()),
-        _ => false,
-    })
+    match tried(alloc, &trial) {
+        Ok(left) if left.status == 3 => {
+            is_refused(alloc, left.out.as_slice(), feeds) == Some(true)
+        }
+        Ok(left) => left.status == 0,
+        Err(_) => false,
+    }
 }
 
 #[test]
-fn an_input_is_cut_short(rt: HostRuntime) -> Result<(), Fail> {
-    let mut whole = String::from_str(rt.alloc(), SETUP)?;
-    whole.push_str(EXCHANGE)?;
-    let octets = whole.as_bytes();
+fn an_input_is_cut_short(rt: HostRuntime) {
+    let octets = WHOLE.as_bytes();
     for count in 0..octets.len() {
-        assert!(rt; is_cut(rt.alloc(), &octets[..count])?, "{count} octets");
+        assert!(rt; is_cut(rt.alloc(), &octets[..count]), "{count} octets");
     }
-    Ok(())
 }
