@@ -2,22 +2,21 @@
 use crate::forms::{fault_text, filled, form_of, is_read_as, parts, vec_is_read_as};
 use dt_text::Form;
 use std::alloc::Global;
-use std::test::Fail;
 
 /// A line whose words are `x` from a place on, but for the third word after `at T`, which chooses
 /// the line: it is `x` only where the place is its own.
-fn spoiled(alloc: Global, line: &str, place: usize) -> Result<Vec<u8>, Fail> {
+fn spoiled(alloc: Global, line: &str, place: usize) -> Option<Vec<u8>> {
     let chooses = line.starts_with("at ");
     let mut octets = Vec::new(alloc);
     for (at, word) in line.split(' ').enumerate() {
         if at > 0 {
-            octets.push(b' ')?;
+            octets.push(b' ').ok()?;
         }
         let stays = at < place || chooses && at == 2 && place != 2;
         let word = if stays { word } else { "x" };
-        octets.extend_from_slice(word.as_bytes())?;
+        octets.extend_from_slice(word.as_bytes()).ok()?;
     }
-    Ok(octets)
+    Some(octets)
 }
 
 /// A form, the letters of faults, and a line. The line is read, has the fault Count with one word
@@ -58,35 +57,32 @@ c|wn|lose 1
 c|wn|restart 1";
 
 /// Whether a line has this fault where its words from a place on are `x`.
-fn has_fault(alloc: Global, form: Form, line: &str, place: usize, fault: u8) -> Result<bool, Fail> {
-    let octets = spoiled(alloc, line, place)?;
-    vec_is_read_as(alloc, form, octets, fault_text(fault))
+fn has_fault(alloc: Global, form: Form, line: &str, place: usize, fault: u8) -> bool {
+    vec_is_read_as(alloc, form, spoiled(alloc, line, place), fault_text(fault))
 }
 
 /// Whether each word of a line has its fault.
-fn has_faults(alloc: Global, form: Form, faults: &str, line: &str) -> Result<bool, Fail> {
+fn has_faults(alloc: Global, form: Form, faults: &str, line: &str) -> bool {
     for (place, letter) in faults.as_bytes().iter().enumerate() {
-        if !has_fault(alloc, form, line, place, *letter)? {
-            return Ok(false);
+        if !has_fault(alloc, form, line, place, *letter) {
+            return false;
         }
     }
-    Ok(!faults.is_empty())
+    !faults.is_empty()
 }
 
 /// Whether a line is read, and not with one word more.
-fn is_whole(alloc: Global, form: Form, line: &str) -> Result<bool, Fail> {
-    let more = filled(alloc, "* 1", line)?;
-    let is_longer = vec_is_read_as(alloc, form, more, "Err(Count)")?;
-    Ok(is_longer && is_read_as(alloc, form, line.as_bytes(), "Ok(")?)
+fn is_whole(alloc: Global, form: Form, line: &str) -> bool {
+    vec_is_read_as(alloc, form, filled(alloc, "* 1", line), "Err(Count)")
+        && is_read_as(alloc, form, line.as_bytes(), "Ok(")
 }
 
 #[test]
-fn the_first_fault_of_each_kind(rt: HostRuntime) -> Result<(), Fail> {
+fn the_first_fault_of_each_kind(rt: HostRuntime) {
     for row in FAULTS.split('\n') {
         let (letter, faults, line) = parts(row);
-        let is = is_whole(rt.alloc(), form_of(letter), line)?;
-        let has = has_faults(rt.alloc(), form_of(letter), faults, line)?;
-        assert!(rt; is && has, "{row}");
+        let form = form_of(letter);
+        assert!(rt; is_whole(rt.alloc(), form, line), "{row}");
+        assert!(rt; has_faults(rt.alloc(), form, faults, line), "{row}");
     }
-    Ok(())
 }

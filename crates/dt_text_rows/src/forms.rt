@@ -1,7 +1,6 @@
 //! The parts of rows, and how a line is read.
 use dt_text::{Form, read_line};
 use std::alloc::Global;
-use std::test::Fail;
 
 /// The three parts of a row, between which stand bars. A part that isn't there is empty.
 pub fn parts(row: &str) -> (&str, &str, &str) {
@@ -20,19 +19,19 @@ pub fn form_of(letter: &str) -> Form {
 }
 
 /// Whether what a line is read as begins with this text.
-pub fn is_read_as(alloc: Global, form: Form, line: &[u8], wanted: &str) -> Result<bool, Fail> {
-    let said = format!(in alloc; "{:?}", read_line(form, line))?;
-    Ok(!wanted.is_empty() && said.as_str().starts_with(wanted))
+pub fn is_read_as(alloc: Global, form: Form, line: &[u8], wanted: &str) -> bool {
+    match format!(in alloc; "{:?}", read_line(form, line)) {
+        Ok(said) => !wanted.is_empty() && said.as_str().starts_with(wanted),
+        Err(_) => false,
+    }
 }
 
-/// The same of a line that is let go.
-pub fn vec_is_read_as(
-    alloc: Global,
-    form: Form,
-    line: Vec<u8>,
-    wanted: &str,
-) -> Result<bool, Fail> {
-    is_read_as(alloc, form, &line, wanted)
+/// The same of a line that is let go, where memory was found for it.
+pub fn vec_is_read_as(alloc: Global, form: Form, line: Option<Vec<u8>>, wanted: &str) -> bool {
+    match line {
+        Some(line) => is_read_as(alloc, form, &line, wanted),
+        None => false,
+    }
 }
 
 /// The text that is wanted of a fault, by its letter: `-` of none.
@@ -48,14 +47,14 @@ pub fn fault_text(letter: u8) -> &'static str {
 }
 
 /// The octets of a line with a text in the place of each `*`.
-pub fn filled(alloc: Global, line: &str, text: &str) -> Result<Vec<u8>, Fail> {
+pub fn filled(alloc: Global, line: &str, text: &str) -> Option<Vec<u8>> {
     let mut octets = Vec::new(alloc);
     for octet in line.as_bytes() {
         if *octet == b'*' {
-            octets.extend_from_slice(text.as_bytes())?;
+            octets.extend_from_slice(text.as_bytes()).ok()?;
         } else {
-            octets.push(*octet)?;
+            octets.push(*octet).ok()?;
         }
     }
-    Ok(octets)
+    Some(octets)
 }

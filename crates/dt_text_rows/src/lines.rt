@@ -2,7 +2,6 @@
 use crate::forms::{form_of, is_read_as, parts};
 use std::alloc::Global;
 use std::process::Abort;
-use std::test::Fail;
 
 /// A form, a line, and what it is read as.
 const LINES: &str = "s||Ok(Blank)
@@ -137,21 +136,22 @@ c|lose|Err(Count)
 c|restart|Err(Count)";
 
 /// Each row is read as it says.
-fn are_read(rt: &impl Abort, alloc: Global, rows: &str) -> Result<(), Fail> {
+fn are_read(rt: &impl Abort, alloc: Global, rows: &str) {
     for row in rows.split('\n') {
         let (form, line, wanted) = parts(row);
-        let is = is_read_as(alloc, form_of(form), line.as_bytes(), wanted)?;
-        assert!(rt; is, "{row}");
+        assert!(rt;
+            is_read_as(alloc, form_of(form), line.as_bytes(), wanted),
+            "{row}"
+        );
     }
-    Ok(())
 }
 
 #[test]
-fn lines(rt: HostRuntime) -> Result<(), Fail> {
-    are_read(&rt, rt.alloc(), LINES)
+fn lines(rt: HostRuntime) {
+    are_read(&rt, rt.alloc(), LINES);
 }
 
 #[test]
-fn refused_lines(rt: HostRuntime) -> Result<(), Fail> {
-    are_read(&rt, rt.alloc(), REFUSED)
+fn refused_lines(rt: HostRuntime) {
+    are_read(&rt, rt.alloc(), REFUSED);
 }

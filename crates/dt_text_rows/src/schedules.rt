@@ -1,7 +1,6 @@
 //! The generator's schedules, in memory.
 use dt_edges::MemSink;
 use dt_make::make;
-use std::test::Fail;
 
 const ONE: &[u8] = b"params 1000 3000 200 500 800 100 4096 4096 512 2147483648
 station 1 0
@@ -23,9 +22,8 @@ read 1:10>2:20 65536
 ";
 
 #[test]
-fn one_round(rt: HostRuntime) -> Result<(), Fail> {
-    let mut out = MemSink::new(rt.alloc(), 1024, &[])?;
-    make(1, &mut out)?;
-    assert_eq!(rt; out.as_slice(), ONE);
-    Ok(())
+fn one_round(rt: HostRuntime) {
+    let mut out = MemSink::new(rt.alloc(), 1024, &[]).expect(&rt, "memory");
+    assert!(rt; make(1, &mut out).is_ok());
+    assert!(rt; out.as_slice() == ONE);
 }

@@ -6,7 +6,6 @@ use dt_text::{
 };
 use dt_units::{Flow, NodeId};
 use std::alloc::Global;
-use std::test::Fail;
 
 /// A word, the most that a number may be, and what it is read as.
 const NUMBERS: &str = "0|0|Some(0)
@@ -21,21 +20,28 @@ const NUMBERS: &str = "0|0|Some(0)
 00|9|None
 9 |9|None";
 
-/// Whether a word is read as a number so.
-fn is_number(alloc: Global, row: &str) -> Result<bool, Fail> {
+/// Whether a word is read as a number of at most that so.
+fn is_number_of(alloc: Global, word: &str, most: u64, wanted: &str) -> bool {
+    match format!(in alloc; "{:?}", read_number(word.as_bytes(), most)) {
+        Ok(read) => read.as_str() == wanted,
+        Err(_) => false,
+    }
+}
+
+/// Whether the word of a row is read as a number so.
+fn is_number(alloc: Global, row: &str) -> bool {
     let (word, most, wanted) = parts(row);
-    let most = most.parse::<u64>()?;
-    let read = format!(in alloc; "{:?}", read_number(word.as_bytes(), most))?;
-    Ok(read.as_str() == wanted)
+    match most.parse::<u64>() {
+        Ok(most) => is_number_of(alloc, word, most, wanted),
+        Err(_) => false,
+    }
 }
 
 #[test]
-fn numbers(rt: HostRuntime) -> Result<(), Fail> {
+fn numbers(rt: HostRuntime) {
     for row in NUMBERS.split('\n') {
-        let is = is_number(rt.alloc(), row)?;
-        assert!(rt; is, "{row}");
+        assert!(rt; is_number(rt.alloc(), row), "{row}");
     }
-    Ok(())
 }
 
 /// A word, the most octets that may be spelled, and whether it spells some.
@@ -47,14 +53,20 @@ const SPELLED: &str = "00|1|true
 aF|4294967295|true
 aG|4294967295|false";
 
-#[test]
-fn spelled_octets(rt: HostRuntime) -> Result<(), Fail> {
-    for row in SPELLED.split('\n') {
-        let (word, most, wanted) = parts(row);
-        let spells = is_hex(word.as_bytes(), most.parse::<u32>()?);
-        assert!(rt; spells == (wanted == "true"), "{row}");
+/// Whether the word of a row spells octets so.
+fn is_spelled(row: &str) -> bool {
+    let (word, most, wanted) = parts(row);
+    match most.parse::<u32>() {
+        Ok(most) => is_hex(word.as_bytes(), most) == (wanted == "true"),
+        Err(_) => false,
     }
-    Ok(())
+}
+
+#[test]
+fn spelled_octets(rt: HostRuntime) {
+    for row in SPELLED.split('\n') {
+        assert!(rt; is_spelled(row), "{row}");
+    }
 }
 
 #[test]
@@ -69,22 +81,21 @@ fn flows(rt: HostRuntime) {
     assert!(rt; read_flow(b"1:10>2:").is_none());
 }
 
-/// The octets that the digits of a line spell are put in the place of others.
-fn decode(line: &[u8], octets: &mut Vec<u8>) -> Result<(), Fail> {
+/// Whether the octets that the digits of a line spell are put in the place of others.
+fn is_decoded(line: &[u8], octets: &mut Vec<u8>) -> bool {
     match read_line(Form::Schedule, line) {
-        Ok(Line::Run(RunLine::User(UserLine::Send { hex, .. }))) => Ok(decode_hex(hex, octets)?),
-        _ => Err("no send".into()),
+        Ok(Line::Run(RunLine::User(UserLine::Send { hex, .. }))) => decode_hex(hex, octets).is_ok(),
+        _ => false,
     }
 }
 
 #[test]
-fn hexadecimal_digits(rt: HostRuntime) -> Result<(), Fail> {
-    let mut octets = Vec::from_slice(rt.alloc(), b"gone")?;
-    decode(b"send 1:10>2:20 - 00ffFFa90A", &mut octets)?;
+fn hexadecimal_digits(rt: HostRuntime) {
+    let mut octets = Vec::from_slice(rt.alloc(), b"gone").expect(&rt, "memory");
+    assert!(rt; is_decoded(b"send 1:10>2:20 - 00ffFFa90A", &mut octets));
     assert!(rt; octets.as_slice() == [0, 255, 255, 169, 10].as_slice());
-    decode_hex(b"", &mut octets)?;
+    assert!(rt; decode_hex(b"", &mut octets).is_ok());
     assert!(rt; octets.is_empty());
-    Ok(())
 }
 
 /// Whether an input that isn't empty is cut into this first line and this rest.

@@ -2,7 +2,6 @@
 use dt_edges::{Failed, MemSink};
 use dt_log::{put_flow, put_hex, put_number};
 use dt_units::{Flow, NodeId};
-use std::test::Fail;
 
 const FLOW: Flow = Flow {
     from: NodeId(0),
@@ -21,37 +20,33 @@ fn are_put(sink: &mut MemSink) -> Result<(), Failed> {
 }
 
 #[test]
-fn values_are_written(rt: HostRuntime) -> Result<(), Fail> {
-    let mut sink = MemSink::new(rt.alloc(), 512, &[])?;
+fn values_are_written(rt: HostRuntime) {
+    let mut sink = MemSink::new(rt.alloc(), 512, &[]).expect(&rt, "memory");
     assert!(rt; are_put(&mut sink).is_ok());
     let text = b"0184467440737095516150:65535>4294967295:1009aff";
     assert!(rt; sink.as_slice() == text.as_slice());
-    Ok(())
 }
 
 #[test]
-fn many_octets_are_written(rt: HostRuntime) -> Result<(), Fail> {
-    let mut sink = MemSink::new(rt.alloc(), 512, &[])?;
+fn many_octets_are_written(rt: HostRuntime) {
+    let mut sink = MemSink::new(rt.alloc(), 512, &[]).expect(&rt, "memory");
     assert!(rt; put_hex(&[0xa5; 130], &mut sink).is_ok());
     assert!(rt; sink.as_slice().len() == 260);
     for pair in sink.as_slice().chunks(2) {
         assert!(rt; pair == b"a5".as_slice());
     }
-    Ok(())
 }
 
 #[test]
-fn a_number_that_does_not_fit_is_written_in_part(rt: HostRuntime) -> Result<(), Fail> {
-    let mut sink = MemSink::new(rt.alloc(), 4, &[])?;
+fn a_number_that_does_not_fit_is_written_in_part(rt: HostRuntime) {
+    let mut sink = MemSink::new(rt.alloc(), 4, &[]).expect(&rt, "memory");
     assert!(rt; put_number(12_345, &mut sink) == Err(Failed));
     assert!(rt; sink.as_slice() == b"1234".as_slice());
-    Ok(())
 }
 
 #[test]
-fn a_flow_that_does_not_fit_is_written_in_part(rt: HostRuntime) -> Result<(), Fail> {
-    let mut sink = MemSink::new(rt.alloc(), 9, &[])?;
+fn a_flow_that_does_not_fit_is_written_in_part(rt: HostRuntime) {
+    let mut sink = MemSink::new(rt.alloc(), 9, &[]).expect(&rt, "memory");
     assert!(rt; put_flow(&FLOW, &mut sink) == Err(Failed));
     assert!(rt; sink.as_slice() == b"0:65535>4".as_slice());
-    Ok(())
 }

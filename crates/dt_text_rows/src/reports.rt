@@ -5,7 +5,6 @@ use dt_layout::LayoutFault;
 use dt_log::write_line;
 use dt_reports::{LogLine, Refusal, Report};
 use dt_units::{Flow, NodeId};
-use std::test::Fail;
 
 const FLOW: Flow = Flow {
     from: NodeId(1),
@@ -262,12 +261,10 @@ static REPORTS: [(Report<'static>, &str); 39] = [
 ];
 
 #[test]
-fn each_report_has_its_line(rt: HostRuntime) -> Result<(), Fail> {
+fn each_report_has_its_line(rt: HostRuntime) {
     for (report, text) in &REPORTS {
-        let is = is_written(rt.alloc(), *report, text)?;
-        assert!(rt; is, "{text}");
+        assert!(rt; is_written(rt.alloc(), *report, text), "{text}");
     }
-    Ok(())
 }
 
 /// A line without a node.
@@ -278,16 +275,13 @@ const LINE: LogLine<'static> = LogLine {
 };
 
 #[test]
-fn a_line_without_a_node_leaves_its_word_out(rt: HostRuntime) -> Result<(), Fail> {
-    let is = is_line(rt.alloc(), &LINE, b"40 noroute 3\n")?;
-    assert!(rt; is);
-    Ok(())
+fn a_line_without_a_node_leaves_its_word_out(rt: HostRuntime) {
+    assert!(rt; is_line(rt.alloc(), &LINE, b"40 noroute 3\n"));
 }
 
 #[test]
-fn a_put_that_fails_leaves_a_part(rt: HostRuntime) -> Result<(), Fail> {
-    let mut sink = MemSink::new(rt.alloc(), 512, &[3])?;
+fn a_put_that_fails_leaves_a_part(rt: HostRuntime) {
+    let mut sink = MemSink::new(rt.alloc(), 512, &[3]).expect(&rt, "memory");
     assert!(rt; write_line(&LINE, &mut sink) == Err(Failed));
     assert!(rt; b"40 noroute 3".starts_with(sink.as_slice()));
-    Ok(())
 }
