@@ -9,7 +9,6 @@ use dt_station::{OutLink, Station, StationEvent};
 use dt_units::NodeId;
 use std::alloc::Global;
 use std::process::Abort;
-use std::test::Fail;
 
 /// Whether a packet comes to a station that isn't spent, and is passed on.
 fn passes(rt: &impl Abort, station: &mut Station<Frame>, audience: &mut Audience<'_>) -> bool
@@ -53,7 +52,7 @@ fn spends(rt: &impl Abort, alloc: Global, memory: usize) -> Result<(), NoMemory>
 }
 
 #[test]
-fn want_of_memory_spends_the_station(rt: HostRuntime) -> Result<(), Fail> {
+fn want_of_memory_spends_the_station(rt: HostRuntime) -> Result<(), NoMemory> {
     for memory in 0..3usize {
         spends(&rt, rt.alloc(), memory)?;
     }
