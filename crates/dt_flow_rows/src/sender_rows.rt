@@ -1,5 +1,5 @@
 //! The rows of worked runs: each step with its moment.
-use crate::steps::{Octets, Step};
+use crate::sender_steps::{Octets, Step};
 use dt_send::{PutFault, SendMoments};
 
 static THREE_PACKETS: [(u64, Step); 12] = [

@@ -1,31 +1,17 @@
 ghost use Rattle.std.specs.Prelude.{◌≡◌, ◌<◌, IfOk};
 ghost use Rattle.dt_flow_model.specs.Keeping.{taken_by};
 
-use crate::rows::{given_up, quantum, renewal, round, three_packets, uncertain, windows};
-use crate::steps::{Step, is_done};
+use crate::fixtures::{FLOW, STANDARD};
+use crate::sender_rows::{given_up, quantum, renewal, round, three_packets, uncertain, windows};
+use crate::sender_steps::{Step, is_done};
 use dt_items::NoMemory;
 use dt_layout::Frame;
 use dt_send::Sender;
-use dt_units::{Flow, NodeId, Params, Steps};
+use dt_units::{Params, Steps};
 use std::alloc::Global;
 use std::marker::Brand;
 use std::process::Abort;
 use std::sync::ledger::{Blank, Ledger};
-use std::test::Fail;
-
-const STANDARD: Params = Params {
-    mpl: 1000,
-    r: 3000,
-    a: 200,
-    rto: 500,
-    probe: 800,
-    seg: 100,
-    cap: 4096,
-    rcap: 4096,
-    window: 512,
-    run_limit: 2_147_483_648,
-    start: 0,
-};
 
 const NARROW: Params = Params {
     window: 4,
@@ -40,14 +26,6 @@ const SHORT_RUNS: Params = Params {
 const LATE_START: Params = Params {
     start: 4_294_967_294,
     ..STANDARD
-};
-
-/// From port 10 of node 1 to port 20 of node 2.
-const FLOW: Flow = Flow {
-    from: NodeId(1),
-    from_port: 10,
-    to: NodeId(2),
-    to_port: 20,
 };
 
 /// A new record at 0.
@@ -92,6 +70,6 @@ fn rows_on<L: Ledger>(rt: &impl Abort, alloc: Global, ledger: Blank) -> Result<(
 }
 
 #[test]
-fn records_act_in_time(rt: HostRuntime) -> Result<(), Fail> {
-    Ok(rows_on::<Brand>(&rt, rt.alloc(), Blank::new(1))?)
+fn records_act_in_time(rt: HostRuntime) -> Result<(), NoMemory> {
+    rows_on::<Brand>(&rt, rt.alloc(), Blank::new(1))
 }

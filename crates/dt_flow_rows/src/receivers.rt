@@ -1,37 +1,16 @@
 //! A receiver, event by event: its answers, and its acts in time.
 ghost use Rattle.std.specs.Prelude.{◌≡◌, ◌<◌};
 
+use crate::fixtures::{FLOW, STANDARD};
 use dt_flow_model::{Arrived, RecvAct, RecvKind, RecvMoments};
-use dt_items::Piece;
+use dt_items::{NoMemory, Piece};
 use dt_layout::Frame;
 use dt_recv::Receiver;
-use dt_units::{Flow, NodeId, Params, Steps};
+use dt_units::{Params, Steps};
 use std::alloc::Global;
 use std::marker::Brand;
 use std::process::Abort;
 use std::sync::ledger::{Blank, Ledger};
-use std::test::Fail;
-
-const STANDARD: Params = Params {
-    mpl: 1000,
-    r: 3000,
-    a: 200,
-    rto: 500,
-    probe: 800,
-    seg: 100,
-    cap: 4096,
-    rcap: 4096,
-    window: 512,
-    run_limit: 2_147_483_648,
-    start: 0,
-};
-
-const FLOW: Flow = Flow {
-    from: NodeId(1),
-    from_port: 10,
-    to: NodeId(2),
-    to_port: 20,
-};
 
 // What a packet is answered: accepted as a new run or following the octets before, replied to with a
 // number and a window, closing with a number, or dropped.
@@ -224,26 +203,35 @@ fn happens<L: Ledger>(
     }
 }
 
-// A new receiver meets these events, each at its moment.
+// A receiver meets these events, each at its moment.
+fn meets_all<L: Ledger>(
+    rt: &impl Abort,
+    receiver: &mut Receiver,
+    events: &[(u64, Event)],
+    steps: &mut Steps<L>,
+) {
+    for (now, event) in events {
+        let is = happens(receiver, *now, event, steps);
+        assert!(rt; is, "at {now}");
+    }
+}
+
+// A new receiver does.
 fn play<L: Ledger>(
     rt: &impl Abort,
     alloc: Global,
     ledger: Blank,
     params: Params,
     events: &[(u64, Event)],
-) -> Result<(), Fail>
+) -> Result<(), NoMemory>
     requires name { ledger.name ≡ L.name }
     requires parts { ledger.parts ≡ L.parts }
     requires some { 0 < ledger.parts }
 {
-    let mut steps = Steps::<L>::new(ledger);
     let rules = params.check().expect(rt, "the parameters are refused");
     let mut receiver = Receiver::new(alloc, &rules, FLOW)?;
     assert!(rt; receiver.is_idle());
-    for (now, event) in events {
-        let is = happens(&mut receiver, *now, event, &mut steps);
-        assert!(rt; is, "at {now}");
-    }
+    meets_all(rt, &mut receiver, events, &mut Steps::<L>::new(ledger));
     Ok(())
 }
 
@@ -316,7 +304,7 @@ static WRAPPED: [(u64, Event); 6] = [
 ];
 
 #[test]
-fn the_receiver_answers_as_the_rows_say(rt: HostRuntime) -> Result<(), Fail> {
+fn the_receiver_answers_as_the_rows_say(rt: HostRuntime) -> Result<(), NoMemory> {
     let narrow = Params {
         rcap: 4,
         window: 4,
