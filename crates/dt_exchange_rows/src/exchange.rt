@@ -6,14 +6,7 @@ use dt_items::NoMemory;
 use std::alloc::Global;
 use std::process::Abort;
 
-/// The endpoints of nodes 1 and 2.
-#[derive(Drop)]
-struct Pair {
-    one: Endpoint,
-    two: Endpoint,
-}
-
-/// A call of one of them, or a frame that goes between them and its answer.
+/// A call of one of two nodes, or a frame that goes between them and its answer.
 enum Step {
     One(u64, Call),
     Two(u64, Call),
@@ -42,8 +35,7 @@ fn hands_back(two: &mut Endpoint, one: &mut Endpoint, answer: Received) -> bool 
 }
 
 /// Whether a step goes as it says.
-fn goes(pair: &mut Pair, step: &Step) -> bool {
-    let Pair { one, two } = pair;
+fn goes(one: &mut Endpoint, two: &mut Endpoint, step: &Step) -> bool {
     match step {
         Step::One(now, call) => is_answered(one, *now, call),
         Step::Two(now, call) => is_answered(two, *now, call),
@@ -52,16 +44,30 @@ fn goes(pair: &mut Pair, step: &Step) -> bool {
     }
 }
 
-/// Each step of two nodes goes as it says.
-fn follows(rt: &impl Abort, alloc: Global, steps: &[Step]) -> Result<(), NoMemory> {
-    let one = open(rt, alloc, 1, None)?;
-    let two = open(rt, alloc, 2, None)?;
-    let mut pair = Pair { one, two };
+/// Each step goes as it says.
+fn go(rt: &impl Abort, one: &mut Endpoint, two: &mut Endpoint, steps: &[Step]) {
     for (place, step) in steps.iter().enumerate() {
-        let is = goes(&mut pair, step);
+        let is = goes(one, two, step);
         assert!(rt; is, "step {place}");
     }
+}
+
+/// Each step of node 1 and of node 2, which is opened, goes as it says.
+fn follows_beside(
+    rt: &impl Abort,
+    alloc: Global,
+    one: &mut Endpoint,
+    steps: &[Step],
+) -> Result<(), NoMemory> {
+    let mut two = open(rt, alloc, 2, None)?;
+    go(rt, one, &mut two, steps);
     Ok(())
+}
+
+/// Each step of two nodes goes as it says.
+fn follows(rt: &impl Abort, alloc: Global, steps: &[Step]) -> Result<(), NoMemory> {
+    let mut one = open(rt, alloc, 1, None)?;
+    follows_beside(rt, alloc, &mut one, steps)
 }
 
 /// The five octets that were sent, and are known to have come.

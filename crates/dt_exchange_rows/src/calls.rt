@@ -114,6 +114,14 @@ pub fn is_answered(one: &mut Endpoint, now: u64, call: &Call) -> bool {
     }
 }
 
+/// The endpoint answers each call as it says.
+fn answers_all(rt: &impl Abort, one: &mut Endpoint, calls: &[(u64, Call)]) {
+    for (place, (now, call)) in calls.iter().enumerate() {
+        let is = is_answered(one, *now, call);
+        assert!(rt; is, "call {place}");
+    }
+}
+
 /// An endpoint of this node, with a route to the other, answers each call as it says.
 pub fn answers(
     rt: &impl Abort,
@@ -123,9 +131,6 @@ pub fn answers(
     calls: &[(u64, Call)],
 ) -> Result<(), NoMemory> {
     let mut one = open(rt, alloc, me, again)?;
-    for (place, (now, call)) in calls.iter().enumerate() {
-        let is = is_answered(&mut one, *now, call);
-        assert!(rt; is, "call {place}");
-    }
+    answers_all(rt, &mut one, calls);
     Ok(())
 }

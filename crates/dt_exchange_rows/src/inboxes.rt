@@ -1,33 +1,12 @@
 //! Whole messages taken from two endpoints that hand their frames to each other, step by step in rows.
-use dt_endpoint::{Endpoint, InLink, Links, OutLink, Received, Route, Sent};
+use crate::fixtures::{FLOW, open};
+use dt_endpoint::{Endpoint, Received, Sent};
 use dt_inbox::{FlowInboxes, Handed, Inbox, Mailbox, TakenMessage};
 use dt_items::NoMemory;
 use dt_reports::Report;
-use dt_units::{Flow, NodeId, Params};
+use dt_units::Flow;
 use std::alloc::Global;
 use std::process::Abort;
-
-const STANDARD: Params = Params {
-    mpl: 1000,
-    r: 3000,
-    a: 200,
-    rto: 500,
-    probe: 800,
-    seg: 100,
-    cap: 4096,
-    rcap: 4096,
-    window: 4096,
-    run_limit: 2_147_483_648,
-    start: 0,
-};
-
-// From port 10 of node 1 to port 20 of node 2.
-const FLOW: Flow = Flow {
-    from: NodeId(1),
-    from_port: 10,
-    to: NodeId(2),
-    to_port: 20,
-};
 
 // From port 11 of node 1 to port 20 of node 2.
 const OTHER: Flow = Flow {
@@ -35,26 +14,10 @@ const OTHER: Flow = Flow {
     ..FLOW
 };
 
-const OUTS: [OutLink; 1] = [OutLink { link: 5, pace: 0 }];
-
-const INS: [InLink; 1] = [InLink { link: 7, charge: 0 }];
-
-fn open(rt: &impl Abort, alloc: Global, me: u32, other: u32) -> Result<Endpoint, NoMemory> {
-    let rules = STANDARD.check().expect(rt, "the parameters are refused");
-    let routes = [Route { to: other, link: 5 }];
-    let links = Links {
-        outs: &OUTS,
-        ins: &INS,
-        routes: &routes,
-    };
-    Endpoint::open(alloc, &rules, NodeId(me), None, &links)
-}
-
-// Two nodes, and what takes the messages that come to node 2.
+// What takes the messages that come to node 2.
 #[derive(Drop)]
-struct Exchange {
-    one: Endpoint,
-    two: Endpoint,
+struct Takers {
+    alloc: Global,
     inbox: Inbox,
     inboxes: FlowInboxes,
     mailbox: Mailbox,
@@ -174,56 +137,73 @@ fn hands_out(alloc: Global, mailbox: &mut Mailbox, two: &mut Endpoint) -> bool {
 }
 
 // Whether a step goes as it says.
-fn goes(alloc: Global, exchange: &mut Exchange, step: &Step) -> bool {
-    let Exchange {
-        one,
-        two,
+fn goes(one: &mut Endpoint, two: &mut Endpoint, takers: &mut Takers, step: &Step) -> bool {
+    let Takers {
+        alloc,
         inbox,
         inboxes,
         mailbox,
-    } = exchange;
+    } = takers;
     match step {
         Step::Send(flow, octets, begin, end) => sends(one, *flow, octets, *begin, *end),
         Step::HandOver => hands_over(one, two),
-        Step::Take(room, wanted) => takes(alloc, inbox, two, *room, wanted),
-        Step::TakeOfSender(room, wanted) => takes(alloc, inbox, one, *room, wanted),
+        Step::Take(room, wanted) => takes(*alloc, inbox, two, *room, wanted),
+        Step::TakeOfSender(room, wanted) => takes(*alloc, inbox, one, *room, wanted),
         Step::Dropped(count) => inbox.dropped() == *count,
         Step::HearAll => hears(inboxes, two),
-        Step::TakeOf(flow, wanted) => takes_of(alloc, inboxes, two, *flow, wanted),
-        Step::TakeOfNone => takes_of_none(alloc, inboxes, two),
+        Step::TakeOf(flow, wanted) => takes_of(*alloc, inboxes, two, *flow, wanted),
+        Step::TakeOfNone => takes_of_none(*alloc, inboxes, two),
         Step::Forget(flow) => {
             inboxes.forget(flow);
             true
         }
         Step::Left(count) => inboxes.len() == *count,
         Step::Hear(flow) => mailbox.hear(*flow).is_ok(),
-        Step::HandOut => hands_out(alloc, mailbox, two),
+        Step::HandOut => hands_out(*alloc, mailbox, two),
     }
 }
 
-fn opened(rt: &impl Abort, alloc: Global, longest: Option<usize>) -> Result<Exchange, NoMemory> {
-    Ok(Exchange {
-        one: open(rt, alloc, 1, 2)?,
-        two: open(rt, alloc, 2, 1)?,
-        inbox: Inbox::new(FLOW, longest),
-        inboxes: FlowInboxes::new(alloc, longest),
-        mailbox: Mailbox::new(alloc, longest),
-    })
+// Each step goes as it says.
+fn go(
+    rt: &impl Abort,
+    one: &mut Endpoint,
+    two: &mut Endpoint,
+    takers: &mut Takers,
+    steps: &[Step],
+) {
+    for (place, step) in steps.iter().enumerate() {
+        let is = goes(one, two, takers, step);
+        assert!(rt; is, "step {place}");
+    }
 }
 
-// Each step goes as it says, where a message has so many octets at most.
+// Each step of node 1 and of node 2, which is opened, goes as it says.
+fn follows_beside(
+    rt: &impl Abort,
+    one: &mut Endpoint,
+    takers: &mut Takers,
+    steps: &[Step],
+) -> Result<(), NoMemory> {
+    let mut two = open(rt, takers.alloc, 2, None)?;
+    go(rt, one, &mut two, takers, steps);
+    Ok(())
+}
+
+// Each step of two nodes goes as it says, by what takes messages of so many octets at most.
 fn follows(
     rt: &impl Abort,
     alloc: Global,
     longest: Option<usize>,
     steps: &[Step],
 ) -> Result<(), NoMemory> {
-    let mut exchange = opened(rt, alloc, longest)?;
-    for (place, step) in steps.iter().enumerate() {
-        let is = goes(alloc, &mut exchange, step);
-        assert!(rt; is, "step {place}");
-    }
-    Ok(())
+    let mut one = open(rt, alloc, 1, None)?;
+    let mut takers = Takers {
+        alloc,
+        inbox: Inbox::new(FLOW, longest),
+        inboxes: FlowInboxes::new(alloc, longest),
+        mailbox: Mailbox::new(alloc, longest),
+    };
+    follows_beside(rt, &mut one, &mut takers, steps)
 }
 
 // The second message comes in three frames, and is read in pieces of 64 octets.

@@ -1,0 +1,18 @@
+//! Tests of what endpoints exchange, in rows: two endpoints and what goes between them, the answers of each call, the
+//! pieces that make messages whole, and an inbox over two endpoints.
+#![tactic(auto)]
+
+#[cfg(test)]
+mod answers;
+#[cfg(test)]
+mod calls;
+#[cfg(test)]
+mod exchange;
+#[cfg(test)]
+mod fixtures;
+#[cfg(test)]
+mod inboxes;
+#[cfg(test)]
+mod pieces;
+#[cfg(test)]
+mod routes;
