@@ -88,46 +88,52 @@ fn serves(alloc: Global, server: &mut Halves) -> Result<bool, NoMemory> {
     Ok(is_new && is_heard && server.is_open(&token) && is_request(&server.next_happening(), b"a"))
 }
 
+// Whether the call is handed out to the server, and its answer to the client.
+fn is_answered(alloc: Global, client: &mut Halves, server: &mut Halves) -> Result<bool, NoMemory> {
+    let is_served = calls(client)? && serves(alloc, server)?;
+    comes(alloc, client, reversed(FLOW), b"A")?;
+    client.judge(1)?;
+    Ok(is_served && is_answer(&client.next_happening(), b"A"))
+}
+
 #[test]
-fn a_call_is_handed_out_and_answered(rt: HostRuntime) -> Result<(), NoMemory> {
+fn a_call_is_handed_out_and_answered(rt: HostRuntime) {
     let mut client = Halves::new(rt.alloc(), MOST, 5);
     let mut server = Halves::new(rt.alloc(), MOST, 1);
-    let is_made = calls(&mut client)?;
-    assert!(rt; is_made);
-    let is_served = serves(rt.alloc(), &mut server)?;
-    assert!(rt; is_served);
-    comes(rt.alloc(), &mut client, reversed(FLOW), b"A")?;
-    client.judge(1)?;
-    let happening = client.next_happening();
-    assert!(rt; is_answer(&happening, b"A"));
-    Ok(())
+    let is = is_answered(rt.alloc(), &mut client, &mut server);
+    assert!(rt; is == Ok(true));
 }
 
-#[test]
-fn patience_ends_a_call(rt: HostRuntime) -> Result<(), NoMemory> {
-    let mut client = Halves::new(rt.alloc(), MOST, 5);
-    let is_made = calls(&mut client)?;
-    assert!(rt; is_made);
+// Whether the call ends at 1,000 for its patience, and not at 999.
+fn runs_out(client: &mut Halves) -> Result<bool, NoMemory> {
+    let is_made = calls(client)?;
     client.judge(999)?;
-    let early = client.next_happening();
-    assert!(rt; early.is_none());
+    let is_early = client.next_happening().is_some();
     client.judge(1000)?;
-    let happening = client.next_happening();
-    assert!(rt; is_unsure(&happening, Cause::Patience));
-    Ok(())
+    Ok(is_made && !is_early && is_unsure(&client.next_happening(), Cause::Patience))
 }
 
 #[test]
-fn octets_that_are_given_up_end_a_call(rt: HostRuntime) -> Result<(), NoMemory> {
+fn patience_ends_a_call(rt: HostRuntime) {
     let mut client = Halves::new(rt.alloc(), MOST, 5);
-    let is_made = calls(&mut client)?;
-    assert!(rt; is_made);
+    let is = runs_out(&mut client);
+    assert!(rt; is == Ok(true));
+}
+
+// Whether the call ends, since the octets of its request are given up.
+fn is_given_up(client: &mut Halves) -> Result<bool, NoMemory> {
+    let is_made = calls(client)?;
     client.hear(&Report::Uncertain {
         flow: FLOW,
         count: 9,
     })?;
     client.judge(1)?;
-    let happening = client.next_happening();
-    assert!(rt; is_unsure(&happening, Cause::GivenUp));
-    Ok(())
+    Ok(is_made && is_unsure(&client.next_happening(), Cause::GivenUp))
+}
+
+#[test]
+fn octets_that_are_given_up_end_a_call(rt: HostRuntime) {
+    let mut client = Halves::new(rt.alloc(), MOST, 5);
+    let is = is_given_up(&mut client);
+    assert!(rt; is == Ok(true));
 }

@@ -240,14 +240,8 @@ fn is_answered(one: &mut Service, now: u64, ask: &Ask) -> bool {
     }
 }
 
-/// The services of nodes 1 and 2.
-#[derive(Drop)]
-struct Pair {
-    client: Service,
-    server: Service,
-}
-
-/// What is asked of one of them, or the frames that wait at one are taken by the other at a moment.
+/// What is asked of the client, node 1, or the server, node 2; or the frames that wait at one are taken by the other
+/// at a moment.
 enum Step {
     Client(u64, Ask),
     Server(u64, Ask),
@@ -269,8 +263,7 @@ fn hands_over(one: &mut Service, two: &mut Service, now: u64) -> bool {
 }
 
 /// Whether a step goes as it says.
-fn goes(pair: &mut Pair, step: &Step) -> bool {
-    let Pair { client, server } = pair;
+fn goes(client: &mut Service, server: &mut Service, step: &Step) -> bool {
     match step {
         Step::Client(now, ask) => is_answered(client, *now, ask),
         Step::Server(now, ask) => is_answered(server, *now, ask),
@@ -279,16 +272,25 @@ fn goes(pair: &mut Pair, step: &Step) -> bool {
     }
 }
 
-fn opened(rt: &impl Abort, alloc: Global, again: Option<u64>) -> Result<Pair, NoMemory> {
-    Ok(Pair {
-        client: open(rt, alloc, 1, again)?,
-        server: open(rt, alloc, 2, None)?,
-    })
+/// Both name their ports, and each step goes as it says.
+fn go(rt: &impl Abort, client: &mut Service, server: &mut Service, steps: &[Step]) {
+    assert!(rt; names_ports(client).is_ok() && names_ports(server).is_ok());
+    for (place, step) in steps.iter().enumerate() {
+        let is = goes(client, server, step);
+        assert!(rt; is, "step {place}");
+    }
 }
 
-fn names_ports_of(pair: &mut Pair) -> bool {
-    let Pair { client, server } = pair;
-    names_ports(client).is_ok() && names_ports(server).is_ok()
+/// Each step of the client and of a server, which is opened, goes as it says.
+fn follows_beside(
+    rt: &impl Abort,
+    alloc: Global,
+    client: &mut Service,
+    steps: &[Step],
+) -> Result<(), NoMemory> {
+    let mut server = open(rt, alloc, 2, None)?;
+    go(rt, client, &mut server, steps);
+    Ok(())
 }
 
 /// Each step goes as it says, where the client starts again at a moment or for the first time.
@@ -298,14 +300,8 @@ fn follows(
     again: Option<u64>,
     steps: &[Step],
 ) -> Result<(), NoMemory> {
-    let mut pair = opened(rt, alloc, again)?;
-    let has_ports = names_ports_of(&mut pair);
-    assert!(rt; has_ports);
-    for (place, step) in steps.iter().enumerate() {
-        let is = goes(&mut pair, step);
-        assert!(rt; is, "step {place}");
-    }
-    Ok(())
+    let mut client = open(rt, alloc, 1, again)?;
+    follows_beside(rt, alloc, &mut client, steps)
 }
 
 /// The request is handed out once, and takes one reply.
