@@ -1,13 +1,23 @@
-//! Tests of the parts that stand on nothing of the protocol: parameters and numbers, queues, tables of
-//! cases, deadlines, reports, ledgers and shelves.
+//! Tests of the lowest parts: parameters and numbers, queues, tables of cases, deadlines, packets, their limits and the
+//! frames that hold them, reports, ledgers and shelves.
 #![tactic(auto)]
 
 #[cfg(test)]
 mod cases;
 #[cfg(test)]
+mod frames;
+#[cfg(test)]
+mod gram_octets;
+#[cfg(test)]
 mod items;
 #[cfg(test)]
 mod ledgers;
+#[cfg(test)]
+mod octets;
+#[cfg(test)]
+mod packet_limits;
+#[cfg(test)]
+mod packets;
 #[cfg(test)]
 mod reports;
 #[cfg(test)]

@@ -5,7 +5,6 @@ use dt_layout::{Frame, Packet, write_frame};
 use dt_shelf::{Shelf, Taken};
 use dt_units::{Flow, NodeId};
 use std::process::Abort;
-use std::test::Fail;
 
 // Data of a flow from node 1 to node 2.
 fn packet(rt: &impl Abort, life: u32, number: u32) -> Frame
@@ -33,9 +32,17 @@ const FLOW: Flow = Flow {
     to_port: 20,
 };
 
+/// Whether the packet that is taken at 20 came on link 1, and is these octets.
+fn is_taken(shelf: &mut Shelf, octets: &[u8]) -> bool {
+    match shelf.take(&FLOW, 4, 20) {
+        Some(Taken::Again { link, frame }) => link == 1 && frame.as_slice() == octets,
+        _ => false,
+    }
+}
+
 #[test]
-fn a_packet_is_held_and_taken(rt: HostRuntime) -> Result<(), Fail> {
-    let mut shelf = Shelf::with_room(rt.alloc(), 1).ok().ok_or("memory")?;
+fn a_packet_is_held_and_taken(rt: HostRuntime) {
+    let mut shelf = Shelf::with_room(rt.alloc(), 1).expect(&rt, "memory");
     assert!(rt; shelf.take(&FLOW, 4, 5).is_none());
     let frame = packet(&rt, 100, 4);
     assert!(rt; shelf.hold(1, FLOW, 4, &frame, 10));
@@ -43,30 +50,16 @@ fn a_packet_is_held_and_taken(rt: HostRuntime) -> Result<(), Fail> {
     // It was there for 10 ms, so 89 are left.
     let octets: &[u8] =
         b"\x01\x01\x00\x12\x00\x00\x00\x59\x00\x00\x00\x01\x00\x00\x00\x02\x01\x04\x00\x0a\x00\x14\x00\x00\x00\x04\x00\x00\x00\x00abcd";
-    match shelf.take(&FLOW, 4, 20) {
-        Some(Taken::Again { link, frame }) => {
-            assert!(rt; link == 1);
-            assert!(rt; frame.as_slice() == octets);
-        }
-        _ => return Err("nothing".into()),
-    }
-    Ok(())
+    assert!(rt; is_taken(&mut shelf, octets));
 }
 
 /// One that was put there at a later moment was there for no time, and pays the one millisecond.
 #[test]
-fn a_later_moment_counts_as_no_time(rt: HostRuntime) -> Result<(), Fail> {
-    let mut shelf = Shelf::with_room(rt.alloc(), 1).ok().ok_or("memory")?;
+fn a_later_moment_counts_as_no_time(rt: HostRuntime) {
+    let mut shelf = Shelf::with_room(rt.alloc(), 1).expect(&rt, "memory");
     let frame = packet(&rt, 100, 4);
     assert!(rt; shelf.hold(1, FLOW, 4, &frame, 30));
     let octets: &[u8] =
         b"\x01\x01\x00\x12\x00\x00\x00\x63\x00\x00\x00\x01\x00\x00\x00\x02\x01\x04\x00\x0a\x00\x14\x00\x00\x00\x04\x00\x00\x00\x00abcd";
-    match shelf.take(&FLOW, 4, 20) {
-        Some(Taken::Again { link, frame }) => {
-            assert!(rt; link == 1);
-            assert!(rt; frame.as_slice() == octets);
-        }
-        _ => return Err("nothing".into()),
-    }
-    Ok(())
+    assert!(rt; is_taken(&mut shelf, octets));
 }
