@@ -1,5 +1,5 @@
 //! Wires over sockets of this machine.
-use crate::fixtures::{
+use crate::sockets::{
     ROOM, closed, free_port, local, open, passes, plain, socket_address, taken, takes,
 };
 use dt_edges::{Peer, Wire};

@@ -1,5 +1,5 @@
 //! The machine's clock, alone and beside a wire.
-use crate::fixtures::{ROOM, TRIES, closed, free_port, open, plain, takes};
+use crate::sockets::{ROOM, TRIES, closed, free_port, open, plain, takes};
 use dt_edges::{Clock, Wire};
 use dt_machine::{MachineClock, Moments, UdpWire};
 use std::thread;
