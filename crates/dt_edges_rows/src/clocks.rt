@@ -6,7 +6,7 @@ use std::test::Fail;
 fn a_clock_repeats_its_last_reading(rt: HostRuntime) -> Result<(), Fail> {
     let mut clock = MemClock::new(rt.alloc(), &[1000, 1040])?;
     for reading in [1000, 1040, 1040] {
-        assert_eq!(rt; clock.now(), reading);
+        assert!(rt; clock.now() == reading);
     }
     Ok(())
 }

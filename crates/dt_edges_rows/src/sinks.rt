@@ -16,15 +16,15 @@ fn puts<K: Sink>(rt: &impl Abort, sink: &mut K, rows: &[Put]) {
         match row {
             Put::Once(piece, answer) => {
                 assert!(rt; !piece.is_empty());
-                assert_eq!(rt; sink.put(piece), *answer);
+                assert!(rt; sink.put(piece) == *answer);
             }
-            Put::All(text, answer) => assert_eq!(rt; put_all(text, sink), *answer),
+            Put::All(text, answer) => assert!(rt; put_all(text, sink) == *answer),
         }
     }
 }
 
 /// The third call fails, and there is room for eight octets.
-const IN_MEMORY: [Put; 5] = [
+static IN_MEMORY: [Put; 5] = [
     Put::All(b"", Ok(())),
     Put::All(b"abc", Ok(())),
     Put::All(b"def", Ok(())),
@@ -32,7 +32,7 @@ const IN_MEMORY: [Put; 5] = [
     Put::All(b"ghi", Err(Failed)),
 ];
 
-const OVER_A_WRITER: [Put; 5] = [
+static OVER_A_WRITER: [Put; 5] = [
     Put::Once(b"hello", Ok(2)),
     Put::Once(b"llo", Err(Failed)),
     Put::Once(b"llo", Ok(2)),
@@ -41,13 +41,13 @@ const OVER_A_WRITER: [Put; 5] = [
 ];
 
 /// With room for one octet.
-const OVER_A_FULL_WRITER: [Put; 2] = [Put::Once(b"xy", Ok(1)), Put::Once(b"y", Err(Failed))];
+static OVER_A_FULL_WRITER: [Put; 2] = [Put::Once(b"xy", Ok(1)), Put::Once(b"y", Err(Failed))];
 
 #[test]
 fn a_sink_takes_what_there_is_room_for(rt: HostRuntime) -> Result<(), Fail> {
     let mut sink = MemSink::new(rt.alloc(), 8, &[3])?;
     puts(&rt, &mut sink, &IN_MEMORY);
-    assert_eq!(rt; sink.as_slice(), b"abcdefgh".as_slice());
+    assert!(rt; sink.as_slice() == b"abcdefgh".as_slice());
     Ok(())
 }
 
@@ -55,7 +55,7 @@ fn a_sink_takes_what_there_is_room_for(rt: HostRuntime) -> Result<(), Fail> {
 fn a_writer_is_a_sink(rt: HostRuntime) {
     let mut sink = WriterSink::new(Rough::new(Vec::<u8>::new(rt.alloc())));
     puts(&rt, &mut sink, &OVER_A_WRITER);
-    assert_eq!(rt; sink.get_ref().calm.as_slice(), b"hello!!".as_slice());
+    assert!(rt; sink.get_ref().calm.as_slice() == b"hello!!".as_slice());
 }
 
 #[test]
@@ -78,8 +78,8 @@ fn a_buffer_passes_on(rt: HostRuntime) -> Result<(), Fail> {
     for _ in 0..4 {
         assert!(rt; is_buffered(&[7; 3000], &mut sink, &mut buffer));
     }
-    assert_eq!(rt; buffer.pass_on(&mut sink), Ok(()));
-    assert_eq!(rt; sink.as_slice().len(), 12_000);
+    assert!(rt; buffer.pass_on(&mut sink) == Ok(()));
+    assert!(rt; sink.as_slice().len() == 12_000);
     Ok(())
 }
 

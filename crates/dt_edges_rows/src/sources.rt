@@ -11,20 +11,20 @@ fn takes<S: Source>(rt: &impl Abort, source: &mut S, most: usize, rows: &[Take])
     let mut buf = [0; 8];
     assert!(rt; 0 < most && most <= 8);
     for (answer, first) in rows {
-        assert_eq!(rt; source.take(&mut buf[..most]), *answer);
+        assert!(rt; source.take(&mut buf[..most]) == *answer);
         assert!(rt; buf.starts_with(first));
     }
 }
 
 /// The second fails.
-const IN_MEMORY: [Take; 4] = [
+static IN_MEMORY: [Take; 4] = [
     (Ok(3), b"hel"),
     (Err(Failed), b"hel"),
     (Ok(2), b"lol"),
     (Ok(0), b"lol"),
 ];
 
-const OVER_A_READER: [Take; 6] = [
+static OVER_A_READER: [Take; 6] = [
     (Ok(2), b"he"),
     (Err(Failed), b""),
     (Ok(2), b"ll"),

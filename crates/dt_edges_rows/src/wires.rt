@@ -56,7 +56,7 @@ fn goes(rt: &impl Abort, wire: &mut MemWire, steps: &[Step]) {
 }
 
 /// The second take fails.
-const TAKES: [Step; 9] = [
+static TAKES: [Step; 9] = [
     Step::Take(1, Ok(None), [0; 4]),
     Step::Add(7, b"hello"),
     Step::AddNothing,
@@ -76,7 +76,7 @@ fn a_wire_takes_what_was_added(rt: HostRuntime) -> Result<(), Fail> {
 }
 
 /// The first give fails, and there is room for four octets.
-const GIVES: [Step; 7] = [
+static GIVES: [Step; 7] = [
     Step::Give(1, b"abc", Err(Failed)),
     Step::Give(1, b"abc", Ok(())),
     Step::Give(1, b"de", Err(Failed)),
@@ -94,7 +94,7 @@ fn a_wire_keeps_what_it_has_room_for(rt: HostRuntime) -> Result<(), Fail> {
 }
 
 /// A wire without room keeps nothing.
-const KEEPS_NOTHING: [Step; 2] = [Step::Give(1, b"abc", Ok(())), Step::Given(0, None)];
+static KEEPS_NOTHING: [Step; 2] = [Step::Give(1, b"abc", Ok(())), Step::Given(0, None)];
 
 const LOCAL: Address = Address {
     ip: [127, 0, 0, 1],
