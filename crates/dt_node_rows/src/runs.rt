@@ -5,7 +5,6 @@ use dt_edges::{MemClock, MemSink, MemWire};
 use dt_node::{NodeOutcome, serve, serve_traced};
 use std::alloc::Global;
 use std::process::Abort;
-use std::test::Fail;
 
 /// The parts of a row.
 #[derive(Clone, Copy)]
@@ -33,52 +32,46 @@ fn row_of(text: &str) -> Row<'_> {
 }
 
 /// The numbers of the calls of a kind that fail: `take 2` is the second take.
-fn failing(alloc: Global, kind: &str, fails: &str) -> Result<Vec<u64>, Fail> {
+fn failing(alloc: Global, kind: &str, fails: &str) -> Option<Vec<u64>> {
     let mut numbers = Vec::new(alloc);
     match fails.split_once(' ') {
-        Some((of, number)) if of == kind => numbers.push(number.parse::<u64>()?)?,
+        Some((of, number)) if of == kind => numbers.push(number.parse::<u64>().ok()?).ok()?,
         _ => {}
     }
-    Ok(numbers)
+    Some(numbers)
 }
 
-/// A wire on which the datagrams of these names come.
-fn wire_of(alloc: Global, takes: &str, fails: &str) -> Result<MemWire, Fail> {
-    let failing_takes = failing(alloc, "take", fails)?;
-    let failing_gives = failing(alloc, "give", fails)?;
-    let open_fails = fails == "open";
-    let wire = MemWire::new(
-        alloc,
-        open_fails,
-        &failing_takes,
-        &failing_gives,
-        Some(1000),
-    )?;
-    adds(wire, takes)
+/// A wire on which nothing comes.
+fn calm_wire(alloc: Global, fails: &str) -> Option<MemWire> {
+    let takes = failing(alloc, "take", fails)?;
+    let gives = failing(alloc, "give", fails)?;
+    MemWire::new(alloc, fails == "open", &takes, &gives, Some(1000)).ok()
 }
 
-/// The wire with what comes on it.
-fn adds(mut wire: MemWire, takes: &str) -> Result<MemWire, Fail> {
+/// Whether the datagrams of these names are to come on the wire.
+fn are_added(wire: &mut MemWire, takes: &str) -> bool {
     for name in takes.split(',') {
-        match datagram(name) {
-            Some(octets) => wire.add_take(1, octets)?,
-            None if name == "-" => wire.add_nothing()?,
-            None => {}
+        let is_added = match datagram(name) {
+            Some(octets) => wire.add_take(1, octets).is_ok(),
+            None => name != "-" || wire.add_nothing().is_ok(),
+        };
+        if !is_added {
+            return false;
         }
     }
-    Ok(wire)
+    true
 }
 
 /// A clock with these readings.
-fn clock_of(alloc: Global, readings: &str) -> Result<MemClock, Fail> {
+fn clock_of(alloc: Global, readings: &str) -> Option<MemClock> {
     let mut moments = Vec::new(alloc);
     for reading in readings.split(' ') {
-        moments.push(reading.parse::<u64>()?)?;
+        moments.push(reading.parse::<u64>().ok()?).ok()?;
     }
     if moments.is_empty() {
-        return Err("no reading".into());
+        return None;
     }
-    Ok(MemClock::new(alloc, &moments)?)
+    MemClock::new(alloc, &moments).ok()
 }
 
 /// Runs a script for its log, or for its trace.
@@ -141,70 +134,88 @@ fn are_given(wire: &MemWire, names: &str) -> bool {
             .all(|(number, name)| is_given(wire, number, name))
 }
 
+/// What a run goes over.
+#[derive(Drop)]
+struct Forms {
+    wire: MemWire,
+    clock: MemClock,
+    out: MemSink,
+}
+
+impl Forms {
+    /// The wire and the clock of a row, and a sink of so much room.
+    fn new(alloc: Global, row: &Row<'_>, room: usize) -> Option<Forms> {
+        Some(Forms {
+            wire: calm_wire(alloc, row.fails)?,
+            clock: clock_of(alloc, row.readings)?,
+            out: MemSink::new(alloc, room, &[]).ok()?,
+        })
+    }
+
+    /// Whether the run of a row ends as it says.
+    fn end(&mut self, alloc: Global, traced: bool, row: &Row<'_>) -> bool {
+        let Forms { wire, clock, out } = self;
+        let script = script(row.script).as_bytes();
+        are_added(wire, row.takes)
+            && is_named(run(alloc, traced, script, wire, clock, out), row.outcome)
+            && are_lines(out.as_slice(), row.text)
+            && are_given(wire, row.gives)
+    }
+}
+
 /// Whether a run ends as its row says, with a sink of so much room.
-fn ends(
-    alloc: Global,
-    traced: bool,
-    row: &Row<'_>,
-    room: usize,
-    outcome: &str,
-    text: &str,
-) -> Result<bool, Fail> {
-    let mut wire = wire_of(alloc, row.takes, row.fails)?;
-    let mut clock = clock_of(alloc, row.readings)?;
-    let mut out = MemSink::new(alloc, room, &[])?;
-    let script = script(row.script).as_bytes();
-    let ended = run(alloc, traced, script, &mut wire, &mut clock, &mut out);
-    Ok(is_named(ended, outcome) && are_lines(out.as_slice(), text) && are_given(&wire, row.gives))
+fn ends(alloc: Global, traced: bool, row: &Row<'_>, room: usize) -> bool {
+    match Forms::new(alloc, row, room) {
+        Some(mut forms) => forms.end(alloc, traced, row),
+        None => false,
+    }
 }
 
 /// Each row ends as it says.
-fn end(rt: &impl Abort, alloc: Global, traced: bool, rows: &str) -> Result<(), Fail> {
+fn end(rt: &impl Abort, alloc: Global, traced: bool, rows: &str) {
     for text in rows.split('\n') {
-        let row = row_of(text);
-        let is = ends(alloc, traced, &row, 1000, row.outcome, row.text)?;
+        let is = ends(alloc, traced, &row_of(text), 1000);
         assert!(rt; is, "{text}");
     }
-    Ok(())
 }
 
 #[test]
-fn each_node_hears_the_other(rt: HostRuntime) -> Result<(), Fail> {
-    end(&rt, rt.alloc(), false, LOGS)
+fn each_node_hears_the_other(rt: HostRuntime) {
+    end(&rt, rt.alloc(), false, LOGS);
 }
 
 #[test]
-fn failures_and_a_still_clock_are_told(rt: HostRuntime) -> Result<(), Fail> {
-    end(&rt, rt.alloc(), false, FAILURES)
+fn failures_and_a_still_clock_are_told(rt: HostRuntime) {
+    end(&rt, rt.alloc(), false, FAILURES);
 }
 
 #[test]
-fn data_that_came_too_early_are_handed_in_again(rt: HostRuntime) -> Result<(), Fail> {
-    end(&rt, rt.alloc(), false, SHELVES)
+fn data_that_came_too_early_are_handed_in_again(rt: HostRuntime) {
+    end(&rt, rt.alloc(), false, SHELVES);
 }
 
 #[test]
-fn a_trace_has_what_came_and_what_failed(rt: HostRuntime) -> Result<(), Fail> {
-    end(&rt, rt.alloc(), true, TRACES)
+fn a_trace_has_what_came_and_what_failed(rt: HostRuntime) {
+    end(&rt, rt.alloc(), true, TRACES);
 }
 
 /// With each room that is less than the log, the run ends with as much of it.
 #[test]
-fn a_full_sink_ends_the_run(rt: HostRuntime) -> Result<(), Fail> {
+fn a_full_sink_ends_the_run(rt: HostRuntime) {
     let row = row_of(ACKNOWLEDGED);
     for room in 0..row.text.len() {
-        let part = row.text.get(..room).unwrap_or("");
-        let is = ends(rt.alloc(), false, &row, room, "write", part)?;
-        assert!(rt; is, "{room}");
+        let cut = Row {
+            outcome: "write",
+            text: row.text.get(..room).unwrap_or(""),
+            ..row
+        };
+        assert!(rt; ends(rt.alloc(), false, &cut, room), "{room}");
     }
-    Ok(())
 }
 
 /// The line on standard output for a wire that didn't open doesn't fit.
 #[test]
-fn a_full_sink_ends_a_trace(rt: HostRuntime) -> Result<(), Fail> {
+fn a_full_sink_ends_a_trace(rt: HostRuntime) {
     let row = row_of("first|1000 1040 1100|ack,-|open|write||! 0");
-    let is = ends(rt.alloc(), true, &row, 3, row.outcome, row.text)?;
-    assert!(rt; is);
-    Ok(())
+    assert!(rt; ends(rt.alloc(), true, &row, 3));
 }
