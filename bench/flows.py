@@ -23,7 +23,7 @@ FEW = 20
 MANY = 20_000
 ROOMS = (64, 4096)
 ROUNDS = 3600
-RUNS = 3
+RUNS = 25
 RELEASED = (2_000, 20_000)
 # from here on all ports have five digits, so that a schedule on few flows has as many octets as one on many
 FIRST_PORT = 10_000
@@ -64,26 +64,32 @@ def run(binary, path):
     return time.monotonic() - begun, usage.ru_maxrss * 1024, os.waitstatus_to_exitcode(status)
 
 
-def measure(binary, flows, room, rounds=ROUNDS, end=""):
-    """The least seconds of some runs, or None where one isn't accepted. Prints a row."""
-    with tempfile.NamedTemporaryFile("w", suffix=".schedule") as file:
-        lines = schedule(flows, room, rounds, file) + end.count("\n")
-        file.write(end)
-        file.flush()
-        runs = [run(binary, file.name) for _ in range(RUNS)]
-    seconds = min(seconds for seconds, _, _ in runs)
-    peak = max(peak for _, peak, _ in runs)
-    statuses = {status for _, _, status in runs}
-    print(f"{room:4}  {flows:5}  {lines:6}  {seconds:7.2f}  {peak / 1e6:7.1f}  {max(statuses)}")
-    return seconds if statuses == {0} else None
+def measure(binary, *wanted):
+    """The least seconds of some runs of each schedule, or None of one that isn't accepted. The runs take turns, since the speed of a
+    machine that others share changes within seconds. What is wanted is flows, room, rounds and an end. Prints a row each."""
+    with tempfile.TemporaryDirectory() as folder:
+        paths = [os.path.join(folder, f"{i}.schedule") for i in range(len(wanted))]
+        lines = []
+        for path, (flows, room, rounds, end) in zip(paths, wanted):
+            with open(path, "w", encoding="ascii") as file:
+                lines.append(schedule(flows, room, rounds, file) + end.count("\n"))
+                file.write(end)
+        turns = [[run(binary, path) for path in paths] for _ in range(RUNS)]
+    least = []
+    for (flows, room, _, _), count, runs in zip(wanted, lines, zip(*turns)):
+        seconds = min(seconds for seconds, _, _ in runs)
+        peak = max(peak for _, peak, _ in runs)
+        statuses = {status for _, _, status in runs}
+        print(f"{room:4}  {flows:5}  {count:6}  {seconds:7.2f}  {peak / 1e6:7.1f}  {max(statuses)}")
+        least.append(seconds if statuses == {0} else None)
+    return least
 
 
 def release(binary, flows):
     """The seconds that a flow's release takes, where one tick of either node releases so many, or None
     where a schedule isn't accepted."""
     room, rounds = ROOMS[0], flows // FEW
-    stand = measure(binary, flows, room, rounds)
-    gone = measure(binary, flows, room, rounds, f"pass {QUIET}\ntick 1\ntick 2\n")
+    stand, gone = measure(binary, (flows, room, rounds, ""), (flows, room, rounds, f"pass {QUIET}\ntick 1\ntick 2\n"))
     # by chance the difference of two measured times may be none
     return None if stand is None or gone is None else max(gone - stand, 1e-6) / flows
 
@@ -92,7 +98,7 @@ def main():
     binary = program()
     print("room  flows  lines   seconds  peak MB  status")
     for room in ROOMS:
-        few, many = measure(binary, FEW, room), measure(binary, MANY, room)
+        few, many = measure(binary, (FEW, room, ROUNDS, ""), (MANY, room, ROUNDS, ""))
         if few is None or many is None:
             return 1
         print(f"factor {many / few:.2f}")
