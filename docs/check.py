@@ -15,7 +15,7 @@ It refuses, each with page and line:
 - a list of docs/headline.md that differs from the definitions that its sentences rest on;
 - a file of a crate that says nothing of itself, so that docs/files.py would list it without a word;
 - a script that can't be run as the pages say, since it isn't executable;
-- a must-fail edit whose text doesn't stand once in its file: `rt ci` counts it for nothing, and passes;
+- a must-fail edit whose text doesn't stand once in its file: the `rt ci` of some kits counts it for nothing, and passes;
 - an answer that says that it refuses an edit which isn't there.
 
 Usage: docs/check.py            compares
