@@ -1,3 +1,4 @@
+use Rattle.std.proofs.Common.{rules}
 use Rattle.std.proofs.lemmas.Result.{err_from_is_err_and}
 use Rattle.dt_edges.proofs.Puts.{takes_as, takes_then}
 use Rattle.dt_fold.specs.Folds.{refusal}
@@ -15,3 +16,7 @@ pub returns-in_ok-refuse-in-Some-clause-logs : goal.returns-in_ok-refuse-in-Some
 returns-in_ok-refuse-in-Some-clause-logs g c =
     let f = rw c.in-Some.is at c.in_ok-fold_lines.ensures in
     takes_as _ _ _ _ f.2.2 (takes_then f.2.0 (refusal c.in-Some.number c.in-Some.fault) _ _ _ f.2.1 c.in_ok-refuse-in-Some.ensures)
+
+-- refused here: refused_input_is_accepted
+pub returns-in_ok-refuse-in-Some-clause-accepted : goal.returns-in_ok-refuse-in-Some-clause-accepted
+returns-in_ok-refuse-in-Some-clause-accepted g c = search rules
