@@ -16,7 +16,8 @@ It refuses, each with page and line:
 - a file of a crate that says nothing of itself, so that docs/files.py would list it without a word;
 - a script that can't be run as the pages say, since it isn't executable;
 - a must-fail edit whose text doesn't stand once in its file: the `rt ci` of some kits counts it for nothing, and passes;
-- an answer that says that it refuses an edit which isn't there.
+- two edits of a crate, or a planted bug without a name;
+- an answer that says that it refuses a bug which isn't planted.
 
 Usage: docs/check.py            compares
        docs/check.py write      writes the "stands on" column, the files that a new line costs, docs/clauses.md and the
@@ -91,6 +92,8 @@ def known_words() -> frozenset[str]:
     for name in files():
         words.add(Path(name).stem)
         words.add(Path(name).name)
+    for crate in (TOP / "crates").iterdir():
+        words.update(bugs(crate.name))
     return frozenset(words)
 
 
@@ -533,13 +536,34 @@ def check_files() -> Iterator[Complaint]:
                 yield Complaint(path, 1, "nothing says what the file has")
 
 
+PLANTED = Path("must-fail", "planted.edit")
+BUG = "# "
+
+
+@cache
+def bugs(crate: str) -> frozenset[str]:
+    """The names of a crate's planted bugs."""
+    edit = TOP / "crates" / crate / PLANTED
+    lines = edit.read_text().splitlines() if edit.is_file() else []
+    return frozenset(it.removeprefix(BUG) for it in lines if it.startswith(BUG))
+
+
 def check_edits() -> Iterator[Complaint]:
-    """Each pair of an edit applies to what the earlier ones made."""
+    """The bugs of a crate stand in one file, each below its name, and each pair applies to what the earlier ones made."""
     for edit in sorted((TOP / "crates").glob("*/must-fail/*.edit")):
-        path, made = edit, {}
+        if edit.name != PLANTED.name:
+            yield Complaint(edit, 1, f"a crate's bugs stand in {PLANTED}")
+        path, made, names = edit, {}, set()
         olds = 0
         for number, line in enumerate(edit.read_text().splitlines(), 1):
             key, _, words = line.partition(": ")
+            if line.startswith(BUG):
+                path = edit
+                if line in names:
+                    yield Complaint(edit, number, "a bug above has this name")
+                names.add(line)
+            if key == "file" and not names:
+                yield Complaint(edit, number, "the bug has no name")
             match key:
                 case "file":
                     path = edit.parent.parent / words
@@ -562,12 +586,12 @@ REFUSED = "-- refused here: "
 
 
 def check_refusals() -> Iterator[Complaint]:
-    """The edits that an answer says it refuses."""
+    """The bugs that an answer says it refuses."""
     for path in sources("proofs"):
         for number, line in enumerate(text_of(path).splitlines(), 1):
-            for edit in line.removeprefix(REFUSED).split(", ") if line.startswith(REFUSED) else ():
-                if not (TOP / "crates" / path.relative_to(TOP / "crates").parts[0] / "must-fail" / f"{edit}.edit").is_file():
-                    yield Complaint(path, number, f"there is no edit {edit}")
+            for name in line.removeprefix(REFUSED).split(", ") if line.startswith(REFUSED) else ():
+                if name not in bugs(path.relative_to(TOP / "crates").parts[0]):
+                    yield Complaint(path, number, f"there is no bug {name}")
 
 
 SCRIPTS = ("tests", "tools", "bench", "lib", "docs", "release", "examples", "conformance")

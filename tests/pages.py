@@ -35,7 +35,10 @@ SPOILT = [
     ("a name that nothing has", "docs/protocol.md", "\n", "\nThe function `" + "_".join(["nobody", "wrote", "this"]) + "` does it.\n"),
     ("a list of the headline that differs", "docs/headline.md", "| crates/dt_flow_model/specs/Safe.antt | 42 |", "| crates/dt_flow_model/specs/Safe.antt | 41 |"),
     ("a file that says nothing of itself", "crates/dt_relay/proofs/Links.antt", "-- Out links by", "use Out links by"),
-    ("an edit that can't be applied", "crates/dt_endpoint/must-fail/clock_that_goes_back_is_followed.edit", "(MOST_MOMENT))", "(MOST_MOMENTS))"),
+    ("a bug that can't be planted", "crates/dt_endpoint/must-fail/planted.edit", "(MOST_MOMENT))", "(MOST_MOMENTS))"),
+    ("two bugs of one name", "crates/dt_recv/must-fail/planted.edit", "# skip_is_not_marked\n", "# released_early\n"),
+    ("a bug without a name", "crates/dt_cases/must-fail/planted.edit", "# covers_stops_one_key_early\n", ""),
+    ("an answer for a bug that isn't planted", "crates/dt_recv/proofs/records/paid/Answers.antt", "-- refused here: ", "-- refused here: nothing_"),
 ]
 
 

@@ -82,7 +82,8 @@ pub fn run_turns<W: Wire, C: Clock, K: Sink>(
         Serves run.old.recorder.writer.form (orders_seen orders.now) result (seen wire.old clock.old out.old) (seen wire.new clock.new out.new) }
     ensures memory { result ≡ outcome.NoMemory → run.new.node.dock.station.spent ≡ true }
 {
-    if let Err(_) = wire.open(orders.setup.local, &orders.setup.peers) {
+    let peers = &orders.setup.peers;
+    if let Err(_) = wire.open(orders.setup.local, peers) {
         return fail(&Input::FailedOpen, out, &mut run.recorder);
     }
     let mut octets = [0; MOST_TAKEN];
