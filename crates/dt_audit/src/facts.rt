@@ -3,7 +3,7 @@ use dt_units::Flow;
 /// What a line of a log says of octets and of lives: how many octets a flow took, sent, had
 /// acknowledged, gave up and had accepted; and in which life a node began again. Any other line
 /// says nothing of them.
-#[derive(Clone, Copy, Debug, PartialEq, Eq)]
+#[derive(Clone, Copy)]
 pub enum Fact {
     /// A send was taken: `count` octets.
     Took {

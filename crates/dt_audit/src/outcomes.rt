@@ -1,5 +1,5 @@
 /// How an audit ends.
-#[derive(Clone, Copy, Debug, PartialEq, Eq)]
+#[derive(Clone, Copy)]
 pub enum AuditOutcome {
     /// No line has a flaw. `audit yes` is written.
     Yes,

@@ -2,7 +2,7 @@
 use dt_units::Flow;
 
 /// What is reported of a call, which has this number.
-#[derive(Clone, Copy, Debug, PartialEq, Eq)]
+#[derive(Clone, Copy)]
 pub enum CallLine<'a> {
     /// It is made, with a payload of `count` octets.
     Call { call: u64, flow: Flow, count: u32 },

@@ -17,7 +17,7 @@ pub trait Handler {
 }
 
 /// Answers a payload with its octets in reversed order.
-#[derive(Clone, Copy, Debug, PartialEq, Eq)]
+#[derive(Clone, Copy)]
 pub struct Reversing;
 
 impl Handler for Reversing {

@@ -6,7 +6,7 @@ ghost use Rattle.dt_calls.specs.Totals.{totals_seen};
 use dt_calls_model::{Call, CallState};
 
 /// How many calls there are, how many of them were served, and how many stand in each state.
-#[derive(Clone, Copy, Debug, PartialEq, Eq)]
+#[derive(Clone, Copy)]
 pub struct CallTotals {
     pub calls: u64,
     pub served: u64,

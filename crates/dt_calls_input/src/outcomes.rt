@@ -1,5 +1,5 @@
 /// How the reading of an input of calls ends.
-#[derive(Clone, Copy, Debug, PartialEq, Eq)]
+#[derive(Clone, Copy)]
 pub enum CallsOutcome {
     /// No line is refused, and all that is reported is written.
     Done,

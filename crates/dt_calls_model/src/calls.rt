@@ -1,7 +1,7 @@
 use dt_units::Flow;
 
 /// What is known of a call at its client.
-#[derive(Clone, Copy, Debug, PartialEq, Eq)]
+#[derive(Clone, Copy)]
 pub enum CallState {
     /// It was sent, and there is no answer yet.
     Waiting,
@@ -15,7 +15,7 @@ pub enum CallState {
 }
 
 /// What became of a message that was handed in to be sent.
-#[derive(Clone, Copy, Debug, PartialEq, Eq)]
+#[derive(Clone, Copy)]
 pub enum Posted {
     /// Its `count` octets were taken. In the ledger of its flow they stand from `place` on.
     Taken { place: u64, count: u32 },
@@ -24,7 +24,7 @@ pub enum Posted {
 }
 
 /// A call: its request goes on its flow, and its reply on the flow the other way.
-#[derive(Clone, Copy, Debug, PartialEq, Eq)]
+#[derive(Clone, Copy)]
 pub struct Call {
     pub flow: Flow,
     pub state: CallState,

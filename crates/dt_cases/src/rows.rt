@@ -3,7 +3,7 @@ ghost use Rattle.dt_cases.specs.Tables.{meets, actions_at, MeetsOne, EachMeetsOn
 
 /// A row of a table: which keys it meets, and the action at them. It meets a key where `key & mask`
 /// is the value. Where the value has a bit outside the mask, the row meets no key.
-#[derive(Clone, Copy, Debug, PartialEq, Eq)]
+#[derive(Clone, Copy)]
 pub struct Row {
     /// The bits of a key that the row looks at.
     pub mask: u8,

@@ -8,7 +8,7 @@ pub struct Address {
 }
 
 /// The other end of a link, in both directions.
-#[derive(Clone, Copy, Debug, PartialEq, Eq)]
+#[derive(Clone, Copy)]
 pub struct Peer {
     /// The number of the link, 0 to 255.
     pub link: u16,

@@ -1,5 +1,5 @@
 /// What a receiver does with a packet: the outcome of its table of cases.
-#[derive(Clone, Copy, Debug, PartialEq, Eq)]
+#[derive(Clone, Copy)]
 pub enum Action {
     /// Nothing.
     Drop,
@@ -18,7 +18,7 @@ pub enum Action {
 }
 
 /// What a host answers to a packet that came.
-#[derive(Clone, Copy, Debug, PartialEq, Eq)]
+#[derive(Clone, Copy, PartialEq, Eq)]
 pub enum Arrived {
     /// Nothing: the host is silent until this moment of its clock, in milliseconds.
     Quiet { until: u64 },

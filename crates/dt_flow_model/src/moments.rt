@@ -1,7 +1,7 @@
 /// From when on each kind of act of a send record is due, if nothing else is called: readings of the
 /// sending station's clock, in milliseconds. A kind that is due at no moment from now on has none. A
 /// moment that has passed says that the kind is due now.
-#[derive(Clone, Copy, Debug, PartialEq, Eq)]
+#[derive(Clone, Copy, PartialEq, Eq)]
 pub struct SendMoments {
     /// `give` after the first transmission of the leftmost segment.
     pub give_up: Option<u64>,
@@ -17,7 +17,7 @@ pub struct SendMoments {
 
 /// From when on each kind of act of a receive record is due, if nothing else is called: readings of
 /// the receiving station's clock, in milliseconds. Without a record there is no moment.
-#[derive(Clone, Copy, Debug, PartialEq, Eq)]
+#[derive(Clone, Copy, PartialEq, Eq)]
 pub struct RecvMoments {
     /// `receive` after the last acceptance.
     pub release: Option<u64>,

@@ -4,7 +4,7 @@ use dt_edges::Failed;
 use dt_items::NoMemory;
 
 /// Why an input isn't read to its end.
-#[derive(Clone, Copy, Debug, PartialEq, Eq)]
+#[derive(Clone, Copy, Debug)]
 pub enum Stop {
     /// There was no memory.
     NoMemory,

@@ -2,7 +2,7 @@ use dt_flow_model::{RecvAct, SendAct};
 use dt_units::Flow;
 
 /// What a record of a host did.
-#[derive(Clone, Copy, Debug, PartialEq, Eq)]
+#[derive(Clone, Copy, PartialEq, Eq)]
 pub enum Act {
     /// A send record did it.
     Send(SendAct),
@@ -11,7 +11,7 @@ pub enum Act {
 }
 
 /// An act that a host did, and the flow whose record did it.
-#[derive(Clone, Copy, Debug, PartialEq, Eq)]
+#[derive(Clone, Copy, PartialEq, Eq)]
 pub struct Done {
     pub flow: Flow,
     pub act: Act,

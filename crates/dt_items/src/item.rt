@@ -3,7 +3,7 @@ ghost use Rattle.dt_items.specs.Unmarked.{is_unmarked};
 
 /// An octet of a flow with its marks. A message begins at a begin mark and ends with the next end
 /// mark. A run mark says that the receiver doesn't know what stood before the octet.
-#[derive(Clone, Copy, Debug, PartialEq, Eq)]
+#[derive(Clone, Copy)]
 pub struct Item {
     pub octet: u8,
     /// The octet is the first of a message.

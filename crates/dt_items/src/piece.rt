@@ -1,6 +1,6 @@
 /// What a read took: octets of one message, or of one part of a message. An end mark stands only
 /// on the last of them, and a begin or run mark only on the first.
-#[derive(Clone, Copy, Debug, PartialEq, Eq)]
+#[derive(Clone, Copy, PartialEq, Eq)]
 pub struct Piece {
     /// The number of octets, at least 1.
     pub len: usize,

@@ -23,7 +23,7 @@ pub struct Place {
 }
 
 /// A datagram that was handed over.
-#[derive(Clone, Copy, Debug, PartialEq, Eq)]
+#[derive(Clone, Copy)]
 pub struct ReceivedDatagram {
     pub link: u16,
     /// How many of its octets stand first in the buffer.

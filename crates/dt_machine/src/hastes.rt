@@ -16,7 +16,7 @@ const MOST_VAIN: u16 = 1023;
 /// of its own. A peer that has to share this one runs only while the take waits. So looks are tried after
 /// some datagrams running that came soon, and after more of them for each time at which looks were in
 /// vain: none came, or none sooner than at the waits before.
-#[derive(Clone, Copy, Debug, PartialEq, Eq)]
+#[derive(Clone, Copy)]
 pub struct Haste {
     /// How many datagrams running came soon, 65,535 at most.
     soon: u16,

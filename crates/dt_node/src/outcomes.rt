@@ -1,5 +1,5 @@
 /// How a run of a node ends.
-#[derive(Clone, Copy, Debug, PartialEq, Eq)]
+#[derive(Clone, Copy, PartialEq, Eq)]
 pub enum NodeOutcome {
     /// The stop was due, and the whole log is written.
     Done,

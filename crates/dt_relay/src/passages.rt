@@ -1,5 +1,5 @@
 /// What becomes at once of a packet that is to leave a relay.
-#[derive(Clone, Copy, Debug, PartialEq, Eq)]
+#[derive(Clone, Copy, PartialEq, Eq)]
 pub enum Passage {
     /// It leaves on the link, with its life less by one millisecond.
     Leaves { link: u16 },

@@ -17,7 +17,7 @@ use std::marker::Model;
 const MOST_ON_LINK: usize = 64;
 
 /// What became of the first packet that waited on a link.
-#[derive(Debug, Drop)]
+#[derive(Drop)]
 pub enum Left<P> {
     /// It leaves, with its life less by the charge for its time in the queue.
     Out(P),

@@ -1,5 +1,5 @@
 /// How a replay ends.
-#[derive(Clone, Copy, Debug, PartialEq, Eq)]
+#[derive(Clone, Copy)]
 pub enum Outcome {
     /// The schedule is accepted, and its whole log is written.
     Done,

@@ -30,7 +30,7 @@ pub enum LineFault {
 }
 
 /// Why a line of a setup is refused. After any of them the setup is as it was.
-#[derive(Clone, Copy, Debug, PartialEq, Eq, Error)]
+#[derive(Clone, Copy, Debug, Error)]
 pub enum SetupFault {
     /// The station, the link or the route `n` stands already.
     #[error("twice {n}")]
@@ -57,7 +57,7 @@ impl From<NoMemory> for SetupFault {
 }
 
 /// Why an event of the world is refused.
-#[derive(Clone, Copy, Debug, PartialEq, Eq, Error)]
+#[derive(Clone, Copy, Debug, Error)]
 pub enum StepFault {
     /// A flow goes from a station to itself, or isn't one of the station that is asked.
     #[error("bad flow")]
@@ -90,7 +90,7 @@ impl From<NoMemory> for StepFault {
 }
 
 /// Why a line of an input is refused. Want of memory isn't among the texts: it isn't printed.
-#[derive(Clone, Copy, Debug, PartialEq, Eq)]
+#[derive(Clone, Copy, Debug)]
 pub enum Fault {
     /// The line isn't read, or isn't allowed at its place.
     Line(LineFault),

@@ -5,7 +5,7 @@ use crate::reports::Report;
 use dt_units::Flow;
 
 /// How many octets of a flow were taken over all lives of its stations, and what became of them.
-#[derive(Clone, Copy, Debug, PartialEq, Eq)]
+#[derive(Clone, Copy, PartialEq, Eq)]
 pub struct Totals {
     /// Those that the sender took.
     pub taken: u64,

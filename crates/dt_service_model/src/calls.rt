@@ -2,7 +2,7 @@ use crate::names::CallNumber;
 use dt_units::Flow;
 
 /// What a client keeps of a call that has no end yet, or has octets that have no fate yet.
-#[derive(Clone, Copy, Debug, PartialEq, Eq)]
+#[derive(Clone, Copy)]
 pub struct OpenCall {
     pub number: CallNumber,
     /// The flow of the request.

@@ -8,7 +8,7 @@ pub enum PortKind {
 }
 
 /// A port that has a kind.
-#[derive(Clone, Copy, Debug, PartialEq, Eq)]
+#[derive(Clone, Copy)]
 pub struct Port {
     pub port: u16,
     pub kind: PortKind,

@@ -1,5 +1,5 @@
 /// What became of a packet that was taken from a shelf, whose octets are the caller's already.
-#[derive(Clone, Copy, Debug, PartialEq, Eq)]
+#[derive(Clone, Copy)]
 pub enum Handed {
     /// It is there, with its life less by the charge for its time on the shelf. It came on this link.
     Again { link: u16 },

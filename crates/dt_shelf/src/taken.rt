@@ -1,7 +1,7 @@
 use dt_layout::Frame;
 
 /// What became of a packet that was taken from a shelf.
-#[derive(Debug, Drop)]
+#[derive(Drop)]
 pub enum Taken {
     /// It is there, with its life less by the charge for its time on the shelf.
     Again { link: u16, frame: Frame },

@@ -2,7 +2,7 @@ use dt_edges::Address;
 use dt_units::{Flow, Params};
 
 /// What an input is: it says which lines there are, and where each is allowed.
-#[derive(Clone, Copy, Debug, PartialEq, Eq)]
+#[derive(Clone, Copy)]
 pub enum Form {
     /// The input of a whole world: stations, links, and what happens to them.
     Schedule,

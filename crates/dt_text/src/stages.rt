@@ -9,7 +9,7 @@ use dt_reports::{Fault, LineFault};
 pub const MISPLACED: Fault = Fault::Line(LineFault::Order);
 
 /// How far an input has come, by its lines that aren't blank.
-#[derive(Clone, Copy, Debug, PartialEq, Eq)]
+#[derive(Clone, Copy, PartialEq, Eq)]
 pub enum Stage {
     /// Nothing was read yet.
     Start,

@@ -10,7 +10,7 @@ use dt_edges::{Failed, Sink};
 use dt_log::{Word, put_row};
 
 /// What a run of a node takes in from its clock and its wire.
-#[derive(Clone, Copy, Debug, PartialEq, Eq)]
+#[derive(Clone, Copy)]
 pub enum Input<'a> {
     /// A reading of the clock, in ms.
     Reading(u64),

@@ -24,7 +24,7 @@ pub struct Route {
 }
 
 /// What became of a packet that was to enter a relay. A packet that isn't queued is dropped.
-#[derive(Clone, Copy, Debug, PartialEq, Eq)]
+#[derive(Clone, Copy, PartialEq, Eq)]
 pub enum Entered {
     /// It waits on the link.
     Queued { link: u16 },
@@ -35,7 +35,7 @@ pub enum Entered {
 }
 
 /// A link of the world, from one station to another.
-#[derive(Clone, Copy, Debug, PartialEq, Eq)]
+#[derive(Clone, Copy)]
 pub struct Link {
     /// Its number, 0 to 255.
     pub link: u16,
