@@ -3,8 +3,8 @@
 `bench/all --gate-log LOG` reads.
 
 Each line of `rt ci` is written with the seconds since its start before it. Behind its last line stand lines that
-begin with `#`: seconds and seconds of processor in all, those of each part, and those of the crates that take most,
-the dearest first. Proofs, tests and edits are at work side by side, so of a part only processor seconds are told; they
+begin with `#`: seconds and seconds of processor in all, and those that the host of this machine gave to others meanwhile;
+those of each part, and those of the crates that take most, the dearest first. Proofs, tests and edits are at work side by side, so of a part only processor seconds are told; they
 are read from /proc twice a second, so what a process took in its last half second is missing, and counts as other
 work. So does what `rt` itself takes, which reads sources for all."""
 import contextlib
@@ -16,6 +16,10 @@ import sys
 import threading
 import time
 from collections.abc import Iterator
+
+sys.path.insert(0, str(pathlib.Path(__file__).resolve().parent.parent / "tests"))
+
+from lib import stolen
 
 PARTS = ("proofs", "tests", "edits", "programs")
 # those that are a crate's own
@@ -88,7 +92,7 @@ class Taken:
 
 def main() -> int:
     folder = sys.argv[1] if len(sys.argv) > 1 else str(pathlib.Path(__file__).resolve().parent.parent)
-    taken, begun, ended = Taken(), time.monotonic(), threading.Event()
+    taken, begun, ended, before = Taken(), time.monotonic(), threading.Event(), stolen()
     gate = subprocess.Popen(["rt", "ci"], cwd=folder, stdin=subprocess.DEVNULL, stdout=subprocess.PIPE, stderr=subprocess.STDOUT, text=True, errors="replace")
 
     def watch() -> None:
@@ -104,7 +108,7 @@ def main() -> int:
     watching.join()
     used = resource.getrusage(resource.RUSAGE_CHILDREN)
     whole = used.ru_utime + used.ru_stime
-    print(f"# in all {time.monotonic() - begun:.0f} s, {whole:.0f} s of processor, on {len(os.sched_getaffinity(0))} processors")
+    print(f"# in all {time.monotonic() - begun:.0f} s, {whole:.0f} s of processor, on {len(os.sched_getaffinity(0))} processors; {stolen() - before:.0f} s of them went to other machines")
     for part in PARTS:
         print(f"# {part} {taken.of(part):.0f} s of processor")
     print(f"# other {max(whole - sum(taken.of(it) for it in PARTS), 0):.0f} s of processor")

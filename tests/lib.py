@@ -230,3 +230,11 @@ def tell(cases: Sequence[tuple[str, bool, str]]) -> int:
     failed = sum(not holds for _, holds, _ in cases)
     print(f"{len(cases) - failed} of {len(cases)} hold")
     return 1 if failed or not cases else 0
+
+
+def stolen() -> float:
+    """Seconds of this machine's processors that its host has given to other machines since it began, as Linux counts them; nothing
+    where it doesn't tell. A figure of time is that much too great."""
+    with open("/proc/stat", encoding="ascii") as counts:
+        fields = counts.readline().split()
+    return int(fields[8]) / os.sysconf("SC_CLK_TCK") if len(fields) > 8 else 0.0
