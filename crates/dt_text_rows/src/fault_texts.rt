@@ -1,4 +1,5 @@
 //! The text of each fault.
+use crate::forms::holds;
 use crate::writing::{is_refused, is_shown, is_written};
 use dt_layout::LayoutFault;
 use dt_reports::{Fault, LineFault, Report, SetupFault, StepFault};
@@ -48,30 +49,24 @@ fn has_text(alloc: Global, fault: Fault, error: &impl Display, text: &str) -> bo
 #[test]
 fn each_fault_of_a_line_has_its_text(rt: HostRuntime) {
     for (fault, text) in &LINE_FAULTS {
-        assert!(rt;
-            has_text(rt.alloc(), Fault::Line(*fault), fault, text),
-            "{text}"
-        );
+        let is = has_text(rt.alloc(), Fault::Line(*fault), fault, text);
+        holds(&rt, is, text);
     }
 }
 
 #[test]
 fn each_fault_of_a_setup_has_its_text(rt: HostRuntime) {
     for (fault, text) in &SETUP_FAULTS {
-        assert!(rt;
-            has_text(rt.alloc(), Fault::Setup(*fault), fault, text),
-            "{text}"
-        );
+        let is = has_text(rt.alloc(), Fault::Setup(*fault), fault, text);
+        holds(&rt, is, text);
     }
 }
 
 #[test]
 fn each_fault_of_an_event_has_its_text(rt: HostRuntime) {
     for (fault, text) in &STEP_FAULTS {
-        assert!(rt;
-            has_text(rt.alloc(), Fault::Step(*fault), fault, text),
-            "{text}"
-        );
+        let is = has_text(rt.alloc(), Fault::Step(*fault), fault, text);
+        holds(&rt, is, text);
     }
 }
 
@@ -96,7 +91,8 @@ fn each_parameter_has_its_name(rt: HostRuntime) {
             field: *field,
             value: 1,
         };
-        assert!(rt; is_refused(rt.alloc(), Fault::Param(fault), text), "{text}");
+        let is = is_refused(rt.alloc(), Fault::Param(fault), text);
+        holds(&rt, is, text);
     }
 }
 
@@ -119,10 +115,13 @@ static LAYOUT_FAULTS: [(LayoutFault, &str); 9] = [
     (LayoutFault::Size { len: 8193 }, "size 8193"),
 ];
 
-/// Whether octets that don't read have their line.
+/// Whether octets that don't read have their line, and show their text.
 fn is_told(alloc: Global, fault: &LayoutFault, text: &str) -> bool {
     match format!(in alloc; "40 2 bad {text}\n") {
-        Ok(line) => is_written(alloc, Report::Bad { fault: *fault }, line.as_str()),
+        Ok(line) => {
+            is_written(alloc, Report::Bad { fault: *fault }, line.as_str())
+                && is_shown(alloc, fault, text)
+        }
         Err(_) => false,
     }
 }
@@ -130,7 +129,6 @@ fn is_told(alloc: Global, fault: &LayoutFault, text: &str) -> bool {
 #[test]
 fn octets_that_do_not_read_have_their_line(rt: HostRuntime) {
     for (fault, text) in &LAYOUT_FAULTS {
-        assert!(rt; is_told(rt.alloc(), fault, text), "{text}");
-        assert!(rt; is_shown(rt.alloc(), fault, text), "{text}");
+        holds(&rt, is_told(rt.alloc(), fault, text), text);
     }
 }

@@ -1,5 +1,5 @@
 //! The first fault of a line.
-use crate::forms::{fault_text, filled, form_of, is_read_as, parts, vec_is_read_as};
+use crate::forms::{all_hold, fault_text, form_of, is_read_as, is_read_with, parts};
 use dt_text::Form;
 use std::alloc::Global;
 
@@ -58,7 +58,10 @@ c|wn|restart 1";
 
 /// Whether a line has this fault where its words from a place on are `x`.
 fn has_fault(alloc: Global, form: Form, line: &str, place: usize, fault: u8) -> bool {
-    vec_is_read_as(alloc, form, spoiled(alloc, line, place), fault_text(fault))
+    match spoiled(alloc, line, place) {
+        Some(line) => is_read_as(alloc, form, &line, fault_text(fault)),
+        None => false,
+    }
 }
 
 /// Whether each word of a line has its fault.
@@ -73,16 +76,18 @@ fn has_faults(alloc: Global, form: Form, faults: &str, line: &str) -> bool {
 
 /// Whether a line is read, and not with one word more.
 fn is_whole(alloc: Global, form: Form, line: &str) -> bool {
-    vec_is_read_as(alloc, form, filled(alloc, "* 1", line), "Err(Count)")
+    is_read_with(alloc, form, "* 1", line, "Err(Count)")
         && is_read_as(alloc, form, line.as_bytes(), "Ok(")
+}
+
+/// Whether the line of a row is whole and has the faults of the row.
+fn is_refused(alloc: Global, row: &str) -> bool {
+    let (letter, faults, line) = parts(row);
+    let form = form_of(letter);
+    is_whole(alloc, form, line) && has_faults(alloc, form, faults, line)
 }
 
 #[test]
 fn the_first_fault_of_each_kind(rt: HostRuntime) {
-    for row in FAULTS.split('\n') {
-        let (letter, faults, line) = parts(row);
-        let form = form_of(letter);
-        assert!(rt; is_whole(rt.alloc(), form, line), "{row}");
-        assert!(rt; has_faults(rt.alloc(), form, faults, line), "{row}");
-    }
+    all_hold(&rt, rt.alloc(), FAULTS, is_refused);
 }

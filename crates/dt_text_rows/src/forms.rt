@@ -1,6 +1,21 @@
-//! The parts of rows, and how a line is read.
+//! The rows of a text and their parts, and how a line is read.
 use dt_text::{Form, read_line};
 use std::alloc::Global;
+use std::process::Abort;
+
+/// Asserts of each row of a text that it holds.
+pub fn all_hold(rt: &impl Abort, alloc: Global, rows: &str, test: fn(Global, &str) -> bool)
+    requires { IsAlwaysCallable test }
+{
+    for row in rows.split('\n') {
+        holds(rt, test(alloc, row), row);
+    }
+}
+
+/// Asserts what is said of a row.
+pub fn holds(rt: &impl Abort, is: bool, row: &str) {
+    assert!(rt; is, "{row}");
+}
 
 /// The three parts of a row, between which stand bars. A part that isn't there is empty.
 pub fn parts(row: &str) -> (&str, &str, &str) {
@@ -26,12 +41,18 @@ pub fn is_read_as(alloc: Global, form: Form, line: &[u8], wanted: &str) -> bool 
     }
 }
 
-/// The same of a line that is let go, where memory was found for it.
-pub fn vec_is_read_as(alloc: Global, form: Form, line: Option<Vec<u8>>, wanted: &str) -> bool {
-    match line {
-        Some(line) => is_read_as(alloc, form, &line, wanted),
-        None => false,
+/// The same of a line with a text in the place of each `*`.
+pub fn is_read_with(alloc: Global, form: Form, line: &str, text: &str, wanted: &str) -> bool {
+    match line.replace(alloc, '*', text) {
+        Ok(line) => is_read_as(alloc, form, line.as_bytes(), wanted),
+        Err(_) => false,
     }
+}
+
+/// Whether the line of a row is read as the row says: a form, a line, and how that reads.
+pub fn is_read(alloc: Global, row: &str) -> bool {
+    let (form, line, wanted) = parts(row);
+    is_read_as(alloc, form_of(form), line.as_bytes(), wanted)
 }
 
 /// The text that is wanted of a fault, by its letter: `-` of none.
@@ -44,17 +65,4 @@ pub fn fault_text(letter: u8) -> &'static str {
         b'h' => "Err(Hex)",
         _ => "Err(Word)",
     }
-}
-
-/// The octets of a line with a text in the place of each `*`.
-pub fn filled(alloc: Global, line: &str, text: &str) -> Option<Vec<u8>> {
-    let mut octets = Vec::new(alloc);
-    for octet in line.as_bytes() {
-        if *octet == b'*' {
-            octets.extend_from_slice(text.as_bytes()).ok()?;
-        } else {
-            octets.push(*octet).ok()?;
-        }
-    }
-    Some(octets)
 }

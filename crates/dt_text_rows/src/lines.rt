@@ -1,7 +1,5 @@
 //! What lines are read as.
-use crate::forms::{form_of, is_read_as, parts};
-use std::alloc::Global;
-use std::process::Abort;
+use crate::forms::{all_hold, is_read};
 
 /// A form, a line, and what it is read as.
 const LINES: &str = "s||Ok(Blank)
@@ -135,23 +133,12 @@ c|arrive|Err(Count)
 c|lose|Err(Count)
 c|restart|Err(Count)";
 
-/// Each row is read as it says.
-fn are_read(rt: &impl Abort, alloc: Global, rows: &str) {
-    for row in rows.split('\n') {
-        let (form, line, wanted) = parts(row);
-        assert!(rt;
-            is_read_as(alloc, form_of(form), line.as_bytes(), wanted),
-            "{row}"
-        );
-    }
-}
-
 #[test]
 fn lines(rt: HostRuntime) {
-    are_read(&rt, rt.alloc(), LINES);
+    all_hold(&rt, rt.alloc(), LINES, is_read);
 }
 
 #[test]
 fn refused_lines(rt: HostRuntime) {
-    are_read(&rt, rt.alloc(), REFUSED);
+    all_hold(&rt, rt.alloc(), REFUSED, is_read);
 }

@@ -1,4 +1,5 @@
 //! The line of each report.
+use crate::forms::holds;
 use crate::writing::{is_line, is_written};
 use dt_edges::{Failed, MemSink};
 use dt_layout::LayoutFault;
@@ -263,12 +264,12 @@ static REPORTS: [(Report<'static>, &str); 39] = [
 #[test]
 fn each_report_has_its_line(rt: HostRuntime) {
     for (report, text) in &REPORTS {
-        assert!(rt; is_written(rt.alloc(), *report, text), "{text}");
+        holds(&rt, is_written(rt.alloc(), *report, text), text);
     }
 }
 
 /// A line without a node.
-const LINE: LogLine<'static> = LogLine {
+static LINE: LogLine<'static> = LogLine {
     moment: 40,
     node: None,
     report: Report::NoRoute { to: 3 },

@@ -1,5 +1,6 @@
 //! The generator's schedules, in memory.
-use dt_edges::MemSink;
+use crate::writing::leaves;
+use dt_edges::{Failed, MemSink};
 use dt_make::make;
 
 const ONE: &[u8] = b"params 1000 3000 200 500 800 100 4096 4096 512 2147483648
@@ -21,9 +22,11 @@ arrive 2
 read 1:10>2:20 65536
 ";
 
+fn make_one(out: &mut MemSink) -> Result<(), Failed> {
+    make(1, out)
+}
+
 #[test]
 fn one_round(rt: HostRuntime) {
-    let mut out = MemSink::new(rt.alloc(), 1024, &[]).expect(&rt, "memory");
-    assert!(rt; make(1, &mut out).is_ok());
-    assert!(rt; out.as_slice() == ONE);
+    assert!(rt; leaves(rt.alloc(), 1024, make_one, Ok(()), ONE));
 }

@@ -1,6 +1,7 @@
 //! Which lines may follow at each stage of an input.
-use crate::forms::{form_of, parts};
+use crate::forms::{all_hold, form_of, parts};
 use dt_text::{Form, Stage, follows, read_line};
+use std::alloc::Global;
 
 /// A line of each kind, with a form in which it stands, and lines of a script at the moments 4 and 5.
 const KINDS: &str = "s|
@@ -59,25 +60,45 @@ c|a|as----------------------
 c|s|s-sss0------------------
 c|0|0-----0--0000--------0--";
 
+/// Whether the line of a kind is followed so.
+fn is_followed(form: Form, stage: Stage, kind: &str, after: u8) -> bool {
+    let (of, line, _) = parts(kind);
+    match read_line(form_of(of), line.as_bytes()) {
+        Ok(line) => follows(form, stage, &line) == stage_of(after),
+        Err(_) => false,
+    }
+}
+
 /// Whether the line of each kind is followed so.
-fn are_followed(form: Form, stage: Stage, after: &str) -> bool {
-    let mut letters = after.as_bytes().iter();
-    for row in KINDS.split('\n') {
-        let (of, line, _) = parts(row);
-        match (letters.next(), read_line(form_of(of), line.as_bytes())) {
-            (Some(letter), Ok(line)) if follows(form, stage, &line) == stage_of(*letter) => {}
+fn are_followed(form: Form, stage: Stage, after: &[u8]) -> bool {
+    let mut letters = after.iter();
+    for kind in KINDS.split('\n') {
+        match letters.next() {
+            Some(letter) if is_followed(form, stage, kind, *letter) => {}
             _ => return false,
         }
     }
     letters.next().is_none()
 }
 
+/// Whether the kinds are followed so at the stage that a letter stands for.
+fn are_followed_at(form: Form, letter: u8, after: &str) -> bool {
+    match stage_of(letter) {
+        Some(stage) => are_followed(form, stage, after.as_bytes()),
+        None => false,
+    }
+}
+
+/// Whether the kinds are followed as a row says.
+fn is_stage(_: Global, row: &str) -> bool {
+    let (form, letter, after) = parts(row);
+    match letter.as_bytes() {
+        [letter] => are_followed_at(form_of(form), *letter, after),
+        _ => false,
+    }
+}
+
 #[test]
 fn stages(rt: HostRuntime) {
-    for row in STAGES.split('\n') {
-        let (form, letter, after) = parts(row);
-        let stage = letter.as_bytes().first().copied().and_then(stage_of);
-        let are = stage.is_some_and(|stage| are_followed(form_of(form), stage, after));
-        assert!(rt; are, "{row}");
-    }
+    all_hold(&rt, rt.alloc(), STAGES, is_stage);
 }

@@ -1,6 +1,7 @@
 //! Traces, written and read.
+use crate::forms::holds;
+use crate::writing::leaves;
 use dt_edges::{Address, Clock, Failed, MemClock, MemSink, MemWire, Wire};
-use dt_items::NoMemory;
 use dt_reports::LineFault;
 use dt_trace::{Input, Trace, TraceFault, put_input, read_trace};
 use std::alloc::Global;
@@ -10,31 +11,21 @@ fn read(alloc: Global, text: &str) -> Result<Trace, TraceFault> {
     read_trace(alloc, text.as_bytes())
 }
 
-/// Whether each input is put.
-fn are_put(inputs: &[Input<'_>], out: &mut MemSink) -> bool {
-    for input in inputs {
-        if put_input(input, out).is_err() {
-            return false;
-        }
-    }
-    true
+/// Puts an input of each kind.
+fn put_inputs(out: &mut MemSink) -> Result<(), Failed> {
+    put_input(&Input::FailedOpen, out)?;
+    put_input(&Input::Reading(u64::MAX), out)?;
+    put_input(&Input::FailedGive(1), out)?;
+    put_input(&Input::taken(Some((1, 2)), &[10, 255, 7]), out)?;
+    put_input(&Input::taken(Some((255, 0)), &[10]), out)?;
+    put_input(&Input::taken(None, &[]), out)?;
+    put_input(&Input::FailedTake, out)
 }
 
 #[test]
 fn lines_are_written(rt: HostRuntime) {
-    let mut out = MemSink::new(rt.alloc(), 256, &[]).expect(&rt, "memory");
-    let inputs = [
-        Input::FailedOpen,
-        Input::Reading(u64::MAX),
-        Input::FailedGive(1),
-        Input::taken(Some((1, 2)), &[10, 255, 7]),
-        Input::taken(Some((255, 0)), &[10]),
-        Input::taken(None, &[]),
-        Input::FailedTake,
-    ];
-    assert!(rt; are_put(&inputs, &mut out));
     let text = b"! 0\n@ 18446744073709551615\n! 1\n< 1 0aff\n< 255\n< -\n< x\n";
-    assert!(rt; out.as_slice() == text.as_slice());
+    assert!(rt; leaves(rt.alloc(), 256, put_inputs, Ok(()), text));
 }
 
 /// A trace of readings, of what takes found and of gives that failed.
@@ -46,24 +37,55 @@ const LOCAL: Address = Address {
     port: 4000,
 };
 
-/// The clock of the trace.
-fn clock_of_trace(alloc: Global) -> Option<MemClock> {
-    read(alloc, TRACE).ok()?.clock(alloc).ok()
+/// Whether a clock has these readings.
+fn has_readings(clock: &mut MemClock, readings: &[u64]) -> bool {
+    for reading in readings {
+        if clock.now() != *reading {
+            return false;
+        }
+    }
+    true
+}
+
+/// Whether the clock of a trace has these readings.
+fn is_clock(alloc: Global, trace: &Trace, readings: &[u64]) -> bool {
+    match trace.clock(alloc) {
+        Ok(mut clock) => has_readings(&mut clock, readings),
+        Err(_) => false,
+    }
+}
+
+/// The same of a trace that is read first.
+fn reads(alloc: Global, text: &str, readings: &[u64]) -> bool {
+    match read(alloc, text) {
+        Ok(trace) => is_clock(alloc, &trace, readings),
+        Err(_) => false,
+    }
 }
 
 #[test]
 fn readings_are_read(rt: HostRuntime) {
-    let mut clock = clock_of_trace(rt.alloc()).expect(&rt, "memory");
-    for reading in [1000, 1040, 5, 5] {
-        assert!(rt; clock.now() == reading);
+    assert!(rt; reads(rt.alloc(), TRACE, &[1000, 1040, 5, 5]));
+}
+
+/// Whether the wire of a trace passes a trial.
+fn is_wire(alloc: Global, trace: &Trace, passes: fn(&mut MemWire) -> bool) -> bool
+    requires { IsAlwaysCallable passes }
+{
+    match trace.wire(alloc) {
+        Ok(mut wire) => passes(&mut wire),
+        Err(_) => false,
     }
 }
 
-/// The wire of the trace, open.
-fn open_wire(alloc: Global) -> Option<MemWire> {
-    let mut wire = read(alloc, TRACE).ok()?.wire(alloc).ok()?;
-    wire.open(LOCAL, &[]).ok()?;
-    Some(wire)
+/// The same of a trace that is read first.
+fn goes(alloc: Global, text: &str, passes: fn(&mut MemWire) -> bool) -> bool
+    requires { IsAlwaysCallable passes }
+{
+    match read(alloc, text) {
+        Ok(trace) => is_wire(alloc, &trace, passes),
+        Err(_) => false,
+    }
 }
 
 /// What each take of the wire finds.
@@ -75,43 +97,56 @@ static TAKES: [Result<Option<(u16, usize)>, Failed>; 5] = [
     Ok(None),
 ];
 
+/// Whether a take finds this, and the first of these octets stand in its buffer then.
+fn takes(
+    wire: &mut MemWire,
+    buffer: &mut [u8; 4],
+    found: &Result<Option<(u16, usize)>, Failed>,
+) -> bool {
+    wire.take(1, buffer) == *found && buffer.starts_with(&[10, 255])
+}
+
+/// Whether the takes of a wire that is opened find what the trace says.
+fn takes_all(wire: &mut MemWire) -> bool {
+    let mut buffer = [0; 4];
+    if wire.open(LOCAL, &[]).is_err() {
+        return false;
+    }
+    for found in &TAKES {
+        if !takes(wire, &mut buffer, found) {
+            return false;
+        }
+    }
+    true
+}
+
 #[test]
 fn takes_are_read(rt: HostRuntime) {
-    let mut wire = open_wire(rt.alloc()).expect(&rt, "memory");
-    let mut buffer = [0; 4];
-    for found in &TAKES {
-        assert!(rt; wire.take(1, &mut buffer) == *found);
-        assert!(rt; buffer[0] == 10 && buffer[1] == 255);
-    }
+    assert!(rt; goes(rt.alloc(), TRACE, takes_all));
+}
+
+/// Whether the second give alone fails, once the wire is opened.
+fn gives_all(wire: &mut MemWire) -> bool {
+    wire.open(LOCAL, &[]).is_ok()
+        && wire.give(1, &[1]).is_ok()
+        && wire.give(1, &[1]).is_err()
+        && wire.give(1, &[1]).is_ok()
 }
 
 #[test]
 fn gives_are_read(rt: HostRuntime) {
-    let mut wire = open_wire(rt.alloc()).expect(&rt, "memory");
-    for is_sent in [true, false, true] {
-        assert!(rt; wire.give(1, &[1]).is_ok() == is_sent);
-    }
+    assert!(rt; goes(rt.alloc(), TRACE, gives_all));
 }
 
-fn reads_zero(alloc: Global, trace: &Trace) -> bool {
-    match trace.clock(alloc) {
-        Ok(mut clock) => clock.now() == 0,
-        Err(_) => false,
-    }
-}
-
-fn stays_shut(alloc: Global, trace: &Trace) -> bool {
-    match trace.wire(alloc) {
-        Ok(mut wire) => wire.open(LOCAL, &[]).is_err(),
-        Err(_) => false,
-    }
+/// Whether a wire doesn't open.
+fn stays_shut(wire: &mut MemWire) -> bool {
+    wire.open(LOCAL, &[]).is_err()
 }
 
 #[test]
 fn an_empty_trace_reads_zero(rt: HostRuntime) {
-    let trace = read(rt.alloc(), "! 0\n").ok().expect(&rt, "a trace");
-    assert!(rt; reads_zero(rt.alloc(), &trace));
-    assert!(rt; stays_shut(rt.alloc(), &trace));
+    assert!(rt; reads(rt.alloc(), "! 0\n", &[0]));
+    assert!(rt; goes(rt.alloc(), "! 0\n", stays_shut));
 }
 
 /// A trace, the line at which it is refused, and the fault.
@@ -146,6 +181,6 @@ fn lines_are_refused(rt: HostRuntime) {
             fault: *fault,
         };
         let found = read(rt.alloc(), text).err();
-        assert!(rt; found == Some(wanted), "{text}");
+        holds(&rt, found == Some(wanted), text);
     }
 }

@@ -1,17 +1,18 @@
 //! Numbers, flows and octets.
+use crate::writing::leaves;
 use dt_edges::{Failed, MemSink};
 use dt_log::{put_flow, put_hex, put_number};
 use dt_units::{Flow, NodeId};
 
-const FLOW: Flow = Flow {
+static FLOW: Flow = Flow {
     from: NodeId(0),
     from_port: 65_535,
     to: NodeId(4_294_967_295),
     to_port: 1,
 };
 
-/// Whether numbers, a flow and octets are put one after the other.
-fn are_put(sink: &mut MemSink) -> Result<(), Failed> {
+/// Puts numbers, a flow and octets one after the other.
+fn put_values(sink: &mut MemSink) -> Result<(), Failed> {
     put_number(0, sink)?;
     put_number(18_446_744_073_709_551_615, sink)?;
     put_flow(&FLOW, sink)?;
@@ -21,32 +22,38 @@ fn are_put(sink: &mut MemSink) -> Result<(), Failed> {
 
 #[test]
 fn values_are_written(rt: HostRuntime) {
-    let mut sink = MemSink::new(rt.alloc(), 512, &[]).expect(&rt, "memory");
-    assert!(rt; are_put(&mut sink).is_ok());
     let text = b"0184467440737095516150:65535>4294967295:1009aff";
-    assert!(rt; sink.as_slice() == text.as_slice());
+    assert!(rt; leaves(rt.alloc(), 512, put_values, Ok(()), text));
+}
+
+static OCTETS: [u8; 130] = [0xa5; 130];
+
+/// Two digits for each of the octets.
+static DIGITS: [[u8; 2]; 130] = [*b"a5"; 130];
+
+fn put_octets(sink: &mut MemSink) -> Result<(), Failed> {
+    put_hex(&OCTETS, sink)
 }
 
 #[test]
 fn many_octets_are_written(rt: HostRuntime) {
-    let mut sink = MemSink::new(rt.alloc(), 512, &[]).expect(&rt, "memory");
-    assert!(rt; put_hex(&[0xa5; 130], &mut sink).is_ok());
-    assert!(rt; sink.as_slice().len() == 260);
-    for pair in sink.as_slice().chunks(2) {
-        assert!(rt; pair == b"a5".as_slice());
-    }
+    assert!(rt; leaves(rt.alloc(), 512, put_octets, Ok(()), DIGITS.as_flattened()));
+}
+
+fn put_digits(sink: &mut MemSink) -> Result<(), Failed> {
+    put_number(12_345, sink)
 }
 
 #[test]
 fn a_number_that_does_not_fit_is_written_in_part(rt: HostRuntime) {
-    let mut sink = MemSink::new(rt.alloc(), 4, &[]).expect(&rt, "memory");
-    assert!(rt; put_number(12_345, &mut sink) == Err(Failed));
-    assert!(rt; sink.as_slice() == b"1234".as_slice());
+    assert!(rt; leaves(rt.alloc(), 4, put_digits, Err(Failed), b"1234"));
+}
+
+fn put_one_flow(sink: &mut MemSink) -> Result<(), Failed> {
+    put_flow(&FLOW, sink)
 }
 
 #[test]
 fn a_flow_that_does_not_fit_is_written_in_part(rt: HostRuntime) {
-    let mut sink = MemSink::new(rt.alloc(), 9, &[]).expect(&rt, "memory");
-    assert!(rt; put_flow(&FLOW, &mut sink) == Err(Failed));
-    assert!(rt; sink.as_slice() == b"0:65535>4".as_slice());
+    assert!(rt; leaves(rt.alloc(), 9, put_one_flow, Err(Failed), b"0:65535>4"));
 }

@@ -1,5 +1,5 @@
 //! Words by themselves, and the cut of an input into lines.
-use crate::forms::parts;
+use crate::forms::{all_hold, holds, parts};
 use dt_text::{
     Form, Line, RunLine, UserLine, decode_hex, is_hex, read_flow, read_line, read_number,
     split_line,
@@ -39,9 +39,7 @@ fn is_number(alloc: Global, row: &str) -> bool {
 
 #[test]
 fn numbers(rt: HostRuntime) {
-    for row in NUMBERS.split('\n') {
-        assert!(rt; is_number(rt.alloc(), row), "{row}");
-    }
+    all_hold(&rt, rt.alloc(), NUMBERS, is_number);
 }
 
 /// A word, the most octets that may be spelled, and whether it spells some.
@@ -54,7 +52,7 @@ aF|4294967295|true
 aG|4294967295|false";
 
 /// Whether the word of a row spells octets so.
-fn is_spelled(row: &str) -> bool {
+fn is_spelled(_: Global, row: &str) -> bool {
     let (word, most, wanted) = parts(row);
     match most.parse::<u32>() {
         Ok(most) => is_hex(word.as_bytes(), most) == (wanted == "true"),
@@ -64,9 +62,7 @@ fn is_spelled(row: &str) -> bool {
 
 #[test]
 fn spelled_octets(rt: HostRuntime) {
-    for row in SPELLED.split('\n') {
-        assert!(rt; is_spelled(row), "{row}");
-    }
+    all_hold(&rt, rt.alloc(), SPELLED, is_spelled);
 }
 
 #[test]
@@ -89,13 +85,18 @@ fn is_decoded(line: &[u8], octets: &mut Vec<u8>) -> bool {
     }
 }
 
+/// Whether what digits spell, also none, is put in the place of these octets.
+fn are_decoded(octets: &mut Vec<u8>) -> bool {
+    is_decoded(b"send 1:10>2:20 - 00ffFFa90A", octets)
+        && octets.as_slice() == [0, 255, 255, 169, 10].as_slice()
+        && decode_hex(b"", octets).is_ok()
+        && octets.is_empty()
+}
+
 #[test]
 fn hexadecimal_digits(rt: HostRuntime) {
     let mut octets = Vec::from_slice(rt.alloc(), b"gone").expect(&rt, "memory");
-    assert!(rt; is_decoded(b"send 1:10>2:20 - 00ffFFa90A", &mut octets));
-    assert!(rt; octets.as_slice() == [0, 255, 255, 169, 10].as_slice());
-    assert!(rt; decode_hex(b"", &mut octets).is_ok());
-    assert!(rt; octets.is_empty());
+    assert!(rt; are_decoded(&mut octets));
 }
 
 /// Whether an input that isn't empty is cut into this first line and this rest.
@@ -104,11 +105,18 @@ fn is_split(input: &str, line: &str, rest: &str) -> bool {
     !octets.is_empty() && split_line(octets) == (line.as_bytes(), rest.as_bytes())
 }
 
+/// An input, its first line, and its rest.
+static INPUTS: [(&str, &str, &str); 5] = [
+    ("go", "go", ""),
+    ("go\n", "go", ""),
+    ("go\n\n", "go", "\n"),
+    ("\ngo", "", "go"),
+    ("a\r\nb\nc", "a\r", "b\nc"),
+];
+
 #[test]
 fn lines_of_an_input(rt: HostRuntime) {
-    assert!(rt; is_split("go", "go", ""));
-    assert!(rt; is_split("go\n", "go", ""));
-    assert!(rt; is_split("go\n\n", "go", "\n"));
-    assert!(rt; is_split("\ngo", "", "go"));
-    assert!(rt; is_split("a\r\nb\nc", "a\r", "b\nc"));
+    for (input, line, rest) in &INPUTS {
+        holds(&rt, is_split(input, line, rest), input);
+    }
 }

@@ -1,9 +1,25 @@
-//! What a line of the log is written as.
-use dt_edges::MemSink;
+//! What a line of the log is written as, and what else is put.
+use dt_edges::{Failed, MemSink};
 use dt_log::write_line;
 use dt_reports::{Fault, LogLine, Report};
 use std::alloc::Global;
 use std::fmt::Display;
+
+/// Whether a put into a sink with so much room ends so and leaves this text there.
+pub fn leaves(
+    alloc: Global,
+    room: usize,
+    put: fn(&mut MemSink) -> Result<(), Failed>,
+    end: Result<(), Failed>,
+    text: &[u8],
+) -> bool
+    requires { IsAlwaysCallable put }
+{
+    match MemSink::new(alloc, room, &[]) {
+        Ok(mut sink) => put(&mut sink) == end && sink.as_slice() == text,
+        Err(_) => false,
+    }
+}
 
 /// Whether a line is written as this text.
 pub fn is_line(alloc: Global, line: &LogLine<'_>, text: &[u8]) -> bool {
