@@ -2,6 +2,7 @@
 use crate::sockets::{ROOM, TRIES, closed, free_port, open, plain, takes};
 use dt_edges::{Clock, Wire};
 use dt_machine::{MachineClock, Moments, UdpWire};
+use std::net::UdpSocket;
 use std::thread;
 use std::time::Duration;
 
@@ -38,21 +39,50 @@ fn a_clock_goes_on_while_nobody_reads_it(rt: HostRuntime) {
     assert!(rt; clock.now() >= first.saturating_add(30));
 }
 
+/// Whether a wire, at a turn that is long past, gives nothing, and at turns of their own gives at last.
+fn gives_late(
+    rt: &HostRuntime,
+    wire: &mut UdpWire<'_, HostRuntime>,
+    clock: &mut MachineClock<'_, HostRuntime>,
+) -> bool {
+    thread::sleep(rt, Duration::from_millis(300));
+    let turn = clock.now();
+    // it is longer past by now, so that nothing is sent
+    wire.give(7, b"late").is_err()
+        && clock.now() >= turn.saturating_add(299)
+        && gives(wire, clock, b"soon")
+}
+
+/// Whether a wire opens to a socket, and takes a datagram of it where the clock stood at 0.
+fn takes_first(
+    (near, near_port): &(UdpSocket, u16),
+    wire: &mut UdpWire<'_, HostRuntime>,
+    clock: &mut MachineClock<'_, HostRuntime>,
+    port: u16,
+) -> bool {
+    open(wire, port, 7, *near_port)
+        && clock.now() == 0
+        && takes(near, b"fresh", wire, port, &mut [0u8; ROOM]) == Some((7, 5))
+}
+
+/// Whether a turn is at the moment of its datagram, and not of what is given in it.
+fn turns(
+    rt: &HostRuntime,
+    wire: &mut UdpWire<'_, HostRuntime>,
+    clock: &mut MachineClock<'_, HostRuntime>,
+) -> bool {
+    match plain(rt) {
+        Ok(near) => {
+            takes_first(&near, wire, clock, free_port(rt)) && gives_late(rt, wire, clock)
+        }
+        Err(_) => false,
+    }
+}
+
 #[test]
 fn a_turn_is_at_the_moment_of_its_datagram(rt: HostRuntime) {
     let moments = Moments::new();
     let mut wire = closed(&rt, &moments).expect(&rt, "memory");
     let mut clock = MachineClock::new(&rt, &moments);
-    let mut buf = [0u8; ROOM];
-    let (near, near_port) = plain(&rt).expect(&rt, "a socket");
-    let port = free_port(&rt);
-    assert!(rt; open(&mut wire, port, 7, near_port));
-    assert!(rt; clock.now() == 0);
-    assert!(rt; takes(&near, b"fresh", &mut wire, port, &mut buf) == Some((7, 5)));
-    thread::sleep(&rt, Duration::from_millis(300));
-    let turn = clock.now();
-    // it is longer past by now, so that nothing is sent
-    assert!(rt; wire.give(7, b"late").is_err());
-    assert!(rt; clock.now() >= turn.saturating_add(299));
-    assert!(rt; gives(&mut wire, &mut clock, b"soon"));
+    assert!(rt; turns(&rt, &mut wire, &mut clock));
 }

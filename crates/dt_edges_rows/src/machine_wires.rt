@@ -1,97 +1,156 @@
 //! Wires over sockets of this machine.
-use crate::sockets::{
-    ROOM, closed, free_port, local, open, passes, plain, socket_address, taken, takes,
-};
+ghost use Rattle.std.specs.Prelude.{◌≤◌};
+
+use crate::sockets::{ROOM, closed, free_port, is_sent, local, open, passes, plain, taken, takes};
 use dt_edges::{Peer, Wire};
-use dt_machine::Moments;
+use dt_machine::{Moments, UdpWire};
+use std::net::UdpSocket;
 use std::thread;
 use std::time::{Duration, Instant};
 
 /// A datagram as long as a frame is at most.
-const LONGEST: [u8; ROOM] = [0x61; ROOM];
+static LONGEST: [u8; ROOM] = [0x61; ROOM];
 
-#[test]
-fn a_wire_that_is_not_open_fails(rt: HostRuntime) {
-    let moments = Moments::new();
-    let mut wire = closed(&rt, &moments).expect(&rt, "memory");
-    let mut buf = [0u8; ROOM];
-    assert!(rt; wire.take(1, &mut buf).is_err());
-    assert!(rt; wire.give(3, b"early").is_err());
+fn fails(wire: &mut UdpWire<'_, HostRuntime>, buf: &mut [u8; ROOM]) -> bool {
+    wire.take(1, buf).is_err() && wire.give(3, b"early").is_err()
 }
 
-#[test]
-fn a_link_above_255_and_a_port_in_use_are_refused(rt: HostRuntime) {
-    let moments = Moments::new();
-    let (_near, port) = plain(&rt).expect(&rt, "a socket");
-    let address = local(port);
-    let mut wire = closed(&rt, &moments).expect(&rt, "memory");
-    assert!(rt;
-        wire.open(local(free_port(&rt)), &[Peer { link: 256, address }])
-            .is_err()
-    );
-    assert!(rt;
-        wire.open(local(free_port(&rt)), &[Peer { link: 255, address }])
-            .is_ok()
-    );
-    assert!(rt; wire.open(address, &[]).is_err());
+/// Whether a wire opens at a free port with one peer at this link.
+fn opens_to(rt: &HostRuntime, wire: &mut UdpWire<'_, HostRuntime>, link: u16) -> bool {
+    let peer = Peer {
+        link,
+        address: local(1),
+    };
+    wire.open(local(free_port(rt)), &[peer]).is_ok()
 }
 
-#[test]
-fn datagrams_come_with_the_number_of_their_link(rt: HostRuntime) {
-    let moments = Moments::new();
-    let mut wire = closed(&rt, &moments).expect(&rt, "memory");
-    let mut buf = [0u8; ROOM];
-    let (near, near_port) = plain(&rt).expect(&rt, "a socket");
-    for link in [0, 1, 7, 254] {
-        let port = free_port(&rt);
-        assert!(rt; open(&mut wire, port, link, near_port));
-        assert!(rt; takes(&near, b"fresh", &mut wire, port, &mut buf) == Some((link, 5)));
-        assert!(rt; buf.starts_with(b"fresh"));
+/// Whether a wire refuses a link above 255, and the port of a socket.
+fn refuses(rt: &HostRuntime, wire: &mut UdpWire<'_, HostRuntime>) -> bool {
+    match plain(rt) {
+        Ok((_near, port)) => {
+            !opens_to(rt, wire, 256)
+                && opens_to(rt, wire, 255)
+                && wire.open(local(port), &[]).is_err()
+        }
+        Err(_) => false,
     }
 }
 
-#[test]
-fn a_wire_takes_what_another_gives(rt: HostRuntime) {
-    let moments = Moments::new();
-    let mut near = closed(&rt, &moments).expect(&rt, "memory");
-    let mut far = closed(&rt, &moments).expect(&rt, "memory");
-    let (near_port, far_port) = (free_port(&rt), free_port(&rt));
-    let mut buf = [0u8; ROOM];
-    assert!(rt; open(&mut near, near_port, 3, far_port));
-    assert!(rt; open(&mut far, far_port, 7, near_port));
-    assert!(rt; near.give(5, b"hello").is_err());
-    assert!(rt; passes(&mut near, b"hello", &mut far, &mut buf) == Some((7, 5)));
-    assert!(rt; buf.starts_with(b"hello"));
-    assert!(rt; passes(&mut near, &LONGEST, &mut far, &mut buf) == Some((7, ROOM)));
+/// Whether a wire at a port takes a datagram of a socket, at last.
+fn takes_fresh(
+    near: &UdpSocket,
+    wire: &mut UdpWire<'_, HostRuntime>,
+    port: u16,
+    link: u16,
+    buf: &mut [u8; ROOM],
+) -> bool {
+    takes(near, b"fresh", wire, port, buf) == Some((link, 5)) && buf.starts_with(b"fresh")
 }
 
-#[test]
-fn nothing_comes_of_a_stranger(rt: HostRuntime) {
-    let moments = Moments::new();
-    let mut wire = closed(&rt, &moments).expect(&rt, "memory");
-    let mut buf = [0u8; ROOM];
-    let port = free_port(&rt);
-    assert!(rt; open(&mut wire, port, 7, 1));
-    assert!(rt; taken(&mut wire, &mut buf).is_none());
-    let (other, _) = plain(&rt).expect(&rt, "a socket");
-    assert!(rt; other.send_to(b"forged", socket_address(port)).is_ok());
-    assert!(rt; taken(&mut wire, &mut buf).is_none());
+/// Whether a wire takes a datagram that comes from a socket over each of these links.
+fn takes_over(
+    rt: &HostRuntime,
+    (near, near_port): &(UdpSocket, u16),
+    wire: &mut UdpWire<'_, HostRuntime>,
+    buf: &mut [u8; ROOM],
+) -> bool {
+    for link in [0, 1, 7, 254] {
+        let port = free_port(rt);
+        if !open(wire, port, link, *near_port) || !takes_fresh(near, wire, port, link, buf) {
+            return false;
+        }
+    }
+    true
 }
 
-#[test]
-fn what_waited_too_long_is_dropped(rt: HostRuntime) {
-    let moments = Moments::new();
-    let mut wire = closed(&rt, &moments).expect(&rt, "memory");
+fn tells_links(
+    rt: &HostRuntime,
+    wire: &mut UdpWire<'_, HostRuntime>,
+    buf: &mut [u8; ROOM],
+) -> bool {
+    match plain(rt) {
+        Ok(near) => takes_over(rt, &near, wire, buf),
+        Err(_) => false,
+    }
+}
+
+/// Whether two wires open, each to the other.
+fn are_open(
+    rt: &HostRuntime,
+    near: &mut UdpWire<'_, HostRuntime>,
+    far: &mut UdpWire<'_, HostRuntime>,
+) -> bool {
+    let (near_port, far_port) = (free_port(rt), free_port(rt));
+    open(near, near_port, 3, far_port) && open(far, far_port, 7, near_port)
+}
+
+/// Whether a wire takes these octets of another, at last, over their link 7.
+fn hears(
+    near: &mut UdpWire<'_, HostRuntime>,
+    octets: &[u8],
+    far: &mut UdpWire<'_, HostRuntime>,
+    buf: &mut [u8; ROOM],
+) -> bool {
+    passes(near, octets, far, buf) == Some((7, octets.len())) && buf.starts_with(octets)
+}
+
+/// Whether a wire gives nothing over a link without a peer, and the other takes what it gives over its own.
+fn hears_all(near: &mut UdpWire<'_, HostRuntime>, far: &mut UdpWire<'_, HostRuntime>) -> bool {
     let mut buf = [0u8; ROOM];
-    let (near, near_port) = plain(&rt).expect(&rt, "a socket");
-    let port = free_port(&rt);
-    assert!(rt; open(&mut wire, port, 7, near_port));
-    assert!(rt; near.send_to(b"late", socket_address(port)).is_ok());
-    assert!(rt; near.send_to(b"too", socket_address(port)).is_ok());
-    thread::sleep(&rt, Duration::from_millis(50));
-    assert!(rt; taken(&mut wire, &mut buf).is_none());
-    assert!(rt; takes(&near, b"fresh", &mut wire, port, &mut buf) == Some((7, 5)));
-    assert!(rt; buf.starts_with(b"fresh"));
+    near.give(5, b"hello").is_err()
+        && hears(near, b"hello", far, &mut buf)
+        && hears(near, &LONGEST, far, &mut buf)
+}
+
+/// Whether a second wire takes what one gives.
+fn is_heard(rt: &HostRuntime, moments: &Moments, near: &mut UdpWire<'_, HostRuntime>) -> bool {
+    match closed(rt, moments) {
+        Ok(mut far) => are_open(rt, near, &mut far) && hears_all(near, &mut far),
+        Err(_) => false,
+    }
+}
+
+/// Whether octets are sent from a socket of its own.
+fn is_forged(rt: &HostRuntime, octets: &[u8], port: u16) -> bool {
+    match plain(rt) {
+        Ok((other, _)) => is_sent(&other, octets, port),
+        Err(_) => false,
+    }
+}
+
+/// Whether a wire takes nothing of a socket that isn't its peer.
+fn takes_no_forged(
+    rt: &HostRuntime,
+    wire: &mut UdpWire<'_, HostRuntime>,
+    buf: &mut [u8; ROOM],
+) -> bool {
+    let port = free_port(rt);
+    open(wire, port, 7, 1)
+        && taken(wire, buf).is_none()
+        && is_forged(rt, b"forged", port)
+        && taken(wire, buf).is_none()
+}
+
+/// Whether a wire takes nothing of two datagrams that wait 50 ms, and then a third.
+fn drops_from(
+    rt: &HostRuntime,
+    (near, near_port): &(UdpSocket, u16),
+    wire: &mut UdpWire<'_, HostRuntime>,
+    buf: &mut [u8; ROOM],
+) -> bool {
+    let port = free_port(rt);
+    let are = open(wire, port, 7, *near_port)
+        && is_sent(near, b"late", port)
+        && is_sent(near, b"too", port);
+    thread::sleep(rt, Duration::from_millis(50));
+    are && taken(wire, buf).is_none() && takes_fresh(near, wire, port, 7, buf)
+}
+
+fn drops_late(rt: &HostRuntime, wire: &mut UdpWire<'_, HostRuntime>, buf: &mut [u8; ROOM]) -> bool {
+    match plain(rt) {
+        Ok(near) => drops_from(rt, &near, wire, buf),
+        Err(_) => false,
+    }
 }
 
 /// How many milliseconds have passed since a moment; none where the clock fails.
@@ -102,15 +161,102 @@ fn since(rt: &HostRuntime, begun: Instant) -> u128 {
     }
 }
 
+/// Whether a wire takes nothing, and waits as long as it is told.
+fn waits_for(
+    rt: &HostRuntime,
+    wire: &mut UdpWire<'_, HostRuntime>,
+    wait: u32,
+    buf: &mut [u8; ROOM],
+) -> bool
+    requires some { 1 ≤ wait }
+    requires most { wait ≤ 1000 }
+{
+    match Instant::now(rt) {
+        Ok(begun) => {
+            wire.take(wait, buf).ok().flatten().is_none() && since(rt, begun) >= u128::from(wait)
+        }
+        Err(_) => false,
+    }
+}
+
+fn waits(rt: &HostRuntime, wire: &mut UdpWire<'_, HostRuntime>, buf: &mut [u8; ROOM]) -> bool {
+    open(wire, free_port(rt), 7, 1)
+        && waits_for(rt, wire, 1, buf)
+        && waits_for(rt, wire, 4, buf)
+        && waits_for(rt, wire, 7, buf)
+        && waits_for(rt, wire, 60, buf)
+}
+
+/// What is tried of a wire that isn't open.
+enum Trial {
+    Fails,
+    Refuses,
+    TellsLinks,
+    IsHeard,
+    TakesNoForged,
+    DropsLate,
+    Waits,
+}
+
+/// Whether a wire passes a trial.
+fn passes_trial(
+    rt: &HostRuntime,
+    moments: &Moments,
+    wire: &mut UdpWire<'_, HostRuntime>,
+    trial: &Trial,
+) -> bool {
+    let mut buf = [0u8; ROOM];
+    match trial {
+        Trial::Fails => fails(wire, &mut buf),
+        Trial::Refuses => refuses(rt, wire),
+        Trial::TellsLinks => tells_links(rt, wire, &mut buf),
+        Trial::IsHeard => is_heard(rt, moments, wire),
+        Trial::TakesNoForged => takes_no_forged(rt, wire, &mut buf),
+        Trial::DropsLate => drops_late(rt, wire, &mut buf),
+        Trial::Waits => waits(rt, wire, &mut buf),
+    }
+}
+
+/// Whether a new wire passes a trial.
+fn is_passed(rt: &HostRuntime, trial: &Trial) -> bool {
+    let moments = Moments::new();
+    match closed(rt, &moments) {
+        Ok(mut wire) => passes_trial(rt, &moments, &mut wire, trial),
+        Err(_) => false,
+    }
+}
+
+#[test]
+fn a_wire_that_is_not_open_fails(rt: HostRuntime) {
+    assert!(rt; is_passed(&rt, &Trial::Fails));
+}
+
+#[test]
+fn a_link_above_255_and_a_port_in_use_are_refused(rt: HostRuntime) {
+    assert!(rt; is_passed(&rt, &Trial::Refuses));
+}
+
+#[test]
+fn datagrams_come_with_the_number_of_their_link(rt: HostRuntime) {
+    assert!(rt; is_passed(&rt, &Trial::TellsLinks));
+}
+
+#[test]
+fn a_wire_takes_what_another_gives(rt: HostRuntime) {
+    assert!(rt; is_passed(&rt, &Trial::IsHeard));
+}
+
+#[test]
+fn nothing_comes_of_a_stranger(rt: HostRuntime) {
+    assert!(rt; is_passed(&rt, &Trial::TakesNoForged));
+}
+
+#[test]
+fn what_waited_too_long_is_dropped(rt: HostRuntime) {
+    assert!(rt; is_passed(&rt, &Trial::DropsLate));
+}
+
 #[test]
 fn a_wait_is_kept(rt: HostRuntime) {
-    let moments = Moments::new();
-    let mut wire = closed(&rt, &moments).expect(&rt, "memory");
-    let mut buf = [0u8; ROOM];
-    assert!(rt; open(&mut wire, free_port(&rt), 7, 1));
-    for wait in [1, 4, 7, 60] {
-        let begun = Instant::now(&rt).expect(&rt, "a clock");
-        assert!(rt; wire.take(wait, &mut buf).ok().flatten().is_none());
-        assert!(rt; since(&rt, begun) >= u128::from(wait));
-    }
+    assert!(rt; is_passed(&rt, &Trial::Waits));
 }

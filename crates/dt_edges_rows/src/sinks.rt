@@ -1,7 +1,6 @@
 use crate::rough::Rough;
 use dt_edges::{Buffer, Buffered, Failed, MemSink, Sink, WriterSink, put_all};
 use std::process::Abort;
-use std::test::Fail;
 
 /// What is put, and its answer.
 enum Put {
@@ -11,15 +10,17 @@ enum Put {
     All(&'static [u8], Result<(), Failed>),
 }
 
+/// Whether a put has its answer.
+fn is_put<K: Sink>(sink: &mut K, row: &Put) -> bool {
+    match row {
+        Put::Once(piece, answer) => !piece.is_empty() && sink.put(piece) == *answer,
+        Put::All(text, answer) => put_all(text, sink) == *answer,
+    }
+}
+
 fn puts<K: Sink>(rt: &impl Abort, sink: &mut K, rows: &[Put]) {
     for row in rows {
-        match row {
-            Put::Once(piece, answer) => {
-                assert!(rt; !piece.is_empty());
-                assert!(rt; sink.put(piece) == *answer);
-            }
-            Put::All(text, answer) => assert!(rt; put_all(text, sink) == *answer),
-        }
+        assert!(rt; is_put(sink, row));
     }
 }
 
@@ -44,11 +45,10 @@ static OVER_A_WRITER: [Put; 5] = [
 static OVER_A_FULL_WRITER: [Put; 2] = [Put::Once(b"xy", Ok(1)), Put::Once(b"y", Err(Failed))];
 
 #[test]
-fn a_sink_takes_what_there_is_room_for(rt: HostRuntime) -> Result<(), Fail> {
-    let mut sink = MemSink::new(rt.alloc(), 8, &[3])?;
+fn a_sink_takes_what_there_is_room_for(rt: HostRuntime) {
+    let mut sink = MemSink::new(rt.alloc(), 8, &[3]).expect(&rt, "memory");
     puts(&rt, &mut sink, &IN_MEMORY);
     assert!(rt; sink.as_slice() == b"abcdefgh".as_slice());
-    Ok(())
 }
 
 #[test]
@@ -71,16 +71,22 @@ fn is_buffered(octets: &[u8], sink: &mut MemSink, buffer: &mut Buffer) -> bool {
     put_all(octets, &mut log).is_ok()
 }
 
-#[test]
-fn a_buffer_passes_on(rt: HostRuntime) -> Result<(), Fail> {
-    let mut sink = MemSink::new(rt.alloc(), 20_000, &[])?;
-    let mut buffer = Buffer::new(rt.alloc())?;
+static OCTETS: [u8; 3000] = [7; 3000];
+
+/// Puts more than the buffer holds, and passes on the rest.
+fn passes_on(rt: &impl Abort, sink: &mut MemSink, buffer: &mut Buffer) {
     for _ in 0..4 {
-        assert!(rt; is_buffered(&[7; 3000], &mut sink, &mut buffer));
+        assert!(rt; is_buffered(&OCTETS, sink, buffer));
     }
-    assert!(rt; buffer.pass_on(&mut sink) == Ok(()));
+    assert!(rt; buffer.pass_on(sink) == Ok(()));
     assert!(rt; sink.as_slice().len() == 12_000);
-    Ok(())
+}
+
+#[test]
+fn a_buffer_passes_on(rt: HostRuntime) {
+    let mut sink = MemSink::new(rt.alloc(), 20_000, &[]).expect(&rt, "memory");
+    let mut buffer = Buffer::new(rt.alloc()).expect(&rt, "memory");
+    passes_on(&rt, &mut sink, &mut buffer);
 }
 
 #[test]

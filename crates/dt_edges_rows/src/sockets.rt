@@ -71,6 +71,27 @@ pub fn taken(wire: &mut UdpWire<'_, HostRuntime>, buf: &mut [u8; ROOM]) -> Optio
     wire.take(100, buf).ok().flatten()
 }
 
+/// Whether octets are sent to a port.
+pub fn is_sent(near: &UdpSocket, octets: &[u8], port: u16) -> bool {
+    near.send_to(octets, socket_address(port)).is_ok()
+}
+
+/// The link and the length of what a wire takes of a datagram that is sent to it once.
+fn takes_once(
+    near: &UdpSocket,
+    octets: &[u8],
+    far: &mut UdpWire<'_, HostRuntime>,
+    port: u16,
+    buf: &mut [u8; ROOM],
+) -> Option<(u16, usize)> {
+    let _none = far.take(1, buf);
+    if is_sent(near, octets, port) {
+        taken(far, buf)
+    } else {
+        None
+    }
+}
+
 /// The link and the length of what a wire takes, at last, of a datagram that is sent to it.
 pub fn takes(
     near: &UdpSocket,
@@ -80,14 +101,27 @@ pub fn takes(
     buf: &mut [u8; ROOM],
 ) -> Option<(u16, usize)> {
     for _ in 0..TRIES {
-        let _none = far.take(1, buf);
-        if near.send_to(octets, socket_address(port)).is_ok()
-            && let Some(taken) = taken(far, buf)
-        {
-            return Some(taken);
+        let taken = takes_once(near, octets, far, port, buf);
+        if taken.is_some() {
+            return taken;
         }
     }
     None
+}
+
+/// The link and the length of what a wire takes of a datagram that another one gives once over its link 3.
+fn passes_once(
+    near: &mut UdpWire<'_, HostRuntime>,
+    octets: &[u8],
+    far: &mut UdpWire<'_, HostRuntime>,
+    buf: &mut [u8; ROOM],
+) -> Option<(u16, usize)> {
+    let _none = far.take(1, buf);
+    if near.give(3, octets).is_ok() {
+        taken(far, buf)
+    } else {
+        None
+    }
 }
 
 /// The link and the length of what a wire takes, at last, of a datagram that another one gives over its
@@ -99,11 +133,9 @@ pub fn passes(
     buf: &mut [u8; ROOM],
 ) -> Option<(u16, usize)> {
     for _ in 0..TRIES {
-        let _none = far.take(1, buf);
-        if near.give(3, octets).is_ok()
-            && let Some(taken) = taken(far, buf)
-        {
-            return Some(taken);
+        let taken = passes_once(near, octets, far, buf);
+        if taken.is_some() {
+            return taken;
         }
     }
     None

@@ -1,18 +1,24 @@
 use crate::rough::Rough;
 use dt_edges::{Failed, MemSource, ReaderSource, Source};
 use std::process::Abort;
-use std::test::Fail;
 
 /// What a take answers, and what its buffer begins with then.
 type Take = (Result<usize, Failed>, &'static [u8]);
 
-/// The takes of a source with the first octets of one buffer, as many as that.
+/// Whether a take into the first octets of a buffer, as many as that, is as its row says.
+fn is_taken<S: Source>(source: &mut S, buf: &mut [u8; 8], most: usize, row: &Take) -> bool {
+    let (answer, first) = row;
+    match buf.get_mut(..most) {
+        Some(room) => { !room.is_empty() && source.take(room) == *answer && buf.starts_with(first) }
+        None => false,
+    }
+}
+
+/// The takes of a source, with one buffer.
 fn takes<S: Source>(rt: &impl Abort, source: &mut S, most: usize, rows: &[Take]) {
     let mut buf = [0; 8];
-    assert!(rt; 0 < most && most <= 8);
-    for (answer, first) in rows {
-        assert!(rt; source.take(&mut buf[..most]) == *answer);
-        assert!(rt; buf.starts_with(first));
+    for row in rows {
+        assert!(rt; is_taken(source, &mut buf, most, row));
     }
 }
 
@@ -34,10 +40,9 @@ static OVER_A_READER: [Take; 6] = [
 ];
 
 #[test]
-fn a_source_hands_over_and_fails_where_it_is_told(rt: HostRuntime) -> Result<(), Fail> {
-    let mut source = MemSource::new(rt.alloc(), b"hello", &[2])?;
+fn a_source_hands_over_and_fails_where_it_is_told(rt: HostRuntime) {
+    let mut source = MemSource::new(rt.alloc(), b"hello", &[2]).expect(&rt, "memory");
     takes(&rt, &mut source, 3, &IN_MEMORY);
-    Ok(())
 }
 
 #[test]

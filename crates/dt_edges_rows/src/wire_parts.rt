@@ -1,9 +1,10 @@
 //! The parts of a wire: what waits in it, what waited too long, and its haste.
 use dt_machine::{Backlog, Haste, may_have_waited};
+use std::process::Abort;
 
 /// When the socket was found empty, the moment now, and whether a datagram may have waited too long, in
 /// nanoseconds.
-const WAITS: [(u64, u64, bool); 5] = [
+static WAITS: [(u64, u64, bool); 5] = [
     (5, 5, false),
     (5, 20_000_005, false),
     (5, 20_000_006, true),
@@ -13,8 +14,8 @@ const WAITS: [(u64, u64, bool); 5] = [
 
 #[test]
 fn a_wait_longer_than_20_ms_is_too_long(rt: HostRuntime) {
-    for (empty, now, late) in WAITS {
-        assert!(rt; may_have_waited(empty, now) == late);
+    for (empty, now, late) in &WAITS {
+        assert!(rt; may_have_waited(*empty, *now) == *late);
     }
 }
 
@@ -28,15 +29,21 @@ fn hands_over(backlog: &mut Backlog, link: u16, empty: u64, octets: &[u8]) -> bo
     }
 }
 
+/// Whether a backlog that had nothing keeps two datagrams.
+fn keeps_two(backlog: &mut Backlog) -> bool {
+    !hands_over(backlog, 0, 0, b"") && backlog.keep(1, b"one", 10) && backlog.keep(2, b"three", 20)
+}
+
+/// Whether it hands over those two, and has nothing then.
+fn hands_over_two(backlog: &mut Backlog) -> bool {
+    hands_over(backlog, 1, 10, b"one") && hands_over(backlog, 2, 20, b"thre") && backlog.is_empty()
+}
+
 #[test]
 fn a_backlog_hands_over_in_order(rt: HostRuntime) {
     let mut backlog = Backlog::new(rt.alloc()).expect(&rt, "memory for a backlog");
-    assert!(rt; !hands_over(&mut backlog, 0, 0, b""));
-    assert!(rt; backlog.keep(1, b"one", 10));
-    assert!(rt; backlog.keep(2, b"three", 20));
-    assert!(rt; hands_over(&mut backlog, 1, 10, b"one"));
-    assert!(rt; hands_over(&mut backlog, 2, 20, b"thre"));
-    assert!(rt; backlog.is_empty());
+    assert!(rt; keeps_two(&mut backlog));
+    assert!(rt; hands_over_two(&mut backlog));
 }
 
 /// How many such datagrams a backlog keeps, of 600.
@@ -49,17 +56,23 @@ fn keeps(backlog: &mut Backlog, octets: &[u8]) -> u32 {
     kept
 }
 
+/// The octets of a long datagram.
+static LONG: [u8; 8192] = [0; 8192];
+
+fn is_bounded(rt: &impl Abort, backlog: &mut Backlog) {
+    assert!(rt; keeps(backlog, &LONG) == 32);
+    assert!(rt; !backlog.keep(1, b"a", 0));
+    assert!(rt; keeps(backlog, b"") == 512);
+}
+
 #[test]
 fn a_backlog_is_bounded(rt: HostRuntime) {
     let mut backlog = Backlog::new(rt.alloc()).expect(&rt, "memory for a backlog");
-    assert!(rt; keeps(&mut backlog, &[0; 8192]) == 32);
-    assert!(rt; !backlog.keep(1, b"a", 0));
-    assert!(rt; keeps(&mut backlog, b"") == 512);
+    is_bounded(&rt, &mut backlog);
 }
 
 /// What befalls a take: a wait, which a datagram ends after so many nanoseconds or nothing does, or looks,
 /// which find one or nothing.
-#[derive(Clone, Copy)]
 enum Step {
     Waited(u64),
     Rested,
@@ -68,7 +81,7 @@ enum Step {
 }
 
 /// Steps, and how often each is taken, and whether looks are tried then.
-const STEPS: [(Step, u32, bool); 14] = [
+static STEPS: [(Step, u32, bool); 14] = [
     (Step::Rested, 1, false),
     (Step::Waited(9_000), 3, false),
     (Step::Waited(9_000), 1, true),
@@ -86,22 +99,28 @@ const STEPS: [(Step, u32, bool); 14] = [
 ];
 
 /// Does a step.
-fn next(haste: Haste, step: Step) -> Haste {
+fn next(haste: Haste, step: &Step) -> Haste {
     match step {
-        Step::Waited(took) => haste.waited(took),
+        Step::Waited(took) => haste.waited(*took),
         Step::Rested => haste.rested(),
-        Step::Met(took) => haste.met(took),
+        Step::Met(took) => haste.met(*took),
         Step::Missed => haste.missed(),
     }
+}
+
+/// Does a step so often.
+fn after(mut haste: Haste, step: &Step, times: u32) -> Haste {
+    for _ in 0..times {
+        haste = next(haste, step);
+    }
+    haste
 }
 
 #[test]
 fn looks_are_tried_while_datagrams_come_soon(rt: HostRuntime) {
     let mut haste = Haste::new();
-    for (step, times, brisk) in STEPS {
-        for _ in 0..times {
-            haste = next(haste, step);
-        }
-        assert!(rt; haste.is_brisk() == brisk);
+    for (step, times, brisk) in &STEPS {
+        haste = after(haste, step, *times);
+        assert!(rt; haste.is_brisk() == *brisk);
     }
 }

@@ -1,9 +1,11 @@
 use dt_edges::{Address, Failed, MemWire, Peer, Wire};
+use dt_items::NoMemory;
 use std::process::Abort;
-use std::test::Fail;
 
 /// What is done to a wire, and what comes of it.
 enum Step {
+    /// It is opened with one peer: the answer.
+    Open(Result<(), Failed>),
     /// A datagram of a link is to be found by a take.
     Add(u16, &'static [u8]),
     /// A take is to find nothing.
@@ -37,9 +39,24 @@ fn is_given(wire: &MemWire, number: usize, wanted: &Option<(u16, &'static [u8])>
     }
 }
 
+const LOCAL: Address = Address {
+    ip: [127, 0, 0, 1],
+    port: 4001,
+};
+
+/// Whether a wire of one peer, whose openings fail or not, opens so.
+fn opens(wire: &mut MemWire, answer: Result<(), Failed>) -> bool {
+    let peers = [Peer {
+        link: 1,
+        address: LOCAL,
+    }];
+    wire.open(LOCAL, &peers) == answer
+}
+
 /// Whether a step is as its row says.
 fn is_done(wire: &mut MemWire, buf: &mut [u8; 4], step: &Step) -> bool {
     match step {
+        Step::Open(answer) => opens(wire, *answer),
         Step::Add(link, octets) => is_added(wire, *link, octets),
         Step::AddNothing => wire.add_nothing().is_ok(),
         Step::Take(wait, answer, after) => takes(wire, buf, *wait, *answer) && *buf == *after,
@@ -53,6 +70,12 @@ fn goes(rt: &impl Abort, wire: &mut MemWire, steps: &[Step]) {
     for (number, step) in steps.iter().enumerate() {
         assert!(rt; is_done(wire, &mut buf, step), "step {number}");
     }
+}
+
+/// The same of a wire that is let go, where memory was found for it.
+fn goes_alone(rt: &impl Abort, wire: Result<MemWire, NoMemory>, steps: &[Step]) {
+    let mut wire = wire.expect(rt, "memory");
+    goes(rt, &mut wire, steps);
 }
 
 /// The second take fails.
@@ -69,10 +92,9 @@ static TAKES: [Step; 9] = [
 ];
 
 #[test]
-fn a_wire_takes_what_was_added(rt: HostRuntime) -> Result<(), Fail> {
-    let mut wire = MemWire::new(rt.alloc(), false, &[2], &[], None)?;
-    goes(&rt, &mut wire, &TAKES);
-    Ok(())
+fn a_wire_takes_what_was_added(rt: HostRuntime) {
+    let wire = MemWire::new(rt.alloc(), false, &[2], &[], None);
+    goes_alone(&rt, wire, &TAKES);
 }
 
 /// The first give fails, and there is room for four octets.
@@ -87,40 +109,28 @@ static GIVES: [Step; 7] = [
 ];
 
 #[test]
-fn a_wire_keeps_what_it_has_room_for(rt: HostRuntime) -> Result<(), Fail> {
-    let mut wire = MemWire::new(rt.alloc(), false, &[], &[1], Some(4))?;
-    goes(&rt, &mut wire, &GIVES);
-    Ok(())
+fn a_wire_keeps_what_it_has_room_for(rt: HostRuntime) {
+    let wire = MemWire::new(rt.alloc(), false, &[], &[1], Some(4));
+    goes_alone(&rt, wire, &GIVES);
 }
 
 /// A wire without room keeps nothing.
-static KEEPS_NOTHING: [Step; 2] = [Step::Give(1, b"abc", Ok(())), Step::Given(0, None)];
-
-const LOCAL: Address = Address {
-    ip: [127, 0, 0, 1],
-    port: 4001,
-};
-
-/// Whether a wire of one peer, whose openings fail or not, opens so.
-fn opens(wire: &mut MemWire, answer: Result<(), Failed>) -> bool {
-    let peers = [Peer {
-        link: 1,
-        address: LOCAL,
-    }];
-    wire.open(LOCAL, &peers) == answer
-}
+static OPENS: [Step; 3] = [
+    Step::Open(Ok(())),
+    Step::Give(1, b"abc", Ok(())),
+    Step::Given(0, None),
+];
 
 #[test]
-fn a_wire_opens_where_it_is_told(rt: HostRuntime) -> Result<(), Fail> {
-    let mut wire = MemWire::new(rt.alloc(), false, &[], &[], None)?;
-    assert!(rt; opens(&mut wire, Ok(())));
-    goes(&rt, &mut wire, &KEEPS_NOTHING);
-    Ok(())
+fn a_wire_opens_where_it_is_told(rt: HostRuntime) {
+    let wire = MemWire::new(rt.alloc(), false, &[], &[], None);
+    goes_alone(&rt, wire, &OPENS);
 }
 
+static STAYS_SHUT: [Step; 1] = [Step::Open(Err(Failed))];
+
 #[test]
-fn a_shut_wire_opens_never(rt: HostRuntime) -> Result<(), Fail> {
-    let mut wire = MemWire::new(rt.alloc(), true, &[], &[], None)?;
-    assert!(rt; opens(&mut wire, Err(Failed)));
-    Ok(())
+fn a_shut_wire_opens_never(rt: HostRuntime) {
+    let wire = MemWire::new(rt.alloc(), true, &[], &[], None);
+    goes_alone(&rt, wire, &STAYS_SHUT);
 }
