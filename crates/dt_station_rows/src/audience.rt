@@ -1,4 +1,5 @@
 //! A visitor that compares what it sees with what is wanted.
+use dt_flow_model::Cut;
 use dt_host::Host;
 use dt_items::NoMemory;
 use dt_layout::{Frame, LayoutFault};
@@ -17,11 +18,7 @@ pub enum Seen {
     },
     Sent {
         flow: Flow,
-        number: u32,
-        length: u32,
-        drf: bool,
-        begin: bool,
-        end: bool,
+        cut: Cut,
     },
     Acked {
         flow: Flow,
@@ -74,11 +71,13 @@ fn shown(report: &Report<'_>) -> Option<Seen> {
             end,
         } => Some(Seen::Sent {
             flow,
-            number,
-            length,
-            drf,
-            begin,
-            end,
+            cut: Cut {
+                number,
+                length,
+                drf,
+                begin,
+                end,
+            },
         }),
         Report::Acked {
             flow,

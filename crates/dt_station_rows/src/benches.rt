@@ -24,6 +24,10 @@ pub enum Step {
     LeavesAt(usize, bool),
     Wakes(Option<u64>),
     Passes(u64),
+    /// 64 packets to node 2 are to wait, each with a millisecond of life more than the one before, and do.
+    Fills,
+    /// At a place stands this link, or none.
+    LinkAt(usize, Option<u16>),
 }
 
 #[derive(Drop)]
@@ -96,6 +100,22 @@ impl Bench {
             && self.relay.leave_at(place, now).is_some() == wanted
     }
 
+    fn fills(&mut self, rt: &impl Abort) -> bool {
+        for waiting in 0..64u32 {
+            let is = self.enters(rt, 5000 + waiting, 2, Entered::Queued { link: 5 });
+            assert!(rt; is, "{waiting}");
+        }
+        true
+    }
+
+    fn has_link(&self, place: usize, wanted: Option<u16>) -> bool {
+        if place < self.relay.links() {
+            wanted == Some(self.relay.link_at(place))
+        } else {
+            wanted.is_none()
+        }
+    }
+
     /// Whether a step is as it says.
     pub fn is_done(&mut self, rt: &impl Abort, step: Step) -> bool {
         match step {
@@ -106,6 +126,8 @@ impl Bench {
             Step::Leaves(link, wanted) => self.leaves(rt, link, wanted),
             Step::Wakes(wanted) => self.relay.wake() == wanted,
             Step::Passes(milliseconds) => self.passes(milliseconds),
+            Step::Fills => self.fills(rt),
+            Step::LinkAt(place, wanted) => self.has_link(place, wanted),
         }
     }
 }

@@ -1,6 +1,7 @@
 //! The rows of runs: a moment, what happens then, and what is seen of it.
 use crate::audience::Seen;
 use crate::fixtures::FLOW;
+use dt_flow_model::Cut;
 use dt_layout::LayoutFault;
 
 pub enum Step {
@@ -24,7 +25,9 @@ pub const HELLO: [u8; 35] = [
     104, 101, 108, 108, 111,
 ];
 
-static FLUSHED: [Row; 8] = [
+/// A packet that isn't for the station is passed on, and what a link keeps back leaves at a tick, in
+/// the order of the links.
+pub static FLUSHED: [Row; 8] = [
     (
         0,
         Step::Meets(5000, 2),
@@ -86,24 +89,16 @@ static FLUSHED: [Row; 8] = [
     ),
 ];
 
-/// A packet that isn't for the station is passed on, and what a link keeps back leaves at a tick, in
-/// the order of the links.
-pub fn flushed() -> &'static [Row] {
-    &FLUSHED
-}
-
-static GOING_NOWHERE: [Row; 3] = [
+/// What can't be passed on is reported.
+pub static GOING_NOWHERE: [Row; 3] = [
     (0, Step::Meets(50, 2), &[Seen::ExpiredIn { link: 7 }]),
     (0, Step::Meets(5000, 4), &[Seen::NoRoute { to: 4 }]),
     (0, Step::Meets(51, 2), &[Seen::ExpiredOut { link: 5 }]),
 ];
 
-/// What can't be passed on is reported.
-pub fn going_nowhere() -> &'static [Row] {
-    &GOING_NOWHERE
-}
-
-static ACKNOWLEDGED: [Row; 1] = [(
+/// Data for the station is accepted, and the acknowledgement that it makes goes out after its report,
+/// tagged. It goes back to node 1, to which there is no route.
+pub static ACKNOWLEDGED: [Row; 1] = [(
     40,
     Step::Hello,
     &[
@@ -123,13 +118,8 @@ static ACKNOWLEDGED: [Row; 1] = [(
     ],
 )];
 
-/// Data for the station is accepted, and the acknowledgement that it makes goes out after its report,
-/// tagged. It goes back to node 1, to which there is no route.
-pub fn acknowledged() -> &'static [Row] {
-    &ACKNOWLEDGED
-}
-
-static NOT_READ: [Row; 6] = [
+/// Octets for the station that don't read are reported by their fault.
+pub static NOT_READ: [Row; 6] = [
     (
         0,
         Step::Changed(1, 2, 35),
@@ -174,23 +164,21 @@ static NOT_READ: [Row; 6] = [
     ),
 ];
 
-/// Octets for the station that don't read are reported by their fault.
-pub fn not_read() -> &'static [Row] {
-    &NOT_READ
-}
-
-static SENT: [Seen; 5] = [
+/// Octets that are sent go out at once.
+pub static SENT: [Seen; 5] = [
     Seen::Took {
         flow: FLOW,
         count: 5,
     },
     Seen::Sent {
         flow: FLOW,
-        number: 0,
-        length: 5,
-        drf: true,
-        begin: true,
-        end: true,
+        cut: Cut {
+            number: 0,
+            length: 5,
+            drf: true,
+            begin: true,
+            end: true,
+        },
     },
     Seen::Asked,
     Seen::Put { link: 5, life: 999 },
@@ -201,14 +189,5 @@ static SENT: [Seen; 5] = [
     },
 ];
 
-/// Octets that are sent go out at once.
-pub fn sent() -> &'static [Seen] {
-    &SENT
-}
-
-static NOTHING_READ: [Seen; 1] = [Seen::Nothing { flow: FLOW }];
-
 /// There is nothing to read.
-pub fn nothing_read() -> &'static [Seen] {
-    &NOTHING_READ
-}
+pub static NOTHING_READ: [Seen; 1] = [Seen::Nothing { flow: FLOW }];

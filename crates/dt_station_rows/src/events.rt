@@ -1,13 +1,14 @@
 //! Runs of a station.
-ghost use Rattle.std.specs.Prelude.{◌≡◌, ◌≤◌, ◌^◌, false, IfSome, OnOk};
+ghost use Rattle.std.specs.Prelude.{◌≡◌, ◌≤◌, ◌^◌, false, OnOk};
 ghost use Rattle.dt_layout.specs.Carried.{IsGram};
 ghost use Rattle.dt_station.specs.Events.{MaySend};
 
 use crate::audience::Seen;
 use crate::event_rows::{
-    HELLO, Row, Step, acknowledged, flushed, going_nowhere, not_read, nothing_read, sent,
+    ACKNOWLEDGED, FLUSHED, GOING_NOWHERE, HELLO, NOT_READ, NOTHING_READ, Row, SENT, Step,
 };
 use crate::fixtures::{FLOW, INS, OUTS, ROUTES, arrive, framed, play, rendezvous, rules, station};
+use crate::hosts::holds;
 use dt_items::NoMemory;
 use dt_layout::Frame;
 use dt_station::{Station, StationEvent};
@@ -15,48 +16,15 @@ use dt_units::NodeId;
 use std::alloc::Global;
 use std::process::Abort;
 
-/// The first octets of `hello` with another octet at a place, as a frame, if they read as a Deltagram.
-fn changed(place: usize, octet: u8, len: usize) -> Option<Frame>
-    ensures { IfSome result IsGram }
+/// The first octets of `hello` with another octet at a place, as a frame.
+fn changed(rt: &impl Abort, place: usize, octet: u8, len: usize) -> Frame
+    ensures { IsGram result }
 {
     let mut octets = HELLO;
     if place < 35 {
         octets[place] = octet;
     }
-    framed(octets.get(..len)?)
-}
-
-/// The packet that comes in a step.
-fn packet_of(rt: &impl Abort, step: &Step) -> Option<Frame>
-    ensures { IfSome result IsGram }
-{
-    match step {
-        Step::Meets(life, to) => Some(rendezvous(rt, *life, *to)),
-        Step::Hello => framed(&HELLO),
-        Step::Changed(place, octet, len) => changed(*place, *octet, *len),
-        Step::Ticks | Step::Wakes(_) => None,
-    }
-}
-
-/// A packet comes, or else it ticks.
-fn comes(
-    rt: &impl Abort,
-    station: &mut Station<Frame>,
-    now: u64,
-    packet: Option<Frame>,
-    wanted: &[Seen],
-) -> Result<(), NoMemory>
-    requires gram { IfSome packet IsGram }
-    requires unspent { station.old.spent ≡ false }
-    requires past { station.old.latest ≤ now }
-    requires moment { now ≤ 2 ^ 62 }
-    ensures unspent { OnOk result (station.new.spent ≡ false) }
-    ensures latest { OnOk result (station.new.latest ≡ now) }
-{
-    match packet {
-        Some(packet) => arrive(rt, station, now, packet, wanted),
-        None => play(rt, station, now, StationEvent::Tick, wanted),
-    }
+    framed(rt, octets.get(..len).unwrap_or(&[]))
 }
 
 /// A step is done, and what is wanted is seen of it.
@@ -73,13 +41,18 @@ fn happens(
     ensures unspent { OnOk result (station.new.spent ≡ false) }
     ensures latest { OnOk result (station.new.latest ≤ now) }
 {
-    if let Step::Wakes(wake) = step {
-        assert_eq!(rt; station.wake(), *wake);
-        return Ok(());
+    match step {
+        Step::Meets(life, to) => arrive(rt, station, now, rendezvous(rt, *life, *to), wanted),
+        Step::Hello => arrive(rt, station, now, framed(rt, &HELLO), wanted),
+        Step::Changed(place, octet, len) => {
+            arrive(rt, station, now, changed(rt, *place, *octet, *len), wanted)
+        }
+        Step::Ticks => play(rt, station, now, StationEvent::Tick, wanted),
+        Step::Wakes(wake) => {
+            holds(rt, station.wake() == *wake, now);
+            Ok(())
+        }
     }
-    let packet = packet_of(rt, step);
-    assert!(rt; packet.is_some() || matches!(step, Step::Ticks));
-    comes(rt, station, now, packet, wanted)
 }
 
 fn runs(rt: &impl Abort, station: &mut Station<Frame>, rows: &[Row]) -> Result<(), NoMemory>
@@ -88,7 +61,7 @@ fn runs(rt: &impl Abort, station: &mut Station<Frame>, rows: &[Row]) -> Result<(
 {
     let mut latest = 0;
     for (now, step, wanted) in rows {
-        assert!(rt; latest <= *now && *now <= 1 << 62, "{now}");
+        holds(rt, latest <= *now && *now <= 1 << 62, *now);
         latest = *now;
         happens(rt, station, latest, step, wanted)?;
     }
@@ -103,22 +76,22 @@ fn runs_at(rt: &impl Abort, alloc: Global, me: u32, rows: &[Row]) -> Result<(), 
 
 #[test]
 fn links_are_flushed_in_their_order(rt: HostRuntime) -> Result<(), NoMemory> {
-    runs_at(&rt, rt.alloc(), 9, flushed())
+    runs_at(&rt, rt.alloc(), 9, &FLUSHED)
 }
 
 #[test]
 fn packets_that_go_nowhere_are_told(rt: HostRuntime) -> Result<(), NoMemory> {
-    runs_at(&rt, rt.alloc(), 9, going_nowhere())
+    runs_at(&rt, rt.alloc(), 9, &GOING_NOWHERE)
 }
 
 #[test]
 fn data_is_acknowledged(rt: HostRuntime) -> Result<(), NoMemory> {
-    runs_at(&rt, rt.alloc(), 2, acknowledged())
+    runs_at(&rt, rt.alloc(), 2, &ACKNOWLEDGED)
 }
 
 #[test]
 fn octets_that_do_not_read_are_told(rt: HostRuntime) -> Result<(), NoMemory> {
-    runs_at(&rt, rt.alloc(), 2, not_read())
+    runs_at(&rt, rt.alloc(), 2, &NOT_READ)
 }
 
 /// Octets that are sent go out at once.
@@ -135,7 +108,7 @@ fn sends(rt: &impl Abort, station: &mut Station<Frame>) -> Result<(), NoMemory>
         begin: true,
         end: true,
     };
-    play(rt, station, 0, event, sent())
+    play(rt, station, 0, event, &SENT)
 }
 
 /// Octets are sent, and there is nothing to read.
@@ -146,7 +119,7 @@ fn sends_and_reads(rt: &impl Abort, station: &mut Station<Frame>) -> Result<(), 
 {
     sends(rt, station)?;
     let read = StationEvent::Read { flow: FLOW };
-    play(rt, station, 0, read, nothing_read())
+    play(rt, station, 0, read, &NOTHING_READ)
 }
 
 #[test]

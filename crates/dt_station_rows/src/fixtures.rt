@@ -1,9 +1,10 @@
 //! Stations and frames, and an event that is reported as wanted.
-ghost use Rattle.std.specs.Prelude.{◌≡◌, ◌≤◌, ◌^◌, false, IfOk, IfSome, OnOk};
+ghost use Rattle.std.specs.Prelude.{◌≡◌, ◌≤◌, ◌^◌, false, IfOk, OnOk};
 ghost use Rattle.dt_layout.specs.Carried.{IsGram};
 ghost use Rattle.dt_station.specs.Events.{MayHappen};
 
 use crate::audience::{Audience, Seen};
+use crate::hosts::holds;
 use dt_items::NoMemory;
 use dt_layout::{Frame, Packet, read_deltagram, write_frame};
 use dt_station::{InLink, OutLink, Route, Station, StationEvent};
@@ -34,7 +35,7 @@ pub const FLOW: Flow = Flow {
 };
 
 /// To node 2 on link 5, to node 3 on link 1; the links stand in this order.
-pub const OUTS: [OutLink; 2] = [
+pub static OUTS: [OutLink; 2] = [
     OutLink {
         link: 5,
         pace: 1000,
@@ -45,12 +46,12 @@ pub const OUTS: [OutLink; 2] = [
     },
 ];
 
-pub const INS: [InLink; 1] = [InLink {
+pub static INS: [InLink; 1] = [InLink {
     link: 7,
     charge: 50,
 }];
 
-pub const ROUTES: [Route; 2] = [Route { to: 2, link: 5 }, Route { to: 3, link: 1 }];
+pub static ROUTES: [Route; 2] = [Route { to: 2, link: 5 }, Route { to: 3, link: 1 }];
 
 pub fn rules(rt: &impl Abort) -> Rules {
     STANDARD.check().expect(rt, "the parameters are refused")
@@ -79,16 +80,13 @@ pub fn rendezvous(rt: &impl Abort, life: u32, to: u32) -> Frame
     frame
 }
 
-/// A frame of octets that read as a Deltagram.
-pub fn framed(octets: &[u8]) -> Option<Frame>
-    ensures { IfSome result IsGram }
+/// A frame of octets, which read as a Deltagram.
+pub fn framed(rt: &impl Abort, octets: &[u8]) -> Frame
+    ensures { IsGram result }
 {
-    let frame = Frame::from_bytes(octets)?;
-    if read_deltagram(frame.as_slice()).is_ok() {
-        Some(frame)
-    } else {
-        None
-    }
+    let frame = Frame::from_bytes(octets).expect(rt, "the octets are too many for a frame");
+    assert!(rt; read_deltagram(frame.as_slice()).is_ok());
+    frame
 }
 
 /// The event is reported as wanted, and nothing else is.
@@ -108,9 +106,9 @@ pub fn play(
 {
     let mut audience = Audience::new(wanted, 1000);
     let mut buf = [0; 64];
-    station.event(now, event, &mut buf, &mut audience)?;
-    assert!(rt; audience.is_content());
-    Ok(())
+    let result = station.event(now, event, &mut buf, &mut audience);
+    holds(rt, result.is_err() || audience.is_content(), now);
+    result
 }
 
 /// A packet comes on link 7.

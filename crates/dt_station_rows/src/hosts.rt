@@ -1,10 +1,10 @@
 //! A host that is opened, its flows and its acts, as the tests speak of them.
-ghost use Rattle.std.specs.Prelude.{◌≡◌, ◌+◌, ◌<◌, ◌≤◌, IfOk};
+ghost use Rattle.std.specs.Prelude.{◌≡◌, ◌+◌, ◌<◌, ◌≤◌, IfOk, length, true};
 ghost use Rattle.dt_flow_model.specs.Keeping.{most_moment};
 ghost use Rattle.dt_world_model.specs.Host.{IsCurrentHost};
 
 use dt_flow_model::{Cut, SendAct};
-use dt_host::{Act, Done, Host};
+use dt_host::{Act, Done, Host, SendFault};
 use dt_items::NoMemory;
 use dt_layout::Frame;
 use dt_units::{Flow, NodeId, Params, Steps};
@@ -70,6 +70,37 @@ pub fn host_with(rt: &impl Abort, alloc: Global, params: &Params) -> Result<Host
     Host::first(alloc, &rules, ME)
 }
 
+/// What has to be so at `now` is so.
+pub fn holds(rt: &impl Abort, is: bool, now: u64)
+    ensures { is ≡ true }
+{
+    assert!(rt; is, "at {now}");
+}
+
+/// Whether a flow of node 1 has no sender, and octets that are sent on it as a message are answered so.
+pub fn is_sent<L: Ledger>(
+    host: &mut Host,
+    from_port: u16,
+    octets: &[u8],
+    now: u64,
+    answer: Result<(), SendFault>,
+    steps: &mut Steps<L>,
+) -> bool
+    requires node { host.old.state.me ≡ 1 }
+    requires some { 1 ≤ length octets.now }
+    requires few { length octets.now ≤ 8192 }
+    requires moment { now ≤ most_moment }
+    requires past { host.old.latest ≤ now }
+    requires current { IsCurrentHost host.old.rules now host.old.state }
+    ensures rules { host.new.rules ≡ host.old.rules }
+    ensures me { host.new.state.me ≡ host.old.state.me }
+    ensures latest { host.new.latest ≤ now }
+    ensures looks { steps.new ≤ steps.old + 4 }
+{
+    let flow = out(from_port);
+    host.next_number(&flow).is_none() && host.send(&flow, octets, true, true, now, steps) == answer
+}
+
 /// No act is due at `now`. Before `r` no resend can have been missed, and then no record is looked at.
 pub fn rests<L: Ledger>(
     rt: &impl Abort,
@@ -85,7 +116,7 @@ pub fn rests<L: Ledger>(
     ensures looks { now < host.old.rules.r → steps.new ≤ steps.old }
 {
     let done = host.next(now, frame, steps);
-    assert!(rt; done.is_none(), "at {now}");
+    holds(rt, done.is_none(), now);
 }
 
 /// One act is due at `now`, and then none. Before `r` that takes 4 looks at records at most.
@@ -106,6 +137,6 @@ pub fn acts<L: Ledger>(
     ensures looks { now < host.old.rules.r → steps.new ≤ steps.old + 4 }
 {
     let done = host.next(now, frame, steps);
-    assert!(rt; done == Some(act), "at {now}");
+    holds(rt, done == Some(act), now);
     rests(rt, host, now, frame, steps);
 }

@@ -1,7 +1,7 @@
 ghost use Rattle.std.specs.Prelude.{◌≡◌, ◌+◌, ◌<◌, ◌≤◌, IfOk};
 ghost use Rattle.dt_flow_model.specs.Keeping.{most_moment};
 
-use crate::hosts::{STANDARD, acts, first_octet, host_with, out, rests, sends};
+use crate::hosts::{STANDARD, acts, first_octet, holds, host_with, is_sent, out, rests, sends};
 use dt_flow_model::SendAct;
 use dt_host::Host;
 use dt_items::NoMemory;
@@ -45,14 +45,11 @@ fn begins<L: Ledger>(
     ensures latest { host.new.latest ≡ now }
     ensures looks { now < host.old.rules.r → steps.new ≤ steps.old + 8 }
 {
-    let flow = out(from_port);
     rests(rt, host, now, frame, steps);
-    let number = host.next_number(&flow);
-    assert!(rt; number.is_none(), "at {now}");
-    let sent = host.send(&flow, &[65], true, true, now, steps);
-    assert!(rt; sent == Ok(()), "at {now}");
+    let is = is_sent(host, from_port, b"A", now, Ok(()), steps);
+    holds(rt, is, now);
     let act = SendAct::Sent(first_octet());
-    acts(rt, host, now, sends(flow, act), frame, steps);
+    acts(rt, host, now, sends(out(from_port), act), frame, steps);
 }
 
 /// A thousand senders, each with an octet that went out at 0.

@@ -36,14 +36,15 @@ fn is_spent_behind(rt: &impl Abort, station: &mut Station<Frame>, memory: usize)
     assert!(rt; station.is_spent());
 }
 
+static OUTS: [OutLink; 1] = [OutLink { link: 5, pace: 0 }];
+
 fn spends(rt: &impl Abort, alloc: Global, memory: usize) -> Result<(), NoMemory> {
-    let outs = [OutLink { link: 5, pace: 0 }];
     let mut station = Station::<Frame>::new(
         alloc,
         &rules(rt),
         NodeId(9),
         None,
-        &outs,
+        &OUTS,
         &INS,
         &ROUTES,
     )?;

@@ -1,8 +1,8 @@
-ghost use Rattle.std.specs.Prelude.{◌≡◌, ◌<◌, ◌≤◌, length};
+ghost use Rattle.std.specs.Prelude.{◌≡◌, ◌<◌, ◌≤◌, IfOk, length};
 ghost use Rattle.dt_layout.specs.Spelling.{KeepsRules, packet_of};
 ghost use Rattle.dt_flow_model.specs.Keeping.{most_moment};
 
-use crate::hosts::{ME, STANDARD, host_with, out, rests, sends};
+use crate::hosts::{ME, STANDARD, holds, host_with, is_sent, out, sends};
 use dt_host::{Act, Arrived, Cut, Done, Host, RecvAct, SendAct, SendFault};
 use dt_items::{NoMemory, Piece};
 use dt_layout::{Frame, Packet};
@@ -95,7 +95,7 @@ const ACKED: RecvAct = RecvAct::Acked {
 const SETTLED: Arrived = Arrived::Acked { count: 1 };
 
 /// Two octets go out on two flows, and nothing is heard.
-static GIVEN_UP: [Row; 10] = [
+const GIVEN_UP: &[Row] = &[
     (0, Event::Send(10, b"A", Ok(()))),
     (0, Event::Sender(10, SendAct::Sent(FIRST))),
     (1, Event::Send(11, b"A", Ok(()))),
@@ -109,7 +109,7 @@ static GIVEN_UP: [Row; 10] = [
 ];
 
 /// After a restart at 0 nothing is taken for 6,200 ms.
-static SILENCE: [Row; 5] = [
+const SILENCE: &[Row] = &[
     (
         6199,
         Event::Send(10, b"A", Err(SendFault::Quiet { until: 6200 })),
@@ -124,7 +124,7 @@ static SILENCE: [Row; 5] = [
 ];
 
 /// An act of each class is due at 10,000. The last sender waits for a window.
-static CLASSES: [Row; 23] = [
+const CLASSES: &[Row] = &[
     (3800, Event::Send(12, b"A", Ok(()))),
     (3800, Event::Sender(12, SendAct::Sent(FIRST))),
     (3800, Event::Comes(Incoming::Ack(12, 1, 1), SETTLED)),
@@ -152,7 +152,7 @@ static CLASSES: [Row; 23] = [
 
 /// Of four senders the second goes: the others keep their order, so a swap would show. The first keeps
 /// an octet until 100, so that its release is due when those of the last two are.
-static ORDER_OF_MAKING: [Row; 21] = [
+const ORDER_OF_MAKING: &[Row] = &[
     (0, Event::Send(13, b"AB", Ok(()))),
     (0, Event::Sender(13, SendAct::Sent(FIRST_OF_TWO))),
     (0, Event::Send(12, b"A", Ok(()))),
@@ -177,7 +177,7 @@ static ORDER_OF_MAKING: [Row; 21] = [
 ];
 
 /// What comes for a flow that has no record.
-static WITHOUT_RECORD: [Row; 4] = [
+const WITHOUT_RECORD: &[Row] = &[
     (0, Event::Comes(Incoming::Ack(10, 0, 9), Arrived::Dropped)),
     (
         0,
@@ -194,7 +194,7 @@ static WITHOUT_RECORD: [Row; 4] = [
 ];
 
 /// A receiver goes when it has neither a record nor unread octets.
-static IDLE: [Row; 8] = [
+const IDLE: &[Row] = &[
     (0, Event::Comes(Incoming::Message(20, true), ACCEPTED)),
     (0, Event::Expects(20, Some(1))),
     (0, Event::Receiver(20, ACKED)),
@@ -203,6 +203,16 @@ static IDLE: [Row; 8] = [
     (4200, Event::Read(20, 1, [65, 0])),
     (4200, Event::Read(20, 0, [0, 0])),
     (4200, Event::Expects(20, None)),
+];
+
+/// Rows, and whether the node that they are of starts again at 0, or else for the first time.
+static ALL: [(bool, &[Row]); 6] = [
+    (false, GIVEN_UP),
+    (true, SILENCE),
+    (false, CLASSES),
+    (false, ORDER_OF_MAKING),
+    (false, WITHOUT_RECORD),
+    (false, IDLE),
 ];
 
 /// From a port of node 2 to port 10 of node 1.
@@ -282,76 +292,82 @@ fn packet_in(incoming: Incoming) -> Packet<'static>
     }
 }
 
-/// Octets are sent as a message on a flow that has no sender.
+/// Whether octets that are sent as a message, on a flow that has no sender, are answered so.
 fn offers<L: Ledger>(
-    rt: &impl Abort,
     host: &mut Host,
-    flow: Flow,
+    from_port: u16,
     octets: &[u8],
     now: u64,
     answer: Result<(), SendFault>,
     steps: &mut Steps<L>,
-)
+) -> bool
     requires moment { now ≤ most_moment }
     requires past { host.old.latest ≤ now }
-    ensures latest { host.new.latest ≡ now }
+    ensures latest { host.new.latest ≤ now }
 {
-    assert!(rt; !octets.is_empty() && octets.len() <= 8192);
-    assert_eq!(rt; flow.from.0, host.me().0);
-    assert_ne!(rt; flow.to.0, host.me().0);
-    assert!(rt; host.next_number(&flow).is_none());
-    assert!(rt; host.is_current(now, steps));
-    let result = host.send(&flow, octets, true, true, now, steps);
-    assert!(rt; result == answer, "at {now}");
+    host.me().0 == ME.0
+        && !octets.is_empty()
+        && octets.len() <= 8192
+        && host.is_current(now, steps)
+        && is_sent(host, from_port, octets, now, answer, steps)
 }
 
-/// The act that comes next.
-fn does_next<L: Ledger>(rt: &impl Abort, host: &mut Host, act: Done, now: u64, steps: &mut Steps<L>)
+/// The act that an event says comes next, if any.
+fn act_of(event: &Event) -> Option<Done> {
+    match event {
+        Event::Sender(port, act) => Some(sends(out(*port), *act)),
+        Event::Receiver(port, act) => Some(receives(back(*port), *act)),
+        _ => None,
+    }
+}
+
+/// Whether this act comes next, or none is due.
+fn does_next<L: Ledger>(host: &mut Host, act: Option<Done>, now: u64, steps: &mut Steps<L>) -> bool
     requires moment { now ≤ most_moment }
     requires past { host.old.latest ≤ now }
-    ensures latest { host.new.latest ≡ now }
+    ensures latest { host.new.latest ≤ now }
 {
-    let done = host.next(now, &mut Frame::new(), steps);
-    assert!(rt; done == Some(act), "at {now}");
+    host.next(now, &mut Frame::new(), steps) == act
 }
 
-/// A packet comes from node 2.
+/// Whether a packet that comes from node 2 is answered so.
 fn comes<L: Ledger>(
-    rt: &impl Abort,
     host: &mut Host,
-    packet: &Packet<'_>,
+    incoming: Incoming,
     now: u64,
     answer: Arrived,
     steps: &mut Steps<L>,
-)
-    requires rules { KeepsRules (packet_of packet.now) }
+) -> bool
     requires moment { now ≤ most_moment }
     requires past { host.old.latest ≤ now }
-    ensures latest { host.new.latest ≡ now }
+    ensures latest { host.new.latest ≤ now }
 {
-    assert!(rt; host.is_current(now, steps));
-    let result = host.arrive(OTHER, packet, now, &mut Frame::new(), steps);
-    assert!(rt; result == Ok(answer), "at {now}");
+    if !host.is_current(now, steps) {
+        return false;
+    }
+    let packet = packet_in(incoming);
+    host.arrive(OTHER, &packet, now, &mut Frame::new(), steps) == Ok(answer)
 }
 
-/// Unread octets are read into two zeros.
+/// Whether so many unread octets are read into two zeros, and become these.
 fn reads<L: Ledger>(
-    rt: &impl Abort,
     host: &mut Host,
-    flow: Flow,
+    from_port: u16,
     now: u64,
     count: usize,
     buffer: [u8; 2],
     steps: &mut Steps<L>,
-)
+) -> bool
     requires moment { now ≤ most_moment }
     requires past { host.old.latest ≤ now }
-    ensures latest { host.new.latest ≡ now }
+    ensures latest { host.new.latest ≤ now }
 {
-    assert!(rt; host.is_current(now, steps));
+    if !host.is_current(now, steps) {
+        return false;
+    }
     let mut read = [0; 2];
-    let piece = host.read(&flow, &mut read, now, steps);
-    assert!(rt; count_of(piece) == count && read == buffer, "at {now}");
+    let piece = host.read(&back(from_port), &mut read, now, steps);
+    count_of(piece) == count && read == buffer
 }
 
 fn count_of(piece: Option<Piece>) -> usize {
@@ -361,41 +377,21 @@ fn count_of(piece: Option<Piece>) -> usize {
     }
 }
 
-/// An event at a moment that isn't before those that were.
-fn happens<L: Ledger>(
-    rt: &impl Abort,
-    host: &mut Host,
-    event: Event,
-    now: u64,
-    steps: &mut Steps<L>,
-)
+/// Whether an event, at a moment that isn't before those that were, goes as it says.
+fn happens<L: Ledger>(host: &mut Host, event: &Event, now: u64, steps: &mut Steps<L>) -> bool
     requires moment { now ≤ most_moment }
     requires past { host.old.latest ≤ now }
     ensures latest { host.new.latest ≤ now }
 {
     match event {
-        Event::Send(port, octets, answer) => offers(
-            rt,
-            host,
-            out(port),
-            octets,
-            now,
-            answer,
-            steps,
-        ),
-        Event::Sender(port, act) => does_next(rt, host, sends(out(port), act), now, steps),
-        Event::Receiver(port, act) => does_next(rt, host, receives(back(port), act), now, steps),
-        Event::Rest => rests(rt, host, now, &mut Frame::new(), steps),
-        Event::Wake(moment) => assert!(rt; host.wake() == moment, "at {now}"),
-        Event::Comes(incoming, answer) => {
-            comes(rt, host, &packet_in(incoming), now, answer, steps)
+        Event::Send(port, octets, answer) => offers(host, *port, octets, now, *answer, steps),
+        Event::Sender(_, _) | Event::Receiver(_, _) | Event::Rest => {
+            does_next(host, act_of(event), now, steps)
         }
-        Event::Read(port, count, buffer) => {
-            reads(rt, host, back(port), now, count, buffer, steps)
-        }
-        Event::Expects(port, number) => {
-            assert!(rt; host.expected(&back(port)) == number, "at {now}")
-        }
+        Event::Wake(moment) => host.wake() == *moment,
+        Event::Comes(incoming, answer) => comes(host, *incoming, now, *answer, steps),
+        Event::Read(port, count, buffer) => reads(host, *port, now, *count, *buffer, steps),
+        Event::Expects(port, number) => host.expected(&back(*port)) == *number,
     }
 }
 
@@ -406,35 +402,47 @@ fn runs<L: Ledger>(rt: &impl Abort, host: &mut Host, rows: &[Row], steps: &mut S
     let mut latest = 0;
     for (now, event) in rows {
         assert!(rt; latest <= *now && *now <= 10_000);
-        happens(rt, host, *event, *now, steps);
         latest = *now;
+        let is = happens(host, event, latest, steps);
+        holds(rt, is, latest);
     }
 }
 
-/// The rows on the host of a node that starts for the first time.
-fn runs_first<L: Ledger>(
+/// The host of a node that starts again at 0, or for the first time.
+fn opened(rt: &impl Abort, alloc: Global, again: bool) -> Result<Host, NoMemory>
+    ensures latest { IfOk result (λ host. host.latest ≡ 0) }
+{
+    if again {
+        let rules = STANDARD.check().expect(rt, "the parameters are refused");
+        Host::restarted(alloc, &rules, ME, 0)
+    } else {
+        host_with(rt, alloc, &STANDARD)
+    }
+}
+
+/// The rows on a host of their own.
+fn runs_on<L: Ledger>(
     rt: &impl Abort,
     alloc: Global,
+    again: bool,
     rows: &[Row],
     steps: &mut Steps<L>,
 ) -> Result<(), NoMemory> {
-    let mut host = host_with(rt, alloc, &STANDARD)?;
+    let mut host = opened(rt, alloc, again)?;
     runs(rt, &mut host, rows, steps);
     drop(host);
     Ok(())
 }
 
-/// The rows on the host of a node that starts again at 0.
-fn runs_again<L: Ledger>(
+/// All rows.
+fn all_run<L: Ledger>(
     rt: &impl Abort,
     alloc: Global,
-    rows: &[Row],
     steps: &mut Steps<L>,
 ) -> Result<(), NoMemory> {
-    let rules = STANDARD.check().expect(rt, "the parameters are refused");
-    let mut host = Host::restarted(alloc, &rules, ME, 0)?;
-    runs(rt, &mut host, rows, steps);
-    drop(host);
+    for (again, rows) in &ALL {
+        runs_on(rt, alloc, *again, rows, steps)?;
+    }
     Ok(())
 }
 
@@ -443,13 +451,7 @@ fn rows_on<L: Ledger>(rt: &impl Abort, alloc: Global, ledger: Blank) -> Result<(
     requires parts { ledger.parts ≡ L.parts }
     requires some { 0 < ledger.parts }
 {
-    let mut steps = Steps::<L>::new(ledger);
-    runs_first(rt, alloc, &GIVEN_UP, &mut steps)?;
-    runs_again(rt, alloc, &SILENCE, &mut steps)?;
-    runs_first(rt, alloc, &CLASSES, &mut steps)?;
-    runs_first(rt, alloc, &ORDER_OF_MAKING, &mut steps)?;
-    runs_first(rt, alloc, &WITHOUT_RECORD, &mut steps)?;
-    runs_first(rt, alloc, &IDLE, &mut steps)
+    all_run(rt, alloc, &mut Steps::<L>::new(ledger))
 }
 
 #[test]

@@ -2,7 +2,7 @@
 use dt_relay::{InLink, OutLink, Route};
 
 /// To node 2 on link 5, to node 3 on link 1; the links stand in this order.
-pub const OUTS: [OutLink; 2] = [
+pub static OUTS: [OutLink; 2] = [
     OutLink {
         link: 5,
         pace: 1000,
@@ -11,7 +11,7 @@ pub const OUTS: [OutLink; 2] = [
 ];
 
 /// The same links, and the first of them again.
-pub const OUTS_AGAIN: [OutLink; 3] = [
+pub static OUTS_AGAIN: [OutLink; 3] = [
     OutLink {
         link: 5,
         pace: 1000,
@@ -20,7 +20,7 @@ pub const OUTS_AGAIN: [OutLink; 3] = [
     OutLink { link: 5, pace: 7 },
 ];
 
-pub const INS: [InLink; 2] = [
+pub static INS: [InLink; 2] = [
     InLink {
         link: 3,
         charge: 998,
@@ -31,4 +31,4 @@ pub const INS: [InLink; 2] = [
     },
 ];
 
-pub const ROUTES: [Route; 2] = [Route { to: 2, link: 5 }, Route { to: 3, link: 1 }];
+pub static ROUTES: [Route; 2] = [Route { to: 2, link: 5 }, Route { to: 3, link: 1 }];

@@ -2,8 +2,8 @@
 use crate::benches::{Bench, Step};
 use crate::relay_links::{INS, OUTS, OUTS_AGAIN, ROUTES};
 use dt_items::NoMemory;
-use dt_layout::Frame;
-use dt_relay::{Entered, Passage, Relay};
+use dt_relay::{Entered, OutLink, Passage};
+use std::alloc::Global;
 use std::process::Abort;
 
 /// Each step is as it says.
@@ -12,6 +12,13 @@ fn are_done(rt: &impl Abort, bench: &mut Bench, steps: &[Step]) {
         let is = bench.is_done(rt, *step);
         assert!(rt; is, "step {number}");
     }
+}
+
+/// Each step of a relay with these links is as it says.
+fn goes(rt: &impl Abort, alloc: Global, outs: &[OutLink], steps: &[Step]) -> Result<(), NoMemory> {
+    let mut bench = Bench::new(alloc, outs, &INS, &ROUTES)?;
+    are_done(rt, &mut bench, steps);
+    Ok(())
 }
 
 const QUEUED: Entered = Entered::Queued { link: 5 };
@@ -54,9 +61,7 @@ static STEPS: [Step; 31] = [
 
 #[test]
 fn packets_pay_and_wait(rt: HostRuntime) -> Result<(), NoMemory> {
-    let mut bench = Bench::new(rt.alloc(), &OUTS, &INS, &ROUTES)?;
-    are_done(&rt, &mut bench, &STEPS);
-    Ok(())
+    goes(&rt, rt.alloc(), &OUTS, &STEPS)
 }
 
 const GOES_ON: Passage = Passage::Leaves { link: 5 };
@@ -86,16 +91,14 @@ static STRAIGHT_STEPS: [Step; 16] = [
 
 #[test]
 fn what_needs_not_wait_goes_straight_on(rt: HostRuntime) -> Result<(), NoMemory> {
-    let mut bench = Bench::new(rt.alloc(), &OUTS_AGAIN, &INS, &ROUTES)?;
-    are_done(&rt, &mut bench, &STRAIGHT_STEPS);
-    Ok(())
+    goes(&rt, rt.alloc(), &OUTS_AGAIN, &STRAIGHT_STEPS)
 }
 
-/// One leaves, and so the next have to wait.
-static FIRST_STEPS: [Step; 2] = [Step::Enters(5000, 2, QUEUED), Step::Leaves(5, Some(4999))];
-
-/// What comes of a relay on which 64 wait.
-static FULL_STEPS: [Step; 8] = [
+/// One leaves, and so the next have to wait. Then 64 wait, and no more can.
+static FULL_STEPS: [Step; 11] = [
+    Step::Enters(5000, 2, QUEUED),
+    Step::Leaves(5, Some(4999)),
+    Step::Fills,
     Step::Enters(9000, 2, Entered::Full { link: 5 }),
     Step::GoesOn(9000, 2, Passage::Full { link: 5 }),
     Step::Leaves(5, None),
@@ -108,19 +111,17 @@ static FULL_STEPS: [Step; 8] = [
 
 #[test]
 fn sixty_four_wait_and_no_more(rt: HostRuntime) -> Result<(), NoMemory> {
-    let mut bench = Bench::new(rt.alloc(), &OUTS, &INS, &ROUTES)?;
-    are_done(&rt, &mut bench, &FIRST_STEPS);
-    for waiting in 0..64 {
-        let is = bench.is_done(&rt, Step::Enters(5000 + waiting, 2, QUEUED));
-        assert!(rt; is, "{waiting}");
-    }
-    are_done(&rt, &mut bench, &FULL_STEPS);
-    Ok(())
+    goes(&rt, rt.alloc(), &OUTS, &FULL_STEPS)
 }
+
+/// The places of the links, and no more.
+static PLACES: [Step; 3] = [
+    Step::LinkAt(0, Some(5)),
+    Step::LinkAt(1, Some(1)),
+    Step::LinkAt(2, None),
+];
 
 #[test]
 fn links_stand_in_the_order_of_outs(rt: HostRuntime) -> Result<(), NoMemory> {
-    let relay = Relay::<Frame>::new(rt.alloc(), &OUTS, &INS, &ROUTES)?;
-    assert!(rt; relay.links() == 2 && relay.link_at(0) == 5 && relay.link_at(1) == 1);
-    Ok(())
+    goes(&rt, rt.alloc(), &OUTS, &PLACES)
 }
