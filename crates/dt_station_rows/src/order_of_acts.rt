@@ -317,7 +317,12 @@ fn act_of(event: &Event) -> Option<Done> {
     match event {
         Event::Sender(port, act) => Some(sends(out(*port), *act)),
         Event::Receiver(port, act) => Some(receives(back(*port), *act)),
-        _ => None,
+        Event::Send(_, _, _)
+        | Event::Rest
+        | Event::Wake(_)
+        | Event::Comes(_, _)
+        | Event::Read(_, _, _)
+        | Event::Expects(_, _) => None,
     }
 }
 
