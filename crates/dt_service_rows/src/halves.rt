@@ -63,6 +63,11 @@ fn is_answer(happening: &Option<Happening>, carried: &[u8]) -> bool {
     }
 }
 
+// Whether what the client tells next is the answer.
+fn answers(client: &mut Halves) -> bool {
+    is_answer(&client.next_happening(), b"A")
+}
+
 fn is_unsure(happening: &Option<Happening>, why: Cause) -> bool {
     match happening {
         Some(Happening::Unsure { call, cause }) => *call == FIRST && *cause == why,
@@ -70,7 +75,27 @@ fn is_unsure(happening: &Option<Happening>, why: Cause) -> bool {
     }
 }
 
-fn serves(alloc: Global, server: &mut Halves) -> Result<bool, NoMemory> {
+// Whether the call ends so.
+fn ends_unsure(client: &mut Halves, why: Cause) -> bool {
+    is_unsure(&client.next_happening(), why)
+}
+
+// Whether anything is told.
+fn tells(client: &mut Halves) -> bool {
+    client.next_happening().is_some()
+}
+
+// Whether the request is open and told.
+fn asks(server: &mut Halves) -> bool {
+    let token = Token {
+        flow: FLOW,
+        number: FIRST,
+    };
+    server.is_open(&token) && is_request(&server.next_happening(), b"a")
+}
+
+// Whether the port is new, and the flow of octets that were accepted is unread.
+fn hears(server: &mut Halves) -> Result<bool, NoMemory> {
     let is_new = server.set_kind(20, PortKind::Service)?;
     let accepted = Report::Accepted {
         flow: FLOW,
@@ -79,13 +104,13 @@ fn serves(alloc: Global, server: &mut Halves) -> Result<bool, NoMemory> {
         run: true,
     };
     server.hear(&accepted)?;
-    let is_heard = server.unread() == [FLOW].as_slice();
+    Ok(is_new && server.unread() == [FLOW].as_slice())
+}
+
+fn serves(alloc: Global, server: &mut Halves) -> Result<bool, NoMemory> {
+    let is_heard = hears(server)?;
     comes(alloc, server, FLOW, b"a")?;
-    let token = Token {
-        flow: FLOW,
-        number: FIRST,
-    };
-    Ok(is_new && is_heard && server.is_open(&token) && is_request(&server.next_happening(), b"a"))
+    Ok(is_heard && asks(server))
 }
 
 // Whether the call is handed out to the server, and its answer to the client.
@@ -93,31 +118,32 @@ fn is_answered(alloc: Global, client: &mut Halves, server: &mut Halves) -> Resul
     let is_served = calls(client)? && serves(alloc, server)?;
     comes(alloc, client, reversed(FLOW), b"A")?;
     client.judge(1)?;
-    Ok(is_served && is_answer(&client.next_happening(), b"A"))
+    Ok(is_served && answers(client))
+}
+
+// The same of a server that begins.
+fn is_served(alloc: Global, client: &mut Halves) -> Result<bool, NoMemory> {
+    let mut server = Halves::new(alloc, MOST, 1);
+    is_answered(alloc, client, &mut server)
 }
 
 #[test]
 fn a_call_is_handed_out_and_answered(rt: HostRuntime) {
-    let mut client = Halves::new(rt.alloc(), MOST, 5);
-    let mut server = Halves::new(rt.alloc(), MOST, 1);
-    let is = is_answered(rt.alloc(), &mut client, &mut server);
-    assert!(rt; is == Ok(true));
+    assert!(rt; ends(rt.alloc(), End::Answered) == Ok(true));
 }
 
 // Whether the call ends at 1,000 for its patience, and not at 999.
 fn runs_out(client: &mut Halves) -> Result<bool, NoMemory> {
     let is_made = calls(client)?;
     client.judge(999)?;
-    let is_early = client.next_happening().is_some();
+    let is_early = tells(client);
     client.judge(1000)?;
-    Ok(is_made && !is_early && is_unsure(&client.next_happening(), Cause::Patience))
+    Ok(is_made && !is_early && ends_unsure(client, Cause::Patience))
 }
 
 #[test]
 fn patience_ends_a_call(rt: HostRuntime) {
-    let mut client = Halves::new(rt.alloc(), MOST, 5);
-    let is = runs_out(&mut client);
-    assert!(rt; is == Ok(true));
+    assert!(rt; ends(rt.alloc(), End::Patience) == Ok(true));
 }
 
 // Whether the call ends, since the octets of its request are given up.
@@ -128,12 +154,28 @@ fn is_given_up(client: &mut Halves) -> Result<bool, NoMemory> {
         count: 9,
     })?;
     client.judge(1)?;
-    Ok(is_made && is_unsure(&client.next_happening(), Cause::GivenUp))
+    Ok(is_made && ends_unsure(client, Cause::GivenUp))
+}
+
+// How a call is to end.
+#[derive(Drop)]
+enum End {
+    Answered,
+    Patience,
+    GivenUp,
+}
+
+// Whether the call of a client that begins ends so.
+fn ends(alloc: Global, end: End) -> Result<bool, NoMemory> {
+    let mut client = Halves::new(alloc, MOST, 5);
+    match end {
+        End::Answered => is_served(alloc, &mut client),
+        End::Patience => runs_out(&mut client),
+        End::GivenUp => is_given_up(&mut client),
+    }
 }
 
 #[test]
 fn octets_that_are_given_up_end_a_call(rt: HostRuntime) {
-    let mut client = Halves::new(rt.alloc(), MOST, 5);
-    let is = is_given_up(&mut client);
-    assert!(rt; is == Ok(true));
+    assert!(rt; ends(rt.alloc(), End::GivenUp) == Ok(true));
 }

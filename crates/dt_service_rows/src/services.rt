@@ -9,7 +9,7 @@ use dt_units::{Flow, NodeId, Params};
 use std::alloc::Global;
 use std::process::Abort;
 
-const STANDARD: Params = Params {
+static STANDARD: Params = Params {
     mpl: 1000,
     r: 3000,
     a: 200,
@@ -65,9 +65,9 @@ const SECOND: Made = Made::Call(CallNumber { life: 5, count: 1 });
 /// The answer to the first call of the life after it.
 const RAISED: Made = Made::Call(CallNumber { life: 6, count: 0 });
 
-const OUTS: [OutLink; 1] = [OutLink { link: 5, pace: 0 }];
+static OUTS: [OutLink; 1] = [OutLink { link: 5, pace: 0 }];
 
-const INS: [InLink; 1] = [InLink { link: 7, charge: 0 }];
+static INS: [InLink; 1] = [InLink { link: 7, charge: 0 }];
 
 /// The service of a node with a route to the other.
 fn open(rt: &impl Abort, alloc: Global, me: u32, again: Option<u64>) -> Result<Service, NoMemory> {
@@ -136,22 +136,28 @@ fn first_of(octets: &[u8]) -> u8 {
     octets.first().copied().unwrap_or(0)
 }
 
+fn words_of(happening: &Happening) -> Told {
+    match happening {
+        Happening::Request { token, payload } => Told::Request {
+            count: token.number.count,
+            first: first_of(&payload.octets),
+        },
+        Happening::Answered { call, answer } => Told::Answered {
+            count: call.count,
+            first: first_of(&answer.octets),
+        },
+        Happening::Unsure { call, cause } => Told::Unsure {
+            count: call.count,
+            cause: *cause,
+        },
+    }
+}
+
 /// What a service reports next.
 fn next(service: &mut Service) -> Told {
     match service.next() {
         None => Told::Nothing,
-        Some(Happening::Request { token, payload }) => Told::Request {
-            count: token.number.count,
-            first: first_of(&payload.octets),
-        },
-        Some(Happening::Answered { call, answer }) => Told::Answered {
-            count: call.count,
-            first: first_of(&answer.octets),
-        },
-        Some(Happening::Unsure { call, cause }) => Told::Unsure {
-            count: call.count,
-            cause,
-        },
+        Some(happening) => words_of(&happening),
     }
 }
 
@@ -259,7 +265,7 @@ fn hands_one_over(one: &mut Service, two: &mut Service, now: u64) -> bool {
 
 /// Whether the first two are.
 fn hands_over(one: &mut Service, two: &mut Service, now: u64) -> bool {
-    (0..2).all(|_| hands_one_over(one, two, now))
+    hands_one_over(one, two, now) && hands_one_over(one, two, now)
 }
 
 /// Whether a step goes as it says.
@@ -293,15 +299,38 @@ fn follows_beside(
     Ok(())
 }
 
-/// Each step goes as it says, where the client starts again at a moment or for the first time.
+/// What is asked of a client: steps, beside a server; or two calls, which are made where there is memory.
+#[derive(Drop)]
+enum Trial {
+    Steps(&'static [Step]),
+    Calls,
+}
+
+/// A client goes through its trial.
+fn goes_through(
+    rt: &impl Abort,
+    alloc: Global,
+    client: &mut Service,
+    trial: Trial,
+) -> Result<(), NoMemory> {
+    match trial {
+        Trial::Steps(steps) => follows_beside(rt, alloc, client, steps),
+        Trial::Calls => {
+            assert!(rt; goes_on_or_is_spent(client));
+            Ok(())
+        }
+    }
+}
+
+/// A client that starts again at a moment, or for the first time, goes through its trial.
 fn follows(
     rt: &impl Abort,
     alloc: Global,
     again: Option<u64>,
-    steps: &[Step],
+    trial: Trial,
 ) -> Result<(), NoMemory> {
     let mut client = open(rt, alloc, 1, again)?;
-    follows_beside(rt, alloc, &mut client, steps)
+    goes_through(rt, alloc, &mut client, trial)
 }
 
 /// The request is handed out once, and takes one reply.
@@ -320,7 +349,7 @@ static ANSWER: [Step; 10] = [
 
 #[test]
 fn a_call_is_handed_out_and_answered(rt: HostRuntime) -> Result<(), NoMemory> {
-    follows(&rt, rt.alloc(), None, &ANSWER)
+    follows(&rt, rt.alloc(), None, Trial::Steps(&ANSWER))
 }
 
 /// Patience is over at 300, and no sooner; and the reply that comes then is counted.
@@ -344,7 +373,7 @@ static LATE: [Step; 15] = [
 
 #[test]
 fn patience_ends_a_call_and_a_late_reply_is_counted(rt: HostRuntime) -> Result<(), NoMemory> {
-    follows(&rt, rt.alloc(), None, &LATE)
+    follows(&rt, rt.alloc(), None, Trial::Steps(&LATE))
 }
 
 /// What can't be called is refused by its cause. A call that doesn't fit is declined, and no more wait than
@@ -398,7 +427,7 @@ static REFUSED: [Step; 24] = [
 
 #[test]
 fn calls_are_refused_declined_and_closed(rt: HostRuntime) -> Result<(), NoMemory> {
-    follows(&rt, rt.alloc(), None, &REFUSED)
+    follows(&rt, rt.alloc(), None, Trial::Steps(&REFUSED))
 }
 
 /// A node that starts again is silent, and its calls then have another life.
@@ -419,7 +448,7 @@ static RAISE: [Step; 4] = [
 
 #[test]
 fn a_life_is_raised(rt: HostRuntime) -> Result<(), NoMemory> {
-    follows(&rt, rt.alloc(), Some(100), &RAISE)
+    follows(&rt, rt.alloc(), Some(100), Trial::Steps(&RAISE))
 }
 
 /// A request that is forgotten takes no reply.
@@ -433,7 +462,7 @@ static FORGOTTEN: [Step; 5] = [
 
 #[test]
 fn a_request_is_forgotten(rt: HostRuntime) -> Result<(), NoMemory> {
-    follows(&rt, rt.alloc(), None, &FORGOTTEN)
+    follows(&rt, rt.alloc(), None, Trial::Steps(&FORGOTTEN))
 }
 
 /// Whether the service is closed for want of memory: each call that waited is reported so, and none else.
@@ -448,10 +477,7 @@ fn is_spent(client: &mut Service, waits: bool) -> bool {
 /// unsure.
 #[test]
 fn want_of_memory_ends_what_waits(rt: HostRuntime) {
-    if let Ok(mut client) = open(&rt, rt.alloc(), 1, None) {
-        let is = goes_on_or_is_spent(&mut client);
-        assert!(rt; is);
-    }
+    let _opened = follows(&rt, rt.alloc(), None, Trial::Calls);
 }
 
 /// Whether a second call is made, or the first one is unsure for want of memory.
