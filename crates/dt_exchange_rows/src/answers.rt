@@ -1,11 +1,11 @@
 //! The answers of calls that are refused, or that come too late.
-use crate::calls::{Call, answers, is_answered};
+use crate::calls::{Call, answers, answers_all};
 use crate::fixtures::{BACK, FLOW, STANDARD, open};
 use dt_endpoint::{Delivered, Endpoint, Received, Routed, Sent, Ticked};
 use dt_fingerprint::fingerprint;
-use dt_items::NoMemory;
 use dt_layout::LayoutFault;
 use dt_units::{Flow, NodeId};
+use std::process::Abort;
 
 const OWN: Flow = Flow {
     from: NodeId(1),
@@ -19,8 +19,8 @@ static REFUSED_SENDS: [(u64, Call); 3] = [
 ];
 
 #[test]
-fn refused_sends_say_why(rt: HostRuntime) -> Result<(), NoMemory> {
-    answers(&rt, rt.alloc(), 1, None, &REFUSED_SENDS)
+fn refused_sends_say_why(rt: HostRuntime) {
+    answers(&rt, rt.alloc(), 1, None, &REFUSED_SENDS);
 }
 
 const SHORT: Received = Received::Bad {
@@ -36,8 +36,8 @@ static REFUSED_DATAGRAMS_AND_READS: [(u64, Call); 5] = [
 ];
 
 #[test]
-fn refused_datagrams_and_reads_say_why(rt: HostRuntime) -> Result<(), NoMemory> {
-    answers(&rt, rt.alloc(), 1, None, &REFUSED_DATAGRAMS_AND_READS)
+fn refused_datagrams_and_reads_say_why(rt: HostRuntime) {
+    answers(&rt, rt.alloc(), 1, None, &REFUSED_DATAGRAMS_AND_READS);
 }
 
 /// A node that starts again is silent for 3 mpl + r + a ms.
@@ -50,8 +50,8 @@ static SILENT: [(u64, Call); 2] = [
 ];
 
 #[test]
-fn silence_is_told(rt: HostRuntime) -> Result<(), NoMemory> {
-    answers(&rt, rt.alloc(), 2, Some(100), &SILENT)
+fn silence_is_told(rt: HostRuntime) {
+    answers(&rt, rt.alloc(), 2, Some(100), &SILENT);
 }
 
 static GOING_BACK: [(u64, Call); 4] = [
@@ -62,8 +62,8 @@ static GOING_BACK: [(u64, Call); 4] = [
 ];
 
 #[test]
-fn moments_never_go_back(rt: HostRuntime) -> Result<(), NoMemory> {
-    answers(&rt, rt.alloc(), 1, None, &GOING_BACK)
+fn moments_never_go_back(rt: HostRuntime) {
+    answers(&rt, rt.alloc(), 1, None, &GOING_BACK);
 }
 
 /// Every call says that the endpoint is spent.
@@ -77,21 +77,21 @@ static SPENT: [(u64, Call); 7] = [
     (9, Call::AddRoute(9, 5, Routed::Spent)),
 ];
 
-/// Whether the send is taken, or want of memory is told at it and at every call from then on.
-fn is_told_once(one: &mut Endpoint) -> bool {
-    match one.send(0, FLOW, b"abc", true, true) {
-        Sent::Done => !one.is_spent(),
-        answer => {
-            answer == Sent::NoMemory && SPENT.iter().all(|(now, call)| is_answered(one, *now, call))
-        }
+/// The send is taken, or want of memory is told at it and at every call from then on.
+fn tells_once(rt: &impl Abort, one: &mut Endpoint) {
+    let answer = one.send(0, FLOW, b"abc", true, true);
+    if answer == Sent::Done {
+        assert!(rt; !one.is_spent());
+    } else {
+        assert!(rt; answer == Sent::NoMemory);
+        answers_all(rt, one, &SPENT);
     }
 }
 
 #[test]
 fn want_of_memory_is_told_once(rt: HostRuntime) {
     if let Ok(mut one) = open(&rt, rt.alloc(), 1, None) {
-        let is = is_told_once(&mut one);
-        assert!(rt; is);
+        tells_once(&rt, &mut one);
     }
 }
 

@@ -1,7 +1,6 @@
 //! Calls of an endpoint, and what comes of each.
-use crate::fixtures::open;
+use crate::fixtures::{holds, open};
 use dt_endpoint::{Counts, Delivered, Endpoint, Octets, Received, Route, Routed, Sent, Ticked};
-use dt_items::NoMemory;
 use dt_reports::Report;
 use dt_units::{Flow, NodeId};
 use std::alloc::Global;
@@ -115,22 +114,15 @@ pub fn is_answered(one: &mut Endpoint, now: u64, call: &Call) -> bool {
 }
 
 /// The endpoint answers each call as it says.
-fn answers_all(rt: &impl Abort, one: &mut Endpoint, calls: &[(u64, Call)]) {
+pub fn answers_all(rt: &impl Abort, one: &mut Endpoint, calls: &[(u64, Call)]) {
     for (place, (now, call)) in calls.iter().enumerate() {
         let is = is_answered(one, *now, call);
-        assert!(rt; is, "call {place}");
+        holds(rt, is, place);
     }
 }
 
 /// An endpoint of this node, with a route to the other, answers each call as it says.
-pub fn answers(
-    rt: &impl Abort,
-    alloc: Global,
-    me: u32,
-    again: Option<u64>,
-    calls: &[(u64, Call)],
-) -> Result<(), NoMemory> {
-    let mut one = open(rt, alloc, me, again)?;
+pub fn answers(rt: &impl Abort, alloc: Global, me: u32, again: Option<u64>, calls: &[(u64, Call)]) {
+    let mut one = open(rt, alloc, me, again).expect(rt, "memory");
     answers_all(rt, &mut one, calls);
-    Ok(())
 }

@@ -62,3 +62,8 @@ pub fn open(
     };
     Endpoint::open(alloc, &rules, NodeId(me), again, &links)
 }
+
+/// What a row says holds.
+pub fn holds(rt: &impl Abort, is: bool, place: usize) {
+    assert!(rt; is, "row {place}");
+}

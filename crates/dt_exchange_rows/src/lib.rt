@@ -13,6 +13,8 @@ mod fixtures;
 #[cfg(test)]
 mod inboxes;
 #[cfg(test)]
+mod pairs;
+#[cfg(test)]
 mod pieces;
 #[cfg(test)]
 mod routes;

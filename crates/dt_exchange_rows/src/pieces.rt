@@ -1,4 +1,4 @@
-use dt_items::NoMemory;
+use crate::fixtures::holds;
 use dt_messages::{Joiner, Marks, Message};
 use std::alloc::Global;
 use std::process::Abort;
@@ -66,28 +66,33 @@ fn is_whole(whole: &Option<Message>, wanted: &Option<(&[u8], bool)>) -> bool {
     }
 }
 
-fn follows(alloc: Global, joiner: &mut Joiner, rows: &[Row]) -> Result<bool, NoMemory> {
-    for row in rows {
-        let whole = joiner.join(alloc, marks(row.0), row.1)?;
-        if !is_whole(&whole, &row.2) || joiner.dropped() != row.3 {
-            return Ok(false);
-        }
+/// Whether a piece makes the message whole that its row says, if it makes one.
+fn is_joined(alloc: Global, joiner: &mut Joiner, row: &Row) -> bool {
+    match joiner.join(alloc, marks(row.0), row.1) {
+        Ok(whole) => is_whole(&whole, &row.2) && joiner.dropped() == row.3,
+        Err(_) => false,
     }
-    Ok(true)
+}
+
+fn follows(rt: &impl Abort, alloc: Global, joiner: &mut Joiner, rows: &[Row]) {
+    for (place, row) in rows.iter().enumerate() {
+        let is = is_joined(alloc, joiner, row);
+        holds(rt, is, place);
+    }
+}
+
+/// Each piece goes as its row says, where messages have so many octets at most.
+fn joins(rt: &impl Abort, alloc: Global, longest: Option<usize>, rows: &[Row]) {
+    let mut joiner = Joiner::new(longest);
+    follows(rt, alloc, &mut joiner, rows);
 }
 
 #[test]
-fn messages_are_whole_from_begin_to_end(rt: HostRuntime) -> Result<(), NoMemory> {
-    let mut joiner = Joiner::new(None);
-    let right = follows(rt.alloc(), &mut joiner, &ANY_LENGTH)?;
-    assert!(rt; right);
-    Ok(())
+fn messages_are_whole_from_begin_to_end(rt: HostRuntime) {
+    joins(&rt, rt.alloc(), None, &ANY_LENGTH);
 }
 
 #[test]
-fn longer_messages_are_dropped_and_counted(rt: HostRuntime) -> Result<(), NoMemory> {
-    let mut joiner = Joiner::new(Some(4));
-    let right = follows(rt.alloc(), &mut joiner, &FOUR_AT_MOST)?;
-    assert!(rt; right);
-    Ok(())
+fn longer_messages_are_dropped_and_counted(rt: HostRuntime) {
+    joins(&rt, rt.alloc(), Some(4), &FOUR_AT_MOST);
 }

@@ -1,7 +1,6 @@
 //! A node that learns of another while it lives.
 use crate::calls::{Call, answers};
 use dt_endpoint::{Routed, Sent, Ticked};
-use dt_items::NoMemory;
 use dt_units::{Flow, NodeId};
 
 /// From node 1 to node 3, to which no route leads first.
@@ -26,6 +25,6 @@ static LATE_ROUTE: [(u64, Call); 9] = [
 ];
 
 #[test]
-fn route_that_is_added_leads(rt: HostRuntime) -> Result<(), NoMemory> {
-    answers(&rt, rt.alloc(), 1, None, &LATE_ROUTE)
+fn route_that_is_added_leads(rt: HostRuntime) {
+    answers(&rt, rt.alloc(), 1, None, &LATE_ROUTE);
 }
