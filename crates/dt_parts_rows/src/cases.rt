@@ -1,7 +1,9 @@
 //! A table of cases: one row for each key, and tables with two rows or none.
 ghost use Rattle.std.specs.Prelude.{◌<◌};
 
+use crate::rows::{holds, holds_at};
 use dt_cases::{Row, covers, pick};
+use std::process::Abort;
 
 macro_rules! table {
     ($($mask:literal $value:literal $action:literal;)*) => {
@@ -35,16 +37,29 @@ fn received(key: u8) -> u8
     pick(&RECEIVE, key)
 }
 
+fn is_each_received() -> bool {
+    covers(&RECEIVE, 32)
+}
+
 /// The action at each key below 32.
 static ACTIONS: [u8; 32] = [
     0, 0, 2, 1, 3, 3, 3, 3, 0, 0, 2, 1, 3, 4, 3, 4, 0, 0, 2, 1, 3, 3, 2, 5, 0, 0, 2, 1, 0, 6, 0, 6,
 ];
 
+fn is_received(rt: &impl Abort, key: u8)
+    requires { key < 32 }
+{
+    let place = usize::from(key);
+    let action = ACTIONS[place];
+    holds_at(rt, received(key) == action, place, usize::from(action));
+}
+
 #[test]
 fn the_receive_table_has_one_row_for_each_key(rt: HostRuntime) {
-    assert!(rt; covers(&RECEIVE, 32));
+    let is = is_each_received();
+    assert!(rt; is);
     for key in 0..32 {
-        assert!(rt; received(key) == ACTIONS[usize::from(key)], "at {key}");
+        is_received(&rt, key);
     }
 }
 
@@ -68,8 +83,8 @@ fn covers_at_most<const N: usize>(rows: &[Row; N], keys: u8) -> bool
 
 #[test]
 fn a_key_with_two_rows_or_none_breaks_the_rule(rt: HostRuntime) {
-    assert!(rt; covers_at_most(&TWO_ROWS, 2));
-    assert!(rt; covers_at_most(&NO_ROW, 3));
-    assert!(rt; covers_at_most(&BIT_OUTSIDE, 0));
-    assert!(rt; covers_at_most(&NO_ROWS, 0));
+    holds(&rt, covers_at_most(&TWO_ROWS, 2), "two rows");
+    holds(&rt, covers_at_most(&NO_ROW, 3), "no row");
+    holds(&rt, covers_at_most(&BIT_OUTSIDE, 0), "a bit outside");
+    holds(&rt, covers_at_most(&NO_ROWS, 0), "no rows");
 }

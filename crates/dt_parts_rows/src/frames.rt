@@ -1,8 +1,9 @@
 //! What a frame does, and the texts of frames and faults.
-use crate::octets::RENDEZVOUS;
+use crate::octets::{LOWERED, RENDEZVOUS};
+use crate::rows::holds;
 use dt_layout::{Frame, LayoutFault, Packet, write_frame};
 use std::alloc::Global;
-use std::test::Fail;
+use std::process::Abort;
 
 /// Whether a frame can be made of these octets, and holds them.
 fn is_held(octets: &[u8]) -> bool {
@@ -24,47 +25,68 @@ fn refills(frame: &mut Frame, octets: &[u8], answer: bool, after: &[u8]) -> bool
     frame.refill(octets) == answer && frame.as_slice() == after
 }
 
+/// Whether a frame takes the longest octets, keeps them where there is one more, and takes a few.
+fn is_refilled(frame: &mut Frame, octets: &[u8; 8_223]) -> bool {
+    let longest = &octets[..8_222];
+    refills(frame, longest, true, longest)
+        && refills(frame, octets, false, longest)
+        && refills(frame, &[1, 2], true, &[1, 2])
+        && refills(frame, longest, true, longest)
+}
+
 #[test]
 fn a_frame_is_refilled(rt: HostRuntime) {
-    let octets = [7; 8_223];
-    let longest = &octets[..8_222];
-    let mut frame = Frame::new();
-    assert!(rt; refills(&mut frame, longest, true, longest));
-    assert!(rt; refills(&mut frame, &octets, false, longest));
-    assert!(rt; refills(&mut frame, &[1, 2], true, &[1, 2]));
-    assert!(rt; refills(&mut frame, longest, true, longest));
+    let is = is_refilled(&mut Frame::new(), &[7; 8_223]);
+    assert!(rt; is);
+}
+
+fn clone_of(rt: &impl Abort, frame: &Frame) -> Frame {
+    frame.clone().expect(rt, "memory")
+}
+
+/// Whether a frame is equal to a clone until it is refilled.
+fn is_equal_at_first(frame: &mut Frame, clone: &Frame) -> bool {
+    *frame == *clone && frame.refill(&[1, 2]) && *frame != *clone
 }
 
 #[test]
-fn a_clone_is_equal(rt: HostRuntime) -> Result<(), Fail> {
+fn a_clone_is_equal(rt: HostRuntime) {
     let mut frame = Frame::new();
     assert!(rt; frame.refill(&[7; 8_222]));
-    let clone = frame.clone()?;
-    assert!(rt; frame == clone);
-    assert!(rt; frame.refill(&[1, 2]) && frame != clone);
-    Ok(())
+    let clone = clone_of(&rt, &frame);
+    let is = is_equal_at_first(&mut frame, &clone);
+    assert!(rt; is);
 }
 
-#[test]
-fn a_life_is_lowered(rt: HostRuntime) -> Result<(), Fail> {
-    let mut frame = Frame::new();
+/// Writes a rendezvous with a life of 999 ms, and lowers that. Answers a clone of what was written.
+fn write_and_lower(rt: &impl Abort, frame: &mut Frame) -> Frame {
     let packet = Packet::Meet {
         from_port: 10,
         to_port: 20,
         number: 2_147_483_648,
     };
-    write_frame(&mut frame, 999, 1, 2, &packet);
-    let before = frame.clone()?;
+    write_frame(frame, 999, 1, 2, &packet);
+    let written = clone_of(rt, frame);
     frame.lower(744);
-    let mut lowered = RENDEZVOUS;
-    lowered[6..8].copy_from_slice(&[0, 255]);
-    assert!(rt; frame.as_slice() == lowered.as_slice());
-    assert!(rt; before.as_slice() == RENDEZVOUS.as_slice());
-    assert!(rt; frame != before);
-    Ok(())
+    written
 }
 
-const TEXTS: [(LayoutFault, &str); 9] = [
+/// Whether a frame and the one that it was hold what they are to, and differ.
+fn are_told_apart(frame: &Frame, written: &Frame) -> bool {
+    frame.as_slice() == LOWERED.as_slice()
+        && written.as_slice() == RENDEZVOUS.as_slice()
+        && *frame != *written
+}
+
+#[test]
+fn a_life_is_lowered(rt: HostRuntime) {
+    let mut frame = Frame::new();
+    let written = write_and_lower(&rt, &mut frame);
+    let is = are_told_apart(&frame, &written);
+    assert!(rt; is);
+}
+
+static TEXTS: [(LayoutFault, &str); 9] = [
     (LayoutFault::Short { len: 15 }, "short 15"),
     (LayoutFault::Version { octet: 3 }, "version 3"),
     (
@@ -83,29 +105,32 @@ const TEXTS: [(LayoutFault, &str); 9] = [
 ];
 
 /// Whether a fault has this text.
-fn is_written(alloc: Global, fault: &LayoutFault, text: &str) -> Result<bool, Fail> {
-    let written = format!(in alloc; "{fault}")?;
-    Ok(written.as_str() == text)
-}
-
-fn text_rows() -> &'static [(LayoutFault, &'static str)] {
-    &TEXTS
-}
-
-#[test]
-fn texts_of_faults(rt: HostRuntime) -> Result<(), Fail> {
-    for (fault, text) in text_rows() {
-        let is = is_written(rt.alloc(), fault, text)?;
-        assert!(rt; is, "{text}");
+fn is_written(alloc: Global, fault: &LayoutFault, text: &str) -> bool {
+    match format!(in alloc; "{fault}") {
+        Ok(written) => written.as_str() == text,
+        Err(_) => false,
     }
-    Ok(())
 }
 
 #[test]
-fn a_frame_shows_its_octets(rt: HostRuntime) -> Result<(), Fail> {
+fn texts_of_faults(rt: HostRuntime) {
+    for (fault, text) in &TEXTS {
+        holds(&rt, is_written(rt.alloc(), fault, text), text);
+    }
+}
+
+/// Whether a frame is shown so.
+fn is_shown(alloc: Global, frame: &Frame, text: &str) -> bool {
+    match format!(in alloc; "{frame:?}") {
+        Ok(shown) => shown.as_str() == text,
+        Err(_) => false,
+    }
+}
+
+#[test]
+fn a_frame_shows_its_octets(rt: HostRuntime) {
     let mut frame = Frame::new();
     assert!(rt; frame.refill(&[1, 2]));
-    let shown = format!(in rt.alloc(); "{frame:?}")?;
-    assert!(rt; shown.as_str() == "[1, 2]");
-    Ok(())
+    let is = is_shown(rt.alloc(), &frame, "[1, 2]");
+    assert!(rt; is);
 }

@@ -1,7 +1,7 @@
 //! A queue of octets with marks, pushed and read piece by piece.
 use dt_items::{Piece, Queue};
+use std::alloc::Global;
 use std::process::Abort;
-use std::test::Fail;
 
 /// What is done with a queue. Of the marks `r` is run, `b` begin and `e` end.
 enum Step {
@@ -9,6 +9,10 @@ enum Step {
     Push(&'static [u8], &'static [u8]),
     /// A read of at most so many octets gives these with these marks.
     Read(usize, &'static [u8], &'static [u8]),
+    /// A read gives nothing.
+    Nothing,
+    /// All room is taken, which is so many octets.
+    Full(u32),
 }
 
 fn has(marks: &[u8], mark: u8) -> bool {
@@ -51,99 +55,118 @@ fn reads_nothing(queue: &mut Queue) -> bool {
     queue.read_into(&mut buf).is_none() && begins_with(&buf, b"") && queue.len() == 0
 }
 
+fn is_full(queue: &Queue, room: u32) -> bool {
+    let ring = queue.ring();
+    queue.len() == room
+        && queue.free() == 0
+        && ring.len() == room as usize
+        && ring.capacity() == room as usize
+}
+
 fn do_step(rt: &impl Abort, queue: &mut Queue, step: &Step) {
     match step {
         Step::Push(octets, marks) => push(rt, queue, octets, marks),
         Step::Read(most, octets, marks) => read(rt, queue, *most, octets, marks),
+        Step::Nothing => assert!(rt; reads_nothing(queue)),
+        Step::Full(room) => assert!(rt; is_full(queue, *room)),
     }
 }
 
-static IN_PIECES: [Step; 11] = [
-    Step::Push(b"hello", b"rbe"),
-    Step::Read(1, b"h", b"rb"),
-    Step::Read(1, b"e", b""),
-    Step::Read(1, b"l", b""),
-    Step::Read(1, b"l", b""),
-    Step::Read(1, b"o", b"e"),
-    Step::Push(b"hello", b"be"),
-    Step::Read(2, b"he", b"b"),
-    Step::Read(2, b"ll", b""),
-    Step::Read(2, b"o", b"e"),
-    Step::Push(b"hello", b"rbe"),
-];
+/// Does steps, each so many times.
+fn do_steps(rt: &impl Abort, queue: &mut Queue, rounds: &[(u32, &[Step])]) {
+    for (count, steps) in rounds {
+        for _ in 0..*count {
+            for step in *steps {
+                do_step(rt, queue, step);
+            }
+        }
+    }
+}
+
+/// Does the same with a queue of so many octets.
+fn do_with_room(rt: &impl Abort, alloc: Global, room: u32, rounds: &[(u32, &[Step])]) {
+    let mut queue = Queue::with_room(alloc, room).expect(rt, "memory");
+    do_steps(rt, &mut queue, rounds);
+}
+
+static IN_PIECES: [(u32, &[Step]); 1] = [(
+    1,
+    &[
+        Step::Push(b"hello", b"rbe"),
+        Step::Read(1, b"h", b"rb"),
+        Step::Read(1, b"e", b""),
+        Step::Read(1, b"l", b""),
+        Step::Read(1, b"l", b""),
+        Step::Read(1, b"o", b"e"),
+        Step::Push(b"hello", b"be"),
+        Step::Read(2, b"he", b"b"),
+        Step::Read(2, b"ll", b""),
+        Step::Read(2, b"o", b"e"),
+        Step::Push(b"hello", b"rbe"),
+        Step::Full(5),
+        Step::Read(8, b"hello", b"rbe"),
+        Step::Nothing,
+    ],
+)];
 
 #[test]
-fn a_message_is_read_in_pieces(rt: HostRuntime) -> Result<(), Fail> {
-    let mut queue = Queue::with_room(rt.alloc(), 5)?;
-    for step in &IN_PIECES {
-        do_step(&rt, &mut queue, step);
-    }
-    assert!(rt; queue.len() == 5);
-    assert!(rt; queue.free() == 0);
-    read(&rt, &mut queue, 8, b"hello", b"rbe");
-    assert!(rt; reads_nothing(&mut queue));
-    Ok(())
+fn a_message_is_read_in_pieces(rt: HostRuntime) {
+    do_with_room(&rt, rt.alloc(), 5, &IN_PIECES);
 }
 
 /// Two messages, the first of which came in two segments; one that doesn't end, and one that begins; a
 /// run mark in the middle.
-static MESSAGES_AND_RUNS: [Step; 12] = [
-    Step::Push(b"ab", b"b"),
-    Step::Push(b"cd", b"e"),
-    Step::Push(b"ef", b"be"),
-    Step::Push(b"gh", b"b"),
-    Step::Push(b"i", b"b"),
-    Step::Push(b"jk", b"r"),
-    Step::Push(b"l", b"e"),
-    Step::Read(8, b"abcd", b"be"),
-    Step::Read(8, b"ef", b"be"),
-    Step::Read(8, b"gh", b"b"),
-    Step::Read(8, b"i", b"b"),
-    Step::Read(8, b"jkl", b"re"),
+static MESSAGES_AND_RUNS: [(u32, &[Step]); 1] = [(
+    1,
+    &[
+        Step::Push(b"ab", b"b"),
+        Step::Push(b"cd", b"e"),
+        Step::Push(b"ef", b"be"),
+        Step::Push(b"gh", b"b"),
+        Step::Push(b"i", b"b"),
+        Step::Push(b"jk", b"r"),
+        Step::Push(b"l", b"e"),
+        Step::Read(8, b"abcd", b"be"),
+        Step::Read(8, b"ef", b"be"),
+        Step::Read(8, b"gh", b"b"),
+        Step::Read(8, b"i", b"b"),
+        Step::Read(8, b"jkl", b"re"),
+        Step::Nothing,
+    ],
+)];
+
+#[test]
+fn a_piece_is_of_one_message_and_of_one_run(rt: HostRuntime) {
+    do_with_room(&rt, rt.alloc(), 12, &MESSAGES_AND_RUNS);
+}
+
+static FOR_LONG: [(u32, &[Step]); 3] = [
+    (1, &[Step::Nothing]),
+    (
+        1000,
+        &[
+            Step::Push(b"abc", b"be"),
+            Step::Read(1, b"a", b"b"),
+            Step::Push(b"d", b"e"),
+            Step::Read(8, b"bc", b"e"),
+            Step::Read(8, b"d", b"e"),
+        ],
+    ),
+    (1, &[Step::Nothing]),
 ];
 
 #[test]
-fn a_piece_is_of_one_message_and_of_one_run(rt: HostRuntime) -> Result<(), Fail> {
-    let mut queue = Queue::with_room(rt.alloc(), 12)?;
-    for step in &MESSAGES_AND_RUNS {
-        do_step(&rt, &mut queue, step);
-    }
-    assert!(rt; reads_nothing(&mut queue));
-    Ok(())
+fn a_queue_is_filled_and_read_for_long(rt: HostRuntime) {
+    do_with_room(&rt, rt.alloc(), 4, &FOR_LONG);
 }
 
-static ROUND: [Step; 5] = [
-    Step::Push(b"abc", b"be"),
-    Step::Read(1, b"a", b"b"),
-    Step::Push(b"d", b"e"),
-    Step::Read(8, b"bc", b"e"),
-    Step::Read(8, b"d", b"e"),
+/// Kilobytes of one letter.
+static GREATEST_ROOM: [(u32, &[Step]); 2] = [
+    (64, &[Step::Push(&[b'x'; 1024], b"be")]),
+    (1, &[Step::Full(65_536)]),
 ];
 
 #[test]
-fn a_queue_is_filled_and_read_for_long(rt: HostRuntime) -> Result<(), Fail> {
-    let mut queue = Queue::with_room(rt.alloc(), 4)?;
-    assert!(rt; reads_nothing(&mut queue));
-    for _ in 0..1000 {
-        for step in &ROUND {
-            do_step(&rt, &mut queue, step);
-        }
-    }
-    assert!(rt; reads_nothing(&mut queue));
-    Ok(())
-}
-
-/// A kilobyte of one letter.
-static KILOBYTE: [u8; 1024] = [b'x'; 1024];
-
-#[test]
-fn a_queue_is_filled_to_the_greatest_room(rt: HostRuntime) -> Result<(), Fail> {
-    let mut queue = Queue::with_room(rt.alloc(), 65_536)?;
-    for _ in 0..64 {
-        push(&rt, &mut queue, &KILOBYTE, b"be");
-    }
-    assert!(rt; queue.free() == 0);
-    assert!(rt; queue.ring().len() == 65_536);
-    assert!(rt; queue.ring().capacity() == 65_536);
-    Ok(())
+fn a_queue_is_filled_to_the_greatest_room(rt: HostRuntime) {
+    do_with_room(&rt, rt.alloc(), 65_536, &GREATEST_ROOM);
 }

@@ -123,14 +123,23 @@ const LEFT: Totals = Totals {
     read: 0,
 };
 
+fn are_done(rt: &impl Abort, rows: &mut FlowRows, steps: &[Step]) {
+    for step in steps {
+        let is = is_done(rt, rows, step);
+        assert!(rt; is);
+    }
+}
+
+fn is_left(rows: &FlowRows) -> bool {
+    rows.totals() == LEFT && rows.last_given() == Some(5)
+}
+
 #[test]
 fn octets_wait_for_a_window(rt: HostRuntime) {
     let mut rows = FlowRows::new(rt.alloc());
-    for step in &SMALL_WINDOW {
-        assert!(rt; is_done(&rt, &mut rows, step));
-    }
-    assert!(rt; rows.totals() == LEFT);
-    assert!(rt; rows.last_given() == Some(5));
+    are_done(&rt, &mut rows, &SMALL_WINDOW);
+    let is = is_left(&rows);
+    assert!(rt; is);
 }
 
 /// From port 10 of node 1 to port 20 of node 2.
@@ -172,15 +181,19 @@ fn has_counts(ledger: &Ledger, flow: &Flow, taken: u64, last_given: Option<u64>)
     ledger.taken_count(flow) == taken && ledger.last_given(flow) == last_given
 }
 
+fn start_again(rt: &impl Abort, ledger: &mut Ledger) {
+    assert!(rt; takes_in(ledger, 0, b"a"));
+    sends_first(rt, ledger);
+    assert!(rt; takes_in(ledger, 1, b"b"));
+    assert!(rt; is_given_and_read(rt, ledger));
+    assert!(rt; has_counts(ledger, &FLOW, 2, Some(1)));
+    assert!(rt; has_counts(ledger, &OTHER, 0, None));
+}
+
 /// A sender starts again: its first octet stays open, and the other one is of its next life. The
 /// receiver is given the second alone, and reads it.
 #[test]
 fn a_sender_starts_again(rt: HostRuntime) {
     let mut ledger = Ledger::new(rt.alloc());
-    assert!(rt; takes_in(&mut ledger, 0, b"a"));
-    sends_first(&rt, &mut ledger);
-    assert!(rt; takes_in(&mut ledger, 1, b"b"));
-    assert!(rt; is_given_and_read(&rt, &mut ledger));
-    assert!(rt; has_counts(&ledger, &FLOW, 2, Some(1)));
-    assert!(rt; has_counts(&ledger, &OTHER, 0, None));
+    start_again(&rt, &mut ledger);
 }

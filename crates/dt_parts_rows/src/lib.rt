@@ -21,6 +21,8 @@ mod packets;
 #[cfg(test)]
 mod reports;
 #[cfg(test)]
+mod rows;
+#[cfg(test)]
 mod shelves;
 #[cfg(test)]
 mod timers;

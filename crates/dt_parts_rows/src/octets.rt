@@ -3,33 +3,38 @@ use dt_layout::{Deltagram, LayoutFault, Packet, read_deltagram, read_packet};
 
 /// A data packet from node 1, port 10, to node 2, port 20: life 999, number 0, all three marks,
 /// and the octets `hello`.
-pub const FRAME: [u8; 35] = [
+pub static FRAME: [u8; 35] = [
     1, 1, 0, 19, 0, 0, 3, 231, 0, 0, 0, 1, 0, 0, 0, 2, 1, 7, 0, 10, 0, 20, 0, 0, 0, 0, 0, 0, 0, 0,
     104, 101, 108, 108, 111,
 ];
 
 /// An acknowledgement on the way back.
-pub const ACKNOWLEDGEMENT: [u8; 30] = [
+pub static ACKNOWLEDGEMENT: [u8; 30] = [
     1, 1, 0, 14, 0, 0, 3, 231, 0, 0, 0, 2, 0, 0, 0, 1, 2, 0, 0, 20, 0, 10, 0, 0, 0, 5, 0, 0, 15,
     251,
 ];
 
-pub const RENDEZVOUS: [u8; 30] = [
+pub static RENDEZVOUS: [u8; 30] = [
     1, 1, 0, 14, 0, 0, 3, 231, 0, 0, 0, 1, 0, 0, 0, 2, 3, 0, 0, 10, 0, 20, 128, 0, 0, 0, 0, 0, 0, 0,
 ];
 
+/// The rendezvous, with a life that is 744 ms less.
+pub static LOWERED: [u8; 30] = [
+    1, 1, 0, 14, 0, 0, 0, 255, 0, 0, 0, 1, 0, 0, 0, 2, 3, 0, 0, 10, 0, 20, 128, 0, 0, 0, 0, 0, 0, 0,
+];
+
 /// A closing packet.
-pub const CLOSING: [u8; 30] = [
+pub static CLOSING: [u8; 30] = [
     2, 1, 0, 14, 0, 0, 3, 231, 0, 0, 0, 1, 0, 0, 0, 2, 4, 0, 0, 10, 0, 20, 0, 0, 0, 5, 0, 0, 0, 0,
 ];
 
 /// What stands before the data of two frames of version 2, with 8,192 octets from number 0 on and
 /// with the 1,808 that follow.
-pub const FIRST: [u8; 30] = [
+pub static FIRST: [u8; 30] = [
     2, 1, 32, 14, 0, 0, 3, 231, 0, 0, 0, 1, 0, 0, 0, 2, 1, 3, 0, 10, 0, 20, 0, 0, 0, 0, 0, 0, 0, 0,
 ];
 
-pub const SECOND: [u8; 30] = [
+pub static SECOND: [u8; 30] = [
     2, 1, 7, 30, 0, 0, 3, 231, 0, 0, 0, 1, 0, 0, 0, 2, 1, 4, 0, 10, 0, 20, 0, 0, 32, 0, 0, 0, 0, 0,
 ];
 

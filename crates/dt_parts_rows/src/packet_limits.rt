@@ -2,6 +2,7 @@
 ghost use Rattle.std.specs.Prelude.{◌<◌};
 
 use crate::octets::{FRAME, RENDEZVOUS, fault_of, read_whole};
+use crate::rows::holds_at;
 use dt_layout::{Deltagram, LayoutFault, Packet, read_packet};
 
 /// A number that stands in so many octets before the place `end`, with the octet at `i` set to `v`
@@ -83,7 +84,7 @@ fn is_read_at(i: usize, v: u8) -> bool
 fn each_octet_at_each_value(rt: HostRuntime) {
     for i in 0..35 {
         for v in 0..=255 {
-            assert!(rt; is_read_at(i, v), "octet {i} as {v}");
+            holds_at(&rt, is_read_at(i, v), i, usize::from(v));
         }
     }
 }
@@ -100,13 +101,15 @@ fn length_fault(count: usize) -> LayoutFault {
     }
 }
 
+/// Whether octets of this length are refused for it.
+fn has_length_fault(octets: &[u8]) -> bool {
+    fault_of(octets) == Some(length_fault(octets.len()))
+}
+
 #[test]
 fn each_length(rt: HostRuntime) {
     for n in 0..35 {
-        assert!(rt;
-            fault_of(&FRAME[..n]) == Some(length_fault(n)),
-            "{n} octets"
-        );
+        holds_at(&rt, has_length_fault(&FRAME[..n]), n, 35);
     }
 }
 
@@ -114,7 +117,7 @@ fn each_length(rt: HostRuntime) {
 fn an_octet_too_many(rt: HostRuntime) {
     let mut longer = [0; 36];
     longer[..35].copy_from_slice(&FRAME);
-    assert!(rt; fault_of(&longer) == Some(length_fault(36)));
+    assert!(rt; has_length_fault(&longer));
 }
 
 #[test]
@@ -126,7 +129,7 @@ fn no_life_is_left(rt: HostRuntime) {
 }
 
 /// A version, a count of octets of data, and what refuses the Deltagram or else its packet.
-const DATA: [(u8, u16, Option<LayoutFault>); 11] = [
+static DATA: [(u8, u16, Option<LayoutFault>); 11] = [
     (1, 0, Some(LayoutFault::Size { len: 0 })),
     (1, 1, None),
     (1, 1_024, None),
@@ -180,23 +183,17 @@ fn is_data_refused(version: u8, count: u16, fault: Option<LayoutFault>) -> bool 
     }
 }
 
-fn data_rows() -> &'static [(u8, u16, Option<LayoutFault>)] {
-    &DATA
-}
-
 #[test]
 fn the_limits_of_data(rt: HostRuntime) {
-    for (version, count, fault) in data_rows() {
-        assert!(rt;
-            is_data_refused(*version, *count, *fault),
-            "{count} in {version}"
-        );
+    for (version, count, fault) in &DATA {
+        let is = is_data_refused(*version, *count, *fault);
+        holds_at(&rt, is, usize::from(*count), usize::from(*version));
     }
 }
 
 /// A version, the length of a body that begins as data, and what refuses it. A Deltagram may be made
 /// by hand, of any version and with a body of any length.
-const BODIES: [(u8, usize, Option<LayoutFault>); 8] = [
+static BODIES: [(u8, usize, Option<LayoutFault>); 8] = [
     (1, 13, Some(LayoutFault::Short { len: 13 })),
     (1, 1_038, None),
     (1, 1_039, Some(LayoutFault::Size { len: 1_025 })),
@@ -230,17 +227,11 @@ fn is_body_refused(version: u8, len: usize, fault: Option<LayoutFault>) -> bool 
     }
 }
 
-fn body_rows() -> &'static [(u8, usize, Option<LayoutFault>)] {
-    &BODIES
-}
-
 #[test]
 fn the_limits_of_a_packet(rt: HostRuntime) {
-    for (version, len, fault) in body_rows() {
-        assert!(rt;
-            is_body_refused(*version, *len, *fault),
-            "{len} in {version}"
-        );
+    for (version, len, fault) in &BODIES {
+        let is = is_body_refused(*version, *len, *fault);
+        holds_at(&rt, is, *len, usize::from(*version));
     }
 }
 
@@ -264,7 +255,7 @@ fn is_kind_read(version: u8, kind: u8) -> bool {
 #[test]
 fn each_kind(rt: HostRuntime) {
     for kind in 0..=255 {
-        assert!(rt; is_kind_read(1, kind), "{kind} in 1");
-        assert!(rt; is_kind_read(2, kind), "{kind} in 2");
+        holds_at(&rt, is_kind_read(1, kind), usize::from(kind), 1);
+        holds_at(&rt, is_kind_read(2, kind), usize::from(kind), 2);
     }
 }

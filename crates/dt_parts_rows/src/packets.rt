@@ -55,7 +55,7 @@ fn body_of(bytes: &[u8]) -> Option<(u8, usize)> {
 #[test]
 fn data_is_written_and_read(rt: HostRuntime) {
     let mut frame = Frame::new();
-    assert_eq!(rt; frame.as_slice().len(), 0);
+    assert!(rt; frame.as_slice().is_empty());
     let packet = Packet::Data {
         from_port: 10,
         to_port: 20,

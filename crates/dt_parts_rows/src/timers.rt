@@ -32,16 +32,29 @@ fn has_first(deadlines: &Deadlines, first: Option<(u64, usize)>) -> bool {
     deadlines.first() == first
 }
 
-fn do_step(rt: &impl Abort, deadlines: &mut Deadlines, step: &Step) {
+fn is_done(rt: &impl Abort, deadlines: &mut Deadlines, step: &Step) -> bool {
     match step {
-        Step::Hold(count) => hold(rt, deadlines, *count),
-        Step::Set(place, moment) => set(rt, deadlines, *place, *moment),
-        Step::At(place, moment) => assert!(rt; has(rt, deadlines, *place, *moment)),
-        Step::First(first) => assert!(rt; has_first(deadlines, *first)),
+        Step::Hold(count) => {
+            hold(rt, deadlines, *count);
+            true
+        }
+        Step::Set(place, moment) => {
+            set(rt, deadlines, *place, *moment);
+            true
+        }
+        Step::At(place, moment) => has(rt, deadlines, *place, *moment),
+        Step::First(first) => has_first(deadlines, *first),
     }
 }
 
-static LESSER_PLACE: [Step; 12] = [
+fn do_steps(rt: &impl Abort, deadlines: &mut Deadlines, steps: &[Step]) {
+    for step in steps {
+        let is = is_done(rt, deadlines, step);
+        assert!(rt; is);
+    }
+}
+
+static LESSER_PLACE: [Step; 13] = [
     Step::First(None),
     Step::Hold(0),
     Step::Hold(1),
@@ -54,15 +67,13 @@ static LESSER_PLACE: [Step; 12] = [
     Step::Set(1, None),
     Step::First(Some((9, 2))),
     Step::Set(2, None),
+    Step::First(None),
 ];
 
 #[test]
 fn the_first_is_the_least_moment_and_then_the_lesser_place(rt: HostRuntime) {
     let mut deadlines = Deadlines::new(rt.alloc());
-    for step in &LESSER_PLACE {
-        do_step(&rt, &mut deadlines, step);
-    }
-    assert!(rt; has_first(&deadlines, None));
+    do_steps(&rt, &mut deadlines, &LESSER_PLACE);
 }
 
 /// A thousand places with the moments 1000 down to 1 go in the order of their moments.

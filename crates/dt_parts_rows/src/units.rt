@@ -1,5 +1,6 @@
 ghost use Rattle.std.specs.Prelude.{◌≡◌, ◌<◌, ◌+◌};
 
+use crate::rows::holds_at;
 use dt_units::numbers::relation;
 use dt_units::{Field, ParamFault, Params, Relation, Steps, Times, later};
 use std::marker::Brand;
@@ -120,13 +121,18 @@ fn stands(n: u32, expected: u32, wanted: Relation) -> bool {
     relation(n, expected) == wanted
 }
 
+fn are_later() -> bool {
+    later(100, 50) == 150 && later(4_294_967_290, 10) == 4
+}
+
 #[test]
 fn numbers_are_in_order(rt: HostRuntime) {
     for (n, expected, wanted) in &NUMBERS {
-        assert!(rt; stands(*n, *expected, *wanted), "{n} beside {expected}");
+        let is = stands(*n, *expected, *wanted);
+        holds_at(&rt, is, *n as usize, *expected as usize);
     }
-    assert!(rt; later(100, 50) == 150);
-    assert!(rt; later(4_294_967_290, 10) == 4);
+    let is = are_later();
+    assert!(rt; is);
 }
 
 /// Takes two looks.
@@ -150,5 +156,6 @@ fn look_on<L: Ledger>(ledger: Blank)
 #[test]
 fn looks_are_counted(rt: HostRuntime) {
     look_on::<Brand>(Blank::new(1));
-    assert_eq!(rt; size_of::<Steps<Brand>>(), 0);
+    let size = size_of::<Steps<Brand>>();
+    holds_at(&rt, size == 0, size, 0);
 }
