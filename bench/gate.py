@@ -108,7 +108,7 @@ def main() -> int:
     watching.join()
     used = resource.getrusage(resource.RUSAGE_CHILDREN)
     whole = used.ru_utime + used.ru_stime
-    print(f"# in all {time.monotonic() - begun:.0f} s, {whole:.0f} s of processor, on {len(os.sched_getaffinity(0))} processors; {stolen() - before:.0f} s of them went to other machines")
+    print(f"# in all {time.monotonic() - begun:.0f} s, {whole:.0f} s of processor, on {len(os.sched_getaffinity(0))} processors; their host gave {stolen() - before:.0f} s more to other machines")
     for part in PARTS:
         print(f"# {part} {taken.of(part):.0f} s of processor")
     print(f"# other {max(whole - sum(taken.of(it) for it in PARTS), 0):.0f} s of processor")
