@@ -1,5 +1,6 @@
 //! Tests of what endpoints exchange, in rows: two endpoints and what goes between them, the answers of each call, the
-//! pieces that make messages whole, and an inbox over two endpoints.
+//! pieces that make messages whole, and an inbox over two endpoints; of request and reply, what a node keeps beside its
+//! endpoint, and services over their endpoints. Each call that takes memory finds it, where there is some.
 #![tactic(auto)]
 
 #[cfg(test)]
@@ -11,6 +12,8 @@ mod exchange;
 #[cfg(test)]
 mod fixtures;
 #[cfg(test)]
+mod halves;
+#[cfg(test)]
 mod inboxes;
 #[cfg(test)]
 mod pairs;
@@ -18,3 +21,5 @@ mod pairs;
 mod pieces;
 #[cfg(test)]
 mod routes;
+#[cfg(test)]
+mod services;

@@ -1,4 +1,4 @@
-use crate::inputs::FIRST;
+use crate::node_inputs::FIRST;
 use dt_edges::{Address, Failed, MemClock, MemSink, MemWire, Peer, Wire};
 use dt_node::{NodeOutcome, serve};
 use std::alloc::Global;

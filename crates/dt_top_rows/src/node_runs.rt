@@ -1,6 +1,6 @@
 //! Runs are played as their rows say.
-use crate::inputs::{datagram, script};
-use crate::rows::{ACKNOWLEDGED, FAILURES, LOGS, SHELVES, TRACES};
+use crate::node_inputs::{datagram, script};
+use crate::node_rows::{ACKNOWLEDGED, FAILURES, LOGS, SHELVES, TRACES};
 use dt_edges::{MemClock, MemSink, MemWire};
 use dt_node::{NodeOutcome, serve, serve_traced};
 use std::alloc::Global;
