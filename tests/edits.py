@@ -3,8 +3,8 @@
 
 crates/CRATE/must-fail/planted.edit has a crate's bugs, each below a line `# NAME`. The gate plants all of them at once, so
 that one check from nothing does for a crate, and is content where that is refused. Here each is an edit of its own, in a
-copy of the repository, and has to be refused for what a contract says. What is proved already on this machine isn't proved again;
-each crate takes a check from nothing, and some 15 to 60 s of processor for each bug.
+copy of the repository, and has to be refused for what a contract says. Where the gate of the kit takes crates' names, what is proved
+already on this machine isn't proved again; each crate takes a check from nothing, and some 15 to 60 s of processor for each bug.
 
 Ends with 1 where a bug isn't refused, or only since a proof names what it took away; with 77 where there is no `rt`.
 
@@ -42,10 +42,16 @@ def split(crate: pathlib.Path) -> list[str]:
     return list(found)
 
 
+def takes_names() -> bool:
+    """Whether the gate of this kit takes crates' names: then it takes what is proved on this machine already."""
+    said = subprocess.run(["rt", "help"], stdin=subprocess.DEVNULL, capture_output=True, text=True, check=False)
+    return "rt ci [" in said.stdout + said.stderr
+
+
 def tried(top: pathlib.Path, crates: list[str]) -> dict[tuple[str, str], str]:
     """What the toolchain says of each edit of these crates, each line as it comes."""
     found = {}
-    words = ["rt", "ci", *crates]
+    words = ["rt", "ci" if takes_names() else "must-fail", *crates]
     with subprocess.Popen(words, cwd=top, stdin=subprocess.DEVNULL, stdout=subprocess.PIPE, stderr=subprocess.STDOUT, text=True, errors="replace") as gate:
         for line in gate.stdout:
             if it := TRIED.match(line):
