@@ -47,7 +47,7 @@ pub fn send<L: Lines>(
     ensures now { parts.new.now ≡ parts.old.now }
     ensures links { parts.new.links ≡ parts.old.links }
 {
-    let event = PlacedEvent::Send {
+    let mut event = PlacedEvent::Send {
         flow,
         octets: sent.octets,
         begin: sent.begin,
@@ -57,7 +57,7 @@ pub fn send<L: Lines>(
         octets: sent,
         place: 0,
     };
-    event_at(parts, flow.from.0, event, brought, lines)
+    event_at(parts, flow.from.0, &mut event, brought, lines)
 }
 
 /// Unread octets are read at the station where their flow ends, at most as many as the buffer holds.
@@ -77,8 +77,8 @@ pub fn read<L: Lines>(
     ensures now { parts.new.now ≡ parts.old.now }
     ensures links { parts.new.links ≡ parts.old.links }
 {
-    let event = PlacedEvent::Read { flow, buf };
-    event_at(parts, flow.to.0, event, no_octets(0), lines)
+    let mut event = PlacedEvent::Read { flow, buf };
+    event_at(parts, flow.to.0, &mut event, no_octets(0), lines)
 }
 
 /// The station does what is due.
@@ -91,7 +91,7 @@ pub fn tick<L: Lines>(parts: &mut WorldParts, node: u32, lines: &mut L) -> Resul
     ensures now { parts.new.now ≡ parts.old.now }
     ensures links { parts.new.links ≡ parts.old.links }
 {
-    event_at(parts, node, PlacedEvent::Tick, no_octets(0), lines)
+    event_at(parts, node, &mut PlacedEvent::Tick, no_octets(0), lines)
 }
 
 /// A copy comes to the station at its link's end.
@@ -124,8 +124,8 @@ pub fn arrive<L: Lines>(
     let mark = Mark::new(seen.birth, place);
     let to = link_of(parts, link).to;
     let brought = brought_by(frame.as_gram(), place, buf);
-    let event = PlacedEvent::Arrive { link, frame, mark };
-    event_at(parts, to, event, brought, lines)
+    let mut event = PlacedEvent::Arrive { link, frame, mark };
+    event_at(parts, to, &mut event, brought, lines)
 }
 
 /// What the packet in a Deltagram brings: the octets of a data packet, which are copied into `room`.

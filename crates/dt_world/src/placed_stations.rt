@@ -48,13 +48,13 @@ pub struct Plan {
 fn take_part<L: Lines>(
     station: &mut Station<MarkedFrame>,
     now: Reading,
-    event: PlacedEvent<'_>,
+    event: &mut PlacedEvent<'_>,
     reporter: &mut Reporter<'_, '_, L>,
 ) -> Result<(), NoMemory>
     requires unspent { station.old.spent ≡ false }
-    requires may { MayCome station.old.rules now.ms station.old.state event }
+    requires may { MayCome station.old.rules now.ms station.old.state event.old }
     requires past { station.old.latest ≤ now.ms }
-    ensures script { Ends L.tells result (station_event station.old.rules now.ms (event_seen event.entry) station.old.state) reporter.old reporter.new station.new.state }
+    ensures script { Ends L.tells result (station_event station.old.rules now.ms (event_seen event.old) station.old.state) reporter.old reporter.new station.new.state }
     ensures spent { station.new.spent ≡ is_spent_by result }
     ensures stays { Stays (record station.old { latest = now.ms }) station.new }
 {
@@ -65,15 +65,24 @@ fn take_part<L: Lines>(
             begin,
             end,
         } => {
-            let sent = MarkedOctets { octets, begin, end };
-            station.local_event(now, LocalEvent::Send { flow, sent }, &mut [], reporter)
+            let sent = MarkedOctets {
+                octets,
+                begin: *begin,
+                end: *end,
+            };
+            station.local_event(
+                now,
+                LocalEvent::Send { flow: *flow, sent },
+                &mut [],
+                reporter,
+            )
         }
         PlacedEvent::Read { flow, buf } => {
-            station.local_event(now, LocalEvent::Read { flow }, buf, reporter)
+            station.local_event(now, LocalEvent::Read { flow: *flow }, buf, reporter)
         }
         PlacedEvent::Tick => station.local_event(now, LocalEvent::Tick, &mut [], reporter),
         PlacedEvent::Arrive { link, frame, mark } => {
-            station.arrive(now, link, frame, mark, reporter)
+            station.arrive(now, *link, frame, *mark, reporter)
         }
     }
 }
@@ -83,16 +92,16 @@ fn take_part<L: Lines>(
 pub fn play<L: Lines>(
     station: &mut Station<MarkedFrame>,
     now: Reading,
-    event: PlacedEvent<'_>,
+    event: &mut PlacedEvent<'_>,
     reporter: &mut Reporter<'_, '_, L>,
 ) -> Result<(), NoMemory>
     requires fresh { reporter.old.failed ≡ false }
     requires unspent { station.old.spent ≡ false }
-    requires may { MayCome station.old.rules now.ms station.old.state event }
+    requires may { MayCome station.old.rules now.ms station.old.state event.old }
     requires past { station.old.latest ≤ now.ms }
     ensures notes { reporter.new.notes.ghost_name ≡ reporter.old.notes.ghost_name }
     ensures lines { reporter.new.lines.ghost_name ≡ reporter.old.lines.ghost_name }
-    ensures played { let script = station_event station.old.rules now.ms (event_seen event.entry) station.old.state in
+    ensures played { let script = station_event station.old.rules now.ms (event_seen event.old) station.old.state in
         Played L.tells result (occasion_of reporter.old) script (noted_first reporter.old) reporter.old.lines.now reporter.new station.new.state }
     ensures spent { OnOk result (station.new.spent ≡ false) }
     ensures relay { OnOk result (emptied station.new.state.relay ≡ emptied station.old.state.relay) }
@@ -108,15 +117,15 @@ pub fn play<L: Lines>(
 /// An event at a station of the world, which isn't spent.
 pub fn deliver_to_station<'a, 'o, L: Lines>(
     placed: &mut PlacedStation,
-    event: PlacedEvent<'_>,
+    event: &mut PlacedEvent<'_>,
     occasion: EventContext<'o>,
     notes: &'a mut Notes,
     lines: &'a mut L,
 ) -> Result<(), NoMemory>
     requires unspent { placed.old.station.spent ≡ false }
-    requires may { MayCome placed.old.station.rules (occasion.now + placed.old.zero) placed.old.station.state event }
+    requires may { MayCome placed.old.station.rules (occasion.now + placed.old.zero) placed.old.station.state event.old }
     requires past { placed.old.station.latest ≤ occasion.now + placed.old.zero }
-    ensures happened { let script = station_event placed.old.station.rules (occasion.entry.now + placed.old.zero) (event_seen event.entry) placed.old.station.state in
+    ensures happened { let script = station_event placed.old.station.rules (occasion.entry.now + placed.old.zero) (event_seen event.old) placed.old.station.state in
         Happened L.tells result (occasion_seen occasion.entry) script notes.old lines.old notes.new lines.new placed.new.station.state }
     ensures zero { placed.new.zero ≡ placed.old.zero }
     ensures life { placed.new.life ≡ placed.old.life }

@@ -37,18 +37,18 @@ pub struct WorldParts {
 pub fn event_at<L: Lines>(
     parts: &mut WorldParts,
     node: u32,
-    event: PlacedEvent<'_>,
+    event: &mut PlacedEvent<'_>,
     brought: Brought<'_>,
     lines: &mut L,
 ) -> Result<(), NoMemory>
     requires whole { IsWhole parts.old }
     requires possible { (at : Placed) → look ◌==◌ node (world_seen parts.old).stations ≡ Some at
-        → IsPossible (world_seen parts.old) node (event_seen event) }
-    requires brings { Brings (world_seen parts.old) node (event_seen event) brought }
+        → IsPossible (world_seen parts.old) node (event_seen event.old) }
+    requires brings { Brings (world_seen parts.old) node (event_seen event.old) brought }
     requires may { (s : PlacedStation) → look ◌==◌ node parts.old.stations.entries ≡ Some s
-        → MayCome parts.old.rules (parts.old.now + s.zero) s.station.state event }
+        → MayCome parts.old.rules (parts.old.now + s.zero) s.station.state event.old }
     ensures happens { let w = world_seen parts.old in
-        Happens L.tells result w (ComesAt w node (event_seen event.entry)) (at_station w node (event_seen event.entry)) lines.old lines.new (world_seen parts.new) }
+        Happens L.tells result w (ComesAt w node (event_seen event.old)) (at_station w node (event_seen event.old)) lines.old lines.new (world_seen parts.new) }
     ensures stations { OnOk result (AllEntries (IsStationOf parts.old.rules parts.old.now) parts.new.stations.entries) }
     ensures rules { parts.new.rules ≡ parts.old.rules }
     ensures now { parts.new.now ≡ parts.old.now }

@@ -22,7 +22,7 @@ use Rattle.dt_world.proofs.world_parts.event_at.Goals as goal
 pub returns-in-None-clause-happens : goal.returns-in-None-clause-happens
 returns-in-None-clause-happens g c =
     let p = c.args.parts.now in
-    nothing_happened g.L.Lines.tells (world_seen p) c.args.node (event_seen c.args.event) c.args.lines.now _ (not_there c.args.node p.stations.entries c.in-None.ensures.value) (ap (with_stations p) (ap (λ m. stations_seen m.entries) c.get_mut.follows.holds-at-none))
+    nothing_happened g.L.Lines.tells (world_seen p) c.args.node (event_seen c.args.event.now) c.args.lines.now _ (not_there c.args.node p.stations.entries c.in-None.ensures.value) (ap (with_stations p) (ap (λ m. stations_seen m.entries) c.get_mut.follows.holds-at-none))
 
 pub deliver_to_station-requires-clause-unspent : goal.deliver_to_station-requires-clause-unspent
 deliver_to_station-requires-clause-unspent g c =
@@ -35,7 +35,7 @@ deliver_to_station-requires-clause-may g c =
     let s = c.in-Some.placed.now in
     let found = sym c.in-Some.ensures.value in
     let kept = (all_at (IsStationOf p.rules p.now) c.args.node s p.stations.entries found c.requires.whole.stations).1 in
-    subst (λ (rules : Params). MayCome rules (p.now + s.zero) s.station.state c.args.event) (sym kept.rules)
+    subst (λ (rules : Params). MayCome rules (p.now + s.zero) s.station.state c.args.event.now) (sym kept.rules)
     (c.requires.may s (sym (look_keyed PlacedStation c.args.node p.stations.entries) ∙ found))
 
 pub deliver_to_station-requires-clause-past : goal.deliver_to_station-requires-clause-past
@@ -50,7 +50,7 @@ returns-in-Some-clause-happens g c =
     let n = c.args.node in
     let s = c.in-Some.placed.now in
     let after = c.deliver_to_station.new.placed in
-    let e = event_seen c.args.event in
+    let e = event_seen c.args.event.now in
     let found = sym c.in-Some.ensures.value in
     let kept = (all_at (IsStationOf p.rules p.now) n s p.stations.entries found c.requires.whole.stations).1 in
     let there : look ◌==◌ n w.stations ≡ Some (placed_seen s) = look_seen n p.stations.entries ∙ ap (λ o. option_map placed_seen o) found in
