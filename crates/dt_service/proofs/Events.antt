@@ -1,6 +1,6 @@
 -- What an endpoint's call did, by its answer.
 use Rattle.std.proofs.Common.{ℕ, ◌≡◌, ◌≤◌, inl, inr, Bool, true, false, List, [], ◌∷◌, length, take, Option, Some, None, refl, ap, sym, subst, ◌∙◌, arith}
-use Rattle.std.specs.Prelude.{cond, nat_le}
+use Rattle.std.specs.Prelude.{◌⊎◌, cond, nat_le}
 use Rattle.std.proofs.lemmas.List.{length-take}
 use Rattle.dt_items.specs.declared.item.Item.{Item}
 use Rattle.dt_items.specs.declared.piece.Piece.{Piece as ItemPiece}
@@ -108,6 +108,13 @@ IsUnsent sent.BadFlow = Unit {0}
 IsUnsent sent.Empty = Unit {0}
 IsUnsent sent.TooMany = Unit {0}
 
+pub is_unsent : (answer : Sent) → (answer ≡ sent.NoMemory) ⊎ (answer ≡ sent.Spent) ⊎ (answer ≡ sent.BadFlow) ⊎ (answer ≡ sent.Empty) ⊎ (answer ≡ sent.TooMany) → IsUnsent answer
+is_unsent answer (inl is) = subst IsUnsent (sym is) tt
+is_unsent answer (inr (inl is)) = subst IsUnsent (sym is) tt
+is_unsent answer (inr (inr (inl is))) = subst IsUnsent (sym is) tt
+is_unsent answer (inr (inr (inr (inl is)))) = subst IsUnsent (sym is) tt
+is_unsent answer (inr (inr (inr (inr is)))) = subst IsUnsent (sym is) tt
+
 sent_is : (o : Option Refusal) → IsUnsent (sent_of o) → ⊥
 sent_is None h = h
 sent_is (Some (refusal.Quiet until)) h = h
@@ -195,6 +202,12 @@ IsUnread piece.NoMemory = Unit {0}
 IsUnread piece.Spent = Unit {0}
 IsUnread piece.BadFlow = Unit {0}
 IsUnread piece.NoRoom = Unit {0}
+
+pub is_unread : (answer : Delivered) → (answer ≡ piece.NoMemory) ⊎ (answer ≡ piece.Spent) ⊎ (answer ≡ piece.BadFlow) ⊎ (answer ≡ piece.NoRoom) → IsUnread answer
+is_unread answer (inl is) = subst IsUnread (sym is) tt
+is_unread answer (inr (inl is)) = subst IsUnread (sym is) tt
+is_unread answer (inr (inr (inl is))) = subst IsUnread (sym is) tt
+is_unread answer (inr (inr (inr is))) = subst IsUnread (sym is) tt
 
 piece_is : (len : ℕ) (o : Option ItemPiece) → IsUnread (piece_of len o) → ⊥
 piece_is len None h = h

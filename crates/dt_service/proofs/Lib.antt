@@ -1,3 +1,4 @@
+pub mod Done
 pub mod Events
 pub mod Steps
 pub mod Stops

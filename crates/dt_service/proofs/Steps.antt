@@ -39,30 +39,15 @@ if_true : (b : Bool) (x y : Node) → b ≡ true → cond b x y ≡ x
 if_true false x y h = cc
 if_true true x y h = refl
 
-neither : (a b : Bool) → a ≡ false → (a && b) ≡ false
-neither false b h = refl
-neither true b h = cc
-
-nor : (a b : Bool) → b ≡ false → (a && b) ≡ false
-nor false b h = refl
-nor true b h = h
-
-pub both : (a b : Bool) → a ≡ true → b ≡ true → (a && b) ≡ true
-both true b h k = k
-both false b h k = cc
-
 module _ (now : ℕ) (f : Flow) where
-  pub kept_out : (n : Node) → comes_in n f ≡ false → (again : Node → Node) → read_if again now f n ≡ n
-  kept_out n out again = if_false (comes_in n f && may_read f n.halves) (take_read again f (piece_at now f n.endpoint) (happens now (Read f most_read) n)) n (neither (comes_in n f) (may_read f n.halves) out)
-
-  pub no_room : (n : Node) → may_read f n.halves ≡ false → (again : Node → Node) → read_if again now f n ≡ n
-  no_room n out again = if_false (comes_in n f && may_read f n.halves) (take_read again f (piece_at now f n.endpoint) (happens now (Read f most_read) n)) n (nor (comes_in n f) (may_read f n.halves) out)
+  pub kept_out : (n : Node) → (comes_in n f && may_read f n.halves) ≡ false → (again : Node → Node) → read_if again now f n ≡ n
+  kept_out n out again = if_false (comes_in n f && may_read f n.halves) (take_read again f (piece_at now f n.endpoint) (happens now (Read f most_read) n)) n out
 
   -- an event of the endpoint, and what is heard of it
-  pub reads_on : (n m : Node) (e : EndpointValue) (o : Option Piece) → comes_in n f ≡ true → may_read f n.halves ≡ true → o ≡ piece_at now f n.endpoint → e ≡ after_event now (Read f most_read) n.endpoint → m ≡ hears (node_of e n.halves)
+  pub reads_on : (n m : Node) (e : EndpointValue) (o : Option Piece) → (comes_in n f && may_read f n.halves) ≡ true → o ≡ piece_at now f n.endpoint → e ≡ after_event now (Read f most_read) n.endpoint → m ≡ hears (node_of e n.halves)
       → (again : Node → Node) → read_if again now f n ≡ take_read again f o m
-  reads_on n m e o comes may piece after heard again =
-      if_true (comes_in n f && may_read f n.halves) (take_read again f (piece_at now f n.endpoint) (happens now (Read f most_read) n)) n (both (comes_in n f) (may_read f n.halves) comes may)
+  reads_on n m e o may piece after heard again =
+      if_true (comes_in n f && may_read f n.halves) (take_read again f (piece_at now f n.endpoint) (happens now (Read f most_read) n)) n may
       ∙ ap (λ (p : Option Piece). take_read again f p (happens now (Read f most_read) n)) (sym piece)
       ∙ ap (λ (x : Node). take_read again f o x) (sym (heard ∙ ap (λ (x : EndpointValue). hears (node_of x n.halves)) after))
 

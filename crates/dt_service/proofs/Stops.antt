@@ -150,16 +150,20 @@ call_heard now f payload patience n m message e clear same after stops =
     let k = message_of_call payload n.halves in
     record { clear = clear; turn = turn_heard now (message_event f k) (call_kept now f k patience n) n m e (after ∙ ap (λ (x : List ℕ). after_event now (message_event f x) n.endpoint) same) stops }
 
-pub call_ends : (now : ℕ) (f : Flow) (payload : List ℕ) (patience : ℕ) (n q k m : Node) (message : List ℕ) (e : EndpointValue) (refused : Option Refusal) (count deadline : ℕ) → first_refusal (call_refusals n f payload patience) ≡ None → message ≡ message_of_call payload n.halves → e ≡ after_event now (message_event f message) n.endpoint → q ≡ hears (node_of e n.halves)
-    → refused ≡ send_answer now f message true true n.endpoint → count ≡ length message → deadline ≡ moment_of now n.endpoint + patience → k ≡ with_halves (with_call_unless refused f count deadline) q → EndStops now k m → CallStops now f payload patience n m
-call_ends now f payload patience n q k m message e refused count deadline clear same after heard answer len until kept stops =
-    let message' = message_of_call payload n.halves in
-    let changed : k ≡ with_halves (call_kept now f message' patience n) q =
+pub call_changed : (now : ℕ) (f : Flow) (payload : List ℕ) (patience : ℕ) (n q k : Node) (message : List ℕ) (refused : Option Refusal) (count deadline : ℕ) → message ≡ message_of_call payload n.halves → refused ≡ send_answer now f message true true n.endpoint → count ≡ length message → deadline ≡ moment_of now n.endpoint + patience
+    → k ≡ with_halves (with_call_unless refused f count deadline) q → k ≡ with_halves (call_kept now f (message_of_call payload n.halves) patience n) q
+call_changed now f payload patience n q k message refused count deadline same answer len until kept =
     kept
     ∙ ap (λ (r : Option Refusal). with_halves (with_call_unless r f count deadline) q) answer
     ∙ ap (λ (c : ℕ). with_halves (with_call_unless (send_answer now f message true true n.endpoint) f c deadline) q) len
     ∙ ap (λ (d : ℕ). with_halves (with_call_unless (send_answer now f message true true n.endpoint) f (length message) d) q) until
-    ∙ ap (λ (x : List ℕ). with_halves (with_call_unless (send_answer now f x true true n.endpoint) f (length x) (moment_of now n.endpoint + patience)) q) same in
+    ∙ ap (λ (x : List ℕ). with_halves (with_call_unless (send_answer now f x true true n.endpoint) f (length x) (moment_of now n.endpoint + patience)) q) same
+
+pub call_ends : (now : ℕ) (f : Flow) (payload : List ℕ) (patience : ℕ) (n q k m : Node) (message : List ℕ) (e : EndpointValue) (refused : Option Refusal) (count deadline : ℕ) → first_refusal (call_refusals n f payload patience) ≡ None → message ≡ message_of_call payload n.halves → e ≡ after_event now (message_event f message) n.endpoint → q ≡ hears (node_of e n.halves)
+    → refused ≡ send_answer now f message true true n.endpoint → count ≡ length message → deadline ≡ moment_of now n.endpoint + patience → k ≡ with_halves (with_call_unless refused f count deadline) q → EndStops now k m → CallStops now f payload patience n m
+call_ends now f payload patience n q k m message e refused count deadline clear same after heard answer len until kept stops =
+    let message' = message_of_call payload n.halves in
+    let changed = call_changed now f payload patience n q k message refused count deadline same answer len until kept in
     record { clear = clear; turn = turn_ends now (message_event f message') (call_kept now f message' patience n) n q k m e (after ∙ ap (λ (x : List ℕ). after_event now (message_event f x) n.endpoint) same) heard changed stops }
 
 -- A REPLY
@@ -169,7 +173,7 @@ reply_cut_off now token payload n f message e clear way same cut =
     let g = reversed token.flow in
     record { clear = clear; turn = turn_cut_off now (message_event g m) (token_dropped now token m n) n (node_of e n.halves) e (subst (λ (k : List ℕ). IsCutOff now (message_event g k) n.endpoint e) same (subst (λ (h : Flow). IsCutOff now (message_event h message) n.endpoint e) way cut)) refl }
 
-sent_so : (now : ℕ) (n : Node) (f g : Flow) (x y : List ℕ) (e : EndpointValue) → f ≡ g → x ≡ y → e ≡ after_event now (message_event f x) n.endpoint → e ≡ after_event now (message_event g y) n.endpoint
+pub sent_so : (now : ℕ) (n : Node) (f g : Flow) (x y : List ℕ) (e : EndpointValue) → f ≡ g → x ≡ y → e ≡ after_event now (message_event f x) n.endpoint → e ≡ after_event now (message_event g y) n.endpoint
 sent_so now n f g x y e way same after = after ∙ ap (λ (h : Flow). after_event now (message_event h x) n.endpoint) way ∙ ap (λ (k : List ℕ). after_event now (message_event g k) n.endpoint) same
 
 pub reply_heard : (now : ℕ) (token : Token) (payload : List ℕ) (n m : Node) (f : Flow) (message : List ℕ) (e : EndpointValue) → first_refusal (reply_refusals n token payload) ≡ None → f ≡ reversed token.flow → message ≡ message_of (number_of token.number) payload → e ≡ after_event now (message_event f message) n.endpoint → HearingStops (node_of e n.halves) m → ReplyStops now token payload n m
@@ -178,16 +182,21 @@ reply_heard now token payload n m f message e clear way same after stops =
     let g = reversed token.flow in
     record { clear = clear; turn = turn_heard now (message_event g k) (token_dropped now token k n) n m e (sent_so now n f g message k e way same after) stops }
 
+pub reply_changed : (now : ℕ) (token : Token) (payload : List ℕ) (n q k : Node) (f : Flow) (message : List ℕ) (refused : Option Refusal) → f ≡ reversed token.flow → message ≡ message_of (number_of token.number) payload → refused ≡ send_answer now f message true true n.endpoint
+    → k ≡ with_halves (forgotten_unless refused token) q → k ≡ with_halves (token_dropped now token (message_of (number_of token.number) payload) n) q
+reply_changed now token payload n q k f message refused way same answer kept =
+    let g = reversed token.flow in
+    kept
+    ∙ ap (λ (r : Option Refusal). with_halves (forgotten_unless r token) q) answer
+    ∙ ap (λ (h : Flow). with_halves (forgotten_unless (send_answer now h message true true n.endpoint) token) q) way
+    ∙ ap (λ (x : List ℕ). with_halves (forgotten_unless (send_answer now g x true true n.endpoint) token) q) same
+
 pub reply_ends : (now : ℕ) (token : Token) (payload : List ℕ) (n q k m : Node) (f : Flow) (message : List ℕ) (e : EndpointValue) (refused : Option Refusal) → first_refusal (reply_refusals n token payload) ≡ None → f ≡ reversed token.flow → message ≡ message_of (number_of token.number) payload → e ≡ after_event now (message_event f message) n.endpoint → q ≡ hears (node_of e n.halves)
     → refused ≡ send_answer now f message true true n.endpoint → k ≡ with_halves (forgotten_unless refused token) q → EndStops now k m → ReplyStops now token payload n m
 reply_ends now token payload n q k m f message e refused clear way same after heard answer kept stops =
     let message' = message_of (number_of token.number) payload in
     let g = reversed token.flow in
-    let changed : k ≡ with_halves (token_dropped now token message' n) q =
-    kept
-    ∙ ap (λ (r : Option Refusal). with_halves (forgotten_unless r token) q) answer
-    ∙ ap (λ (h : Flow). with_halves (forgotten_unless (send_answer now h message true true n.endpoint) token) q) way
-    ∙ ap (λ (x : List ℕ). with_halves (forgotten_unless (send_answer now g x true true n.endpoint) token) q) same in
+    let changed = reply_changed now token payload n q k f message refused way same answer kept in
     record { clear = clear; turn = turn_ends now (message_event g message') (token_dropped now token message' n) n q k m e (sent_so now n f g message message' e way same after) heard changed stops }
 
 -- A TOKEN IS FORGOTTEN

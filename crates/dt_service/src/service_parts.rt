@@ -1,5 +1,6 @@
 //! The parts of a service, and its turns.
-ghost use Rattle.std.specs.Prelude.{◌≡◌, false, IfOk, OnErr, OnOk, if◌then◌else◌};
+ghost use Rattle.std.specs.Prelude.{◌≡◌, ◌&&◌, false, IfOk, OnErr, OnOk, if◌then◌else◌};
+ghost use Rattle.dt_service_model.specs.Halves.{may_read};
 ghost use Rattle.dt_service_model.specs.Stopping.{EndStops, ReadStops};
 ghost use Rattle.dt_service_model.specs.Turns.{Node, comes_in, hears, read_flow, read_if, read_times, reads, turn_end};
 ghost use Rattle.dt_service.specs.Nodes.{FlowStops, HearingStops, node_in};
@@ -39,12 +40,12 @@ impl ServiceParts {
         Ok(())
     }
 
-    /// Whether a flow comes to this node from another.
-    fn comes_in(&self, flow: &Flow) -> bool
-        ensures { result ≡ comes_in (node_in self.now) flow.now }
+    /// Whether a flow comes to this node from another, and may be read.
+    fn may_read(&self, flow: &Flow) -> bool
+        ensures { result ≡ (comes_in (node_in self.now) flow.now && may_read flow.now self.now.halves) }
     {
         let me = self.endpoint.me();
-        flow.to == me && flow.from != me
+        flow.to == me && flow.from != me && self.halves.may_read(flow)
     }
 
     /// Reads a flow once, if it may be read, and answers whether more of it may be.
@@ -52,7 +53,7 @@ impl ServiceParts {
         ensures read { IfOk result (λ goes_on. (again : Node → Node) → read_if again now flow.now (node_in self.old) ≡ (if goes_on then again (node_in self.new) else node_in self.new)) }
         ensures stops { OnErr result (ReadStops now flow.now (node_in self.old) (node_in self.new)) }
     {
-        if !self.comes_in(flow) || !self.halves.may_read(flow) {
+        if !self.may_read(flow) {
             return Ok(false);
         }
         let found = read_piece(&mut self.endpoint, now, *flow, &mut *self.room)?;

@@ -67,13 +67,14 @@ impl Service {
           halves = new_halves start.now.most start.now.life;
         }) }
     {
+        let room = Box::new(alloc, [0; ROOM])?;
         let endpoint = Endpoint::open(alloc, rules, start.me, start.again, links)?;
         let parts = ServiceParts {
             alloc,
             endpoint,
             halves: Halves::new(alloc, start.most, start.life),
             message: Vec::new(alloc),
-            room: Box::new(alloc, [0; ROOM])?,
+            room,
         };
         Ok(Service { parts })
     }

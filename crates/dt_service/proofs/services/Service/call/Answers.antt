@@ -1,9 +1,15 @@
-use Rattle.std.proofs.Common.{ap, inr, refl, subst}
+use Rattle.std.proofs.Common.{ap, inl, inr, refl, subst}
+use Rattle.dt_service_model.specs.Asked.{call}
 use Rattle.dt_service_model.specs.Halves.{Halves}
 use Rattle.dt_service_model.specs.Stopping.{CallStops}
 use Rattle.dt_service_model.specs.Turns.{Node}
-use Rattle.dt_service.specs.Nodes.{node_in, node_of}
+use Rattle.dt_service.specs.Nodes.{Is, node_in, node_of}
 use Rattle.dt_service.proofs.services.Service.call.Goals as goal
+
+pub returns-in-Ok : goal.returns-in-Ok
+returns-in-Ok c =
+    let p = node_in c.call.new.self in
+    record { ends = inl (subst (λ (n : Node). Is c.in-Ok.made p (call c.args.now c.args.flow c.args.payload.now c.args.patience n)) c.self.view_is c.in-Ok.ensures.done) }
 
 pub returns-in-Err : goal.returns-in-Err
 returns-in-Err c =
