@@ -1,5 +1,5 @@
 //! The machine's clock, alone and beside a wire.
-use crate::sockets::{ROOM, TRIES, closed, free_port, open, plain, takes};
+use crate::sockets::{ROOM, TRIES, free_port, open, port_of, takes};
 use dt_edges::{Clock, Wire};
 use dt_machine::{MachineClock, Moments, UdpWire};
 use std::net::UdpSocket;
@@ -55,34 +55,23 @@ fn gives_late(
 
 /// Whether a wire opens to a socket, and takes a datagram of it where the clock stood at 0.
 fn takes_first(
-    (near, near_port): &(UdpSocket, u16),
+    near: &UdpSocket,
     wire: &mut UdpWire<'_, HostRuntime>,
     clock: &mut MachineClock<'_, HostRuntime>,
     port: u16,
 ) -> bool {
-    open(wire, port, 7, *near_port)
+    open(wire, port, 7, port_of(near))
         && clock.now() == 0
         && takes(near, b"fresh", wire, port, &mut [0u8; ROOM]) == Some((7, 5))
 }
 
 /// Whether a turn is at the moment of its datagram, and not of what is given in it.
-fn turns(
+pub fn turns(
     rt: &HostRuntime,
+    moments: &Moments,
+    near: &UdpSocket,
     wire: &mut UdpWire<'_, HostRuntime>,
-    clock: &mut MachineClock<'_, HostRuntime>,
 ) -> bool {
-    match plain(rt) {
-        Ok(near) => {
-            takes_first(&near, wire, clock, free_port(rt)) && gives_late(rt, wire, clock)
-        }
-        Err(_) => false,
-    }
-}
-
-#[test]
-fn a_turn_is_at_the_moment_of_its_datagram(rt: HostRuntime) {
-    let moments = Moments::new();
-    let mut wire = closed(&rt, &moments).expect(&rt, "memory");
-    let mut clock = MachineClock::new(&rt, &moments);
-    assert!(rt; turns(&rt, &mut wire, &mut clock));
+    let mut clock = MachineClock::new(rt, moments);
+    takes_first(near, wire, &mut clock, free_port(rt)) && gives_late(rt, wire, &mut clock)
 }

@@ -1,7 +1,10 @@
 //! Wires over sockets of this machine.
 ghost use Rattle.std.specs.Prelude.{◌≤◌};
 
-use crate::sockets::{ROOM, closed, free_port, is_sent, local, open, passes, plain, taken, takes};
+use crate::machine_clocks::turns;
+use crate::sockets::{
+    ROOM, free_port, is_sent, local, open, passes, plain, port_of, takes, takes_nothing,
+};
 use dt_edges::{Peer, Wire};
 use dt_machine::{Moments, UdpWire};
 use std::net::UdpSocket;
@@ -25,15 +28,10 @@ fn opens_to(rt: &HostRuntime, wire: &mut UdpWire<'_, HostRuntime>, link: u16) ->
 }
 
 /// Whether a wire refuses a link above 255, and the port of a socket.
-fn refuses(rt: &HostRuntime, wire: &mut UdpWire<'_, HostRuntime>) -> bool {
-    match plain(rt) {
-        Ok((_near, port)) => {
-            !opens_to(rt, wire, 256)
-                && opens_to(rt, wire, 255)
-                && wire.open(local(port), &[]).is_err()
-        }
-        Err(_) => false,
-    }
+fn refuses(rt: &HostRuntime, near: &UdpSocket, wire: &mut UdpWire<'_, HostRuntime>) -> bool {
+    !opens_to(rt, wire, 256)
+        && opens_to(rt, wire, 255)
+        && wire.open(local(port_of(near)), &[]).is_err()
 }
 
 /// Whether a wire at a port takes a datagram of a socket, at last.
@@ -47,31 +45,34 @@ fn takes_fresh(
     takes(near, b"fresh", wire, port, buf) == Some((link, 5)) && buf.starts_with(b"fresh")
 }
 
-/// Whether a wire takes a datagram that comes from a socket over each of these links.
-fn takes_over(
+/// Links over which a datagram comes.
+static LINKS: [u16; 4] = [0, 1, 7, 254];
+
+/// Whether a wire takes a datagram that comes from a socket over a link.
+fn takes_at(
     rt: &HostRuntime,
-    (near, near_port): &(UdpSocket, u16),
+    near: &UdpSocket,
+    wire: &mut UdpWire<'_, HostRuntime>,
+    link: u16,
+    buf: &mut [u8; ROOM],
+) -> bool {
+    let port = free_port(rt);
+    link <= 254 && open(wire, port, link, port_of(near)) && takes_fresh(near, wire, port, link, buf)
+}
+
+/// The same over each of the links.
+fn tells_links(
+    rt: &HostRuntime,
+    near: &UdpSocket,
     wire: &mut UdpWire<'_, HostRuntime>,
     buf: &mut [u8; ROOM],
 ) -> bool {
-    for link in [0, 1, 7, 254] {
-        let port = free_port(rt);
-        if !open(wire, port, link, *near_port) || !takes_fresh(near, wire, port, link, buf) {
+    for link in &LINKS {
+        if !takes_at(rt, near, wire, *link, buf) {
             return false;
         }
     }
     true
-}
-
-fn tells_links(
-    rt: &HostRuntime,
-    wire: &mut UdpWire<'_, HostRuntime>,
-    buf: &mut [u8; ROOM],
-) -> bool {
-    match plain(rt) {
-        Ok(near) => takes_over(rt, &near, wire, buf),
-        Err(_) => false,
-    }
 }
 
 /// Whether two wires open, each to the other.
@@ -104,16 +105,8 @@ fn hears_all(near: &mut UdpWire<'_, HostRuntime>, far: &mut UdpWire<'_, HostRunt
 
 /// Whether a second wire takes what one gives.
 fn is_heard(rt: &HostRuntime, moments: &Moments, near: &mut UdpWire<'_, HostRuntime>) -> bool {
-    match closed(rt, moments) {
+    match UdpWire::new(rt.alloc(), rt, moments) {
         Ok(mut far) => are_open(rt, near, &mut far) && hears_all(near, &mut far),
-        Err(_) => false,
-    }
-}
-
-/// Whether octets are sent from a socket of its own.
-fn is_forged(rt: &HostRuntime, octets: &[u8], port: u16) -> bool {
-    match plain(rt) {
-        Ok((other, _)) => is_sent(&other, octets, port),
         Err(_) => false,
     }
 }
@@ -121,36 +114,36 @@ fn is_forged(rt: &HostRuntime, octets: &[u8], port: u16) -> bool {
 /// Whether a wire takes nothing of a socket that isn't its peer.
 fn takes_no_forged(
     rt: &HostRuntime,
+    near: &UdpSocket,
     wire: &mut UdpWire<'_, HostRuntime>,
     buf: &mut [u8; ROOM],
 ) -> bool {
     let port = free_port(rt);
     open(wire, port, 7, 1)
-        && taken(wire, buf).is_none()
-        && is_forged(rt, b"forged", port)
-        && taken(wire, buf).is_none()
+        && takes_nothing(wire, buf)
+        && is_sent(near, b"forged", port)
+        && takes_nothing(wire, buf)
+}
+
+/// Whether two datagrams are sent to a port, and wait there for 50 ms.
+fn are_late(rt: &HostRuntime, near: &UdpSocket, port: u16) -> bool {
+    let are = is_sent(near, b"late", port) && is_sent(near, b"too", port);
+    thread::sleep(rt, Duration::from_millis(50));
+    are
 }
 
 /// Whether a wire takes nothing of two datagrams that wait 50 ms, and then a third.
-fn drops_from(
+fn drops_late(
     rt: &HostRuntime,
-    (near, near_port): &(UdpSocket, u16),
+    near: &UdpSocket,
     wire: &mut UdpWire<'_, HostRuntime>,
     buf: &mut [u8; ROOM],
 ) -> bool {
     let port = free_port(rt);
-    let are = open(wire, port, 7, *near_port)
-        && is_sent(near, b"late", port)
-        && is_sent(near, b"too", port);
-    thread::sleep(rt, Duration::from_millis(50));
-    are && taken(wire, buf).is_none() && takes_fresh(near, wire, port, 7, buf)
-}
-
-fn drops_late(rt: &HostRuntime, wire: &mut UdpWire<'_, HostRuntime>, buf: &mut [u8; ROOM]) -> bool {
-    match plain(rt) {
-        Ok(near) => drops_from(rt, &near, wire, buf),
-        Err(_) => false,
-    }
+    open(wire, port, 7, port_of(near))
+        && are_late(rt, near, port)
+        && takes_nothing(wire, buf)
+        && takes_fresh(near, wire, port, 7, buf)
 }
 
 /// How many milliseconds have passed since a moment; none where the clock fails.
@@ -196,32 +189,43 @@ enum Trial {
     TakesNoForged,
     DropsLate,
     Waits,
+    Turns,
 }
 
-/// Whether a wire passes a trial.
+/// Whether a wire passes a trial, beside a socket.
 fn passes_trial(
     rt: &HostRuntime,
     moments: &Moments,
+    near: &UdpSocket,
     wire: &mut UdpWire<'_, HostRuntime>,
     trial: &Trial,
 ) -> bool {
     let mut buf = [0u8; ROOM];
     match trial {
         Trial::Fails => fails(wire, &mut buf),
-        Trial::Refuses => refuses(rt, wire),
-        Trial::TellsLinks => tells_links(rt, wire, &mut buf),
+        Trial::Refuses => refuses(rt, near, wire),
+        Trial::TellsLinks => tells_links(rt, near, wire, &mut buf),
         Trial::IsHeard => is_heard(rt, moments, wire),
-        Trial::TakesNoForged => takes_no_forged(rt, wire, &mut buf),
-        Trial::DropsLate => drops_late(rt, wire, &mut buf),
+        Trial::TakesNoForged => takes_no_forged(rt, near, wire, &mut buf),
+        Trial::DropsLate => drops_late(rt, near, wire, &mut buf),
         Trial::Waits => waits(rt, wire, &mut buf),
+        Trial::Turns => turns(rt, moments, near, wire),
     }
 }
 
-/// Whether a new wire passes a trial.
-fn is_passed(rt: &HostRuntime, trial: &Trial) -> bool {
+/// Whether a new wire passes a trial, beside this socket.
+fn is_passed_beside(rt: &HostRuntime, near: &UdpSocket, trial: &Trial) -> bool {
     let moments = Moments::new();
-    match closed(rt, &moments) {
-        Ok(mut wire) => passes_trial(rt, &moments, &mut wire, trial),
+    match UdpWire::new(rt.alloc(), rt, &moments) {
+        Ok(mut wire) => passes_trial(rt, &moments, near, &mut wire, trial),
+        Err(_) => false,
+    }
+}
+
+/// Whether a new wire passes a trial, beside a new socket.
+fn is_passed(rt: &HostRuntime, trial: &Trial) -> bool {
+    match plain(rt) {
+        Ok(near) => is_passed_beside(rt, &near, trial),
         Err(_) => false,
     }
 }
@@ -259,4 +263,9 @@ fn what_waited_too_long_is_dropped(rt: HostRuntime) {
 #[test]
 fn a_wait_is_kept(rt: HostRuntime) {
     assert!(rt; is_passed(&rt, &Trial::Waits));
+}
+
+#[test]
+fn a_turn_is_at_the_moment_of_its_datagram(rt: HostRuntime) {
+    assert!(rt; is_passed(&rt, &Trial::Turns));
 }

@@ -2,8 +2,7 @@
 ghost use Rattle.std.specs.Prelude.{◌≤◌};
 
 use dt_edges::{Address, Peer, Wire};
-use dt_items::NoMemory;
-use dt_machine::{Moments, UdpWire};
+use dt_machine::UdpWire;
 use std::io;
 use std::net::{Ipv4Addr, SocketAddr, UdpSocket};
 
@@ -27,25 +26,23 @@ pub fn socket_address(port: u16) -> SocketAddr {
     SocketAddr::from((Ipv4Addr::LOCALHOST, port))
 }
 
-/// A socket at a port that the machine chooses, and that port.
-pub fn plain(rt: &HostRuntime) -> io::Result<(UdpSocket, u16)> {
-    let socket = UdpSocket::bind(rt, socket_address(0))?;
-    let port = socket.local_addr()?.port();
-    Ok((socket, port))
+/// A socket at a port that the machine chooses.
+pub fn plain(rt: &HostRuntime) -> io::Result<UdpSocket> {
+    UdpSocket::bind(rt, socket_address(0))
 }
 
-/// A wire that isn't open.
-pub fn closed<'a>(
-    rt: &'a HostRuntime,
-    moments: &'a Moments,
-) -> Result<UdpWire<'a, HostRuntime>, NoMemory> {
-    UdpWire::new(rt.alloc(), rt, moments)
+/// The port of a socket, or 0 where it isn't known.
+pub fn port_of(socket: &UdpSocket) -> u16 {
+    match socket.local_addr() {
+        Ok(address) => address.port(),
+        Err(_) => 0,
+    }
 }
 
 /// A port that was free a moment ago, or 0 where there is none.
 pub fn free_port(rt: &HostRuntime) -> u16 {
     match plain(rt) {
-        Ok((_, port)) => port,
+        Ok(socket) => port_of(&socket),
         Err(_) => 0,
     }
 }
@@ -69,6 +66,11 @@ pub fn open(wire: &mut UdpWire<'_, HostRuntime>, port: u16, link: u16, far: u16)
 /// The link and the length of what a wire takes within 100 ms, if it takes anything.
 pub fn taken(wire: &mut UdpWire<'_, HostRuntime>, buf: &mut [u8; ROOM]) -> Option<(u16, usize)> {
     wire.take(100, buf).ok().flatten()
+}
+
+/// Whether a wire takes nothing within 100 ms.
+pub fn takes_nothing(wire: &mut UdpWire<'_, HostRuntime>, buf: &mut [u8; ROOM]) -> bool {
+    taken(wire, buf).is_none()
 }
 
 /// Whether octets are sent to a port.

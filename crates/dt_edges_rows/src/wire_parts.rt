@@ -1,6 +1,5 @@
 //! The parts of a wire: what waits in it, what waited too long, and its haste.
 use dt_machine::{Backlog, Haste, may_have_waited};
-use std::process::Abort;
 
 /// When the socket was found empty, the moment now, and whether a datagram may have waited too long, in
 /// nanoseconds.
@@ -59,16 +58,15 @@ fn keeps(backlog: &mut Backlog, octets: &[u8]) -> u32 {
 /// The octets of a long datagram.
 static LONG: [u8; 8192] = [0; 8192];
 
-fn is_bounded(rt: &impl Abort, backlog: &mut Backlog) {
-    assert!(rt; keeps(backlog, &LONG) == 32);
-    assert!(rt; !backlog.keep(1, b"a", 0));
-    assert!(rt; keeps(backlog, b"") == 512);
+/// Whether a backlog keeps 32 long datagrams and nothing more, and 512 without octets.
+fn is_bounded(backlog: &mut Backlog) -> bool {
+    keeps(backlog, &LONG) == 32 && !backlog.keep(1, b"a", 0) && keeps(backlog, b"") == 512
 }
 
 #[test]
 fn a_backlog_is_bounded(rt: HostRuntime) {
     let mut backlog = Backlog::new(rt.alloc()).expect(&rt, "memory for a backlog");
-    is_bounded(&rt, &mut backlog);
+    assert!(rt; is_bounded(&mut backlog));
 }
 
 /// What befalls a take: a wait, which a datagram ends after so many nanoseconds or nothing does, or looks,
