@@ -1,7 +1,7 @@
 //! The flow of the tests, and its parameters.
 use dt_units::{Flow, NodeId, Params};
 
-pub const STANDARD: Params = Params {
+pub static STANDARD: Params = Params {
     mpl: 1000,
     r: 3000,
     a: 200,

@@ -23,7 +23,10 @@ fn flags(marks: &[u8]) -> u8 {
 
 /// Whether the octets are a Deltagram's head and a body of so many.
 fn is_gram(head: Option<&[u8]>, body: usize) -> bool {
-    head.is_some_and(|head| body <= 255 && head == gram_head(body as u8).as_slice())
+    match head {
+        Some(head) => body <= 255 && head == gram_head(body as u8).as_slice(),
+        None => false,
+    }
 }
 
 /// Whether a body has this head and these octets after it.

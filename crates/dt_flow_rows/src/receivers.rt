@@ -3,7 +3,7 @@ ghost use Rattle.std.specs.Prelude.{◌≡◌, ◌<◌};
 
 use crate::fixtures::{FLOW, STANDARD};
 use dt_flow_model::{Arrived, RecvAct, RecvKind, RecvMoments};
-use dt_items::{NoMemory, Piece};
+use dt_items::Piece;
 use dt_layout::Frame;
 use dt_recv::Receiver;
 use dt_units::{Params, Steps};
@@ -23,25 +23,30 @@ enum Answer {
     Dropped,
 }
 
+// The number, the letters and the octets of a data packet, and its answer.
+type Data = (u32, &'static [u8], &'static [u8], Answer);
+
+// How many octets are read at most; the letters and the octets of the piece.
+type Read = (usize, &'static [u8], &'static [u8]);
+
 // What happens to a receiver, and what comes of it. Letters of a packet are `d` for the data-run flag,
 // `b` and `e` for its marks, and those of a piece `r`, `b` and `e`.
 enum Event {
     // a data packet: number, letters, octets
-    Data(u32, &'static [u8], &'static [u8], Answer),
+    Data(Data),
     Meet(u32, Answer),
     Close(u32, Answer),
     // nothing is due, or this kind since a moment
-    Idle,
-    Due(RecvKind, u64),
+    Due(Option<(RecvKind, u64)>),
     // the act that is due is done: an acknowledgement with a number and a window, or the release
     Acked(u32, u32),
     Released,
     // at most so many octets are read: letters, octets
-    Read(usize, &'static [u8], &'static [u8]),
+    Read(Read),
     // what is expected, and the free room
     Stands(Option<u32>, u32),
     // when release and an acknowledgement are due, and the wake
-    Moments(Option<u64>, Option<u64>, Option<u64>),
+    Moments(RecvMoments, Option<u64>),
 }
 
 impl Answer {
@@ -84,17 +89,14 @@ fn is_left(frame: &Frame, told: Option<(u32, u32)>) -> bool {
     }
 }
 
-fn is_answer(frame: &Frame, answer: Arrived, wanted: Answer) -> bool {
+fn is_answer(frame: &Frame, answer: Arrived, wanted: &Answer) -> bool {
     answer == wanted.arrived() && is_left(frame, wanted.told())
 }
 
 fn takes_data<L: Ledger>(
     receiver: &mut Receiver,
     now: u64,
-    number: u32,
-    letters: &[u8],
-    octets: &[u8],
-    wanted: Answer,
+    (number, letters, octets, wanted): &Data,
     steps: &mut Steps<L>,
 ) -> bool {
     if octets.is_empty() || octets.len() > 8192 || now > 1 << 62 {
@@ -104,7 +106,7 @@ fn takes_data<L: Ledger>(
     let begin = has(letters, b'b');
     let end = has(letters, b'e');
     let mut frame = Frame::new();
-    let answer = receiver.on_data(number, drf, begin, end, octets, now, &mut frame, steps);
+    let answer = receiver.on_data(*number, drf, begin, end, octets, now, &mut frame, steps);
     is_answer(&frame, answer, wanted)
 }
 
@@ -112,7 +114,7 @@ fn meets<L: Ledger>(
     receiver: &mut Receiver,
     now: u64,
     number: u32,
-    wanted: Answer,
+    wanted: &Answer,
     steps: &mut Steps<L>,
 ) -> bool {
     let mut frame = Frame::new();
@@ -120,25 +122,41 @@ fn meets<L: Ledger>(
     is_answer(&frame, answer, wanted)
 }
 
-fn reads<L: Ledger>(
+fn closes<L: Ledger>(
     receiver: &mut Receiver,
-    now: u64,
-    most: usize,
-    letters: &[u8],
-    octets: &[u8],
+    number: u32,
+    wanted: &Answer,
     steps: &mut Steps<L>,
 ) -> bool {
-    if most == 0 || most > 300 {
-        return false;
-    }
-    let mut buf = [b'.'; 300];
+    is_answer(&Frame::new(), receiver.on_close(number, steps), wanted)
+}
+
+// Whether a read into a buffer, at most so much, is as its row says.
+fn reads_into<L: Ledger>(
+    receiver: &mut Receiver,
+    now: u64,
+    buf: &mut [u8],
+    (most, letters, octets): &Read,
+    steps: &mut Steps<L>,
+) -> bool {
     let wanted = Piece {
         len: octets.len(),
         begin: has(letters, b'b'),
         end: has(letters, b'e'),
         run: has(letters, b'r'),
     };
-    receiver.read(&mut buf[..most], now, steps) == Some(wanted) && buf.starts_with(octets)
+    match buf.get_mut(..*most) {
+        Some(room) => {
+            !room.is_empty()
+                && receiver.read(room, now, steps) == Some(wanted)
+                && buf.starts_with(octets)
+        }
+        None => false,
+    }
+}
+
+fn reads<L: Ledger>(receiver: &mut Receiver, now: u64, read: &Read, steps: &mut Steps<L>) -> bool {
+    reads_into(receiver, now, &mut [b'.'; 300], read, steps)
 }
 
 fn acts<L: Ledger>(
@@ -168,12 +186,24 @@ fn acknowledges<L: Ledger>(
 
 fn has_moments<L: Ledger>(
     receiver: &Receiver,
-    release: Option<u64>,
-    ack: Option<u64>,
-    wake: Option<u64>,
+    moments: &RecvMoments,
+    wake: &Option<u64>,
     steps: &mut Steps<L>,
 ) -> bool {
-    receiver.moments(steps) == RecvMoments { release, ack } && receiver.wake(steps) == wake
+    receiver.moments(steps) == *moments && receiver.wake(steps) == *wake
+}
+
+fn is_due<L: Ledger>(
+    receiver: &Receiver,
+    now: u64,
+    wanted: &Option<(RecvKind, u64)>,
+    steps: &mut Steps<L>,
+) -> bool {
+    receiver.due(now, steps) == *wanted
+}
+
+fn stands(receiver: &Receiver, expected: &Option<u32>, free: u32) -> bool {
+    receiver.expected() == *expected && receiver.free() == free
 }
 
 // Whether an event goes as it says.
@@ -184,32 +214,26 @@ fn happens<L: Ledger>(
     steps: &mut Steps<L>,
 ) -> bool {
     match event {
-        Event::Data(number, letters, octets, wanted) => {
-            takes_data(receiver, now, *number, letters, octets, *wanted, steps)
-        }
-        Event::Meet(number, wanted) => meets(receiver, now, *number, *wanted, steps),
-        Event::Close(number, wanted) => {
-            is_answer(&Frame::new(), receiver.on_close(*number, steps), *wanted)
-        }
-        Event::Idle => receiver.due(now, steps).is_none(),
-        Event::Due(kind, moment) => receiver.due(now, steps) == Some((*kind, *moment)),
+        Event::Data(data) => takes_data(receiver, now, data, steps),
+        Event::Meet(number, wanted) => meets(receiver, now, *number, wanted, steps),
+        Event::Close(number, wanted) => closes(receiver, *number, wanted, steps),
+        Event::Due(wanted) => is_due(receiver, now, wanted, steps),
         Event::Acked(number, window) => acknowledges(receiver, now, *number, *window, steps),
         Event::Released => acts(receiver, now, RecvAct::Released, None, steps),
-        Event::Read(most, letters, octets) => reads(receiver, now, *most, letters, octets, steps),
-        Event::Stands(expected, free) => {
-            receiver.expected() == *expected && receiver.free() == *free
-        }
-        Event::Moments(release, ack, wake) => has_moments(receiver, *release, *ack, *wake, steps),
+        Event::Read(read) => reads(receiver, now, read, steps),
+        Event::Stands(expected, free) => stands(receiver, expected, *free),
+        Event::Moments(moments, wake) => has_moments(receiver, moments, wake, steps),
     }
 }
 
-// A receiver meets these events, each at its moment.
+// A receiver that is idle meets these events, each at its moment.
 fn meets_all<L: Ledger>(
     rt: &impl Abort,
     receiver: &mut Receiver,
     events: &[(u64, Event)],
     steps: &mut Steps<L>,
 ) {
+    assert!(rt; receiver.is_idle());
     for (now, event) in events {
         let is = happens(receiver, *now, event, steps);
         assert!(rt; is, "at {now}");
@@ -217,72 +241,93 @@ fn meets_all<L: Ledger>(
 }
 
 // A new receiver does.
-fn play<L: Ledger>(
+fn plays<L: Ledger>(
     rt: &impl Abort,
     alloc: Global,
-    ledger: Blank,
-    params: Params,
+    params: &Params,
     events: &[(u64, Event)],
-) -> Result<(), NoMemory>
-    requires name { ledger.name ≡ L.name }
-    requires parts { ledger.parts ≡ L.parts }
-    requires some { 0 < ledger.parts }
-{
+    steps: &mut Steps<L>,
+) {
     let rules = params.check().expect(rt, "the parameters are refused");
-    let mut receiver = Receiver::new(alloc, &rules, FLOW)?;
-    assert!(rt; receiver.is_idle());
-    meets_all(rt, &mut receiver, events, &mut Steps::<L>::new(ledger));
-    Ok(())
+    let mut receiver = Receiver::new(alloc, &rules, FLOW).expect(rt, "memory");
+    meets_all(rt, &mut receiver, events, steps);
 }
 
 // Duplicates, closing packets and the receive timer.
 static ONE_MESSAGE: [(u64, Event); 17] = [
     (0, Event::Stands(None, 4096)),
-    (0, Event::Moments(None, None, None)),
+    (
+        0,
+        Event::Moments(
+            RecvMoments {
+                release: None,
+                ack: None,
+            },
+            None,
+        ),
+    ),
     (0, Event::Close(5, Answer::Dropped)),
-    (0, Event::Data(0, b"dbe", b"hello", Answer::Run(5))),
-    (0, Event::Moments(Some(4200), Some(0), Some(0))),
-    (0, Event::Due(RecvKind::Ack, 0)),
+    (0, Event::Data((0, b"dbe", b"hello", Answer::Run(5)))),
+    (
+        0,
+        Event::Moments(
+            RecvMoments {
+                release: Some(4200),
+                ack: Some(0),
+            },
+            Some(0),
+        ),
+    ),
+    (0, Event::Due(Some((RecvKind::Ack, 0)))),
     (0, Event::Acked(5, 4091)),
-    (0, Event::Data(0, b"dbe", b"hello", Answer::Told(5, 4091))),
-    (0, Event::Data(0, b"dbe", b"hello", Answer::Told(5, 4091))),
+    (0, Event::Data((0, b"dbe", b"hello", Answer::Told(5, 4091)))),
+    (0, Event::Data((0, b"dbe", b"hello", Answer::Told(5, 4091)))),
     (20, Event::Close(5, Answer::Closing(5))),
     (20, Event::Close(6, Answer::Dropped)),
-    (20, Event::Moments(Some(4200), None, Some(4200))),
-    (4199, Event::Idle),
-    (4200, Event::Due(RecvKind::Release, 4200)),
+    (
+        20,
+        Event::Moments(
+            RecvMoments {
+                release: Some(4200),
+                ack: None,
+            },
+            Some(4200),
+        ),
+    ),
+    (4199, Event::Due(None)),
+    (4200, Event::Due(Some((RecvKind::Release, 4200)))),
     (4200, Event::Released),
     (4200, Event::Stands(None, 4091)),
-    (4200, Event::Read(300, b"rbe", b"hello")),
+    (4200, Event::Read((300, b"rbe", b"hello"))),
 ];
 
 // Segments that come out of order.
 static REORDERED: [(u64, Event); 10] = [
-    (0, Event::Data(200, b"e", &[b'a'; 50], Answer::Dropped)),
-    (0, Event::Data(0, b"db", &[b'a'; 100], Answer::Run(100))),
+    (0, Event::Data((200, b"e", &[b'a'; 50], Answer::Dropped))),
+    (0, Event::Data((0, b"db", &[b'a'; 100], Answer::Run(100)))),
     (
         0,
-        Event::Data(200, b"e", &[b'a'; 50], Answer::Told(100, 3996)),
+        Event::Data((200, b"e", &[b'a'; 50], Answer::Told(100, 3996))),
     ),
-    (0, Event::Data(100, b"", &[b'a'; 100], Answer::On(100))),
-    (199, Event::Idle),
+    (0, Event::Data((100, b"", &[b'a'; 100], Answer::On(100)))),
+    (199, Event::Due(None)),
     (200, Event::Acked(200, 3896)),
-    (500, Event::Data(200, b"de", &[b'a'; 50], Answer::On(50))),
+    (500, Event::Data((200, b"de", &[b'a'; 50], Answer::On(50)))),
     (500, Event::Acked(250, 3846)),
-    (500, Event::Read(300, b"rbe", &[b'a'; 250])),
+    (500, Event::Read((300, b"rbe", &[b'a'; 250]))),
     (500, Event::Stands(Some(250), 4096)),
 ];
 
 // Windows that open, with `rcap` 4.
 static WINDOWS: [(u64, Event); 10] = [
-    (0, Event::Data(0, b"db", b"abcd", Answer::Run(4))),
+    (0, Event::Data((0, b"db", b"abcd", Answer::Run(4)))),
     (200, Event::Acked(4, 0)),
     (800, Event::Meet(4, Answer::Told(4, 0))),
-    (800, Event::Idle),
-    (800, Event::Read(10, b"rb", b"abcd")),
+    (800, Event::Due(None)),
+    (800, Event::Read((10, b"rb", b"abcd"))),
     (800, Event::Acked(4, 4)),
     (1600, Event::Meet(4, Answer::Told(4, 4))),
-    (1600, Event::Data(4, b"de", b"ef", Answer::On(2))),
+    (1600, Event::Data((4, b"de", b"ef", Answer::On(2)))),
     (1600, Event::Acked(6, 2)),
     (1600, Event::Stands(Some(6), 2)),
 ];
@@ -291,27 +336,37 @@ static WINDOWS: [(u64, Event); 10] = [
 static WRAPPED: [(u64, Event); 6] = [
     (
         0,
-        Event::Data(4_294_967_292, b"db", b"aaaa", Answer::Run(4)),
+        Event::Data((4_294_967_292, b"db", b"aaaa", Answer::Run(4))),
     ),
     (
         0,
-        Event::Data(4_294_967_292, b"db", b"aaaa", Answer::Told(0, 4092)),
+        Event::Data((4_294_967_292, b"db", b"aaaa", Answer::Told(0, 4092))),
     ),
-    (0, Event::Data(4, b"e", b"aa", Answer::Told(0, 4092))),
-    (0, Event::Data(0, b"", b"aaaa", Answer::On(4))),
-    (0, Event::Data(4, b"e", b"aa", Answer::On(2))),
+    (0, Event::Data((4, b"e", b"aa", Answer::Told(0, 4092)))),
+    (0, Event::Data((0, b"", b"aaaa", Answer::On(4)))),
+    (0, Event::Data((4, b"e", b"aa", Answer::On(2)))),
     (0, Event::Acked(6, 4086)),
 ];
 
+static NARROW: Params = Params {
+    rcap: 4,
+    window: 4,
+    ..STANDARD
+};
+
+fn rows_on<L: Ledger>(rt: &impl Abort, alloc: Global, ledger: Blank)
+    requires name { ledger.name ≡ L.name }
+    requires parts { ledger.parts ≡ L.parts }
+    requires some { 0 < ledger.parts }
+{
+    let mut steps = Steps::<L>::new(ledger);
+    plays(rt, alloc, &STANDARD, &ONE_MESSAGE, &mut steps);
+    plays(rt, alloc, &STANDARD, &REORDERED, &mut steps);
+    plays(rt, alloc, &NARROW, &WINDOWS, &mut steps);
+    plays(rt, alloc, &STANDARD, &WRAPPED, &mut steps);
+}
+
 #[test]
-fn the_receiver_answers_as_the_rows_say(rt: HostRuntime) -> Result<(), NoMemory> {
-    let narrow = Params {
-        rcap: 4,
-        window: 4,
-        ..STANDARD
-    };
-    play::<Brand>(&rt, rt.alloc(), Blank::new(1), STANDARD, &ONE_MESSAGE)?;
-    play::<Brand>(&rt, rt.alloc(), Blank::new(2), STANDARD, &REORDERED)?;
-    play::<Brand>(&rt, rt.alloc(), Blank::new(3), narrow, &WINDOWS)?;
-    play::<Brand>(&rt, rt.alloc(), Blank::new(4), STANDARD, &WRAPPED)
+fn the_receiver_answers_as_the_rows_say(rt: HostRuntime) {
+    rows_on::<Brand>(&rt, rt.alloc(), Blank::new(1));
 }

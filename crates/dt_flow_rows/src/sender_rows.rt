@@ -2,7 +2,8 @@
 use crate::sender_steps::{Octets, Step};
 use dt_send::{PutFault, SendMoments};
 
-static THREE_PACKETS: [(u64, Step); 12] = [
+/// A message of 250 octets goes out in three packets, and the first is acknowledged.
+pub static THREE_PACKETS: [(u64, Step); 12] = [
     (0, Step::Put(&[b'a'; 250], Ok(()))),
     (
         0,
@@ -50,12 +51,8 @@ static THREE_PACKETS: [(u64, Step); 12] = [
     (499, Step::Stands(100, 250, 500)),
 ];
 
-/// A message of 250 octets goes out in three packets, and the first is acknowledged.
-pub fn three_packets() -> &'static [(u64, Step)] {
-    &THREE_PACKETS
-}
-
-static UNCERTAIN: [(u64, Step); 11] = [
+/// An octet is given up, and another one goes out after it.
+pub static UNCERTAIN: [(u64, Step); 11] = [
     (0, Step::Put(b"a", Ok(()))),
     (
         0,
@@ -115,12 +112,8 @@ static UNCERTAIN: [(u64, Step); 11] = [
     ),
 ];
 
-/// An octet is given up, and another one goes out after it.
-pub fn uncertain() -> &'static [(u64, Step)] {
-    &UNCERTAIN
-}
-
-static WINDOWS: [(u64, Step); 11] = [
+/// A window of four octets that opens late.
+pub static WINDOWS: [(u64, Step); 11] = [
     (0, Step::Put(b"abcdef", Ok(()))),
     (
         0,
@@ -154,12 +147,8 @@ static WINDOWS: [(u64, Step); 11] = [
     ),
 ];
 
-/// A window of four octets that opens late.
-pub fn windows() -> &'static [(u64, Step)] {
-    &WINDOWS
-}
-
-static GIVEN_UP: [(u64, Step); 5] = [
+/// A rendezvous goes out after octets were given up.
+pub static GIVEN_UP: [(u64, Step); 5] = [
     (0, Step::Put(b"abcdef", Ok(()))),
     (
         0,
@@ -177,12 +166,8 @@ static GIVEN_UP: [(u64, Step); 5] = [
     (5200, Step::Waits(Some(6000))),
 ];
 
-/// A rendezvous goes out after octets were given up.
-pub fn given_up() -> &'static [(u64, Step)] {
-    &GIVEN_UP
-}
-
-static RENEWAL: [(u64, Step); 9] = [
+/// A record is renewed after a run of eight octets.
+pub static RENEWAL: [(u64, Step); 9] = [
     (0, Step::Put(&[b'a'; 20], Ok(()))),
     (
         0,
@@ -214,12 +199,8 @@ static RENEWAL: [(u64, Step); 9] = [
     (6200, Step::Counts(4, 12)),
 ];
 
-/// A record is renewed after a run of eight octets.
-pub fn renewal() -> &'static [(u64, Step)] {
-    &RENEWAL
-}
-
-static QUANTUM: [(u64, Step); 9] = [
+/// An octet waits until the run of eight before it is surely gone.
+pub static QUANTUM: [(u64, Step); 9] = [
     (0, Step::Put(b"aaaa", Ok(()))),
     (
         0,
@@ -261,12 +242,8 @@ static QUANTUM: [(u64, Step); 9] = [
     ),
 ];
 
-/// An octet waits until the run of eight before it is surely gone.
-pub fn quantum() -> &'static [(u64, Step)] {
-    &QUANTUM
-}
-
-static ROUND: [(u64, Step); 5] = [
+/// Numbers go round.
+pub static ROUND: [(u64, Step); 5] = [
     (0, Step::Put(b"abcd", Ok(()))),
     (
         0,
@@ -283,8 +260,3 @@ static ROUND: [(u64, Step); 5] = [
     (0, Step::Stands(2, 2, 10)),
     (6200, Step::Releases(6200)),
 ];
-
-/// Numbers go round.
-pub fn round() -> &'static [(u64, Step)] {
-    &ROUND
-}

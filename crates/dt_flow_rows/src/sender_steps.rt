@@ -42,14 +42,14 @@ pub enum Step {
 }
 
 impl Octets {
-    fn cut(&self) -> Option<Cut> {
-        Some(Cut {
+    fn cut(&self) -> Cut {
+        Cut {
             number: self.number,
-            length: u32::try_from(self.octets.len()).ok()?,
+            length: u32::try_from(self.octets.len()).unwrap_or(u32::MAX),
             drf: has(self.marks, b'd'),
             begin: has(self.marks, b'b'),
             end: has(self.marks, b'e'),
-        })
+        }
     }
 
     fn are_in(&self, frame: &Frame) -> bool {
@@ -62,7 +62,7 @@ fn acts<L: Ledger>(
     sender: &mut Sender,
     now: u64,
     due: (SendKind, u64),
-    act: Option<SendAct>,
+    act: SendAct,
     frame: &mut Frame,
     steps: &mut Steps<L>,
 ) -> bool
@@ -70,17 +70,30 @@ fn acts<L: Ledger>(
     ensures { taken_by sender.new.state ≤ taken_by sender.old.state }
 {
     match sender.due(now, steps) {
-        Some(found) => found == due && Some(sender.act(now, frame, steps)) == act,
+        Some(found) => found == due && sender.act(now, frame, steps) == act,
         None => false,
     }
 }
 
-fn waits<L: Ledger>(sender: &Sender, now: u64, wake: Option<u64>, steps: &mut Steps<L>) -> bool {
-    sender.due(now, steps).is_none() && sender.wake(steps) == wake
+fn waits<L: Ledger>(sender: &Sender, now: u64, wake: &Option<u64>, steps: &mut Steps<L>) -> bool {
+    sender.due(now, steps).is_none() && sender.wake(steps) == *wake
 }
 
 fn stands(sender: &Sender, left: u32, next: u32, edge: u32) -> bool {
     sender.left() == left && sender.next_number() == next && sender.edge() == edge
+}
+
+fn has_moments<L: Ledger>(
+    sender: &Sender,
+    now: u64,
+    moments: &SendMoments,
+    steps: &mut Steps<L>,
+) -> bool {
+    sender.moments(now, steps) == *moments
+}
+
+fn counts(sender: &Sender, waiting: u32, held: u32) -> bool {
+    sender.waiting() == waiting && sender.held() == held
 }
 
 fn has_ring(sender: &Sender, len: usize, capacity: usize) -> bool {
@@ -88,7 +101,20 @@ fn has_ring(sender: &Sender, len: usize, capacity: usize) -> bool {
     ring.len() == len && ring.capacity() == capacity
 }
 
-/// Whether the act that a step says is done as it says.
+/// The act that a step says, its kind, and since when it is due; none where a step says no act.
+fn wanted(step: &Step) -> Option<((SendKind, u64), SendAct)> {
+    Some(match step {
+        Step::Sends(due, octets) => ((SendKind::Send, *due), SendAct::Sent(octets.cut())),
+        Step::Resends(due, octets) => ((SendKind::Resend, *due), SendAct::Resent(octets.cut())),
+        Step::Meets(due, number) => ((SendKind::Meet, *due), SendAct::Met { number: *number }),
+        Step::GivesUp(due, count) => ((SendKind::GiveUp, *due), SendAct::GaveUp { count: *count }),
+        Step::Renews(due) => ((SendKind::Release, *due), SendAct::Renewed),
+        Step::Releases(due) => ((SendKind::Release, *due), SendAct::Released),
+        _ => return None,
+    })
+}
+
+/// Whether the act that a step says is done as it says; also where it says none.
 fn is_act<L: Ledger>(
     sender: &mut Sender,
     now: u64,
@@ -96,23 +122,12 @@ fn is_act<L: Ledger>(
     frame: &mut Frame,
     steps: &mut Steps<L>,
 ) -> bool
-    requires { now ≤ 2 ^ 62 }
     ensures { taken_by sender.new.state ≤ taken_by sender.old.state }
 {
-    let (kind, due, act) = match step {
-        Step::Sends(due, octets) => (SendKind::Send, *due, octets.cut().map(SendAct::Sent)),
-        Step::Resends(due, octets) => (SendKind::Resend, *due, octets.cut().map(SendAct::Resent)),
-        Step::Meets(due, number) => (SendKind::Meet, *due, Some(SendAct::Met { number: *number })),
-        Step::GivesUp(due, count) => (
-            SendKind::GiveUp,
-            *due,
-            Some(SendAct::GaveUp { count: *count }),
-        ),
-        Step::Renews(due) => (SendKind::Release, *due, Some(SendAct::Renewed)),
-        Step::Releases(due) => (SendKind::Release, *due, Some(SendAct::Released)),
-        _ => return false,
-    };
-    acts(sender, now, (kind, due), act, frame, steps)
+    match wanted(step) {
+        Some((due, act)) => now <= 1 << 62 && acts(sender, now, due, act, frame, steps),
+        None => true,
+    }
 }
 
 /// Whether what a step says of the sender or the frame is so.
@@ -128,11 +143,11 @@ fn is_seen<L: Ledger>(
             frame,
         ),
         Step::Meets(_, number) => holds(frame, 3, b"", *number, b""),
-        Step::Waits(wake) => waits(sender, now, *wake, steps),
+        Step::Waits(wake) => waits(sender, now, wake, steps),
         Step::Stands(left, next, edge) => stands(sender, *left, *next, *edge),
-        Step::Counts(waiting, held) => sender.waiting() == *waiting && sender.held() == *held,
+        Step::Counts(waiting, held) => counts(sender, *waiting, *held),
         Step::Ring(len, capacity) => has_ring(sender, *len, *capacity),
-        Step::Moments(moments) => sender.moments(now, steps) == *moments,
+        Step::Moments(moments) => has_moments(sender, now, moments, steps),
         _ => true,
     }
 }
@@ -142,7 +157,7 @@ fn puts<L: Ledger>(
     sender: &mut Sender,
     taken: &mut u64,
     octets: &[u8],
-    answer: Result<(), PutFault>,
+    answer: &Result<(), PutFault>,
     steps: &mut Steps<L>,
 ) -> bool
     requires { taken_by sender.old.state ≤ taken.old }
@@ -152,7 +167,20 @@ fn puts<L: Ledger>(
         return false;
     }
     *taken += octets.len() as u64;
-    sender.put(octets, true, true, steps) == answer
+    sender.put(octets, true, true, steps) == *answer
+}
+
+/// Whether so many octets are acknowledged by an acknowledgement.
+fn acks<L: Ledger>(
+    sender: &mut Sender,
+    number: u32,
+    window: u32,
+    acked: &Option<u32>,
+    steps: &mut Steps<L>,
+) -> bool
+    ensures { taken_by sender.new.state ≤ taken_by sender.old.state }
+{
+    window <= 65_536 && sender.on_ack(number, window, steps) == *acked
 }
 
 /// Whether a step is as it says.
@@ -168,17 +196,9 @@ pub fn is_done<L: Ledger>(
     ensures { taken_by sender.new.state ≤ taken.new }
 {
     let done = match step {
-        Step::Put(octets, answer) => puts(sender, taken, octets, *answer, steps),
-        Step::Acks(number, window, acked) => {
-            *window <= 65_536 && sender.on_ack(*number, *window, steps) == *acked
-        }
-        Step::Sends(..)
-        | Step::Resends(..)
-        | Step::Meets(..)
-        | Step::GivesUp(..)
-        | Step::Renews(_)
-        | Step::Releases(_) => now <= 1 << 62 && is_act(sender, now, step, frame, steps),
-        _ => true,
+        Step::Put(octets, answer) => puts(sender, taken, octets, answer, steps),
+        Step::Acks(number, window, acked) => acks(sender, *number, *window, acked, steps),
+        _ => is_act(sender, now, step, frame, steps),
     };
     done && is_seen(sender, now, step, frame, steps)
 }

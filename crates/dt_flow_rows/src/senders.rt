@@ -1,10 +1,9 @@
-ghost use Rattle.std.specs.Prelude.{◌≡◌, ◌<◌, IfOk};
+ghost use Rattle.std.specs.Prelude.{◌≡◌, ◌<◌};
 ghost use Rattle.dt_flow_model.specs.Keeping.{taken_by};
 
 use crate::fixtures::{FLOW, STANDARD};
-use crate::sender_rows::{given_up, quantum, renewal, round, three_packets, uncertain, windows};
+use crate::sender_rows::{GIVEN_UP, QUANTUM, RENEWAL, ROUND, THREE_PACKETS, UNCERTAIN, WINDOWS};
 use crate::sender_steps::{Step, is_done};
-use dt_items::NoMemory;
 use dt_layout::Frame;
 use dt_send::Sender;
 use dt_units::{Params, Steps};
@@ -13,63 +12,69 @@ use std::marker::Brand;
 use std::process::Abort;
 use std::sync::ledger::{Blank, Ledger};
 
-const NARROW: Params = Params {
+static NARROW: Params = Params {
     window: 4,
     ..STANDARD
 };
 
-const SHORT_RUNS: Params = Params {
+static SHORT_RUNS: Params = Params {
     run_limit: 8,
     ..STANDARD
 };
 
-const LATE_START: Params = Params {
+static LATE_START: Params = Params {
     start: 4_294_967_294,
     ..STANDARD
 };
 
 /// A new record at 0.
-fn sender(rt: &impl Abort, alloc: Global, params: &Params) -> Result<Sender, NoMemory>
-    ensures { IfOk result (λ sender. taken_by sender.state ≡ 0) }
+fn sender(rt: &impl Abort, alloc: Global, params: &Params) -> Sender
+    ensures { taken_by result.state ≡ 0 }
 {
     let rules = params.check().expect(rt, "the parameters are refused");
-    Sender::new(alloc, &rules, FLOW, 0)
+    Sender::new(alloc, &rules, FLOW, 0).expect(rt, "memory")
 }
 
-/// A new record goes through these rows.
+/// A record at 0 goes through these rows.
+fn goes<L: Ledger>(rt: &impl Abort, sender: &mut Sender, rows: &[(u64, Step)], steps: &mut Steps<L>)
+    requires { taken_by sender.old.state ≡ 0 }
+{
+    let mut frame = Frame::new();
+    let mut taken = 0;
+    for (now, step) in rows {
+        let is = is_done(sender, &mut taken, *now, step, &mut frame, steps);
+        assert!(rt; is, "at {now}");
+    }
+}
+
+/// A new record does.
 fn plays<L: Ledger>(
     rt: &impl Abort,
     alloc: Global,
     params: &Params,
     rows: &[(u64, Step)],
     steps: &mut Steps<L>,
-) -> Result<(), NoMemory> {
-    let mut sender = sender(rt, alloc, params)?;
-    let mut frame = Frame::new();
-    let mut taken = 0;
-    for (now, step) in rows {
-        let is = is_done(&mut sender, &mut taken, *now, step, &mut frame, steps);
-        assert!(rt; is, "at {now}");
-    }
-    Ok(())
+) {
+    let mut sender = sender(rt, alloc, params);
+    goes(rt, &mut sender, rows, steps);
 }
 
-fn rows_on<L: Ledger>(rt: &impl Abort, alloc: Global, ledger: Blank) -> Result<(), NoMemory>
+fn rows_on<L: Ledger>(rt: &impl Abort, alloc: Global, ledger: Blank)
     requires name { ledger.name ≡ L.name }
     requires parts { ledger.parts ≡ L.parts }
     requires some { 0 < ledger.parts }
 {
     let mut steps = Steps::<L>::new(ledger);
-    plays(rt, alloc, &STANDARD, three_packets(), &mut steps)?;
-    plays(rt, alloc, &STANDARD, uncertain(), &mut steps)?;
-    plays(rt, alloc, &NARROW, windows(), &mut steps)?;
-    plays(rt, alloc, &NARROW, given_up(), &mut steps)?;
-    plays(rt, alloc, &SHORT_RUNS, renewal(), &mut steps)?;
-    plays(rt, alloc, &SHORT_RUNS, quantum(), &mut steps)?;
-    plays(rt, alloc, &LATE_START, round(), &mut steps)
+    plays(rt, alloc, &STANDARD, &THREE_PACKETS, &mut steps);
+    plays(rt, alloc, &STANDARD, &UNCERTAIN, &mut steps);
+    plays(rt, alloc, &NARROW, &WINDOWS, &mut steps);
+    plays(rt, alloc, &NARROW, &GIVEN_UP, &mut steps);
+    plays(rt, alloc, &SHORT_RUNS, &RENEWAL, &mut steps);
+    plays(rt, alloc, &SHORT_RUNS, &QUANTUM, &mut steps);
+    plays(rt, alloc, &LATE_START, &ROUND, &mut steps);
 }
 
 #[test]
-fn records_act_in_time(rt: HostRuntime) -> Result<(), NoMemory> {
-    rows_on::<Brand>(&rt, rt.alloc(), Blank::new(1))
+fn records_act_in_time(rt: HostRuntime) {
+    rows_on::<Brand>(&rt, rt.alloc(), Blank::new(1));
 }
