@@ -74,17 +74,17 @@ static BIT_OUTSIDE: [Row; 1] = table! { 1 2 7; };
 
 static NO_ROWS: [Row; 0] = [];
 
-/// Whether a table keeps the rule for so many keys, and not for one more.
-fn covers_at_most<const N: usize>(rows: &[Row; N], keys: u8) -> bool
+/// A table keeps the rule for so many keys, and not for one more.
+fn covers_at_most<const N: usize>(rt: &impl Abort, rows: &[Row; N], keys: u8, name: &str)
     requires { keys < 255 }
 {
-    covers(rows, keys) && !covers(rows, keys + 1)
+    holds(rt, covers(rows, keys) && !covers(rows, keys + 1), name);
 }
 
 #[test]
 fn a_key_with_two_rows_or_none_breaks_the_rule(rt: HostRuntime) {
-    holds(&rt, covers_at_most(&TWO_ROWS, 2), "two rows");
-    holds(&rt, covers_at_most(&NO_ROW, 3), "no row");
-    holds(&rt, covers_at_most(&BIT_OUTSIDE, 0), "a bit outside");
-    holds(&rt, covers_at_most(&NO_ROWS, 0), "no rows");
+    covers_at_most(&rt, &TWO_ROWS, 2, "two rows");
+    covers_at_most(&rt, &NO_ROW, 3, "no row");
+    covers_at_most(&rt, &BIT_OUTSIDE, 0, "a bit outside");
+    covers_at_most(&rt, &NO_ROWS, 0, "no rows");
 }

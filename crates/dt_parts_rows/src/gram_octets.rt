@@ -7,9 +7,8 @@ use dt_layout::{Frame, GramOctets, read_deltagram};
 fn is_known(octets: &[u8]) -> bool {
     match GramOctets::read(octets) {
         Ok(gram) => {
-            read_deltagram(octets) == Ok(gram.deltagram())
-                && gram.life() == gram.deltagram().life
-                && gram.to() == gram.deltagram().to
+            let d = gram.deltagram();
+            read_deltagram(octets) == Ok(d) && gram.life() == d.life && gram.to() == d.to
         }
         Err(fault) => fault_of(octets) == Some(fault),
     }

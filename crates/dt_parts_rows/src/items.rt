@@ -1,4 +1,6 @@
 //! A queue of octets with marks, pushed and read piece by piece.
+ghost use Rattle.std.specs.Prelude.{◌<◌, length};
+
 use dt_items::{Piece, Queue};
 use std::alloc::Global;
 use std::process::Abort;
@@ -29,25 +31,42 @@ fn is_piece(piece: Option<Piece>, len: usize, marks: &[u8]) -> bool {
     piece == Some(expected)
 }
 
+/// A buffer before a read.
+static DOTS: [u8; 8] = [b'.'; 8];
+
 /// Whether a buffer has these octets first, and the rest of it is as it was.
 fn begins_with(buf: &[u8], octets: &[u8]) -> bool {
-    buf.starts_with(octets) && buf.iter().skip(octets.len()).all(|octet| *octet == b'.')
+    match buf.get(octets.len()..) {
+        Some(rest) => buf.starts_with(octets) && DOTS.starts_with(rest),
+        None => false,
+    }
 }
 
-fn push(rt: &impl Abort, queue: &mut Queue, octets: &[u8], marks: &[u8]) {
-    assert!(rt; !octets.is_empty());
-    assert!(rt; octets.len() <= queue.free() as usize);
-    queue.push_all(octets, has(marks, b'b'), has(marks, b'e'), has(marks, b'r'));
+/// Whether there is room for octets, which are then pushed.
+fn is_pushed(queue: &mut Queue, octets: &[u8], marks: &[u8]) -> bool {
+    let fit = !octets.is_empty() && octets.len() <= queue.free() as usize;
+    if fit {
+        queue.push_all(octets, has(marks, b'b'), has(marks, b'e'), has(marks, b'r'));
+    }
+    fit
 }
 
-fn read(rt: &impl Abort, queue: &mut Queue, most: usize, octets: &[u8], marks: &[u8]) {
-    let mut buf = [b'.'; 8];
-    assert!(rt; 0 < most && most <= 8);
+/// Whether a read gives so many octets, with these marks, and no more are gone then.
+fn gives(queue: &mut Queue, buf: &mut [u8], len: usize, marks: &[u8]) -> bool
+    requires { 0 < length buf.old }
+{
     let unread = queue.len() as usize;
-    let piece = queue.read_into(&mut buf[..most]);
-    assert!(rt; is_piece(piece, octets.len(), marks));
-    assert!(rt; begins_with(&buf, octets));
-    assert!(rt; queue.len() as usize == unread.saturating_sub(octets.len()));
+    let piece = queue.read_into(buf);
+    is_piece(piece, len, marks) && queue.len() as usize == unread.saturating_sub(len)
+}
+
+/// Whether a read of at most so many octets gives these.
+fn is_read(queue: &mut Queue, most: usize, octets: &[u8], marks: &[u8]) -> bool {
+    let mut buf = DOTS;
+    0 < most
+        && most <= 8
+        && gives(queue, &mut buf[..most], octets.len(), marks)
+        && begins_with(&buf, octets)
 }
 
 fn reads_nothing(queue: &mut Queue) -> bool {
@@ -63,12 +82,12 @@ fn is_full(queue: &Queue, room: u32) -> bool {
         && ring.capacity() == room as usize
 }
 
-fn do_step(rt: &impl Abort, queue: &mut Queue, step: &Step) {
+fn is_done(queue: &mut Queue, step: &Step) -> bool {
     match step {
-        Step::Push(octets, marks) => push(rt, queue, octets, marks),
-        Step::Read(most, octets, marks) => read(rt, queue, *most, octets, marks),
-        Step::Nothing => assert!(rt; reads_nothing(queue)),
-        Step::Full(room) => assert!(rt; is_full(queue, *room)),
+        Step::Push(octets, marks) => is_pushed(queue, octets, marks),
+        Step::Read(most, octets, marks) => is_read(queue, *most, octets, marks),
+        Step::Nothing => reads_nothing(queue),
+        Step::Full(room) => is_full(queue, *room),
     }
 }
 
@@ -77,7 +96,8 @@ fn do_steps(rt: &impl Abort, queue: &mut Queue, rounds: &[(u32, &[Step])]) {
     for (count, steps) in rounds {
         for _ in 0..*count {
             for step in *steps {
-                do_step(rt, queue, step);
+                let is = is_done(queue, step);
+                assert!(rt; is);
             }
         }
     }

@@ -1,27 +1,23 @@
-ghost use Rattle.std.specs.Prelude.{◌<◌, length};
-
 use dt_items::MarkedOctets;
 use dt_ledger::{Fate, FlowRows, GivenOctets, Instant, Ledger, Totals};
 use dt_units::{Flow, NodeId};
 use std::process::Abort;
+
+/// Octets are given from a place on, at a moment. Of the marks `r` is run, `b` begin and `e` end.
+struct Given {
+    place: u32,
+    octets: &'static [u8],
+    marks: &'static [u8],
+    at: u64,
+}
 
 /// What happens to a flow. Both stations are in their first life.
 enum Step {
     /// A message is taken.
     Take(&'static [u8]),
     /// So many octets go out at a moment, from this place on.
-    Send {
-        count: u32,
-        at: u32,
-        place: u64,
-    },
-    /// Octets are given from a place on, at a moment. Of the marks `r` is run, `b` begin and `e` end.
-    Give {
-        place: u32,
-        octets: &'static [u8],
-        marks: &'static [u8],
-        at: u64,
-    },
+    Send { count: u32, at: u32, place: u64 },
+    Give(Given),
     /// The leftmost octets without a fate are acknowledged, so many.
     Acknowledge(u32),
 }
@@ -46,41 +42,36 @@ fn goes_out(rows: &mut FlowRows, count: u32, at: u32, place: u64) -> bool {
     rows.note_next(0, count, at) == place
 }
 
-fn is_given(rows: &mut FlowRows, place: u32, octets: &[u8], marks: &[u8], at: u64) -> bool
-    requires { length octets.now < 100 }
-{
+fn is_given(rows: &mut FlowRows, given: &Given) -> bool {
+    if given.octets.len() >= 100 {
+        return false;
+    }
     let payload = MarkedOctets {
-        octets,
-        begin: has(marks, b'b'),
-        end: has(marks, b'e'),
+        octets: given.octets,
+        begin: has(given.marks, b'b'),
+        end: has(given.marks, b'e'),
     };
-    let given = GivenOctets {
+    let octets = GivenOctets {
         payload,
-        run: has(marks, b'r'),
-        place: u64::from(place),
+        run: has(given.marks, b'r'),
+        place: u64::from(given.place),
         life: 0,
-        at,
+        at: given.at,
     };
-    rows.give(&given).is_ok()
+    rows.give(&octets).is_ok()
 }
 
-fn is_done(rt: &impl Abort, rows: &mut FlowRows, step: &Step) -> bool {
+fn is_settled(rows: &mut FlowRows, count: u32) -> bool {
+    rows.settle_open(0, count, Fate::Acked);
+    true
+}
+
+fn is_done(rows: &mut FlowRows, step: &Step) -> bool {
     match step {
         Step::Take(octets) => is_taken(rows, octets),
         Step::Send { count, at, place } => goes_out(rows, *count, *at, *place),
-        Step::Give {
-            place,
-            octets,
-            marks,
-            at,
-        } => {
-            assert!(rt; octets.len() < 100);
-            is_given(rows, *place, octets, marks, *at)
-        }
-        Step::Acknowledge(count) => {
-            rows.settle_open(0, *count, Fate::Acked);
-            true
-        }
+        Step::Give(given) => is_given(rows, given),
+        Step::Acknowledge(count) => is_settled(rows, *count),
     }
 }
 
@@ -93,12 +84,12 @@ static SMALL_WINDOW: [Step; 7] = [
         at: 0,
         place: 0,
     },
-    Step::Give {
+    Step::Give(Given {
         place: 0,
         octets: b"abcd",
         marks: b"rb",
         at: 0,
-    },
+    }),
     Step::Acknowledge(4),
     Step::Acknowledge(0),
     Step::Send {
@@ -106,12 +97,12 @@ static SMALL_WINDOW: [Step; 7] = [
         at: 1600,
         place: 4,
     },
-    Step::Give {
+    Step::Give(Given {
         place: 4,
         octets: b"ef",
         marks: b"e",
         at: 1600,
-    },
+    }),
 ];
 
 const LEFT: Totals = Totals {
@@ -123,27 +114,28 @@ const LEFT: Totals = Totals {
     read: 0,
 };
 
-fn are_done(rt: &impl Abort, rows: &mut FlowRows, steps: &[Step]) {
-    for step in steps {
-        let is = is_done(rt, rows, step);
-        assert!(rt; is);
-    }
-}
-
 fn is_left(rows: &FlowRows) -> bool {
     rows.totals() == LEFT && rows.last_given() == Some(5)
+}
+
+/// The steps, and what is left.
+fn are_done(rt: &impl Abort, rows: &mut FlowRows) {
+    for step in &SMALL_WINDOW {
+        let is = is_done(rows, step);
+        assert!(rt; is);
+    }
+    let is = is_left(rows);
+    assert!(rt; is);
 }
 
 #[test]
 fn octets_wait_for_a_window(rt: HostRuntime) {
     let mut rows = FlowRows::new(rt.alloc());
-    are_done(&rt, &mut rows, &SMALL_WINDOW);
-    let is = is_left(&rows);
-    assert!(rt; is);
+    are_done(&rt, &mut rows);
 }
 
 /// From port 10 of node 1 to port 20 of node 2.
-const FLOW: Flow = Flow {
+static FLOW: Flow = Flow {
     from: NodeId(1),
     from_port: 10,
     to: NodeId(2),
@@ -151,7 +143,7 @@ const FLOW: Flow = Flow {
 };
 
 /// From port 11 of node 1 to port 20 of node 2.
-const OTHER: Flow = Flow {
+static OTHER: Flow = Flow {
     from: NodeId(1),
     from_port: 11,
     to: NodeId(2),
@@ -163,31 +155,31 @@ fn takes_in(ledger: &mut Ledger, life: u32, octets: &[u8]) -> bool {
     ledger.take(&FLOW, life, octets, true, true).is_ok()
 }
 
-fn sends_first(rt: &impl Abort, ledger: &mut Ledger) {
-    assert!(rt; ledger.rows(&FLOW).is_some());
-    assert!(rt; ledger.taken_count(&FLOW) == 1);
-    ledger.note_first(&FLOW, 0, 1, 0);
+/// Whether one octet is taken, which then goes out.
+fn sends_first(ledger: &mut Ledger) -> bool {
+    let is = ledger.rows(&FLOW).is_some() && ledger.taken_count(&FLOW) == 1;
+    if is {
+        ledger.note_first(&FLOW, 0, 1, 0);
+    }
+    is
 }
 
-fn is_given_and_read(rt: &impl Abort, ledger: &mut Ledger) -> bool {
-    let is_given = ledger
-        .give(&FLOW, 1, b"b", true, true, true, 0, 6200)
-        .is_ok();
-    assert!(rt; ledger.read_count(&FLOW) == 0);
-    is_given && ledger.note_read(&FLOW, 0, 1).is_ok()
+fn is_given_and_read(ledger: &mut Ledger) -> bool {
+    let given = ledger.give(&FLOW, 1, b"b", true, true, true, 0, 6200);
+    given.is_ok() && ledger.read_count(&FLOW) == 0 && ledger.note_read(&FLOW, 0, 1).is_ok()
 }
 
 fn has_counts(ledger: &Ledger, flow: &Flow, taken: u64, last_given: Option<u64>) -> bool {
     ledger.taken_count(flow) == taken && ledger.last_given(flow) == last_given
 }
 
-fn start_again(rt: &impl Abort, ledger: &mut Ledger) {
-    assert!(rt; takes_in(ledger, 0, b"a"));
-    sends_first(rt, ledger);
-    assert!(rt; takes_in(ledger, 1, b"b"));
-    assert!(rt; is_given_and_read(rt, ledger));
-    assert!(rt; has_counts(ledger, &FLOW, 2, Some(1)));
-    assert!(rt; has_counts(ledger, &OTHER, 0, None));
+fn starts_again(ledger: &mut Ledger) -> bool {
+    takes_in(ledger, 0, b"a")
+        && sends_first(ledger)
+        && takes_in(ledger, 1, b"b")
+        && is_given_and_read(ledger)
+        && has_counts(ledger, &FLOW, 2, Some(1))
+        && has_counts(ledger, &OTHER, 0, None)
 }
 
 /// A sender starts again: its first octet stays open, and the other one is of its next life. The
@@ -195,5 +187,6 @@ fn start_again(rt: &impl Abort, ledger: &mut Ledger) {
 #[test]
 fn a_sender_starts_again(rt: HostRuntime) {
     let mut ledger = Ledger::new(rt.alloc());
-    start_again(&rt, &mut ledger);
+    let is = starts_again(&mut ledger);
+    assert!(rt; is);
 }

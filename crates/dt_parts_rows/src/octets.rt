@@ -14,6 +14,15 @@ pub static ACKNOWLEDGEMENT: [u8; 30] = [
     251,
 ];
 
+/// The acknowledgement with the widest window, and with one that is wider.
+pub static WIDEST: [u8; 30] = [
+    1, 1, 0, 14, 0, 0, 3, 231, 0, 0, 0, 2, 0, 0, 0, 1, 2, 0, 0, 20, 0, 10, 0, 0, 0, 5, 0, 1, 0, 0,
+];
+
+pub static TOO_WIDE: [u8; 30] = [
+    1, 1, 0, 14, 0, 0, 3, 231, 0, 0, 0, 2, 0, 0, 0, 1, 2, 0, 0, 20, 0, 10, 0, 0, 0, 5, 0, 1, 0, 1,
+];
+
 pub static RENDEZVOUS: [u8; 30] = [
     1, 1, 0, 14, 0, 0, 3, 231, 0, 0, 0, 1, 0, 0, 0, 2, 3, 0, 0, 10, 0, 20, 128, 0, 0, 0, 0, 0, 0, 0,
 ];
@@ -39,9 +48,13 @@ pub static SECOND: [u8; 30] = [
 ];
 
 pub fn read_whole(bytes: &[u8]) -> Result<(Deltagram<'_>, Packet<'_>), LayoutFault> {
-    let d = read_deltagram(bytes)?;
-    let packet = read_packet(&d)?;
-    Ok((d, packet))
+    match read_deltagram(bytes) {
+        Ok(d) => match read_packet(&d) {
+            Ok(packet) => Ok((d, packet)),
+            Err(fault) => Err(fault),
+        },
+        Err(fault) => Err(fault),
+    }
 }
 
 /// What refuses the octets, if something does.

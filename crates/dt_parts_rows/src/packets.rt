@@ -2,7 +2,8 @@
 ghost use Rattle.dt_layout.specs.Spelling.{KeepsRules, packet_of};
 
 use crate::octets::{
-    ACKNOWLEDGEMENT, CLOSING, FIRST, FRAME, RENDEZVOUS, SECOND, fault_of, read_whole,
+    ACKNOWLEDGEMENT, CLOSING, FIRST, FRAME, RENDEZVOUS, SECOND, TOO_WIDE, WIDEST, fault_of,
+    read_whole,
 };
 use dt_layout::{DataHead, Frame, LayoutFault, Packet, write_frame};
 
@@ -23,24 +24,25 @@ fn holds(bytes: &[u8], head: &[u8], data: &[u8]) -> bool {
 /// and read from them.
 fn is_spelled(
     frame: &mut Frame,
-    from: u32,
-    to: u32,
+    ends: (u32, u32),
     packet: &Packet<'_>,
     head: &[u8],
     data: &[u8],
 ) -> bool
     requires { KeepsRules (packet_of packet.now) }
 {
-    write_frame(frame, 999, from, to, packet);
+    write_frame(frame, 999, ends.0, ends.1, packet);
     let bytes = frame.as_slice();
     holds(bytes, head, data) && are_read(bytes, packet)
 }
 
-/// The version, the protocol, the life and the two nodes that octets are read as.
-fn head_of(bytes: &[u8]) -> Option<(u8, u8, u32, u32, u32)> {
+/// Whether octets are read as a Deltagram of this version from node 1 to node 2, of protocol 1, with a life of
+/// 999 ms.
+fn has_head(bytes: &[u8], version: u8) -> bool {
     match read_whole(bytes) {
-        Ok((d, _)) => Some((d.version, d.protocol, d.life, d.from, d.to)),
-        Err(_) => None,
+        Ok((d, _)) => (d.version, d.protocol) == (version, 1)
+            && [d.life, d.from, d.to] == [999, 1, 2],
+        Err(_) => false,
     }
 }
 
@@ -52,10 +54,8 @@ fn body_of(bytes: &[u8]) -> Option<(u8, usize)> {
     }
 }
 
-#[test]
-fn data_is_written_and_read(rt: HostRuntime) {
-    let mut frame = Frame::new();
-    assert!(rt; frame.as_slice().is_empty());
+/// Whether a frame that has no octets is written as the data packet.
+fn is_data_spelled(frame: &mut Frame) -> bool {
     let packet = Packet::Data {
         from_port: 10,
         to_port: 20,
@@ -65,12 +65,17 @@ fn data_is_written_and_read(rt: HostRuntime) {
         end: true,
         octets: b"hello",
     };
-    assert!(rt; is_spelled(&mut frame, 1, 2, &packet, &FRAME, b""));
+    frame.as_slice().is_empty() && is_spelled(frame, (1, 2), &packet, &FRAME, b"")
 }
 
 #[test]
-fn data_in_pieces_comes_after_its_head(rt: HostRuntime) {
-    let mut frame = Frame::new();
+fn data_is_written_and_read(rt: HostRuntime) {
+    let is = is_data_spelled(&mut Frame::new());
+    assert!(rt; is);
+}
+
+/// Whether the data packet is written as its head, and two pieces after it.
+fn is_data_appended(frame: &mut Frame) -> bool {
     let head = DataHead {
         from_port: 10,
         to_port: 20,
@@ -80,10 +85,16 @@ fn data_in_pieces_comes_after_its_head(rt: HostRuntime) {
         end: true,
         count: 5,
     };
-    head.write(&mut frame, 999, 1, 2);
+    head.write(frame, 999, 1, 2);
     frame.append(b"he");
     frame.append(b"llo");
-    assert!(rt; frame.as_slice() == FRAME.as_slice());
+    frame.as_slice() == FRAME.as_slice()
+}
+
+#[test]
+fn data_in_pieces_comes_after_its_head(rt: HostRuntime) {
+    let is = is_data_appended(&mut Frame::new());
+    assert!(rt; is);
 }
 
 #[test]
@@ -94,7 +105,7 @@ fn an_acknowledgement_is_written_and_read(rt: HostRuntime) {
         number: 5,
         window: 4091,
     };
-    assert!(rt; is_spelled(&mut Frame::new(), 2, 1, &packet, &ACKNOWLEDGEMENT, b""));
+    assert!(rt; is_spelled(&mut Frame::new(), (2, 1), &packet, &ACKNOWLEDGEMENT, b""));
 }
 
 #[test]
@@ -104,7 +115,7 @@ fn a_rendezvous_is_written_and_read(rt: HostRuntime) {
         to_port: 20,
         number: 2_147_483_648,
     };
-    assert!(rt; is_spelled(&mut Frame::new(), 1, 2, &packet, &RENDEZVOUS, b""));
+    assert!(rt; is_spelled(&mut Frame::new(), (1, 2), &packet, &RENDEZVOUS, b""));
 }
 
 #[test]
@@ -114,17 +125,17 @@ fn a_closing_packet_is_written_and_read(rt: HostRuntime) {
         to_port: 20,
         number: 5,
     };
-    assert!(rt; is_spelled(&mut Frame::new(), 1, 2, &packet, &CLOSING, b""));
+    assert!(rt; is_spelled(&mut Frame::new(), (1, 2), &packet, &CLOSING, b""));
 }
 
 #[test]
 fn heads_are_read(rt: HostRuntime) {
-    assert!(rt; head_of(&FRAME) == Some((1, 1, 999, 1, 2)));
-    assert!(rt; head_of(&CLOSING) == Some((2, 1, 999, 1, 2)));
+    assert!(rt; has_head(&FRAME, 1));
+    assert!(rt; has_head(&CLOSING, 2));
 }
 
-#[test]
-fn the_longest_packet_is_written_and_read(rt: HostRuntime) {
+/// Whether the longest packet is written, and read as such.
+fn is_longest_spelled(frame: &mut Frame) -> bool {
     let data = [97; 8_192];
     let packet = Packet::Data {
         from_port: 10,
@@ -135,9 +146,14 @@ fn the_longest_packet_is_written_and_read(rt: HostRuntime) {
         end: false,
         octets: &data,
     };
-    let mut frame = Frame::new();
-    assert!(rt; is_spelled(&mut frame, 1, 2, &packet, &FIRST, &data));
-    assert!(rt; body_of(frame.as_slice()) == Some((2, 8_206)));
+    is_spelled(frame, (1, 2), &packet, &FIRST, &data)
+        && body_of(frame.as_slice()) == Some((2, 8_206))
+}
+
+#[test]
+fn the_longest_packet_is_written_and_read(rt: HostRuntime) {
+    let is = is_longest_spelled(&mut Frame::new());
+    assert!(rt; is);
 }
 
 #[test]
@@ -154,7 +170,7 @@ fn a_packet_after_a_longer_one_is_written_and_read(rt: HostRuntime) {
     };
     let mut frame = Frame::new();
     assert!(rt; frame.refill(&[97; 8_222]));
-    assert!(rt; is_spelled(&mut frame, 1, 2, &packet, &SECOND, &data));
+    assert!(rt; is_spelled(&mut frame, (1, 2), &packet, &SECOND, &data));
 }
 
 #[test]
@@ -165,10 +181,7 @@ fn the_widest_window_is_written_and_read(rt: HostRuntime) {
         number: 5,
         window: 65_536,
     };
-    let mut octets = ACKNOWLEDGEMENT;
-    octets[26..].copy_from_slice(&[0, 1, 0, 0]);
-    assert!(rt; is_spelled(&mut Frame::new(), 2, 1, &packet, &octets, b""));
-    octets[29] = 1;
+    assert!(rt; is_spelled(&mut Frame::new(), (2, 1), &packet, &WIDEST, b""));
     let want = LayoutFault::Window { value: 65_537 };
-    assert!(rt; fault_of(&octets) == Some(want));
+    assert!(rt; fault_of(&TOO_WIDE) == Some(want));
 }

@@ -13,43 +13,39 @@ enum Step {
     First(Option<(u64, usize)>),
 }
 
-fn hold(rt: &impl Abort, deadlines: &mut Deadlines, count: usize) {
-    assert!(rt; count <= deadlines.room());
-    assert!(rt; deadlines.hold(count).is_ok());
+fn is_held(deadlines: &mut Deadlines, count: usize) -> bool {
+    count <= deadlines.room() && deadlines.hold(count).is_ok()
 }
 
-fn set(rt: &impl Abort, deadlines: &mut Deadlines, place: usize, moment: Option<u64>) {
-    assert!(rt; place < deadlines.room());
-    deadlines.set(place, moment);
+/// Whether there is this place, which then gets the moment.
+fn is_set(deadlines: &mut Deadlines, place: usize, moment: Option<u64>) -> bool {
+    let is = place < deadlines.room();
+    if is {
+        deadlines.set(place, moment);
+    }
+    is
 }
 
-fn has(rt: &impl Abort, deadlines: &Deadlines, place: usize, moment: Option<u64>) -> bool {
-    assert!(rt; place < deadlines.room());
-    deadlines.at(place) == moment
+fn has(deadlines: &Deadlines, place: usize, moment: Option<u64>) -> bool {
+    place < deadlines.room() && deadlines.at(place) == moment
 }
 
 fn has_first(deadlines: &Deadlines, first: Option<(u64, usize)>) -> bool {
     deadlines.first() == first
 }
 
-fn is_done(rt: &impl Abort, deadlines: &mut Deadlines, step: &Step) -> bool {
+fn is_done(deadlines: &mut Deadlines, step: &Step) -> bool {
     match step {
-        Step::Hold(count) => {
-            hold(rt, deadlines, *count);
-            true
-        }
-        Step::Set(place, moment) => {
-            set(rt, deadlines, *place, *moment);
-            true
-        }
-        Step::At(place, moment) => has(rt, deadlines, *place, *moment),
+        Step::Hold(count) => is_held(deadlines, *count),
+        Step::Set(place, moment) => is_set(deadlines, *place, *moment),
+        Step::At(place, moment) => has(deadlines, *place, *moment),
         Step::First(first) => has_first(deadlines, *first),
     }
 }
 
 fn do_steps(rt: &impl Abort, deadlines: &mut Deadlines, steps: &[Step]) {
     for step in steps {
-        let is = is_done(rt, deadlines, step);
+        let is = is_done(deadlines, step);
         assert!(rt; is);
     }
 }
@@ -77,16 +73,24 @@ fn the_first_is_the_least_moment_and_then_the_lesser_place(rt: HostRuntime) {
 }
 
 /// A thousand places with the moments 1000 down to 1 go in the order of their moments.
+fn go_in_order(rt: &impl Abort, deadlines: &mut Deadlines) {
+    for place in 0..1000usize {
+        let moment = Some(1000 - place as u64);
+        let is = is_held(deadlines, place) && is_set(deadlines, place, moment);
+        assert!(rt; is);
+    }
+    for moment in 1..=1000usize {
+        let place = 1000 - moment;
+        let first = Some((moment as u64, place));
+        let is = has_first(deadlines, first) && is_set(deadlines, place, None);
+        assert!(rt; is);
+    }
+    let is = has_first(deadlines, None);
+    assert!(rt; is);
+}
+
 #[test]
 fn a_thousand_places_go_in_order(rt: HostRuntime) {
     let mut deadlines = Deadlines::new(rt.alloc());
-    for place in 0..1000usize {
-        hold(&rt, &mut deadlines, place);
-        set(&rt, &mut deadlines, place, Some(1000 - place as u64));
-    }
-    for moment in 1..=1000usize {
-        assert!(rt; has_first(&deadlines, Some((moment as u64, 1000 - moment))));
-        set(&rt, &mut deadlines, 1000 - moment, None);
-    }
-    assert!(rt; has_first(&deadlines, None));
+    go_in_order(&rt, &mut deadlines);
 }
