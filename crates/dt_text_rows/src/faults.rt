@@ -3,20 +3,22 @@ use crate::forms::{all_hold, fault_text, form_of, is_read_as, is_read_with, part
 use dt_text::Form;
 use std::alloc::Global;
 
-/// A line whose words are `x` from a place on, but for the third word after `at T`, which chooses
-/// the line: it is `x` only where the place is its own.
-fn spoiled(alloc: Global, line: &str, place: usize) -> Option<Vec<u8>> {
+/// Whether a word goes to the end of a line; `place` is how many words stand there.
+fn puts_word(octets: &mut Vec<u8>, word: &str, place: usize) -> bool {
+    (place == 0 || octets.push(b' ').is_ok()) && octets.extend_from_slice(word.as_bytes()).is_ok()
+}
+
+/// Whether a line is put whose words are `x` from a place on, but for the third word after `at T`, which
+/// chooses the line: it is `x` only where the place is its own.
+fn puts_spoiled(octets: &mut Vec<u8>, line: &str, place: usize) -> bool {
     let chooses = line.starts_with("at ");
-    let mut octets = Vec::new(alloc);
     for (at, word) in line.split(' ').enumerate() {
-        if at > 0 {
-            octets.push(b' ').ok()?;
-        }
         let stays = at < place || chooses && at == 2 && place != 2;
-        let word = if stays { word } else { "x" };
-        octets.extend_from_slice(word.as_bytes()).ok()?;
+        if !puts_word(octets, if stays { word } else { "x" }, at) {
+            return false;
+        }
     }
-    Some(octets)
+    true
 }
 
 /// A form, the letters of faults, and a line. The line is read, has the fault Count with one word
@@ -58,10 +60,8 @@ c|wn|restart 1";
 
 /// Whether a line has this fault where its words from a place on are `x`.
 fn has_fault(alloc: Global, form: Form, line: &str, place: usize, fault: u8) -> bool {
-    match spoiled(alloc, line, place) {
-        Some(line) => is_read_as(alloc, form, &line, fault_text(fault)),
-        None => false,
-    }
+    let mut octets = Vec::new(alloc);
+    puts_spoiled(&mut octets, line, place) && is_read_as(alloc, form, &octets, fault_text(fault))
 }
 
 /// Whether each word of a line has its fault.

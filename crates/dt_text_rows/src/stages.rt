@@ -1,33 +1,34 @@
 //! Which lines may follow at each stage of an input.
-use crate::forms::{all_hold, form_of, parts};
+use crate::forms::holds;
 use dt_text::{Form, Stage, follows, read_line};
-use std::alloc::Global;
 
 /// A line of each kind, with a form in which it stands, and lines of a script at the moments 4 and 5.
-const KINDS: &str = "s|
-s|params 1 2 3 4 5 6 7 8 9 10 11
-s|station 1 0
-s|link 1 1 2 50 0
-s|route 0 2 1
-s|go
-s|pass 5
-s|send 1:10>2:20 be 61
-s|read 1:10>2:20 1
-s|tick 1
-s|arrive 0
-s|lose 0
-s|restart 1
-n|me 1 first
-n|local 10.0.0.255:65535
-n|peer 1 10.0.0.255:65535 50 0
-n|at 5 send 1:10>2:20 be 61
-n|at 5 read 1:10>2:20 1
-n|at 5 stop
-n|at 4 read 1:10>2:20 1
-n|at 4 stop
-c|call 1:10>2:20 61
-n|shelf 1
-n|route 2 1";
+static KINDS: [(Form, &str); 24] = [
+    (Form::Schedule, ""),
+    (Form::Schedule, "params 1 2 3 4 5 6 7 8 9 10 11"),
+    (Form::Schedule, "station 1 0"),
+    (Form::Schedule, "link 1 1 2 50 0"),
+    (Form::Schedule, "route 0 2 1"),
+    (Form::Schedule, "go"),
+    (Form::Schedule, "pass 5"),
+    (Form::Schedule, "send 1:10>2:20 be 61"),
+    (Form::Schedule, "read 1:10>2:20 1"),
+    (Form::Schedule, "tick 1"),
+    (Form::Schedule, "arrive 0"),
+    (Form::Schedule, "lose 0"),
+    (Form::Schedule, "restart 1"),
+    (Form::Script, "me 1 first"),
+    (Form::Script, "local 10.0.0.255:65535"),
+    (Form::Script, "peer 1 10.0.0.255:65535 50 0"),
+    (Form::Script, "at 5 send 1:10>2:20 be 61"),
+    (Form::Script, "at 5 read 1:10>2:20 1"),
+    (Form::Script, "at 5 stop"),
+    (Form::Script, "at 4 read 1:10>2:20 1"),
+    (Form::Script, "at 4 stop"),
+    (Form::Calls, "call 1:10>2:20 61"),
+    (Form::Script, "shelf 1"),
+    (Form::Script, "route 2 1"),
+];
 
 /// The stage that a letter stands for: a number is the last moment of a run.
 fn stage_of(letter: u8) -> Option<Stage> {
@@ -44,26 +45,44 @@ fn stage_of(letter: u8) -> Option<Stage> {
     }
 }
 
-/// A form, the letter of a stage, and the letters of the stages after it, for each of the kinds: `-`
-/// where the kind isn't allowed there.
-const STAGES: &str = "s|a|as----------------------
-s|s|s-sss0------------------
-s|0|0-----0000000-----------
-n|a|ap----------------------
-n|p|p------------m----------
-n|m|m-------------s---------
-n|s|s----0---------s------ss
-n|0|0---------------55e4e---
-n|5|5---------------55e-----
-n|e|e-----------------------
-c|a|as----------------------
-c|s|s-sss0------------------
-c|0|0-----0--0000--------0--";
+/// A form, a stage, and the letters of the stages after it, for each of the kinds: `-` where the kind
+/// isn't allowed there.
+static STAGES: [(Form, Stage, &str); 13] = [
+    (Form::Schedule, Stage::Start, "as----------------------"),
+    (Form::Schedule, Stage::Setup, "s-sss0------------------"),
+    (
+        Form::Schedule,
+        Stage::Run { last: 0 },
+        "0-----0000000-----------",
+    ),
+    (Form::Script, Stage::Start, "ap----------------------"),
+    (Form::Script, Stage::Params, "p------------m----------"),
+    (Form::Script, Stage::Me, "m-------------s---------"),
+    (Form::Script, Stage::Setup, "s----0---------s------ss"),
+    (
+        Form::Script,
+        Stage::Run { last: 0 },
+        "0---------------55e4e---",
+    ),
+    (
+        Form::Script,
+        Stage::Run { last: 5 },
+        "5---------------55e-----",
+    ),
+    (Form::Script, Stage::Ended, "e-----------------------"),
+    (Form::Calls, Stage::Start, "as----------------------"),
+    (Form::Calls, Stage::Setup, "s-sss0------------------"),
+    (
+        Form::Calls,
+        Stage::Run { last: 0 },
+        "0-----0--0000--------0--",
+    ),
+];
 
 /// Whether the line of a kind is followed so.
-fn is_followed(form: Form, stage: Stage, kind: &str, after: u8) -> bool {
-    let (of, line, _) = parts(kind);
-    match read_line(form_of(of), line.as_bytes()) {
+fn is_followed(form: Form, stage: Stage, kind: &(Form, &str), after: u8) -> bool {
+    let (of, line) = kind;
+    match read_line(*of, line.as_bytes()) {
         Ok(line) => follows(form, stage, &line) == stage_of(after),
         Err(_) => false,
     }
@@ -71,34 +90,17 @@ fn is_followed(form: Form, stage: Stage, kind: &str, after: u8) -> bool {
 
 /// Whether the line of each kind is followed so.
 fn are_followed(form: Form, stage: Stage, after: &[u8]) -> bool {
-    let mut letters = after.iter();
-    for kind in KINDS.split('\n') {
-        match letters.next() {
-            Some(letter) if is_followed(form, stage, kind, *letter) => {}
-            _ => return false,
+    for (kind, letter) in KINDS.iter().zip(after) {
+        if !is_followed(form, stage, kind, *letter) {
+            return false;
         }
     }
-    letters.next().is_none()
-}
-
-/// Whether the kinds are followed so at the stage that a letter stands for.
-fn are_followed_at(form: Form, letter: u8, after: &str) -> bool {
-    match stage_of(letter) {
-        Some(stage) => are_followed(form, stage, after.as_bytes()),
-        None => false,
-    }
-}
-
-/// Whether the kinds are followed as a row says.
-fn is_stage(_: Global, row: &str) -> bool {
-    let (form, letter, after) = parts(row);
-    match letter.as_bytes() {
-        [letter] => are_followed_at(form_of(form), *letter, after),
-        _ => false,
-    }
+    after.len() == KINDS.len()
 }
 
 #[test]
 fn stages(rt: HostRuntime) {
-    all_hold(&rt, rt.alloc(), STAGES, is_stage);
+    for (form, stage, after) in &STAGES {
+        holds(&rt, are_followed(*form, *stage, after.as_bytes()), after);
+    }
 }

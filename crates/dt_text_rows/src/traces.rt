@@ -6,20 +6,21 @@ use dt_reports::LineFault;
 use dt_trace::{Input, Trace, TraceFault, put_input, read_trace};
 use std::alloc::Global;
 
-/// The trace is read.
-fn read(alloc: Global, text: &str) -> Result<Trace, TraceFault> {
-    read_trace(alloc, text.as_bytes())
-}
-
 /// Puts an input of each kind.
 fn put_inputs(out: &mut MemSink) -> Result<(), Failed> {
-    put_input(&Input::FailedOpen, out)?;
-    put_input(&Input::Reading(u64::MAX), out)?;
-    put_input(&Input::FailedGive(1), out)?;
-    put_input(&Input::taken(Some((1, 2)), &[10, 255, 7]), out)?;
-    put_input(&Input::taken(Some((255, 0)), &[10]), out)?;
-    put_input(&Input::taken(None, &[]), out)?;
-    put_input(&Input::FailedTake, out)
+    let inputs = [
+        Input::FailedOpen,
+        Input::Reading(u64::MAX),
+        Input::FailedGive(1),
+        Input::taken(Some((1, 2)), &[10, 255, 7]),
+        Input::taken(Some((255, 0)), &[10]),
+        Input::taken(None, &[]),
+        Input::FailedTake,
+    ];
+    for input in &inputs {
+        put_input(input, out)?;
+    }
+    Ok(())
 }
 
 #[test]
@@ -57,7 +58,7 @@ fn is_clock(alloc: Global, trace: &Trace, readings: &[u64]) -> bool {
 
 /// The same of a trace that is read first.
 fn reads(alloc: Global, text: &str, readings: &[u64]) -> bool {
-    match read(alloc, text) {
+    match read_trace(alloc, text.as_bytes()) {
         Ok(trace) => is_clock(alloc, &trace, readings),
         Err(_) => false,
     }
@@ -82,7 +83,7 @@ fn is_wire(alloc: Global, trace: &Trace, passes: fn(&mut MemWire) -> bool) -> bo
 fn goes(alloc: Global, text: &str, passes: fn(&mut MemWire) -> bool) -> bool
     requires { IsAlwaysCallable passes }
 {
-    match read(alloc, text) {
+    match read_trace(alloc, text.as_bytes()) {
         Ok(trace) => is_wire(alloc, &trace, passes),
         Err(_) => false,
     }
@@ -173,14 +174,17 @@ static REFUSED: [(&str, u64, LineFault); 20] = [
     ("! -1\n", 1, LineFault::Number),
 ];
 
+/// Whether a trace is refused at this line for this fault.
+fn is_refused(alloc: Global, text: &str, line: u64, fault: LineFault) -> bool {
+    match read_trace(alloc, text.as_bytes()) {
+        Err(found) => found == TraceFault::Line { line, fault },
+        Ok(_) => false,
+    }
+}
+
 #[test]
 fn lines_are_refused(rt: HostRuntime) {
     for (text, line, fault) in &REFUSED {
-        let wanted = TraceFault::Line {
-            line: *line,
-            fault: *fault,
-        };
-        let found = read(rt.alloc(), text).err();
-        holds(&rt, found == Some(wanted), text);
+        holds(&rt, is_refused(rt.alloc(), text, *line, *fault), text);
     }
 }

@@ -1,5 +1,5 @@
 //! Words by themselves, and the cut of an input into lines.
-use crate::forms::{all_hold, holds, parts};
+use crate::forms::holds;
 use dt_text::{
     Form, Line, RunLine, UserLine, decode_hex, is_hex, read_flow, read_line, read_number,
     split_line,
@@ -8,61 +8,55 @@ use dt_units::{Flow, NodeId};
 use std::alloc::Global;
 
 /// A word, the most that a number may be, and what it is read as.
-const NUMBERS: &str = "0|0|Some(0)
-1|0|None
-18446744073709551615|18446744073709551615|Some(18446744073709551615)
-18446744073709551616|18446744073709551615|None
-99999999999999999999|18446744073709551615|None
-100000000000000000000|18446744073709551615|None
-184467440737095516150|18446744073709551615|None
-|9|None
--|9|None
-00|9|None
-9 |9|None";
+static NUMBERS: [(&str, u64, &str); 11] = [
+    ("0", 0, "Some(0)"),
+    ("1", 0, "None"),
+    (
+        "18446744073709551615",
+        18_446_744_073_709_551_615,
+        "Some(18446744073709551615)",
+    ),
+    ("18446744073709551616", 18_446_744_073_709_551_615, "None"),
+    ("99999999999999999999", 18_446_744_073_709_551_615, "None"),
+    ("100000000000000000000", 18_446_744_073_709_551_615, "None"),
+    ("184467440737095516150", 18_446_744_073_709_551_615, "None"),
+    ("", 9, "None"),
+    ("-", 9, "None"),
+    ("00", 9, "None"),
+    ("9 ", 9, "None"),
+];
 
 /// Whether a word is read as a number of at most that so.
-fn is_number_of(alloc: Global, word: &str, most: u64, wanted: &str) -> bool {
+fn is_number(alloc: Global, word: &str, most: u64, wanted: &str) -> bool {
     match format!(in alloc; "{:?}", read_number(word.as_bytes(), most)) {
         Ok(read) => read.as_str() == wanted,
         Err(_) => false,
     }
 }
 
-/// Whether the word of a row is read as a number so.
-fn is_number(alloc: Global, row: &str) -> bool {
-    let (word, most, wanted) = parts(row);
-    match most.parse::<u64>() {
-        Ok(most) => is_number_of(alloc, word, most, wanted),
-        Err(_) => false,
-    }
-}
-
 #[test]
 fn numbers(rt: HostRuntime) {
-    all_hold(&rt, rt.alloc(), NUMBERS, is_number);
+    for (word, most, wanted) in &NUMBERS {
+        holds(&rt, is_number(rt.alloc(), word, *most, wanted), word);
+    }
 }
 
 /// A word, the most octets that may be spelled, and whether it spells some.
-const SPELLED: &str = "00|1|true
-00|0|false
-0000|1|false
-|1|false
-0|1|false
-aF|4294967295|true
-aG|4294967295|false";
-
-/// Whether the word of a row spells octets so.
-fn is_spelled(_: Global, row: &str) -> bool {
-    let (word, most, wanted) = parts(row);
-    match most.parse::<u32>() {
-        Ok(most) => is_hex(word.as_bytes(), most) == (wanted == "true"),
-        Err(_) => false,
-    }
-}
+static SPELLED: [(&str, u32, bool); 7] = [
+    ("00", 1, true),
+    ("00", 0, false),
+    ("0000", 1, false),
+    ("", 1, false),
+    ("0", 1, false),
+    ("aF", 4_294_967_295, true),
+    ("aG", 4_294_967_295, false),
+];
 
 #[test]
 fn spelled_octets(rt: HostRuntime) {
-    all_hold(&rt, rt.alloc(), SPELLED, is_spelled);
+    for (word, most, wanted) in &SPELLED {
+        holds(&rt, is_hex(word.as_bytes(), *most) == *wanted, word);
+    }
 }
 
 #[test]
@@ -102,7 +96,11 @@ fn hexadecimal_digits(rt: HostRuntime) {
 /// Whether an input that isn't empty is cut into this first line and this rest.
 fn is_split(input: &str, line: &str, rest: &str) -> bool {
     let octets = input.as_bytes();
-    !octets.is_empty() && split_line(octets) == (line.as_bytes(), rest.as_bytes())
+    if octets.is_empty() {
+        return false;
+    }
+    let (first, after) = split_line(octets);
+    first == line.as_bytes() && after == rest.as_bytes()
 }
 
 /// An input, its first line, and its rest.
