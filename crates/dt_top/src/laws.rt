@@ -1,11 +1,11 @@
 //! What is true of every input, whatever the program does with it. Each law is the contract of a public
 //! function with an empty body.
-ghost use Rattle.std.specs.Prelude.{ℕ, ◌≡◌, ◌≤◌, false, List, length, IfOk, IfSome};
-ghost use Rattle.dt_audit.specs.Audits.{AreSafe, has_flaw, ledger_of};
+ghost use Rattle.std.specs.Prelude.{ℕ, ◌≤◌, List, length, IfOk, IfSome};
+ghost use Rattle.dt_audit.specs.Audits.{AreSafe, ledger_of};
 ghost use Rattle.dt_calls_input.specs.CallAnswers.{AreCallsOf, TellsOwnAnswers};
 ghost use Rattle.dt_calls_input.specs.CallInputs.{calls_after_lines};
 ghost use Rattle.dt_calls_model.specs.Promises.{AreServedOnce};
-ghost use Rattle.dt_replay.specs.Schedules.{replay_text, world_after_lines, world_of};
+ghost use Rattle.dt_replay.specs.Schedules.{world_after_lines, world_of};
 ghost use Rattle.dt_world_model.specs.WorldFacts.{SafeWorld};
 ghost use Rattle.dt_top.specs.Inputs.{limit};
 
@@ -25,9 +25,7 @@ pub fn each_call_is_served_once()
     ensures called_answers { (octets : List ℕ) → length octets ≤ limit → TellsOwnAnswers octets }
 {}
 
-/// Of any log without a flaw each flow of the ledger is safe. The log that `replay` writes of any input
-/// that isn't too long has no flaw.
+/// Of any log without a flaw each flow of the ledger is safe.
 pub fn each_log_without_a_flaw_is_safe()
     ensures audited { (octets : List ℕ) → IfOk (ledger_of octets) AreSafe }
-    ensures log_passes { (octets : List ℕ) → length octets ≤ limit → has_flaw (replay_text octets) ≡ false }
 {}
