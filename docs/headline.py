@@ -16,7 +16,7 @@ BEGIN, END = "<!-- definitions -->\n", "<!-- end of definitions -->\n"
 COMMANDS = {
     "`replay`: the headline": ["dt_replay/Schedules", "dt_world_model/WorldFacts", "dt_fold/Logging"],
     "`node` and `trace`, beside those": ["dt_node/Serving", "dt_node/Completing"],
-    "`retrace`, beside those": ["dt_retrace/Retracing", "dt_retrace/Repeating", "dt_retrace/Completing"],
+    "`retrace`, beside those": ["dt_node/Retracing", "dt_node/Repeating", "dt_node/Reaching"],
     "`calls`, beside those": ["dt_calls_input/CallAnswers"],
     "`audit`, beside those": ["dt_audit/Audits"],
     "`make`, beside those": ["dt_make/Schedules"],

@@ -15,3 +15,11 @@ mod Listing
 mod Waited
 mod Tracing
 mod Again
+mod Cutting
+mod Joining
+mod Leaving
+mod Fates
+mod Planned
+pub mod Repeated
+pub mod Reached
+pub mod Rerunning

@@ -11,3 +11,7 @@ pub mod Serving
 pub mod Answering
 pub mod Completing
 pub mod Worked
+pub mod InputParts
+pub mod Retracing
+pub mod Repeating
+pub mod Reaching

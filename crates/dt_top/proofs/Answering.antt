@@ -18,9 +18,9 @@ use Rattle.dt_node.specs.declared.outcomes.NodeOutcome.TheVariants as node
 use Rattle.dt_replay.proofs.Scenes.{all_safe}
 use Rattle.dt_replay.specs.Schedules.{is_accepted, replay_text, world_of}
 use Rattle.dt_reports.specs.declared.faults.LineFault.{LineFault}
-use Rattle.dt_retrace.specs.Parts.{cut_lines}
-use Rattle.dt_retrace.specs.Parts as parts
-use Rattle.dt_retrace.specs.Retracing.{RerunsBy, Retraces, RetracesBy, edges_before}
+use Rattle.dt_node.specs.InputParts.{cut_lines}
+use Rattle.dt_node.specs.InputParts as parts
+use Rattle.dt_node.specs.Retracing.{RerunsBy, Retraces, RetracesBy, edges_before}
 use Rattle.dt_text.specs.InputLines.{lines_of}
 use Rattle.dt_trace.specs.Traces.{Recorded, nothing, read_from}
 use Rattle.dt_top.specs.declared.command.Command.{Command}

@@ -19,7 +19,7 @@ use Rattle.dt_node.specs.declared.outcomes.NodeOutcome.TheVariants as node
 use Rattle.dt_replay.specs.Replays.{Replays}
 use Rattle.dt_replay.specs.declared.outcomes.Outcome.{Outcome}
 use Rattle.dt_replay.specs.declared.outcomes.Outcome.TheVariants as outcome
-use Rattle.dt_retrace.specs.Retracing.{Retraces}
+use Rattle.dt_node.specs.Retracing.{Retraces}
 use Rattle.dt_top.specs.declared.ending.Ending.{Ending}
 use Rattle.dt_top.specs.declared.job.Job.{Job}
 use Rattle.dt_top.specs.declared.job.Job.TheVariants.{Replay, Node, Trace, Retrace, Calls, Audit}

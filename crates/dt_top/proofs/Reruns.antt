@@ -10,11 +10,11 @@ use Rattle.dt_node.specs.Serving.{Edges, IsWhole, Serves}
 use Rattle.dt_node.specs.declared.output_forms.OutputForm.TheVariants as forms
 use Rattle.dt_node.specs.declared.outcomes.NodeOutcome.{NodeOutcome}
 use Rattle.dt_node.specs.declared.outcomes.NodeOutcome.TheVariants as node
-use Rattle.dt_retrace.specs.Completing.{GoesToStop}
-use Rattle.dt_retrace.specs.Repeating.{Repeats, joined}
-use Rattle.dt_retrace.specs.Retracing.{Retraces}
-use Rattle.dt_retrace.proofs.Completed.{MeetsStop, meets_stop}
-use Rattle.dt_retrace.proofs.Repeated.{run_again}
+use Rattle.dt_node.specs.Reaching.{GoesToStop}
+use Rattle.dt_node.specs.Repeating.{Repeats, joined}
+use Rattle.dt_node.specs.Retracing.{Retraces}
+use Rattle.dt_node.proofs.Reached.{MeetsStop, meets_stop}
+use Rattle.dt_node.proofs.Repeated.{run_again}
 use Rattle.dt_top.specs.declared.command.Command.TheVariants.{Serve}
 use Rattle.dt_top.specs.declared.ending.Ending.{Ending}
 use Rattle.dt_top.specs.declared.ending.Ending.TheVariants.{Done, Usage, TooLong, Refused, NoMemory, WireFault, ClockStill, ReadFault, WriteFault}

@@ -17,9 +17,9 @@ use Rattle.dt_node.specs.declared.output_forms.OutputForm.TheVariants as forms
 use Rattle.dt_node.specs.declared.outcomes.NodeOutcome.{NodeOutcome}
 use Rattle.dt_node.specs.declared.outcomes.NodeOutcome.TheVariants as node
 use Rattle.dt_replay.specs.Schedules.{is_accepted, replay_text, world_of}
-use Rattle.dt_retrace.specs.Completing.{GoesToStop}
-use Rattle.dt_retrace.specs.Repeating.{joined}
-use Rattle.dt_retrace.specs.Retracing.{Retraces}
+use Rattle.dt_node.specs.Reaching.{GoesToStop}
+use Rattle.dt_node.specs.Repeating.{joined}
+use Rattle.dt_node.specs.Retracing.{Retraces}
 use Rattle.dt_world_model.specs.WorldFacts.{SafeWorld}
 use Rattle.dt_top.specs.declared.command.Command.TheVariants.{Serve, Make}
 use Rattle.dt_top.specs.declared.ending.Ending.{Ending}

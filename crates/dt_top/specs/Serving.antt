@@ -17,7 +17,7 @@ use Rattle.dt_node.specs.declared.outcomes.NodeOutcome.{NodeOutcome}
 use Rattle.dt_node.specs.declared.outcomes.NodeOutcome.TheVariants as node
 use Rattle.dt_replay.specs.declared.outcomes.Outcome.TheVariants as outcome
 use Rattle.dt_replay.specs.Replays.{Replays}
-use Rattle.dt_retrace.specs.Retracing.{Retraces}
+use Rattle.dt_node.specs.Retracing.{Retraces}
 use Rattle.dt_top.specs.declared.command.Command.{Command}
 use Rattle.dt_top.specs.declared.command.Command.TheVariants.{Serve, Make}
 use Rattle.dt_top.specs.declared.job.Job.{Job}

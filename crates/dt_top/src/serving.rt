@@ -18,9 +18,8 @@ use dt_calls_input::{CallsOutcome, calls};
 use dt_edges::{Clock, Failed, Sink, Source, Wire};
 use dt_items::NoMemory;
 use dt_make::make;
-use dt_node::{NodeOutcome, serve, serve_traced};
+use dt_node::{NodeOutcome, retrace, serve, serve_traced};
 use dt_replay::{Outcome, replay};
-use dt_retrace::retrace;
 use std::alloc::Global;
 
 /// How a run ends that has no input.

@@ -1,7 +1,6 @@
 //! Runs that are run again.
 use dt_edges::MemSink;
-use dt_node::NodeOutcome;
-use dt_retrace::retrace;
+use dt_node::{NodeOutcome, retrace};
 use std::alloc::Global;
 use std::test::Fail;
 

@@ -8,9 +8,9 @@ use Rattle.dt_trace.specs.Lines.{input_of}
 use Rattle.dt_trace.specs.Traces.{Recorded, is_placed, note_then, noted, nothing, read_from, trace_of}
 use Rattle.dt_edges.specs.Sinks.{SinkSight}
 use Rattle.dt_node.specs.declared.outcomes.NodeOutcome.{NodeOutcome}
-use Rattle.dt_retrace.specs.declared.cut_inputs.CutInput.{CutInput}
-use Rattle.dt_retrace.specs.Parts.{CutsTo, text_of}
-use Rattle.dt_retrace.specs.Retracing.{RefusesWith, Reruns, RerunsBy, Retraces, RetracesBy, refused_text}
+use Rattle.dt_node.specs.declared.cut_inputs.CutInput.{CutInput}
+use Rattle.dt_node.specs.InputParts.{CutsTo, text_of}
+use Rattle.dt_node.specs.Retracing.{RefusesWith, Reruns, RerunsBy, Retraces, RetracesBy, refused_text}
 use Rattle.dt_trace.proofs.Folding.{read_end, read_next}
 
 first_of : (n line : ℕ) (f g : LineFault) → ◌≡◌ {A = Result Recorded (ℕ × LineFault)} (Err (n, f)) (Err (line, g)) → n ≡ line

@@ -14,9 +14,9 @@ use Rattle.dt_text.specs.Lines.{line_of}
 use Rattle.dt_text.specs.Said.{Said}
 use Rattle.dt_script.specs.Drafts.{Draft, Empty, orders_in, read_script, script_of, script_turns, turn_line, turn_read}
 use Rattle.dt_script.specs.Orders.{Orders}
-use Rattle.dt_retrace.specs.Parts.{cut_lines, is_mark, text_of, with_line}
-use Rattle.dt_retrace.specs.Repeating.{joined}
-use Rattle.dt_retrace.proofs.Cutting.{not_mark}
+use Rattle.dt_node.specs.InputParts.{cut_lines, is_mark, text_of, with_line}
+use Rattle.dt_node.specs.Repeating.{joined}
+use Rattle.dt_node.proofs.Cutting.{not_mark}
 
 -- THE LINES of an input are those of its text, whatever stands after it
 line_first : (b : Bool) (x : ℕ) (lines : List (List ℕ)) (rest : List ℕ) → (x == 10) ≡ b → lines_of (text_of lines ++ rest) ≡ lines ++ lines_of rest

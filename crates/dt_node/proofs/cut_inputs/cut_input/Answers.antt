@@ -1,7 +1,7 @@
 use Rattle.std.proofs.Common.{◌∙◌, arith, refl, sym}
 use Rattle.std.proofs.lemmas.Bool.{eqb-true}
-use Rattle.dt_retrace.proofs.Cutting.{cut_found, cut_none, passed_more, passed_none}
-use Rattle.dt_retrace.proofs.cut_inputs.cut_input.Goals as goal
+use Rattle.dt_node.proofs.Cutting.{cut_found, cut_none, passed_more, passed_none}
+use Rattle.dt_node.proofs.cut_inputs.cut_input.Goals as goal
 
 pub loop-rest-init : goal.loop-rest-init
 loop-rest-init c = passed_none c.args.input.now

@@ -3,7 +3,7 @@ use Rattle.std.specs.Prelude.{◌≡◌, ℕ, ◌+◌, ◌<◌, ◌≤◌, ◌^�
 use Rattle.std.specs.Option.{option_map}
 use Rattle.std.specs.Str.{bytes_eq}
 use Rattle.dt_text.specs.InputLines.{lines_of, most_input}
-use Rattle.dt_retrace.specs.declared.cut_inputs.CutInput.{CutInput}
+use Rattle.dt_node.specs.declared.cut_inputs.CutInput.{CutInput}
 
 abbrev pub is_mark : List ℕ → Bool
 is_mark line = bytes_eq line (codes "trace")

@@ -1,6 +1,6 @@
 use Rattle.std.proofs.Common.{length}
-use Rattle.dt_retrace.proofs.Cutting.{Passed}
-use Rattle.dt_retrace.proofs.cut_inputs.cut_input.Given as goal
+use Rattle.dt_node.proofs.Cutting.{Passed}
+use Rattle.dt_node.proofs.cut_inputs.cut_input.Given as goal
 
 abbrev pub invariant-loop-rest : goal.invariant-loop-rest
 invariant-loop-rest l = Passed l.input l.rest l.lines

@@ -1,13 +1,14 @@
 //! A script is served over the wire and the clock of a trace.
 ghost use Rattle.std.specs.Prelude.{◌≡◌, ◌≤◌, ◌<◌, ◌^◌, IfOk, OnErr, length};
 ghost use Rattle.dt_text.specs.InputLines.{most_input};
-ghost use Rattle.dt_retrace.specs.Retracing.{RefusesWith, Reruns, Retraces, refused_text};
+ghost use Rattle.dt_node.specs.Retracing.{RefusesWith, Reruns, Retraces, refused_text};
 
 use crate::cut_inputs::cut_input;
+use crate::outcomes::NodeOutcome;
+use crate::serving::serve;
 use dt_edges::Sink;
 use dt_items::NoMemory;
 use dt_log::write_line;
-use dt_node::{NodeOutcome, serve};
 use dt_reports::{Fault, LineFault, LogLine, Report};
 use dt_trace::{Trace, TraceFault, read_trace};
 use std::alloc::Global;

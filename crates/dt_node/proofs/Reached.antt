@@ -13,11 +13,11 @@ use Rattle.dt_node.specs.Answering.{AnswersBy}
 use Rattle.dt_script.specs.Drafts.{refusal_text}
 use Rattle.dt_script.specs.Orders.{Orders}
 use Rattle.dt_node.specs.Serving.{Serves, edges}
-use Rattle.dt_retrace.specs.Completing.{GoesToStop}
-use Rattle.dt_retrace.specs.Parts.{text_of}
-use Rattle.dt_retrace.specs.Retracing.{Reruns, RerunsBy, Retraces, RetracesBy, edges_before}
-use Rattle.dt_retrace.proofs.Planned.{no_fault}
-use Rattle.dt_retrace.proofs.Repeated.{fresh}
+use Rattle.dt_node.specs.Reaching.{GoesToStop}
+use Rattle.dt_node.specs.InputParts.{text_of}
+use Rattle.dt_node.specs.Retracing.{Reruns, RerunsBy, Retraces, RetracesBy, edges_before}
+use Rattle.dt_node.proofs.Planned.{no_fault}
+use Rattle.dt_node.proofs.Repeated.{fresh}
 
 abbrev pub MeetsStop : NodeOutcome → Type 0
 MeetsStop outcome = (outcome ≡ Done) ⊎ (outcome ≡ NoMemory)

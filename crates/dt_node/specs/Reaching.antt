@@ -5,7 +5,7 @@ use Rattle.dt_trace.specs.Traces.{Recorded, nothing, or_zero, read_from}
 use Rattle.dt_node.specs.Completing.{ReachesStop}
 use Rattle.dt_script.specs.Drafts.{script_of}
 use Rattle.dt_script.specs.Orders.{Orders}
-use Rattle.dt_retrace.specs.Parts.{cut_lines, text_of}
+use Rattle.dt_node.specs.InputParts.{cut_lines, text_of}
 
 -- No line of the input is refused, the readings of its trace reach the stop of its script, and the trace lists neither an open nor a take that failed.
 pub record GoesToStop (octets : List ℕ) : Type 0 where

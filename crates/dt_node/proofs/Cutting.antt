@@ -5,8 +5,8 @@ use Rattle.std.proofs.lemmas.List.{append-nil}
 use Rattle.std.proofs.lemmas.List.Concat.{flat_map-append}
 use Rattle.std.proofs.Math.Seq.{take-append-add}
 use Rattle.dt_text.specs.InputLines.{lines_of, most_input}
-use Rattle.dt_retrace.specs.declared.cut_inputs.CutInput.{CutInput}
-use Rattle.dt_retrace.specs.Parts.{IsCut, cut_lines, is_mark, text_of, with_line}
+use Rattle.dt_node.specs.declared.cut_inputs.CutInput.{CutInput}
+use Rattle.dt_node.specs.InputParts.{IsCut, cut_lines, is_mark, text_of, with_line}
 
 abbrev pub Cut : Type 0
 Cut = Option (List (List ℕ) × List (List ℕ))

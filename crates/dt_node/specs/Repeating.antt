@@ -6,7 +6,7 @@ use Rattle.dt_edges.specs.Sinks.{SinkSight}
 use Rattle.dt_text.specs.InputLines.{lines_of}
 use Rattle.dt_node.specs.declared.outcomes.NodeOutcome.{NodeOutcome}
 use Rattle.dt_node.specs.declared.outcomes.NodeOutcome.TheVariants.{Done, Refused, NoMemory, WireFault, ClockStill, WriteFault}
-use Rattle.dt_retrace.specs.Parts.{text_of}
+use Rattle.dt_node.specs.InputParts.{text_of}
 
 -- the lines of a script, a line `trace`, and a trace
 abbrev pub joined : (script trace : List ℕ) → List ℕ

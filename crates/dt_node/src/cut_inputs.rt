@@ -3,7 +3,7 @@ ghost use Rattle.std.specs.Prelude.{◌≡◌, ◌≤◌, length};
 ghost use Rattle.std.specs.Str.{bytes_eq};
 ghost use Rattle.std.specs.Prelude.{codes};
 ghost use Rattle.dt_text.specs.InputLines.{most_input};
-ghost use Rattle.dt_retrace.specs.Parts.{CutsTo, is_mark};
+ghost use Rattle.dt_node.specs.InputParts.{CutsTo, is_mark};
 
 use dt_text::split_line;
 

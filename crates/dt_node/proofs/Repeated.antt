@@ -24,12 +24,12 @@ use Rattle.dt_script.specs.Orders.{Orders}
 use Rattle.dt_node.specs.Runs.{Run, node_run}
 use Rattle.dt_node.specs.TakingIn.{run_inputs}
 use Rattle.dt_node.specs.Serving.{Edges, EndsAs, IsFresh, IsWhole, Serves, edges, recorded}
-use Rattle.dt_retrace.specs.Parts.{text_of}
-use Rattle.dt_retrace.specs.Repeating.{Repeats, joined}
-use Rattle.dt_retrace.specs.Retracing.{Reruns, RerunsBy, Retraces, RetracesBy, edges_before}
-use Rattle.dt_retrace.proofs.Fates.{as_many_gives, fates_again, same_deeds}
-use Rattle.dt_retrace.proofs.Joining.{joined_cut, same_script}
-use Rattle.dt_retrace.proofs.Planned.{as_far}
+use Rattle.dt_node.specs.InputParts.{text_of}
+use Rattle.dt_node.specs.Repeating.{Repeats, joined}
+use Rattle.dt_node.specs.Retracing.{Reruns, RerunsBy, Retraces, RetracesBy, edges_before}
+use Rattle.dt_node.proofs.Fates.{as_many_gives, fates_again, same_deeds}
+use Rattle.dt_node.proofs.Joining.{joined_cut, same_script}
+use Rattle.dt_node.proofs.Planned.{as_far}
 
 -- THE PLAN of a trace: its readings and its takes come again
 

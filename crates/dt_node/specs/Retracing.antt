@@ -15,7 +15,7 @@ use Rattle.dt_node.specs.declared.outcomes.NodeOutcome.TheVariants.{NoMemory}
 use Rattle.dt_node.specs.Answering.{Answers, MayRefuse}
 use Rattle.dt_node.specs.Completing.{Completes}
 use Rattle.dt_node.specs.Serving.{Edges, Logs, SinkFaults, edges}
-use Rattle.dt_retrace.specs.Parts.{cut_lines, text_of}
+use Rattle.dt_node.specs.InputParts.{cut_lines, text_of}
 
 -- the line of a refused line
 abbrev pub refused_text : ℕ → LineFault → List ℕ

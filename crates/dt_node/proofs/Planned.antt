@@ -12,7 +12,7 @@ use Rattle.dt_node.specs.declared.outcomes.NodeOutcome.TheVariants.{Done, Refuse
 use Rattle.dt_script.specs.Orders.{Orders}
 use Rattle.dt_node.specs.Runs.{Ending, LeftOver, Run, StoodStill, Stopped, Unfinished, node_run}
 use Rattle.dt_node.specs.Serving.{CountsTakes, EndsAs, FailsAs, HasFailed, IsWhole, NoneFails}
-use Rattle.dt_retrace.proofs.Leaving.{HasEnded, run_leaves}
+use Rattle.dt_node.proofs.Leaving.{HasEnded, run_leaves}
 
 -- so many of a plan are the first of more
 more_of : {X : Type 0} (f : ℕ → X) (n m : ℕ) → n ≤ m → (more : List X) × (map f (range_with_len 0 m) ≡ map f (range_with_len 0 n) ++ more) × (length more ≡ m - n)

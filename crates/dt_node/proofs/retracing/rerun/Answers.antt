@@ -6,7 +6,7 @@ use Rattle.dt_node.specs.Answering.{Answers}
 use Rattle.dt_node.specs.Completing.{Completes}
 use Rattle.dt_node.specs.Serving.{edges}
 use Rattle.dt_trace.specs.Traces.{clock_of}
-use Rattle.dt_retrace.proofs.retracing.rerun.Goals as goal
+use Rattle.dt_node.proofs.retracing.rerun.Goals as goal
 
 pub returns-clause-runs : goal.returns-clause-runs
 returns-clause-runs g c =

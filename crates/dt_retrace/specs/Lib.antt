@@ -1,4 +1,0 @@
-pub mod Completing
-pub mod Parts
-pub mod Repeating
-pub mod Retracing
