@@ -7,6 +7,3 @@ port_length n h = length-decimal-le 5 n (omega arith) (omega arith) (omega arith
 
 pub node_length : (n : ℕ) → n < 2 ^ 32 → length (decimal n) ≤ 10
 node_length n h = length-decimal-le 10 n (omega arith) (omega arith) (omega arith)
-
-pub number_length : (n : ℕ) → n < 2 ^ 64 → length (decimal n) ≤ 20
-number_length n h = length-decimal-le 20 n (omega arith) (omega arith) (omega arith)

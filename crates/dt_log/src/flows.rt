@@ -8,7 +8,7 @@ use dt_units::Flow;
 use itoa::write_digits;
 
 /// How many octets a flow takes at most: two nodes of 10 digits, two ports of 5, and three marks.
-pub(crate) const FLOW_ROOM: usize = 33;
+const FLOW_ROOM: usize = 33;
 
 /// Writes a number and a mark after it, so that the mark is the last octet before `end`, and says
 /// where the number starts.
@@ -24,7 +24,7 @@ fn write_before(n: u64, mark: u8, text: &mut [u8], end: usize) -> usize
 
 /// Writes a flow at the end of a text, and says where it starts.
 #[tactic(auto, using(crate::proofs::Lengths::port_length, crate::proofs::Lengths::node_length), unfolding(crate::specs::Words::flow_text))]
-pub(crate) fn write_flow(flow: &Flow, text: &mut [u8]) -> usize
+fn write_flow(flow: &Flow, text: &mut [u8]) -> usize
     requires { FLOW_ROOM ≤ length text.old }
     ensures start { result ≤ length text.old }
     ensures long { length text.old ≤ result + FLOW_ROOM }

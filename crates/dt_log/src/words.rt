@@ -1,11 +1,11 @@
 ghost use Rattle.std.specs.Prelude.{◌∷◌, ◌++◌, map, codes, decimal};
 ghost use Rattle.dt_edges.specs.Sinks.{Puts};
-ghost use Rattle.dt_log.specs.Words.{flow_text, hex_text, row_text};
+ghost use Rattle.dt_log.specs.Words.{row_text};
 ghost use Rattle.dt_log.specs.Wording.{word_text, after_space, after_spaces};
 
 use crate::digits::put_hex;
-use crate::flows::{FLOW_ROOM, put_flow, write_flow};
-use crate::numbers::{NUMBER_ROOM, put_number, write_number};
+use crate::flows::put_flow;
+use crate::numbers::put_number;
 use dt_edges::{Failed, Sink, put_all};
 use dt_units::Flow;
 
@@ -26,44 +26,6 @@ pub enum Word<'a> {
     Line(u64),
 }
 
-/// Puts a space and a text.
-#[tactic(auto, using(crate::proofs::Parts::after_octet))]
-fn put_text<K: Sink>(text: &str, out: &mut K) -> Result<(), Failed>
-    ensures { Puts K.sight (32 ∷ text.now) result out.old out.new }
-{
-    put_all(b" ", out)?;
-    put_all(text.as_bytes(), out)
-}
-
-/// Puts a space and a number.
-fn put_spaced_number<K: Sink>(n: u64, out: &mut K) -> Result<(), Failed>
-    ensures { Puts K.sight (32 ∷ decimal n) result out.old out.new }
-{
-    let mut text = [0; 1 + NUMBER_ROOM];
-    let at = write_number(n, &mut text);
-    text[at - 1] = b' ';
-    put_all(&text[at - 1..], out)
-}
-
-/// Puts a space and a flow.
-fn put_spaced_flow<K: Sink>(flow: &Flow, out: &mut K) -> Result<(), Failed>
-    ensures { Puts K.sight (32 ∷ flow_text flow.now) result out.old out.new }
-{
-    let mut text = [0; 1 + FLOW_ROOM];
-    let at = write_flow(flow, &mut text);
-    text[at - 1] = b' ';
-    put_all(&text[at - 1..], out)
-}
-
-/// Puts a space and octets in hexadecimal digits.
-#[tactic(auto, using(crate::proofs::Parts::after_octet))]
-fn put_spaced_hex<K: Sink>(octets: &[u8], out: &mut K) -> Result<(), Failed>
-    ensures { Puts K.sight (32 ∷ hex_text octets.now) result out.old out.new }
-{
-    put_all(b" ", out)?;
-    put_hex(octets, out)
-}
-
 /// Puts the number of a line and a colon.
 #[tactic(auto, using(dt_edges::proofs::Puts::two_parts))]
 fn put_line_number<K: Sink>(n: u64, out: &mut K) -> Result<(), Failed>
@@ -71,15 +33,6 @@ fn put_line_number<K: Sink>(n: u64, out: &mut K) -> Result<(), Failed>
 {
     put_number(n, out)?;
     put_all(b":", out)
-}
-
-/// Puts a space, the number of a line and a colon.
-#[tactic(auto, using(crate::proofs::Parts::after_octet))]
-fn put_spaced_line_number<K: Sink>(n: u64, out: &mut K) -> Result<(), Failed>
-    ensures { Puts K.sight (32 ∷ (decimal n ++ codes ":")) result out.old out.new }
-{
-    put_all(b" ", out)?;
-    put_line_number(n, out)
 }
 
 /// Puts a word.
@@ -97,17 +50,12 @@ fn put_word<K: Sink>(word: &Word<'_>, out: &mut K) -> Result<(), Failed>
 }
 
 /// Puts a space and a word.
+#[tactic(auto, using(crate::proofs::Parts::after_octet))]
 fn put_spaced_word<K: Sink>(word: &Word<'_>, out: &mut K) -> Result<(), Failed>
     ensures { Puts K.sight (after_space (word_text word.now)) result out.old out.new }
 {
-    match *word {
-        Word::Text(text) => put_text(text, out),
-        Word::Number(n) => put_spaced_number(u64::from(n), out),
-        Word::Long(n) => put_spaced_number(n, out),
-        Word::Flow(flow) => put_spaced_flow(&flow, out),
-        Word::Hex(octets) => put_spaced_hex(octets, out),
-        Word::Line(n) => put_spaced_line_number(n, out),
-    }
+    put_all(b" ", out)?;
+    put_word(word, out)
 }
 
 /// Puts the words, each after a space.
