@@ -2,15 +2,20 @@
 use Rattle.dt_world_model.specs.Ledgers as ledgers
 use Rattle.dt_world.specs.declared.effects.Change.{Change}
 use Rattle.dt_world.specs.declared.effects.Change.TheVariants as change
+use Rattle.dt_world.specs.declared.effects.SenderStep.{SenderStep}
+use Rattle.dt_world.specs.declared.effects.SenderStep.TheVariants as step
 use Rattle.dt_world.specs.declared.effects.Effect.{Effect}
 use Rattle.dt_world.specs.declared.effects.Effect.TheVariants as effect
 
+abbrev pub step_seen : SenderStep → ledgers.Change
+step_seen (step.Transmits count) = ledgers.Transmits count
+step_seen step.TransmitsAgain = ledgers.TransmitsAgain
+step_seen (step.GivesUp count) = ledgers.GivesUp count
+step_seen (step.Settles count) = ledgers.Settles count
+
 abbrev pub change_seen : Change → ledgers.Change
 change_seen change.Takes = ledgers.Takes
-change_seen (change.Transmits count) = ledgers.Transmits count
-change_seen change.TransmitsAgain = ledgers.TransmitsAgain
-change_seen (change.GivesUp count) = ledgers.GivesUp count
-change_seen (change.Settles count) = ledgers.Settles count
+change_seen (change.Sends does) = step_seen does
 change_seen (change.Accepts run) = ledgers.Accepts run
 change_seen (change.ReadsOut count) = ledgers.ReadsOut count
 

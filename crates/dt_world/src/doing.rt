@@ -2,6 +2,7 @@
 ghost use Rattle.std.specs.Prelude.{◌≡◌, ◌==◌, ◌≢◌, ◌+◌, ◌<◌, ◌≤◌, OnErr, OnOk, [], length, None};
 ghost use Rattle.dt_units.specs.Flows.{IsFlow};
 ghost use Rattle.dt_layout.specs.declared.limits.TheConstants.{MOST_DATA};
+ghost use Rattle.dt_layout.specs.Carried.{IsGram};
 ghost use Rattle.dt_layout.specs.Reading.{gram_in};
 ghost use Rattle.dt_layout.specs.Spelling.{Carries};
 ghost use Rattle.dt_flow_model.specs.Frames.{value_in};
@@ -10,12 +11,14 @@ ghost use Rattle.dt_world_model.specs.Ledgers.{ledger_of};
 ghost use Rattle.dt_world_model.specs.Station.{Read, Send, Tick};
 ghost use Rattle.dt_world_model.specs.Tables.{AllEntries, look};
 ghost use Rattle.dt_world_model.specs.WorldStep.{Arrives, Loses, Restarts, after_event, at_station, first_refusal, loss, refusals};
+ghost use Rattle.dt_world.specs.Copies.{copy_in};
 ghost use Rattle.dt_world.specs.Moments.{most_now};
 ghost use Rattle.dt_world.specs.Outcomes.{Happens, HasHappened};
 ghost use Rattle.dt_world.specs.Steps.{BringsPacket};
 ghost use Rattle.dt_world.specs.Stopping.{ComesAt, ComesTo, IsLastLife};
 ghost use Rattle.dt_world.specs.Worlds.{IsStationOf, IsWhole, world_seen};
 
+use crate::copies::Copies;
 use crate::event_contexts::Brought;
 use crate::marked_frames::Mark;
 use crate::moments::Moment;
@@ -112,20 +115,28 @@ pub fn arrive<L: Lines>(
     ensures now { parts.new.now ≡ parts.old.now }
     ensures links { parts.new.links ≡ parts.old.links }
 {
-    let seen = match parts.notes.copies.get(u64::from(copy)) {
+    let (link, mark) = take_copy(&parts.notes.copies, copy, frame);
+    let to = link_of(parts, link).to;
+    let brought = brought_by(frame.as_gram(), mark.place(), buf);
+    let mut event = PlacedEvent::Arrive { link, frame, mark };
+    event_at(parts, to, &mut event, brought, lines)
+}
+
+/// A copy is read into the frame. The answer is the link that it was put on, and its mark.
+fn take_copy(copies: &Copies, copy: u32, frame: &mut Frame) -> (u16, Mark)
+    requires there { copy < length copies.now }
+    requires gram { IsGram (copy_in copies.now copy).parcel.octets }
+    ensures link { result.0 ≡ (copy_in copies.entry.now copy).link }
+    ensures parcel { record { octets = frame.new; tag = result.1 } ≡ (copy_in copies.entry.now copy).parcel }
+{
+    let seen = match copies.get(u64::from(copy)) {
         Some(seen) => seen,
         None => unreachable!(),
     };
     if !frame.refill(seen.octets) {
         unreachable!();
     }
-    let link = seen.link;
-    let place = seen.place;
-    let mark = Mark::new(seen.birth, place);
-    let to = link_of(parts, link).to;
-    let brought = brought_by(frame.as_gram(), place, buf);
-    let mut event = PlacedEvent::Arrive { link, frame, mark };
-    event_at(parts, to, &mut event, brought, lines)
+    (seen.link, Mark::new(seen.birth, seen.place))
 }
 
 /// What the packet in a Deltagram brings: the octets of a data packet, which are copied into `room`.

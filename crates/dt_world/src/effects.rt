@@ -4,16 +4,15 @@ ghost use Rattle.dt_reports.specs.Told.{told};
 ghost use Rattle.dt_reports.specs.Matters.{matter_seen};
 ghost use Rattle.dt_world_model.specs.Ledgers.{effect_by, effect_of};
 ghost use Rattle.dt_world.specs.Effects.{effect_seen};
+ghost use Rattle.dt_world.specs.declared.effects.Change.TheVariants as change;
 ghost use Rattle.dt_world.specs.declared.effects.Effect.TheVariants as variant;
 
 use dt_reports::{Matter, Report};
 use dt_units::Flow;
 
-/// What becomes of a flow's octets.
+/// What a flow's sender does with octets that it took.
 #[derive(Clone, Copy)]
-pub enum Change {
-    /// Octets were taken.
-    Takes,
+pub enum SenderStep {
     /// `count` octets went out for the first time.
     Transmits { count: u32 },
     /// A segment went out again, or a rendezvous packet did.
@@ -22,6 +21,15 @@ pub enum Change {
     GivesUp { count: u32 },
     /// `count` octets were acknowledged.
     Settles { count: u32 },
+}
+
+/// What becomes of a flow's octets.
+#[derive(Clone, Copy)]
+pub enum Change {
+    /// Octets were taken.
+    Takes,
+    /// The flow's sender did something with octets that it took.
+    Sends { step: SenderStep },
     /// Octets were accepted, as a new run or not.
     Accepts { run: bool },
     /// `count` octets were read.
@@ -52,10 +60,10 @@ fn effect_by(matter: Matter<'_>) -> Effect
 {
     match matter {
         Matter::Taken { flow, .. } => changes(flow, Change::Takes),
-        Matter::Transmitted { flow, count, .. } => changes(flow, Change::Transmits { count }),
-        Matter::Retransmitted { flow } => changes(flow, Change::TransmitsAgain),
-        Matter::GivenUp { flow, count } => changes(flow, Change::GivesUp { count }),
-        Matter::Acknowledged { flow, count, .. } => changes(flow, Change::Settles { count }),
+        Matter::Transmitted { flow, count, .. } => sends(flow, SenderStep::Transmits { count }),
+        Matter::Retransmitted { flow } => sends(flow, SenderStep::TransmitsAgain),
+        Matter::GivenUp { flow, count } => sends(flow, SenderStep::GivesUp { count }),
+        Matter::Acknowledged { flow, count, .. } => sends(flow, SenderStep::Settles { count }),
         Matter::Accepted { flow, run, .. } => changes(flow, Change::Accepts { run }),
         Matter::ReadOut { flow, octets, .. } => {
             let count = octets.len() as u64;
@@ -75,4 +83,10 @@ fn changes(flow: Flow, change: Change) -> Effect
     ensures { result ≡ variant.Changes flow change }
 {
     Effect::Changes { flow, change }
+}
+
+fn sends(flow: Flow, step: SenderStep) -> Effect
+    ensures { result ≡ variant.Changes flow (change.Sends step) }
+{
+    changes(flow, Change::Sends { step })
 }

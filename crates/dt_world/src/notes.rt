@@ -6,12 +6,12 @@ ghost use Rattle.dt_ledger.specs.Flows.{ledger_in};
 ghost use Rattle.dt_ledger.specs.Reads.{read_of_all};
 ghost use Rattle.dt_world_model.specs.Ledgers.{Accepts, Changes, GivesUp, ReadsOut, Settles, Takes, Transmits, TransmitsAgain, ledger_of, ledgers_by};
 ghost use Rattle.dt_world_model.specs.Tables.{look, same_flow, write};
-ghost use Rattle.dt_world.specs.Effects.{change_seen};
+ghost use Rattle.dt_world.specs.Effects.{change_seen, step_seen};
 ghost use Rattle.dt_world.specs.Notes.{IsBeyond, IsNew, IsThere, WantsRoom, begun, ledgers_seen, run_in};
 ghost use Rattle.dt_world.specs.Occasions.{occasion_seen};
 
 use crate::copies::Copies;
-use crate::effects::Change;
+use crate::effects::{Change, SenderStep};
 use crate::event_contexts::EventContext;
 use crate::runs::FlowRun;
 use dt_items::NoMemory;
@@ -53,26 +53,25 @@ pub fn change(
         Change::Takes => take_octets(notes, occasion, flow),
         Change::Accepts { run } => accept(notes, occasion, flow, run),
         Change::ReadsOut { count } => read(notes, occasion, flow, count),
-        Change::Transmits { count } => {
+        Change::Sends { step } => {
             begin(notes, flow)?;
-            transmit(notes, occasion, flow, count);
+            send(notes, occasion, flow, step);
             Ok(())
         }
-        Change::TransmitsAgain => {
-            begin(notes, flow)?;
-            retransmit(notes, occasion, flow);
-            Ok(())
-        }
-        Change::GivesUp { count } => {
-            begin(notes, flow)?;
-            give_up(notes, occasion, flow, count);
-            Ok(())
-        }
-        Change::Settles { count } => {
-            begin(notes, flow)?;
-            acknowledge(notes, occasion, flow, count);
-            Ok(())
-        }
+    }
+}
+
+/// The sender of a flow that is there does something with octets that it took.
+fn send(notes: &mut Notes, occasion: &EventContext<'_>, flow: &Flow, step: SenderStep)
+    requires there { IsThere flow.now (ledgers_seen notes.old) }
+    ensures becomes { ledgers_seen notes.new ≡ ledgers_by (occasion_seen occasion.entry.now) (Changes flow.now (step_seen step)) (ledgers_seen notes.old) }
+    ensures copies { notes.new.copies ≡ notes.old.copies }
+{
+    match step {
+        SenderStep::Transmits { count } => transmit(notes, occasion, flow, count),
+        SenderStep::TransmitsAgain => retransmit(notes, occasion, flow),
+        SenderStep::GivesUp { count } => give_up(notes, occasion, flow, count),
+        SenderStep::Settles { count } => acknowledge(notes, occasion, flow, count),
     }
 }
 
