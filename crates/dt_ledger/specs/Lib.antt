@@ -4,3 +4,4 @@ pub mod Gives
 pub mod Reads
 pub mod Flows
 pub mod Lending
+pub mod Additions

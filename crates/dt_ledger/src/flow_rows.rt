@@ -2,10 +2,12 @@ ghost use Rattle.std.specs.Prelude.{◌≡◌, ◌+◌, ◌^◌, ◌<◌, ◌≤
 ghost use Rattle.dt_items.specs.Unread.{items_of};
 ghost use Rattle.dt_flow_model.specs.Ledger.{HasNoEntry, first_unsent, note_first, note_read, settle, take_rows, top};
 ghost use Rattle.dt_world_model.specs.Ledgers.{totals_of};
+ghost use Rattle.dt_ledger.specs.Additions.{added, MayBeAdded, TakesMemory};
 ghost use Rattle.dt_ledger.specs.Gives.{rows_given};
 ghost use Rattle.dt_ledger.specs.Reads.{read_of_all};
 ghost use Rattle.dt_ledger.specs.Rows.{settle_at};
 
+use crate::additions::Addition;
 use crate::given_octets::GivenOctets;
 use crate::gives::GivenRows;
 use crate::optional_moments::Instant;
@@ -116,6 +118,20 @@ impl FlowRows {
         ensures memory { OnErr result (HasNoEntry life self.old.reads) }
     {
         self.reads.note(life, count)
+    }
+
+    /// This is added. `NoMemory` leaves the ledger as it was.
+    pub(crate) fn extend(&mut self, addition: &Addition<'_>) -> Result<(), NoMemory>
+        requires { MayBeAdded addition.now self.old }
+        ensures ok { OnOk result (self.new ≡ added addition.now self.old) }
+        ensures err { OnErr result (self.new ≡ self.old) }
+        ensures memory { OnErr result (TakesMemory addition.now self.old) }
+    {
+        match addition {
+            Addition::Taken { life, octets } => self.note_taken(*life, octets),
+            Addition::Given { octets } => self.give(octets),
+            Addition::Read { life, count } => self.note_read(*life, *count),
+        }
     }
 
     /// How many octets were taken over all lives, and what became of them. The cost is constant.

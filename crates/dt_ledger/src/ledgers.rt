@@ -6,10 +6,12 @@ ghost use Rattle.dt_flow_model.specs.Keeping.{most_moment};
 ghost use Rattle.dt_flow_model.specs.Ledger.{HasNoEntry, given_rows, note_first, note_read, take_rows, top};
 ghost use Rattle.dt_world_model.specs.Ledgers.{totals_of};
 ghost use Rattle.dt_world_model.specs.Tables.{Distinct, look, same_flow, write};
+ghost use Rattle.dt_ledger.specs.Additions.{added, MayBeAdded, TakesMemory};
 ghost use Rattle.dt_ledger.specs.Flows.{ledger_in};
 ghost use Rattle.dt_ledger.specs.Reads.{read_of_all};
 ghost use Rattle.dt_ledger.specs.Rows.{settle_at};
 
+use crate::additions::Addition;
 use crate::flow_rows::FlowRows;
 use crate::given_octets::GivenOctets;
 use crate::optional_moments::Instant;
@@ -81,6 +83,23 @@ impl Ledger {
         Ok(())
     }
 
+    /// This is added to the flow. One that isn't there comes after all others. `NoMemory` leaves the
+    /// ledger as it was.
+    fn extend(&mut self, flow: &Flow, addition: &Addition<'_>) -> Result<(), NoMemory>
+        requires { MayBeAdded addition.now (ledger_in self.old flow.now) }
+        ensures ok { let before = ledger_in self.old flow.now in
+            OnOk result (self.new ≡ write same_flow flow.now (added addition.now before) self.old) }
+        ensures err { OnErr result (self.new ≡ self.old) }
+        ensures memory { OnErr result (TakesMemory addition.now (ledger_in self.old flow.now)) }
+    {
+        if let Some(rows) = self.rows_mut(flow) {
+            return rows.extend(addition);
+        }
+        let mut rows = FlowRows::new(self.alloc);
+        rows.extend(addition)?;
+        self.add(flow, rows)
+    }
+
     /// Octets are taken. A flow that isn't there comes after all others. `NoMemory` leaves the ledger
     /// as it was.
     pub fn take(
@@ -95,13 +114,8 @@ impl Ledger {
             OnOk result (self.new ≡ write same_flow flow.now (record before { taken = take_rows life (marked octets.now begin end false) before.taken }) self.old) }
         ensures err { OnErr result (self.new ≡ self.old) }
     {
-        let taken = MarkedOctets { octets, begin, end };
-        if let Some(rows) = self.rows_mut(flow) {
-            return rows.note_taken(life, &taken);
-        }
-        let mut rows = FlowRows::new(self.alloc);
-        rows.note_taken(life, &taken)?;
-        self.add(flow, rows)
+        let octets = MarkedOctets { octets, begin, end };
+        self.extend(flow, &Addition::Taken { life, octets })
     }
 
     /// The flow is there afterwards: one that isn't comes after all others, with nothing in its ledger.
@@ -164,19 +178,14 @@ impl Ledger {
             OnOk result (self.new ≡ write same_flow flow.now (record before { given = before.given ++ rows }) self.old) }
         ensures err { OnErr result (self.new ≡ self.old) }
     {
-        let given = GivenOctets {
+        let octets = GivenOctets {
             payload: MarkedOctets { octets, begin, end },
             run,
             place,
             life,
             at,
         };
-        if let Some(rows) = self.rows_mut(flow) {
-            return rows.give(&given);
-        }
-        let mut rows = FlowRows::new(self.alloc);
-        rows.give(&given)?;
-        self.add(flow, rows)
+        self.extend(flow, &Addition::Given { octets })
     }
 
     /// `count` octets more of the flow were read in a life of the receiving station. A flow that isn't
@@ -189,12 +198,7 @@ impl Ledger {
         ensures err { OnErr result (self.new ≡ self.old) }
         ensures memory { OnErr result (HasNoEntry life (ledger_in self.old flow.now).reads) }
     {
-        if let Some(rows) = self.rows_mut(flow) {
-            return rows.note_read(life, count);
-        }
-        let mut rows = FlowRows::new(self.alloc);
-        rows.note_read(life, count)?;
-        self.add(flow, rows)
+        self.extend(flow, &Addition::Read { life, count })
     }
 
     /// The number of flows. Each stands once.

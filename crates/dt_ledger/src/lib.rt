@@ -2,6 +2,7 @@
 //! read.
 #![tactic(auto)]
 
+mod additions;
 mod fate_counts;
 mod flow_rows;
 mod given_octets;
