@@ -17,6 +17,7 @@ It refuses, each with page and line:
 - a script that can't be run as the pages say, since it isn't executable;
 - a must-fail edit whose text doesn't stand once in its file: the `rt ci` of some kits counts it for nothing, and passes;
 - two edits of a crate, or a planted bug without a name;
+- what an edit turns off, where it doesn't say so, or does something else to the line;
 - an answer that says that it refuses a bug which isn't planted.
 
 Usage: docs/check.py            compares
@@ -538,6 +539,9 @@ def check_files() -> Iterator[Complaint]:
 
 PLANTED = Path("must-fail", "planted.edit")
 BUG = "# "
+# Above the first bug: modules that no bug needs, so that the check passes over them.
+TURNED_OFF = "## What no bug needs is turned off:"
+OFF = "#[cfg(test)] "
 
 
 @cache
@@ -548,11 +552,31 @@ def bugs(crate: str) -> frozenset[str]:
     return frozenset(it.removeprefix(BUG) for it in lines if it.startswith(BUG))
 
 
+def check_turned_off(edit: Path) -> Iterator[Complaint]:
+    """What stands above an edit's first bug says what it is, and only puts `OFF` before lines that declare or bring in a module."""
+    head, old = [], ""
+    for line in edit.read_text().splitlines():
+        if line.startswith(BUG):
+            break
+        head.append(line)
+    if any(it.startswith("file: ") for it in head) and head[0] != TURNED_OFF:
+        yield Complaint(edit, 1, "a bug has no name, or what is turned off isn't said to be")
+    for number, line in enumerate(head, 1):
+        key, _, words = line.partition(": ")
+        if key == "old":
+            old = words
+            if not re.fullmatch(r"(pub )?(mod|use) [^;]+[;{]", words):
+                yield Complaint(edit, number, "only a module, or what brings it in, is turned off")
+        elif key == "new" and words != OFF + old:
+            yield Complaint(edit, number, f"what is turned off has {OFF.strip()} before it, and is the same else")
+
+
 def check_edits() -> Iterator[Complaint]:
     """The bugs of a crate stand in one file, each below its name, and each pair applies to what the earlier ones made."""
     for edit in sorted((TOP / "crates").glob("*/must-fail/*.edit")):
         if edit.name != PLANTED.name:
             yield Complaint(edit, 1, f"a crate's bugs stand in {PLANTED}")
+        yield from check_turned_off(edit)
         path, made, names = edit, {}, set()
         olds = 0
         for number, line in enumerate(edit.read_text().splitlines(), 1):
@@ -561,9 +585,9 @@ def check_edits() -> Iterator[Complaint]:
                 path = edit
                 if line in names:
                     yield Complaint(edit, number, "a bug above has this name")
+                if not re.fullmatch(rf"{BUG}\w+", line):
+                    yield Complaint(edit, number, "a bug's name is one word")
                 names.add(line)
-            if key == "file" and not names:
-                yield Complaint(edit, number, "the bug has no name")
             match key:
                 case "file":
                     path = edit.parent.parent / words

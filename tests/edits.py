@@ -6,7 +6,11 @@ that one check from nothing does for a crate, and is content where that is refus
 copy of the repository, and has to be refused for what a contract says. Where the gate of the kit takes crates' names, what is proved
 already on this machine isn't proved again; each crate takes a check from nothing, and some 15 to 60 s of processor for each bug.
 
-Ends with 1 where a bug isn't refused, or only since a proof names what it took away; with 77 where there is no `rt`.
+What stands above the first bug turns off modules that no bug needs, so that a check costs less. It goes with each bug. With no bug
+it has to be proved: then what is refused is the bug, and nothing that was turned off.
+
+Ends with 1 where a bug isn't refused, or only since a proof names what it took away, or where what turns off is refused by itself;
+with 77 where there is no `rt`.
 
 In tests/all: dt_cases, 900 s."""
 import pathlib
@@ -21,21 +25,24 @@ from lib import SKIPPED, TOP
 NAME = "# "
 PLANTED = pathlib.PurePath("must-fail", "planted.edit")
 TRIED = re.compile(r"rt: must-fail (\w+)/(\w+)\.edit: (.*)")
-REFUSED = "refused, as it must be"
+REFUSED, PROVED = "refused, as it must be", "NOT REFUSED"
+# the edit that turns off what no bug needs, and plants nothing
+NO_BUG = "no_bug"
 # what a refusal says that isn't one of a contract
 IDLE = "only because a proof file names what the edit took away"
 
 
-def bugs(text: str) -> dict[str, str]:
-    """The edits of a file by their names."""
-    parts = re.split(rf"^{NAME}(\w+)\n", text, flags=re.MULTILINE)
-    return dict(zip(parts[1::2], parts[2::2]))
+def edits(text: str) -> dict[str, str]:
+    """The edits of a file by their names: each bug with what turns off, and that by itself."""
+    head, *parts = re.split(rf"^{NAME}(\w+)\n", text, flags=re.MULTILINE)
+    alone = {NO_BUG: head} if head else {}
+    return alone | {name: head + pairs for name, pairs in zip(parts[::2], parts[1::2])}
 
 
 def split(crate: pathlib.Path) -> list[str]:
     """Puts an edit for each bug in the place of the file that has all, and returns their names."""
     planted = crate / PLANTED
-    found = bugs(planted.read_text())
+    found = edits(planted.read_text())
     planted.unlink()
     for name, text in found.items():
         planted.with_name(f"{name}.edit").write_text(text)
@@ -61,6 +68,11 @@ def tried(top: pathlib.Path, crates: list[str]) -> dict[tuple[str, str], str]:
     return found
 
 
+def is_right(name: str, said: str) -> bool:
+    """Whether the toolchain says of an edit what it has to say."""
+    return said.startswith(PROVED) if name == NO_BUG else said.startswith(REFUSED) and IDLE not in said
+
+
 def main() -> int:
     all_crates = sorted(it.parent.parent.name for it in (TOP / "crates").glob(f"*/{PLANTED}"))
     crates = sys.argv[1:] or all_crates
@@ -77,11 +89,12 @@ def main() -> int:
         shutil.copytree(TOP / "crates", top / "crates", ignore=shutil.ignore_patterns("out"))
         wanted = [(crate, name) for crate in crates for name in split(top / "crates" / crate)]
         said = tried(top, crates)
-    let_through = [f"{crate}/{name}" for crate, name in wanted if not said.get((crate, name), "").startswith(REFUSED) or IDLE in said[crate, name]]
-    for it in let_through:
-        print(f"not refused by a contract: {it}")
-    print(f"{len(wanted) - len(let_through)} of {len(wanted)} bugs are refused, each by itself")
-    return 1 if let_through else 0
+    wrong = [(crate, name) for crate, name in wanted if not is_right(name, said.get((crate, name), ""))]
+    for crate, name in wrong:
+        print(f"{crate}: what turns off isn't proved by itself" if name == NO_BUG else f"not refused by a contract: {crate}/{name}")
+    of_bugs, let_through = ([it for it in them if it[1] != NO_BUG] for them in (wanted, wrong))
+    print(f"{len(of_bugs) - len(let_through)} of {len(of_bugs)} bugs are refused, each by itself")
+    return 1 if wrong else 0
 
 
 if __name__ == "__main__":
