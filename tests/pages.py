@@ -38,6 +38,9 @@ SPOILT = [
     ("a bug that can't be planted", "crates/dt_endpoint/must-fail/planted.edit", "(MOST_MOMENT))", "(MOST_MOMENTS))"),
     ("two bugs of one name", "crates/dt_recv/must-fail/planted.edit", "# skip_is_not_marked\n", "# released_early\n"),
     ("a bug without a name", "crates/dt_cases/must-fail/planted.edit", "# covers_stops_one_key_early\n", ""),
+    ("a bug without a name below what is turned off", "crates/dt_log/must-fail/planted.edit", "# failed_put_goes_on\n", ""),
+    ("a line that is turned off without saying so", "crates/dt_log/must-fail/planted.edit", "## What no bug needs is turned off:\n", ""),
+    ("a bug among what is turned off", "crates/dt_log/must-fail/planted.edit", "new: #[cfg(test)] mod log_lines;", "new: mod words;"),
     ("an answer for a bug that isn't planted", "crates/dt_recv/proofs/records/paid/Answers.antt", "-- refused here: ", "-- refused here: nothing_"),
 ]
 

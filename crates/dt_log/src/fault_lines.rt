@@ -6,7 +6,7 @@ ghost use Rattle.dt_log.specs.FaultWords.{field_text, line_fault_text, setup_fau
 ghost use Rattle.dt_log.specs.LogLines.{at_node, at_line};
 ghost use Rattle.dt_log.specs.Wording.{word_text};
 
-use crate::log_lines::put_told;
+use crate::line_forms::put_told;
 use crate::words::{Word, put_row};
 use dt_edges::{Failed, Sink};
 use dt_layout::LayoutFault;

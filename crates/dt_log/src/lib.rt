@@ -6,6 +6,7 @@ mod digits;
 mod fault_lines;
 mod flows;
 pub mod laws;
+mod line_forms;
 mod log_lines;
 mod numbers;
 mod words;

@@ -1,5 +1,5 @@
 use Rattle.std.proofs.Common.{rules}
-use Rattle.dt_log.proofs.log_lines.put_number_told.Goals as goal
+use Rattle.dt_log.proofs.line_forms.put_number_told.Goals as goal
 
 -- refused here: nothing_is_told
 pub returns : goal.returns

@@ -1,5 +1,5 @@
 use Rattle.std.proofs.Common.{rules}
-use Rattle.dt_log.proofs.log_lines.put_totals.Goals as goal
+use Rattle.dt_log.proofs.line_forms.put_totals.Goals as goal
 
 -- refused here: read_for_given
 pub returns : goal.returns
