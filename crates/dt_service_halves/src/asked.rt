@@ -1,21 +1,20 @@
 //! What is asked of the halves.
-ghost use Rattle.std.specs.Prelude.{◌≡◌, ◌<◌, ◌≤◌, ◌^◌, ◌==◌, ◌&&◌, MatchOption, IfOk, OnErr, OnOk, filter, is_some, nat_lt, not};
+ghost use Rattle.std.specs.Prelude.{◌≡◌, ◌<◌, ◌≤◌, ◌^◌, ◌==◌, ◌&&◌, MatchOption, OnErr, OnOk, filter, nat_lt, not};
 ghost use Rattle.std.specs.List.{list_any};
 ghost use Rattle.dt_world_model.specs.Tables.{same_flow};
 ghost use Rattle.dt_service_model.specs.declared.calls.OpenCall.{OpenCall};
-ghost use Rattle.dt_service_model.specs.Asked.{forgotten, is_life_in_use, next_number, raised, with_call, with_kind};
+ghost use Rattle.dt_service_model.specs.Asked.{forgotten, is_life_in_use, next_number, raised, with_call};
 ghost use Rattle.dt_service_model.specs.Carrying.{carried_by, next_size};
-ghost use Rattle.dt_service_model.specs.Ends.{close, next};
-ghost use Rattle.dt_service_model.specs.Halves.{calls_held, kind_in};
+ghost use Rattle.dt_service_model.specs.Ends.{next};
+ghost use Rattle.dt_service_model.specs.Halves.{calls_held};
 ghost use Rattle.dt_service_model.specs.Turns.{done_with};
 ghost use Rattle.dt_service_model.specs.Whole.{is_open};
 
 use crate::counting::{ends_in, is_same, waiting_in};
 use crate::halves::Halves;
-use crate::hearing::kind_in;
 use crate::whole::{drop_token, is_open};
 use dt_items::NoMemory;
-use dt_service_model::{CallCounts, CallNumber, Cause, Happening, OpenCall, Port, PortKind, Token};
+use dt_service_model::{CallCounts, CallNumber, Cause, Happening, OpenCall, Token};
 use dt_units::Flow;
 
 fn is_in_use(life: u32, call: &OpenCall) -> bool
@@ -29,13 +28,6 @@ fn waits_with(life: u32, calls: &[OpenCall]) -> bool
     ensures { result ≡ list_any (λ (call : OpenCall). call.waits && (call.number.life == life)) calls.now }
 {
     calls.iter().any(|call| is_in_use(life, call))
-}
-
-/// The calls that wait are kept.
-fn keep_waiting(calls: &mut Vec<OpenCall>)
-    ensures { calls.new.items ≡ filter (λ (call : OpenCall). call.waits) calls.old.items }
-{
-    calls.retain(|call| call.waits);
 }
 
 /// A flow is to be read no more.
@@ -57,27 +49,6 @@ pub fn carried(happening: &Happening) -> &[u8]
 }
 
 impl Halves {
-    /// A port gets its kind, and whether it had none so far: it has its kind for good. `NoMemory` leaves
-    /// all as it was. The cost is a look at each port that has one.
-    pub fn set_kind(&mut self, port: u16, kind: PortKind) -> Result<bool, NoMemory>
-        ensures given { OnOk result (self.new ≡ with_kind port kind self.old) }
-        ensures answer { IfOk result (λ given. given ≡ not (is_some (kind_in port self.old.ports))) }
-        ensures same { OnErr result (self.new ≡ self.old) }
-    {
-        if self.kind(port).is_some() {
-            return Ok(false);
-        }
-        self.ports.push(Port { port, kind })?;
-        Ok(true)
-    }
-
-    /// The kind of a port, or none where it is plain.
-    pub fn kind(&self, port: u16) -> Option<PortKind>
-        ensures { result ≡ kind_in port self.now.ports }
-    {
-        kind_in(port, &self.ports)
-    }
-
     /// The number of the next call, or none where each number of this life was used: a life is to be
     /// raised then.
     pub fn next_number(&self) -> Option<CallNumber>
@@ -163,24 +134,6 @@ impl Halves {
         ensures { self.new ≡ done_with flow.now self.old }
     {
         drop_flow(flow, &mut self.unread);
-    }
-
-    /// The node closes. It takes no memory.
-    pub fn close(&mut self)
-        ensures { self.new ≡ close self.old }
-    {
-        self.closed = true;
-        keep_waiting(&mut self.calls);
-        self.tokens.clear();
-        self.begun.clear();
-        self.unread.clear();
-    }
-
-    /// Whether it was closed.
-    pub fn is_closed(&self) -> bool
-        ensures { result ≡ self.now.closed }
-    {
-        self.closed
     }
 
     /// What was reported first of all that wasn't taken. It is taken with this. Once all is, a closed node

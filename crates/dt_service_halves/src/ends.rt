@@ -1,17 +1,13 @@
-//! How calls end without an answer.
-ghost use Rattle.std.specs.Prelude.{◌≡◌, ◌+◌, ◌≤◌, ◌++◌, true, false, filter, filter_map, map, length, OnOk, OnErr};
-ghost use Rattle.std.specs.VecDeque.{deque_len, deque_capacity};
-ghost use Rattle.dt_world_model.specs.Tables.{earliest};
+//! How a call ends.
+ghost use Rattle.std.specs.Prelude.{◌≡◌, ◌<◌, length};
+ghost use Rattle.dt_service_model.specs.Ends.{cause_of, is_kept, judged_call};
 ghost use Rattle.dt_service_model.specs.Turns.{deadline_of};
-ghost use Rattle.dt_service_model.specs.Ends.{cause_of, is_kept, judged_call, unsure_of};
+ghost use Rattle.dt_service_model.specs.Whole.{answered_at};
 
-use dt_items::NoMemory;
-use dt_service_model::{Cause, Happening, OpenCall};
-use dt_units::earlier;
-use std::collections::VecDeque;
+use dt_service_model::{Cause, OpenCall};
 
 /// Why a call is unsure at a moment, if it is.
-fn cause_of(now: u64, call: &OpenCall) -> Option<Cause>
+pub fn cause_of(now: u64, call: &OpenCall) -> Option<Cause>
     ensures { result ≡ cause_of now call.now }
 {
     if call.waits && call.has_given_up {
@@ -24,7 +20,7 @@ fn cause_of(now: u64, call: &OpenCall) -> Option<Cause>
 }
 
 /// A call is judged.
-fn judge_call(now: u64, call: &mut OpenCall)
+pub fn judge_call(now: u64, call: &mut OpenCall)
     ensures { call.new ≡ judged_call now call.old }
 {
     if cause_of(now, call).is_some() {
@@ -33,62 +29,14 @@ fn judge_call(now: u64, call: &mut OpenCall)
     call.has_given_up = false;
 }
 
-fn is_kept(call: &OpenCall) -> bool
+pub fn is_kept(call: &OpenCall) -> bool
     ensures { result ≡ is_kept call.now }
 {
     call.waits || call.left > 0
 }
 
-/// Each call is judged, in the order of making.
-fn judge_calls(now: u64, calls: &mut [OpenCall])
-    ensures { calls.new ≡ map (judged_call now) calls.old }
-{
-    for place in 0..calls.len() {
-        judge_call(now, &mut calls[place]);
-    }
-}
-
-/// What has come to its end is kept no more.
-fn drop_ended(calls: &mut Vec<OpenCall>)
-    ensures { calls.new.items ≡ filter is_kept calls.old.items }
-{
-    calls.retain(|call| is_kept(call));
-}
-
-/// The calls that are unsure at a moment are reported so. There is room for them.
-fn tell_unsure(now: u64, calls: &[OpenCall], happenings: &mut VecDeque<Happening>)
-    requires { deque_len happenings.old + length calls.now ≤ deque_capacity happenings.old }
-    ensures { happenings.new.items ≡ happenings.old.items ++ filter_map (unsure_of now) calls.now }
-{
-    for call in calls {
-        if let Some(cause) = cause_of(now, call) {
-            let call = call.number;
-            happenings.push_back_reserved(Happening::Unsure { call, cause });
-        }
-    }
-}
-
-/// Each call is judged at a moment: those that are unsure are reported, and what has come to its end is kept
-/// no more. `NoMemory` leaves all as it was. The cost is a look at each call.
-pub fn judge(
-    now: u64,
-    calls: &mut Vec<OpenCall>,
-    happenings: &mut VecDeque<Happening>,
-) -> Result<(), NoMemory>
-    ensures calls { OnOk result (calls.new.items ≡ filter is_kept (map (judged_call now) calls.old.items)) }
-    ensures told { OnOk result (happenings.new.items ≡ happenings.old.items ++ filter_map (unsure_of now) calls.old.items) }
-    ensures same_calls { OnErr result (calls.new.items ≡ calls.old.items) }
-    ensures same_told { OnErr result (happenings.new.items ≡ happenings.old.items) }
-{
-    happenings.reserve(calls.len())?;
-    tell_unsure(now, calls, happenings);
-    judge_calls(now, calls);
-    drop_ended(calls);
-    Ok(())
-}
-
 /// The moment at which the patience of a call is over, if it waits.
-fn deadline_of(call: &OpenCall) -> Option<u64>
+pub fn deadline_of(call: &OpenCall) -> Option<u64>
     ensures { result ≡ deadline_of call.now }
 {
     if call.waits {
@@ -98,13 +46,10 @@ fn deadline_of(call: &OpenCall) -> Option<u64>
     }
 }
 
-/// The least deadline of those that wait.
-pub fn deadline(calls: &[OpenCall]) -> Option<u64>
-    ensures { result ≡ earliest deadline_of calls.now }
+/// The call at a place has its end.
+pub fn end_at(place: usize, calls: &mut [OpenCall])
+    requires { place < length calls.old }
+    ensures { calls.new ≡ answered_at place calls.old }
 {
-    let mut least = None;
-    for call in calls {
-        least = earlier(least, deadline_of(call));
-    }
-    least
+    calls[place].waits = false;
 }

@@ -1,18 +1,10 @@
 //! What a node hears of its endpoint's reports.
 ghost use Rattle.std.specs.Prelude.{◌≡◌, true, false};
 ghost use Rattle.dt_world_model.specs.Tables.{same_flow};
-ghost use Rattle.dt_service_model.specs.Halves.{kind_in};
 ghost use Rattle.dt_service_model.specs.Hearing.{with_fate, with_fates};
 
-use dt_service_model::{OpenCall, Port, PortKind};
+use dt_service_model::OpenCall;
 use dt_units::Flow;
-
-/// The kind of a port, if it has one.
-pub fn kind_in(port: u16, ports: &[Port]) -> Option<PortKind>
-    ensures { result ≡ kind_in port ports.now }
-{
-    ports.iter().find(|p| p.port == port).map(|p| p.kind)
-}
 
 /// Whether the request of a call goes on this flow.
 fn is_on(call: &OpenCall, flow: &Flow) -> bool

@@ -4,11 +4,15 @@
 
 mod asked;
 mod begun_messages;
+mod closing;
 mod counting;
 mod ends;
 mod halves;
 mod hearing;
+mod judging;
 mod numbers;
+mod ports;
+mod reports;
 mod whole;
 
 pub use asked::carried;

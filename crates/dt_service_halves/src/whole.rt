@@ -1,16 +1,17 @@
 //! What a whole message is: at a caller the reply to a call, and at a service a request.
-ghost use Rattle.std.specs.Prelude.{◌≡◌, ◌<◌, ◌&&◌, Some, IfOk, OnErr, OnOk, filter, is_some, length, not, option_map};
+ghost use Rattle.std.specs.Prelude.{◌≡◌, ◌&&◌, Some, IfOk, OnErr, OnOk, filter, is_some, not, option_map};
 ghost use Rattle.std.specs.List.{list_any, position};
 ghost use Rattle.dt_messages.specs.Joining.{piece_with, whole_within, within};
 ghost use Rattle.dt_service_model.specs.Halves.{counted_up, most_octets};
 ghost use Rattle.dt_service_model.specs.Names.{same_number, same_token};
-ghost use Rattle.dt_service_model.specs.Whole.{answered_at, begun_of, grown, is_waiting_call, stray_counted, take_message, take_piece, take_reply, take_request, waits_anywhere, without_token};
+ghost use Rattle.dt_service_model.specs.Whole.{begun_of, grown, is_waiting_call, stray_counted, take_message, take_piece, take_reply, take_request, waits_anywhere, without_token};
 
 use crate::begun_messages::{joined, put_begun, take_begun};
 use crate::counting::is_same;
+use crate::ends::end_at;
 use crate::halves::Halves;
-use crate::hearing::kind_in;
 use crate::numbers::call_number;
+use crate::ports::kind_in;
 use dt_items::NoMemory;
 use dt_messages::{Marks, read_message, reversed};
 use dt_service_model::{CallNumber, Happening, OpenCall, Payload, PortKind, Token};
@@ -78,14 +79,6 @@ fn waits_anywhere(number: CallNumber, calls: &[OpenCall]) -> bool
     ensures { result ≡ waits_anywhere number calls.now }
 {
     calls.iter().any(|call| is_waiting_with(number, call))
-}
-
-/// The call at a place has its end.
-fn end_at(place: usize, calls: &mut [OpenCall])
-    requires { place < length calls.old }
-    ensures { calls.new ≡ answered_at place calls.old }
-{
-    calls[place].waits = false;
 }
 
 /// A message that isn't too long, and whether it was.

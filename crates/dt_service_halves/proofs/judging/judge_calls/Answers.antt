@@ -1,7 +1,7 @@
 use Rattle.std.proofs.Common.{rules, ◌<◌, length, sym, ◌∙◌, arith}
 use Rattle.dt_service_model.specs.Ends.{judged_call}
 use Rattle.dt_service_halves.proofs.Scans.{change_end, change_stepped}
-use Rattle.dt_service_halves.proofs.ends.judge_calls.Goals as goal
+use Rattle.dt_service_halves.proofs.judging.judge_calls.Goals as goal
 
 pub loop-place-preserved : goal.loop-place-preserved
 loop-place-preserved c =

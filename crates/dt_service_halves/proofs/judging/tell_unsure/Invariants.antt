@@ -1,6 +1,6 @@
 use Rattle.std.proofs.Common.{◌≡◌, ◌++◌, ◌+◌, ◌-◌, ◌≤◌, drop, length, filter_map, deque_len, deque_capacity}
 use Rattle.dt_service_model.specs.Ends.{unsure_of}
-use Rattle.dt_service_halves.proofs.ends.tell_unsure.Given as goal
+use Rattle.dt_service_halves.proofs.judging.tell_unsure.Given as goal
 
 abbrev pub invariant-loop-call : goal.invariant-loop-call
 invariant-loop-call l = record {
