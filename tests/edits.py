@@ -7,7 +7,7 @@ copy of the repository, and has to be refused for what a contract says. Where th
 already on this machine isn't proved again; each crate takes a check from nothing, and some 15 to 60 s of processor for each bug.
 
 What stands above the first bug turns off modules that no bug needs, so that a check costs less. It goes with each bug. With no bug
-it has to be proved: then what is refused is the bug, and nothing that was turned off.
+it has to be proved: then what is refused is the bug, and nothing that was turned off. That takes a check from nothing more.
 
 Ends with 1 where a bug isn't refused, or only since a proof names what it took away, or where what turns off is refused by itself;
 with 77 where there is no `rt`.
