@@ -10,7 +10,6 @@ use dt_units::Flow;
 
 /// What a visitor sees: one of the reports that the rows want, a question for a tag, a packet with so much
 /// life that waited or that leaves at once.
-#[derive(Clone, Copy, PartialEq, Eq)]
 pub enum Seen {
     Took {
         flow: Flow,
@@ -58,10 +57,15 @@ pub enum Seen {
     },
 }
 
-/// A report as the rows tell it, or nothing where none of them wants one of its kind.
-fn shown(report: &Report<'_>) -> Option<Seen> {
+fn is_took(report: &Report<'_>, wanted: Flow, octets: u32) -> bool {
     match *report {
-        Report::Took { flow, count } => Some(Seen::Took { flow, count }),
+        Report::Took { flow, count } => flow == wanted && count == octets,
+        _ => false,
+    }
+}
+
+fn is_sent(report: &Report<'_>, wanted: Flow, cut: &Cut) -> bool {
+    match *report {
         Report::Sent {
             flow,
             number,
@@ -69,43 +73,108 @@ fn shown(report: &Report<'_>) -> Option<Seen> {
             drf,
             begin,
             end,
-        } => Some(Seen::Sent {
-            flow,
-            cut: Cut {
+        } => {
+            let sent = Cut {
                 number,
                 length,
                 drf,
                 begin,
                 end,
-            },
-        }),
+            };
+            flow == wanted && sent == *cut
+        }
+        _ => false,
+    }
+}
+
+fn is_acked(report: &Report<'_>, wanted: Flow, next: u32, room: u32) -> bool {
+    match *report {
         Report::Acked {
             flow,
             number,
             window,
-        } => Some(Seen::Acked {
-            flow,
-            number,
-            window,
-        }),
+        } => flow == wanted && number == next && window == room,
+        _ => false,
+    }
+}
+
+fn is_accepted(report: &Report<'_>, wanted: Flow, first: u32, octets: u32, begins: bool) -> bool {
+    match *report {
         Report::Accepted {
             flow,
             number,
             length,
             run,
-        } => Some(Seen::Accepted {
+        } => flow == wanted && number == first && length == octets && run == begins,
+        _ => false,
+    }
+}
+
+fn is_nothing(report: &Report<'_>, wanted: Flow) -> bool {
+    match *report {
+        Report::Nothing { flow } => flow == wanted,
+        _ => false,
+    }
+}
+
+fn is_put(report: &Report<'_>, wanted: u16, left: u32) -> bool {
+    match *report {
+        Report::Put { link, life } => link == wanted && life == left,
+        _ => false,
+    }
+}
+
+fn is_expired_in(report: &Report<'_>, wanted: u16) -> bool {
+    match *report {
+        Report::ExpiredIn { link } => link == wanted,
+        _ => false,
+    }
+}
+
+fn is_expired_out(report: &Report<'_>, wanted: u16) -> bool {
+    match *report {
+        Report::ExpiredOut { link } => link == wanted,
+        _ => false,
+    }
+}
+
+fn is_no_route(report: &Report<'_>, wanted: u32) -> bool {
+    match *report {
+        Report::NoRoute { to } => to == wanted,
+        _ => false,
+    }
+}
+
+fn is_bad(report: &Report<'_>, wanted: LayoutFault) -> bool {
+    match *report {
+        Report::Bad { fault } => fault == wanted,
+        _ => false,
+    }
+}
+
+/// Whether a report is what is wanted.
+fn is_report(report: &Report<'_>, wanted: &Seen) -> bool {
+    match wanted {
+        Seen::Took { flow, count } => is_took(report, *flow, *count),
+        Seen::Sent { flow, cut } => is_sent(report, *flow, cut),
+        Seen::Acked {
+            flow,
+            number,
+            window,
+        } => is_acked(report, *flow, *number, *window),
+        Seen::Accepted {
             flow,
             number,
             length,
             run,
-        }),
-        Report::Nothing { flow } => Some(Seen::Nothing { flow }),
-        Report::Put { link, life } => Some(Seen::Put { link, life }),
-        Report::ExpiredIn { link } => Some(Seen::ExpiredIn { link }),
-        Report::ExpiredOut { link } => Some(Seen::ExpiredOut { link }),
-        Report::NoRoute { to } => Some(Seen::NoRoute { to }),
-        Report::Bad { fault } => Some(Seen::Bad { fault }),
-        _ => None,
+        } => is_accepted(report, *flow, *number, *length, *run),
+        Seen::Nothing { flow } => is_nothing(report, *flow),
+        Seen::Put { link, life } => is_put(report, *link, *life),
+        Seen::ExpiredIn { link } => is_expired_in(report, *link),
+        Seen::ExpiredOut { link } => is_expired_out(report, *link),
+        Seen::NoRoute { to } => is_no_route(report, *to),
+        Seen::Bad { fault } => is_bad(report, *fault),
+        Seen::Asked | Seen::Handed { .. } => false,
     }
 }
 
@@ -118,20 +187,18 @@ pub struct Audience<'a> {
     memory: usize,
 }
 
-fn is_told(wanted: Option<&Seen>, report: &Report<'_>) -> bool {
-    match (wanted, shown(report)) {
-        (Some(wanted), Some(told)) => *wanted == told,
+/// Whether a packet that was handed on is what is wanted.
+fn is_handed(wanted: Option<&Seen>, on: u16, left: u32, straight: bool) -> bool {
+    match wanted {
+        Some(
+            Seen::Handed {
+                link,
+                life,
+                at_once,
+            },
+        ) => *link == on && *life == left && *at_once == straight,
         _ => false,
     }
-}
-
-fn is_handed(wanted: Option<&Seen>, link: u16, life: u32, at_once: bool) -> bool {
-    let handed = Seen::Handed {
-        link,
-        life,
-        at_once,
-    };
-    wanted == Some(&handed)
 }
 
 impl<'a> Audience<'a> {
@@ -177,12 +244,15 @@ impl Visitor<Frame> for Audience<'_> {
     ghost fails = { λ s t. Unit {0} };
 
     fn tag(&mut self, _host: &Host, _frame: &Frame, _now: u64) {
-        let fits = self.wanted.get(self.place) == Some(&Seen::Asked);
+        let fits = matches!(self.wanted.get(self.place), Some(Seen::Asked));
         self.see(fits);
     }
 
     fn tell(&mut self, report: &Report<'_>) {
-        let fits = is_told(self.wanted.get(self.place), report);
+        let fits = match self.wanted.get(self.place) {
+            Some(wanted) => is_report(report, wanted),
+            None => false,
+        };
         self.see(fits);
     }
 

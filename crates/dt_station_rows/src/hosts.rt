@@ -77,15 +77,14 @@ pub fn holds(rt: &impl Abort, is: bool, now: u64)
     assert!(rt; is, "at {now}");
 }
 
-/// Whether a flow of node 1 has no sender, and octets that are sent on it as a message are answered so.
-pub fn is_sent<L: Ledger>(
+/// What is answered where octets are sent as a message on a flow of node 1, if that has no sender.
+pub fn offered<L: Ledger>(
     host: &mut Host,
     from_port: u16,
     octets: &[u8],
     now: u64,
-    answer: Result<(), SendFault>,
     steps: &mut Steps<L>,
-) -> bool
+) -> Option<Result<(), SendFault>>
     requires node { host.old.state.me ≡ 1 }
     requires some { 1 ≤ length octets.now }
     requires few { length octets.now ≤ 8192 }
@@ -98,7 +97,10 @@ pub fn is_sent<L: Ledger>(
     ensures looks { steps.new ≤ steps.old + 4 }
 {
     let flow = out(from_port);
-    host.next_number(&flow).is_none() && host.send(&flow, octets, true, true, now, steps) == answer
+    match host.next_number(&flow) {
+        Some(_) => None,
+        None => Some(host.send(&flow, octets, true, true, now, steps)),
+    }
 }
 
 /// No act is due at `now`. Before `r` no resend can have been missed, and then no record is looked at.

@@ -1,7 +1,7 @@
 ghost use Rattle.std.specs.Prelude.{◌≡◌, ◌+◌, ◌<◌, ◌≤◌, IfOk};
 ghost use Rattle.dt_flow_model.specs.Keeping.{most_moment};
 
-use crate::hosts::{STANDARD, acts, first_octet, holds, host_with, is_sent, out, rests, sends};
+use crate::hosts::{STANDARD, acts, first_octet, holds, host_with, offered, out, rests, sends};
 use dt_flow_model::SendAct;
 use dt_host::Host;
 use dt_items::NoMemory;
@@ -46,7 +46,7 @@ fn begins<L: Ledger>(
     ensures looks { now < host.old.rules.r → steps.new ≤ steps.old + 8 }
 {
     rests(rt, host, now, frame, steps);
-    let is = is_sent(host, from_port, b"A", now, Ok(()), steps);
+    let is = matches!(offered(host, from_port, b"A", now, steps), Some(Ok(())));
     holds(rt, is, now);
     let act = SendAct::Sent(first_octet());
     acts(rt, host, now, sends(out(from_port), act), frame, steps);

@@ -2,7 +2,7 @@ ghost use Rattle.std.specs.Prelude.{◌≡◌, ◌<◌, ◌≤◌, IfOk, length}
 ghost use Rattle.dt_layout.specs.Spelling.{KeepsRules, packet_of};
 ghost use Rattle.dt_flow_model.specs.Keeping.{most_moment};
 
-use crate::hosts::{ME, STANDARD, holds, host_with, is_sent, out, sends};
+use crate::hosts::{ME, STANDARD, holds, host_with, offered, out, sends};
 use dt_host::{Act, Arrived, Cut, Done, Host, RecvAct, SendAct, SendFault};
 use dt_items::{NoMemory, Piece};
 use dt_layout::{Frame, Packet};
@@ -28,6 +28,13 @@ enum Incoming {
     Close(u16, u32),
 }
 
+/// So many unread octets are read, into two zeros that become these octets.
+#[derive(Clone, Copy)]
+struct ReadOut {
+    count: usize,
+    octets: [u8; 2],
+}
+
 /// What happens to the host of node 1. The port is node 1's where the host is the sender, and node 2's
 /// where it is the receiver.
 #[derive(Clone, Copy)]
@@ -43,8 +50,7 @@ enum Event {
     /// The least moment at which an act is due.
     Wake(Option<u64>),
     Comes(Incoming, Arrived),
-    /// So many unread octets are read, into two zeros that become these octets.
-    Read(u16, usize, [u8; 2]),
+    Read(u16, ReadOut),
     /// The number that a receiver expects.
     Expects(u16, Option<u32>),
 }
@@ -89,6 +95,17 @@ const ACCEPTED: Arrived = Arrived::Accepted {
 const ACKED: RecvAct = RecvAct::Acked {
     number: 1,
     window: 4095,
+};
+
+/// That octet is read, and then none.
+const ONE_READ: ReadOut = ReadOut {
+    count: 1,
+    octets: [b'A', 0],
+};
+
+const NONE_READ: ReadOut = ReadOut {
+    count: 0,
+    octets: [0, 0],
 };
 
 /// An octet was acknowledged.
@@ -200,8 +217,8 @@ const IDLE: &[Row] = &[
     (0, Event::Receiver(20, ACKED)),
     (4200, Event::Receiver(20, RecvAct::Released)),
     (4200, Event::Rest),
-    (4200, Event::Read(20, 1, [65, 0])),
-    (4200, Event::Read(20, 0, [0, 0])),
+    (4200, Event::Read(20, ONE_READ)),
+    (4200, Event::Read(20, NONE_READ)),
     (4200, Event::Expects(20, None)),
 ];
 
@@ -292,24 +309,25 @@ fn packet_in(incoming: Incoming) -> Packet<'static>
     }
 }
 
-/// Whether octets that are sent as a message, on a flow that has no sender, are answered so.
+/// What is answered where octets are sent as a message, if their flow has no sender.
 fn offers<L: Ledger>(
     host: &mut Host,
     from_port: u16,
     octets: &[u8],
     now: u64,
-    answer: Result<(), SendFault>,
     steps: &mut Steps<L>,
-) -> bool
+) -> Option<Result<(), SendFault>>
     requires moment { now ≤ most_moment }
     requires past { host.old.latest ≤ now }
     ensures latest { host.new.latest ≤ now }
 {
-    host.me().0 == ME.0
-        && !octets.is_empty()
-        && octets.len() <= 8192
-        && host.is_current(now, steps)
-        && is_sent(host, from_port, octets, now, answer, steps)
+    if octets.is_empty() || octets.len() > 8192 {
+        return None;
+    }
+    if host.me().0 != ME.0 || !host.is_current(now, steps) {
+        return None;
+    }
+    offered(host, from_port, octets, now, steps)
 }
 
 /// The act that an event says comes next, if any.
@@ -321,7 +339,7 @@ fn act_of(event: &Event) -> Option<Done> {
         | Event::Rest
         | Event::Wake(_)
         | Event::Comes(_, _)
-        | Event::Read(_, _, _)
+        | Event::Read(_, _)
         | Event::Expects(_, _) => None,
     }
 }
@@ -354,13 +372,12 @@ fn comes<L: Ledger>(
     host.arrive(OTHER, &packet, now, &mut Frame::new(), steps) == Ok(answer)
 }
 
-/// Whether so many unread octets are read into two zeros, and become these.
+/// Whether octets that are unread are read as wanted.
 fn reads<L: Ledger>(
     host: &mut Host,
     from_port: u16,
     now: u64,
-    count: usize,
-    buffer: [u8; 2],
+    wanted: &ReadOut,
     steps: &mut Steps<L>,
 ) -> bool
     requires moment { now ≤ most_moment }
@@ -372,7 +389,7 @@ fn reads<L: Ledger>(
     }
     let mut read = [0; 2];
     let piece = host.read(&back(from_port), &mut read, now, steps);
-    count_of(piece) == count && read == buffer
+    count_of(piece) == wanted.count && read == wanted.octets
 }
 
 fn count_of(piece: Option<Piece>) -> usize {
@@ -389,13 +406,15 @@ fn happens<L: Ledger>(host: &mut Host, event: &Event, now: u64, steps: &mut Step
     ensures latest { host.new.latest ≤ now }
 {
     match event {
-        Event::Send(port, octets, answer) => offers(host, *port, octets, now, *answer, steps),
+        Event::Send(port, octets, answer) => {
+            offers(host, *port, octets, now, steps) == Some(*answer)
+        }
         Event::Sender(_, _) | Event::Receiver(_, _) | Event::Rest => {
             does_next(host, act_of(event), now, steps)
         }
         Event::Wake(moment) => host.wake() == *moment,
         Event::Comes(incoming, answer) => comes(host, *incoming, now, *answer, steps),
-        Event::Read(port, count, buffer) => reads(host, *port, now, *count, *buffer, steps),
+        Event::Read(port, wanted) => reads(host, *port, now, wanted, steps),
         Event::Expects(port, number) => host.expected(&back(*port)) == *number,
     }
 }
