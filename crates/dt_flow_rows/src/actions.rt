@@ -1,4 +1,5 @@
 //! What is done with a data packet: each case of its table, by hand.
+use crate::fixtures::holds;
 use dt_flow_model::Action;
 use dt_recv::action;
 
@@ -31,6 +32,6 @@ static ACTIONS: [(Option<u32>, bool, u32, u32, u32, Action); 20] = [
 fn each_case_has_its_action(rt: HostRuntime) {
     for (expected, drf, number, length, free, wanted) in &ACTIONS {
         let done = action(*expected, *drf, *number, *length, *free);
-        assert!(rt; done == *wanted, "{number} where {expected:?}");
+        holds(&rt, done == *wanted, u64::from(*number));
     }
 }

@@ -1,7 +1,8 @@
-//! The flow of the tests, and its parameters.
-use dt_units::{Flow, NodeId, Params};
+//! The flow of the tests, its parameters, and how a row is asserted.
+use dt_units::{Flow, NodeId, Params, Rules};
+use std::process::Abort;
 
-pub static STANDARD: Params = Params {
+pub const STANDARD: Params = Params {
     mpl: 1000,
     r: 3000,
     a: 200,
@@ -22,3 +23,13 @@ pub const FLOW: Flow = Flow {
     to: NodeId(2),
     to_port: 20,
 };
+
+/// These parameters, which are in their ranges.
+pub fn rules(rt: &impl Abort, params: &Params) -> Rules {
+    params.check().expect(rt, "the parameters are refused")
+}
+
+/// What a row says holds, which is named by its moment or its number.
+pub fn holds(rt: &impl Abort, is: bool, row: u64) {
+    assert!(rt; is, "at {row}");
+}

@@ -1,7 +1,7 @@
 //! A receiver, event by event: its answers, and its acts in time.
 ghost use Rattle.std.specs.Prelude.{◌≡◌, ◌<◌};
 
-use crate::fixtures::{FLOW, STANDARD};
+use crate::fixtures::{FLOW, STANDARD, holds, rules};
 use dt_flow_model::{Arrived, RecvAct, RecvKind, RecvMoments};
 use dt_items::Piece;
 use dt_layout::Frame;
@@ -236,7 +236,7 @@ fn meets_all<L: Ledger>(
     assert!(rt; receiver.is_idle());
     for (now, event) in events {
         let is = happens(receiver, *now, event, steps);
-        assert!(rt; is, "at {now}");
+        holds(rt, is, *now);
     }
 }
 
@@ -248,13 +248,12 @@ fn plays<L: Ledger>(
     events: &[(u64, Event)],
     steps: &mut Steps<L>,
 ) {
-    let rules = params.check().expect(rt, "the parameters are refused");
-    let mut receiver = Receiver::new(alloc, &rules, FLOW).expect(rt, "memory");
+    let mut receiver = Receiver::new(alloc, &rules(rt, params), FLOW).expect(rt, "memory");
     meets_all(rt, &mut receiver, events, steps);
 }
 
 // Duplicates, closing packets and the receive timer.
-static ONE_MESSAGE: [(u64, Event); 17] = [
+const ONE_MESSAGE: &[(u64, Event)] = &[
     (0, Event::Stands(None, 4096)),
     (
         0,
@@ -302,7 +301,7 @@ static ONE_MESSAGE: [(u64, Event); 17] = [
 ];
 
 // Segments that come out of order.
-static REORDERED: [(u64, Event); 10] = [
+const REORDERED: &[(u64, Event)] = &[
     (0, Event::Data((200, b"e", &[b'a'; 50], Answer::Dropped))),
     (0, Event::Data((0, b"db", &[b'a'; 100], Answer::Run(100)))),
     (
@@ -319,7 +318,7 @@ static REORDERED: [(u64, Event); 10] = [
 ];
 
 // Windows that open, with `rcap` 4.
-static WINDOWS: [(u64, Event); 10] = [
+const WINDOWS: &[(u64, Event)] = &[
     (0, Event::Data((0, b"db", b"abcd", Answer::Run(4)))),
     (200, Event::Acked(4, 0)),
     (800, Event::Meet(4, Answer::Told(4, 0))),
@@ -333,7 +332,7 @@ static WINDOWS: [(u64, Event); 10] = [
 ];
 
 // Numbers that go round.
-static WRAPPED: [(u64, Event); 6] = [
+const WRAPPED: &[(u64, Event)] = &[
     (
         0,
         Event::Data((4_294_967_292, b"db", b"aaaa", Answer::Run(4))),
@@ -348,11 +347,19 @@ static WRAPPED: [(u64, Event); 6] = [
     (0, Event::Acked(6, 4086)),
 ];
 
-static NARROW: Params = Params {
+const NARROW: Params = Params {
     rcap: 4,
     window: 4,
     ..STANDARD
 };
+
+// The parameters of a receiver, and its events.
+static RUNS: [(Params, &[(u64, Event)]); 4] = [
+    (STANDARD, ONE_MESSAGE),
+    (STANDARD, REORDERED),
+    (NARROW, WINDOWS),
+    (STANDARD, WRAPPED),
+];
 
 fn rows_on<L: Ledger>(rt: &impl Abort, alloc: Global, ledger: Blank)
     requires name { ledger.name ≡ L.name }
@@ -360,10 +367,9 @@ fn rows_on<L: Ledger>(rt: &impl Abort, alloc: Global, ledger: Blank)
     requires some { 0 < ledger.parts }
 {
     let mut steps = Steps::<L>::new(ledger);
-    plays(rt, alloc, &STANDARD, &ONE_MESSAGE, &mut steps);
-    plays(rt, alloc, &STANDARD, &REORDERED, &mut steps);
-    plays(rt, alloc, &NARROW, &WINDOWS, &mut steps);
-    plays(rt, alloc, &STANDARD, &WRAPPED, &mut steps);
+    for (params, events) in &RUNS {
+        plays(rt, alloc, params, events, &mut steps);
+    }
 }
 
 #[test]

@@ -3,7 +3,7 @@ use crate::sender_steps::{Octets, Step};
 use dt_send::{PutFault, SendMoments};
 
 /// A message of 250 octets goes out in three packets, and the first is acknowledged.
-pub static THREE_PACKETS: [(u64, Step); 12] = [
+pub const THREE_PACKETS: &[(u64, Step)] = &[
     (0, Step::Put(&[b'a'; 250], Ok(()))),
     (
         0,
@@ -52,7 +52,7 @@ pub static THREE_PACKETS: [(u64, Step); 12] = [
 ];
 
 /// An octet is given up, and another one goes out after it.
-pub static UNCERTAIN: [(u64, Step); 11] = [
+pub const UNCERTAIN: &[(u64, Step)] = &[
     (0, Step::Put(b"a", Ok(()))),
     (
         0,
@@ -113,7 +113,7 @@ pub static UNCERTAIN: [(u64, Step); 11] = [
 ];
 
 /// A window of four octets that opens late.
-pub static WINDOWS: [(u64, Step); 11] = [
+pub const WINDOWS: &[(u64, Step)] = &[
     (0, Step::Put(b"abcdef", Ok(()))),
     (
         0,
@@ -148,7 +148,7 @@ pub static WINDOWS: [(u64, Step); 11] = [
 ];
 
 /// A rendezvous goes out after octets were given up.
-pub static GIVEN_UP: [(u64, Step); 5] = [
+pub const GIVEN_UP: &[(u64, Step)] = &[
     (0, Step::Put(b"abcdef", Ok(()))),
     (
         0,
@@ -167,7 +167,7 @@ pub static GIVEN_UP: [(u64, Step); 5] = [
 ];
 
 /// A record is renewed after a run of eight octets.
-pub static RENEWAL: [(u64, Step); 9] = [
+pub const RENEWAL: &[(u64, Step)] = &[
     (0, Step::Put(&[b'a'; 20], Ok(()))),
     (
         0,
@@ -200,7 +200,7 @@ pub static RENEWAL: [(u64, Step); 9] = [
 ];
 
 /// An octet waits until the run of eight before it is surely gone.
-pub static QUANTUM: [(u64, Step); 9] = [
+pub const QUANTUM: &[(u64, Step)] = &[
     (0, Step::Put(b"aaaa", Ok(()))),
     (
         0,
@@ -243,7 +243,7 @@ pub static QUANTUM: [(u64, Step); 9] = [
 ];
 
 /// Numbers go round.
-pub static ROUND: [(u64, Step); 5] = [
+pub const ROUND: &[(u64, Step)] = &[
     (0, Step::Put(b"abcd", Ok(()))),
     (
         0,

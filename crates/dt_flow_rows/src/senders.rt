@@ -1,7 +1,7 @@
 ghost use Rattle.std.specs.Prelude.{◌≡◌, ◌<◌};
 ghost use Rattle.dt_flow_model.specs.Keeping.{taken_by};
 
-use crate::fixtures::{FLOW, STANDARD};
+use crate::fixtures::{FLOW, STANDARD, holds, rules};
 use crate::sender_rows::{GIVEN_UP, QUANTUM, RENEWAL, ROUND, THREE_PACKETS, UNCERTAIN, WINDOWS};
 use crate::sender_steps::{Step, is_done};
 use dt_layout::Frame;
@@ -12,27 +12,37 @@ use std::marker::Brand;
 use std::process::Abort;
 use std::sync::ledger::{Blank, Ledger};
 
-static NARROW: Params = Params {
+const NARROW: Params = Params {
     window: 4,
     ..STANDARD
 };
 
-static SHORT_RUNS: Params = Params {
+const SHORT_RUNS: Params = Params {
     run_limit: 8,
     ..STANDARD
 };
 
-static LATE_START: Params = Params {
+const LATE_START: Params = Params {
     start: 4_294_967_294,
     ..STANDARD
 };
+
+/// The parameters of a record, and its rows.
+static RUNS: [(Params, &[(u64, Step)]); 7] = [
+    (STANDARD, THREE_PACKETS),
+    (STANDARD, UNCERTAIN),
+    (NARROW, WINDOWS),
+    (NARROW, GIVEN_UP),
+    (SHORT_RUNS, RENEWAL),
+    (SHORT_RUNS, QUANTUM),
+    (LATE_START, ROUND),
+];
 
 /// A new record at 0.
 fn sender(rt: &impl Abort, alloc: Global, params: &Params) -> Sender
     ensures { taken_by result.state ≡ 0 }
 {
-    let rules = params.check().expect(rt, "the parameters are refused");
-    Sender::new(alloc, &rules, FLOW, 0).expect(rt, "memory")
+    Sender::new(alloc, &rules(rt, params), FLOW, 0).expect(rt, "memory")
 }
 
 /// A record at 0 goes through these rows.
@@ -43,7 +53,7 @@ fn goes<L: Ledger>(rt: &impl Abort, sender: &mut Sender, rows: &[(u64, Step)], s
     let mut taken = 0;
     for (now, step) in rows {
         let is = is_done(sender, &mut taken, *now, step, &mut frame, steps);
-        assert!(rt; is, "at {now}");
+        holds(rt, is, *now);
     }
 }
 
@@ -65,13 +75,9 @@ fn rows_on<L: Ledger>(rt: &impl Abort, alloc: Global, ledger: Blank)
     requires some { 0 < ledger.parts }
 {
     let mut steps = Steps::<L>::new(ledger);
-    plays(rt, alloc, &STANDARD, &THREE_PACKETS, &mut steps);
-    plays(rt, alloc, &STANDARD, &UNCERTAIN, &mut steps);
-    plays(rt, alloc, &NARROW, &WINDOWS, &mut steps);
-    plays(rt, alloc, &NARROW, &GIVEN_UP, &mut steps);
-    plays(rt, alloc, &SHORT_RUNS, &RENEWAL, &mut steps);
-    plays(rt, alloc, &SHORT_RUNS, &QUANTUM, &mut steps);
-    plays(rt, alloc, &LATE_START, &ROUND, &mut steps);
+    for (params, rows) in &RUNS {
+        plays(rt, alloc, params, rows, &mut steps);
+    }
 }
 
 #[test]
