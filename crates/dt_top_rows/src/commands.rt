@@ -1,6 +1,6 @@
 //! The top call over the forms in memory: worked inputs of each command, each a row of a table, and each
 //! way in which reading and writing can fail.
-use crate::trial_rows::{ends_over, ends_so, is_cut_off, is_read_in_vain, said_of};
+use crate::trial_rows::{ends_over, ends_so, holds, is_cut_off, is_read_in_vain, said_of};
 use dt_edges::MemWire;
 use dt_trial::{FREELY, RunResult, Trial, Untried, tried};
 use std::alloc::Global;
@@ -39,14 +39,24 @@ fn ends_on(alloc: Global, command: &str, texts: &[&str], status: u8, out: &str) 
     }
 }
 
+/// Whether a command that sends 250 octets finds memory behind a text.
+fn is_long(input: &mut String) -> bool {
+    for _ in 0..250 {
+        if input.push_str("61").is_err() {
+            return false;
+        }
+    }
+    input.push_str("\n").is_ok()
+}
+
 /// A schedule with a message of 250 octets.
 fn long_schedule(alloc: Global) -> Option<String> {
     let mut input = joined(alloc, &[PARAMS, SETUP, "send 1:10>2:20 be "])?;
-    for _ in 0..250 {
-        input.push_str("61").ok()?;
+    if is_long(&mut input) {
+        Some(input)
+    } else {
+        None
     }
-    input.push_str("\n").ok()?;
-    Some(input)
 }
 
 const LONG_LOG: &str = "0 1 took 1:10>2:20 250
@@ -153,12 +163,10 @@ static SCHEDULES: [(&str, &str, &str, u8); 15] = [
 
 #[test]
 fn worked_schedules(rt: HostRuntime) {
-    for (params, rest, log, status) in &SCHEDULES {
+    for (place, (params, rest, log, status)) in SCHEDULES.iter().enumerate() {
         let texts = [*params, SETUP, *rest];
-        assert!(rt;
-            ends_on(rt.alloc(), "replay", &texts, *status, log),
-            "after {rest:?}"
-        );
+        let is = ends_on(rt.alloc(), "replay", &texts, *status, log);
+        holds(&rt, is, place);
     }
 }
 
@@ -186,11 +194,9 @@ static INPUTS: [(&str, &str, &str, u8); 7] = [
 
 #[test]
 fn worked_inputs(rt: HostRuntime) {
-    for (command, input, out, status) in &INPUTS {
-        assert!(rt;
-            ends_as(rt.alloc(), &[*command], input, *status, out),
-            "{command} of {input:?}"
-        );
+    for (place, (command, input, out, status)) in INPUTS.iter().enumerate() {
+        let is = ends_as(rt.alloc(), &[*command], input, *status, out);
+        holds(&rt, is, place);
     }
 }
 
@@ -235,8 +241,8 @@ fn words_end(alloc: Global, words: &[&str], status: u8, out: &[u8], said: &[u8])
 
 #[test]
 fn other_words_are_no_command(rt: HostRuntime) {
-    for words in &NO_COMMANDS {
-        assert!(rt; words_end(rt.alloc(), words, 2, b"", USAGE), "{words:?}");
+    for (place, words) in NO_COMMANDS.iter().enumerate() {
+        holds(&rt, words_end(rt.alloc(), words, 2, b"", USAGE), place);
     }
 }
 
@@ -260,27 +266,24 @@ arrive 2
 read 1:10>2:20 65536
 ";
 
-/// Words that make one round, and words that replay.
-static MAKES: [&[&str]; 4] = [
-    &["make", "1"],
-    &["--", "make", "1"],
-    &["make", "--", "1"],
-    &["make", "1", "--"],
-];
+/// What the replay of no input writes.
+const NO_INPUT: &[u8] = b"line 1: order\n";
 
-static REPLAYS: [&[&str]; 2] = [&["--", "replay"], &["replay", "--"]];
+/// Words that make one round, and words that replay, with the status and what is written.
+static MARKED: [(&[&str], u8, &[u8]); 6] = [
+    (&["make", "1"], 0, ONE_ROUND),
+    (&["--", "make", "1"], 0, ONE_ROUND),
+    (&["make", "--", "1"], 0, ONE_ROUND),
+    (&["make", "1", "--"], 0, ONE_ROUND),
+    (&["--", "replay"], 3, NO_INPUT),
+    (&["replay", "--"], 3, NO_INPUT),
+];
 
 #[test]
 fn the_first_mark_is_left_out(rt: HostRuntime) {
-    for words in &MAKES {
-        assert!(rt;
-            words_end(rt.alloc(), words, 0, ONE_ROUND, b""),
-            "{words:?}"
-        );
-    }
-    for words in &REPLAYS {
-        let ends = words_end(rt.alloc(), words, 3, b"line 1: order\n", b"input refused\n");
-        assert!(rt; ends, "{words:?}");
+    for (place, (words, status, out)) in MARKED.iter().enumerate() {
+        let is = words_end(rt.alloc(), words, *status, out, said_of(*status));
+        holds(&rt, is, place);
     }
 }
 
@@ -445,8 +448,8 @@ fn node_ends(alloc: Global, row: &NodeEnd) -> bool {
 
 #[test]
 fn a_node_ends_by_its_stop_its_wire_or_its_clock(rt: HostRuntime) {
-    for row in &NODE_ENDS {
-        assert!(rt; node_ends(rt.alloc(), row), "{}", row.2);
+    for (place, row) in NODE_ENDS.iter().enumerate() {
+        holds(&rt, node_ends(rt.alloc(), row), place);
     }
 }
 
@@ -505,11 +508,9 @@ static CALLS: [(&str, &str, u8); 3] = [
 
 #[test]
 fn calls_are_made(rt: HostRuntime) {
-    for (more, text, status) in &CALLS {
+    for (place, (more, text, status)) in CALLS.iter().enumerate() {
         let texts = [PARAMS, SETUP, CALL, *more];
-        assert!(rt;
-            ends_on(rt.alloc(), "calls", &texts, *status, text),
-            "after {more:?}"
-        );
+        let is = ends_on(rt.alloc(), "calls", &texts, *status, text);
+        holds(&rt, is, place);
     }
 }

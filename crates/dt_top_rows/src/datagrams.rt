@@ -1,5 +1,5 @@
 //! Datagrams of any octets: node 2 hears a frame of node 1 with one octet changed, or cut short.
-use crate::trial_rows::ends_over;
+use crate::trial_rows::{ends_over, holds};
 use dt_edges::MemWire;
 use dt_trial::{FREELY, Trial};
 use std::alloc::Global;
@@ -93,31 +93,44 @@ impl ChangedOctet {
         }
     }
 
-    /// The node's log of a packet for it: the flow and the number are any, data without
-    /// the data-run flag meets no record, and a message that doesn't end is acknowledged later.
-    fn heard(self, alloc: Global) -> Option<String> {
+    /// The flow of the frame, as the log names it.
+    fn flow(self, alloc: Global) -> Option<String> {
         let from = self.number(1, 4, 12);
         let from_port = self.number(10, 2, 20);
         let to_port = self.number(20, 2, 22);
+        format!(in alloc; "{from}:{from_port}>2:{to_port}").ok()
+    }
+
+    /// The node's log of a packet of this flow that is acknowledged at once.
+    fn acknowledged(self, alloc: Global, flow: &str) -> Option<String> {
         let number = self.number(0, 4, 26);
         let next = number.wrapping_add(5);
-        let (way, last) = if from == 1 {
-            ("put 1", 999)
-        } else {
-            ("noroute", from)
+        let (way, last) = match self.number(1, 4, 12) {
+            1 => ("put 1", 999),
+            from => ("noroute", from),
         };
-        let text = match self.number(7, 1, 18) {
+        format!(in alloc;
+            "10 2 accepted {flow} {number} 5 run\n10 2 acked {flow} {next} 4091\n10 2 {way} {last}\nend 100\n"
+        ).ok()
+    }
+
+    /// The node's log of a packet of this flow for it: data without the data-run flag meets no record, and a
+    /// message that doesn't end is acknowledged later.
+    fn heard_of(self, alloc: Global, flow: &str) -> Option<String> {
+        let number = self.number(0, 4, 26);
+        match self.number(7, 1, 18) {
             flags if flags % 2 == 0 => {
-                format!(in alloc; "10 2 dropped {from}:{from_port}>2:{to_port} {number}\nend 100\n")
+                format!(in alloc; "10 2 dropped {flow} {number}\nend 100\n").ok()
             }
-            0..=3 => format!(in alloc;
-                "10 2 accepted {from}:{from_port}>2:{to_port} {number} 5 run\nend 100\n"
-            ),
-            _ => format!(in alloc;
-                "10 2 accepted {from}:{from_port}>2:{to_port} {number} 5 run\n10 2 acked {from}:{from_port}>2:{to_port} {next} 4091\n10 2 {way} {last}\nend 100\n"
-            ),
-        };
-        text.ok()
+            0..=3 => format!(in alloc; "10 2 accepted {flow} {number} 5 run\nend 100\n").ok(),
+            _ => self.acknowledged(alloc, flow),
+        }
+    }
+
+    /// The node's log of a packet for it: the flow and the number are any.
+    fn heard(self, alloc: Global) -> Option<String> {
+        let flow = self.flow(alloc)?;
+        self.heard_of(alloc, flow.as_str())
     }
 
     /// The node's log where the frame reads.
@@ -209,7 +222,7 @@ fn refuses_at(alloc: Global, place: usize) -> bool {
 #[test]
 fn octets_that_do_not_read_change_nothing(rt: HostRuntime) {
     for place in 0..FRAME.len() {
-        assert!(rt; refuses_at(rt.alloc(), place), "octet {place}");
+        holds(&rt, refuses_at(rt.alloc(), place), place);
     }
 }
 
@@ -224,27 +237,31 @@ fn octets_that_read_are_heard(rt: HostRuntime) {
                 place,
                 value: *value,
             };
-            assert!(rt; change.is_heard(rt.alloc()), "{place} as {value}");
+            holds(&rt, change.is_heard(rt.alloc()), place);
         }
     }
 }
 
-/// Whether the node reports the first octets of the frame as too short.
-fn is_short(alloc: Global, octets: &[u8]) -> Option<bool> {
-    let count = octets.len();
-    let text = if count < 16 {
-        format!(in alloc; "10 2 bad short {count}\nend 100\n")
+/// The node's log of so many first octets of the frame.
+fn short_log(alloc: Global, count: usize) -> Option<String> {
+    if count < 16 {
+        format!(in alloc; "10 2 bad short {count}\nend 100\n").ok()
     } else {
-        format!(in alloc; "10 2 bad length 19 {}\nend 100\n", count - 16)
-    };
-    let log = text.ok()?;
-    Some(hears(alloc, octets, log.as_str()))
+        format!(in alloc; "10 2 bad length 19 {}\nend 100\n", count - 16).ok()
+    }
+}
+
+/// Whether the node reports the first octets of the frame as too short.
+fn is_short(alloc: Global, octets: &[u8]) -> bool {
+    match short_log(alloc, octets.len()) {
+        Some(log) => hears(alloc, octets, log.as_str()),
+        None => false,
+    }
 }
 
 #[test]
 fn each_length(rt: HostRuntime) {
     for count in 0..FRAME.len() {
-        let is = is_short(rt.alloc(), &FRAME[..count]);
-        assert!(rt; is == Some(true), "{count} octets");
+        holds(&rt, is_short(rt.alloc(), &FRAME[..count]), count);
     }
 }

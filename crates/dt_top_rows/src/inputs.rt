@@ -1,5 +1,5 @@
 //! Inputs that are cut short, and inputs that are too long.
-use crate::trial_rows::ends_so;
+use crate::trial_rows::{ends_so, holds};
 use dt_trial::{FREELY, Trial, tried};
 use std::alloc::Global;
 
@@ -14,14 +14,24 @@ route 2 1 2
 go
 ";
 
+/// Whether a command that sends so many octets finds memory behind a text.
+fn is_sent(text: &mut String, count: usize) -> bool {
+    for _ in 0..count {
+        if text.push_str("61").is_err() {
+            return false;
+        }
+    }
+    true
+}
+
 /// A schedule that sends so many octets.
 fn sends(alloc: Global, count: usize) -> Option<String> {
     let mut text = String::from_str(alloc, SETUP).ok()?;
-    text.push_str("send 1:10>2:20 be ").ok()?;
-    for _ in 0..count {
-        text.push_str("61").ok()?;
+    if text.push_str("send 1:10>2:20 be ").is_ok() && is_sent(&mut text, count) {
+        Some(text)
+    } else {
+        None
     }
-    Some(text)
 }
 
 /// Whether a schedule that sends so many octets ends so.
@@ -120,11 +130,18 @@ fn refuses(log: &[u8], line: &[u8]) -> bool {
     }
 }
 
+/// Whether a log is that of an input which is refused at the line of a number, as this is said.
+fn is_refused_at(alloc: Global, log: &[u8], line: usize, said: &str) -> bool {
+    match format!(in alloc; "line {line}: {said}") {
+        Ok(begin) => refuses(log, begin.as_bytes()),
+        Err(_) => false,
+    }
+}
+
 /// Whether a log is that of an input with so many line feeds, which is refused at its last line or after it.
-fn is_refused(alloc: Global, log: &[u8], feeds: usize) -> Option<bool> {
-    let at_last = format!(in alloc; "line {}: ", feeds.wrapping_add(1)).ok()?;
-    let behind = format!(in alloc; "line {}: order", feeds.wrapping_add(2)).ok()?;
-    Some(refuses(log, at_last.as_bytes()) || refuses(log, behind.as_bytes()))
+fn is_refused(alloc: Global, log: &[u8], feeds: usize) -> bool {
+    is_refused_at(alloc, log, feeds.wrapping_add(1), "")
+        || is_refused_at(alloc, log, feeds.wrapping_add(2), "order")
 }
 
 /// A cut input is accepted, or refused at its last line or after it.
@@ -132,10 +149,11 @@ fn is_cut(alloc: Global, input: &[u8]) -> bool {
     let trial = Trial { input, ..FREELY };
     let feeds = input.iter().filter(|octet| **octet == b'\n').count();
     match tried(alloc, &trial) {
-        Ok(left) if left.status == 3 => {
-            is_refused(alloc, left.out.as_slice(), feeds) == Some(true)
-        }
-        Ok(left) => left.status == 0,
+        Ok(left) => match left.status {
+            0 => true,
+            3 => is_refused(alloc, left.out.as_slice(), feeds),
+            _ => false,
+        },
         Err(_) => false,
     }
 }
@@ -144,6 +162,6 @@ fn is_cut(alloc: Global, input: &[u8]) -> bool {
 fn an_input_is_cut_short(rt: HostRuntime) {
     let octets = WHOLE.as_bytes();
     for count in 0..octets.len() {
-        assert!(rt; is_cut(rt.alloc(), &octets[..count]), "{count} octets");
+        holds(&rt, is_cut(rt.alloc(), &octets[..count]), count);
     }
 }

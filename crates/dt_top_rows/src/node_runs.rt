@@ -1,6 +1,7 @@
 //! Runs are played as their rows say.
 use crate::node_inputs::{datagram, script};
 use crate::node_rows::{ACKNOWLEDGED, FAILURES, LOGS, SHELVES, TRACES};
+use crate::trial_rows::holds;
 use dt_edges::{MemClock, MemSink, MemWire};
 use dt_node::{NodeOutcome, serve, serve_traced};
 use std::alloc::Global;
@@ -31,21 +32,33 @@ fn row_of(text: &str) -> Row<'_> {
     }
 }
 
-/// The numbers of the calls of a kind that fail: `take 2` is the second take.
-fn failing(alloc: Global, kind: &str, fails: &str) -> Option<Vec<u64>> {
-    let mut numbers = Vec::new(alloc);
+/// The number of the call of a kind that fails: `take 2` is the second take.
+fn failing(kind: &str, fails: &str) -> Option<[u64; 1]> {
     match fails.split_once(' ') {
-        Some((of, number)) if of == kind => numbers.push(number.parse::<u64>().ok()?).ok()?,
-        _ => {}
+        Some((of, number)) if of == kind => Some([number.parse::<u64>().ok()?]),
+        _ => None,
     }
-    Some(numbers)
+}
+
+fn numbers_of(failing: &Option<[u64; 1]>) -> &[u64] {
+    match failing {
+        Some(number) => number,
+        None => &[],
+    }
 }
 
 /// A wire on which nothing comes.
 fn calm_wire(alloc: Global, fails: &str) -> Option<MemWire> {
-    let takes = failing(alloc, "take", fails)?;
-    let gives = failing(alloc, "give", fails)?;
-    MemWire::new(alloc, fails == "open", &takes, &gives, Some(1000)).ok()
+    let take = failing("take", fails);
+    let give = failing("give", fails);
+    MemWire::new(
+        alloc,
+        fails == "open",
+        numbers_of(&take),
+        numbers_of(&give),
+        Some(1000),
+    )
+    .ok()
 }
 
 /// Whether the datagrams of these names are to come on the wire.
@@ -62,16 +75,28 @@ fn are_added(wire: &mut MemWire, takes: &str) -> bool {
     true
 }
 
+/// Whether each of these readings is read, and finds memory.
+fn are_read(moments: &mut Vec<u64>, readings: &str) -> bool {
+    for reading in readings.split(' ') {
+        let is_read = match reading.parse::<u64>() {
+            Ok(moment) => moments.push(moment).is_ok(),
+            Err(_) => false,
+        };
+        if !is_read {
+            return false;
+        }
+    }
+    true
+}
+
 /// A clock with these readings.
 fn clock_of(alloc: Global, readings: &str) -> Option<MemClock> {
     let mut moments = Vec::new(alloc);
-    for reading in readings.split(' ') {
-        moments.push(reading.parse::<u64>().ok()?).ok()?;
+    if are_read(&mut moments, readings) && !moments.is_empty() {
+        MemClock::new(alloc, &moments).ok()
+    } else {
+        None
     }
-    if moments.is_empty() {
-        return None;
-    }
-    MemClock::new(alloc, &moments).ok()
 }
 
 /// Runs a script for its log, or for its trace.
@@ -209,7 +234,7 @@ fn a_full_sink_ends_the_run(rt: HostRuntime) {
             text: row.text.get(..room).unwrap_or(""),
             ..row
         };
-        assert!(rt; ends(rt.alloc(), false, &cut, room), "{room}");
+        holds(&rt, ends(rt.alloc(), false, &cut, room), room);
     }
 }
 

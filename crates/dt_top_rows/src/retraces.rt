@@ -1,8 +1,8 @@
 //! Runs that are run again.
+use crate::trial_rows::holds;
 use dt_edges::MemSink;
 use dt_node::{NodeOutcome, retrace};
 use std::alloc::Global;
-use std::test::Fail;
 
 /// A node that sends five octets and is acknowledged, and the trace of that.
 const EXCHANGE: &[u8] = b"params 1000 3000 200 500 800 100 4096 4096 512 2147483648
@@ -34,15 +34,23 @@ end 100
 /// How long the script of it is.
 const SCRIPT: usize = 176;
 
+/// Whether a run into a sink ends so, with this log. The input has 1,000 octets at most.
+fn ends_in(
+    alloc: Global,
+    out: &mut MemSink,
+    input: &[u8],
+    outcome: NodeOutcome,
+    log: &[u8],
+) -> bool {
+    input.len() <= 1000 && retrace(alloc, input, out) == outcome && out.as_slice() == log
+}
+
 /// Whether it ends so, with this log.
 fn ends(alloc: Global, input: &[u8], outcome: NodeOutcome, log: &[u8]) -> bool {
-    let Ok(mut out) = MemSink::new(alloc, 1000, &[]) else {
-        return false;
-    };
-    if input.len() > 1000 {
-        return false;
+    match MemSink::new(alloc, 1000, &[]) {
+        Ok(mut out) => ends_in(alloc, &mut out, input, outcome, log),
+        Err(_) => false,
     }
-    retrace(alloc, input, &mut out) == outcome && out.as_slice() == log
 }
 
 #[test]
@@ -50,91 +58,78 @@ fn a_run_is_run_again(rt: HostRuntime) {
     assert!(rt; ends(rt.alloc(), EXCHANGE, NodeOutcome::Done, LOG));
 }
 
+/// Inputs that are refused, and what is written.
+static REFUSALS: [(&[u8], &[u8]); 6] = [
+    (b"", b"line 1: order\n"),
+    (b"params 1\n", b"line 2: order\n"),
+    (b"params 1\ntrace\n? 1\n", b"line 3: word\n"),
+    (b"params 1\ntrace\n@ 1\n", b"line 1: count\n"),
+    (b"trace\n@ 1\ntrace\n", b"line 3: word\n"),
+    (b"\ntrace\n@ 1\n", b"line 2: order\n"),
+];
+
 #[test]
 fn refusals_have_their_order(rt: HostRuntime) {
-    let alloc = rt.alloc();
-    assert!(rt; ends(alloc, b"", NodeOutcome::Refused, b"line 1: order\n"));
-    assert!(rt;
-        ends(
-            alloc,
-            b"params 1\n",
-            NodeOutcome::Refused,
-            b"line 2: order\n"
-        )
-    );
-    assert!(rt;
-        ends(
-            alloc,
-            b"params 1\ntrace\n? 1\n",
-            NodeOutcome::Refused,
-            b"line 3: word\n"
-        )
-    );
-    assert!(rt;
-        ends(
-            alloc,
-            b"params 1\ntrace\n@ 1\n",
-            NodeOutcome::Refused,
-            b"line 1: count\n"
-        )
-    );
-    assert!(rt;
-        ends(
-            alloc,
-            b"trace\n@ 1\ntrace\n",
-            NodeOutcome::Refused,
-            b"line 3: word\n"
-        )
-    );
-    assert!(rt;
-        ends(
-            alloc,
-            b"\ntrace\n@ 1\n",
-            NodeOutcome::Refused,
-            b"line 2: order\n"
-        )
-    );
+    for (place, (input, log)) in REFUSALS.iter().enumerate() {
+        holds(
+            &rt,
+            ends(rt.alloc(), input, NodeOutcome::Refused, log),
+            place,
+        );
+    }
 }
 
-/// Whether what an input that is cut off leads to is what the rules say. Up to its line `trace` it is
-/// refused. After a whole line the run goes as far as its inputs do. Else the last line may be refused,
-/// or be read as another.
-fn is_cut(alloc: Global, count: usize) -> bool {
-    let Ok(mut out) = MemSink::new(alloc, 1000, &[]) else {
-        return false;
-    };
-    if count > EXCHANGE.len() {
-        return false;
-    }
-    let input = &EXCHANGE[..count];
-    let runs = match retrace(alloc, input, &mut out) {
-        NodeOutcome::Done | NodeOutcome::ClockStill => true,
-        NodeOutcome::Refused => false,
-        _ => return false,
-    };
-    if count < SCRIPT + 5 {
+/// Whether the log of an input that is cut off is what the rules say, of a run that goes on or is refused. Up to
+/// the line `trace` it is refused. After a whole line the run goes as far as its inputs do. Else the last line
+/// may be refused, or be read as another.
+fn is_log_of(input: &[u8], runs: bool, log: &[u8]) -> bool {
+    if input.len() < SCRIPT + 5 {
         !runs
     } else if input.ends_with(b"\n") {
-        runs && LOG.starts_with(out.as_slice())
+        runs && LOG.starts_with(log)
     } else {
-        runs || out.as_slice().starts_with(b"line ")
+        runs || log.starts_with(b"line ")
     }
 }
 
-#[test]
-fn a_trace_may_be_cut_off(rt: HostRuntime) -> Result<(), Fail> {
-    let cuts = [
-        0,
-        100,
-        SCRIPT,
-        SCRIPT + 4,
-        SCRIPT + 7,
-        SCRIPT + 13,
-        SCRIPT + 18,
-        EXCHANGE.len() - 1,
-    ];
-    for count in cuts {
-        assert!(rt; is_cut(rt.alloc(), count), "{count}");
+/// Whether what a cut input of 1,000 octets at most leads to is what the rules say.
+fn is_cut_into(alloc: Global, out: &mut MemSink, input: &[u8]) -> bool {
+    if input.len() > 1000 {
+        return false;
     }
-    Ok(())
+    match retrace(alloc, input, out) {
+        NodeOutcome::Done | NodeOutcome::ClockStill => is_log_of(input, true, out.as_slice()),
+        NodeOutcome::Refused => is_log_of(input, false, out.as_slice()),
+        _ => false,
+    }
+}
+
+fn is_cut(alloc: Global, input: &[u8]) -> bool {
+    match MemSink::new(alloc, 1000, &[]) {
+        Ok(mut out) => is_cut_into(alloc, &mut out, input),
+        Err(_) => false,
+    }
+}
+
+/// How many octets are left where the trace is cut off.
+static CUTS: [usize; 8] = [
+    0,
+    100,
+    SCRIPT,
+    SCRIPT + 4,
+    SCRIPT + 7,
+    SCRIPT + 13,
+    SCRIPT + 18,
+    EXCHANGE.len() - 1,
+];
+
+#[test]
+fn a_trace_may_be_cut_off(rt: HostRuntime) {
+    for count in &CUTS {
+        let is = match EXCHANGE.get(..*count) {
+            Some(input) => is_cut(rt.alloc(), input),
+            None => false,
+        };
+        holds(&rt, is, *count);
+    }
 }

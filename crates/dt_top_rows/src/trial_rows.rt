@@ -2,6 +2,7 @@
 use dt_edges::MemWire;
 use dt_trial::{Trial, ends, is_cut_short, tried_over};
 use std::alloc::Global;
+use std::process::Abort;
 
 /// A trial, and how it ends: its status, its output and what is said on standard error.
 pub(crate) struct TrialRow {
@@ -9,6 +10,11 @@ pub(crate) struct TrialRow {
     pub status: u8,
     pub out: &'static [u8],
     pub said: &'static [u8],
+}
+
+/// What the row at a place says holds.
+pub(crate) fn holds(rt: &impl Abort, is: bool, place: usize) {
+    assert!(rt; is, "row {place}");
 }
 
 /// Whether the trial is run, and ends so.
