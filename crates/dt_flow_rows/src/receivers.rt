@@ -361,15 +361,19 @@ static RUNS: [(Params, &[(u64, Event)]); 4] = [
     (STANDARD, WRAPPED),
 ];
 
+// All runs.
+fn all_play<L: Ledger>(rt: &impl Abort, alloc: Global, steps: &mut Steps<L>) {
+    for (params, events) in &RUNS {
+        plays(rt, alloc, params, events, steps);
+    }
+}
+
 fn rows_on<L: Ledger>(rt: &impl Abort, alloc: Global, ledger: Blank)
     requires name { ledger.name ≡ L.name }
     requires parts { ledger.parts ≡ L.parts }
     requires some { 0 < ledger.parts }
 {
-    let mut steps = Steps::<L>::new(ledger);
-    for (params, events) in &RUNS {
-        plays(rt, alloc, params, events, &mut steps);
-    }
+    all_play(rt, alloc, &mut Steps::<L>::new(ledger));
 }
 
 #[test]

@@ -69,15 +69,19 @@ fn plays<L: Ledger>(
     goes(rt, &mut sender, rows, steps);
 }
 
+/// All runs.
+fn all_play<L: Ledger>(rt: &impl Abort, alloc: Global, steps: &mut Steps<L>) {
+    for (params, rows) in &RUNS {
+        plays(rt, alloc, params, rows, steps);
+    }
+}
+
 fn rows_on<L: Ledger>(rt: &impl Abort, alloc: Global, ledger: Blank)
     requires name { ledger.name ≡ L.name }
     requires parts { ledger.parts ≡ L.parts }
     requires some { 0 < ledger.parts }
 {
-    let mut steps = Steps::<L>::new(ledger);
-    for (params, rows) in &RUNS {
-        plays(rt, alloc, params, rows, &mut steps);
-    }
+    all_play(rt, alloc, &mut Steps::<L>::new(ledger));
 }
 
 #[test]
