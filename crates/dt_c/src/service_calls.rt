@@ -1,9 +1,6 @@
 //! The calls, on what a handle of a service holds.
-ghost use Rattle.std.specs.Prelude.{◌≡◌, ◌≤◌, IfOk, length};
-ghost use Rattle.std.specs.Option.{ForSome};
-ghost use Rattle.dt_service_model.specs.Carrying.{carried_by};
-ghost use Rattle.dt_service_model.specs.Ends.{next};
-ghost use Rattle.dt_c.specs.Serving.{CallCounting, Calling, Forgetting, GetsKind, HandsFrame, NextEvent, Porting, Raises, Raising, Replying, ServiceAddingRoute, ServiceArriving, ServiceCounting, ServiceGuarding, ServiceKeptOut, ServiceNextFrame, ServiceOpening, ServiceOpens, ServiceTicking, ServiceWaking, Stopping, TakesEvent, empty_service, service_started};
+ghost use Rattle.std.specs.Prelude.{◌≡◌, IfOk};
+ghost use Rattle.dt_c.specs.Serving.{CallCounting, Calling, Forgetting, GetsKind, HandsFrame, NextEvent, Porting, Raises, Raising, Replying, ServiceAddingRoute, ServiceArriving, ServiceCounting, ServiceGuarding, ServiceKeptOut, ServiceNextFrame, ServiceOpening, ServiceOpens, ServiceTicking, ServiceWaking, Stopping, empty_service, service_started};
 ghost use Rattle.dt_c.specs.ServiceRows.{kind_of};
 
 use crate::calls::{Surroundings, set_guard};
@@ -13,16 +10,15 @@ use crate::rows::{
     counts_row, frame_row, kept_out_row, moment_row, no_counts_row, no_frame, opened_row,
     routed_status, ticked_status,
 };
+use crate::service_events::take_event;
 use crate::service_rows::{
     CallCountsRow, EventRow, MadeRow, RepliedRow, ServiceStartRow, TokenRow, call_counts_row,
-    event_row, event_without_room, forgot_status, kind_of, made_as, made_row, no_call_counts,
-    no_event, replied_as, replied_row,
+    forgot_status, kind_of, made_as, made_row, no_call_counts, no_event, replied_as, replied_row,
 };
 use crate::service_slots::ServiceSlot;
 use dt_endpoint::{Admission, Guard, Links};
 use dt_items::NoMemory;
 use dt_service::Service;
-use dt_service_halves::carried;
 use dt_service_model::PortKind;
 use dt_units::Rules;
 use std::alloc::Global;
@@ -257,29 +253,6 @@ fn give_kind(service: &mut Service, port: u16, kind: Option<PortKind>) -> u8
         Ok(true) => DONE,
         Ok(false) => HELD,
         Err(NoMemory) => NO_MEMORY,
-    }
-}
-
-/// The next of what happened goes out. The buffer has room for what it carries.
-fn hand_event(service: &mut Service, buf: &mut [u8]) -> EventRow
-    requires { ForSome (next service.old.halves).0 (λ happening. length (carried_by happening) ≤ length buf.old) }
-    ensures { TakesEvent result buf.old buf.new service.old service.new }
-{
-    let Some(happening) = service.next() else {
-        return no_event(NOTHING);
-    };
-    let octets = carried(&happening);
-    buf[..octets.len()].copy_from_slice(octets);
-    event_row(&happening)
-}
-
-/// The next of what happened goes out, where the buffer has room for what it carries.
-fn take_event(service: &mut Service, buf: &mut [u8]) -> EventRow
-    ensures { TakesEvent result buf.old buf.new service.old service.new }
-{
-    match service.next_size() {
-        Some(len) if len > buf.len() => event_without_room(len),
-        _ => hand_event(service, buf),
     }
 }
 

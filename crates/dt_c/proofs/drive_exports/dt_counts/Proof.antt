@@ -1,0 +1,15 @@
+-- `dt_counts` lends what lies at the handle to `Slot::counts`.
+use Rattle.std.proofs.Common.{refl}
+use Rattle.dt_c.proofs.Exports.{exported}
+use Rattle.dt_c.proofs.Parameters.{none}
+use Rattle.dt_c.specs.Calls.{Counting}
+use Rattle.dt_c.specs.contracts.rows.CountsRow.{the_row as Q}
+use Rattle.dt_c.proofs.rows.CountsRow.TheLaws.{the_row_laws}
+use Rattle.dt_c.specs.contracts.slots.Slot.{the_row as R}
+use Rattle.dt_c.proofs.drive_exports.dt_counts.Statement.{statement}
+use Rattle.dt_c.proofs.drive_exports.dt_counts.Code as code
+use Rattle.dt_c.proofs.slots.Slot.counts.Met.{met}
+
+pub dt_counts_spec : {M : Type 1} → statement M
+dt_counts_spec 𝓤 𝓛 𝓜 𝓡 wired = exported 𝓛 𝓜 𝓡 R (record { row = Q; lawful = the_row_laws.lawful 𝓛; one = refl }) 0 (λ κs. none)
+    (λ κs a x row h ws. Counting row x h) (λ κs. tt) (λ κs. code.unfolded 𝓤 𝓛.H 𝓜 𝓡 wired) (met 𝓤 𝓛 𝓜 𝓡 (code.calls-dt_c::slots::Slot::counts 𝓡.env wired))

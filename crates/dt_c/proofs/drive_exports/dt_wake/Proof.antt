@@ -1,0 +1,15 @@
+-- `dt_wake` lends what lies at the handle to `Slot::wake`.
+use Rattle.std.proofs.Common.{refl}
+use Rattle.dt_c.proofs.Exports.{exported}
+use Rattle.dt_c.proofs.Parameters.{none}
+use Rattle.dt_c.specs.Calls.{Waking}
+use Rattle.dt_c.specs.contracts.rows.MomentRow.{the_row as Q}
+use Rattle.dt_c.proofs.rows.MomentRow.TheLaws.{the_row_laws}
+use Rattle.dt_c.specs.contracts.slots.Slot.{the_row as R}
+use Rattle.dt_c.proofs.drive_exports.dt_wake.Statement.{statement}
+use Rattle.dt_c.proofs.drive_exports.dt_wake.Code as code
+use Rattle.dt_c.proofs.slots.Slot.wake.Met.{met}
+
+pub dt_wake_spec : {M : Type 1} → statement M
+dt_wake_spec 𝓤 𝓛 𝓜 𝓡 wired = exported 𝓛 𝓜 𝓡 R (record { row = Q; lawful = the_row_laws.lawful 𝓛; one = refl }) 0 (λ κs. none)
+    (λ κs a x row h ws. Waking row x h) (λ κs. tt) (λ κs. code.unfolded 𝓤 𝓛.H 𝓜 𝓡 wired) (met 𝓤 𝓛 𝓜 𝓡 (code.calls-dt_c::slots::Slot::wake 𝓡.env wired))

@@ -1,0 +1,15 @@
+-- `dt_call_counts` lends what lies at the handle to `ServiceSlot::call_counts`.
+use Rattle.std.proofs.Common.{refl}
+use Rattle.dt_c.proofs.Exports.{exported}
+use Rattle.dt_c.proofs.Parameters.{none}
+use Rattle.dt_c.specs.Serving.{CallCounting}
+use Rattle.dt_c.specs.contracts.service_rows.CallCountsRow.{the_row as Q}
+use Rattle.dt_c.proofs.service_rows.CallCountsRow.TheLaws.{the_row_laws}
+use Rattle.dt_c.specs.contracts.service_slots.ServiceSlot.{the_row as R}
+use Rattle.dt_c.proofs.service_exports.dt_call_counts.Statement.{statement}
+use Rattle.dt_c.proofs.service_exports.dt_call_counts.Code as code
+use Rattle.dt_c.proofs.service_slots.ServiceSlot.call_counts.Met.{met}
+
+pub dt_call_counts_spec : {M : Type 1} → statement M
+dt_call_counts_spec 𝓤 𝓛 𝓜 𝓡 wired = exported 𝓛 𝓜 𝓡 R (record { row = Q; lawful = the_row_laws.lawful 𝓛; one = refl }) 0 (λ κs. none)
+    (λ κs a x row h ws. CallCounting row x h) (λ κs. tt) (λ κs. code.unfolded 𝓤 𝓛.H 𝓜 𝓡 wired) (met 𝓤 𝓛 𝓜 𝓡 (code.calls-dt_c::service_slots::ServiceSlot::call_counts 𝓡.env wired))

@@ -1,0 +1,34 @@
+//! What happened at a service, handed out into the caller's buffer.
+ghost use Rattle.std.specs.Prelude.{◌≤◌, length};
+ghost use Rattle.std.specs.Option.{ForSome};
+ghost use Rattle.dt_service_model.specs.Carrying.{carried_by};
+ghost use Rattle.dt_service_model.specs.Ends.{next};
+ghost use Rattle.dt_c.specs.Serving.{TakesEvent};
+
+use crate::rows::NOTHING;
+use crate::service_rows::{EventRow, event_row, event_without_room, no_event};
+use dt_service::Service;
+use dt_service_halves::carried;
+
+/// The next of what happened goes out. The buffer has room for what it carries.
+fn hand_event(service: &mut Service, buf: &mut [u8]) -> EventRow
+    requires { ForSome (next service.old.halves).0 (λ happening. length (carried_by happening) ≤ length buf.old) }
+    ensures { TakesEvent result buf.old buf.new service.old service.new }
+{
+    let Some(happening) = service.next() else {
+        return no_event(NOTHING);
+    };
+    let octets = carried(&happening);
+    buf[..octets.len()].copy_from_slice(octets);
+    event_row(&happening)
+}
+
+/// The next of what happened goes out, where the buffer has room for what it carries.
+pub fn take_event(service: &mut Service, buf: &mut [u8]) -> EventRow
+    ensures { TakesEvent result buf.old buf.new service.old service.new }
+{
+    match service.next_size() {
+        Some(len) if len > buf.len() => event_without_room(len),
+        _ => hand_event(service, buf),
+    }
+}
