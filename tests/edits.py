@@ -52,7 +52,7 @@ def split(crate: pathlib.Path) -> list[str]:
 def takes_names() -> bool:
     """Whether the gate of this kit takes crates' names: then it takes what is proved on this machine already."""
     said = subprocess.run(["rt", "help"], stdin=subprocess.DEVNULL, capture_output=True, text=True, check=False)
-    return "rt ci [" in said.stdout + said.stderr
+    return re.search(r"rt ci (\[|NAME)", said.stdout + said.stderr) is not None
 
 
 def tried(top: pathlib.Path, crates: list[str]) -> dict[tuple[str, str], str]:
