@@ -12,10 +12,12 @@ use dt_edges::Sink;
 use dt_fold::{Stop, fold_behind_buffer};
 use dt_scenario::Scenario;
 use std::alloc::Global;
+use std::mem::forget;
 
 /// Reads an input of at most 16,777,216 octets: its lines set up a world, calls are made in it and
 /// answered with their payloads in reversed order, and what is reported of them is written on `out`,
-/// after a buffer. The input isn't copied.
+/// after a buffer. The input isn't copied. The memory of the calls isn't given back: it goes with the
+/// program, which ends after this.
 ///
 /// - `Done`: no line is refused, and `out` has all that is reported, the totals and the end.
 /// - `Refused`: a line is refused. `out` has what is reported up to it, and then its fault.
@@ -33,7 +35,10 @@ pub fn calls<K: Sink>(alloc: Global, bytes: &[u8], out: &mut K) -> CallsOutcome
     ensures answers { TellsOwnAnswers bytes.now }
 {
     let mut input: Scenario<InputCalls> = Scenario::new(alloc);
-    outcome_of(fold_behind_buffer(alloc, &mut input, bytes, out))
+    let folded = fold_behind_buffer(alloc, &mut input, bytes, out);
+    // given back one by one, the records of many flows would take a twentieth of a run
+    forget(input);
+    outcome_of(folded)
 }
 
 /// How calls end whose lines were read so.

@@ -10,9 +10,11 @@ use dt_edges::Sink;
 use dt_fold::{Stop, fold_behind_buffer};
 use dt_scenario::Scenario;
 use std::alloc::Global;
+use std::mem::forget;
 
 /// Replays a schedule of at most 16,777,216 octets: its lines set up a world and make things happen in
-/// it, and its log is written on `out`, after a buffer. The input isn't copied.
+/// it, and its log is written on `out`, after a buffer. The input isn't copied. The memory of the world
+/// isn't given back: it goes with the program, which ends after this.
 ///
 /// - `Done`: no line is refused, and `out` has the whole log.
 /// - `Refused`: a line is refused. `out` has the log up to it, and then its fault.
@@ -29,7 +31,10 @@ pub fn replay<K: Sink>(alloc: Global, bytes: &[u8], out: &mut K) -> Outcome
     ensures whole { IfSome (world_of bytes.now) (λ w. SafeWorld w) }
 {
     let mut schedule: Scenario<ScheduledWorld> = Scenario::new(alloc);
-    outcome_of(fold_behind_buffer(alloc, &mut schedule, bytes, out))
+    let folded = fold_behind_buffer(alloc, &mut schedule, bytes, out);
+    // given back one by one, the records of many flows would take a twentieth of a run
+    forget(schedule);
+    outcome_of(folded)
 }
 
 /// How a replay ends whose lines were read so.

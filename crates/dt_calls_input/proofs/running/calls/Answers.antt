@@ -18,5 +18,5 @@ returns-clause-answers g c = own_answers c.args.bytes.now c.requires.few
 
 pub returns-clause-ends : goal.returns-clause-ends
 returns-clause-ends g c =
-    subst (λ (o : CallsOutcome). CallsEnd o c.args.bytes.now (g.K.Sink.sight c.args.out.now) (g.K.Sink.sight c.fold_behind_buffer.new.out)) (sym c.outcome_of.ensures)
-    (calls_end c.args.bytes.now (scene_in (λ (s : InputCalls). s.calls.calls) c.new-input.result) c.fold_behind_buffer.result (g.K.Sink.sight c.args.out.now) (g.K.Sink.sight c.fold_behind_buffer.new.out) c.new-input.ensures c.fold_behind_buffer.ensures)
+    subst (λ (o : CallsOutcome). CallsEnd o c.args.bytes.now (g.K.Sink.sight c.args.out.now) (g.K.Sink.sight c.fold_behind_buffer-folded.new.out)) (sym c.outcome_of.ensures)
+    (calls_end c.args.bytes.now (scene_in (λ (s : InputCalls). s.calls.calls) c.new-input.result) c.fold_behind_buffer-folded.result (g.K.Sink.sight c.args.out.now) (g.K.Sink.sight c.fold_behind_buffer-folded.new.out) c.new-input.ensures c.fold_behind_buffer-folded.ensures)

@@ -15,5 +15,5 @@ returns-clause-whole g c = all_safe c.args.bytes.now
 
 pub returns-clause-ends : goal.returns-clause-ends
 returns-clause-ends g c =
-    subst (λ (o : Outcome). Replays o c.args.bytes.now (g.K.Sink.sight c.args.out.now) (g.K.Sink.sight c.fold_behind_buffer.new.out)) (sym c.outcome_of.ensures)
-    (replay_ends c.args.bytes.now (scene_in (λ (s : ScheduledWorld). s.world.state) c.new-schedule.result) c.fold_behind_buffer.result (g.K.Sink.sight c.args.out.now) (g.K.Sink.sight c.fold_behind_buffer.new.out) c.new-schedule.ensures c.fold_behind_buffer.ensures)
+    subst (λ (o : Outcome). Replays o c.args.bytes.now (g.K.Sink.sight c.args.out.now) (g.K.Sink.sight c.fold_behind_buffer-folded.new.out)) (sym c.outcome_of.ensures)
+    (replay_ends c.args.bytes.now (scene_in (λ (s : ScheduledWorld). s.world.state) c.new-schedule.result) c.fold_behind_buffer-folded.result (g.K.Sink.sight c.args.out.now) (g.K.Sink.sight c.fold_behind_buffer-folded.new.out) c.new-schedule.ensures c.fold_behind_buffer-folded.ensures)
