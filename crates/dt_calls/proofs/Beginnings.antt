@@ -6,13 +6,14 @@ use Rattle.dt_calls_laws.proofs.Starting.{new_calls_facts}
 use Rattle.dt_calls_model.specs.declared.calls.Call.{Call}
 use Rattle.dt_calls_model.specs.CallFacts.{CallFacts}
 use Rattle.dt_calls_model.specs.Calls.{Calls, new_calls}
-use Rattle.dt_calls.specs.declared.flow_sides.FlowSides.{FlowSides}
+use Rattle.dt_call_parts.specs.declared.flow_sides.FlowSides.{FlowSides}
 use Rattle.dt_calls.specs.declared.call_courses.CallsParts.{CallsParts}
 use Rattle.dt_calls.specs.CallCourses.{IsOnCourse}
 use Rattle.dt_calls.specs.CallOutcomes.{IsNew}
-use Rattle.dt_calls.specs.Flows.{flows_seen}
-use Rattle.dt_calls.specs.Parts.{AreShort, calls_seen}
-use Rattle.dt_calls.specs.Waiting.{Covers}
+use Rattle.dt_call_parts.specs.Flows.{flows_seen}
+use Rattle.dt_call_parts.specs.Kept.{AreShort}
+use Rattle.dt_calls.specs.Parts.{calls_seen}
+use Rattle.dt_call_parts.specs.Waiting.{Covers}
 use Rattle.dt_calls.proofs.Kept.{world_kept}
 
 pub new_facts : (answer : List ℕ → List ℕ) (w : World) → IsNew w → CallFacts answer (new_calls w)

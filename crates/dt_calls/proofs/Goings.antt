@@ -10,17 +10,18 @@ use Rattle.dt_calls_laws.specs.Grown.{IsNoSendOrRead}
 use Rattle.dt_calls_model.specs.Calls.{Begun}
 use Rattle.dt_calls_model.specs.CallStep.{flows_after}
 use Rattle.dt_calls_model.specs.Reads.{happens}
-use Rattle.dt_calls.specs.declared.dues.Due.{Due}
-use Rattle.dt_calls.specs.declared.dues.Due.TheVariants as due
+use Rattle.dt_call_parts.specs.declared.dues.Due.{Due}
+use Rattle.dt_call_parts.specs.declared.dues.Due.TheVariants as due
 use Rattle.dt_calls.specs.declared.call_courses.CallsParts.{CallsParts}
-use Rattle.dt_calls.specs.Dues.{IsDue, due_after_event}
-use Rattle.dt_calls.specs.Flows.{flows_seen}
+use Rattle.dt_call_parts.specs.Dues.{IsDue, due_after_event}
+use Rattle.dt_call_parts.specs.Flows.{flows_seen}
 use Rattle.dt_calls.specs.Happening.{HasHappened}
-use Rattle.dt_calls.specs.Hearing.{HeardValue, Hears, for_event}
-use Rattle.dt_calls.specs.Parts.{IsKeptWorld, IsWhole}
-use Rattle.dt_calls.proofs.DuesLeft.{due_left}
+use Rattle.dt_call_parts.specs.Hearing.{HeardValue, Hears, for_event}
+use Rattle.dt_call_parts.specs.Kept.{IsKeptWorld}
+use Rattle.dt_calls.specs.Parts.{IsWhole}
+use Rattle.dt_call_parts.proofs.DuesLeft.{due_left}
 use Rattle.dt_calls.proofs.Hearings.{done_happened}
-use Rattle.dt_calls.proofs.Worlds.{happens_keeps}
+use Rattle.dt_call_parts.proofs.Worlds.{happens_keeps}
 
 -- an event that is no send and no read can happen
 can_come : (e : WorldEvent) → IsNoSendOrRead e → CanHappen e

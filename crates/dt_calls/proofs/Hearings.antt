@@ -11,7 +11,7 @@ use Rattle.dt_world.specs.Worlds.{WorldValue}
 use Rattle.dt_calls_model.specs.Heard.{ALoss, APiece, ARefusal, ATaking, AnAcceptance, Heard, NoMessage, heard, is_refusal, or_later, piece_in, tells_refusal}
 use Rattle.dt_calls_model.specs.Messages.{Piece}
 use Rattle.dt_calls_model.specs.Reads.{happens}
-use Rattle.dt_calls.specs.Hearing.{HeardValue, Hears, first_piece, for_event, heard_all, heard_with}
+use Rattle.dt_call_parts.specs.Hearing.{HeardValue, Hears, first_piece, for_event, heard_all, heard_with}
 use Rattle.dt_calls.specs.Happening.{HasHappened, Happens, ended}
 
 -- Where nothing failed in the end, each line was heard.

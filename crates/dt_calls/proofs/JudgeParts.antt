@@ -12,9 +12,9 @@ use Rattle.dt_calls_model.specs.CallStep.{becomes_unsure}
 use Rattle.dt_calls_model.specs.CallTold as told
 use Rattle.dt_calls_model.specs.CallTold.{CallEntry}
 use Rattle.dt_calls.specs.declared.call_courses.CallsParts.{CallsParts}
-use Rattle.dt_calls.specs.Waiting.{Covers}
-use Rattle.dt_calls.proofs.JudgeWaiting.{JudgesTo, call_is_there, drop_at, looked_sure, looked_unsure}
-use Rattle.dt_calls.proofs.Waiting.{covers_set}
+use Rattle.dt_call_parts.specs.Waiting.{Covers}
+use Rattle.dt_call_parts.proofs.JudgeWaiting.{JudgesTo, call_is_there, drop_at, looked_sure, looked_unsure}
+use Rattle.dt_call_parts.proofs.Waiting.{covers_set}
 
 -- one item, read twice
 pub same_read : (xs : List Call) (i : ℕ) (x y : Call) → i < length xs → x ≡ get_or xs i x → y ≡ get_or xs i y → x ≡ y

@@ -19,7 +19,7 @@ use Rattle.dt_calls_model.specs.CallTold.{CallEntry}
 use Rattle.dt_calls_model.specs.Promises.{AreServedOnce}
 use Rattle.dt_calls.specs.CallCourses.{CourseValue, calls_value}
 use Rattle.dt_calls.specs.CallOutcomes.{Answers, CallsValue, IsDone, StepsTo, lacks_memory}
-use Rattle.dt_calls.specs.Parts.{IsKeptWorld}
+use Rattle.dt_call_parts.specs.Kept.{IsKeptWorld}
 
 -- the world of calls
 pub world_kept : (answer : List ℕ → List ℕ) (c : Calls) → CourseFacts answer c → IsKeptWorld c.world

@@ -12,14 +12,14 @@ use Rattle.dt_calls_model.specs.CallStep.{make, make_with, state_of}
 use Rattle.dt_calls_model.specs.CallTold.{CallEntry}
 use Rattle.dt_calls_model.specs.Messages.{message_of}
 use Rattle.dt_calls_model.specs.Reads.{Course, in_world, post}
-use Rattle.dt_calls.specs.declared.dues.Due.TheVariants as due
-use Rattle.dt_calls.specs.Courses.{GoesOn, HasGoneOn, HasStopped, from_calls}
-use Rattle.dt_calls.specs.Dues.{IsDue}
+use Rattle.dt_call_parts.specs.declared.dues.Due.TheVariants as due
+use Rattle.dt_call_parts.specs.Courses.{GoesOn, HasGoneOn, HasStopped, from_calls}
+use Rattle.dt_call_parts.specs.Dues.{IsDue}
 use Rattle.dt_calls.specs.Going.{then_made}
-use Rattle.dt_calls.specs.Parts.{IsKeptWorld}
-use Rattle.dt_calls.specs.Telling.{TellsCalls}
-use Rattle.dt_calls.proofs.DuesLeft.{due_made}
-use Rattle.dt_calls.proofs.Worlds.{post_leaves}
+use Rattle.dt_call_parts.specs.Kept.{IsKeptWorld}
+use Rattle.dt_call_parts.specs.Telling.{TellsCalls}
+use Rattle.dt_call_parts.proofs.DuesLeft.{due_made}
+use Rattle.dt_call_parts.proofs.Worlds.{post_leaves}
 
 -- what holds at all events holds where a result is no error
 pub on_ok : {U E : Type 0} (P : Type 0) (r : Result U E) → P → OnOk r P

@@ -11,7 +11,7 @@ use Rattle.dt_calls_model.specs.Heard.{tells_refusal}
 use Rattle.dt_calls_model.specs.Reads.{happens, post}
 use Rattle.dt_calls.specs.declared.call_courses.CallsParts.{CallsParts}
 use Rattle.dt_calls.specs.Happening.{HasHappened}
-use Rattle.dt_calls.specs.Hearing.{HeardValue}
+use Rattle.dt_call_parts.specs.Hearing.{HeardValue}
 use Rattle.dt_calls.specs.Parts.{HasPosted}
 use Rattle.dt_calls.proofs.Hearings.{refusal_heard}
 

@@ -17,19 +17,20 @@ use Rattle.dt_calls_model.specs.Promises.{AreServedOnce}
 use Rattle.dt_calls_model.specs.Reads.{Course, happens, most_read, read_side, take_whole}
 use Rattle.dt_calls.specs.declared.call_courses.CallsParts.{CallsParts}
 use Rattle.dt_calls.specs.CallCourses.{CourseValue, IsOnCourse, course_seen}
-use Rattle.dt_calls.specs.Courses.{GoesOn, HasGoneOn, HasStopped, from_calls}
-use Rattle.dt_calls.specs.Flows.{flows_seen}
+use Rattle.dt_call_parts.specs.Courses.{GoesOn, HasGoneOn, HasStopped, from_calls}
+use Rattle.dt_call_parts.specs.Flows.{flows_seen}
 use Rattle.dt_calls.specs.Happening.{HasHappened}
-use Rattle.dt_calls.specs.Hearing.{HeardValue}
-use Rattle.dt_calls.specs.Waiting.{Covers}
-use Rattle.dt_calls.specs.Parts.{AreShort, HasJoined, IsKeptWorld, IsWhole, calls_seen, keys_in}
-use Rattle.dt_calls.proofs.CoursesOn.{piece_on, side_on, starts_on}
-use Rattle.dt_calls.proofs.FlowTables.{key_written, keys_written}
+use Rattle.dt_call_parts.specs.Hearing.{HeardValue}
+use Rattle.dt_call_parts.specs.Waiting.{Covers}
+use Rattle.dt_call_parts.specs.Kept.{AreShort, IsKeptWorld, keys_in}
+use Rattle.dt_calls.specs.Parts.{HasJoined, IsWhole, calls_seen}
+use Rattle.dt_call_parts.proofs.CoursesOn.{piece_on, side_on, starts_on}
+use Rattle.dt_call_parts.proofs.FlowTables.{key_written, keys_written}
 use Rattle.dt_calls.proofs.Hearings.{piece_heard}
-use Rattle.dt_calls.proofs.Requests.{request_short, whole_short}
-use Rattle.dt_calls.proofs.Waiting.{whole_covers}
-use Rattle.dt_calls.proofs.Worlds.{happens_keeps}
-use Rattle.dt_calls.proofs.Readings.{ReadsOn, begins, ends_here, falls, has_joined, has_read, left_unread, made_whole, piece_read, reads_on, still_kept, stops_at_message}
+use Rattle.dt_call_parts.proofs.Requests.{request_short, whole_short}
+use Rattle.dt_call_parts.proofs.Waiting.{whole_covers}
+use Rattle.dt_call_parts.proofs.Worlds.{happens_keeps}
+use Rattle.dt_call_parts.proofs.Readings.{ReadsOn, begins, ends_here, falls, has_joined, has_read, left_unread, made_whole, piece_read, reads_on, still_kept, stops_at_message}
 
 -- a result that is an error stopped
 pub stopped_with : {L U E : Type 0} (tells : L → CallEntry → L → Type 0) (does : Course → Course) (c : Calls) (l m : L) (after : Calls) (r : Result U E) (e : E) → r ≡ Err e → HasStopped tells does c l m → GoesOn tells does c l m r after

@@ -14,11 +14,11 @@ use Rattle.dt_calls_model.specs.CallStep as step
 use Rattle.dt_calls_model.specs.CallStep.{Faulty, Happens, Makes, Stepped, call_refusals, call_step, finish, flows_after, go_on, is_way_of_replies, make, make_unless}
 use Rattle.dt_calls_model.specs.Reads.{Course}
 use Rattle.dt_calls.specs.CallOutcomes.{FailsWith, IsDone, IsStopped, StepsTo, is_memory, lacks_memory}
-use Rattle.dt_calls.specs.Courses.{HasGoneOn, HasStopped, from_calls}
-use Rattle.dt_calls.specs.declared.dues.Due.{Due}
+use Rattle.dt_call_parts.specs.Courses.{HasGoneOn, HasStopped, from_calls}
+use Rattle.dt_call_parts.specs.declared.dues.Due.{Due}
 use Rattle.dt_calls.specs.CallCourses.{CourseValue}
 use Rattle.dt_calls.specs.Going.{GoesWrong, HasGone, IsRefusedBy}
-use Rattle.dt_calls.proofs.Courses.{adds_finish, gone_stop, gone_then, stop_then}
+use Rattle.dt_call_parts.proofs.Courses.{adds_finish, gone_stop, gone_then, stop_then}
 use Rattle.dt_calls.proofs.Makings.{Making}
 
 module _ {L : Type 0} (tells : L → CallEntry → L → Type 0) (answer : List ℕ → List ℕ) (c : Calls) (l m : L) where

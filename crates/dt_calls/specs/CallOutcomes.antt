@@ -7,14 +7,14 @@ use Rattle.dt_world_model.specs.Setup.{Setup, new_world}
 use Rattle.dt_world_model.specs.World.{World}
 use Rattle.dt_calls_laws.specs.Grown.{IsNoSendOrRead}
 use Rattle.dt_calls_model.specs.Promises.{AreItsAnswers, AreMadeWith, AreServedOnce, payloads_in}
-use Rattle.dt_world.specs.Worlds.{event_of}
+use Rattle.dt_notes.specs.Events.{event_of}
 use Rattle.dt_calls_model.specs.Calls.{Calls}
 use Rattle.dt_calls_model.specs.CallStep as step
 use Rattle.dt_calls_model.specs.CallStep.{Faulty, Happens, Makes, Outcome, Stepped, call_step}
 use Rattle.dt_calls_model.specs.CallTold.{CallEntry}
 use Rattle.dt_calls.specs.declared.call_events.CallEvent.{CallEvent}
 use Rattle.dt_calls.specs.declared.call_events.CallEvent.TheVariants as event
-use Rattle.dt_calls.specs.Telling.{TellsCalls}
+use Rattle.dt_call_parts.specs.Telling.{TellsCalls}
 
 -- calls with who answers them
 pub record CallsValue (H : Type 0) : Type 0 where

@@ -6,9 +6,9 @@ use Rattle.dt_reports.specs.declared.faults.StepFault.TheVariants as fault
 use Rattle.dt_world_model.specs.WorldStep.{Refused, Stepped, WorldEvent, first_refusal, refusals, world_step}
 use Rattle.dt_calls_model.specs.CallStep.{flows_after}
 use Rattle.dt_calls_model.specs.Reads.{Course}
-use Rattle.dt_calls.specs.declared.dues.Due.{Due}
+use Rattle.dt_call_parts.specs.declared.dues.Due.{Due}
 use Rattle.dt_calls.specs.CallCourses.{CourseValue}
-use Rattle.dt_calls.specs.Dues.{IsDue}
+use Rattle.dt_call_parts.specs.Dues.{IsDue}
 
 -- a call that is made goes after what was told before
 abbrev pub then_made : Course → Course → Course

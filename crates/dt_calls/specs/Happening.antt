@@ -6,7 +6,7 @@ use Rattle.dt_reports.specs.declared.faults.StepFault.TheVariants as fault
 use Rattle.dt_world_model.specs.WorldStep.{WorldEvent}
 use Rattle.dt_world.specs.Worlds.{WorldValue}
 use Rattle.dt_calls_model.specs.Reads.{happens}
-use Rattle.dt_calls.specs.Hearing.{HeardValue, for_event, heard_all}
+use Rattle.dt_call_parts.specs.Hearing.{HeardValue, for_event, heard_all}
 
 pub record HasHappened (e : WorldEvent) (w : WorldValue) (h : HeardValue) (after : WorldValue) (heard : HeardValue) : Type 0 where
   pub world : after.state ≡ (happens e w.state).1

@@ -1,14 +1,5 @@
-pub mod Telling
-pub mod Hearing
-pub mod Sides
-pub mod Totals
-pub mod Courses
 pub mod CallOutcomes
 pub mod Happening
-pub mod Flows
 pub mod Parts
 pub mod CallCourses
 pub mod Going
-pub mod Resting
-pub mod Dues
-pub mod Waiting

@@ -1,37 +1,15 @@
 -- What the code keeps of calls, as the definitions have it.
-use Rattle.std.specs.Prelude.{ℕ, ◌≡◌, ◌≤◌, false, List, [], ◌∷◌, map, Option, Some, Result, Ok, Err}
+use Rattle.std.specs.Prelude.{ℕ, ◌≡◌, false, List, Option, Some, Result, Ok, Err}
 use Rattle.dt_units.specs.declared.endpoints.Flow.{Flow}
-use Rattle.dt_units.specs.Limits.{IsWithinLimits}
-use Rattle.dt_world_model.specs.World.{World}
-use Rattle.dt_world_model.specs.WorldFacts.{WorldFacts}
-use Rattle.dt_calls_model.specs.declared.calls.Call.{Call}
 use Rattle.dt_calls_model.specs.declared.calls.Posted.{Posted}
-use Rattle.dt_calls_model.specs.declared.calls.Posted.TheVariants.{Refused, Taken}
 use Rattle.dt_calls_model.specs.Messages.{Piece, begun_with, whole_with}
 use Rattle.dt_calls_model.specs.Calls as model
 use Rattle.dt_calls_model.specs.Calls.{Calls}
 use Rattle.dt_calls_model.specs.Reads as reads
 use Rattle.dt_calls.specs.declared.call_courses.CallsParts.{CallsParts}
-use Rattle.dt_calls.specs.Flows.{flows_seen}
-use Rattle.dt_calls.specs.Waiting.{Covers}
-
--- what is kept of the world, by which each read takes octets that were unread
-pub record IsKeptWorld (w : World) : Type 0 where
-  pub limits : IsWithinLimits w.params
-  pub facts : WorldFacts w
-
--- A REQUEST that was taken is a message of 65,536 octets at most: the number of its call in eight of them, and a payload that a handler takes.
-abbrev pub IsShort : Posted → Type 0
-IsShort (Taken place count) = count ≤ 65536
-IsShort Refused = Unit {0}
-
-abbrev pub AreShort : List Call → Type 0
-AreShort [] = Unit {0}
-AreShort (call ∷ calls) = IsShort call.request × AreShort calls
-
--- the flows, in the order of first calls
-abbrev pub keys_in : {A : Type 0} → List (Flow × A) → List Flow
-keys_in es = map (λ e. e.0) es
+use Rattle.dt_call_parts.specs.Flows.{flows_seen}
+use Rattle.dt_call_parts.specs.Waiting.{Covers}
+use Rattle.dt_call_parts.specs.Kept.{AreShort, IsKeptWorld}
 
 module _ {H : Type 0} where
   abbrev pub calls_seen : CallsParts H → Calls

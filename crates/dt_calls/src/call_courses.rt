@@ -1,7 +1,7 @@
 //! The calls of a world in the course of a step.
 ghost use Rattle.std.specs.Prelude.{◌≡◌, ◌<◌, ◌^◌, [], false, is_err, length, OnErr};
 ghost use Rattle.std.specs.List.{list_any};
-ghost use Rattle.dt_world.specs.Worlds.{event_of};
+ghost use Rattle.dt_notes.specs.Events.{event_of};
 ghost use Rattle.dt_world_model.specs.Tables.{same_flow};
 ghost use Rattle.dt_world_model.specs.WorldStep.{first_refusal};
 ghost use Rattle.dt_units.specs.Flows.{IsFlow};
@@ -11,22 +11,19 @@ ghost use Rattle.dt_calls_model.specs.CallStep.{call_refusals, finish};
 ghost use Rattle.dt_calls_model.specs.Messages.{reversed};
 ghost use Rattle.dt_calls_model.specs.Promises.{AreServedOnce};
 ghost use Rattle.dt_calls.specs.CallOutcomes.{IsNew, lacks_memory};
-ghost use Rattle.dt_calls.specs.Courses.{GoesOn};
-ghost use Rattle.dt_calls.specs.Dues.{IsDue};
+ghost use Rattle.dt_call_parts.specs.Courses.{GoesOn};
+ghost use Rattle.dt_call_parts.specs.Dues.{IsDue};
 ghost use Rattle.dt_calls.specs.Going.{WorldGoesOn};
-ghost use Rattle.dt_calls.specs.declared.dues.Due.TheVariants as due;
+ghost use Rattle.dt_call_parts.specs.declared.dues.Due.TheVariants as due;
 
-use crate::call_lines::CallLines;
-use crate::dues::{Due, due_after_event};
-use crate::flows::{Flows, drop_begun};
-use crate::handlers::Handler;
-use crate::heard::Heard;
+use dt_call_parts::{CallLines, Due, Flows, Handler, Heard, drop_begun, due_after_event};
 use dt_calls_model::Call;
 use dt_items::NoMemory;
 use dt_messages::reversed;
+use dt_notes::Event;
 use dt_reports::StepFault;
 use dt_units::Flow;
-use dt_world::{Event, World};
+use dt_world::World;
 use indexmap::IndexMap;
 use std::alloc::Global;
 use std::marker::Model;

@@ -1,6 +1,6 @@
 //! What happens to the calls of a world.
+use dt_notes::Event;
 use dt_units::Flow;
-use dt_world::Event;
 
 /// What happens to the calls of a world.
 #[derive(Clone, Copy)]

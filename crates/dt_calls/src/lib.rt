@@ -5,21 +5,11 @@
 
 mod call_courses;
 mod call_events;
-mod call_lines;
-mod dues;
-mod flow_sides;
-mod flows;
-mod handlers;
-mod heard;
 mod making;
 mod reading;
-mod totals;
 mod unsure_calls;
 mod world_calls;
 
 pub use call_events::CallEvent;
-pub use call_lines::{CallLine, CallLines};
 pub use dt_calls_model::{Call, CallState};
-pub use handlers::{Handler, Reversing};
-pub use totals::CallTotals;
 pub use world_calls::Calls;

@@ -1,7 +1,7 @@
 //! Messages are handed in, and read out of the world.
 ghost use Rattle.std.specs.Prelude.{◌≡◌, ◌≢◌, ◌<◌, ◌≤◌, true, false, is_err, length, IfOk, IsSome, MatchOption, MatchResult, OnErr, OnOk, Some, option_map, slice_get, vec_len};
 ghost use Rattle.dt_units.specs.Flows.{IsFlow};
-ghost use Rattle.dt_world.specs.Worlds.{MayStep, event_of};
+ghost use Rattle.dt_notes.specs.Events.{MayStep, event_of};
 ghost use Rattle.dt_world_model.specs.Tables.{has_key, same_flow};
 ghost use Rattle.dt_calls_laws.specs.Told.{IsOn};
 ghost use Rattle.dt_calls_model.specs.Calls.{Server, call_in, is_call_in};
@@ -9,30 +9,26 @@ ghost use Rattle.dt_calls_model.specs.Messages.{carried_in, message_of, reversed
 ghost use Rattle.dt_calls_model.specs.Promises.{AreServedOnce};
 ghost use Rattle.dt_calls_model.specs.Reads as reads;
 ghost use Rattle.dt_calls_model.specs.Reads.{answered_if, read_all, read_side, read_sides, serve_call, take_whole};
-ghost use Rattle.dt_calls.specs.Courses.{GoesOn, HasGoneOn, from_calls};
-ghost use Rattle.dt_calls.specs.Dues.{IsDue};
-ghost use Rattle.dt_calls.specs.Flows.{flows_seen};
+ghost use Rattle.dt_call_parts.specs.Courses.{GoesOn, HasGoneOn, from_calls};
+ghost use Rattle.dt_call_parts.specs.Dues.{IsDue};
+ghost use Rattle.dt_call_parts.specs.Flows.{flows_seen};
 ghost use Rattle.dt_calls.specs.Happening.{Happens, ended};
-ghost use Rattle.dt_calls.specs.Parts.{HasJoined, Posts, calls_seen, keys_in};
-ghost use Rattle.dt_calls.specs.Sides.{side_seen};
-ghost use Rattle.dt_calls.specs.declared.dues.Due.TheVariants as due;
-ghost use Rattle.dt_calls.specs.declared.dues.Due.TheVariants.{Nothing};
+ghost use Rattle.dt_call_parts.specs.Kept.{keys_in};
+ghost use Rattle.dt_calls.specs.Parts.{HasJoined, Posts, calls_seen};
+ghost use Rattle.dt_call_parts.specs.Sides.{side_seen};
+ghost use Rattle.dt_call_parts.specs.declared.dues.Due.TheVariants as due;
+ghost use Rattle.dt_call_parts.specs.declared.dues.Due.TheVariants.{Nothing};
 
 use crate::call_courses::{CallCourse, CallsParts};
-use crate::call_lines::{CallLine, CallLines};
-use crate::dues::Due;
-use crate::flow_sides::Side;
-use crate::flows;
-use crate::handlers::Handler;
-use crate::heard::Heard;
-use crate::totals::is_waiting;
+use dt_call_parts::{CallLine, CallLines, Due, Handler, Heard, Side, is_waiting, join_piece};
 use dt_calls_model::{Call, CallState, Posted};
 use dt_items::NoMemory;
 use dt_messages::{read_message, reversed, write_message};
+use dt_notes::Event;
 use dt_reports::StepFault;
 use dt_units::Flow;
 use dt_units::limits::MOST_OCTETS;
-use dt_world::{Event, World};
+use dt_world::World;
 
 /// An event of the world within a step. Where it is refused, nothing happens.
 pub fn try_event(world: &mut World, heard: &mut Heard, event: &Event<'_>) -> Result<(), NoMemory>
@@ -196,7 +192,7 @@ fn join<H>(parts: &mut CallsParts<H>, flow: &Flow, side: Side) -> Result<Option<
     let Some((marks, octets)) = parts.heard.piece() else {
         unreachable!();
     };
-    flows::join(&mut parts.flows, flow, side, marks, octets)
+    join_piece(&mut parts.flows, flow, side, marks, octets)
 }
 
 /// A whole message of a call of the flow is taken. What a request carries is no longer than a handler takes.

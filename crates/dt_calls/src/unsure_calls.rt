@@ -2,14 +2,12 @@
 ghost use Rattle.std.specs.Prelude.{◌≡◌, false};
 ghost use Rattle.dt_calls_model.specs.CallStep.{becomes_unsure, judge_all, is_in_vain, is_posted_in_vain, is_replied_in_vain};
 ghost use Rattle.dt_calls_model.specs.Messages.{reversed};
-ghost use Rattle.dt_calls.specs.Courses.{HasGoneOn};
+ghost use Rattle.dt_call_parts.specs.Courses.{HasGoneOn};
 ghost use Rattle.dt_calls.specs.Parts.{calls_seen};
-ghost use Rattle.dt_calls.specs.Waiting.{Covers, waiting_from};
+ghost use Rattle.dt_call_parts.specs.Waiting.{Covers, waiting_from};
 
 use crate::call_courses::{CallCourse, CallsParts};
-use crate::call_lines::{CallLine, CallLines};
-use crate::handlers::Handler;
-use crate::totals::is_waiting;
+use dt_call_parts::{CallLine, CallLines, Handler, is_waiting};
 use dt_calls_model::{Call, CallState, Posted};
 use dt_flow_model::{Fate, Taken};
 use dt_messages::reversed;

@@ -1,25 +1,23 @@
 //! The calls of a world.
 ghost use Rattle.std.specs.Prelude.{◌≡◌, ◌<◌, ◌≤◌, false, length, IfOk};
-ghost use Rattle.dt_world.specs.Worlds.{event_of};
+ghost use Rattle.dt_notes.specs.Events.{event_of};
 ghost use Rattle.dt_calls_laws.specs.Grown.{IsNoSendOrRead};
 ghost use Rattle.dt_calls_model.specs.Calls.{call_at, new_calls};
 ghost use Rattle.dt_calls_model.specs.CallRuns.{totals_of};
 ghost use Rattle.dt_calls_model.specs.CallStep.{Happens, Makes};
 ghost use Rattle.dt_calls_model.specs.Promises.{AreServedOnce};
 ghost use Rattle.dt_calls.specs.CallOutcomes.{Answers, IsNew, MayCome, call_event};
-ghost use Rattle.dt_calls.specs.Totals.{totals_seen};
+ghost use Rattle.dt_call_parts.specs.Totals.{totals_seen};
 
 use crate::call_courses::CallCourse;
 use crate::call_events::CallEvent;
-use crate::call_lines::CallLines;
-use crate::dues::Due;
-use crate::handlers::Handler;
-use crate::totals::{CallTotals, totals_of};
+use dt_call_parts::{CallLines, CallTotals, Due, Handler, totals_of};
 use dt_calls_model::CallState;
 use dt_items::NoMemory;
+use dt_notes::Event;
 use dt_reports::StepFault;
 use dt_units::Flow;
-use dt_world::{Event, World};
+use dt_world::World;
 use std::alloc::Global;
 use std::marker::Model;
 

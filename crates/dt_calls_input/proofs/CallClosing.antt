@@ -7,10 +7,10 @@ use Rattle.dt_log.specs.Logs.{entry_text}
 use Rattle.dt_calls_model.specs.Calls.{Calls}
 use Rattle.dt_calls_model.specs.CallRuns as runs
 use Rattle.dt_calls_model.specs.CallRuns.{totals_of}
-use Rattle.dt_calls.specs.declared.totals.CallTotals.{CallTotals}
+use Rattle.dt_call_parts.specs.declared.totals.CallTotals.{CallTotals}
 use Rattle.dt_calls_input.specs.CallInputs.{end_entry, last_text}
 use Rattle.dt_calls_input.specs.CallTexts.{totals_text}
-use Rattle.dt_calls.specs.Totals.{totals_seen}
+use Rattle.dt_call_parts.specs.Totals.{totals_seen}
 
 module _ {K T E : Type 0} (sight : K → SinkSight) (c : Calls) (totals : CallTotals) where
   pub closed_put : (moment : ℕ) (r : Result T E) (old between new : K) → totals_seen totals ≡ totals_of c → moment ≡ c.world.now → Takes (totals_text (totals_seen totals)) (sight old) (sight between)

@@ -24,7 +24,7 @@ use Rattle.dt_calls_input.specs.declared.call_logs.CallLog.{CallLog}
 use Rattle.dt_calls_input.specs.CallInputs.{by_calls}
 use Rattle.dt_calls.specs.CallOutcomes.{IsRefused, StepsTo}
 use Rattle.dt_calls_input.specs.CallTexts.{call_text}
-use Rattle.dt_calls.specs.Telling.{TellsCalls}
+use Rattle.dt_call_parts.specs.Telling.{TellsCalls}
 
 -- what the lines of a world make happen is no send and no read
 pub is_quiet : (line : WorldLine) → IsNoSendOrRead (event_by line)

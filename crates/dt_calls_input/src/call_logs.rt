@@ -2,10 +2,10 @@
 ghost use Rattle.std.specs.Prelude.{◌≡◌};
 ghost use Rattle.dt_edges.specs.Sinks.{Puts};
 ghost use Rattle.dt_calls_input.specs.CallTexts.{call_text, totals_text};
-ghost use Rattle.dt_calls.specs.Telling.{call_entry};
-ghost use Rattle.dt_calls.specs.Totals.{totals_seen};
+ghost use Rattle.dt_call_parts.specs.Telling.{call_entry};
+ghost use Rattle.dt_call_parts.specs.Totals.{totals_seen};
 
-use dt_calls::{CallLine, CallLines, CallTotals};
+use dt_call_parts::{CallLine, CallLines, CallTotals};
 use dt_edges::{Failed, Sink};
 use dt_log::Word::{Flow, Hex, Long, Number, Text};
 use dt_log::put_row;

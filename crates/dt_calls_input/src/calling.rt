@@ -7,7 +7,8 @@ ghost use Rattle.dt_calls_input.specs.CallInputs.{by_calls};
 ghost use Rattle.dt_calls.specs.CallOutcomes.{MayCome, call_event};
 
 use crate::call_logs::CallLog;
-use dt_calls::{CallEvent, Calls, Reversing};
+use dt_call_parts::Reversing;
+use dt_calls::{CallEvent, Calls};
 use dt_edges::Sink;
 use dt_fold::Stop;
 use dt_reports::Fault;

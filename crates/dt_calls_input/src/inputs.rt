@@ -7,15 +7,17 @@ ghost use Rattle.dt_calls_input.specs.CallInputs.{last_text};
 
 use crate::call_logs::put_totals;
 use crate::calling::{apply_world_line, step};
-use dt_calls::{CallEvent, Calls, Reversing};
+use dt_call_parts::Reversing;
+use dt_calls::{CallEvent, Calls};
 use dt_edges::{Failed, Sink};
 use dt_fold::Stop;
 use dt_items::NoMemory;
 use dt_log::write_line;
+use dt_notes::Setup;
 use dt_reports::{Fault, LogLine, Report};
 use dt_scenario::Simulation;
 use dt_text::{Form, MISPLACED, RunLine, decode_hex};
-use dt_world::{Setup, World};
+use dt_world::World;
 use std::alloc::Global;
 
 /// The calls of an input, which its lines make.

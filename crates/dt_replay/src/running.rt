@@ -4,7 +4,7 @@ ghost use Rattle.dt_edges.specs.Sinks.{Puts};
 ghost use Rattle.dt_fold.specs.Logging.{TurnsTo};
 ghost use Rattle.dt_log.specs.Logs.{entry_text, log_text};
 ghost use Rattle.dt_reports.specs.Told.{told};
-ghost use Rattle.dt_world.specs.Worlds.{MayStep, event_of};
+ghost use Rattle.dt_notes.specs.Events.{MayStep, event_of};
 ghost use Rattle.dt_world_model.specs.World.{last_lines};
 ghost use Rattle.dt_world_model.specs.WorldStep.{world_step};
 ghost use Rattle.dt_replay.specs.Schedules.{by_step};
@@ -12,9 +12,10 @@ ghost use Rattle.dt_replay.specs.Schedules.{by_step};
 use dt_edges::{Failed, Sink};
 use dt_fold::Stop;
 use dt_log::write_line;
+use dt_notes::Event;
 use dt_reports::{Fault, LogLine, Report};
 use dt_scenario::{Log, stepped};
-use dt_world::{Event, World};
+use dt_world::World;
 
 /// A step of the world, and its lines are logged. A world that is spent finds no memory any more.
 pub fn step<K: Sink>(

@@ -11,10 +11,11 @@ use crate::running::{close_world, step};
 use dt_edges::{Failed, Sink};
 use dt_fold::Stop;
 use dt_items::NoMemory;
+use dt_notes::{Event, Setup};
 use dt_reports::Fault;
 use dt_scenario::{Scenario, Simulation, world_event};
 use dt_text::{Form, MISPLACED, RunLine, Task, UserLine};
-use dt_world::{Event, Setup, World};
+use dt_world::World;
 use std::alloc::Global;
 use std::mem::size_of;
 

@@ -5,8 +5,8 @@ ghost use Rattle.dt_scenario.specs.Parts.{stepped};
 use dt_edges::Sink;
 use dt_fold::Stop;
 use dt_log::write_line;
+use dt_notes::Lines;
 use dt_reports::{Fault, LogLine, StepFault};
-use dt_world::Lines;
 
 /// Logs the lines of an event on a sink. After a put that failed it logs nothing more.
 #[derive(Drop)]

@@ -4,7 +4,7 @@ ghost use Rattle.dt_units.specs.Limits.{first_out_of_range};
 ghost use Rattle.dt_edges.specs.Sinks.{Puts};
 ghost use Rattle.dt_text.specs.Said.{run_said};
 ghost use Rattle.dt_fold.specs.Logging.{TurnsTo};
-ghost use Rattle.dt_world.specs.Setups.{IsFaultOf};
+ghost use Rattle.dt_notes.specs.Setups.{IsFaultOf};
 ghost use Rattle.dt_world_model.specs.Setup.{setup_call};
 ghost use Rattle.dt_scenario.specs.Parts.{IsLineOf, LeadsTo, added, scene_of};
 ghost use Rattle.dt_scenario.specs.Scenes.{adds, by_params, call_of, goes, happens, stage_of};
@@ -13,10 +13,10 @@ use crate::simulations::Simulation;
 use dt_edges::Sink;
 use dt_fold::Stop;
 use dt_items::NoMemory;
+use dt_notes::Setup;
 use dt_reports::{Fault, SetupFault};
 use dt_text::{MISPLACED, RunLine, SetupLine, Stage};
 use dt_units::{NodeId, Params};
-use dt_world::Setup;
 use std::alloc::Global;
 
 /// What the lines so far have led to.

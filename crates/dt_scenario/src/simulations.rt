@@ -9,9 +9,9 @@ ghost use Rattle.dt_scenario.specs.Scenes.{Simulates};
 use dt_edges::{Failed, Sink};
 use dt_fold::Stop;
 use dt_items::NoMemory;
+use dt_notes::Setup;
 use dt_reports::Fault;
 use dt_text::{Form, RunLine};
-use dt_world::Setup;
 use std::alloc::Global;
 
 /// What a scenario simulates over the world that it sets up. A contract sees a state of its own

@@ -1,11 +1,11 @@
 //! What the lines of a world make happen in it.
 ghost use Rattle.std.specs.Prelude.{◌≡◌};
-ghost use Rattle.dt_world.specs.Worlds.{MayStep, event_of};
+ghost use Rattle.dt_notes.specs.Events.{MayStep, event_of};
 ghost use Rattle.dt_scenario.specs.Scenes.{event_by};
 
+use dt_notes::Event;
 use dt_text::WorldLine;
 use dt_units::NodeId;
-use dt_world::Event;
 
 /// What a line of a world makes happen in it: one row a line.
 pub fn world_event(line: WorldLine) -> Event<'static>

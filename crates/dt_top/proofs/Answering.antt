@@ -23,12 +23,12 @@ use Rattle.dt_node.specs.InputParts as parts
 use Rattle.dt_node.specs.Retracing.{RerunsBy, Retraces, RetracesBy, edges_before}
 use Rattle.dt_text.specs.InputLines.{lines_of}
 use Rattle.dt_trace.specs.Traces.{Recorded, nothing, read_from}
-use Rattle.dt_top.specs.declared.command.Command.{Command}
-use Rattle.dt_top.specs.declared.command.Command.TheVariants.{Serve, Make}
+use Rattle.dt_command.specs.declared.command.Command.{Command}
+use Rattle.dt_command.specs.declared.command.Command.TheVariants.{Serve, Make}
 use Rattle.dt_top.specs.declared.ending.Ending.{Ending}
 use Rattle.dt_top.specs.declared.ending.Ending.TheVariants.{Done, Usage, TooLong, Refused, NoMemory, WireFault, ClockStill, ReadFault, WriteFault}
-use Rattle.dt_top.specs.declared.job.Job.{Job}
-use Rattle.dt_top.specs.declared.job.Job.TheVariants.{Replay, Node, Trace, Retrace, Calls, Audit}
+use Rattle.dt_command.specs.declared.job.Job.{Job}
+use Rattle.dt_command.specs.declared.job.Job.TheVariants.{Replay, Node, Trace, Retrace, Calls, Audit}
 use Rattle.dt_world_model.specs.WorldFacts.{SafeWorld}
 use Rattle.dt_top.specs.Answering.{Answers, IsAudited, IsBrokenOff, IsCalled, IsEnded, IsMade, Misnames, RanAgain, RanNode, Replayed}
 use Rattle.dt_top.specs.Endings.{status_of, text_of}

@@ -1,5 +1,3 @@
-pub mod Positionals
-pub mod Naming
 pub mod NodeRuns
 pub mod Reruns
 pub mod Answering

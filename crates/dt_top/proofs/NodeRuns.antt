@@ -8,11 +8,11 @@ use Rattle.dt_node.specs.declared.output_forms.OutputForm.{OutputForm}
 use Rattle.dt_node.specs.declared.output_forms.OutputForm.TheVariants as forms
 use Rattle.dt_node.specs.declared.outcomes.NodeOutcome.{NodeOutcome}
 use Rattle.dt_node.specs.declared.outcomes.NodeOutcome.TheVariants as node
-use Rattle.dt_top.specs.declared.command.Command.TheVariants.{Serve}
+use Rattle.dt_command.specs.declared.command.Command.TheVariants.{Serve}
 use Rattle.dt_top.specs.declared.ending.Ending.{Ending}
 use Rattle.dt_top.specs.declared.ending.Ending.TheVariants.{Done, Usage, TooLong, Refused, NoMemory, WireFault, ClockStill, ReadFault, WriteFault}
-use Rattle.dt_top.specs.declared.job.Job.{Job}
-use Rattle.dt_top.specs.declared.job.Job.TheVariants.{Node, Trace}
+use Rattle.dt_command.specs.declared.job.Job.{Job}
+use Rattle.dt_command.specs.declared.job.Job.TheVariants.{Node, Trace}
 use Rattle.dt_top.specs.Endings.{node_ending, status_of}
 use Rattle.dt_top.specs.Inputs.{limit}
 use Rattle.dt_top.specs.Serving.{Ends, NodeAnswers, job_owes, node_owes}

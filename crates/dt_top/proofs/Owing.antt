@@ -21,8 +21,8 @@ use Rattle.dt_replay.specs.declared.outcomes.Outcome.{Outcome}
 use Rattle.dt_replay.specs.declared.outcomes.Outcome.TheVariants as outcome
 use Rattle.dt_node.specs.Retracing.{Retraces}
 use Rattle.dt_top.specs.declared.ending.Ending.{Ending}
-use Rattle.dt_top.specs.declared.job.Job.{Job}
-use Rattle.dt_top.specs.declared.job.Job.TheVariants.{Replay, Node, Trace, Retrace, Calls, Audit}
+use Rattle.dt_command.specs.declared.job.Job.{Job}
+use Rattle.dt_command.specs.declared.job.Job.TheVariants.{Replay, Node, Trace, Retrace, Calls, Audit}
 use Rattle.dt_top.specs.Endings.{audit_ending, calls_ending, node_ending, replay_ending}
 use Rattle.dt_top.specs.Serving.{NodeAnswers, after, audit_owes, before, calls_owes, job_owes, node_owes, replay_owes, retrace_owes}
 use Rattle.dt_top.specs.Streams.{Effects}

@@ -15,10 +15,10 @@ use Rattle.dt_node.specs.Repeating.{Repeats, joined}
 use Rattle.dt_node.specs.Retracing.{Retraces}
 use Rattle.dt_node.proofs.Reached.{MeetsStop, meets_stop}
 use Rattle.dt_node.proofs.Repeated.{run_again}
-use Rattle.dt_top.specs.declared.command.Command.TheVariants.{Serve}
+use Rattle.dt_command.specs.declared.command.Command.TheVariants.{Serve}
 use Rattle.dt_top.specs.declared.ending.Ending.{Ending}
 use Rattle.dt_top.specs.declared.ending.Ending.TheVariants.{Done, Usage, TooLong, Refused, NoMemory, WireFault, ClockStill, ReadFault, WriteFault}
-use Rattle.dt_top.specs.declared.job.Job.TheVariants.{Retrace}
+use Rattle.dt_command.specs.declared.job.Job.TheVariants.{Retrace}
 use Rattle.dt_top.specs.Endings.{node_ending, status_of}
 use Rattle.dt_top.specs.Inputs.{limit}
 use Rattle.dt_top.specs.Serving.{Ends, RunsAgain, job_owes}

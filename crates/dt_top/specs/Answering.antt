@@ -21,11 +21,11 @@ use Rattle.dt_node.specs.Reaching.{GoesToStop}
 use Rattle.dt_node.specs.Repeating.{joined}
 use Rattle.dt_node.specs.Retracing.{Retraces}
 use Rattle.dt_world_model.specs.WorldFacts.{SafeWorld}
-use Rattle.dt_top.specs.declared.command.Command.TheVariants.{Serve, Make}
+use Rattle.dt_command.specs.declared.command.Command.TheVariants.{Serve, Make}
 use Rattle.dt_top.specs.declared.ending.Ending.{Ending}
 use Rattle.dt_top.specs.declared.ending.Ending.TheVariants.{ClockStill, NoMemory, WireFault, WriteFault}
-use Rattle.dt_top.specs.declared.job.Job.{Job}
-use Rattle.dt_top.specs.declared.job.Job.TheVariants.{Replay, Node, Trace, Retrace, Calls, Audit}
+use Rattle.dt_command.specs.declared.job.Job.{Job}
+use Rattle.dt_command.specs.declared.job.Job.TheVariants.{Replay, Node, Trace, Retrace, Calls, Audit}
 use Rattle.dt_top.specs.Endings.{status_of, text_of}
 use Rattle.dt_top.specs.Inputs.{limit}
 use Rattle.dt_top.specs.Runs.{After, IsFor, IsServedOrLacksMemory, Leaves, OfInput, PutFailed, Run, Serves, TakeFailed, WireTakeFailed}

@@ -1,7 +1,5 @@
 pub mod Inputs
 pub mod Endings
-pub mod Words
-pub mod Commands
 pub mod Streams
 pub mod Loans
 pub mod Serving

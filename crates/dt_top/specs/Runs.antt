@@ -5,9 +5,9 @@ use Rattle.dt_edges.specs.Counts.{HasRisen}
 use Rattle.dt_edges.specs.Sinks.{SinkSight}
 use Rattle.dt_edges.specs.Sources.{SourceSight}
 use Rattle.dt_edges.specs.Wires.{WireSight}
-use Rattle.dt_top.specs.declared.command.Command.{Command}
-use Rattle.dt_top.specs.declared.command.Command.TheVariants.{Serve}
-use Rattle.dt_top.specs.declared.job.Job.{Job}
+use Rattle.dt_command.specs.declared.command.Command.{Command}
+use Rattle.dt_command.specs.declared.command.Command.TheVariants.{Serve}
+use Rattle.dt_command.specs.declared.job.Job.{Job}
 use Rattle.dt_top.specs.Inputs.{limit}
 use Rattle.dt_top.specs.Streams.{StreamSights, effects}
 

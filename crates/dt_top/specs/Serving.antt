@@ -18,10 +18,10 @@ use Rattle.dt_node.specs.declared.outcomes.NodeOutcome.TheVariants as node
 use Rattle.dt_replay.specs.declared.outcomes.Outcome.TheVariants as outcome
 use Rattle.dt_replay.specs.Replays.{Replays}
 use Rattle.dt_node.specs.Retracing.{Retraces}
-use Rattle.dt_top.specs.declared.command.Command.{Command}
-use Rattle.dt_top.specs.declared.command.Command.TheVariants.{Serve, Make}
-use Rattle.dt_top.specs.declared.job.Job.{Job}
-use Rattle.dt_top.specs.declared.job.Job.TheVariants.{Replay, Node, Trace, Retrace, Calls, Audit}
+use Rattle.dt_command.specs.declared.command.Command.{Command}
+use Rattle.dt_command.specs.declared.command.Command.TheVariants.{Serve, Make}
+use Rattle.dt_command.specs.declared.job.Job.{Job}
+use Rattle.dt_command.specs.declared.job.Job.TheVariants.{Replay, Node, Trace, Retrace, Calls, Audit}
 use Rattle.dt_top.specs.declared.ending.Ending.{Ending}
 use Rattle.dt_top.specs.declared.ending.Ending.TheVariants.{Done, Usage, TooLong, Refused, NoMemory, WireFault, ClockStill, ReadFault, WriteFault}
 use Rattle.dt_top.specs.Endings.{node_ending, status_of}

@@ -4,16 +4,13 @@
 
 ghost use Rattle.std.specs.Prelude.{◌≡◌, false};
 ghost use Rattle.dt_top.specs.Answering.{Answers};
-ghost use Rattle.dt_top.specs.Commands.{command_of, reads_source, uses_wire};
+ghost use Rattle.dt_command.specs.Commands.{command_of, reads_source, uses_wire};
 ghost use Rattle.dt_top.specs.Endings.{status_of, text_of};
 ghost use Rattle.dt_top.specs.Runs.{run_by, seen_by};
 ghost use Rattle.dt_top.specs.Serving.{Says};
 
-mod command;
-mod command_line;
 mod ending;
 mod input;
-mod job;
 pub mod laws;
 mod serving;
 mod streams;

@@ -1,20 +1,18 @@
 //! What the commands do.
 ghost use Rattle.std.specs.Prelude.{◌≡◌, ◌≤◌, false, length, Some};
-ghost use Rattle.dt_top.specs.Commands.{IsInRange, command_of, job_uses_wire, reads_source, uses_wire};
+ghost use Rattle.dt_command.specs.Commands.{IsInRange, command_of, job_uses_wire, reads_source, uses_wire};
 ghost use Rattle.dt_top.specs.Endings.{audit_ending, calls_ending, lacking, node_ending, replay_ending};
 ghost use Rattle.dt_top.specs.Inputs.{limit};
 ghost use Rattle.dt_top.specs.Loans.{KeepsClock, KeepsSource, KeepsWire, sights};
 ghost use Rattle.dt_top.specs.Serving.{Ends, Owes, job_owes};
 ghost use Rattle.dt_top.specs.Streams.{OwesFor};
 
-use crate::command::Command;
-use crate::command_line::command_of;
 use crate::ending::Ending;
 use crate::input::{InputFault, read_input};
-use crate::job::Job;
 use crate::streams::Streams;
 use dt_audit::{AuditOutcome, audit};
 use dt_calls_input::{CallsOutcome, calls};
+use dt_command::{Command, Job, command_of};
 use dt_edges::{Clock, Failed, Sink, Source, Wire};
 use dt_items::NoMemory;
 use dt_make::make;

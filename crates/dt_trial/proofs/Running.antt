@@ -4,7 +4,7 @@ use Rattle.dt_edges.specs.Clocks.{ClockSight}
 use Rattle.dt_edges.specs.Sources.{SourceSight}
 use Rattle.dt_edges.specs.Wires.{WireInMemory}
 use Rattle.dt_top.specs.Answering.{Answers}
-use Rattle.dt_top.specs.Commands.{uses_wire}
+use Rattle.dt_command.specs.Commands.{uses_wire}
 use Rattle.dt_trial.specs.Trials.{IsRunFrom, StartSeen, command_in, run_from}
 use Rattle.dt_trial.specs.declared.run_results.RunResult.{RunResult}
 

@@ -6,11 +6,11 @@ use Rattle.dt_edges.specs.Sinks.{SinkInMemory, sink_in_memory}
 use Rattle.dt_edges.specs.Sources.{SourceInMemory, SourceSight, source_in_memory}
 use Rattle.dt_edges.specs.Wires.{Datagram, WireInMemory, fresh_wire, wire_in_memory}
 use Rattle.dt_top.specs.Answering.{Answers}
-use Rattle.dt_top.specs.Commands.{named, uses_wire}
+use Rattle.dt_command.specs.Commands.{named, uses_wire}
 use Rattle.dt_top.specs.Runs.{Run}
 use Rattle.dt_top.specs.Streams.{effects}
-use Rattle.dt_top.specs.Words.{without_mark}
-use Rattle.dt_top.specs.declared.command.Command.{Command}
+use Rattle.dt_command.specs.Words.{without_mark}
+use Rattle.dt_command.specs.declared.command.Command.{Command}
 use Rattle.dt_trial.specs.declared.run_results.RunResult.{RunResult}
 use Rattle.dt_trial.specs.declared.run_starts.RunStart.{RunStart}
 use Rattle.dt_trial.specs.declared.trials.Trial.{Trial}

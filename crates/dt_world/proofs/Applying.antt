@@ -9,17 +9,18 @@ use Rattle.dt_world_model.specs.Station.{Read, Send}
 use Rattle.dt_world_model.specs.Tables.{AllEntries}
 use Rattle.dt_world_model.specs.WorldFacts.{CanHappen}
 use Rattle.dt_world_model.specs.WorldStep.{after_event, at_station, loss}
-use Rattle.dt_world.specs.declared.events.Event.{Event}
-use Rattle.dt_world.specs.declared.events.Event.TheVariants as event
+use Rattle.dt_notes.specs.declared.events.Event.{Event}
+use Rattle.dt_notes.specs.declared.events.Event.TheVariants as event
 use Rattle.dt_world.specs.declared.world_parts.WorldParts.{WorldParts}
 use Rattle.dt_world.specs.Applying.{IsApplied}
-use Rattle.dt_world.specs.Moments.{most_now}
+use Rattle.dt_notes.specs.Moments.{most_now}
 use Rattle.dt_world.specs.Outcomes.{Happens, HasHappened}
 use Rattle.dt_world.specs.Stopping.{ComesAt, ComesTo, IsAtItsEnd, MayStop}
-use Rattle.dt_world.specs.Worlds.{IsStationOf, IsWhole, MayStep, event_of, most_read, world_seen}
+use Rattle.dt_notes.specs.Events.{MayStep, event_of, most_read}
+use Rattle.dt_world.specs.Worlds.{IsStationOf, IsWhole, world_seen}
 use Rattle.dt_world.proofs.Possible.{not_begun, stopped_at_once}
 use Rattle.dt_world.proofs.Restarting.{pass_happened, passed_stations}
-use Rattle.dt_world.proofs.RunTables.{on_ok}
+use Rattle.dt_notes.proofs.RunTables.{on_ok}
 
 pub on_ok_any : {A E : Type 0} (P : Type 0) (r : Result A E) → P → OnOk r P
 on_ok_any P (Ok a) h = h

@@ -16,14 +16,15 @@ use Rattle.dt_world_model.specs.Tables.{AllEntries}
 use Rattle.dt_world_model.specs.World.{Copy, Placed, World}
 use Rattle.dt_world_model.specs.WorldFacts.{WorldFacts}
 use Rattle.dt_world_laws.proofs.Starts.{new_world_facts}
-use Rattle.dt_world.specs.declared.notes.Notes.{Notes}
+use Rattle.dt_notes.specs.declared.notes.Notes.{Notes}
 use Rattle.dt_world.specs.declared.world_parts.WorldParts.{WorldParts}
 use Rattle.dt_world.specs.declared.placed_stations.PlacedStation.{PlacedStation}
-use Rattle.dt_world.specs.Notes.{ledgers_seen}
-use Rattle.dt_world.specs.Setups.{AreNumbered, links_of}
+use Rattle.dt_notes.specs.Notes.{ledgers_seen}
+use Rattle.dt_notes.specs.Setups.{AreNumbered, links_of}
 use Rattle.dt_world.specs.Starts.{begun_stations}
-use Rattle.dt_world.specs.Worlds.{IsStationOf, IsWhole, most_read, placed_seen, stations_seen, world_seen}
-use Rattle.dt_world.proofs.SetupTables.{inserted_last}
+use Rattle.dt_notes.specs.Events.{most_read}
+use Rattle.dt_world.specs.Worlds.{IsStationOf, IsWhole, placed_seen, stations_seen, world_seen}
+use Rattle.dt_notes.proofs.SetupTables.{inserted_last}
 
 other_way : (k n : ℕ) → nat_eq n k ≡ false → nat_eq k n ≡ false
 other_way k n h = grind (arith, nat_tests)

@@ -15,9 +15,9 @@ use Rattle.dt_world_model.specs.WorldStep.{at_station, event_at, noted_at, occas
 use Rattle.dt_world_laws.proofs.Alongside.{ledger_safe_along}
 use Rattle.dt_world_laws.proofs.Visiting.{along_at, prefix_at}
 use Rattle.dt_world_laws.proofs.Worlds.{placed_is}
-use Rattle.dt_world.specs.declared.notes.Notes.{Notes}
-use Rattle.dt_world.specs.declared.event_contexts.Brought.{Brought}
-use Rattle.dt_world.specs.Notes.{ledgers_seen}
+use Rattle.dt_notes.specs.declared.notes.Notes.{Notes}
+use Rattle.dt_notes.specs.declared.event_contexts.Brought.{Brought}
+use Rattle.dt_notes.specs.Notes.{ledgers_seen}
 use Rattle.dt_world.specs.Outcomes.{Happens, HasHappened, HasStopped}
 use Rattle.dt_world.specs.Steps.{Brings, Happened, HappenedAll, HappenedPart, noted_in, occasion_with}
 use Rattle.dt_world.specs.Stopping.{CameTo, ComesAt}

@@ -4,9 +4,6 @@ pub mod Arriving
 pub mod Happening
 pub mod Possible
 pub mod Restarting
-pub mod RunTables
-pub mod SetupTables
-pub mod Slots
 pub mod StationTables
 pub mod Stepping
 pub mod Stopping

@@ -25,7 +25,7 @@ use Rattle.dt_world.specs.declared.placed_stations.PlacedStation.{PlacedStation}
 use Rattle.dt_world.specs.Outcomes.{HasStopped}
 use Rattle.dt_world.specs.Stopping.{CameTo, ComesAt}
 use Rattle.dt_world.specs.Worlds.{IsWhole, placed_seen, stations_seen, world_seen}
-use Rattle.dt_world.proofs.SetupTables.{look_keyed}
+use Rattle.dt_notes.proofs.SetupTables.{look_keyed}
 use Rattle.dt_world.proofs.StationTables.{look_seen}
 use Rattle.dt_world.proofs.Stopping.{all_kept, first_on_the_way}
 

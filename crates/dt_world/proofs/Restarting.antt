@@ -14,12 +14,13 @@ use Rattle.dt_world_model.specs.Tables.{AllEntries, look, write}
 use Rattle.dt_world_model.specs.World.{Placed, World}
 use Rattle.dt_world_model.specs.WorldStep.{Restarts, after_event, noted_at, restart_at, restarted}
 use Rattle.dt_world.specs.declared.placed_stations.PlacedStation.{PlacedStation}
-use Rattle.dt_world.specs.declared.events.Event.{Event}
-use Rattle.dt_world.specs.declared.events.Event.TheVariants as event
+use Rattle.dt_notes.specs.declared.events.Event.{Event}
+use Rattle.dt_notes.specs.declared.events.Event.TheVariants as event
 use Rattle.dt_world.specs.declared.world_parts.WorldParts.{WorldParts}
 use Rattle.dt_world.specs.Outcomes.{Happens, HasHappened}
 use Rattle.dt_world.specs.Stopping.{ComesTo}
-use Rattle.dt_world.specs.Worlds.{IsStationOf, IsWhole, event_of, placed_seen, world_seen}
+use Rattle.dt_notes.specs.Events.{event_of}
+use Rattle.dt_world.specs.Worlds.{IsStationOf, IsWhole, placed_seen, world_seen}
 use Rattle.dt_world.proofs.Possible.{stopped_at_once}
 
 -- the line of a restart

@@ -16,10 +16,11 @@ use Rattle.dt_world_laws.proofs.Promise.{facts_are_safe}
 use Rattle.dt_world_laws.proofs.Worlds.{GoesTo, effect_keeps}
 use Rattle.dt_world.specs.declared.world_parts.WorldParts.{WorldParts}
 use Rattle.dt_world.specs.Outcomes.{FailsWith, HasHappened, HasStopped, IsDone, IsRefused, IsSpent}
-use Rattle.dt_world.specs.Setups.{AreNumbered}
-use Rattle.dt_world.specs.Moments.{most_now}
+use Rattle.dt_notes.specs.Setups.{AreNumbered}
+use Rattle.dt_notes.specs.Moments.{most_now}
 use Rattle.dt_world.specs.Stopping.{ComesTo, IsAtItsEnd, MayStop}
-use Rattle.dt_world.specs.Worlds.{IsStationOf, IsWhole, WorldValue, most_read, world_seen}
+use Rattle.dt_notes.specs.Events.{most_read}
+use Rattle.dt_world.specs.Worlds.{IsStationOf, IsWhole, WorldValue, world_seen}
 
 abbrev pub unspent : World → WorldValue
 unspent w = record { state = w; spent = false }

@@ -5,7 +5,7 @@ use Rattle.dt_world_model.specs.Tables.{AllEntries}
 use Rattle.dt_world_model.specs.WorldFacts.{CanHappen}
 use Rattle.dt_world_model.specs.WorldStep.{WorldEvent, after_event}
 use Rattle.dt_world.specs.declared.world_parts.WorldParts.{WorldParts}
-use Rattle.dt_world.specs.Moments.{most_now}
+use Rattle.dt_notes.specs.Moments.{most_now}
 use Rattle.dt_world.specs.Outcomes.{Happens}
 use Rattle.dt_world.specs.Stopping.{ComesTo, IsAtItsEnd, MayStop}
 use Rattle.dt_world.specs.Worlds.{IsStationOf, world_seen}

@@ -1,14 +1,7 @@
 pub mod Applying
-pub mod Copies
-pub mod Effects
 pub mod Marks
-pub mod Moments
-pub mod Notes
-pub mod Occasions
 pub mod Outcomes
 pub mod PlacedEvents
-pub mod Runs
-pub mod Setups
 pub mod Starts
 pub mod Steps
 pub mod Stopping

@@ -11,8 +11,8 @@ use Rattle.dt_world_model.specs.Script.{Concludes, Script}
 use Rattle.dt_world_model.specs.Station.{Station}
 use Rattle.dt_world_model.specs.World.{Copy, world_told}
 use Rattle.dt_world.specs.declared.reporters.Reporter.{Reporter}
-use Rattle.dt_world.specs.Notes.{ledgers_seen}
-use Rattle.dt_world.specs.Occasions.{occasion_seen}
+use Rattle.dt_notes.specs.Notes.{ledgers_seen}
+use Rattle.dt_notes.specs.Occasions.{occasion_seen}
 
 -- the line of a report, of which so many copies were put before
 abbrev pub entry_for : ledgers.Occasion → ℕ → Told → Entry

@@ -10,10 +10,10 @@ use Rattle.dt_world_model.specs.Station.{Event, Station}
 use Rattle.dt_world_model.specs.World.{Noted, World, world_handler}
 use Rattle.dt_world_model.specs.WorldStep.{items_with, occasion}
 use Rattle.dt_world_laws.specs.Visits.{IsOnTheWay}
-use Rattle.dt_world.specs.declared.notes.Notes.{Notes}
-use Rattle.dt_world.specs.declared.event_contexts.Brought.{Brought}
+use Rattle.dt_notes.specs.declared.notes.Notes.{Notes}
+use Rattle.dt_notes.specs.declared.event_contexts.Brought.{Brought}
 use Rattle.dt_world.specs.declared.reporters.Reporter.{Reporter}
-use Rattle.dt_world.specs.Notes.{ledgers_seen}
+use Rattle.dt_notes.specs.Notes.{ledgers_seen}
 use Rattle.dt_world.specs.Reporters.{TellsAll, copies_of, ledgers_of, occasion_of}
 
 module _ {L : Type 0} (tells : L → Entry → L → Type 0) where

@@ -11,7 +11,7 @@ use Rattle.dt_world_model.specs.Tables.{look}
 use Rattle.dt_world_model.specs.World.{Noted, Placed, World, placed, world_handler}
 use Rattle.dt_world_model.specs.WorldStep.{Arrives, Loses, Passes, Reads, Restarts, Sends, Ticks, WorldEvent, copy_at, link_for, noted_at, occasion}
 use Rattle.dt_world_laws.specs.Visits.{IsOnTheWay}
-use Rattle.dt_world.specs.Moments.{most_now}
+use Rattle.dt_notes.specs.Moments.{most_now}
 
 -- AN EVENT AT A STATION CAME TO A POINT: what was noted is a state on the way of its play. Where nobody is there, nothing was done
 abbrev pub CameTo : World → ℕ → Event Mark → Option Placed → Noted → Type 0

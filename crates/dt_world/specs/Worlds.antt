@@ -6,29 +6,16 @@ use Rattle.dt_world_model.specs.Relay.{emptied, new_relay}
 use Rattle.dt_world_model.specs.Tables.{AllEntries}
 use Rattle.dt_world_model.specs.World.{Placed, World}
 use Rattle.dt_world_model.specs.WorldFacts.{WorldFacts}
-use Rattle.dt_world_model.specs.WorldStep.{Arrives, Loses, Passes, Reads, Restarts, Sends, Ticks, WorldEvent}
-use Rattle.dt_world.specs.declared.events.Event.{Event}
-use Rattle.dt_world.specs.declared.events.Event.TheVariants as event
 use Rattle.dt_world.specs.declared.placed_stations.PlacedStation.{PlacedStation}
 use Rattle.dt_world.specs.declared.world_parts.WorldParts.{WorldParts}
-use Rattle.dt_world.specs.Notes.{ledgers_seen}
-use Rattle.dt_world.specs.Setups.{AreNumbered, links_of}
-use Rattle.dt_world.specs.Moments.{most_now}
+use Rattle.dt_notes.specs.Notes.{ledgers_seen}
+use Rattle.dt_notes.specs.Setups.{AreNumbered, links_of}
+use Rattle.dt_notes.specs.Moments.{most_now}
 
 pub record WorldValue : Type 0 where
   pub state : World
   -- a step found no memory: the world is used no more
   pub spent : Bool
-
--- an event as the definitions have it
-abbrev pub event_of : Event → WorldEvent
-event_of (event.Pass by) = Passes by
-event_of (event.Send flow octets begin end) = Sends flow octets.now begin end
-event_of (event.Read flow max) = Reads flow max
-event_of (event.Tick station) = Ticks station.0
-event_of (event.Arrive copy) = Arrives copy
-event_of (event.Lose copy) = Loses copy
-event_of (event.Restart station) = Restarts station.0
 
 abbrev pub placed_seen : PlacedStation → Placed
 placed_seen s = record { zero = s.zero; life = s.life; station = s.station.state }
@@ -55,20 +42,6 @@ pub record IsStationOf (p : Params) (now : ℕ) (n : ℕ) (s : PlacedStation) : 
   pub past : s.station.latest ≤ now + s.zero
   -- its relay has the links and routes of its plan
   pub relay : emptied s.station.state.relay ≡ new_relay s.plan.outs.items s.plan.ins.items s.plan.routes.items
-
--- the most octets of a read
-abbrev pub most_read : ℕ
-most_read = 65536
-
--- what a step asks of its event
-abbrev pub MayStep : WorldEvent → Type 0
-MayStep (Passes by) = Unit {0}
-MayStep (Sends f octets begin end) = 1 ≤ length octets
-MayStep (Reads f most) = (1 ≤ most) × (most ≤ most_read)
-MayStep (Ticks n) = Unit {0}
-MayStep (Arrives copy) = Unit {0}
-MayStep (Loses copy) = Unit {0}
-MayStep (Restarts n) = Unit {0}
 
 -- THE PARTS OF A WORLD that isn't spent
 pub record IsWhole (w : WorldParts) : Type 0 where

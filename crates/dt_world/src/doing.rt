@@ -11,24 +11,20 @@ ghost use Rattle.dt_world_model.specs.Ledgers.{ledger_of};
 ghost use Rattle.dt_world_model.specs.Station.{Read, Send, Tick};
 ghost use Rattle.dt_world_model.specs.Tables.{AllEntries, look};
 ghost use Rattle.dt_world_model.specs.WorldStep.{Arrives, Loses, Restarts, after_event, at_station, first_refusal, loss, refusals};
-ghost use Rattle.dt_world.specs.Copies.{copy_in};
-ghost use Rattle.dt_world.specs.Moments.{most_now};
+ghost use Rattle.dt_notes.specs.Copies.{copy_in};
+ghost use Rattle.dt_notes.specs.Moments.{most_now};
 ghost use Rattle.dt_world.specs.Outcomes.{Happens, HasHappened};
 ghost use Rattle.dt_world.specs.Steps.{BringsPacket};
 ghost use Rattle.dt_world.specs.Stopping.{ComesAt, ComesTo, IsLastLife};
 ghost use Rattle.dt_world.specs.Worlds.{IsStationOf, IsWhole, world_seen};
 
-use crate::copies::Copies;
-use crate::event_contexts::Brought;
-use crate::marked_frames::Mark;
-use crate::moments::Moment;
 use crate::placed_events::PlacedEvent;
 use crate::placed_stations::start_again;
 use crate::refusals::link_of;
-use crate::reporters::Lines;
 use crate::world_parts::{WorldParts, event_at};
 use dt_items::{MarkedOctets, NoMemory};
 use dt_layout::{Frame, GramOctets, Packet, read_packet};
+use dt_notes::{Brought, Copies, Lines, Mark, Moment};
 use dt_reports::{LogLine, Report};
 use dt_units::Flow;
 

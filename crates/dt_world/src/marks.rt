@@ -8,15 +8,13 @@ ghost use Rattle.dt_world_model.specs.Host.{receiver_at, sender_at};
 ghost use Rattle.dt_world_model.specs.Ledgers.{ledger_of, mark_of, place_for, place_sent};
 ghost use Rattle.dt_ledger.specs.Flows.{ledger_in};
 ghost use Rattle.dt_world.specs.Marks.{IsForeign, LacksMark};
-ghost use Rattle.dt_world.specs.Notes.{ledgers_seen};
-ghost use Rattle.dt_world.specs.Occasions.{occasion_seen};
+ghost use Rattle.dt_notes.specs.Notes.{ledgers_seen};
+ghost use Rattle.dt_notes.specs.Occasions.{occasion_seen};
 
-use crate::event_contexts::EventContext;
-use crate::marked_frames::Mark;
-use crate::notes::Notes;
 use dt_host::{Host, flow_of_packet};
 use dt_layout::{GramOctets, Packet, read_packet};
 use dt_ledger::Ledger;
+use dt_notes::{EventContext, Mark, Notes};
 use dt_units::{Flow, NodeId};
 
 /// The mark of a frame that the host made: it is born now, and its place is known from the ledger and

@@ -1,6 +1,6 @@
 //! An event at a station of the world.
-use crate::marked_frames::Mark;
 use dt_layout::Frame;
+use dt_notes::Mark;
 use dt_units::Flow;
 
 /// What happens to a station of the world. What is large is lent: a packet that comes stays in the

@@ -2,11 +2,12 @@
 ghost use Rattle.std.specs.Prelude.{◌≡◌, ◌==◌, [], ◌∷◌};
 ghost use Rattle.dt_world_model.specs.Tables.{has_key};
 ghost use Rattle.dt_world_model.specs.WorldStep.{first_refusal, is_late_copy, is_lost, is_own, lacks_copy, lacks_station, link_in, refusals};
-ghost use Rattle.dt_world.specs.Setups.{AreNumbered};
-ghost use Rattle.dt_world.specs.Worlds.{event_of, world_seen};
+ghost use Rattle.dt_notes.specs.Setups.{AreNumbered};
+ghost use Rattle.dt_notes.specs.Events.{event_of};
+ghost use Rattle.dt_world.specs.Worlds.{world_seen};
 
-use crate::events::Event;
 use crate::world_parts::WorldParts;
+use dt_notes::Event;
 use dt_reports::StepFault;
 use dt_units::Flow;
 use dt_world_model::Link;

@@ -1,32 +1,19 @@
 //! Who sees a station's event for the world.
 ghost use Rattle.std.specs.Prelude.{◌≡◌, length, OnErr, OnOk};
-ghost use Rattle.dt_reports.specs.Entries.{Entry, entry_of};
 ghost use Rattle.dt_reports.specs.Told.{told};
 ghost use Rattle.dt_world_model.specs.Ledgers.{ledgers_by};
 ghost use Rattle.dt_world_model.specs.World.{world_told};
-ghost use Rattle.dt_world.specs.Effects.{effect_seen};
-ghost use Rattle.dt_world.specs.Notes.{ledgers_seen};
-ghost use Rattle.dt_world.specs.Occasions.{occasion_seen};
+ghost use Rattle.dt_notes.specs.Effects.{effect_seen};
+ghost use Rattle.dt_notes.specs.Notes.{ledgers_seen};
+ghost use Rattle.dt_notes.specs.Occasions.{occasion_seen};
 
-use crate::effects::{Effect, effect_of};
-use crate::event_contexts::EventContext;
-use crate::marked_frames::{Mark, MarkedFrame};
 use crate::marks::mark_of;
-use crate::notes::{Notes, change};
 use dt_host::Host;
 use dt_items::NoMemory;
 use dt_layout::Frame;
+use dt_notes::{Effect, EventContext, Lines, Mark, MarkedFrame, Notes, change, effect_of};
 use dt_reports::{LogLine, Report};
 use dt_station::Visitor;
-
-/// Receives the lines of the log, in order.
-pub trait Lines {
-    ghost tells: { Self → Entry → Self → Type 0 };
-
-    /// The next line.
-    fn line(&mut self, line: &LogLine<'_>)
-        ensures { tells self.old (entry_of line.now) self.new };
-}
 
 /// What the world notes of one event, and who receives its lines. Where something finds no memory, it
 /// has failed: from then on it notes nothing, reports nothing and takes no packet.

@@ -2,17 +2,15 @@
 ghost use Rattle.std.specs.Prelude.{◌≡◌, IfOk};
 ghost use Rattle.dt_world_model.specs.Setup.{ins_of, new_world, outs_of, placed_first, routes_of};
 ghost use Rattle.dt_world_model.specs.Tables.{AllEntries};
-ghost use Rattle.dt_world.specs.Setups.{links_of, stated_routes};
+ghost use Rattle.dt_notes.specs.Setups.{links_of, stated_routes};
 ghost use Rattle.dt_world.specs.Starts.{begun_stations};
 ghost use Rattle.dt_world.specs.Worlds.{IsStationOf, IsWhole, placed_seen, stations_seen, world_seen};
 
-use crate::copies::Copies;
-use crate::notes::Notes;
 use crate::placed_stations::{PlacedStation, Plan, start_first};
-use crate::setups::Setup;
 use crate::world_parts::WorldParts;
 use dt_items::NoMemory;
 use dt_ledger::Ledger;
+use dt_notes::{Copies, Notes, Setup};
 use dt_station::{InLink, OutLink, Route};
 use dt_world_model::Link;
 use indexmap::IndexMap;

@@ -5,15 +5,14 @@ ghost use Rattle.dt_world_model.specs.Ledgers.{ledger_of};
 ghost use Rattle.dt_units.specs.Flows.{IsFlow};
 ghost use Rattle.dt_world_model.specs.WorldStep.{first_refusal, refusals};
 ghost use Rattle.dt_world.specs.Applying.{IsApplied};
-ghost use Rattle.dt_world.specs.Worlds.{IsWhole, MayStep, event_of, most_read, world_seen};
+ghost use Rattle.dt_notes.specs.Events.{MayStep, event_of, most_read};
+ghost use Rattle.dt_world.specs.Worlds.{IsWhole, world_seen};
 
 use crate::doing;
-use crate::events::Event;
-use crate::notes::stays_below;
-use crate::reporters::Lines;
 use crate::world_parts::WorldParts;
 use dt_items::{MarkedOctets, NoMemory};
 use dt_layout::Frame;
+use dt_notes::{Event, Lines, stays_below};
 use dt_units::Flow;
 
 /// The event happens. `NoMemory` comes also where a count would pass its end: 2^62 octets of a flow,

@@ -10,12 +10,10 @@ ghost use Rattle.dt_world.specs.Stopping.{ComesAt};
 ghost use Rattle.dt_world.specs.Outcomes.{Happens};
 ghost use Rattle.dt_world.specs.Worlds.{IsStationOf, IsWhole, world_seen};
 
-use crate::event_contexts::{Brought, EventContext};
-use crate::notes::Notes;
 use crate::placed_events::PlacedEvent;
 use crate::placed_stations::{PlacedStation, deliver_to_station};
-use crate::reporters::Lines;
 use dt_items::NoMemory;
+use dt_notes::{Brought, EventContext, Lines, Notes};
 use dt_units::Rules;
 use dt_world_model::Link;
 use indexmap::IndexMap;

@@ -5,18 +5,16 @@ ghost use Rattle.dt_world_model.specs.Tables.{has_key};
 ghost use Rattle.dt_world_model.specs.World.{placed};
 ghost use Rattle.dt_world_model.specs.WorldFacts.{SafeLedgers, SafeWorld, WorldFacts};
 ghost use Rattle.dt_world.specs.Outcomes.{Answers};
-ghost use Rattle.dt_world.specs.Worlds.{MayStep, event_of};
+ghost use Rattle.dt_notes.specs.Events.{MayStep, event_of};
 
-use crate::events::Event;
 use crate::refusals::{has_station, refusal};
-use crate::reporters::Lines;
-use crate::setups::Setup;
 use crate::starts::first_parts;
 use crate::steps::apply_event;
 use crate::world_parts::WorldParts;
 use dt_items::NoMemory;
 use dt_layout::Frame;
 use dt_ledger::Ledger;
+use dt_notes::{Event, Lines, Setup};
 use dt_reports::StepFault;
 use dt_units::NodeId;
 use dt_units::limits::MOST_OCTETS;
@@ -45,7 +43,8 @@ impl Model for World {
 
     ghost use Rattle.std.specs.Prelude.{◌≡◌, false, length};
     ghost use Rattle.dt_world_model.specs.WorldFacts.{SafeLedgers};
-    ghost use Rattle.dt_world.specs.Worlds.{IsWhole, most_read, world_seen};
+    ghost use Rattle.dt_notes.specs.Events.{most_read};
+    ghost use Rattle.dt_world.specs.Worlds.{IsWhole, world_seen};
 
     ghost view = { λ w. record { state = world_seen w.parts.value; spent = w.spent } };
 

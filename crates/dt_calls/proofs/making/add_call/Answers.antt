@@ -1,10 +1,10 @@
 use Rattle.std.proofs.Common.{ℕ, ◌≡◌, ◌++◌, ◌∷◌, [], List, length, sym, subst, rules}
 use Rattle.dt_calls_model.specs.declared.calls.Call.{Call}
-use Rattle.dt_calls.specs.Parts.{AreShort}
-use Rattle.dt_calls.specs.Waiting.{Covers}
+use Rattle.dt_call_parts.specs.Kept.{AreShort}
+use Rattle.dt_call_parts.specs.Waiting.{Covers}
 use Rattle.dt_calls.proofs.Makings.{call_for, on_ok}
-use Rattle.dt_calls.proofs.Requests.{short_added}
-use Rattle.dt_calls.proofs.Waiting.{covers_added}
+use Rattle.dt_call_parts.proofs.Requests.{short_added}
+use Rattle.dt_call_parts.proofs.Waiting.{covers_added}
 use Rattle.dt_calls.proofs.making.add_call.Goals as goal
 
 pub returns-clause-waiting : goal.returns-clause-waiting

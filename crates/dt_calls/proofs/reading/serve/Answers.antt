@@ -5,7 +5,7 @@ use Rattle.dt_calls_model.specs.CallTold.{CallEntry}
 use Rattle.dt_calls_model.specs.Reads.{serve_call}
 use Rattle.dt_calls.specs.Parts.{calls_seen}
 use Rattle.dt_calls.proofs.ReadSides.{stopped_with}
-use Rattle.dt_calls.proofs.Servings.{serving_stops}
+use Rattle.dt_call_parts.proofs.Servings.{serving_stops}
 use Rattle.dt_calls.proofs.reading.serve.Goals as goal
 
 pub returns-in_err-reply-clause-goes : goal.returns-in_err-reply-clause-goes

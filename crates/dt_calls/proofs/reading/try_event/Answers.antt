@@ -1,9 +1,9 @@
 use Rattle.std.proofs.Common.{Result, ap, subst, sym, ◌∙◌}
 use Rattle.dt_items.specs.declared.memory.NoMemory.{NoMemory}
 use Rattle.dt_world.specs.Outcomes.{Answers}
-use Rattle.dt_world.specs.Worlds.{event_of}
+use Rattle.dt_notes.specs.Events.{event_of}
 use Rattle.dt_calls.specs.Happening.{Happens, ended}
-use Rattle.dt_calls.specs.Hearing.{HeardValue, Hears}
+use Rattle.dt_call_parts.specs.Hearing.{HeardValue, Hears}
 use Rattle.dt_calls.proofs.Hearings.{happened}
 use Rattle.dt_calls.proofs.reading.try_event.Goals as goal
 

@@ -1,7 +1,7 @@
 use Rattle.std.proofs.Common.{ℕ, ◌+◌, ◌<◌, ◌≤◌, ◌++◌, drop, length, length-set, set, take, sym, ap, subst, ◌∙◌, arith, rules}
-use Rattle.dt_calls.specs.Waiting.{Covers}
-use Rattle.dt_calls.proofs.JudgeWaiting.{number_dropped, number_kept, number_there}
-use Rattle.dt_calls.proofs.WaitingLeft.{Wait, all_kept, number_waits}
+use Rattle.dt_call_parts.specs.Waiting.{Covers}
+use Rattle.dt_call_parts.proofs.JudgeWaiting.{number_dropped, number_kept, number_there}
+use Rattle.dt_call_parts.proofs.WaitingLeft.{Wait, all_kept, number_waits}
 use Rattle.dt_calls.proofs.unsure_calls.drop_settled.Goals as goal
 use Rattle.dt_calls.proofs.unsure_calls.drop_settled.Goals.{then-is_waiting, else-is_waiting}
 

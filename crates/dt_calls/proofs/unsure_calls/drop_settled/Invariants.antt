@@ -1,6 +1,6 @@
 use Rattle.std.proofs.Common.{◌≡◌, ◌≤◌, ◌++◌, drop, length, take}
-use Rattle.dt_calls.specs.Waiting.{Covers}
-use Rattle.dt_calls.proofs.WaitingLeft.{Wait}
+use Rattle.dt_call_parts.specs.Waiting.{Covers}
+use Rattle.dt_call_parts.proofs.WaitingLeft.{Wait}
 use Rattle.dt_calls.proofs.unsure_calls.drop_settled.Given as goal
 
 abbrev pub invariant-loop-place : goal.invariant-loop-place

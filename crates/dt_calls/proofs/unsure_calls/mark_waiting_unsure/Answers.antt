@@ -2,7 +2,7 @@ use Rattle.std.proofs.Common.{ℕ, ◌+◌, ◌≡◌, ◌<◌, ◌≤◌, List,
 use Rattle.dt_calls_model.specs.CallStep.{becomes_unsure}
 use Rattle.dt_calls.specs.Parts.{calls_seen}
 use Rattle.dt_calls.proofs.JudgeParts.{is_there, same_read, sure_next, to_number, unsure_next}
-use Rattle.dt_calls.proofs.JudgeWaiting.{JudgesTo, all_judged, none_from}
+use Rattle.dt_call_parts.proofs.JudgeWaiting.{JudgesTo, all_judged, none_from}
 use Rattle.dt_calls.proofs.unsure_calls.mark_waiting_unsure.Goals as goal
 use Rattle.dt_calls.proofs.unsure_calls.mark_waiting_unsure.Goals.{then-becomes_unsure, else-becomes_unsure}
 

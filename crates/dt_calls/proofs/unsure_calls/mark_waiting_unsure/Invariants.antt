@@ -1,6 +1,6 @@
 use Rattle.std.proofs.Common.{◌≡◌, drop}
-use Rattle.dt_calls.specs.Waiting.{Covers}
-use Rattle.dt_calls.proofs.JudgeWaiting.{JudgesTo}
+use Rattle.dt_call_parts.specs.Waiting.{Covers}
+use Rattle.dt_call_parts.proofs.JudgeWaiting.{JudgesTo}
 use Rattle.dt_calls.proofs.unsure_calls.mark_waiting_unsure.Given as goal
 
 abbrev pub invariant-loop-place : goal.invariant-loop-place

@@ -2,7 +2,7 @@ use Rattle.std.proofs.Common.{Option, Result, sym, subst}
 use Rattle.dt_reports.specs.declared.faults.Fault.{Fault}
 use Rattle.dt_fold.specs.declared.stops.Stop.{Stop}
 use Rattle.dt_fold.specs.Logging.{TurnsTo}
-use Rattle.dt_world.specs.Worlds.{event_of}
+use Rattle.dt_notes.specs.Events.{event_of}
 use Rattle.dt_world_model.specs.WorldStep.{world_step}
 use Rattle.dt_replay.specs.Schedules.{by_step}
 use Rattle.dt_replay.proofs.Steps.{step_same, step_turns}

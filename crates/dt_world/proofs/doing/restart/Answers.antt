@@ -13,7 +13,7 @@ use Rattle.dt_world.specs.Stopping.{ComesTo, IsLastLife}
 use Rattle.dt_world.specs.Worlds.{IsStationOf, placed_seen, stations_seen, world_seen}
 use Rattle.dt_world.proofs.Possible.{is_placed, stopped_at_once, there}
 use Rattle.dt_world.proofs.Restarting.{emptied_new, nobody_restarts, restart_happened, started_again}
-use Rattle.dt_world.proofs.SetupTables.{look_keyed}
+use Rattle.dt_notes.proofs.SetupTables.{look_keyed}
 use Rattle.dt_world.proofs.StationTables.{all_at, all_written, not_there, station_same, station_written, with_stations}
 use Rattle.dt_world.proofs.doing.restart.Goals as goal
 

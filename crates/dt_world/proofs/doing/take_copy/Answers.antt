@@ -1,7 +1,7 @@
 use Rattle.std.proofs.Common.{ℕ, ap, subst, sym, ◌∙◌}
 use Rattle.dt_layout.specs.Carried.{IsGram}
 use Rattle.dt_world_model.specs.World.{Copy}
-use Rattle.dt_world.specs.Copies.{copy_in}
+use Rattle.dt_notes.specs.Copies.{copy_in}
 use Rattle.dt_world.proofs.Arriving.{gram_short}
 use Rattle.dt_world.proofs.doing.take_copy.Goals as goal
 

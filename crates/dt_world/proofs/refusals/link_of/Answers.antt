@@ -2,7 +2,7 @@ use Rattle.std.proofs.Common.{ℕ, ◌==◌, List, Option, ap, sym, ◌∙◌}
 use Rattle.std.specs.Prelude.{unwrap_or}
 use Rattle.dt_world_model.specs.declared.links.Link.{Link}
 use Rattle.dt_world_model.specs.Tables.{look}
-use Rattle.dt_world.proofs.SetupTables.{look_keyed, numbered_links}
+use Rattle.dt_notes.proofs.SetupTables.{look_keyed, numbered_links}
 use Rattle.dt_world.proofs.refusals.link_of.Goals as goal
 
 pub returns-in-Some : goal.returns-in-Some

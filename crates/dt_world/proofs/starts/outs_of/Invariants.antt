@@ -1,6 +1,6 @@
 use Rattle.std.proofs.Common.{◌≡◌, ◌++◌}
 use Rattle.dt_world_model.specs.Setup.{outs_of}
-use Rattle.dt_world.specs.Setups.{links_of}
+use Rattle.dt_notes.specs.Setups.{links_of}
 use Rattle.dt_world.proofs.starts.outs_of.Given as goal
 
 abbrev pub invariant-loop-link : goal.invariant-loop-link

@@ -1,6 +1,6 @@
 use Rattle.std.proofs.Common.{◌≡◌, ◌++◌}
 use Rattle.dt_world_model.specs.Setup.{routes_of}
-use Rattle.dt_world.specs.Setups.{stated_routes}
+use Rattle.dt_notes.specs.Setups.{stated_routes}
 use Rattle.dt_world.proofs.starts.routes_of.Given as goal
 
 abbrev pub invariant-loop-way : goal.invariant-loop-way

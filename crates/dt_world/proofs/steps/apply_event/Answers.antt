@@ -1,4 +1,4 @@
-use Rattle.dt_world.specs.declared.events.Event.TheVariants as event
+use Rattle.dt_notes.specs.declared.events.Event.TheVariants as event
 use Rattle.dt_world.proofs.Applying.{at_a_station, on_err_any, lost, on_ok_any, passed, sent, unsent, was_read}
 use Rattle.dt_world.proofs.steps.apply_event.Goals as goal
 

@@ -10,12 +10,12 @@ use Rattle.dt_world_laws.proofs.Worlds.{placed_is}
 use Rattle.dt_world.specs.declared.placed_stations.Plan.{Plan}
 use Rattle.dt_world.specs.declared.placed_stations.PlacedStation.{PlacedStation}
 use Rattle.dt_world.specs.PlacedEvents.{MayCome, event_seen}
-use Rattle.dt_world.specs.Notes.{ledgers_seen}
+use Rattle.dt_notes.specs.Notes.{ledgers_seen}
 use Rattle.dt_world.specs.Steps.{noted_in, occasion_with}
 use Rattle.dt_world.specs.Worlds.{IsStationOf, placed_seen, stations_seen, world_seen}
 use Rattle.dt_world.proofs.Happening.{nothing_happened, occasion_is, result_happened}
-use Rattle.dt_world.proofs.RunTables.{on_both}
-use Rattle.dt_world.proofs.SetupTables.{look_keyed}
+use Rattle.dt_notes.proofs.RunTables.{on_both}
+use Rattle.dt_notes.proofs.SetupTables.{look_keyed}
 use Rattle.dt_world.proofs.StationTables.{all_at, all_written, look_seen, not_there, station_written, with_stations}
 use Rattle.dt_world.proofs.world_parts.event_at.Goals as goal
 

@@ -1,15 +1,15 @@
 use Rattle.std.proofs.Common.{◌≡◌, false, List, refl, ap, sym, subst, ◌∙◌}
 use Rattle.dt_units.specs.declared.endpoints.Flow.{Flow}
 use Rattle.dt_world.specs.Outcomes.{IsDone}
-use Rattle.dt_world.specs.Worlds.{event_of}
+use Rattle.dt_notes.specs.Events.{event_of}
 use Rattle.dt_calls_model.specs.CallFacts.{CourseFacts}
 use Rattle.dt_calls_model.specs.Calls.{Begun, Calls}
-use Rattle.dt_calls.specs.declared.dues.Due.TheVariants as due
+use Rattle.dt_call_parts.specs.declared.dues.Due.TheVariants as due
 use Rattle.dt_calls.specs.CallCourses.{CourseValue}
-use Rattle.dt_calls.specs.Dues.{IsDue}
-use Rattle.dt_calls.specs.Flows.{flows_seen}
+use Rattle.dt_call_parts.specs.Dues.{IsDue}
+use Rattle.dt_call_parts.specs.Flows.{flows_seen}
 use Rattle.dt_calls.specs.Going.{HasGone}
-use Rattle.dt_calls.specs.Hearing.{HeardValue, Hears, for_event}
+use Rattle.dt_call_parts.specs.Hearing.{HeardValue, Hears, for_event}
 use Rattle.dt_calls.specs.Parts.{calls_seen}
 use Rattle.dt_calls.proofs.Goings.{due_then, world_after}
 use Rattle.dt_calls.proofs.Kept.{event_kept}

@@ -2,7 +2,7 @@ use Rattle.std.proofs.Common.{refl}
 use Rattle.std.proofs.lemmas.Result.{err_from_is_err_and}
 use Rattle.dt_calls_model.specs.CallStep.{judge_all, finish}
 use Rattle.dt_calls_model.specs.Reads.{read_all}
-use Rattle.dt_calls.proofs.Courses.{gone_then, stop_then}
+use Rattle.dt_call_parts.proofs.Courses.{gone_then, stop_then}
 use Rattle.dt_calls.proofs.ReadSides.{stopped_with}
 use Rattle.dt_calls.proofs.call_courses.CallCourse.finish.Goals as goal
 

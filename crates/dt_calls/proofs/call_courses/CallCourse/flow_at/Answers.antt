@@ -2,8 +2,8 @@ use Rattle.std.proofs.Common.{◌≡◌, true, Some, ap, sym, subst, ◌∙◌}
 use Rattle.std.specs.Prelude.{is_some, slice_get}
 use Rattle.dt_world_model.specs.Tables.{has_key, same_flow}
 use Rattle.dt_calls.specs.CallCourses.{CourseValue}
-use Rattle.dt_calls.specs.Parts.{keys_in}
-use Rattle.dt_calls.proofs.FlowTables.{key_at, key_found}
+use Rattle.dt_call_parts.specs.Kept.{keys_in}
+use Rattle.dt_call_parts.proofs.FlowTables.{key_at, key_found}
 use Rattle.dt_calls.proofs.call_courses.CallCourse.flow_at.Goals as goal
 
 pub returns-clause-at : goal.returns-clause-at

@@ -7,8 +7,8 @@ use Rattle.dt_calls_model.specs.declared.calls.Call.{Call}
 use Rattle.dt_calls_model.specs.Messages.{reversed}
 use Rattle.dt_calls.specs.CallCourses.{CourseValue}
 use Rattle.dt_calls.specs.Parts.{calls_seen}
-use Rattle.dt_calls.proofs.FlowTables.{key_found}
-use Rattle.dt_calls.proofs.Ways.{calls_along}
+use Rattle.dt_call_parts.proofs.FlowTables.{key_found}
+use Rattle.dt_call_parts.proofs.Ways.{calls_along}
 use Rattle.dt_calls.proofs.call_courses.CallCourse.is_way_of_replies.Goals as goal
 
 pub returns : goal.returns

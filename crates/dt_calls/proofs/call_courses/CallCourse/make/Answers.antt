@@ -3,16 +3,17 @@ use Rattle.dt_world_model.specs.WorldStep.{first_refusal}
 use Rattle.dt_calls_model.specs.CallFacts.{CourseFacts}
 use Rattle.dt_calls_model.specs.Calls.{Calls, with_flow}
 use Rattle.dt_calls_model.specs.CallStep.{call_refusals}
-use Rattle.dt_calls.specs.declared.dues.Due.TheVariants as due
+use Rattle.dt_call_parts.specs.declared.dues.Due.TheVariants as due
 use Rattle.dt_calls.specs.CallCourses.{CourseValue}
-use Rattle.dt_calls.specs.Courses.{HasGoneOn}
-use Rattle.dt_calls.specs.Dues.{IsDue}
-use Rattle.dt_calls.specs.Flows.{flows_seen}
-use Rattle.dt_calls.specs.Parts.{AreShort, IsKeptWorld, calls_seen}
-use Rattle.dt_calls.specs.Waiting.{Covers}
+use Rattle.dt_call_parts.specs.Courses.{HasGoneOn}
+use Rattle.dt_call_parts.specs.Dues.{IsDue}
+use Rattle.dt_call_parts.specs.Flows.{flows_seen}
+use Rattle.dt_call_parts.specs.Kept.{AreShort, IsKeptWorld}
+use Rattle.dt_calls.specs.Parts.{calls_seen}
+use Rattle.dt_call_parts.specs.Waiting.{Covers}
 use Rattle.dt_calls.proofs.Kept.{made_kept}
 use Rattle.dt_calls.proofs.Makings.{Adding, handed_in, made_due_in, made_world, makes}
-use Rattle.dt_calls.proofs.Requests.{posted_short}
+use Rattle.dt_call_parts.proofs.Requests.{posted_short}
 use Rattle.dt_calls.proofs.call_courses.CallCourse.make.Goals as goal
 
 pub invariant_of-self-2 : goal.invariant_of-self-2

@@ -3,9 +3,10 @@ use Rattle.dt_calls_model.specs.CallFacts.{CourseFacts}
 use Rattle.dt_calls_model.specs.Calls.{Calls}
 use Rattle.dt_calls_laws.proofs.States.{judge_course}
 use Rattle.dt_calls.specs.CallCourses.{CourseValue}
-use Rattle.dt_calls.specs.Parts.{AreShort, IsKeptWorld, calls_seen}
-use Rattle.dt_calls.specs.Waiting.{Covers}
-use Rattle.dt_calls.proofs.Requests.{judged_short}
+use Rattle.dt_call_parts.specs.Kept.{AreShort, IsKeptWorld}
+use Rattle.dt_calls.specs.Parts.{calls_seen}
+use Rattle.dt_call_parts.specs.Waiting.{Covers}
+use Rattle.dt_call_parts.proofs.Requests.{judged_short}
 use Rattle.dt_calls.proofs.call_courses.CallCourse.mark_unsure.Goals as goal
 
 pub invariant_of-self : goal.invariant_of-self

@@ -2,10 +2,10 @@ use Rattle.std.proofs.Common.{subst, ◌∙◌}
 use Rattle.std.proofs.lemmas.Result.{err_from_is_err_and}
 use Rattle.dt_calls_model.specs.Calls.{Client}
 use Rattle.dt_calls_model.specs.Reads.{Course, read_all, read_side}
-use Rattle.dt_calls.specs.Courses.{GoesOn}
-use Rattle.dt_calls.proofs.Boths.{both_go, both_stop}
+use Rattle.dt_call_parts.specs.Courses.{GoesOn}
+use Rattle.dt_call_parts.proofs.Boths.{both_go, both_stop}
 use Rattle.dt_calls.proofs.ReadSides.{stopped_with}
-use Rattle.dt_calls.proofs.Skips.{has_by_keys}
+use Rattle.dt_call_parts.proofs.Skips.{has_by_keys}
 use Rattle.dt_calls.proofs.call_courses.CallCourse.read_both.Goals as goal
 
 pub returns-in_err-read_side-clause-goes : goal.returns-in_err-read_side-clause-goes

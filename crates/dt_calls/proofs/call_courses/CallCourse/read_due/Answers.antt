@@ -2,10 +2,10 @@ use Rattle.std.proofs.Common.{subst}
 use Rattle.std.proofs.lemmas.Result.{err_from_is_err_and}
 use Rattle.dt_calls_model.specs.Calls.{Client}
 use Rattle.dt_calls_model.specs.Reads.{read_all, read_sides}
-use Rattle.dt_calls.specs.declared.dues.Due.{Due}
-use Rattle.dt_calls.specs.Courses.{GoesOn}
-use Rattle.dt_calls.specs.Dues.{IsDue}
-use Rattle.dt_calls.proofs.Boths.{none_goes, sides_go, sides_stop}
+use Rattle.dt_call_parts.specs.declared.dues.Due.{Due}
+use Rattle.dt_call_parts.specs.Courses.{GoesOn}
+use Rattle.dt_call_parts.specs.Dues.{IsDue}
+use Rattle.dt_call_parts.proofs.Boths.{none_goes, sides_go, sides_stop}
 use Rattle.dt_calls.proofs.ReadSides.{stopped_with}
 use Rattle.dt_calls.proofs.call_courses.CallCourse.read_due.Goals as goal
 

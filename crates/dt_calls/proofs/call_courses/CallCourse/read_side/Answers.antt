@@ -6,9 +6,9 @@ use Rattle.dt_world_model.specs.Tables.{has_key, same_flow}
 use Rattle.dt_calls_model.specs.Promises.{IsServedOnce}
 use Rattle.dt_calls_model.specs.Reads.{Course, read_side, take_whole}
 use Rattle.dt_calls.specs.CallCourses.{CourseValue, IsOnCourse}
-use Rattle.dt_calls.specs.Courses.{HasGoneOn, HasStopped}
+use Rattle.dt_call_parts.specs.Courses.{HasGoneOn, HasStopped}
 use Rattle.dt_calls.specs.Parts.{calls_seen}
-use Rattle.dt_calls.specs.Sides.{side_seen}
+use Rattle.dt_call_parts.specs.Sides.{side_seen}
 use Rattle.dt_calls.proofs.ReadSides.{IsReading, OneRead, message_is_short, none_stays, none_taken, one_read, piece_lost, reading_begins, reading_ends, reading_falls, reading_goes, reading_on, reading_stops, still_served_once, stopped_with, taken_by, with_read}
 use Rattle.dt_calls.proofs.call_courses.CallCourse.read_side.Given.{Over}
 use Rattle.dt_calls.proofs.call_courses.CallCourse.read_side.Goals.{After-piece}

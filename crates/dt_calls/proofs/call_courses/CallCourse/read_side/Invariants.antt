@@ -1,8 +1,8 @@
 use Rattle.std.proofs.Common.{◌≡◌, true}
 use Rattle.dt_calls.specs.Parts.{calls_seen}
-use Rattle.dt_calls.specs.Sides.{side_seen}
+use Rattle.dt_call_parts.specs.Sides.{side_seen}
 use Rattle.dt_calls.proofs.ReadSides.{IsReading}
-use Rattle.dt_calls.proofs.Readings.{left_unread}
+use Rattle.dt_call_parts.proofs.Readings.{left_unread}
 use Rattle.dt_calls.proofs.call_courses.CallCourse.read_side.Given as goal
 
 abbrev pub invariant-loop-self : goal.invariant-loop-self

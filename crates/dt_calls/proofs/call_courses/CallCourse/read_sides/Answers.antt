@@ -1,11 +1,11 @@
 use Rattle.std.proofs.Common.{subst, ◌∙◌}
 use Rattle.std.proofs.lemmas.Result.{err_from_is_err_and}
 use Rattle.dt_calls_model.specs.Reads.{Course, read_side, read_sides}
-use Rattle.dt_calls.specs.Courses.{HasGoneOn, HasStopped}
-use Rattle.dt_calls.specs.Parts.{keys_in}
-use Rattle.dt_calls.specs.Sides.{side_seen}
+use Rattle.dt_call_parts.specs.Courses.{HasGoneOn, HasStopped}
+use Rattle.dt_call_parts.specs.Kept.{keys_in}
+use Rattle.dt_call_parts.specs.Sides.{side_seen}
 use Rattle.dt_calls.proofs.ReadSides.{stopped_with}
-use Rattle.dt_calls.proofs.SidesRead.{flow_there, next, stopped}
+use Rattle.dt_call_parts.proofs.SidesRead.{flow_there, next, stopped}
 use Rattle.dt_calls.proofs.call_courses.CallCourse.read_sides.Goals as goal
 
 pub returns-in_err-read_side-clause-goes : goal.returns-in_err-read_side-clause-goes

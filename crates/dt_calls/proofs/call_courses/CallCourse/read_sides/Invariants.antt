@@ -1,7 +1,7 @@
 use Rattle.std.proofs.Common.{◌≡◌, false}
-use Rattle.dt_calls.specs.Parts.{keys_in}
-use Rattle.dt_calls.specs.Sides.{side_seen}
-use Rattle.dt_calls.proofs.SidesRead.{SidesOn}
+use Rattle.dt_call_parts.specs.Kept.{keys_in}
+use Rattle.dt_call_parts.specs.Sides.{side_seen}
+use Rattle.dt_call_parts.proofs.SidesRead.{SidesOn}
 use Rattle.dt_calls.proofs.call_courses.CallCourse.read_sides.Given as goal
 
 abbrev pub invariant-loop-place : goal.invariant-loop-place

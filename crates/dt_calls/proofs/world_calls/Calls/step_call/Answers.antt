@@ -6,8 +6,8 @@ use Rattle.dt_calls_model.specs.CallFacts.{CallFacts}
 use Rattle.dt_calls_model.specs.CallStep.{Makes, call_refusals, finish}
 use Rattle.dt_calls.specs.CallCourses.{CourseValue}
 use Rattle.dt_calls.specs.CallOutcomes.{Answers, CallsValue, IsDone}
-use Rattle.dt_calls.specs.Courses.{HasGoneOn, HasStopped}
-use Rattle.dt_calls.proofs.DuesLeft.{nothing_due}
+use Rattle.dt_call_parts.specs.Courses.{HasGoneOn, HasStopped}
+use Rattle.dt_call_parts.proofs.DuesLeft.{nothing_due}
 use Rattle.dt_calls.proofs.Kept.{answers_so, facts_done}
 use Rattle.dt_calls.proofs.Steps.{call_cut, call_cut_late, call_ends, call_plain, call_refused, lacked, lacks_all}
 use Rattle.dt_calls.proofs.world_calls.Calls.step_call.Given.{Over}

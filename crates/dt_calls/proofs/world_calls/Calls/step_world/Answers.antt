@@ -1,14 +1,14 @@
 use Rattle.std.proofs.Common.{◌≡◌, Ok, ap, sym, subst, ◌∙◌}
 use Rattle.std.proofs.lemmas.Result.{err_from_is_err_and}
 use Rattle.dt_reports.specs.declared.faults.StepFault.{StepFault}
-use Rattle.dt_world.specs.Worlds.{event_of}
+use Rattle.dt_notes.specs.Events.{event_of}
 use Rattle.dt_calls_model.specs.CallFacts.{CallFacts}
 use Rattle.dt_calls_model.specs.CallStep.{Happens, finish}
 use Rattle.dt_calls.specs.CallCourses.{CourseValue}
 use Rattle.dt_calls.specs.CallOutcomes.{CallsValue, IsDone, is_memory, lacks_memory}
-use Rattle.dt_calls.specs.Courses.{HasGoneOn, HasStopped}
+use Rattle.dt_call_parts.specs.Courses.{HasGoneOn, HasStopped}
 use Rattle.dt_calls.specs.Going.{GoesWrong, HasGone}
-use Rattle.dt_calls.proofs.DuesLeft.{nothing_due}
+use Rattle.dt_call_parts.proofs.DuesLeft.{nothing_due}
 use Rattle.dt_calls.proofs.Kept.{answers_so, facts_done}
 use Rattle.dt_calls.proofs.Steps.{event_cut, event_ends, event_wrong, fails_with, lacked, lacks_all, refused_same}
 use Rattle.dt_calls.proofs.world_calls.Calls.step_world.Given.{Over}

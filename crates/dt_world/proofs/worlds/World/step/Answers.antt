@@ -2,7 +2,8 @@ use Rattle.std.proofs.Common.{rules, ◌≡◌, Some, ap, subst, sym, ◌∙◌}
 use Rattle.dt_world_model.specs.World.{World}
 use Rattle.dt_world_model.specs.WorldStep.{first_refusal, refusals}
 use Rattle.dt_world.specs.declared.world_parts.WorldParts.{WorldParts}
-use Rattle.dt_world.specs.Worlds.{IsWhole, WorldValue, event_of, world_seen}
+use Rattle.dt_notes.specs.Events.{event_of}
+use Rattle.dt_world.specs.Worlds.{IsWhole, WorldValue, world_seen}
 use Rattle.dt_world.proofs.Stepping.{buf_kept, done_in, is_done, is_refused, is_spent, spent_in, whole_after}
 use Rattle.dt_world.proofs.Possible.{safe_now}
 use Rattle.dt_world.proofs.worlds.World.step.Goals as goal

@@ -1,0 +1,10 @@
+pub mod Courses
+pub mod Dues
+pub mod Flows
+pub mod Hearing
+pub mod Kept
+pub mod Resting
+pub mod Sides
+pub mod Telling
+pub mod Totals
+pub mod Waiting

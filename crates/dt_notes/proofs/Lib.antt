@@ -1,0 +1,3 @@
+pub mod RunTables
+pub mod SetupTables
+pub mod Slots

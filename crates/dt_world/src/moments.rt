@@ -1,9 +1,0 @@
-ghost use Rattle.std.specs.Prelude.{◌≤◌};
-ghost use Rattle.dt_world.specs.Moments.{most_now};
-
-/// A moment of the world in milliseconds: 0 to 2^61.
-#[derive(Clone, Copy)]
-pub struct Moment {
-    pub ms: u64,
-    ghost timely: { ms ≤ most_now },
-}
