@@ -1,5 +1,5 @@
 -- What is kept of calls and of their world.
-use Rattle.std.specs.Prelude.{ℕ, ◌≤◌, List, [], ◌∷◌, map}
+use Rattle.std.specs.Prelude.{◌≤◌, List, [], ◌∷◌, map}
 use Rattle.dt_units.specs.declared.endpoints.Flow.{Flow}
 use Rattle.dt_units.specs.Limits.{IsWithinLimits}
 use Rattle.dt_world_model.specs.World.{World}

@@ -16,6 +16,7 @@ pub struct CallTotals {
     pub waiting: u64,
 }
 
+/// Whether a call waits that stands so: it has no end yet.
 pub fn is_waiting(state: CallState) -> bool
     ensures { result ≡ is_waiting state }
 {

@@ -2,7 +2,6 @@
 ghost use Rattle.std.specs.Prelude.{◌≡◌, ◌+◌, ◌<◌, ◌≤◌, ◌^◌, ◌↔◌, ◌⊎◌, IsErr, IsTrue, OnErr, OnOk, None, length};
 ghost use Rattle.indexmap.specs.IndexMap.{spare};
 ghost use Rattle.dt_flow_model.specs.Ledger.{HasNoEntry};
-ghost use Rattle.dt_ledger.specs.Flows.{ledger_in};
 ghost use Rattle.dt_ledger.specs.Reads.{read_of_all};
 ghost use Rattle.dt_world_model.specs.Ledgers.{Accepts, Changes, GivesUp, ReadsOut, Settles, Takes, Transmits, TransmitsAgain, ledger_of, ledgers_by};
 ghost use Rattle.dt_world_model.specs.Tables.{look, same_flow, write};

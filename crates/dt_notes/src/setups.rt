@@ -151,6 +151,7 @@ impl Setup {
         &self.zeros
     }
 
+    /// The links by their numbers, in the order of their adding.
     pub fn links(&self) -> &IndexMap<u16, Link>
         ensures links { links_of result.now.entries ≡ self.now.links }
         ensures numbers { AreNumbered result.now.entries }
@@ -158,6 +159,8 @@ impl Setup {
         &self.links
     }
 
+    /// The link of each route, by the station that has it and the node that it leads to, in the order of
+    /// the routes' adding.
     pub fn ways(&self) -> &IndexMap<(u32, u32), u16>
         ensures { stated_routes result.now.entries ≡ self.now.routes }
     {

@@ -1,5 +1,5 @@
 -- The world as its callers see it, and what is kept of its parts.
-use Rattle.std.specs.Prelude.{ℕ, ◌+◌, ◌≤◌, ◌≡◌, false, Bool, List, [], ◌∷◌, length}
+use Rattle.std.specs.Prelude.{ℕ, ◌+◌, ◌≤◌, ◌≡◌, false, Bool, List, [], ◌∷◌}
 use Rattle.dt_units.specs.declared.parameters.Params.{Params}
 use Rattle.dt_units.specs.Limits.{IsWithinLimits}
 use Rattle.dt_world_model.specs.Relay.{emptied, new_relay}

@@ -1,5 +1,5 @@
 //! Who sees a station's event for the world.
-ghost use Rattle.std.specs.Prelude.{◌≡◌, length, OnErr, OnOk};
+ghost use Rattle.std.specs.Prelude.{◌≡◌, OnErr, OnOk};
 ghost use Rattle.dt_reports.specs.Told.{told};
 ghost use Rattle.dt_world_model.specs.Ledgers.{ledgers_by};
 ghost use Rattle.dt_world_model.specs.World.{world_told};
