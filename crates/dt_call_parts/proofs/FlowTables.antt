@@ -1,11 +1,12 @@
 -- The flows with a call under the calls of their map.
 use Rattle.std.proofs.Common.{ℕ, zero, suc, ◌+◌, ◌≡◌, ◌<◌, Bool, true, false, List, [], ◌∷◌, ◌++◌, length, map, set, drop, take, Option, Some, None, Result, Ok, Err, refl, sym, ap, ◌∙◌, inl, inr, arith, add-one, length-set}
-use Rattle.std.specs.Prelude.{IfOk, MatchOption, is_some, option_map, slice_get, slice_index_or, unwrap_or}
+use Rattle.std.specs.Prelude.{IfOk, MatchOption, OnErr, is_some, option_map, slice_get, slice_index_or, unwrap_or}
 use Rattle.std.specs.Map.{lookup, set_value}
 use Rattle.std.proofs.lemmas.Bool.{cases_Bool}
 use Rattle.indexmap.specs.IndexMap.{insert_entry, set_value_at}
 use Rattle.dt_units.specs.declared.endpoints.Flow.{Flow}
 use Rattle.dt_world_model.specs.Tables.{has_key, look, same_flow, write}
+use Rattle.dt_world_model.proofs.Maps as maps
 use Rattle.dt_world_model.proofs.Maps.{equal_flows, flow_inserted, flow_looked, flow_written}
 use Rattle.dt_world_model.proofs.Tables.{flow_is, flow_self, look_write}
 use Rattle.dt_calls_model.specs.Calls as model
@@ -96,6 +97,10 @@ pub if_ok_weaker : {T E P Q : Type 0} (r : Result T E) → (P → Q) → IfOk r 
 if_ok_weaker (Ok x) f p = f p
 if_ok_weaker (Err e) f p = tt
 
+pub on_err_weaker : {T E P Q : Type 0} (r : Result T E) → (P → Q) → OnErr r P → OnErr r Q
+on_err_weaker (Ok x) f p = tt
+on_err_weaker (Err e) f p = f p
+
 pub key_lost : (f : Flow) (es : List (Flow × FlowSides)) → has_key same_flow f (flows_seen es) ≡ true → lookup (equal_flows f) es ≡ None → ⊥
 key_lost f es there none = let wrong : true ≡ false = sym there ∙ key_found f es ∙ ap is_some none in cc
 
@@ -104,6 +109,11 @@ pub wrote : (f : Flow) (a s : FlowSides) (es after : List (Flow × FlowSides)) (
     → begun_of a ≡ change (begun_of s) → flows_seen after ≡ with_sides_in f (change (begun_in f (flows_seen es))) (flows_seen es)
 wrote f a s es after change there is changed =
     ap flows_seen is ∙ written f a s es there ∙ ap (λ (b : model.Begun). write same_flow f b (flows_seen es)) (changed ∙ ap change (sym (begun_found f s es there)))
+
+-- where that is what they had, the flows are what they were
+pub wrote_same : (f : Flow) (a s : FlowSides) (es after : List (Flow × FlowSides)) → lookup (equal_flows f) es ≡ Some s → has_key same_flow f (flows_seen es) ≡ true → after ≡ set_value (equal_flows f) es a
+    → begun_of a ≡ begun_of s → flows_seen after ≡ flows_seen es
+wrote_same f a s es after there key is same = wrote f a s es after (λ (b : model.Begun). b) there is same ∙ sym (maps.flow_there f none_begun (flows_seen es) key)
 
 -- A RESTART, flow by flow
 value_at : (es : List (Flow × FlowSides)) (i : ℕ) (k : Flow) (s t : FlowSides) → slice_get es i ≡ Some (k, s) → slice_get (map (λ (e : Flow × FlowSides). e.1) es) i ≡ Some t → s ≡ t

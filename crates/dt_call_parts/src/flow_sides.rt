@@ -1,5 +1,5 @@
 //! What is kept of a flow with a call: the messages that its two sides have begun to read.
-ghost use Rattle.std.specs.Prelude.{◌≡◌, None, IfOk, option_map};
+ghost use Rattle.std.specs.Prelude.{◌≡◌, None, IfOk, OnErr, option_map};
 ghost use Rattle.dt_units.specs.Flows.{IsFlow};
 ghost use Rattle.dt_calls_model.specs.Calls.{begun_at, flow_read, none_begun, with_begun};
 ghost use Rattle.dt_calls_model.specs.CallStep.{without_reader};
@@ -68,8 +68,8 @@ impl Begun {
         self.joiner.lose();
     }
 
-    /// A piece goes on it. Answers the message that it makes whole, if it does. After `NoMemory` it is
-    /// used no more. The cost is the piece.
+    /// A piece goes on it. Answers the message that it makes whole, if it does. `NoMemory` leaves what was
+    /// begun as it was. The cost is the piece.
     pub fn join(
         &mut self,
         alloc: Global,
@@ -78,6 +78,7 @@ impl Begun {
     ) -> Result<Option<Vec<u8>>, NoMemory>
         ensures whole { IfOk result (λ whole. option_map (λ message. message.items) whole ≡ whole_with self.old (piece_with marks octets.now)) }
         ensures begun { IfOk result (λ _. self.new ≡ begun_with self.old (piece_with marks octets.now)) }
+        ensures same { OnErr result (self.new ≡ self.old) }
     {
         match self.joiner.join(alloc, marks, octets)? {
             Some(message) => Ok(Some(message.octets)),
@@ -118,6 +119,7 @@ impl FlowSides {
             IfOk result (λ whole. option_map (λ message. message.items) whole ≡ whole_with (begun_at (side_seen side) before) (piece_with marks octets.now)) }
         ensures begun { let before = begun_of self.old in
             IfOk result (λ _. begun_of self.new ≡ with_begun (side_seen side) (begun_with (begun_at (side_seen side) before) (piece_with marks octets.now)) before) }
+        ensures same { OnErr result (begun_of self.new ≡ begun_of self.old) }
     {
         match side {
             Side::Server => self.request.join(alloc, marks, octets),

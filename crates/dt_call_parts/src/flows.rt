@@ -1,5 +1,5 @@
 //! The flows with a call.
-ghost use Rattle.std.specs.Prelude.{◌≡◌, ◌<◌, true, length, map, set, slice_index_or, IfOk, OnOk, option_map};
+ghost use Rattle.std.specs.Prelude.{◌≡◌, ◌<◌, true, length, map, set, slice_index_or, IfOk, OnErr, OnOk, option_map};
 ghost use Rattle.dt_world_model.specs.Tables.{has_key, same_flow};
 ghost use Rattle.dt_calls_model.specs.Calls.{begun_at, with_begun, with_flow};
 ghost use Rattle.dt_calls_model.specs.CallStep.{flows_after, without_reader};
@@ -19,9 +19,10 @@ use indexmap::IndexMap;
 /// The flows with a call, in the order of first calls, each with what its sides have begun to read.
 pub type Flows = IndexMap<Flow, FlowSides>;
 
-/// A flow gets its entry with its first call.
+/// A flow gets its entry with its first call. `NoMemory` leaves the flows as they were.
 pub fn add_flow(flows: &mut Flows, flow: Flow) -> Result<(), NoMemory>
-    ensures { OnOk result (flows_seen flows.new.entries ≡ with_flow flow (flows_seen flows.old.entries)) }
+    ensures added { OnOk result (flows_seen flows.new.entries ≡ with_flow flow (flows_seen flows.old.entries)) }
+    ensures same { OnErr result (flows_seen flows.new.entries ≡ flows_seen flows.old.entries) }
 {
     if flows.contains_key(&flow) {
         return Ok(());
@@ -31,7 +32,7 @@ pub fn add_flow(flows: &mut Flows, flow: Flow) -> Result<(), NoMemory>
 }
 
 /// A piece goes on what a side of the flow, which is there, has begun. Answers the message that it makes
-/// whole, if it does. The cost is the piece.
+/// whole, if it does. `NoMemory` leaves the flows as they were. The cost is the piece.
 pub fn join_piece(
     flows: &mut Flows,
     flow: &Flow,
@@ -44,6 +45,7 @@ pub fn join_piece(
         IfOk result (λ whole. option_map (λ message. message.items) whole ≡ whole_with (begun_at (side_seen side) before) (piece_with marks octets.now)) }
     ensures begun { let before = begun_in flow.now (flows_seen flows.old.entries) in
         IfOk result (λ _. flows_seen flows.new.entries ≡ with_sides_in flow.now (with_begun (side_seen side) (begun_with (begun_at (side_seen side) before) (piece_with marks octets.now)) before) (flows_seen flows.old.entries)) }
+    ensures same { OnErr result (flows_seen flows.new.entries ≡ flows_seen flows.old.entries) }
 {
     let alloc = *flows.allocator();
     match flows.get_mut(flow) {

@@ -10,7 +10,7 @@ use Rattle.dt_calls_model.specs.Promises.{AreItsAnswers, AreMadeWith, AreServedO
 use Rattle.dt_notes.specs.Events.{event_of}
 use Rattle.dt_calls_model.specs.Calls.{Calls}
 use Rattle.dt_calls_model.specs.CallStep as step
-use Rattle.dt_calls_model.specs.CallStep.{Faulty, Happens, Makes, Outcome, Stepped, call_step}
+use Rattle.dt_calls_model.specs.CallStep.{Faulty, Happens, Makes, Stepped, call_step}
 use Rattle.dt_calls_model.specs.CallTold.{CallEntry}
 use Rattle.dt_calls.specs.declared.call_events.CallEvent.{CallEvent}
 use Rattle.dt_calls.specs.declared.call_events.CallEvent.TheVariants as event

@@ -14,11 +14,13 @@ use Rattle.dt_flow_model.specs.ReceiveRecord.{recv_moment}
 use Rattle.dt_send.specs.Senders.{SenderValue}
 use Rattle.dt_recv.specs.Receivers.{ReceiverValue}
 use Rattle.dt_host.specs.declared.dues.DueKind.{DueKind}
-use Rattle.dt_host.specs.Agendas.{HasNone, IsFirstIn, SendNote, moment_in}
-use Rattle.dt_host.specs.Hosts.{records_by}
-use Rattle.dt_host.specs.Notes.{AreNoted, IsRecvNoted, IsSendNoted}
+use Rattle.dt_table.specs.Firsts.{HasNone, IsFirstIn, moment_in}
+use Rattle.dt_host.specs.Notes.{SendNote}
+use Rattle.dt_table.specs.Tables.{records_by}
+use Rattle.dt_table.specs.Tables.{AreNoted}
+use Rattle.dt_host.specs.Notes.{IsRecvNoted, IsSendNoted}
 use Rattle.dt_host.specs.Soonest.{IsQuiet, IsSoonest, receiver_moment, sender_moment}
-use Rattle.dt_host.proofs.Somes.{none_some, same_some}
+use Rattle.dt_table.proofs.Somes.{none_some, same_some}
 use Rattle.dt_host.proofs.Resends.{resend_later}
 
 module _ {A B N : Type 0} (seen : A → B) (P : B → N → Type 0) where

@@ -8,8 +8,9 @@ use Rattle.dt_flow_model.specs.SendActs.{wake_of}
 use Rattle.dt_flow_model.specs.ReceiveRecord.{Receiver, recv_wake_of}
 use Rattle.dt_world_model.specs.Tables.{earliest}
 use Rattle.dt_flow_model.specs.declared.moments.RecvMoments.{RecvMoments}
-use Rattle.dt_host.specs.Agendas.{SendNote, recv_wake}
-use Rattle.dt_host.specs.Notes.{AreNoted, IsRecvNoted, IsSendNoted}
+use Rattle.dt_host.specs.Notes.{SendNote, recv_wake}
+use Rattle.dt_table.specs.Tables.{AreNoted}
+use Rattle.dt_host.specs.Notes.{IsRecvNoted, IsSendNoted}
 
 -- a note is that of a moment of the past at each later moment
 pub later_noted : (p : Params) (latest now : ℕ) → latest ≤ now → (x : SendRecord) (n : SendNote) → IsSendNoted p latest x n → IsSendNoted p now x n

@@ -1,13 +1,6 @@
-pub mod Somes
-pub mod Standing
-pub mod Slots
-pub mod Agendas
-pub mod Tables
-pub mod Closing
 pub mod SendSides
 pub mod RecvSides
 pub mod Arrivals
-pub mod Entries
 pub mod HostParts
 pub mod NextTurns
 pub mod RecvTurns

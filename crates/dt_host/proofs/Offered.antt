@@ -24,10 +24,10 @@ use Rattle.dt_host.specs.declared.dues.DueKind.TheVariants as due
 use Rattle.dt_host.specs.Dues.{class_of, goes_first, or_recv, or_send, soonest_recv, soonest_send}
 use Rattle.dt_host.specs.Hosts.{AreReceiveEntries, AreSendEntries}
 use Rattle.dt_host.specs.Soonest.{IsQuiet, IsSoonest, receiver_moment, sender_moment}
-use Rattle.dt_host.proofs.Somes.{none_some, same_some}
+use Rattle.dt_table.proofs.Somes.{none_some, same_some}
 use Rattle.dt_host.proofs.Picks.{Beaten, Stays, receiver_own, recv_end, recv_step, send_end, send_step, sender_own, walks_beaten, walks_none, walks_on, walks_to}
 use Rattle.dt_host.specs.Hosts.{IsReceiveEntry, IsSendEntry}
-use Rattle.dt_host.proofs.Entries.{entry_at}
+use Rattle.dt_table.proofs.Entries.{entry_at}
 
 -- THE ORDER
 less_class : (a b : DueAct) → class_of a.kind < class_of b.kind → goes_first a b ≡ true

@@ -10,7 +10,7 @@ use Rattle.dt_send.specs.Senders.{SenderValue}
 use Rattle.dt_recv.specs.Receivers.{ReceiverValue}
 use Rattle.dt_host.specs.declared.dues.DueAct.{DueAct}
 use Rattle.dt_host.specs.Dues.{goes_first, or_recv, or_send, sooner_of, soonest_recv, soonest_send}
-use Rattle.dt_host.proofs.Somes.{none_some, same_some}
+use Rattle.dt_table.proofs.Somes.{none_some, same_some}
 
 -- ONE ACT against another
 abbrev pub Beaten : DueAct → Option DueAct → Type 0

@@ -23,21 +23,24 @@ use Rattle.dt_timers.specs.Deadlines.{HasNoMoment, IsFirst}
 use Rattle.dt_world_model.specs.Host.{Host, host_with_receiver, no_receiver, read_octets}
 use Rattle.dt_world_model.specs.Tables.{earliest, look, same_flow}
 use Rattle.dt_host.specs.declared.dues.DueKind.TheVariants as due
-use Rattle.dt_host.specs.Agendas.{HasRoom, IsFirstIn, Note, Tables, moment_of_kind, no_note, note_at, note_of_recv, recv_kinds, recv_note_in, recv_place}
+use Rattle.dt_table.specs.Agendas.{HasRoom, Note, Tables, moment_of_kind, no_note, note_at}
+use Rattle.dt_table.specs.Firsts.{IsFirstIn}
+use Rattle.dt_host.specs.Notes.{note_of_recv, recv_kinds, recv_note_in, recv_place}
 use Rattle.dt_items.specs.declared.memory.NoMemory.{NoMemory}
 use Rattle.dt_host.specs.Answers.{IsDataTaken, or_stays}
 use Rattle.dt_host.specs.Dues.{HasRecvDue}
 use Rattle.dt_host.specs.Hosts.{AreReceiveEntries, IsReceiveEntry, receiver_in, receivers_of}
-use Rattle.dt_host.specs.Notes.{AreNoted, IsRecvNoted, recv_noted}
-use Rattle.dt_host.specs.Places.{equal_flows, present, slot}
+use Rattle.dt_table.specs.Tables.{AreNoted}
+use Rattle.dt_host.specs.Notes.{IsRecvNoted, recv_noted}
+use Rattle.dt_table.specs.Places.{equal_flows, present, slot}
 use Rattle.dt_host.specs.Sides.{IsRecvKept, IsRecvSide, RecvSideValue}
 use Rattle.dt_host.specs.Soonest.{IsQuiet, IsSoonest, receiver_moment}
-use Rattle.dt_host.specs.Tables.{IsPlaced, Slots, rows}
+use Rattle.dt_table.specs.Tables.{IsPlaced, Slots, rows}
 use Rattle.dt_host.proofs.Firsts.{quiet_first, quiet_none, recv_exact, soonest_of}
 use Rattle.dt_host.proofs.RecvTurns.{IsIdle, IsKept, acted, answered, busy_stays, due_is, entry_is, gone as goes_idle, kept_made, look_none, made, made_with, nothing, read_from, read_moved, read_none, read_some, receiver_found, receiver_of, recv_told, stands_is, stayed, stepped, taken_is, unread_same, value_is, with_receivers}
 use Rattle.dt_host.proofs.Rows.{earliest_of_both, none_earliest, some_earliest}
-use Rattle.dt_host.proofs.Slots.{all_entries, are_noted, entry_there, none_in, notes_in, rank}
-use Rattle.dt_host.proofs.Tables.{Read, Written, first_kept, first_noted, first_slot, found_there, gone, row_of, rows_kept, rows_more, table_left, table_same, table_set, written}
+use Rattle.dt_table.proofs.Slots.{all_entries, are_noted, entry_there, none_in, notes_in, rank}
+use Rattle.dt_table.proofs.Tables.{Read, Written, first_kept, first_noted, first_slot, found_there, gone, row_of, rows_kept, rows_more, table_left, table_same, table_set, written}
 
 abbrev pub Places : Type 0
 Places = Slots ReceiverValue

@@ -25,8 +25,8 @@ use Rattle.dt_world_model.specs.Host.{Host, host_with_receiver, kept_if, no_rece
 use Rattle.dt_world_model.proofs.Tables.{flow_is}
 use Rattle.dt_host.specs.Dues.{HasRecvDue}
 use Rattle.dt_host.specs.Hosts.{AreReceiveEntries, IsReceiveEntry, receiver_in, receivers_of}
-use Rattle.dt_host.proofs.Entries.{all_found, all_inserted, all_removed, all_written, inserted, look_found, removed, removed_written, written}
-use Rattle.dt_host.specs.Places.{equal_flows}
+use Rattle.dt_table.proofs.Entries.{all_found, all_inserted, all_removed, all_written, inserted, look_found, removed, removed_written, written}
+use Rattle.dt_table.specs.Places.{equal_flows}
 use Rattle.dt_world_model.proofs.Maps.{flows_agree}
 
 -- the receiver of an entry, by its parts

@@ -2,7 +2,7 @@
 use Rattle.std.proofs.Common.{ℕ, zero, suc, ◌≡◌, ◌≤◌, List, [], ◌∷◌, Option, Some, None, refl, ap, ◌∙◌, arith}
 use Rattle.dt_units.specs.Moments.{earlier}
 use Rattle.dt_world_model.specs.Tables.{earliest}
-use Rattle.dt_host.specs.Agendas.{HasNone, IsFirstIn, moment_in}
+use Rattle.dt_table.specs.Firsts.{HasNone, IsFirstIn, moment_in}
 
 module _ {A : Type 0} (moment : A → Option ℕ) where
   pub none_earliest : (xs : List A) → HasNone moment xs → earliest moment xs ≡ None

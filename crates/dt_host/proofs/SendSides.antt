@@ -28,24 +28,27 @@ use Rattle.dt_timers.specs.Deadlines.{HasNoMoment, IsFirst}
 use Rattle.dt_world_model.specs.Host.{Host, ack_answer, sender_at}
 use Rattle.dt_world_model.specs.Tables.{earliest, look, same_flow, write, write_or_erase}
 use Rattle.dt_host.specs.declared.dues.DueKind.TheVariants as due
-use Rattle.dt_host.specs.Agendas.{HasRoom, IsFirstIn, Note, SendNote, Tables, moment_of_kind, no_note, note_at, note_of_send, send_kinds, send_note_in, send_place, wake_place, with_resend}
+use Rattle.dt_table.specs.Agendas.{HasRoom, Note, Tables, moment_of_kind, no_note, note_at}
+use Rattle.dt_table.specs.Firsts.{IsFirstIn}
+use Rattle.dt_host.specs.Notes.{SendNote, note_of_send, send_kinds, send_note_in, send_place, wake_place, with_resend}
 use Rattle.dt_host.specs.Answers.{IsSent, send_fault_of}
 use Rattle.dt_host.specs.declared.faults.SendFault.{SendFault}
 use Rattle.dt_host.specs.Dues.{HasDue}
 use Rattle.dt_host.specs.Hosts.{AreSendEntries, IsSendEntry, send_record, send_records}
-use Rattle.dt_host.specs.Notes.{AreNoted, IsSendNoted, send_noted}
-use Rattle.dt_host.specs.Places.{equal_flows, present, slot}
+use Rattle.dt_table.specs.Tables.{AreNoted}
+use Rattle.dt_host.specs.Notes.{IsSendNoted, send_noted}
+use Rattle.dt_table.specs.Places.{equal_flows, present, slot}
 use Rattle.dt_host.specs.Sides.{IsSendKept, IsSendSide, SendSideValue}
 use Rattle.dt_host.specs.Soonest.{IsQuiet, IsSoonest, sender_moment}
-use Rattle.dt_host.specs.Tables.{IsNotedAt, IsPlaced, Slots, rows}
-use Rattle.dt_host.proofs.Agendas.{kinds_noted}
-use Rattle.dt_host.proofs.Entries.{record_at}
+use Rattle.dt_table.specs.Tables.{IsNotedAt, IsPlaced, Slots, rows}
+use Rattle.dt_table.proofs.Agendas.{kinds_noted}
+use Rattle.dt_table.proofs.Entries.{record_at}
 use Rattle.dt_host.proofs.Firsts.{quiet_first, quiet_none, send_exact, send_later, soonest_of}
 use Rattle.dt_host.proofs.Later.{senders_wake}
 use Rattle.dt_host.proofs.Rows.{none_earliest, some_earliest}
-use Rattle.dt_host.proofs.Slots.{all_entries, are_noted, entry_there, first_in, none_in, note_there, notes_in, notes_set, rank}
+use Rattle.dt_table.proofs.Slots.{all_entries, are_noted, entry_there, first_in, none_in, note_there, notes_in, notes_set, rank}
 use Rattle.dt_host.proofs.Stale.{one_less, righted, righted_is, stale}
-use Rattle.dt_host.proofs.Tables.{Read, Written, first_kept, first_noted, first_slot, first_taken, found_there, gone, noted_again, row_of, rows_kept, rows_more, table_left, table_set, written}
+use Rattle.dt_table.proofs.Tables.{Read, Written, first_kept, first_noted, first_slot, first_taken, found_there, gone, noted_again, row_of, rows_kept, rows_more, table_left, table_set, written}
 use Rattle.dt_host.proofs.SenderTables.{acked, entry_is, fault_is, fits_new, full_new, here_is, ignored, none_is, put_here, put_new, record_here, records_made, refused, refused_here, sender_of, taken, wanting, with_senders}
 use Rattle.dt_host.proofs.SendTurns.{after_is, chosen_is, entry_after, frame_is, goes, gram_is, stays, told_is}
 

@@ -16,8 +16,8 @@ use Rattle.dt_world_model.specs.Tables.{same_flow, look, write_or_erase}
 use Rattle.dt_world_model.proofs.Tables.{flow_is}
 use Rattle.dt_host.specs.Dues.{HasDue}
 use Rattle.dt_host.specs.Hosts.{AreSendEntries, IsSendEntry, send_record, send_records}
-use Rattle.dt_host.proofs.Entries.{all_found, all_removed, all_written, look_found, removed, removed_written, written}
-use Rattle.dt_host.specs.Places.{equal_flows}
+use Rattle.dt_table.proofs.Entries.{all_found, all_removed, all_written, look_found, removed, removed_written, written}
+use Rattle.dt_table.specs.Places.{equal_flows}
 use Rattle.dt_world_model.proofs.Maps.{flows_agree}
 
 -- the sender of an entry, by its parts

@@ -25,8 +25,8 @@ use Rattle.dt_host.specs.Answers.{IsAnswerTo, or_stays, send_fault_of}
 use Rattle.dt_host.specs.declared.faults.SendFault.{SendFault}
 use Rattle.dt_host.specs.declared.faults.SendFault.TheVariants as fault
 use Rattle.dt_host.specs.Hosts.{AreSendEntries, IsSendEntry, send_record, send_records}
-use Rattle.dt_host.proofs.Entries.{all_found, all_inserted, inserted, look_found, written}
-use Rattle.dt_host.specs.Places.{equal_flows}
+use Rattle.dt_table.proofs.Entries.{all_found, all_inserted, inserted, look_found, written}
+use Rattle.dt_table.specs.Places.{equal_flows}
 use Rattle.dt_world_model.proofs.Maps.{flows_agree}
 
 -- a host with these senders

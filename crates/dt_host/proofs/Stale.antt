@@ -9,10 +9,11 @@ use Rattle.dt_flow_model.specs.declared.moments.SendMoments.{SendMoments}
 use Rattle.dt_flow_model.specs.SendRecord.{SendRecord}
 use Rattle.dt_flow_model.specs.SendActs.{resends_from}
 use Rattle.dt_world_model.specs.Host.{one_if}
-use Rattle.dt_host.specs.Agendas.{SendNote, with_resend}
-use Rattle.dt_host.specs.Notes.{AreNoted, IsSendNoted}
+use Rattle.dt_host.specs.Notes.{SendNote, with_resend}
+use Rattle.dt_table.specs.Tables.{AreNoted}
+use Rattle.dt_host.specs.Notes.{IsSendNoted}
 use Rattle.dt_host.specs.Soonest.{has_missed, missed_senders}
-use Rattle.dt_host.proofs.Somes.{none_some, same_some}
+use Rattle.dt_table.proofs.Somes.{none_some, same_some}
 use Rattle.dt_host.proofs.Resends.{none_missed}
 
 abbrev differs : Option ℕ → Option ℕ → ℕ

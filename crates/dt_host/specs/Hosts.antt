@@ -1,5 +1,5 @@
 -- A host as its callers see it: its parameters, the greatest moment that it was given, and the host of the model. And what its two tables mean.
-use Rattle.std.specs.Prelude.{ℕ, ◌≡◌, List, [], ◌∷◌, Some}
+use Rattle.std.specs.Prelude.{ℕ, ◌≡◌, List, Some}
 use Rattle.dt_units.specs.declared.parameters.Params.{Params}
 use Rattle.dt_units.specs.declared.endpoints.Flow.{Flow}
 use Rattle.dt_flow_model.specs.SendRecord.{SendRecord}
@@ -8,17 +8,13 @@ use Rattle.dt_send.specs.Senders.{SenderValue}
 use Rattle.dt_recv.specs.Receivers.{ReceiverValue}
 use Rattle.dt_world_model.specs.Tables.{AllEntries}
 use Rattle.dt_world_model.specs.Host.{Host, kept_if}
+use Rattle.dt_table.specs.Tables.{records_by}
 
 pub record HostValue : Type 0 where
   pub rules : Params
   -- every later moment is no less
   pub latest : ℕ
   pub state : Host
-
--- what stands in the entries of a table, seen by their records
-abbrev pub records_by : {A B : Type 0} → (A → B) → List (Flow × A) → List (Flow × B)
-records_by record_in [] = []
-records_by record_in (e ∷ es) = (e.0, record_in e.1) ∷ records_by record_in es
 
 abbrev pub send_record : SenderValue → SendRecord
 send_record s = s.state

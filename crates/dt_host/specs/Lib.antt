@@ -2,9 +2,6 @@ pub mod Answers
 pub mod Dues
 pub mod Hosts
 pub mod Sides
-pub mod Places
-pub mod Tables
-pub mod Agendas
 pub mod Notes
 pub mod Soonest
 pub mod Others

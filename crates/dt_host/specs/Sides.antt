@@ -4,10 +4,11 @@ use Rattle.dt_units.specs.declared.parameters.Params.{Params}
 use Rattle.dt_units.specs.declared.endpoints.Flow.{Flow}
 use Rattle.dt_send.specs.Senders.{SenderValue}
 use Rattle.dt_recv.specs.Receivers.{ReceiverValue}
-use Rattle.dt_host.specs.Agendas.{Note, Tables, recv_kinds, recv_note_in, send_kinds, send_note_in}
+use Rattle.dt_table.specs.Agendas.{Note, Tables}
+use Rattle.dt_host.specs.Notes.{recv_kinds, recv_note_in, send_kinds, send_note_in}
 use Rattle.dt_host.specs.Hosts.{IsReceiveEntry, IsSendEntry}
 use Rattle.dt_host.specs.Notes.{IsRecvNoted, IsSendNoted}
-use Rattle.dt_host.specs.Tables.{IsTable}
+use Rattle.dt_table.specs.Tables.{IsTable}
 
 pub record SendSideValue : Type 0 where
   pub rules : Params

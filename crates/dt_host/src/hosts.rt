@@ -29,6 +29,7 @@ use dt_units::{Flow, NodeId, Rules, Steps, earlier};
 use std::alloc::Global;
 use std::marker::Model;
 use std::mem::size_of;
+use std::rc::Rc;
 use std::sync::ledger::Ledger;
 
 /// All records of one node: its senders and its receivers, each in the order of their making. A sender
@@ -62,15 +63,17 @@ impl Model for Host {
 
 impl Host {
     /// The host of a node that starts for the first time: no records, and it isn't silent. It takes the
-    /// memory for two tables without records, and what later calls take is taken of `alloc` too.
+    /// memory for the parameters and for two tables without records, and what later calls take is taken of
+    /// `alloc` too.
     pub fn first(alloc: Global, rules: &Rules, me: NodeId) -> Result<Host, NoMemory>
         ensures { IfOk result (λ host. host ≡ record { rules = rules.now; latest = 0; state = first_host me.0 }) }
     {
         let latest = Reading { ms: 0 };
+        let rules = Rc::new(alloc, *rules)?;
         Ok(Host {
             me,
             until: 0,
-            senders: Box::new(alloc, SendSide::new(alloc, rules, latest)?)?,
+            senders: Box::new(alloc, SendSide::new(alloc, rules.clone()?, latest)?)?,
             receivers: Box::new(alloc, RecvSide::new(alloc, rules, latest)?)?,
         })
     }
@@ -83,10 +86,12 @@ impl Host {
         ensures { IfOk result (λ host. host ≡ record { rules = rules.now; latest = now; state = restarted_host rules.now me.0 now }) }
     {
         let latest = Reading { ms: now };
+        let until = now + rules.times().quiet;
+        let rules = Rc::new(alloc, *rules)?;
         Ok(Host {
             me,
-            until: now + rules.times().quiet,
-            senders: Box::new(alloc, SendSide::new(alloc, rules, latest)?)?,
+            until,
+            senders: Box::new(alloc, SendSide::new(alloc, rules.clone()?, latest)?)?,
             receivers: Box::new(alloc, RecvSide::new(alloc, rules, latest)?)?,
         })
     }

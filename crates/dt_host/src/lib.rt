@@ -2,15 +2,12 @@
 #![tactic(auto)]
 
 mod acts;
-mod agenda;
 mod dues;
 mod faults;
 mod hosts;
 mod laws;
-mod places;
 mod recv_side;
 mod send_side;
-mod table;
 
 pub use acts::{Act, Done};
 pub use dt_flow_model::{Arrived, Cut, RecvAct, SendAct};

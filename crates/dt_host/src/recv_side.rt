@@ -11,24 +11,25 @@ ghost use Rattle.dt_flow_model.specs.Frames.{recv_frame, reply_frame};
 ghost use Rattle.dt_flow_model.specs.ReceiveRecord.{ReceiveRecord, Receiver as ReceiverState, action_on, after_data, after_meet, after_recv_act, answer_to_close, answer_to_data, answer_to_meet, recv_told_of, recv_wake_of};
 ghost use Rattle.dt_world_model.specs.Host.{Host, host_with_receiver, read_octets, receiver_at};
 ghost use Rattle.dt_world_model.specs.Tables.{Distinct, earliest, look, same_flow};
-ghost use Rattle.dt_host.specs.Agendas.{note_of_recv, recv_place};
+ghost use Rattle.dt_host.specs.Notes.{note_of_recv, recv_place};
 ghost use Rattle.dt_host.specs.Answers.{IsDataAnswer, IsDataTaken, replied};
 ghost use Rattle.dt_host.specs.declared.dues.DueKind.TheVariants as due;
 ghost use Rattle.dt_host.specs.Dues.{HasRecvDue, soonest_recv};
 ghost use Rattle.dt_host.specs.Hosts.{AreReceiveEntries, receivers_of};
 ghost use Rattle.dt_host.specs.Notes.{recv_noted};
-ghost use Rattle.dt_host.specs.Places.{equal_flows};
+ghost use Rattle.dt_table.specs.Places.{equal_flows};
 ghost use Rattle.dt_host.specs.Soonest.{IsQuiet, IsSoonest, receiver_moment};
 
 use crate::dues::{DueAct, DueKind};
-use crate::table::Table;
 use dt_flow_model::{Action, Arrived, Reading, RecvAct, RecvKind};
 use dt_items::{NoMemory, Piece};
 use dt_layout::{Frame, Packet, write_frame};
 use dt_recv::{Receiver, Segment, action};
+use dt_table::Table;
 use dt_units::{Flow, Rules, Steps, earlier};
 use std::alloc::Global;
 use std::marker::Model;
+use std::rc::Rc;
 use std::sync::ledger::Ledger;
 
 /// How many moments are noted of a receiver: those of its acts, in the order of their kinds. It is to be
@@ -39,30 +40,30 @@ const KINDS: usize = 2;
 /// the parameters, the latest moment, and the receivers with their flows in the order of their making.
 #[derive(Drop)]
 pub struct RecvSide {
-    rules: Rules,
+    rules: Rc<Rules>,
     /// The greatest moment that it was given.
     latest: Reading,
     table: Table<Receiver>,
 }
 
 impl Model for RecvSide {
-    ghost use Rattle.dt_host.specs.Places.{present};
+    ghost use Rattle.dt_table.specs.Places.{present};
     ghost use Rattle.dt_host.specs.Sides.{IsRecvSide, RecvSideValue};
 
     ghost Value = { RecvSideValue };
 
-    ghost view = { λ s. record { rules = s.rules; latest = s.latest.ms; entries = present s.table.slots.items } };
+    ghost view = { λ s. record { rules = s.rules.value; latest = s.latest.ms; entries = present s.table.slots.items } };
 
-    ghost invariant = { λ s. IsRecvSide s.rules s.table.places s.table.slots.items s.table.agenda };
+    ghost invariant = { λ s. IsRecvSide s.rules.value s.table.places s.table.slots.items s.table.agenda };
 }
 
 impl RecvSide {
     /// No receivers. What later calls take is taken of `alloc`.
-    pub fn new(alloc: Global, rules: &Rules, latest: Reading) -> Result<RecvSide, NoMemory>
-        ensures { IfOk result (λ side. side ≡ record { rules = rules.now; latest = latest.ms; entries = [] }) }
+    pub fn new(alloc: Global, rules: Rc<Rules>, latest: Reading) -> Result<RecvSide, NoMemory>
+        ensures { IfOk result (λ side. side ≡ record { rules = rules.value; latest = latest.ms; entries = [] }) }
     {
         Ok(RecvSide {
-            rules: *rules,
+            rules,
             latest,
             table: Table::new(alloc, KINDS)?,
         })
@@ -153,7 +154,7 @@ impl RecvSide {
         let free = self.rules.params().rcap;
         match action(None, segment.drf, segment.number, count, free) {
             Action::Make => self.make(flow, segment, reply, steps),
-            Action::TellNumber => Ok(reply_without(&self.rules, flow, segment.number, reply)),
+            Action::TellNumber => Ok(reply_without(&*self.rules, flow, segment.number, reply)),
             _ => Ok(Arrived::Dropped),
         }
     }
@@ -180,7 +181,7 @@ impl RecvSide {
         ensures same { self.new ≡ record self.old { entries = self.new.entries } }
         ensures looks { steps.new ≤ steps.old + 2 }
     {
-        let mut receiver = Receiver::new(*self.table.slots.allocator(), &self.rules, *flow)?;
+        let mut receiver = Receiver::sharing(*self.table.slots.allocator(), &self.rules, *flow)?;
         let arrived = receiver.on_segment(segment, self.latest, reply, steps);
         let note = note_of(&receiver, steps);
         self.table.add(flow, receiver, &note)?;
@@ -204,7 +205,7 @@ impl RecvSide {
         ensures looks { steps.new ≤ steps.old + 2 }
     {
         let Some(place) = self.table.place(flow) else {
-            return reply_without(&self.rules, flow, number, reply);
+            return reply_without(&*self.rules, flow, number, reply);
         };
         let Some((_, receiver)) = &mut self.table.slots[place] else {
             unreachable!();

@@ -12,26 +12,27 @@ ghost use Rattle.dt_flow_model.specs.SendRecord.{SendRecord, on_ack};
 ghost use Rattle.dt_flow_model.specs.SendActs.{Act, record_after, told_of, wake_of};
 ghost use Rattle.dt_world_model.specs.Host.{Host, ack_answer, sender_at};
 ghost use Rattle.dt_world_model.specs.Tables.{Distinct, earliest, look, same_flow, write_or_erase};
-ghost use Rattle.dt_host.specs.Agendas.{note_of_send, send_place};
+ghost use Rattle.dt_host.specs.Notes.{note_of_send, send_place};
 ghost use Rattle.dt_host.specs.Answers.{IsSent};
 ghost use Rattle.dt_host.specs.declared.dues.DueKind.TheVariants as due;
 ghost use Rattle.dt_host.specs.declared.faults.SendFault.TheVariants as send_fault;
 ghost use Rattle.dt_host.specs.Dues.{HasDue, soonest_send};
 ghost use Rattle.dt_host.specs.Hosts.{AreSendEntries, send_records};
 ghost use Rattle.dt_host.specs.Notes.{send_noted};
-ghost use Rattle.dt_host.specs.Places.{equal_flows};
+ghost use Rattle.dt_table.specs.Places.{equal_flows};
 ghost use Rattle.dt_host.specs.Soonest.{IsQuiet, IsSoonest, missed_senders, sender_moment};
 
 use crate::dues::{DueAct, DueKind};
 use crate::faults::SendFault;
-use crate::table::Table;
 use dt_flow_model::{Arrived, Reading, SendAct, SendKind};
 use dt_items::{MarkedOctets, NoMemory};
 use dt_layout::Frame;
 use dt_send::Sender;
+use dt_table::Table;
 use dt_units::{Flow, Rules, Steps};
 use std::alloc::Global;
 use std::marker::Model;
+use std::rc::Rc;
 use std::sync::ledger::Ledger;
 
 /// How many moments are noted of a sender: those of its acts, in the order of their kinds, and when to
@@ -48,30 +49,30 @@ const WAKE: usize = 5;
 /// latest moment, and the senders with their flows in the order of their making.
 #[derive(Drop)]
 pub struct SendSide {
-    rules: Rules,
+    rules: Rc<Rules>,
     /// The greatest moment that it was given.
     latest: Reading,
     table: Table<Sender>,
 }
 
 impl Model for SendSide {
-    ghost use Rattle.dt_host.specs.Places.{present};
+    ghost use Rattle.dt_table.specs.Places.{present};
     ghost use Rattle.dt_host.specs.Sides.{IsSendSide, SendSideValue};
 
     ghost Value = { SendSideValue };
 
-    ghost view = { λ s. record { rules = s.rules; latest = s.latest.ms; entries = present s.table.slots.items } };
+    ghost view = { λ s. record { rules = s.rules.value; latest = s.latest.ms; entries = present s.table.slots.items } };
 
-    ghost invariant = { λ s. IsSendSide s.rules s.latest.ms s.table.places s.table.slots.items s.table.agenda };
+    ghost invariant = { λ s. IsSendSide s.rules.value s.latest.ms s.table.places s.table.slots.items s.table.agenda };
 }
 
 impl SendSide {
     /// No senders. What later calls take is taken of `alloc`.
-    pub fn new(alloc: Global, rules: &Rules, latest: Reading) -> Result<SendSide, NoMemory>
-        ensures { IfOk result (λ side. side ≡ record { rules = rules.now; latest = latest.ms; entries = [] }) }
+    pub fn new(alloc: Global, rules: Rc<Rules>, latest: Reading) -> Result<SendSide, NoMemory>
+        ensures { IfOk result (λ side. side ≡ record { rules = rules.value; latest = latest.ms; entries = [] }) }
     {
         Ok(SendSide {
-            rules: *rules,
+            rules,
             latest,
             table: Table::new(alloc, KINDS)?,
         })
@@ -89,7 +90,7 @@ impl SendSide {
     pub fn rules(&self) -> &Rules
         ensures { result.now ≡ self.now.rules }
     {
-        &self.rules
+        &*self.rules
     }
 
     /// How many flows have a sender.
@@ -181,7 +182,7 @@ impl SendSide {
         if asked.octets.len() > free as usize {
             return Err(SendFault::Full { free });
         }
-        let mut sender = Sender::new(
+        let mut sender = Sender::sharing(
             *self.table.slots.allocator(),
             &self.rules,
             *flow,

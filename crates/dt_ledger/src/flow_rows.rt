@@ -24,8 +24,8 @@ use std::marker::Model;
 /// that were taken, from 0 on, over all lives of the sending station.
 ///
 /// Moments are milliseconds of the world, at most 2^62. A taken octet takes 16 octets of memory, and a
-/// given one takes 1 octet, beside 32 for each call that gives. Calls that need memory and find none
-/// answer `NoMemory` and leave the ledger as it was; all others take none.
+/// given one takes 1 octet, beside 32 for each call that gives; the first of either take it for 64. Calls
+/// that need memory and find none answer `NoMemory` and leave the ledger as it was; all others take none.
 #[derive(Drop)]
 pub struct FlowRows {
     taken: TakenRows,

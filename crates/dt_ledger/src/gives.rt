@@ -29,6 +29,9 @@ pub struct Give {
 
 const _: () = prove!(size_of::<Give>() == 32);
 
+/// For how many octets the first give makes room at least.
+const FIRST_OCTETS: usize = 64;
+
 /// The rows of the octets that were given to a flow's receiver, in the order of their giving.
 #[derive(Drop)]
 pub struct GivenRows {
@@ -87,7 +90,14 @@ impl GivenRows {
         if payload.octets.is_empty() {
             return Ok(());
         }
+        // Octets that come one message after another grow less often.
+        let least = if self.octets.is_empty() {
+            FIRST_OCTETS
+        } else {
+            0
+        };
         self.gives.reserve(1)?;
+        self.octets.reserve(payload.octets.len().max(least))?;
         self.octets.extend_from_slice(payload.octets)?;
         self.gives.push_reserved(Give {
             place: given.place,

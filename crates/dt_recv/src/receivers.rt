@@ -22,6 +22,7 @@ use dt_layout::Frame;
 use dt_units::{Flow, Rules, Steps};
 use std::alloc::Global;
 use std::marker::Model;
+use std::rc::Rc;
 use std::sync::ledger::Ledger;
 
 /// The receiver of one flow: a queue of the octets that were accepted and not read yet, and a receive
@@ -29,10 +30,11 @@ use std::sync::ledger::Ledger;
 ///
 /// Moments are readings of the receiving station's clock in milliseconds, at most 2^62, and sizes are
 /// octets. Each call that looks at the record counts one look. The memory for the queue is taken by
-/// [`Receiver::new`], and no other call takes any.
+/// [`Receiver::new`] or [`Receiver::sharing`], and no other call takes any.
 #[derive(Drop)]
 pub struct Receiver {
-    rules: Rules,
+    /// The receivers of a host share them: so a receiver takes less room, and reads what is at hand.
+    rules: Rc<Rules>,
     flow: Flow,
     queue: Queue,
     standing: Option<Record>,
@@ -46,14 +48,14 @@ impl Model for Receiver {
 
     ghost Value = { ReceiverValue };
 
-    ghost view = { λ r. record { rules = r.rules; flow = r.flow; state = record { unread = r.queue.items; standing = standing_of r.standing } } };
+    ghost view = { λ r. record { rules = r.rules.value; flow = r.flow; state = record { unread = r.queue.items; standing = standing_of r.standing } } };
 
-    ghost invariant = { λ r. (r.queue.room ≡ r.rules.rcap) × IsReceiverKept r.rules (record { unread = r.queue.items; standing = standing_of r.standing }) };
+    ghost invariant = { λ r. (r.queue.room ≡ r.rules.value.rcap) × IsReceiverKept r.rules.value (record { unread = r.queue.items; standing = standing_of r.standing }) };
 }
 
 impl Receiver {
     /// A receiver of the flow with nothing unread and no record. Takes the memory for `rcap` unread
-    /// octets; `NoMemory` where there is none.
+    /// octets and for the parameters; `NoMemory` where there is none.
     pub fn new(alloc: Global, rules: &Rules, flow: Flow) -> Result<Receiver, NoMemory>
         ensures { IfOk result (λ receiver. receiver ≡ record {
           rules = rules.now;
@@ -61,9 +63,21 @@ impl Receiver {
           state = record { unread = []; standing = None };
         }) }
     {
+        let rules = Rc::new(alloc, *rules)?;
+        Receiver::sharing(alloc, &rules, flow)
+    }
+
+    /// The same as [`Receiver::new`], over parameters that other receivers have too.
+    pub fn sharing(alloc: Global, rules: &Rc<Rules>, flow: Flow) -> Result<Receiver, NoMemory>
+        ensures { IfOk result (λ receiver. receiver ≡ record {
+          rules = rules.now.value;
+          flow = flow;
+          state = record { unread = []; standing = None };
+        }) }
+    {
         Ok(Receiver {
             queue: Queue::with_room(alloc, rules.params().rcap)?,
-            rules: *rules,
+            rules: rules.clone()?,
             flow,
             standing: None,
         })
@@ -241,7 +255,7 @@ impl Receiver {
         let before = self.queue.free();
         let piece = self.queue.read_into(buf);
         let after = self.queue.free();
-        self.standing = records::read(self.standing, &self.rules, now, before, after);
+        self.standing = records::read(self.standing, &*self.rules, now, before, after);
         piece
     }
 
@@ -253,7 +267,7 @@ impl Receiver {
         ensures looks { steps.new ≡ steps.old + 1 }
     {
         steps.tick();
-        records::due(self.standing, &self.rules, now)
+        records::due(self.standing, &*self.rules, now)
     }
 
     /// Does the act that is due at `now`, as [`Receiver::due`] says.
@@ -293,7 +307,7 @@ impl Receiver {
         ensures looks { steps.new ≡ steps.old + 1 }
     {
         steps.tick();
-        records::moments(self.standing, &self.rules)
+        records::moments(self.standing, &*self.rules)
     }
 
     /// The least moment at which an act is due, if nothing else is called. None comes exactly where no
@@ -304,7 +318,7 @@ impl Receiver {
         ensures looks { steps.new ≡ steps.old + 1 }
     {
         steps.tick();
-        records::wake(self.standing, &self.rules)
+        records::wake(self.standing, &*self.rules)
     }
 
     /// What is to be done with a data packet of these octets.
@@ -335,7 +349,7 @@ impl Receiver {
         let payload = segment.payload;
         self.queue
             .push_all(payload.octets, payload.begin, payload.end, run);
-        self.standing = Some(records::accepted(self.standing, &self.rules, now, segment));
+        self.standing = Some(records::accepted(self.standing, &*self.rules, now, segment));
         Arrived::Accepted {
             run,
             count: payload.octets.len() as u32,
@@ -362,7 +376,7 @@ impl Receiver {
     {
         let told = self.acknowledgement(self.expected().unwrap_or(number));
         self.standing = records::paid(self.standing, told.window);
-        told.write(&self.rules, &self.flow, reply);
+        told.write(&*self.rules, &self.flow, reply);
         told.replied()
     }
 
@@ -376,7 +390,7 @@ impl Receiver {
     {
         let told = self.acknowledgement(number);
         self.standing = records::told(self.standing, told.window);
-        told.write(&self.rules, &self.flow, reply);
+        told.write(&*self.rules, &self.flow, reply);
         told.replied()
     }
 
@@ -390,7 +404,7 @@ impl Receiver {
     {
         let told = self.acknowledgement(standing.expected);
         self.standing = records::paid(self.standing, told.window);
-        told.write(&self.rules, &self.flow, frame);
+        told.write(&*self.rules, &self.flow, frame);
         told.acknowledged()
     }
 }

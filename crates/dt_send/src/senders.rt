@@ -22,6 +22,7 @@ use dt_layout::Frame;
 use dt_units::{Flow, Rules, Steps};
 use std::alloc::Global;
 use std::marker::Model;
+use std::rc::Rc;
 use std::sync::ledger::Ledger;
 
 /// The send record of a flow: the octets that its sender holds, and what it does with them in time. A
@@ -30,10 +31,11 @@ use std::sync::ledger::Ledger;
 /// It holds outstanding octets, which went out and are neither acknowledged nor given up, and then
 /// waiting ones. Moments are milliseconds of the sending station's clock, at most 2^62. A record
 /// takes fewer than 2^62 octets from its beginning, or its last renewal, on. All memory is taken by
-/// [`Sender::new`].
+/// [`Sender::new`] or [`Sender::sharing`].
 #[derive(Drop)]
 pub struct Sender {
-    rules: Rules,
+    /// The records of a host share them: so a record takes less room, and reads what is at hand.
+    rules: Rc<Rules>,
     flow: Flow,
     buffer: SendBuffer,
 }
@@ -44,21 +46,35 @@ impl Model for Sender {
 
     ghost Value = { SenderValue };
 
-    ghost view = { λ s. record { rules = s.rules; flow = s.flow; state = record_of s.buffer } };
+    ghost view = { λ s. record { rules = s.rules.value; flow = s.flow; state = record_of s.buffer } };
 
-    ghost invariant = { λ s. IsSendBuffer s.rules s.buffer };
+    ghost invariant = { λ s. IsSendBuffer s.rules.value s.buffer };
 }
 
 impl Sender {
     /// A send record that begins at now, with nothing in it and the window of the parameters. Takes
-    /// the memory for `cap` octets with their marks and for 64 segments.
+    /// the memory for `cap` octets with their marks and for 64 segments, and for the parameters.
     pub fn new(alloc: Global, rules: &Rules, flow: Flow, now: u64) -> Result<Sender, NoMemory>
         requires { now ≤ most_moment }
         ensures { IfOk result (λ sender. sender ≡ record { rules = rules.now; flow = flow; state = new_record rules.now now [] }) }
     {
-        let buffer = SendBuffer::new(alloc, rules, now)?;
+        let rules = Rc::new(alloc, *rules)?;
+        Sender::sharing(alloc, &rules, flow, now)
+    }
+
+    /// The same as [`Sender::new`], over parameters that other records have too.
+    pub fn sharing(
+        alloc: Global,
+        rules: &Rc<Rules>,
+        flow: Flow,
+        now: u64,
+    ) -> Result<Sender, NoMemory>
+        requires { now ≤ most_moment }
+        ensures { IfOk result (λ sender. sender ≡ record { rules = rules.now.value; flow = flow; state = new_record rules.now.value now [] }) }
+    {
+        let buffer = SendBuffer::new(alloc, &**rules, now)?;
         Ok(Sender {
-            rules: *rules,
+            rules: rules.clone()?,
             flow,
             buffer,
         })
@@ -88,7 +104,7 @@ impl Sender {
             return Err(PutFault::Full { free });
         }
         let asked = MarkedOctets { octets, begin, end };
-        self.buffer.put(&self.rules, &asked);
+        self.buffer.put(&*self.rules, &asked);
         Ok(())
     }
 
@@ -108,7 +124,7 @@ impl Sender {
         ensures looks { steps.new ≡ steps.old + 1 }
     {
         steps.tick();
-        self.buffer.on_ack(&self.rules, k, w)
+        self.buffer.on_ack(&*self.rules, k, w)
     }
 
     /// The first kind of act, in the order of [`SendKind`], that is due at now, with the moment from
@@ -119,7 +135,7 @@ impl Sender {
         ensures looks { steps.new ≡ steps.old + 1 }
     {
         steps.tick();
-        due_first(now, &self.buffer.moments(&self.rules, now))
+        due_first(now, &self.buffer.moments(&*self.rules, now))
     }
 
     /// Does the act that is due at now; [`Sender::due`] says whether there is one. `Resent`, `Sent`
@@ -142,7 +158,7 @@ impl Sender {
     {
         steps.tick();
         let occasion = ActContext {
-            rules: &self.rules,
+            rules: &*self.rules,
             flow: &self.flow,
             at: now,
         };
@@ -156,7 +172,7 @@ impl Sender {
         ensures looks { steps.new ≡ steps.old + 1 }
     {
         steps.tick();
-        self.buffer.moments(&self.rules, now)
+        self.buffer.moments(&*self.rules, now)
     }
 
     /// The least moment at which an act is due, if nothing else is called. None says that none ever
@@ -166,7 +182,7 @@ impl Sender {
         ensures looks { steps.new ≡ steps.old + 1 }
     {
         steps.tick();
-        least(&self.buffer.moments(&self.rules, 0))
+        least(&self.buffer.moments(&*self.rules, 0))
     }
 
     /// The number of the leftmost octet that is neither acknowledged nor given up. Numbers go round at
@@ -174,28 +190,28 @@ impl Sender {
     pub fn left(&self) -> u32
         ensures { result ≡ number_of self.now.rules self.now.state.left }
     {
-        number_at(&self.rules, self.buffer.left)
+        number_at(&*self.rules, self.buffer.left)
     }
 
     /// The number of the next octet that goes out.
     pub fn next_number(&self) -> u32
         ensures { result ≡ number_of self.now.rules (next_of self.now.state) }
     {
-        number_at(&self.rules, self.buffer.next)
+        number_at(&*self.rules, self.buffer.next)
     }
 
     /// The number at which the receiver's window ends: the first that may not go out.
     pub fn edge(&self) -> u32
         ensures { result ≡ number_of self.now.rules self.now.state.edge }
     {
-        number_at(&self.rules, self.buffer.edge)
+        number_at(&*self.rules, self.buffer.edge)
     }
 
     /// How many octets wait, 0 to 65,536.
     pub fn waiting(&self) -> u32
         ensures { result ≡ length self.now.state.waiting }
     {
-        (self.buffer.items.len() - self.buffer.sent(&self.rules)) as u32
+        (self.buffer.items.len() - self.buffer.sent(&*self.rules)) as u32
     }
 
     /// How many octets are outstanding or wait, at most `cap`.

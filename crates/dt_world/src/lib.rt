@@ -13,5 +13,5 @@ mod steps;
 mod world_parts;
 mod worlds;
 
-pub use dt_reports::{SetupFault, StepFault};
+pub use dt_reports::StepFault;
 pub use worlds::World;

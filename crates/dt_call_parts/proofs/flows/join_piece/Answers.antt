@@ -5,7 +5,7 @@ use Rattle.dt_calls_model.specs.Calls.{begun_at, with_begun}
 use Rattle.dt_calls_model.specs.Messages.{begun_with, whole_with}
 use Rattle.dt_messages.specs.Joining.{piece_with}
 use Rattle.dt_call_parts.specs.Sides.{side_seen}
-use Rattle.dt_call_parts.proofs.FlowTables.{begun_found, if_ok_weaker, key_lost, wrote}
+use Rattle.dt_call_parts.proofs.FlowTables.{begun_found, if_ok_weaker, key_lost, on_err_weaker, wrote, wrote_same}
 use Rattle.dt_call_parts.proofs.flows.join_piece.Goals as goal
 
 pub unreachable-requires : goal.unreachable-requires
@@ -27,3 +27,11 @@ returns-clause-begun c =
     if_ok_weaker c.join.result
     (wrote c.args.flow.now c.join.new.self c.in-Some.sides.now es (c.get_mut.follows.lender c.join.new.self).entries (λ (b : model.Begun). with_begun side (begun_with (begun_at side b) piece) b) there ((c.get_mut.follows.holds c.join.new.self).0))
     c.join.ensures.begun
+
+pub returns-clause-same : goal.returns-clause-same
+returns-clause-same c =
+    let es = c.args.flows.now.entries in
+    let there = sym c.in-Some.ensures.value in
+    on_err_weaker c.join.result
+    (wrote_same c.args.flow.now c.join.new.self c.in-Some.sides.now es (c.get_mut.follows.lender c.join.new.self).entries there c.requires.there ((c.get_mut.follows.holds c.join.new.self).0))
+    c.join.ensures.same

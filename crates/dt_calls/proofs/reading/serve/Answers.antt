@@ -1,7 +1,6 @@
 use Rattle.std.proofs.Common.{ℕ, subst}
 use Rattle.std.proofs.lemmas.Result.{err_from_is_err_and}
 use Rattle.dt_calls_model.specs.CallTold as told
-use Rattle.dt_calls_model.specs.CallTold.{CallEntry}
 use Rattle.dt_calls_model.specs.Reads.{serve_call}
 use Rattle.dt_calls.specs.Parts.{calls_seen}
 use Rattle.dt_calls.proofs.ReadSides.{stopped_with}

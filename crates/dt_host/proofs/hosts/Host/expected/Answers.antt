@@ -7,8 +7,8 @@ use Rattle.dt_world_model.specs.Host.{no_receiver, receiver_at}
 use Rattle.dt_world_model.proofs.Tables.{flow_is}
 use Rattle.dt_host.specs.Hosts.{HostValue, receiver_in}
 use Rattle.dt_host.specs.Sides.{RecvSideValue}
-use Rattle.dt_host.proofs.Entries.{look_found}
-use Rattle.dt_host.specs.Places.{equal_flows}
+use Rattle.dt_table.proofs.Entries.{look_found}
+use Rattle.dt_table.specs.Places.{equal_flows}
 use Rattle.dt_world_model.proofs.Maps.{flows_agree}
 use Rattle.dt_world_model.specs.Tables.{same_flow}
 use Rattle.dt_host.proofs.hosts.Host.expected.Goals as goal

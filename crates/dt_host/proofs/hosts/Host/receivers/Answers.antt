@@ -2,7 +2,7 @@ use Rattle.std.proofs.Common.{◌≡◌, ap, subst, sym, ◌∙◌}
 use Rattle.std.specs.Prelude.{length}
 use Rattle.dt_host.specs.Hosts.{HostValue, receiver_in}
 use Rattle.dt_host.specs.Sides.{RecvSideValue}
-use Rattle.dt_host.proofs.Entries.{as_many}
+use Rattle.dt_table.proofs.Entries.{as_many}
 use Rattle.dt_host.proofs.hosts.Host.receivers.Goals as goal
 
 pub returns : goal.returns

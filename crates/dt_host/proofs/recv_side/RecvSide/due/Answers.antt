@@ -1,22 +1,22 @@
 use Rattle.std.proofs.Common.{ℕ, ◌<◌, sym, subst}
 use Rattle.dt_host.specs.declared.dues.DueKind.TheVariants as due
-use Rattle.dt_host.specs.Agendas.{recv_kinds, recv_place}
+use Rattle.dt_host.specs.Notes.{recv_kinds, recv_place}
 use Rattle.dt_host.specs.Sides.{IsRecvKept, RecvSideValue}
 use Rattle.dt_host.specs.Soonest.{IsQuiet, IsSoonest, receiver_moment}
-use Rattle.dt_host.proofs.Agendas.{first_at, none_at}
+use Rattle.dt_table.proofs.Agendas.{first_at, none_at}
 use Rattle.dt_host.proofs.RecvSides.{no_moment, place_less, quiet_all, quiet_yet, soonest_here}
-use Rattle.dt_host.proofs.Tables.{first_stands, first_within}
+use Rattle.dt_table.proofs.Tables.{first_stands, first_within}
 use Rattle.dt_host.proofs.recv_side.RecvSide.due.Goals as goal
 
 pub returns-in_err-moment-clause-quiet : goal.returns-in_err-moment-clause-quiet
 returns-in_err-moment-clause-quiet c = λ none.
     let h = c.self.inside in
-    subst (λ (v : RecvSideValue). IsQuiet (receiver_moment v.rules c.args.kind) v.latest v.entries) c.self.view_is (quiet_all h.rules h.table.places h.table.slots.items h.table.agenda c.self.invariant c.args.kind h.latest.ms (none_at h.table.agenda c.place_of.result (recv_place c.args.kind) c.place_of.ensures c.in_err-moment.ensures))
+    subst (λ (v : RecvSideValue). IsQuiet (receiver_moment v.rules c.args.kind) v.latest v.entries) c.self.view_is (quiet_all h.rules.value h.table.places h.table.slots.items h.table.agenda c.self.invariant c.args.kind h.latest.ms (none_at h.table.agenda c.place_of.result (recv_place c.args.kind) c.place_of.ensures c.in_err-moment.ensures))
 
 pub returns-then-moment-self-clause-quiet : goal.returns-then-moment-self-clause-quiet
 returns-then-moment-self-clause-quiet c = λ none.
     let h = c.self.inside in
-    subst (λ (v : RecvSideValue). IsQuiet (receiver_moment v.rules c.args.kind) v.latest v.entries) c.self.view_is (quiet_yet h.rules h.table.places h.table.slots.items h.table.agenda c.self.invariant c.args.kind c.in_ok-moment.moment c.in_ok-moment.place (first_at h.table.agenda c.place_of.result (recv_place c.args.kind) c.place_of.ensures c.in_ok-moment.moment c.in_ok-moment.place c.in_ok-moment.ensures) h.latest.ms c.if-moment-self.true)
+    subst (λ (v : RecvSideValue). IsQuiet (receiver_moment v.rules c.args.kind) v.latest v.entries) c.self.view_is (quiet_yet h.rules.value h.table.places h.table.slots.items h.table.agenda c.self.invariant c.args.kind c.in_ok-moment.moment c.in_ok-moment.place (first_at h.table.agenda c.place_of.result (recv_place c.args.kind) c.place_of.ensures c.in_ok-moment.moment c.in_ok-moment.place c.in_ok-moment.ensures) h.latest.ms c.if-moment-self.true)
 
 pub first-requires : goal.first-requires
 first-requires c =
@@ -27,16 +27,16 @@ pub index-requires : goal.index-requires
 index-requires c =
     let h = c.self.inside in
     let first = (first_at h.table.agenda c.place_of.result (recv_place c.args.kind) c.place_of.ensures c.in_ok-moment.moment c.in_ok-moment.place c.in_ok-moment.ensures) in
-    subst (λ (n : ℕ). c.in_ok-moment.place < n) (sym h.table.slots.ok.0) (first_within (IsRecvKept h.rules) recv_kinds h.table.places h.table.slots.items h.table.agenda c.self.invariant (recv_place c.args.kind) (no_moment c.args.kind) c.in_ok-moment.moment c.in_ok-moment.place first)
+    subst (λ (n : ℕ). c.in_ok-moment.place < n) (sym h.table.slots.ok.0) (first_within (IsRecvKept h.rules.value) recv_kinds h.table.places h.table.slots.items h.table.agenda c.self.invariant (recv_place c.args.kind) (no_moment c.args.kind) c.in_ok-moment.moment c.in_ok-moment.place first)
 
 pub unreachable-requires : goal.unreachable-requires
 unreachable-requires c =
     let h = c.self.inside in
     let first = (first_at h.table.agenda c.place_of.result (recv_place c.args.kind) c.place_of.ensures c.in_ok-moment.moment c.in_ok-moment.place c.in_ok-moment.ensures) in
-    first_stands (IsRecvKept h.rules) recv_kinds h.table.places h.table.slots.items h.table.agenda c.self.invariant (recv_place c.args.kind) (no_moment c.args.kind) c.in_ok-moment.moment c.in_ok-moment.place first c.index.result.now c.index.ensures c.in_default.is
+    first_stands (IsRecvKept h.rules.value) recv_kinds h.table.places h.table.slots.items h.table.agenda c.self.invariant (recv_place c.args.kind) (no_moment c.args.kind) c.in_ok-moment.moment c.in_ok-moment.place first c.index.result.now c.index.ensures c.in_default.is
 
 pub returns-clause-found : goal.returns-clause-found
 returns-clause-found c =
     let h = c.self.inside in
     subst (λ (v : RecvSideValue). IsSoonest (receiver_moment v.rules c.args.kind) v.latest v.entries (due.Recv c.args.kind) (record { kind = due.Recv c.args.kind; moment = c.in_ok-moment.moment; flow = c.in-Some.flow })) c.self.view_is
-    (soonest_here h.rules h.table.places h.table.slots.items h.table.agenda c.self.invariant c.args.kind c.in_ok-moment.moment c.in_ok-moment.place (first_at h.table.agenda c.place_of.result (recv_place c.args.kind) c.place_of.ensures c.in_ok-moment.moment c.in_ok-moment.place c.in_ok-moment.ensures) c.index.result.now c.index.ensures c.in-Some.flow c.in-Some.field-0-1 c.in-Some.is h.latest.ms c.if-moment-self.false)
+    (soonest_here h.rules.value h.table.places h.table.slots.items h.table.agenda c.self.invariant c.args.kind c.in_ok-moment.moment c.in_ok-moment.place (first_at h.table.agenda c.place_of.result (recv_place c.args.kind) c.place_of.ensures c.in_ok-moment.moment c.in_ok-moment.place c.in_ok-moment.ensures) c.index.result.now c.index.ensures c.in-Some.flow c.in-Some.field-0-1 c.in-Some.is h.latest.ms c.if-moment-self.false)

@@ -1,6 +1,6 @@
 use Rattle.std.proofs.Common.{◌≡◌, drop}
 use Rattle.dt_host.specs.Dues.{soonest_recv}
-use Rattle.dt_host.specs.Places.{present}
+use Rattle.dt_table.specs.Places.{present}
 use Rattle.dt_host.proofs.recv_side.RecvSide.soonest.Given as goal
 
 -- the walk over what is left, from the best so far, is the walk over all

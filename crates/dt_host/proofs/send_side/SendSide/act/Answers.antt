@@ -5,26 +5,26 @@ use Rattle.dt_flow_model.specs.Frames.{frame_of_act}
 use Rattle.dt_flow_model.specs.SendRecord.{SendRecord}
 use Rattle.dt_flow_model.specs.SendActs.{Act, kind_and_moment, record_after, told_of}
 use Rattle.dt_world_model.specs.Tables.{look, same_flow, write_or_erase}
-use Rattle.dt_host.specs.Agendas.{send_kinds}
+use Rattle.dt_host.specs.Notes.{send_kinds}
 use Rattle.dt_host.specs.Dues.{HasDue}
 use Rattle.dt_host.specs.Hosts.{send_records}
-use Rattle.dt_host.specs.Places.{present}
+use Rattle.dt_table.specs.Places.{present}
 use Rattle.dt_host.specs.Sides.{IsSendKept, SendSideValue}
 use Rattle.dt_host.proofs.SenderTables.{none_is}
 use Rattle.dt_host.proofs.SendSides.{HasDueIn, act_entry, act_goes, act_stays, all_send, chosen_here, frame_here, gram_here, side_left, side_set, told_here}
-use Rattle.dt_host.proofs.Tables.{Read, Written, never_empty, whole, written_placed}
+use Rattle.dt_table.proofs.Tables.{Read, Written, never_empty, whole, written_placed}
 use Rattle.dt_host.proofs.send_side.SendSide.act.Goals as goal
 
 pub unreachable-requires : goal.unreachable-requires
 unreachable-requires g c =
     let h = c.self.inside in
     let d = subst (λ (v : SendSideValue). HasDueIn c.args.flow.now v) (sym c.self.view_is) c.requires.due in
-    let none = none_is h.rules c.args.flow.now (present h.table.slots.items) (all_send h.rules h.latest.ms h.table.places h.table.slots.items h.table.agenda c.self.invariant) c.in_default.ensures.none in
+    let none = none_is h.rules.value c.args.flow.now (present h.table.slots.items) (all_send h.rules.value h.latest.ms h.table.places h.table.slots.items h.table.agenda c.self.invariant) c.in_default.ensures.none in
     let there = d.2.there in
     absurd cc
 
 pub place-requires : goal.place-requires
-place-requires g c = whole (IsSendKept c.self.inside.rules c.self.inside.latest.ms) send_kinds c.self.inside.table.places c.self.inside.table.slots.items c.self.inside.table.agenda c.self.invariant
+place-requires g c = whole (IsSendKept c.self.inside.rules.value c.self.inside.latest.ms) send_kinds c.self.inside.table.places c.self.inside.table.slots.items c.self.inside.table.agenda c.self.invariant
 
 pub act-act-requires-clause-due : goal.act-act-requires-clause-due
 act-act-requires-clause-due g c =
@@ -37,20 +37,20 @@ pub remove-requires-clause-placed : goal.remove-requires-clause-placed
 remove-requires-clause-placed g c =
     let h = c.self.inside in
     let at : Read h.table.places h.table.slots.items c.args.flow.now c.in-Some.place = record { once = c.place.ensures.once; place = c.in-Some.ensures.here; read = c.index_mut.result.now; from = c.index_mut.ensures.value; owner = c.in-Some-index_mut.field-0-0; value = c.in-Some-index_mut.sender; is = c.in-Some-index_mut.is } in
-    written_placed (IsSendKept h.rules h.latest.ms) send_kinds h.table.places h.table.slots.items h.table.agenda c.self.invariant c.args.flow.now c.in-Some.place at c.act-act.new.self
+    written_placed (IsSendKept h.rules.value h.latest.ms) send_kinds h.table.places h.table.slots.items h.table.agenda c.self.invariant c.args.flow.now c.in-Some.place at c.act-act.new.self
 
 pub invariant_of-self : goal.invariant_of-self
 invariant_of-self g c =
     let h = c.self.inside in
     let at : Read h.table.places h.table.slots.items c.args.flow.now c.in-Some.place = record { once = c.place.ensures.once; place = c.in-Some.ensures.here; read = c.index_mut.result.now; from = c.index_mut.ensures.value; owner = c.in-Some-index_mut.field-0-0; value = c.in-Some-index_mut.sender; is = c.in-Some-index_mut.is } in
-    side_left h.rules h.latest.ms h.table.places h.table.slots.items h.table.agenda c.self.invariant c.args.flow.now c.in-Some.place at c.act-act.new.self c.remove.new.self.places c.remove.new.self.slots.items c.remove.new.self.agenda c.remove.ensures.placed c.remove.ensures.slots c.remove.ensures.notes
+    side_left h.rules.value h.latest.ms h.table.places h.table.slots.items h.table.agenda c.self.invariant c.args.flow.now c.in-Some.place at c.act-act.new.self c.remove.new.self.places c.remove.new.self.slots.items c.remove.new.self.agenda c.remove.ensures.placed c.remove.ensures.slots c.remove.ensures.notes
 
 pub invariant_of-self-in_default-act : goal.invariant_of-self-in_default-act
 invariant_of-self-in_default-act g c =
     let h = c.self.inside in
     let at : Read h.table.places h.table.slots.items c.args.flow.now c.in-Some.place = record { once = c.place.ensures.once; place = c.in-Some.ensures.here; read = c.index_mut.result.now; from = c.index_mut.ensures.value; owner = c.in-Some-index_mut.field-0-0; value = c.in-Some-index_mut.sender; is = c.in-Some-index_mut.is } in
     let d = subst (λ (v : SendSideValue). HasDueIn c.args.flow.now v) (sym c.self.view_is) c.requires.due in
-    side_set h.rules h.latest.ms h.table.places h.table.slots.items h.table.agenda c.self.invariant c.args.flow.now c.in-Some.place at c.act-act.new.self (act_entry c.self.invariant at d.0 d.1 d.2 c.act-act.new.self c.act-act.ensures.after) c.note.new.self c.note_of-note.result c.note.ensures.here c.note_of-note.ensures.note c.note.ensures.others c.note.ensures.room
+    side_set h.rules.value h.latest.ms h.table.places h.table.slots.items h.table.agenda c.self.invariant c.args.flow.now c.in-Some.place at c.act-act.new.self (act_entry c.self.invariant at d.0 d.1 d.2 c.act-act.new.self c.act-act.ensures.after) c.note.new.self c.note_of-note.result c.note.ensures.here c.note_of-note.ensures.note c.note.ensures.others c.note.ensures.room
 
 pub returns-in-Released-clause-told : goal.returns-in-Released-clause-told
 returns-in-Released-clause-told g c =
@@ -102,4 +102,4 @@ returns-in_default-act g c =
     }
 
 pub unreachable-requires-in_default-index_mut : goal.unreachable-requires-in_default-index_mut
-unreachable-requires-in_default-index_mut g c = never_empty (IsSendKept c.self.inside.rules c.self.inside.latest.ms) send_kinds c.self.inside.table.places c.self.inside.table.slots.items c.self.inside.table.agenda c.self.invariant c.place.ensures.once c.args.flow.now c.in-Some.place (sym c.in-Some.ensures.here) c.index_mut.result.now c.index_mut.ensures.value c.in_default-index_mut.is
+unreachable-requires-in_default-index_mut g c = never_empty (IsSendKept c.self.inside.rules.value c.self.inside.latest.ms) send_kinds c.self.inside.table.places c.self.inside.table.slots.items c.self.inside.table.agenda c.self.invariant c.place.ensures.once c.args.flow.now c.in-Some.place (sym c.in-Some.ensures.here) c.index_mut.result.now c.index_mut.ensures.value c.in_default-index_mut.is

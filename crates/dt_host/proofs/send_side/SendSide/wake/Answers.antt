@@ -12,9 +12,9 @@ pub returns-in_err-moment : goal.returns-in_err-moment
 returns-in_err-moment c =
     let h = c.self.inside in
     c.from_residual.ensures
-    ∙ subst (λ (v : SendSideValue). None ≡ earliest (λ (e : Flow × SendRecord). wake_of v.rules e.1) (send_records v.entries)) c.self.view_is (sym (wake_none h.rules h.latest.ms h.table.places h.table.slots.items h.table.agenda c.self.invariant c.in_err-moment.ensures))
+    ∙ subst (λ (v : SendSideValue). None ≡ earliest (λ (e : Flow × SendRecord). wake_of v.rules e.1) (send_records v.entries)) c.self.view_is (sym (wake_none h.rules.value h.latest.ms h.table.places h.table.slots.items h.table.agenda c.self.invariant c.in_err-moment.ensures))
 
 pub returns : goal.returns
 returns c =
     let h = c.self.inside in
-    subst (λ (v : SendSideValue). Some c.in_ok-moment.moment ≡ earliest (λ (e : Flow × SendRecord). wake_of v.rules e.1) (send_records v.entries)) c.self.view_is (sym (wake_some h.rules h.latest.ms h.table.places h.table.slots.items h.table.agenda c.self.invariant c.in_ok-moment.moment c.in_ok-moment.field-0-1 c.in_ok-moment.ensures))
+    subst (λ (v : SendSideValue). Some c.in_ok-moment.moment ≡ earliest (λ (e : Flow × SendRecord). wake_of v.rules e.1) (send_records v.entries)) c.self.view_is (sym (wake_some h.rules.value h.latest.ms h.table.places h.table.slots.items h.table.agenda c.self.invariant c.in_ok-moment.moment c.in_ok-moment.field-0-1 c.in_ok-moment.ensures))

@@ -11,7 +11,7 @@ invariant_of-self-2 c =
     let octets = c.self.inside.octets.items in
     let more = c.args.given.now.payload.octets.now in
     let some : 0 < length more = grind (arith, nat_tests, c.is_empty.ensures, c.if-is_empty.false) in
-    rw (c.push_reserved.ensures.items, c.reserve.ensures.items, c.in_ok-extend_from_slice.ensures.items)
+    rw (c.push_reserved.ensures.items, c.reserve.ensures.items, c.in_ok-extend_from_slice.ensures.items, c.reserve-2.ensures.items)
     (have_octets-push gives octets _ more c.self.invariant refl some c.args.given.now.below)
 
 pub returns-clause-ok : goal.returns-clause-ok
@@ -19,5 +19,5 @@ returns-clause-ok c =
     let gives = c.self.inside.gives.items in
     let octets = c.self.inside.octets.items in
     let more = c.args.given.now.payload.octets.now in
-    rw (c.push_reserved.ensures.items, c.reserve.ensures.items, c.in_ok-extend_from_slice.ensures.items)
+    rw (c.push_reserved.ensures.items, c.reserve.ensures.items, c.in_ok-extend_from_slice.ensures.items, c.reserve-2.ensures.items)
     (given_in_all-push gives octets _ more c.self.invariant refl ∙ ap (λ (rows : List Given). rows ++ rows_given c.args.given.now) c.self.view_is)

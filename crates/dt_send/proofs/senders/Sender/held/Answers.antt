@@ -6,4 +6,4 @@ pub overflow_cast-result : goal.overflow_cast-result
 overflow_cast-result c = omega (arith, held_fits _ _ c.self.invariant, c.self.invariant.limits.cap)
 
 pub returns-clause-value : goal.returns-clause-value
-returns-clause-value c = rw (← c.self.view_is) (c.len.ensures.len ∙ sym (held_is c.self.inside.rules c.self.inside.buffer c.self.invariant))
+returns-clause-value c = rw (← c.self.view_is) (c.len.ensures.len ∙ sym (held_is c.self.inside.rules.value c.self.inside.buffer c.self.invariant))

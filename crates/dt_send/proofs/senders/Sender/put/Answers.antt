@@ -14,7 +14,7 @@ pub returns-then-octets-free-clause-after : goal.returns-then-octets-free-clause
 returns-then-octets-free-clause-after g c =
     let v = c.args.self.now in
     let items = marked c.args.octets.now c.args.begin c.args.end false in
-    let cap : c.params.result.now.cap ≡ v.rules.cap = ap (λ (p : Params). p.cap) c.params.ensures.same ∙ ap (λ (u : SenderValue). u.rules.cap) c.self.view_is in
+    let cap : c.params.result.now.cap ≡ v.rules.cap = ap (λ (p : Params). p.cap) (c.params.ensures.same ∙ c.deref.ensures) ∙ ap (λ (u : SenderValue). u.rules.cap) c.self.view_is in
     let none = full_after v.rules v.state items (omega (arith, cap, c.held.ensures.value, length-marked c.args.octets.now c.args.begin c.args.end false)) in
     ap (λ (x : SendRecord). record v { state = x }) (sym none)
 

@@ -1,0 +1,4 @@
+pub mod Places
+pub mod Agendas
+pub mod Tables
+pub mod Firsts
