@@ -1,3 +1,4 @@
 pub mod Order
 pub mod Tournaments
 pub mod Places
+pub mod Latest

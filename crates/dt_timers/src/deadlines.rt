@@ -1,7 +1,7 @@
 ghost use Rattle.std.specs.Prelude.{ℕ, ◌≡◌, ◌<◌, ◌≤◌, [], length, set, MatchOption, None, OnErr, OnOk};
 ghost use Rattle.dt_timers.specs.Deadlines.{HasNoMoment, IsFirst, moment_at};
 
-use crate::tournament::Tournament;
+use crate::lazy_tournament::LazyTournament;
 use dt_items::NoMemory;
 use std::alloc::Global;
 use std::marker::Model;
@@ -10,11 +10,11 @@ use std::marker::Model;
 /// the places. Moments are any numbers of 64 bits, and what they count is the caller's.
 ///
 /// The least moment is at hand, and a moment is changed at a cost that grows with the number of places
-/// as its logarithm does. Memory is taken by [`Deadlines::hold`] alone: two tree nodes of 16 octets for
+/// as its logarithm does; that of the place that was set last at one that doesn't. Memory is taken by [`Deadlines::hold`] alone: two tree nodes of 16 octets for
 /// each place, doubled as places are wanted. There are 2^32 places at most.
 #[derive(Drop)]
 pub struct Deadlines {
-    tournament: Tournament,
+    tournament: LazyTournament,
 }
 
 impl Model for Deadlines {
@@ -34,7 +34,7 @@ impl Deadlines {
         ensures { result ≡ [] }
     {
         Deadlines {
-            tournament: Tournament::new(alloc),
+            tournament: LazyTournament::new(alloc),
         }
     }
 

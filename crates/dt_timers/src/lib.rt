@@ -4,6 +4,7 @@
 mod deadline;
 mod deadline_nodes;
 mod deadlines;
+mod lazy_tournament;
 mod tournament;
 
 pub use deadlines::Deadlines;

@@ -1,5 +1,5 @@
 //! The soonest of many deadlines, by a tournament.
-ghost use Rattle.std.specs.Prelude.{ℕ, ◌≡◌, ◌+◌, ◌<◌, ◌≤◌, ◌^◌, ◌/◌, [], length, set, OnErr, OnOk};
+ghost use Rattle.std.specs.Prelude.{ℕ, ◌≡◌, ◌+◌, ◌<◌, ◌≤◌, ◌^◌, ◌/◌, [], length, set, IsTrue, OnErr, OnOk};
 ghost use Rattle.dt_timers.specs.Tournaments.{ArePlayed, ArePlayedBut, IsSoonestOf, deadline_in, node};
 
 use crate::deadline::Deadline;
@@ -57,6 +57,7 @@ impl Tournament {
         ensures more { OnOk result (length self.old < length self.new) }
         ensures same { OnOk result ((i : ℕ) → node self.new i ≡ node self.old i) }
         ensures err { OnErr result (self.new ≡ self.old) }
+        ensures few { OnOk result (length self.new ≤ 2 ^ 32) }
     {
         let room = self.nodes.len().max(1);
         if room > MOST_ROOM {
@@ -93,14 +94,22 @@ impl Tournament {
         self.nodes[self.room + place].deadline()
     }
 
+    /// Whether a place has this deadline, or none where it is none.
+    pub fn has(&self, place: usize, deadline: &DeadlineNode) -> bool
+        requires { place < length self.now }
+        ensures { IsTrue result → node self.now place ≡ deadline.now }
+    {
+        self.nodes[self.room + place].is(deadline)
+    }
+
     /// The soonest of all places, or none where all are empty. The cost doesn't grow.
-    pub fn soonest(&self) -> Option<Deadline>
+    pub fn soonest(&self) -> DeadlineNode
         ensures { IsSoonestOf self.now result }
     {
         if self.room == 0 {
-            None
+            DeadlineNode::none()
         } else {
-            self.nodes[1].deadline()
+            self.nodes[1]
         }
     }
 }

@@ -13,4 +13,4 @@ returns-else-self-eq0 c =
     let long : 1 < length t.nodes.items = omega (arith, c.self.invariant.0) in
     let read : c.index.result.now ≡ node t.nodes.items 1 = c.index.ensures ∙ get_or_default t.nodes.items 1 c.index.result.now None long in
     let found : IsSoonestOf (drop t.room t.nodes.items) c.index.result.now = subst (λ (d : Option Deadline). IsSoonestOf (drop t.room t.nodes.items) d) (sym read) is in
-    subst (λ (d : Option Deadline). IsSoonestOf c.args.self.now d) (sym c.deadline.ensures) (subst (λ (places : List (Option Deadline)). IsSoonestOf places c.index.result.now) c.self.view_is found)
+    subst (λ (places : List (Option Deadline)). IsSoonestOf places c.index.result.now) c.self.view_is found
