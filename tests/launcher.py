@@ -170,7 +170,7 @@ class Place:
 
     def library(self, name: str) -> pathlib.Path:
         """What is made of a library for those above it."""
-        return self.top / "crates" / name / "out" / "rlib" if self.is_kept else self.top / "out" / "libraries" / f"{name}.rlib"
+        return self.top / "crates" / name / "out" / "rlib" if self.is_kept else self.top / "out" / ".libraries" / f"{name}.rlib"
 
     def rooms(self) -> list[pathlib.Path]:
         """What is left of rooms and of the launcher's temporary folders."""
