@@ -1,3 +1,4 @@
+//! The facts that an audit reads from a log: octets taken, sent, acknowledged, uncertain or accepted, and restarts.
 use dt_units::Flow;
 
 /// What a line of a log says of octets and of lives: how many octets a flow took, sent, had

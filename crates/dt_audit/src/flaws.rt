@@ -1,3 +1,4 @@
+//! The flaws that an audit can find in a log: a malformed line, a stray fact or a broken promise.
 ghost use Rattle.std.specs.Prelude.{◌≡◌};
 ghost use Rattle.dt_audit.specs.Flaws.{promise_text};
 

@@ -1,3 +1,5 @@
+//! The facts about a flow that a line of a log can state, and the lives of the flow's two nodes.
+
 /// The lives of a flow's two nodes, each 0 where the node didn't begin again.
 #[derive(Clone, Copy)]
 pub struct Lives {

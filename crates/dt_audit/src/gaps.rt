@@ -1,3 +1,4 @@
+//! Sorted ranges of a sender's unsent places from earlier lives, with a binary search for one place.
 ghost use Rattle.std.specs.Prelude.{◌≡◌, ◌≤◌, OnErr, OnOk};
 ghost use Rattle.std.specs.List.{list_any};
 ghost use Rattle.dt_audit.specs.FlowNotes.{Rise, gaps_end, holds, with_gap};

@@ -1,3 +1,5 @@
+//! The ends of an audit: passed, flaw found, out of memory, or write failed.
+
 /// How an audit ends.
 #[derive(Clone, Copy)]
 pub enum AuditOutcome {

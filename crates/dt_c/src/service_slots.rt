@@ -1,3 +1,4 @@
+//! The memory of a service handle in C: an open service or none, and its guard.
 use dt_endpoint::Guard;
 use dt_service::Service;
 

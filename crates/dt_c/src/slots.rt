@@ -1,3 +1,4 @@
+//! The content of a handle: an open node or none, its guard and its message assembly; and the handle as C sees it.
 use dt_endpoint::{Endpoint, Guard};
 use dt_inbox::Mailbox;
 

@@ -1,3 +1,4 @@
+//! Counts of calls: how many there are, how many were served, and how many are in each state.
 ghost use Rattle.std.specs.Prelude.{◌≡◌, nat_lt, count_by};
 ghost use Rattle.dt_calls_model.specs.CallRuns.{is_answered, is_declined, is_unsure, totals_in};
 ghost use Rattle.dt_calls_model.specs.CallStep.{is_waiting};

@@ -1,3 +1,5 @@
+//! The ends of reading an input of calls: done, refused line, out of memory, or write failed.
+
 /// How the reading of an input of calls ends.
 #[derive(Clone, Copy)]
 pub enum CallsOutcome {

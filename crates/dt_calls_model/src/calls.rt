@@ -1,3 +1,4 @@
+//! A call with its request, its reply and its state at the client.
 use dt_units::Flow;
 
 /// What is known of a call at its client.

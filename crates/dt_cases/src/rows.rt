@@ -1,3 +1,4 @@
+//! A row of a table of cases, the check that each key meets exactly one row, and the lookup of its action.
 ghost use Rattle.std.specs.Prelude.{◌≡◌, ◌==◌, ◌↔◌, [], ◌∷◌, IsTrue, count_by, filter, find};
 ghost use Rattle.dt_cases.specs.Tables.{meets, actions_at, MeetsOne, EachMeetsOne, is_covered};
 

@@ -1,3 +1,4 @@
+//! A command of the program, found by one or two words: a job for an input, or a schedule to generate.
 ghost use Rattle.std.specs.Prelude.{◌≡◌, ◌≤◌, IfSome, option_map};
 ghost use Rattle.dt_make.specs.Schedules.{most_rounds};
 ghost use Rattle.dt_command.specs.Commands as commands;

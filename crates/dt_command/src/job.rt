@@ -1,3 +1,4 @@
+//! The jobs that the program can do with an input, and the word that names each job.
 ghost use Rattle.std.specs.Prelude.{◌≡◌};
 ghost use Rattle.dt_command.specs.Commands as commands;
 

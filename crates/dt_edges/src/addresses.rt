@@ -1,3 +1,5 @@
+//! An IPv4 address with a UDP port, and a peer: the number of a link and the address at its other end.
+
 /// An IPv4 address and a UDP port.
 #[derive(Clone, Copy, Debug, PartialEq, Eq)]
 pub struct Address {

@@ -1,3 +1,4 @@
+//! The trait `Clock`, with one call that never fails and returns the clock's reading in milliseconds.
 ghost use Rattle.dt_edges.specs.Clocks.{ClockSight, ReadsOne};
 
 /// A clock of the machine. It never fails.

@@ -1,3 +1,4 @@
+//! A sink in memory with a fixed room and a list of the calls that fail.
 ghost use Rattle.std.specs.Prelude.{◌≡◌, ◌==◌, ◌||◌, ◌-◌, ◌<◌, ◌≤◌, ◌↔◌, [], min, length, IfOk, IsErr, IsTrue};
 ghost use Rattle.dt_edges.specs.Counts.{is_planned};
 ghost use Rattle.dt_edges.specs.Sinks.{sink_after};

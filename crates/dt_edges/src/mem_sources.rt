@@ -1,3 +1,4 @@
+//! A source that reads octets from memory and fails at the calls whose numbers it was made with.
 ghost use Rattle.std.specs.Prelude.{◌≡◌, ◌++◌, ◌<◌, ◌≤◌, ◌↔◌, min, length, take, drop, IfOk, IsErr, IsTrue};
 ghost use Rattle.std.specs.Io.KnownBytes.{ReadConsumes};
 ghost use Rattle.dt_edges.specs.Counts.{CountsFaults, is_planned};

@@ -1,3 +1,4 @@
+//! A source that reads from any `std::io::Read` and counts the reads that fail.
 ghost use Rattle.std.specs.Prelude.{◌≡◌, ◌<◌, ◌≤◌, length, IfOk};
 ghost use Rattle.std.specs.Io.KnownBytes.{ReadConsumes};
 ghost use Rattle.dt_edges.specs.Counts.{CountsOne};

@@ -1,3 +1,4 @@
+//! The trait for sinks of octets, and `put_all`, which writes all octets of a slice to a sink.
 ghost use Rattle.std.specs.Prelude.{◌≡◌, ◌<◌, ◌≤◌, [], length, IfOk, IsOk};
 ghost use Rattle.std.specs.Io.KnownBytes.{WriteAppends};
 ghost use Rattle.dt_edges.specs.Counts.{CountsFaults, last_count};

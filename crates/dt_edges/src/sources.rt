@@ -1,3 +1,4 @@
+//! The trait for sources of octets, which fill a buffer and count the reads that fail.
 ghost use Rattle.std.specs.Prelude.{◌<◌, ◌≤◌, length, IfOk};
 ghost use Rattle.std.specs.Io.KnownBytes.{ReadConsumes};
 ghost use Rattle.dt_edges.specs.Counts.{CountsFaults, last_count};

@@ -1,3 +1,4 @@
+//! The trait `Wire`: open a local address for some peers, then take and give datagrams, each with its link number.
 ghost use Rattle.std.specs.Prelude.{◌≢◌, ◌<◌, ◌≤◌, length, AllPairs, IfOk, OnOk, OnErr, IfSome};
 ghost use Rattle.dt_edges.specs.Wires.{WireSight, HasCounts, HasWaited, handed, OpensOne, OpenFails, TakesOne, TakeFails, GivesOne, GiveFails};
 

@@ -1,3 +1,4 @@
+//! A sink over any writer, such as standard output, which counts the writes that fail.
 ghost use Rattle.std.specs.Prelude.{◌≡◌, ◌<◌, ◌≤◌, [], length, IfOk};
 ghost use Rattle.std.specs.Io.KnownBytes.{WriteAppends};
 ghost use Rattle.dt_edges.specs.Counts.{CountsOne};

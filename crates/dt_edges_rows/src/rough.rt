@@ -1,3 +1,4 @@
+//! A reader and writer for tests: two octets a call; the second call is interrupted, and the fourth fails.
 use std::io::{ErrorKind, Read, Write};
 
 /// A reader and writer that passes on two octets at a time. Its second call is interrupted, and its

@@ -1,3 +1,4 @@
+//! Tests of sinks: in memory, over a writer, over standard error, and with a buffer before the sink.
 use crate::rough::Rough;
 use dt_edges::{Buffer, Buffered, Failed, MemSink, Sink, WriterSink, put_all};
 use std::process::Abort;

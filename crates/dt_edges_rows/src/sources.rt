@@ -1,3 +1,4 @@
+//! Tests of the sources of octets: one in memory with a planned failure, and one over a reader.
 use crate::rough::Rough;
 use dt_edges::{Failed, MemSource, ReaderSource, Source};
 use std::process::Abort;

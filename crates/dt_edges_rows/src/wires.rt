@@ -1,3 +1,4 @@
+//! Tests of the wire in memory: rows of opens, takes and gives, each with its expected answer.
 use dt_edges::{Address, Failed, MemWire, Peer, Wire};
 use dt_items::NoMemory;
 use std::process::Abort;

@@ -1,3 +1,4 @@
+//! A datagram that an endpoint has to send: its octets, its link and the node to which it is sent.
 ghost use Rattle.std.specs.Prelude.{◌≡◌, IfOk};
 ghost use Rattle.dt_endpoint.specs.Acts.{out_frame};
 

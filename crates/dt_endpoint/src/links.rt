@@ -1,3 +1,4 @@
+//! The links and routes that a node is opened with, and the check that a link is one of its incoming links.
 ghost use Rattle.std.specs.Prelude.{◌≡◌};
 ghost use Rattle.dt_endpoint.specs.Calls.{has_link};
 

@@ -1,3 +1,4 @@
+//! Tests of how pieces become messages: each row has a piece, the message that it completes, and the drops so far.
 use crate::fixtures::holds;
 use dt_messages::{Joiner, Marks, Message};
 use std::alloc::Global;

@@ -1,3 +1,5 @@
+//! The answers to an arriving packet: the receiver's action on data, and the host's reply to any packet.
+
 /// What a receiver does with a packet: the outcome of its table of cases.
 #[derive(Clone, Copy)]
 pub enum Action {

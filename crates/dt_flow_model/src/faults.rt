@@ -1,3 +1,5 @@
+//! The error of a send record that has no room for the octets of a send.
+
 /// Why a send record took no octets. It is as it was.
 #[derive(Clone, Copy, Debug, PartialEq, Eq)]
 pub enum PutFault {

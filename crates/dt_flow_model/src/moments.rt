@@ -1,3 +1,5 @@
+//! The times from which on the acts of a send record and of a receive record are due, one for each kind.
+
 /// From when on each kind of act of a send record is due, if nothing else is called: readings of the
 /// sending station's clock, in milliseconds. A kind that is due at no moment from now on has none. A
 /// moment that has passed says that the kind is due now.

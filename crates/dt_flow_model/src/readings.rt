@@ -1,3 +1,4 @@
+//! A reading of a station's clock in milliseconds, with the proof that it is at most 2^62.
 ghost use Rattle.std.specs.Prelude.{◌≤◌};
 ghost use Rattle.dt_flow_model.specs.Keeping.{most_moment};
 

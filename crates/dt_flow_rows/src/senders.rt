@@ -1,3 +1,4 @@
+//! Tests of senders: worked runs played step by step, each with its own parameters and times.
 ghost use Rattle.std.specs.Prelude.{◌≡◌, ◌<◌};
 ghost use Rattle.dt_flow_model.specs.Keeping.{taken_by};
 

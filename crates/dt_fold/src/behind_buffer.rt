@@ -1,3 +1,4 @@
+//! Reading an input line by line while its log is gathered in a buffer, so that one put writes many lines.
 ghost use Rattle.std.specs.Prelude.{◌≡◌, ◌≤◌, [], length, true, IfOk, OnOk, Ok};
 ghost use Rattle.dt_text.specs.InputLines.{most_input};
 ghost use Rattle.dt_fold.specs.Folds.{fold_input};

@@ -1,3 +1,4 @@
+//! The trait for inputs that are read line by line: the effect of each line and the text that it logs.
 ghost use Rattle.dt_fold.specs.Folds.{Turns};
 ghost use Rattle.dt_fold.specs.Logging.{Closes, TurnsTo};
 

@@ -1,3 +1,4 @@
+//! The reasons for which reading an input stops early: out of memory, or write failed.
 ghost use Rattle.std.specs.Prelude.{◌≡◌};
 
 use dt_edges::Failed;

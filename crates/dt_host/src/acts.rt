@@ -1,3 +1,4 @@
+//! An act that a host did: the act of a send or receive record, and the flow of that record.
 use dt_flow_model::{RecvAct, SendAct};
 use dt_units::Flow;
 

@@ -1,3 +1,4 @@
+//! The reasons for which a host takes no octets: silence after a restart, no room, or out of memory.
 use dt_flow_model::PutFault;
 use dt_items::NoMemory;
 

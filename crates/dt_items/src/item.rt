@@ -1,3 +1,4 @@
+//! An octet of a flow with its three marks: message begin, message end and run.
 ghost use Rattle.std.specs.Prelude.{◌≡◌, ◌%◌, nat_lt};
 ghost use Rattle.dt_items.specs.Unmarked.{is_unmarked};
 

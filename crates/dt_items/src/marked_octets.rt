@@ -1,3 +1,4 @@
+//! A slice of octets with two marks, begin and end of a message, and the item of each octet.
 ghost use Rattle.std.specs.Prelude.{◌≡◌, ◌+◌, ◌<◌, ◌==◌, ◌&&◌, length, slice_index};
 
 use crate::item::Item;

@@ -1,3 +1,4 @@
+//! `NoMemory`, the error of each call that found no memory, and its conversions from the allocator's errors.
 use std::alloc::{AllocError, AllocFailed};
 
 /// There was no memory. Any call that takes memory may answer it, and no clause says when.

@@ -1,3 +1,5 @@
+//! The result of a read from a queue: how many octets were read, and the marks of the first and the last one.
+
 /// What a read took: octets of one message, or of one part of a message. An end mark stands only
 /// on the last of them, and a begin or run mark only on the first.
 #[derive(Clone, Copy, PartialEq, Eq)]

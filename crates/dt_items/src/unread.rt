@@ -1,3 +1,4 @@
+//! `Queue`, the accepted octets of a flow with their marks, from which each read takes a piece of one message.
 ghost use Rattle.std.specs.Prelude.{◌≡◌, ◌+◌, ◌-◌, ◌^◌, ◌<◌, ◌≤◌, ◌↔◌, [], ◌∷◌, ◌++◌, drop, take, length, slice_get, IfOk, IfSome, IfNone, IsNone, IsSome};
 ghost use Rattle.circular_buffer.specs.Buffer.{buffer};
 ghost use Rattle.dt_items.specs.Unread.{Backlog, marked, unmarked, unmarked_item, octets_of, goes_on, first_piece, following, last_item, piece_told, IsLongestPiece, TakesPiece};

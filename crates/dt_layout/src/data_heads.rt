@@ -1,3 +1,4 @@
+//! The head of a data packet, for writers that append the octets to a frame in pieces, without a copy of them all.
 ghost use Rattle.std.specs.Prelude.{◌≡◌, ℕ, ◌+◌, ◌≤◌, List, ◌++◌, length};
 ghost use Rattle.dt_layout.specs.declared.limits.TheConstants.{HEADER, MOST_DATA, PACKET_HEADER};
 ghost use Rattle.dt_layout.specs.Heads.{headed};

@@ -1,3 +1,4 @@
+//! Octets already checked to be a valid Deltagram, so that their fields are read without a second check.
 ghost use Rattle.std.specs.Prelude.{◌≡◌, IfOk};
 ghost use Rattle.std.specs.Result.{result_err};
 ghost use Rattle.dt_layout.specs.Spelling.{gram_of};

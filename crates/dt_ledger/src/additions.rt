@@ -1,3 +1,4 @@
+//! The additions to the ledger of a flow: octets that were taken, given or read.
 use crate::given_octets::GivenOctets;
 use dt_items::MarkedOctets;
 

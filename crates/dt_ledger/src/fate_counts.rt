@@ -1,3 +1,4 @@
+//! Counts of the rows of the octets that a flow took, by fate: unsettled, acknowledged or uncertain.
 ghost use Rattle.std.specs.Prelude.{◌≡◌, ◌+◌, ◌^◌, ◌<◌};
 ghost use Rattle.dt_ledger.specs.Rows.{and_one, count_of};
 

@@ -1,3 +1,4 @@
+//! The ledger of one flow: a row for each octet taken or given, and a count of octets read in each life.
 ghost use Rattle.std.specs.Prelude.{◌≡◌, ◌+◌, ◌^◌, ◌<◌, ◌≤◌, ◌↔◌, [], ◌++◌, length, IfSome, IsNone, OnErr, OnOk, slice_get, Some};
 ghost use Rattle.dt_items.specs.Unread.{items_of};
 ghost use Rattle.dt_flow_model.specs.Ledger.{HasNoEntry, first_unsent, note_first, note_read, settle, take_rows, top};

@@ -1,3 +1,4 @@
+//! The octets that one call gives to a receiver, with their first place, their life and their time.
 ghost use Rattle.std.specs.Prelude.{◌+◌, ◌^◌, ◌<◌, length};
 
 use dt_items::MarkedOctets;

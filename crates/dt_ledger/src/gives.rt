@@ -1,3 +1,4 @@
+//! The octets that a flow's receiver was given, in order, with one entry for all octets that were given together.
 ghost use Rattle.std.specs.Prelude.{◌≡◌, ◌+◌, ◌^◌, ◌<◌, ◌↔◌, [], ◌++◌, length, IfSome, IsNone, OnErr, OnOk};
 ghost use Rattle.dt_flow_model.specs.Ledger.{top};
 ghost use Rattle.dt_ledger.specs.Gives.{rows_given};

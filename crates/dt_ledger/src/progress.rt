@@ -1,3 +1,4 @@
+//! Bounds of the latest life's rows: below one no row is open, and below the other none waits for its first sending.
 ghost use Rattle.std.specs.Prelude.{◌≡◌, ◌<◌, ◌≤◌, false, min, true};
 ghost use Rattle.dt_flow_model.specs.Ledger.{is_open};
 ghost use Rattle.dt_ledger.specs.Rows.{progress_in};

@@ -1,3 +1,4 @@
+//! Counts of the octets that were read from a flow, one for each life of the receiving station.
 ghost use Rattle.std.specs.Prelude.{◌≡◌, ◌+◌, ◌^◌, ◌<◌, [], ◌∷◌, OnErr, OnOk};
 ghost use Rattle.dt_flow_model.specs.Ledger.{HasNoEntry, note_read};
 ghost use Rattle.dt_ledger.specs.Reads.{read_of_all, reads_in};

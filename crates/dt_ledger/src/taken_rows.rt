@@ -1,3 +1,4 @@
+//! The rows of the octets that one flow took, with the time of first sending and the fate of each octet.
 ghost use Rattle.std.specs.Prelude.{◌≡◌, ◌+◌, ◌<◌, ◌≤◌, ◌++◌, [], false, length, min, map, None, OnErr, OnOk, slice_get, Some, vec_capacity, vec_len};
 ghost use Rattle.dt_items.specs.Unread.{items_of};
 ghost use Rattle.dt_flow_model.specs.Ledger.{first_unsent, is_open, is_open_in, note_first, open_row, settle, take_rows};

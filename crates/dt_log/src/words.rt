@@ -1,3 +1,4 @@
+//! The words of a log line: numbers, flows, octets and texts, and the writing of a line with spaces between them.
 ghost use Rattle.std.specs.Prelude.{◌∷◌, ◌++◌, map, codes, decimal};
 ghost use Rattle.dt_edges.specs.Sinks.{Puts};
 ghost use Rattle.dt_log.specs.Words.{row_text};

@@ -1,3 +1,5 @@
+//! Counters of a wire: its opens, takes and gives, their faults, and the wait of the last take.
+
 /// How often a wire was called, and how often a call failed. Each count stands still at 2^64 - 1.
 #[derive(Clone, Copy)]
 pub struct WireCounts {

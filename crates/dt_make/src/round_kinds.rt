@@ -1,3 +1,4 @@
+//! The three kinds of rounds in a generated schedule: nothing lost, a message lost, or a message that arrives twice.
 ghost use Rattle.std.specs.Prelude.{◌≡◌};
 ghost use Rattle.dt_make.specs.Kinds.{copies_of};
 

@@ -1,3 +1,4 @@
+//! The lines of a generated round that are a word and a number: passes, arrivals, losses and ticks.
 ghost use Rattle.std.specs.Prelude.{flat_map};
 ghost use Rattle.dt_edges.specs.Sinks.{Puts};
 ghost use Rattle.dt_make.specs.Lines.{line_text};

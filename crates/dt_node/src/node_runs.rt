@@ -1,3 +1,4 @@
+//! A node that runs, with the recorder of its log or trace, and the function that takes one turn of it.
 ghost use Rattle.std.specs.Prelude.{◌≡◌, [], OnOk};
 ghost use Rattle.dt_turn.specs.Codes.{MayTurn};
 ghost use Rattle.dt_node.specs.Deeds.{written_scene};

@@ -1,3 +1,5 @@
+//! The ways in which a run of a node ends: its stop, a refused script, or a fault of memory, wire, clock or sink.
+
 /// How a run of a node ends.
 #[derive(Clone, Copy, PartialEq, Eq)]
 pub enum NodeOutcome {

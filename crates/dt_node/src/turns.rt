@@ -1,3 +1,4 @@
+//! A turn of a node: its orders, its time and the datagram that the previous turn took; and the call that plays it.
 ghost use Rattle.std.specs.Prelude.{◌≡◌};
 ghost use Rattle.dt_edges.specs.Sinks.{Grows};
 ghost use Rattle.dt_turn.specs.Codes.{MayTurn};

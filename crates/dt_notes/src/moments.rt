@@ -1,3 +1,4 @@
+//! A time of the world in milliseconds, with the proof that it is at most 2^61.
 ghost use Rattle.std.specs.Prelude.{◌≤◌};
 ghost use Rattle.dt_notes.specs.Moments.{most_now};
 

@@ -1,3 +1,4 @@
+//! Tests of the ledger: octets that wait for a window, and a sender that starts again.
 use dt_items::MarkedOctets;
 use dt_ledger::{Fate, FlowRows, GivenOctets, Instant, Ledger, Totals};
 use dt_units::{Flow, NodeId};

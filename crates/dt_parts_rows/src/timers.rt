@@ -1,3 +1,4 @@
+//! Tests of the table of deadlines: times that are set in places, and the deadline that is first after each change.
 use dt_timers::Deadlines;
 use std::process::Abort;
 

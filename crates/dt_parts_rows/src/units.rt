@@ -1,3 +1,4 @@
+//! Tests of the parameters and their time bounds, of the order of sequence numbers, and of the count of looks.
 ghost use Rattle.std.specs.Prelude.{◌≡◌, ◌<◌, ◌+◌};
 
 use crate::rows::holds_at;

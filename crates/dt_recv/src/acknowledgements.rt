@@ -1,3 +1,4 @@
+//! An acknowledgement: its number and window, its packet, and the answer and the act that report it.
 ghost use Rattle.std.specs.Prelude.{◌≡◌, ◌≤◌};
 ghost use Rattle.dt_layout.specs.Carried.{IsGram};
 ghost use Rattle.dt_flow_model.specs.declared.acts.RecvAct.TheVariants.{Acked};

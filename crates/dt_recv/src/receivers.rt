@@ -1,3 +1,4 @@
+//! The receiver of one flow: its unread octets, its receive record, and its answer to each packet.
 ghost use Rattle.std.specs.Prelude.{ℕ, Bool, ◌≡◌, ◌≤◌, ◌<◌, ◌+◌, ◌^◌, ◌↔◌, [], ◌++◌, drop, length, unwrap_or, false, true, IfOk, IsTrue, IfSome, IsNone, IsSome, Some, None};
 ghost use Rattle.circular_buffer.specs.Buffer.{buffer};
 ghost use Rattle.dt_items.specs.Unread.{IsLongestPiece, first_piece, items_of, marked, octets_of, piece_told};

@@ -1,3 +1,4 @@
+//! The octets of a data packet as a receiver uses them: with their sequence number, data-run flag and marks.
 use dt_items::MarkedOctets;
 
 /// A data packet's octets, and what it says of them.

@@ -1,3 +1,4 @@
+//! The trait for packets of a relay: a frame with a tag, and its lifetime and target node.
 ghost use Rattle.std.specs.Prelude.{◌≡◌, ℕ, ◌<◌, List};
 ghost use Rattle.dt_layout.specs.Carried.{IsGram, life_of, lowered, to_of};
 

@@ -1,3 +1,4 @@
+//! A hash table over a list of links or routes: the first place of each key.
 ghost use Rattle.std.specs.Prelude.{◌≡◌, ℕ, IfOk, nat_eq};
 ghost use Rattle.std.specs.HashMap.{get};
 ghost use Rattle.dt_relay.specs.Places.{TellsPlaces};

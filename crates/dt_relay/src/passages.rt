@@ -1,3 +1,5 @@
+//! The result if a packet tries to pass a relay at once: it leaves, expires, has to wait, or has no route or room.
+
 /// What becomes at once of a packet that is to leave a relay.
 #[derive(Clone, Copy, PartialEq, Eq)]
 pub enum Passage {

@@ -1,3 +1,4 @@
+//! The queue of a link: at most 64 packets, each with the time at which its wait began.
 ghost use Rattle.std.specs.Prelude.{◌≡◌, IfOk, IfSome, is_some};
 ghost use Rattle.dt_layout.specs.Carried.{IsGram};
 ghost use Rattle.dt_world_model.specs.Relay.{empty_out, leave, may_leave_from, out_wake, push};

@@ -1,3 +1,4 @@
+//! `Relay`, which admits packets, queues each on the link of its route, and lets it leave at the link's pace.
 ghost use Rattle.std.specs.Prelude.{ℕ, ◌≡◌, ◌≢◌, ◌≤◌, ◌<◌, IfOk, IfSome, None, OnErr, OnOk, Some, false, if◌then◌else◌, is_some, length, map, nat_eq, option_map};
 ghost use Rattle.std.specs.HashMap.{get};
 ghost use Rattle.dt_layout.specs.Carried.{IsGram, life_of, to_of};

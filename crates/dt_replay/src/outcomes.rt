@@ -1,3 +1,5 @@
+//! The ways in which a replay of a schedule ends: done, a refused line, out of memory or a failed put.
+
 /// How a replay ends.
 #[derive(Clone, Copy)]
 pub enum Outcome {

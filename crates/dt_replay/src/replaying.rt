@@ -1,3 +1,4 @@
+//! Replay of a schedule: its lines drive a world, and the log is written to a sink.
 ghost use Rattle.std.specs.Prelude.{ℕ, ◌≡◌, ◌≤◌, length, IfSome};
 ghost use Rattle.dt_text.specs.InputLines.{most_input};
 ghost use Rattle.dt_world_model.specs.WorldFacts.{SafeWorld};

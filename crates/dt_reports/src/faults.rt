@@ -1,3 +1,4 @@
+//! The reasons to refuse a line, a setup, an event of the world, or octets to send.
 ghost use Rattle.std.specs.Prelude.{◌≡◌};
 
 use dt_items::NoMemory;

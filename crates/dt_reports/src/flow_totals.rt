@@ -1,3 +1,4 @@
+//! The octet totals of a flow over all lives: taken, acknowledged, uncertain, unsettled, given and read.
 ghost use Rattle.std.specs.Prelude.{◌≡◌};
 ghost use Rattle.dt_reports.specs.Told.{totals_told, told};
 

@@ -1,3 +1,4 @@
+//! A line of the log: its time, the node that reported it if there is one, and the report.
 use crate::reports::Report;
 
 /// A line of the log: when it was reported, by which node, and what. The moment is in ms: the world's

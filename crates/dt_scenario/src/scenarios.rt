@@ -1,3 +1,4 @@
+//! `Scenario`, which reads an input line by line: the setup of a world, then `go`, then lines for a simulation of it.
 ghost use Rattle.std.specs.Prelude.{◌≡◌};
 ghost use Rattle.dt_text.specs.Said.{said};
 ghost use Rattle.dt_fold.specs.Logging.{Closes, TurnsTo};

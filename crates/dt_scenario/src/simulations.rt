@@ -1,3 +1,4 @@
+//! The trait for simulations over the world of a setup, whose input lines are applied one by one.
 ghost use Rattle.std.specs.Prelude.{◌≡◌, IfOk};
 ghost use Rattle.dt_edges.specs.Sinks.{Puts};
 ghost use Rattle.dt_fold.specs.Logging.{TurnsTo};

@@ -1,3 +1,4 @@
+//! The context of an act of a send record: the parameters, the flow and the time.
 ghost use Rattle.std.specs.Prelude.{◌≤◌};
 ghost use Rattle.dt_flow_model.specs.Keeping.{most_moment};
 

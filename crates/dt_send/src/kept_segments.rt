@@ -1,3 +1,4 @@
+//! The compact form of a sent segment in the ring of a send record: 24 octets a segment.
 ghost use Rattle.std.specs.Prelude.{◌≡◌, ◌+◌, ◌^◌, ◌<◌, ◌≤◌};
 
 use crate::sent_segments::SentSegment;

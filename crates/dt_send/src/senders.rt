@@ -1,3 +1,4 @@
+//! `Sender`, the send record of a flow: the octets that wait or are outstanding, and the acts that are due for them.
 ghost use Rattle.std.specs.Prelude.{◌≡◌, ◌+◌, ◌<◌, ◌≤◌, [], ◌++◌, false, length, Some, None, IfNone, IfOk, IfSome, IsSome, unwrap_or};
 ghost use Rattle.std.specs.Option.{option_map};
 ghost use Rattle.std.specs.Result.{result_err};

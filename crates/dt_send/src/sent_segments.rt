@@ -1,3 +1,4 @@
+//! A segment that was sent: its part of the ring of items, and the time from which it is resent.
 ghost use Rattle.std.specs.Prelude.{◌≡◌, ◌+◌, ◌^◌, ◌<◌, ◌≤◌, max, nat_lt, nat_le, ◌&&◌, [], length, slice_get, Some};
 ghost use Rattle.dt_flow_model.specs.SendActs.{is_late, moment_if};
 ghost use Rattle.dt_send.specs.SentSegments.{segment_of};

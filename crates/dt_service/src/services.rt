@@ -1,3 +1,4 @@
+//! `Service`, a node that makes calls and serves requests over an endpoint, and the values to open it with.
 ghost use Rattle.std.specs.Prelude.{◌≡◌, ◌++◌, IfOk, OnErr, OnOk, drop, not, option_map, option_to_list, is_some};
 ghost use Rattle.dt_endpoint.specs.Calls.{AddsRoute};
 ghost use Rattle.dt_endpoint.specs.Endpoints.{opened, with_followed};

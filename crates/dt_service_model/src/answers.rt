@@ -1,3 +1,4 @@
+//! The answers of a service to a call, a reply and a forgotten token, with the reason of each refusal.
 use crate::names::CallNumber;
 
 /// The answer to a call.

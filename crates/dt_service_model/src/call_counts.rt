@@ -1,3 +1,5 @@
+//! Counts of the messages that a service has dropped, one count for each cause.
+
 /// How many messages were dropped, by cause: 2^64 - 1 each at most.
 #[derive(Clone, Copy, Debug, PartialEq, Eq)]
 pub struct CallCounts {

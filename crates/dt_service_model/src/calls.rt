@@ -1,3 +1,4 @@
+//! The record that a client keeps of a call, and the causes for which a call ends without an answer.
 use crate::names::CallNumber;
 use dt_units::Flow;
 

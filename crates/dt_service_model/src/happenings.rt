@@ -1,3 +1,4 @@
+//! The events that a program takes from a service: a request, an answer, or a call with an unsure end.
 use crate::calls::Cause;
 use crate::names::{CallNumber, Token};
 use std::marker::Model;

@@ -1,3 +1,4 @@
+//! The names of calls and requests: the number of a call, and the token of a request.
 use dt_units::Flow;
 
 /// The number of a call: the life that its program gave to the client's endpoint, and how many calls were

@@ -1,3 +1,5 @@
+//! Ports with their kinds, and the limits on a node's calls and requests.
+
 /// What a port is for. It has its kind for good.
 #[derive(Clone, Copy, Debug, PartialEq, Eq)]
 pub enum PortKind {

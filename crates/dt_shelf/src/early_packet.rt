@@ -1,3 +1,4 @@
+//! A packet that arrived too early, with its octets lent to the shelf, which copies them if it has room.
 use dt_layout::GramOctets;
 use dt_units::Flow;
 

@@ -1,3 +1,5 @@
+//! The result of taking a packet off a shelf: the packet has a shorter lifetime, or has expired.
+
 /// What became of a packet that was taken from a shelf, whose octets are the caller's already.
 #[derive(Clone, Copy)]
 pub enum Handed {

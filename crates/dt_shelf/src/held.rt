@@ -1,3 +1,4 @@
+//! A packet on a shelf: its frame, its flow, its number, its link and the time at which it was put there.
 use dt_layout::Frame;
 use dt_units::Flow;
 use std::marker::Model;

@@ -1,3 +1,4 @@
+//! `Shelf`, room for packets that arrived too early, each taken back by its flow and its first sequence number.
 ghost use Rattle.std.specs.Prelude.{◌≡◌, ◌≤◌, ◌<◌, ◌↔◌, IfNone, IfOk, IfSome, IsTrue, length, vec_capacity};
 ghost use Rattle.std.specs.List.{position};
 ghost use Rattle.dt_layout.specs.Carried.{IsGram};

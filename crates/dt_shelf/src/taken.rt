@@ -1,3 +1,4 @@
+//! The result of taking a packet from a shelf: the packet with its reduced life, or that it has expired.
 use dt_layout::Frame;
 
 /// What became of a packet that was taken from a shelf.

@@ -1,3 +1,4 @@
+//! The steps for a packet that arrives at a station: admit it, then give it to the host or forward it.
 ghost use Rattle.std.specs.Prelude.{◌≡◌, ◌==◌, Ok};
 ghost use Rattle.dt_layout.specs.Carried.{IsGram, to_of};
 ghost use Rattle.dt_layout.specs.Reading.{packet_read};

@@ -1,3 +1,4 @@
+//! The events of a station: octets to send, reads, ticks, and packets that arrive on a link.
 use dt_items::MarkedOctets;
 use dt_units::Flow;
 

@@ -1,3 +1,4 @@
+//! One event at a station: settling, then the send, read, tick or arrival, then settling again.
 ghost use Rattle.std.specs.Prelude.{◌≡◌, ◌<◌, ◌≤◌, length, OnOk};
 ghost use Rattle.dt_items.specs.Unread.{items_of, octets_of, piece_told};
 ghost use Rattle.dt_layout.specs.Carried.{IsGram};

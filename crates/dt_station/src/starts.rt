@@ -1,3 +1,4 @@
+//! The start of a node: its first one, or a restart at a given time.
 ghost use Rattle.std.specs.Prelude.{◌≤◌};
 ghost use Rattle.std.specs.Option.{ForSome};
 ghost use Rattle.dt_flow_model.specs.Keeping.{most_moment};

@@ -1,3 +1,4 @@
+//! The station: a node's host and relay, and the steps they make in one event.
 ghost use Rattle.std.specs.Prelude.{◌≡◌, ◌≤◌, IfOk, None, OnErr, OnOk, false, is_some, length, unwrap_or};
 ghost use Rattle.std.specs.Option.{ForSome};
 ghost use Rattle.dt_flow_model.specs.Keeping.{most_moment};

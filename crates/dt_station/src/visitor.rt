@@ -1,3 +1,4 @@
+//! The trait for the user of a station: it gets the reports, tags the frames and takes the packets that leave.
 ghost use Rattle.std.specs.Prelude.{ℕ, List, OnErr, OnOk};
 ghost use Rattle.dt_layout.specs.Carried.{IsGram};
 ghost use Rattle.dt_reports.specs.Told.{Told, told};

@@ -1,3 +1,4 @@
+//! Tests of a host with 1,000 and with 20,000 senders: how many records it looks at to find each resend.
 ghost use Rattle.std.specs.Prelude.{◌≡◌, ◌+◌, ◌<◌, ◌≤◌, IfOk};
 ghost use Rattle.dt_flow_model.specs.Keeping.{most_moment};
 

@@ -1,3 +1,4 @@
+//! A test of a host's order of acts: each row is an event at a time, with its expected answer.
 ghost use Rattle.std.specs.Prelude.{◌≡◌, ◌<◌, ◌≤◌, IfOk, length};
 ghost use Rattle.dt_layout.specs.Spelling.{KeepsRules, packet_of};
 ghost use Rattle.dt_flow_model.specs.Keeping.{most_moment};

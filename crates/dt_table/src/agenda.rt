@@ -1,3 +1,4 @@
+//! The due times of the records of a table, by kind and place, with a lookup of the earliest of each kind.
 ghost use Rattle.std.specs.Prelude.{ℕ, suc, ◌≡◌, ◌≢◌, ◌<◌, ◌≤◌, length, set, IfOk, OnErr, OnOk};
 ghost use Rattle.dt_table.specs.Agendas.{HasRoom, IsFirstPlace, moment_of_kind, no_note, note_at};
 ghost use Rattle.dt_table.specs.Places.{slot};

@@ -1,3 +1,4 @@
+//! `Places`, a table in which each flow has at most one place, found in constant time.
 ghost use Rattle.std.specs.Prelude.{ℕ, ◌≡◌, ◌≢◌, ◌<◌, ◌≤◌, [], length, set, OnErr, OnOk, Some, None};
 ghost use Rattle.dt_table.specs.Places.{StandOnce, place_in, present, slot};
 

@@ -1,3 +1,4 @@
+//! A table of flow records in the order of their making, with the times at which each record is due.
 ghost use Rattle.std.specs.Prelude.{ℕ, suc, ◌≡◌, ◌≢◌, ◌<◌, ◌++◌, ◌∷◌, [], length, set, IfOk, IfSome, IfNone, OnErr, OnOk, Some, None};
 ghost use Rattle.std.specs.Map.{lookup};
 ghost use Rattle.std.specs.Option.{option_copied};

@@ -1,3 +1,4 @@
+//! A function that splits an input after its first line: the line without its line feed, and the rest.
 ghost use Rattle.std.specs.Prelude.{◌≡◌, ◌<◌, ◌⊎◌, ◌∷◌, ◌++◌, [], length};
 ghost use Rattle.dt_text.specs.InputLines.{lines_of};
 

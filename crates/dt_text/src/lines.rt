@@ -1,3 +1,4 @@
+//! The lines of schedules, scripts and inputs of calls, as typed values.
 use dt_edges::Address;
 use dt_units::{Flow, Params};
 

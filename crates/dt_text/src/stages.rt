@@ -1,3 +1,4 @@
+//! The stages of an input, and the function that checks which lines are allowed at each stage.
 ghost use Rattle.std.specs.Prelude.{◌≡◌};
 ghost use Rattle.dt_text.specs.Said.{run_said, said, script_said};
 ghost use Rattle.dt_text.specs.Stages.{before_params, after_me, after_params, calls_run, in_run, in_setup, not_before, schedule_run, script_after, script_line_after, stage_after, world_after};

@@ -1,3 +1,4 @@
+//! A deadline or none in 16 octets, as a node of the tournament tree, and the choice of the earlier of two.
 ghost use Rattle.std.specs.Prelude.{◌≡◌, ◌<◌, ◌^◌, IsTrue, None};
 ghost use Rattle.dt_timers.specs.Order.{goes_before, sooner_of};
 ghost use Rattle.dt_timers.specs.Tournaments.{deadline_in};

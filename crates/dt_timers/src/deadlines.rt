@@ -1,3 +1,4 @@
+//! A table of deadlines, one or none for each place, with the earliest deadline at constant cost.
 ghost use Rattle.std.specs.Prelude.{ℕ, ◌≡◌, ◌<◌, ◌≤◌, [], length, set, MatchOption, None, OnErr, OnOk};
 ghost use Rattle.dt_timers.specs.Deadlines.{HasNoMoment, IsFirst, moment_at};
 

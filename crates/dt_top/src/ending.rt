@@ -1,3 +1,4 @@
+//! The ways in which a run of the program ends, each with its exit status and its text on standard error.
 ghost use Rattle.std.specs.Prelude.{◌≡◌};
 ghost use Rattle.dt_top.specs.Endings.{status_of, text_of};
 

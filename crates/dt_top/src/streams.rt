@@ -1,3 +1,5 @@
+//! The objects that a run borrows: its input, its output, its wire and its clock.
+
 /// What a run is lent: where its input comes from and where its output goes, the wire and the clock.
 #[derive(Drop)]
 pub struct Streams<'a, S, K, W, C> {

@@ -1,3 +1,4 @@
+//! A test of how long a node waits in each take: until its wake or the next command of its script.
 use crate::node_inputs::FIRST;
 use dt_edges::{Address, Failed, MemClock, MemSink, MemWire, Peer, Wire};
 use dt_node::{NodeOutcome, serve};

@@ -1,3 +1,5 @@
+//! A datagram in a trace: its link and its octets.
+
 /// A datagram that a take found.
 #[derive(Drop)]
 pub struct TakenDatagram {

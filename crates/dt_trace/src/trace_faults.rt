@@ -1,3 +1,4 @@
+//! The errors when a trace is read: the first refused line with its number and fault, or out of memory.
 use dt_reports::LineFault;
 use thiserror::Error;
 

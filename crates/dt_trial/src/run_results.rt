@@ -1,3 +1,4 @@
+//! The result of a trial: the exit status, and the contents of standard output and standard error.
 ghost use Rattle.std.specs.Prelude.{◌↔◌, IsTrue};
 ghost use Rattle.dt_trial.specs.Trials.{HasEnd};
 

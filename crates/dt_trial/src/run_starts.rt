@@ -1,3 +1,4 @@
+//! The words, the source, the clock and the two sinks with which a trial calls `run`.
 ghost use Rattle.std.specs.Prelude.{◌≡◌, ◌<◌, IfOk, length, map, string_bytes};
 ghost use Rattle.dt_trial.specs.Trials.{IsRunFrom, start_of, start_seen};
 

@@ -1,3 +1,4 @@
+//! A trial: one run of the program in memory with planned failures, and the functions that check how it ended.
 ghost use Rattle.std.specs.Prelude.{◌≡◌, ◌↔◌, [], codes, take, IfErr, IfOk, IsErr, IsTrue, OnErr};
 ghost use Rattle.dt_trial.specs.Trials as trials;
 ghost use Rattle.dt_trial.specs.Trials.{HasEnd, IsRun, IsRunOf, Lacks};

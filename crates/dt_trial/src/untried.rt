@@ -1,3 +1,4 @@
+//! The reasons for which a trial isn't run: no clock reading, or out of memory.
 use dt_items::NoMemory;
 
 /// Why a trial isn't run. Then nothing was done.

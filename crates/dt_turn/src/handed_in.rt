@@ -1,3 +1,4 @@
+//! The two kinds of packets that a turn gives to its station: a new datagram, or the one taken from the shelf.
 ghost use Rattle.std.specs.Prelude.{◌≡◌};
 ghost use Rattle.dt_turn.specs.Codes.{IsTaken, handed_seen, incoming_seen};
 

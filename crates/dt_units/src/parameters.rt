@@ -1,3 +1,4 @@
+//! The parameters of the protocol with their ranges and their check, and the five time bounds computed from them.
 ghost use Rattle.std.specs.Prelude.{◌≡◌, ◌<◌, IfOk, IfErr, Some, find, not};
 ghost use Rattle.dt_units.specs.Limits.{value_of, is_in_range, first_out_of_range, IsWithinLimits};
 ghost use Rattle.dt_units.specs.Numbers.{quantum};

@@ -1,3 +1,4 @@
+//! A count of looks at records for contracts about cost; it takes no memory and no time.
 ghost use Rattle.std.specs.Prelude.{◌≡◌, ◌+◌, ◌<◌};
 
 use std::marker::Model;

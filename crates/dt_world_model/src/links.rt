@@ -1,3 +1,5 @@
+//! The links of a world and of a station, routes over them, and the result when a packet enters a relay.
+
 /// A link on which packets leave a station.
 #[derive(Clone, Copy, Debug, PartialEq, Eq)]
 pub struct OutLink {
