@@ -502,7 +502,7 @@ def files_with_all_of(it: Sum) -> list[str]:
     found = []
     for path in sources("src", "specs", "proofs"):
         crate = path.relative_to(TOP / "crates").parts[0]
-        if not crate.endswith("_rows") and has_row_for_each(path, it, variants):
+        if not crate.endswith("_tests") and has_row_for_each(path, it, variants):
             found.append((order.index(crate), path.relative_to(TOP / "crates").as_posix()))
     return [path for _, path in sorted(found)]
 

@@ -10,7 +10,7 @@ import sys
 
 from lib import TOP, program
 
-ROWS = TOP / "crates" / "deltat_rows"
+ROWS = TOP / "crates" / "deltat_tests"
 ROUND = 2**32
 LETTERS = {"dbe", "db", "de", "d", "be", "b", "e", "-"}
 WORDS = {"took": 5, "sent": 7, "settled": 6, "uncertain": 5, "accepted": 7, "restarted": 4}

@@ -147,7 +147,7 @@ def index(path: str) -> bool:
     named = {f"{it.name}{end}" for it in listed for end in ((".frames",) if it.kind == "frames" else (".in", ".out"))}
     named = {it for it in named if not it.startswith("..")} - {f"{it.name}.in" for it in listed if it.input}
     there = {str(it.relative_to(FOLDER)) for it in FOLDER.glob("*/*") if "__pycache__" not in it.parts}
-    rows = [line.split() for line in (TOP / "crates" / "deltat_rows" / "stdin").read_text().splitlines()]
+    rows = [line.split() for line in (TOP / "crates" / "deltat_tests" / "stdin").read_text().splitlines()]
     ours = [[it.name.rsplit("/", 1)[1], it.word, str(it.status)] for it in listed if it.name.startswith("..")]
     twice = [title for title, count in collections.Counter(it.title() for it in run.cases()).items() if count > 1]
     for what, names in (("not there", named - there), ("not in the index", there - named), ("twice", twice)):

@@ -98,7 +98,7 @@ def differences(log: bytes) -> list[str]:
 
 
 def totals(program: str) -> tuple[bool, str]:
-    data = ROOT / "crates" / "deltat_rows" / "data"
+    data = ROOT / "crates" / "deltat_tests" / "data"
     schedules = [it.read_bytes() for it in [*sorted((ROOT / "examples").glob("*.schedule")), *sorted(data.glob("*.in"))]]
     schedules.append(subprocess.run([program, "make", "300"], capture_output=True, check=True).stdout)
     logs = [log for it in schedules if b"\nstation " in it and (log := replay(program, it))]

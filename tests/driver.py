@@ -3,7 +3,7 @@
 writes of them, octet for octet, and end with its status.
 
 `tests/driver.py [PROGRAM] [--count N] [--seed N] [--library ARCHIVE] [--compiler CC] [--under COMMAND] [--keep FOLDER]`.
-The inputs are the scripts and traces of crates/deltat_rows/data that are accepted and ask for no shelf, which the
+The inputs are the scripts and traces of crates/deltat_tests/data that are accepted and ask for no shelf, which the
 library doesn't have, and N random ones: of each three
 
 - one whose datagrams are made up: data, acknowledgements, rendezvous and closing packets of flows to the node, from it
@@ -41,7 +41,7 @@ sys.path[:0] = [str(TOP / "tools"), str(TOP / "bindings" / "python")]
 import wire  # noqa: E402
 
 LIBRARY = TOP / "lib" / "libdeltat.a"
-ROWS = TOP / "crates" / "deltat_rows" / "data"
+ROWS = TOP / "crates" / "deltat_tests" / "data"
 ME, PEERS, FAR, NOWHERE = 1, (2, 3), 4, 9
 # the last moment of a script
 LAST = 2**32 - 1

@@ -26,7 +26,7 @@ from pathlib import Path
 from lib import HOST, TOP, Between, node_script, own_port, params, program, start, tell, wait_for
 
 TOOL = TOP / "tools" / "fieldaudit.py"
-ROWS = TOP / "crates" / "deltat_rows"
+ROWS = TOP / "crates" / "deltat_tests"
 HELLO = "68656c6c6f"
 # a receive record lives 1,850 ms, and a node that starts again is silent for 2,450
 QUICK = params(times="300 1500 50 100 400")

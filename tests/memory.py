@@ -22,7 +22,7 @@ import threading
 
 from lib import TOP, bound, free_port, node_script, params, program
 
-DATA = TOP / "crates" / "deltat_rows" / "data"
+DATA = TOP / "crates" / "deltat_tests" / "data"
 
 # the call for memory with the number in REFUSED_CALL is refused, which one octet on REFUSED_FD tells
 BEFORE_LIBC = r"""

@@ -14,7 +14,7 @@ import tempfile
 
 from lib import TOP, program
 
-ROWS = TOP / "crates" / "deltat_rows"
+ROWS = TOP / "crates" / "deltat_tests"
 
 
 def differs(path, name, word, status):

@@ -11,7 +11,7 @@ import sys
 from lib import TOP, program
 
 SCHEDULE = TOP / "examples" / "loss-repeat-restart.schedule"
-LOG = TOP / "crates" / "deltat_rows" / "data" / "short-exchange.out"
+LOG = TOP / "crates" / "deltat_tests" / "data" / "short-exchange.out"
 
 
 def status(path, words, redirections):

@@ -20,7 +20,7 @@ import time
 from lib import TOP, bound, free_port, program, read_of, relay, script, start
 
 FLOWS = ["1:10>2:20", "2:20>1:10"]
-DATA = TOP / "crates" / "deltat_rows" / "data"
+DATA = TOP / "crates" / "deltat_tests" / "data"
 
 
 def all_of(out):

@@ -31,8 +31,8 @@ use std::marker::Model;
 /// The greatest moment: a later one counts as it.
 const MOST_MOMENT: u64 = 1 << 62;
 
-/// So many octets in all, or more, are refused.
-const MOST_OCTETS: u64 = 1 << 62;
+/// A send is refused if all sends and reads together would ask for this many octets or more.
+const ASKED_LIMIT: u64 = 1 << 62;
 
 /// A node without a socket, a clock or a thread of its own.
 ///
@@ -251,7 +251,7 @@ impl Endpoint {
         if octets.is_empty() {
             return Sent::Empty;
         }
-        if octets.len() as u64 >= MOST_OCTETS - self.asked {
+        if octets.len() as u64 >= ASKED_LIMIT - self.asked {
             return Sent::TooMany;
         }
         let sent = MarkedOctets { octets, begin, end };

@@ -6,10 +6,10 @@ use dt_items::NoMemory;
 use std::alloc::Global;
 use std::marker::Model;
 
-/// How many octets wait at most.
-const MOST_OCTETS: usize = 262_144;
+/// The most octets of datagrams that wait here.
+const BACKLOG_OCTETS: usize = 262_144;
 
-/// How many datagrams wait at most.
+/// The most datagrams that wait here.
 const MOST_PLACES: usize = 512;
 
 /// Where a datagram stands among the octets of all.
@@ -45,7 +45,7 @@ pub struct Backlog {
 impl Model for Backlog {
     ghost use Rattle.std.specs.Prelude.{◌≤◌, All, map, drop, length, vec_len, vec_capacity};
     ghost use Rattle.dt_machine.specs.Backlogs.{Backlogged, waiting_at, IsPlace};
-    ghost use Rattle.dt_machine.specs.declared.backlogs.TheConstants.{MOST_OCTETS, MOST_PLACES};
+    ghost use Rattle.dt_machine.specs.declared.backlogs.TheConstants.{BACKLOG_OCTETS, MOST_PLACES};
 
     ghost Value = { Backlogged };
 
@@ -56,8 +56,8 @@ impl Model for Backlog {
     } };
 
     ghost invariant = { λ b. record {
-      octets_fit : vec_len b.octets ≤ MOST_OCTETS;
-      octets_room : MOST_OCTETS ≤ vec_capacity b.octets;
+      octets_fit : vec_len b.octets ≤ BACKLOG_OCTETS;
+      octets_room : BACKLOG_OCTETS ≤ vec_capacity b.octets;
       places_fit : vec_len b.places ≤ MOST_PLACES;
       places_room : MOST_PLACES ≤ vec_capacity b.places;
       handed : b.handed ≤ vec_len b.places;
@@ -71,7 +71,7 @@ impl Backlog {
         ensures { IfOk result (λ backlog. backlog ≡ nothing) }
     {
         Ok(Backlog {
-            octets: Vec::with_capacity(alloc, MOST_OCTETS)?,
+            octets: Vec::with_capacity(alloc, BACKLOG_OCTETS)?,
             places: Vec::with_capacity(alloc, MOST_PLACES)?,
             handed: 0,
         })
@@ -89,7 +89,7 @@ impl Backlog {
     pub fn has_room(&self, octets: usize) -> bool
         ensures { result ≡ has_room octets self.now }
     {
-        self.places.len() < MOST_PLACES && octets <= MOST_OCTETS - self.octets.len()
+        self.places.len() < MOST_PLACES && octets <= BACKLOG_OCTETS - self.octets.len()
     }
 
     /// Lets a datagram wait after the others, if there is room, and says whether there was. Its socket
@@ -99,7 +99,7 @@ impl Backlog {
         ensures room { result ≡ has_room (length octets.now) self.old }
         ensures kept { self.new ≡ cond result (kept (record { link = link; octets = octets.now; empty = empty }) self.old) self.old }
     {
-        if self.places.len() >= MOST_PLACES || octets.len() > MOST_OCTETS - self.octets.len() {
+        if self.places.len() >= MOST_PLACES || octets.len() > BACKLOG_OCTETS - self.octets.len() {
             return false;
         }
         let start = self.octets.len();

@@ -204,7 +204,7 @@ module _ (o : Orders) (now : ℕ) where
   leaves_fault node = record { ready = tt; going = tt; memory = λ e. absurd (false≢true e) }
 
   -- by what the turn itself leaves
-  pub leaves_ended : (failed : Bool) (done : Result Bool NoMemory) (node : coded.Node) → OnOk done (IsReady o now node) → IfOk done (λ stopped. stopped ≡ false → now < o.stop) → OnErr done (node.dock.station.spent ≡ true) → Leaves o now (ended_by failed done) node
+  pub leaves_ended : (failed : Bool) (done : Result Bool NoMemory) (node : coded.Node) → OnOk done (IsReady o now node) → IfOk done (λ stopped. stopped ≡ false → now < o.stop) → OnErr done (node.io.station.spent ≡ true) → Leaves o now (ended_by failed done) node
   leaves_ended true done node ready going memory = leaves_fault node
   leaves_ended false (Ok stopped) node ready going memory = record { ready = ready; going = going; memory = λ e. absurd (false≢true e) }
   leaves_ended false (Err fault) node ready going memory = record { ready = tt; going = tt; memory = λ e. memory }

@@ -183,11 +183,11 @@ pub asks_write_early : (o : Orders) (b : WireSight) → Asks o WriteFault [] [] 
 asks_write_early o b = nothing_asked o WriteFault b b refl (inl refl) (inr (refl, refl))
 
 -- THE CODE'S WAIT is that of the pause
-pub asked_wait : (o : code.Orders) (node : coded.Node) (watch : Watch) (now wait : ℕ) → node.dock.station.rules ≡ o.setup.rules → now ≡ moment watch → wait ≡ wait_until (wakes_by (station_wake node.dock.station.rules node.dock.station.state) (next_moment o.stop (left_of o node.next))) now
+pub asked_wait : (o : code.Orders) (node : coded.Node) (watch : Watch) (now wait : ℕ) → node.io.station.rules ≡ o.setup.rules → now ≡ moment watch → wait ≡ wait_until (wakes_by (station_wake node.io.station.rules node.io.station.state) (next_moment o.stop (left_of o node.next))) now
     → wait ≡ wait_in (pause_of (orders_seen o) watch (node_seen o node))
 asked_wait o node watch now wait rules n e =
-    e ∙ ap (λ (p : Params). wait_until (wakes_by (station_wake p node.dock.station.state) (next_moment o.stop (left_of o node.next))) now) rules
-    ∙ ap (λ (k : ℕ). wait_until (wakes_by (station_wake o.setup.rules node.dock.station.state) (next_moment o.stop (left_of o node.next))) k) n
+    e ∙ ap (λ (p : Params). wait_until (wakes_by (station_wake p node.io.station.state) (next_moment o.stop (left_of o node.next))) now) rules
+    ∙ ap (λ (k : ℕ). wait_until (wakes_by (station_wake o.setup.rules node.io.station.state) (next_moment o.stop (left_of o node.next))) k) n
 
 -- A WAIT IS SHORT
 reaches : (due now wait : ℕ) → wait ≡ wait_until due now → (1 ≤ wait) × (wait ≤ 1000) × (now < due → now + wait ≤ due) × (due ≤ now → wait ≡ 1) × (wait < 1000 → due ≤ now + wait)

@@ -44,4 +44,4 @@ TakesTurn form t result old new before after = PlaysTurn form t.orders.now.setup
 pub record Leaves (o : Orders) (now : ℕ) (result : Result Bool Stop) (node : Node) : Type 0 where
   pub ready : OnOk result (IsReady o now node)
   pub going : IfOk result (λ stopped. stopped ≡ false → now < o.stop)
-  pub memory : wants_memory result ≡ true → node.dock.station.spent ≡ true
+  pub memory : wants_memory result ≡ true → node.io.station.spent ≡ true

@@ -27,14 +27,14 @@ use dt_turn::{Node, datagram_of};
 
 /// How long a take may wait: to the station's wake and to the next command or the stop, 1 to 1,000 ms.
 fn wait_for(orders: &Orders, node: &Node, moment: u64) -> u32
-    ensures { let wake = station_wake node.now.dock.station.rules node.now.dock.station.state in
+    ensures { let wake = station_wake node.now.io.station.rules node.now.io.station.state in
         result ≡ wait_until (wakes_by wake (next_moment orders.now.stop (left_of orders.now node.now.next))) moment }
 {
     let command = match orders.commands.get(node.next) {
         Some(command) => u64::from(command.at),
         None => u64::from(orders.stop),
     };
-    let due = match node.dock.station.wake() {
+    let due = match node.io.station.wake() {
         Some(wake) => wake.min(command),
         None => command,
     };
@@ -80,7 +80,7 @@ pub fn run_turns<W: Wire, C: Clock, K: Sink>(
     requires new { run.old.recorder.writer.gives ≡ 0 }
     ensures serves { let seen = seen_by W.sight C.sight K.sight in
         Serves run.old.recorder.writer.form (orders_seen orders.now) result (seen wire.old clock.old out.old) (seen wire.new clock.new out.new) }
-    ensures memory { result ≡ outcome.NoMemory → run.new.node.dock.station.spent ≡ true }
+    ensures memory { result ≡ outcome.NoMemory → run.new.node.io.station.spent ≡ true }
 {
     let peers = &orders.setup.peers;
     if let Err(_) = wire.open(orders.setup.local, peers) {

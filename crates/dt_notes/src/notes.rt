@@ -38,39 +38,39 @@ pub struct Notes {
 /// below 2^62.
 pub fn change(
     notes: &mut Notes,
-    occasion: &EventContext<'_>,
+    context: &EventContext<'_>,
     flow: &Flow,
     change: Change,
 ) -> Result<(), NoMemory>
-    ensures ok { OnOk result (ledgers_seen notes.new ≡ ledgers_by (occasion_seen occasion.entry.now) (Changes flow.now (change_seen change)) (ledgers_seen notes.old)) }
+    ensures ok { OnOk result (ledgers_seen notes.new ≡ ledgers_by (occasion_seen context.entry.now) (Changes flow.now (change_seen change)) (ledgers_seen notes.old)) }
     ensures err { OnErr result (ledgers_seen notes.new ≡ ledgers_seen notes.old) }
     ensures copies { notes.new.copies ≡ notes.old.copies }
-    ensures beyond { IsBeyond occasion.entry.now (change_seen change) (ledger_of (ledgers_seen notes.old) flow.now) → IsErr result }
-    ensures memory { OnErr result (IsNew flow.now (ledgers_seen notes.old) ⊎ WantsRoom occasion.entry.now (change_seen change) (ledger_of (ledgers_seen notes.old) flow.now) ⊎ IsBeyond occasion.entry.now (change_seen change) (ledger_of (ledgers_seen notes.old) flow.now)) }
+    ensures beyond { IsBeyond context.entry.now (change_seen change) (ledger_of (ledgers_seen notes.old) flow.now) → IsErr result }
+    ensures memory { OnErr result (IsNew flow.now (ledgers_seen notes.old) ⊎ WantsRoom context.entry.now (change_seen change) (ledger_of (ledgers_seen notes.old) flow.now) ⊎ IsBeyond context.entry.now (change_seen change) (ledger_of (ledgers_seen notes.old) flow.now)) }
 {
     match change {
-        Change::Takes => take_octets(notes, occasion, flow),
-        Change::Accepts { run } => accept(notes, occasion, flow, run),
-        Change::ReadsOut { count } => read(notes, occasion, flow, count),
+        Change::Takes => take_octets(notes, context, flow),
+        Change::Accepts { run } => accept(notes, context, flow, run),
+        Change::ReadsOut { count } => read(notes, context, flow, count),
         Change::Sends { step } => {
             begin(notes, flow)?;
-            send(notes, occasion, flow, step);
+            send(notes, context, flow, step);
             Ok(())
         }
     }
 }
 
 /// The sender of a flow that is there does something with octets that it took.
-fn send(notes: &mut Notes, occasion: &EventContext<'_>, flow: &Flow, step: SenderStep)
+fn send(notes: &mut Notes, context: &EventContext<'_>, flow: &Flow, step: SenderStep)
     requires there { IsThere flow.now (ledgers_seen notes.old) }
-    ensures becomes { ledgers_seen notes.new ≡ ledgers_by (occasion_seen occasion.entry.now) (Changes flow.now (step_seen step)) (ledgers_seen notes.old) }
+    ensures becomes { ledgers_seen notes.new ≡ ledgers_by (occasion_seen context.entry.now) (Changes flow.now (step_seen step)) (ledgers_seen notes.old) }
     ensures copies { notes.new.copies ≡ notes.old.copies }
 {
     match step {
-        SenderStep::Transmits { count } => transmit(notes, occasion, flow, count),
-        SenderStep::TransmitsAgain => retransmit(notes, occasion, flow),
-        SenderStep::GivesUp { count } => give_up(notes, occasion, flow, count),
-        SenderStep::Settles { count } => acknowledge(notes, occasion, flow, count),
+        SenderStep::Transmits { count } => transmit(notes, context, flow, count),
+        SenderStep::TransmitsAgain => retransmit(notes, context, flow),
+        SenderStep::GivesUp { count } => give_up(notes, context, flow, count),
+        SenderStep::Settles { count } => acknowledge(notes, context, flow, count),
     }
 }
 
@@ -112,24 +112,24 @@ fn begin_run(runs: &mut Runs, flow: &Flow)
 }
 
 /// The flow takes the octets of the event.
-fn take_octets(notes: &mut Notes, occasion: &EventContext<'_>, flow: &Flow) -> Result<(), NoMemory>
-    ensures ok { OnOk result (ledgers_seen notes.new ≡ ledgers_by (occasion_seen occasion.entry.now) (Changes flow.now Takes) (ledgers_seen notes.old)) }
+fn take_octets(notes: &mut Notes, context: &EventContext<'_>, flow: &Flow) -> Result<(), NoMemory>
+    ensures ok { OnOk result (ledgers_seen notes.new ≡ ledgers_by (occasion_seen context.entry.now) (Changes flow.now Takes) (ledgers_seen notes.old)) }
     ensures err { OnErr result (ledgers_seen notes.new ≡ ledgers_seen notes.old) }
     ensures copies { notes.new.copies ≡ notes.old.copies }
 {
-    let taken = occasion.brought.octets;
+    let taken = context.brought.octets;
     make_room(&mut notes.runs, flow)?;
     notes
         .ledger
-        .take(flow, occasion.life, taken.octets, taken.begin, taken.end)?;
+        .take(flow, context.life, taken.octets, taken.begin, taken.end)?;
     begin_run(&mut notes.runs, flow);
     Ok(())
 }
 
 /// `count` octets of the flow go out for the first time.
-fn transmit(notes: &mut Notes, occasion: &EventContext<'_>, flow: &Flow, count: u32)
+fn transmit(notes: &mut Notes, context: &EventContext<'_>, flow: &Flow, count: u32)
     requires there { IsThere flow.now (ledgers_seen notes.old) }
-    ensures becomes { ledgers_seen notes.new ≡ ledgers_by (occasion_seen occasion.entry.now) (Changes flow.now (Transmits count)) (ledgers_seen notes.old) }
+    ensures becomes { ledgers_seen notes.new ≡ ledgers_by (occasion_seen context.entry.now) (Changes flow.now (Transmits count)) (ledgers_seen notes.old) }
     ensures copies { notes.new.copies ≡ notes.old.copies }
 {
     let Some(run) = notes.runs.get_mut(flow) else {
@@ -139,62 +139,62 @@ fn transmit(notes: &mut Notes, occasion: &EventContext<'_>, flow: &Flow, count: 
         unreachable!();
     };
     let now = Instant {
-        milliseconds: occasion.now,
+        milliseconds: context.now,
     };
-    let place = rows.note_next(occasion.life, count, now);
-    run.transmit(occasion.rules, place, occasion.now);
+    let place = rows.note_next(context.life, count, now);
+    run.transmit(context.rules, place, context.now);
 }
 
 /// Something of the flow's run goes out again.
-fn retransmit(notes: &mut Notes, occasion: &EventContext<'_>, flow: &Flow)
+fn retransmit(notes: &mut Notes, context: &EventContext<'_>, flow: &Flow)
     requires there { IsThere flow.now (ledgers_seen notes.old) }
-    ensures becomes { ledgers_seen notes.new ≡ ledgers_by (occasion_seen occasion.entry.now) (Changes flow.now TransmitsAgain) (ledgers_seen notes.old) }
+    ensures becomes { ledgers_seen notes.new ≡ ledgers_by (occasion_seen context.entry.now) (Changes flow.now TransmitsAgain) (ledgers_seen notes.old) }
     ensures copies { notes.new.copies ≡ notes.old.copies }
 {
     let Some(run) = notes.runs.get_mut(flow) else {
         unreachable!();
     };
-    run.retransmit(occasion.now);
+    run.retransmit(context.now);
 }
 
 /// The `count` leftmost open octets of the present life are given up.
-fn give_up(notes: &mut Notes, occasion: &EventContext<'_>, flow: &Flow, count: u32)
+fn give_up(notes: &mut Notes, context: &EventContext<'_>, flow: &Flow, count: u32)
     requires there { IsThere flow.now (ledgers_seen notes.old) }
-    ensures becomes { ledgers_seen notes.new ≡ ledgers_by (occasion_seen occasion.entry.now) (Changes flow.now (GivesUp count)) (ledgers_seen notes.old) }
+    ensures becomes { ledgers_seen notes.new ≡ ledgers_by (occasion_seen context.entry.now) (Changes flow.now (GivesUp count)) (ledgers_seen notes.old) }
     ensures copies { notes.new.copies ≡ notes.old.copies }
 {
     let Some(rows) = notes.ledger.rows_mut(flow) else {
         unreachable!();
     };
-    rows.settle_open(occasion.life, count, Fate::Uncertain);
+    rows.settle_open(context.life, count, Fate::Uncertain);
 }
 
 /// The `count` leftmost open octets of the present life are acknowledged.
-fn acknowledge(notes: &mut Notes, occasion: &EventContext<'_>, flow: &Flow, count: u32)
+fn acknowledge(notes: &mut Notes, context: &EventContext<'_>, flow: &Flow, count: u32)
     requires there { IsThere flow.now (ledgers_seen notes.old) }
-    ensures becomes { ledgers_seen notes.new ≡ ledgers_by (occasion_seen occasion.entry.now) (Changes flow.now (Settles count)) (ledgers_seen notes.old) }
+    ensures becomes { ledgers_seen notes.new ≡ ledgers_by (occasion_seen context.entry.now) (Changes flow.now (Settles count)) (ledgers_seen notes.old) }
     ensures copies { notes.new.copies ≡ notes.old.copies }
 {
     let Some(rows) = notes.ledger.rows_mut(flow) else {
         unreachable!();
     };
-    rows.settle_open(occasion.life, count, Fate::Acked);
+    rows.settle_open(context.life, count, Fate::Acked);
 }
 
 /// The octets of the event are given to the flow's receiver, from the event's place on.
 fn accept(
     notes: &mut Notes,
-    occasion: &EventContext<'_>,
+    context: &EventContext<'_>,
     flow: &Flow,
     run: bool,
 ) -> Result<(), NoMemory>
-    ensures ok { OnOk result (ledgers_seen notes.new ≡ ledgers_by (occasion_seen occasion.entry.now) (Changes flow.now (Accepts run)) (ledgers_seen notes.old)) }
+    ensures ok { OnOk result (ledgers_seen notes.new ≡ ledgers_by (occasion_seen context.entry.now) (Changes flow.now (Accepts run)) (ledgers_seen notes.old)) }
     ensures err { OnErr result (ledgers_seen notes.new ≡ ledgers_seen notes.old) }
     ensures copies { notes.new.copies ≡ notes.old.copies }
-    ensures beyond { 2 ^ 62 ≤ occasion.entry.now.brought.place + length occasion.entry.now.brought.octets.octets.now → IsErr result }
+    ensures beyond { 2 ^ 62 ≤ context.entry.now.brought.place + length context.entry.now.brought.octets.octets.now → IsErr result }
 {
-    let place = occasion.brought.place;
-    let given = occasion.brought.octets;
+    let place = context.brought.place;
+    let given = context.brought.octets;
     if !stays_below(place, given.octets.len() as u64) {
         return Err(NoMemory);
     }
@@ -206,8 +206,8 @@ fn accept(
         given.begin,
         given.end,
         run,
-        occasion.life,
-        occasion.now,
+        context.life,
+        context.now,
     )?;
     begin_run(&mut notes.runs, flow);
     Ok(())
@@ -216,21 +216,21 @@ fn accept(
 /// `count` unread octets of the flow are read.
 fn read(
     notes: &mut Notes,
-    occasion: &EventContext<'_>,
+    context: &EventContext<'_>,
     flow: &Flow,
     count: u64,
 ) -> Result<(), NoMemory>
-    ensures ok { OnOk result (ledgers_seen notes.new ≡ ledgers_by (occasion_seen occasion.entry.now) (Changes flow.now (ReadsOut count)) (ledgers_seen notes.old)) }
+    ensures ok { OnOk result (ledgers_seen notes.new ≡ ledgers_by (occasion_seen context.entry.now) (Changes flow.now (ReadsOut count)) (ledgers_seen notes.old)) }
     ensures err { OnErr result (ledgers_seen notes.new ≡ ledgers_seen notes.old) }
     ensures copies { notes.new.copies ≡ notes.old.copies }
     ensures beyond { 2 ^ 62 ≤ read_of_all (ledger_of (ledgers_seen notes.old) flow.now).reads + count → IsErr result }
-    ensures memory { OnErr result (IsNew flow.now (ledgers_seen notes.old) ⊎ HasNoEntry occasion.entry.now.life (ledger_of (ledgers_seen notes.old) flow.now).reads ⊎ (2 ^ 62 ≤ read_of_all (ledger_of (ledgers_seen notes.old) flow.now).reads + count)) }
+    ensures memory { OnErr result (IsNew flow.now (ledgers_seen notes.old) ⊎ HasNoEntry context.entry.now.life (ledger_of (ledgers_seen notes.old) flow.now).reads ⊎ (2 ^ 62 ≤ read_of_all (ledger_of (ledgers_seen notes.old) flow.now).reads + count)) }
 {
     if !stays_below(notes.ledger.read_count(flow), count) {
         return Err(NoMemory);
     }
     make_room(&mut notes.runs, flow)?;
-    notes.ledger.note_read(flow, occasion.life, count)?;
+    notes.ledger.note_read(flow, context.life, count)?;
     begin_run(&mut notes.runs, flow);
     Ok(())
 }

@@ -26,7 +26,7 @@ scene_of state (part.Running p) = Runs (state p)
 
 -- the scene that the lines of a scenario have led to
 abbrev pub scene_in : {P S : Type 0} → (P → S) → Scenario P → Scene S
-scene_in state s = scene_of state s.part
+scene_in state s = scene_of state s.phase
 
 -- the line is one of the simulation's form
 abbrev pub IsLineOf : {S : Type 0} → Simulates S → RunLine → Type 0

@@ -19,7 +19,7 @@ use std::alloc::Global;
 #[derive(Drop)]
 pub struct Scenario<S: Simulation> {
     alloc: Global,
-    part: ScenarioPhase<S>,
+    phase: ScenarioPhase<S>,
 }
 
 impl<S: Simulation> Scenario<S> {
@@ -29,7 +29,7 @@ impl<S: Simulation> Scenario<S> {
     {
         Scenario {
             alloc,
-            part: ScenarioPhase::Nothing,
+            phase: ScenarioPhase::Nothing,
         }
     }
 
@@ -42,13 +42,13 @@ impl<S: Simulation> Scenario<S> {
         requires in_form { IsLine S.simulates.form (said line.now) }
         ensures { TurnsTo K.sight (done_by S.simulates (scene_in S.state self.old) (said line.now)) result (scene_in S.state self.old) (scene_in S.state self.new) out.old out.new }
     {
-        let part = &mut self.part;
+        let phase = &mut self.phase;
         match line {
             Line::Blank => Ok(None),
-            Line::Params(params) => Ok(part.configure(self.alloc, params)),
-            Line::Go => Ok(part.go(self.alloc)?),
-            Line::Setup(line) => Ok(part.add(*line)?),
-            Line::Run(line) => part.simulate(line, out),
+            Line::Params(params) => Ok(phase.configure(self.alloc, params)),
+            Line::Go => Ok(phase.go(self.alloc)?),
+            Line::Setup(line) => Ok(phase.add(*line)?),
+            Line::Run(line) => phase.simulate(line, out),
             Line::Script(_) => Ok(Some(MISPLACED)),
         }
     }
@@ -69,14 +69,14 @@ impl<S: Simulation> LineTurns for Scenario<S> {
             Ok(said) => said,
             Err(fault) => return Ok(Some(Fault::Line(fault))),
         };
-        match follows(S::form(), self.part.stage(), &said) {
+        match follows(S::form(), self.phase.stage(), &said) {
             Some(_) => self.apply_allowed(&said, out),
             None => Ok(Some(MISPLACED)),
         }
     }
 
     fn close<K: Sink>(&self, out: &mut K) -> Result<Option<Fault>, Stop> {
-        match &self.part {
+        match &self.phase {
             ScenarioPhase::Nothing | ScenarioPhase::Preparing(_) => Ok(Some(MISPLACED)),
             ScenarioPhase::Running(simulation) => {
                 simulation.close(out)?;

@@ -289,19 +289,19 @@ impl SendBuffer {
     }
 
     /// Releases the record, or renews it where octets wait.
-    fn release(&mut self, occasion: &ActContext<'_>) -> SendAct
-        requires rings { IsSendBuffer occasion.now.rules.now self.old }
-        requires chosen { IsChosen occasion.now.rules.now occasion.now.at (record_of self.old) kind.Release }
-        ensures rings { IsSendBuffer occasion.now.rules.now self.new }
+    fn release(&mut self, context: &ActContext<'_>) -> SendAct
+        requires rings { IsSendBuffer context.now.rules.now self.old }
+        requires chosen { IsChosen context.now.rules.now context.now.at (record_of self.old) kind.Release }
+        ensures rings { IsSendBuffer context.now.rules.now self.new }
         ensures acts { (f : Flow) (frame : List ℕ)
-            → Acts occasion.now.rules.now f occasion.now.at (record_of self.old) result (record_of self.new) frame frame }
+            → Acts context.now.rules.now f context.now.at (record_of self.old) result (record_of self.new) frame frame }
     {
         if self.items.is_empty() {
             return SendAct::Released;
         }
         self.left = 0;
-        self.edge = u64::from(occasion.rules.params().window);
-        self.touched = occasion.at;
+        self.edge = u64::from(context.rules.params().window);
+        self.touched = context.at;
         self.crossed = None;
         self.next = 0;
         SendAct::Renewed
@@ -310,19 +310,19 @@ impl SendBuffer {
     /// Writes the packet of a segment into the frame. Tells the cut.
     fn transmit(
         &self,
-        occasion: &ActContext<'_>,
+        context: &ActContext<'_>,
         sent_segment: &SentSegment,
         frame: &mut Frame,
     ) -> Cut
         requires there { (self.now.left ≤ sent_segment.now.offset) × (sent_segment.now.offset + sent_segment.now.length ≤ self.now.left + length self.now.items.items) }
         requires bounded { self.now.left + length self.now.items.items < 2 ^ 62 }
-        requires segment { IsSegment occasion.now.rules.now (segment_of sent_segment.now (drop (sent_segment.now.offset - self.now.left) self.now.items.items)) }
+        requires segment { IsSegment context.now.rules.now (segment_of sent_segment.now (drop (sent_segment.now.offset - self.now.left) self.now.items.items)) }
         ensures cut { let g = segment_of sent_segment.now (drop (sent_segment.now.offset - self.now.left) self.now.items.items) in
-            result ≡ cut_told occasion.now.rules.now (record_of self.now) g.offset g.items }
+            result ≡ cut_told context.now.rules.now (record_of self.now) g.offset g.items }
         ensures frame { let g = segment_of sent_segment.now (drop (sent_segment.now.offset - self.now.left) self.now.items.items) in
-            frame.new ≡ forth occasion.now.rules.now occasion.now.flow.now (data_packet occasion.now.flow.now (number_of occasion.now.rules.now g.offset) (leads (record_of self.now) g.offset) g.items) }
+            frame.new ≡ forth context.now.rules.now context.now.flow.now (data_packet context.now.flow.now (number_of context.now.rules.now g.offset) (leads (record_of self.now) g.offset) g.items) }
     {
-        let ActContext { rules, flow, .. } = *occasion;
+        let ActContext { rules, flow, .. } = *context;
         let count = sent_segment.length as usize;
         let from = (sent_segment.offset - self.left) as usize;
         let cut = Cut {
@@ -381,19 +381,19 @@ impl SendBuffer {
     }
 
     /// Sends a segment again.
-    fn resend(&mut self, occasion: &ActContext<'_>, frame: &mut Frame) -> SendAct
-        requires rings { IsSendBuffer occasion.now.rules.now self.old }
-        requires chosen { IsChosen occasion.now.rules.now occasion.now.at (record_of self.old) kind.Resend }
-        ensures rings { IsSendBuffer occasion.now.rules.now self.new }
-        ensures acts { Acts occasion.now.rules.now occasion.now.flow.now occasion.now.at (record_of self.old) result (record_of self.new) frame.old frame.new }
+    fn resend(&mut self, context: &ActContext<'_>, frame: &mut Frame) -> SendAct
+        requires rings { IsSendBuffer context.now.rules.now self.old }
+        requires chosen { IsChosen context.now.rules.now context.now.at (record_of self.old) kind.Resend }
+        ensures rings { IsSendBuffer context.now.rules.now self.new }
+        ensures acts { Acts context.now.rules.now context.now.flow.now context.now.at (record_of self.old) result (record_of self.new) frame.old frame.new }
     {
-        let place = match self.late_place(occasion.rules, occasion.at) {
+        let place = match self.late_place(context.rules, context.at) {
             Some((place, _)) => place,
             None => unreachable!(),
         };
         let sent_segment = sent_segment_at(&self.outstanding_segments, place);
-        let cut = self.transmit(occasion, &sent_segment, frame);
-        self.note_again(place, occasion.at);
+        let cut = self.transmit(context, &sent_segment, frame);
+        self.note_again(place, context.at);
         SendAct::Resent(cut)
     }
 
@@ -420,33 +420,33 @@ impl SendBuffer {
     }
 
     /// Sends the next cut.
-    fn send(&mut self, occasion: &ActContext<'_>, frame: &mut Frame) -> SendAct
-        requires rings { IsSendBuffer occasion.now.rules.now self.old }
-        requires chosen { IsChosen occasion.now.rules.now occasion.now.at (record_of self.old) kind.Send }
-        ensures rings { IsSendBuffer occasion.now.rules.now self.new }
-        ensures acts { Acts occasion.now.rules.now occasion.now.flow.now occasion.now.at (record_of self.old) result (record_of self.new) frame.old frame.new }
+    fn send(&mut self, context: &ActContext<'_>, frame: &mut Frame) -> SendAct
+        requires rings { IsSendBuffer context.now.rules.now self.old }
+        requires chosen { IsChosen context.now.rules.now context.now.at (record_of self.old) kind.Send }
+        ensures rings { IsSendBuffer context.now.rules.now self.new }
+        ensures acts { Acts context.now.rules.now context.now.flow.now context.now.at (record_of self.old) result (record_of self.new) frame.old frame.new }
     {
-        let rules = occasion.rules;
+        let rules = context.rules;
         let length = cut_at(&self.items, self.sent(rules), self.most(rules));
         let sent_segment = SentSegment {
             offset: self.next,
             length: length as u32,
-            first: occasion.at,
-            last: occasion.at,
+            first: context.at,
+            last: context.at,
         };
-        let cut = self.transmit(occasion, &sent_segment, frame);
-        self.note_sent(rules, sent_segment, occasion.at);
+        let cut = self.transmit(context, &sent_segment, frame);
+        self.note_sent(rules, sent_segment, context.at);
         SendAct::Sent(cut)
     }
 
     /// Sends a rendezvous packet.
-    fn meet(&mut self, occasion: &ActContext<'_>, frame: &mut Frame) -> SendAct
-        requires rings { IsSendBuffer occasion.now.rules.now self.old }
-        requires chosen { IsChosen occasion.now.rules.now occasion.now.at (record_of self.old) kind.Meet }
-        ensures rings { IsSendBuffer occasion.now.rules.now self.new }
-        ensures acts { Acts occasion.now.rules.now occasion.now.flow.now occasion.now.at (record_of self.old) result (record_of self.new) frame.old frame.new }
+    fn meet(&mut self, context: &ActContext<'_>, frame: &mut Frame) -> SendAct
+        requires rings { IsSendBuffer context.now.rules.now self.old }
+        requires chosen { IsChosen context.now.rules.now context.now.at (record_of self.old) kind.Meet }
+        ensures rings { IsSendBuffer context.now.rules.now self.new }
+        ensures acts { Acts context.now.rules.now context.now.flow.now context.now.at (record_of self.old) result (record_of self.new) frame.old frame.new }
     {
-        let ActContext { rules, flow, .. } = *occasion;
+        let ActContext { rules, flow, .. } = *context;
         let number = number_at(rules, self.left);
         let packet = Packet::Meet {
             from_port: flow.from_port,
@@ -454,36 +454,36 @@ impl SendBuffer {
             number,
         };
         write_frame(frame, rules.params().mpl, flow.from.0, flow.to.0, &packet);
-        self.touched = occasion.at;
+        self.touched = context.at;
         SendAct::Met { number }
     }
 
     /// The kind of the act that is due.
-    fn due(&self, occasion: &ActContext<'_>) -> Option<SendKind>
-        requires { IsSendBuffer occasion.now.rules.now self.now }
-        ensures chosen { IfSome result (λ kind. IsChosen occasion.now.rules.now occasion.now.at (record_of self.now) kind) }
-        ensures none { IfNone result (acts.due_of occasion.now.rules.now occasion.now.at (record_of self.now) ≡ None) }
+    fn due(&self, context: &ActContext<'_>) -> Option<SendKind>
+        requires { IsSendBuffer context.now.rules.now self.now }
+        ensures chosen { IfSome result (λ kind. IsChosen context.now.rules.now context.now.at (record_of self.now) kind) }
+        ensures none { IfNone result (acts.due_of context.now.rules.now context.now.at (record_of self.now) ≡ None) }
     {
-        let moments = self.moments(occasion.rules, occasion.at);
-        match due_first(occasion.at, &moments) {
+        let moments = self.moments(context.rules, context.at);
+        match due_first(context.at, &moments) {
             Some((kind, _)) => Some(kind),
             None => None,
         }
     }
 
     /// Does the act that is due.
-    pub fn act(&mut self, occasion: &ActContext<'_>, frame: &mut Frame) -> SendAct
-        requires rings { IsSendBuffer occasion.now.rules.now self.old }
-        requires due { IsSome (acts.due_of occasion.now.rules.now occasion.now.at (record_of self.old)) }
-        ensures rings { IsSendBuffer occasion.now.rules.now self.new }
-        ensures acts { Acts occasion.now.rules.now occasion.now.flow.now occasion.now.at (record_of self.old) result (record_of self.new) frame.old frame.new }
+    pub fn act(&mut self, context: &ActContext<'_>, frame: &mut Frame) -> SendAct
+        requires rings { IsSendBuffer context.now.rules.now self.old }
+        requires due { IsSome (acts.due_of context.now.rules.now context.now.at (record_of self.old)) }
+        ensures rings { IsSendBuffer context.now.rules.now self.new }
+        ensures acts { Acts context.now.rules.now context.now.flow.now context.now.at (record_of self.old) result (record_of self.new) frame.old frame.new }
     {
-        match self.due(occasion) {
+        match self.due(context) {
             Some(SendKind::GiveUp) => self.give_up(),
-            Some(SendKind::Release) => self.release(occasion),
-            Some(SendKind::Resend) => self.resend(occasion, frame),
-            Some(SendKind::Send) => self.send(occasion, frame),
-            Some(SendKind::Meet) => self.meet(occasion, frame),
+            Some(SendKind::Release) => self.release(context),
+            Some(SendKind::Resend) => self.resend(context, frame),
+            Some(SendKind::Send) => self.send(context, frame),
+            Some(SendKind::Meet) => self.meet(context, frame),
             None => unreachable!(),
         }
     }

@@ -158,12 +158,12 @@ impl Sender {
         ensures looks { steps.new ≡ steps.old + 1 }
     {
         steps.tick();
-        let occasion = ActContext {
+        let context = ActContext {
             rules: &*self.rules,
             flow: &self.flow,
             at: now,
         };
-        self.buffer.act(&occasion, frame)
+        self.buffer.act(&context, frame)
     }
 
     /// From when on each kind of act is due, as it stands at now, if nothing else is called. The cost

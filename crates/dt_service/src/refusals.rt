@@ -10,8 +10,8 @@ use dt_service_halves::reversed;
 use dt_service_model::{Declined, Made, PortKind, Replied, Token, Unfit};
 use dt_units::Flow;
 
-/// So many octets in all, or more, are refused.
-const MOST_OCTETS: u64 = 1 << 62;
+/// A call or reply is refused if all octets that were asked for would reach this count.
+const ASKED_LIMIT: u64 = 1 << 62;
 
 /// No longer message is put together.
 const LONGEST: usize = 65_536;
@@ -54,7 +54,7 @@ impl ServiceParts {
         ensures { result ≡ is_one_too_many (node_in self.now) carried.now }
     {
         let count = 8 + carried.len() as u64;
-        self.endpoint.asked().saturating_add(count) >= MOST_OCTETS
+        self.endpoint.asked().saturating_add(count) >= ASKED_LIMIT
     }
 
     /// Whether each number of this life was used.

@@ -18,8 +18,8 @@ use dt_service_model::{CallNumber, Happening, OpenCall, Payload, PortKind, Token
 use dt_units::Flow;
 use std::alloc::Global;
 
-/// No longer message is put together.
-pub const MOST_OCTETS: usize = 65_536;
+/// The most octets of a message.
+pub const LONGEST_MESSAGE: usize = 65_536;
 
 fn counted_up(count: u64) -> u64
     ensures { result ≡ counted_up count }
@@ -87,7 +87,7 @@ fn fit(octets: Option<Vec<u8>>) -> (Option<Vec<u8>>, bool)
     ensures long { result.1 ≡ (is_some octets && not (is_some (within (Some most_octets) (option_map (λ o. o.items) octets)))) }
 {
     match octets {
-        Some(octets) if octets.len() <= MOST_OCTETS => (Some(octets), false),
+        Some(octets) if octets.len() <= LONGEST_MESSAGE => (Some(octets), false),
         Some(_) => (None, true),
         None => (None, false),
     }

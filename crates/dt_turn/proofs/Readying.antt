@@ -25,14 +25,14 @@ pub ready_later : (o : Orders) (node : Node) (now after : ℕ) → now ≤ after
 ready_later o node now after h k = record { rules = k.rules; unspent = k.unspent; me = k.me; ins = k.ins; past = omega (arith, k.past); taken = k.taken; buf = k.buf; next = k.next }
 
 -- a node whose station went on, and which has done so many commands
-pub ready_on : (o : Orders) (now octets : ℕ) (before after : Node) → IsReady o now before → GoesOn now octets before.dock.station after.dock.station → before.next * most_octets + octets ≤ after.next * most_octets → vec_len after.buf ≡ most_octets → after.next ≤ vec_len o.commands → IsReady o now after
+pub ready_on : (o : Orders) (now octets : ℕ) (before after : Node) → IsReady o now before → GoesOn now octets before.io.station after.io.station → before.next * most_octets + octets ≤ after.next * most_octets → vec_len after.buf ≡ most_octets → after.next ≤ vec_len o.commands → IsReady o now after
 ready_on o now octets before after h k more buf next = record {
   rules = k.rules ∙ h.rules;
   unspent = k.unspent;
   me = k.me ∙ h.me;
   ins = k.ins ∙ h.ins;
   past = k.past;
-  taken = taken_more after.dock.station.state.host (before.next * most_octets + octets) (after.next * most_octets) more (k.taken (before.next * most_octets) h.taken);
+  taken = taken_more after.io.station.state.host (before.next * most_octets + octets) (after.next * most_octets) more (k.taken (before.next * most_octets) h.taken);
   buf = buf;
   next = next;
 }
@@ -107,7 +107,7 @@ none_taken : (p : Params) (me bound : ℕ) (again : Bool) → HasTakenAtMost bou
 none_taken p me bound true = tt
 none_taken p me bound false = tt
 
-ready_started : (o : Orders) (node : Node) (outs : List OutLink) (ins : List InLink) (routes : List Route) → ins ≡ o.setup.ins.items → node.dock.station ≡ station_started o.setup.rules o.setup.me.0 (restart_of o.setup.again) outs ins routes → node.next ≡ 0 → vec_len node.buf ≡ most_octets → IsReady o 0 node
+ready_started : (o : Orders) (node : Node) (outs : List OutLink) (ins : List InLink) (routes : List Route) → ins ≡ o.setup.ins.items → node.io.station ≡ station_started o.setup.rules o.setup.me.0 (restart_of o.setup.again) outs ins routes → node.next ≡ 0 → vec_len node.buf ≡ most_octets → IsReady o 0 node
 ready_started o node outs ins routes links station next buf = record {
   rules = ap (λ (s : StationValue (Unit {0})). s.rules) station;
   unspent = ap (λ (s : StationValue (Unit {0})). s.spent) station;
@@ -119,6 +119,6 @@ ready_started o node outs ins routes links station next buf = record {
   next = omega (arith, next);
 }
 
-pub ready_first : (o : Orders) (node : Node) (again : Option ℕ) (outs : List OutLink) (ins : List InLink) (routes : List Route) → again ≡ restart_of o.setup.again → ins ≡ o.setup.ins.items → node.dock.station ≡ station_started o.setup.rules o.setup.me.0 again outs ins routes → node.next ≡ 0 → vec_len node.buf ≡ most_octets → IsReady o 0 node
+pub ready_first : (o : Orders) (node : Node) (again : Option ℕ) (outs : List OutLink) (ins : List InLink) (routes : List Route) → again ≡ restart_of o.setup.again → ins ≡ o.setup.ins.items → node.io.station ≡ station_started o.setup.rules o.setup.me.0 again outs ins routes → node.next ≡ 0 → vec_len node.buf ≡ most_octets → IsReady o 0 node
 ready_first o node again outs ins routes is links station next buf =
-    ready_started o node outs ins routes links (subst (λ (a : Option ℕ). node.dock.station ≡ station_started o.setup.rules o.setup.me.0 a outs ins routes) is station) next buf
+    ready_started o node outs ins routes links (subst (λ (a : Option ℕ). node.io.station ≡ station_started o.setup.rules o.setup.me.0 a outs ins routes) is station) next buf

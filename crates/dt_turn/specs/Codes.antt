@@ -22,7 +22,7 @@ abbrev pub left_of : Orders → ℕ → List model.Command
 left_of o next = map command_seen (drop next o.commands.items)
 
 abbrev pub node_seen : Orders → Node → nodes.Node
-node_seen o node = nodes.node_with node.dock.station.state (left_of o node.next) node.shelf
+node_seen o node = nodes.node_with node.io.station.state (left_of o node.next) node.shelf
 
 -- a station that an event may happen to, at a moment
 pub record MayGo (now : ℕ) (station : StationValue (Unit {0})) : Type 0 where
@@ -41,12 +41,12 @@ pub record GoesOn (now octets : ℕ) (before after : StationValue (Unit {0})) : 
 
 -- a node that can do what its orders say, at a moment
 pub record IsReady (o : Orders) (now : ℕ) (node : Node) : Type 0 where
-  pub rules : node.dock.station.rules ≡ o.setup.rules
-  pub unspent : node.dock.station.spent ≡ false
-  pub me : node.dock.station.state.host.me ≡ o.setup.me.0
-  pub ins : node.dock.station.state.relay.ins ≡ o.setup.ins.items
-  pub past : node.dock.station.latest ≤ now
-  pub taken : HasTakenAtMost (node.next * most_octets) node.dock.station.state.host
+  pub rules : node.io.station.rules ≡ o.setup.rules
+  pub unspent : node.io.station.spent ≡ false
+  pub me : node.io.station.state.host.me ≡ o.setup.me.0
+  pub ins : node.io.station.state.relay.ins ≡ o.setup.ins.items
+  pub past : node.io.station.latest ≤ now
+  pub taken : HasTakenAtMost (node.next * most_octets) node.io.station.state.host
   pub buf : vec_len node.buf ≡ most_octets
   pub next : node.next ≤ vec_len o.commands
 

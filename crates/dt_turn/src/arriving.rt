@@ -8,7 +8,7 @@ ghost use Rattle.dt_turn.specs.Shelving.{arrive, data_number, early_number, fetc
 
 use crate::handed_in::HandedIn;
 use crate::incoming::Incoming;
-use crate::nodes::Dock;
+use crate::nodes::StationIo;
 use crate::packet_answers::{PacketAnswer, hear_arrival};
 use dt_flow_model::Reading;
 use dt_items::NoMemory;
@@ -120,28 +120,28 @@ fn fetch<V: Visitor<Frame>>(
 /// for it is taken where it was accepted. It answers the link of what is handed in next, which is what
 /// was taken.
 fn round<V: Visitor<Frame>>(
-    dock: &mut Dock,
+    io: &mut StationIo,
     shelf: &mut Shelf,
     handed: HandedIn<'_>,
     now: u64,
     visitor: &mut V,
 ) -> Result<Option<u16>, NoMemory>
-    requires go { MayGo now dock.old.station }
-    requires taken { IsTaken dock.old.taken.value handed }
-    ensures ends { let script = round dock.old.station.rules now (handed_seen dock.old.taken.value handed.entry) dock.old.station.state shelf.old in
-        Concludes V.tells (V.tags now) V.hands V.fails result script visitor.old visitor.new (round_with dock.new.station.state shelf.new (next_seen dock.new.taken.value result)) }
-    ensures on { OnOk result (GoesOn now 0 dock.old.station dock.new.station) }
-    ensures memory { OnErr result (dock.new.station.spent ≡ true) }
+    requires go { MayGo now io.old.station }
+    requires taken { IsTaken io.old.taken.value handed }
+    ensures ends { let script = round io.old.station.rules now (handed_seen io.old.taken.value handed.entry) io.old.station.state shelf.old in
+        Concludes V.tells (V.tags now) V.hands V.fails result script visitor.old visitor.new (round_with io.new.station.state shelf.new (next_seen io.new.taken.value result)) }
+    ensures on { OnOk result (GoesOn now 0 io.old.station io.new.station) }
+    ensures memory { OnErr result (io.new.station.spent ≡ true) }
     ensures fewer { IfOk result (λ next. IfSome next (λ _. length shelf.new.held < length shelf.old.held)) }
-    ensures taken { IfOk result (λ next. IfSome next (λ _. IsGram dock.new.taken.value)) }
+    ensures taken { IfOk result (λ next. IfSome next (λ _. IsGram io.new.taken.value)) }
 {
-    let incoming = handed.incoming(&dock.taken);
-    match hear_arrival(&mut dock.station, &mut dock.frame, incoming, now, visitor)? {
+    let incoming = handed.incoming(&io.taken);
+    match hear_arrival(&mut io.station, &mut io.frame, incoming, now, visitor)? {
         PacketAnswer::Nothing => Ok(None),
         PacketAnswer::Accepted { flow, next } => {
             let wanted = Wanted { flow, number: next };
             let now = Reading { ms: now };
-            Ok(fetch(shelf, wanted, now, &mut dock.taken, visitor))
+            Ok(fetch(shelf, wanted, now, &mut io.taken, visitor))
         }
         PacketAnswer::Refused { flow, replied } => {
             let number = early_number(replied, incoming.gram);
@@ -153,20 +153,20 @@ fn round<V: Visitor<Frame>>(
 
 /// A datagram arrives at a node that has a shelf: round after round, until nothing is handed in next.
 fn arrive_shelved<V: Visitor<Frame>>(
-    dock: &mut Dock,
+    io: &mut StationIo,
     shelf: &mut Shelf,
     incoming: Incoming<'_>,
     now: u64,
     visitor: &mut V,
 ) -> Result<(), NoMemory>
-    requires go { MayGo now dock.old.station }
-    ensures ends { let script = rounds (suc (length shelf.old.held)) dock.old.station.rules now (first_round (incoming_seen incoming.entry) dock.old.station.state shelf.old) in
-        Concludes V.tells (V.tags now) V.hands V.fails result script visitor.old visitor.new (round_with dock.new.station.state shelf.new None) }
-    ensures on { OnOk result (GoesOn now 0 dock.old.station dock.new.station) }
-    ensures memory { OnErr result (dock.new.station.spent ≡ true) }
+    requires go { MayGo now io.old.station }
+    ensures ends { let script = rounds (suc (length shelf.old.held)) io.old.station.rules now (first_round (incoming_seen incoming.entry) io.old.station.state shelf.old) in
+        Concludes V.tells (V.tags now) V.hands V.fails result script visitor.old visitor.new (round_with io.new.station.state shelf.new None) }
+    ensures on { OnOk result (GoesOn now 0 io.old.station io.new.station) }
+    ensures memory { OnErr result (io.new.station.spent ≡ true) }
 {
     let mut handed = HandedIn::Came(incoming);
-    'rounds: while let Some(link) = round(dock, shelf, handed, now, visitor)? {
+    'rounds: while let Some(link) = round(io, shelf, handed, now, visitor)? {
         handed = HandedIn::Again { link };
     }
     Ok(())
@@ -174,40 +174,40 @@ fn arrive_shelved<V: Visitor<Frame>>(
 
 /// A datagram arrives at a node without a shelf, where nobody needs to hear what is answered.
 fn arrive_plain<V: Visitor<Frame>>(
-    dock: &mut Dock,
+    io: &mut StationIo,
     incoming: Incoming<'_>,
     now: u64,
     visitor: &mut V,
 ) -> Result<(), NoMemory>
-    requires go { MayGo now dock.old.station }
-    ensures ends { let script = station_event dock.old.station.rules now (Arrive incoming.entry.link (plain incoming.entry.gram.octets.now)) dock.old.station.state in
-        Concludes V.tells (V.tags now) V.hands V.fails result script visitor.old visitor.new dock.new.station.state }
-    ensures on { OnOk result (GoesOn now 0 dock.old.station dock.new.station) }
-    ensures memory { OnErr result (dock.new.station.spent ≡ true) }
+    requires go { MayGo now io.old.station }
+    ensures ends { let script = station_event io.old.station.rules now (Arrive incoming.entry.link (plain incoming.entry.gram.octets.now)) io.old.station.state in
+        Concludes V.tells (V.tags now) V.hands V.fails result script visitor.old visitor.new io.new.station.state }
+    ensures on { OnOk result (GoesOn now 0 io.old.station io.new.station) }
+    ensures memory { OnErr result (io.new.station.spent ≡ true) }
 {
     let now = Reading { ms: now };
-    incoming.gram.copy_into(&mut *dock.frame);
-    dock.station
-        .arrive(now, incoming.link, &mut dock.frame, (), visitor)
+    incoming.gram.copy_into(&mut *io.frame);
+    io.station
+        .arrive(now, incoming.link, &mut io.frame, (), visitor)
 }
 
 /// A datagram arrives at a node. Without a shelf that is one event of its station, and it is copied once,
-/// into the dock's frame.
+/// into the io's frame.
 pub fn arrive<V: Visitor<Frame>>(
-    dock: &mut Dock,
+    io: &mut StationIo,
     shelf: &mut Option<Shelf>,
     incoming: Incoming<'_>,
     now: u64,
     visitor: &mut V,
 ) -> Result<(), NoMemory>
-    requires go { MayGo now dock.old.station }
-    ensures ends { let script = arrive dock.old.station.rules now (incoming_seen incoming.entry) dock.old.station.state shelf.old in
-        Concludes V.tells (V.tags now) V.hands V.fails result script visitor.old visitor.new (inside dock.new.station.state shelf.new) }
-    ensures on { OnOk result (GoesOn now 0 dock.old.station dock.new.station) }
-    ensures memory { OnErr result (dock.new.station.spent ≡ true) }
+    requires go { MayGo now io.old.station }
+    ensures ends { let script = arrive io.old.station.rules now (incoming_seen incoming.entry) io.old.station.state shelf.old in
+        Concludes V.tells (V.tags now) V.hands V.fails result script visitor.old visitor.new (inside io.new.station.state shelf.new) }
+    ensures on { OnOk result (GoesOn now 0 io.old.station io.new.station) }
+    ensures memory { OnErr result (io.new.station.spent ≡ true) }
 {
     match shelf {
-        Some(shelf) => arrive_shelved(dock, shelf, incoming, now, visitor),
-        None => arrive_plain(dock, incoming, now, visitor),
+        Some(shelf) => arrive_shelved(io, shelf, incoming, now, visitor),
+        None => arrive_plain(io, incoming, now, visitor),
     }
 }

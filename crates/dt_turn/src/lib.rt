@@ -10,5 +10,5 @@ mod packet_answers;
 mod turns;
 
 pub use datagrams::{LinkDatagram, datagram_of};
-pub use nodes::{Dock, Node};
+pub use nodes::{Node, StationIo};
 pub use turns::turn;

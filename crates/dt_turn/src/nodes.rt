@@ -14,9 +14,10 @@ use dt_units::limits::MOST_OCTETS;
 use std::alloc::Global;
 use std::mem::size_of;
 
-/// A station, and the frame in which packets are handed to it, which is the station's to change.
+/// A station with its two frames: one for the packet that is handed to it, which the station may change, and one
+/// for the packet that was taken off the shelf.
 #[derive(Drop)]
-pub struct Dock {
+pub struct StationIo {
     pub station: Station<Frame>,
     pub frame: Box<Frame>,
     /// The packet that was taken from the shelf last.
@@ -26,7 +27,7 @@ pub struct Dock {
 /// A node between two turns.
 #[derive(Drop)]
 pub struct Node {
-    pub dock: Dock,
+    pub io: StationIo,
     /// How many commands were done.
     pub next: usize,
     /// Room for what a read takes.
@@ -62,7 +63,7 @@ impl Node {
         let frame = Box::new(alloc, Frame::new())?;
         let taken = Box::new(alloc, Frame::new())?;
         Ok(Node {
-            dock: Dock {
+            io: StationIo {
                 station,
                 frame,
                 taken,

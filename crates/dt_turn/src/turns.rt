@@ -16,7 +16,7 @@ ghost use Rattle.dt_turn.specs.Turns.{comes, do_due, event_of, finish, hand_in, 
 use crate::arriving::arrive;
 use crate::datagrams::LinkDatagram;
 use crate::incoming::Incoming;
-use crate::nodes::{Dock, Node};
+use crate::nodes::{Node, StationIo};
 use dt_flow_model::Reading;
 use dt_items::{MarkedOctets, NoMemory};
 use dt_layout::{Frame, GramOctets};
@@ -47,17 +47,17 @@ fn do_event<V: Visitor<Frame>>(
 
 /// A datagram that came: it arrives, or gives its `bad` line.
 fn comes<V: Visitor<Frame>>(
-    dock: &mut Dock,
+    io: &mut StationIo,
     shelf: &mut Option<Shelf>,
     arrival: LinkDatagram<'_>,
     now: u64,
     visitor: &mut V,
 ) -> Result<(), NoMemory>
-    requires go { MayGo now dock.old.station }
-    ensures ends { let script = comes dock.old.station.rules now (arrival_seen arrival.entry) (gram_fault arrival.entry.octets.now) dock.old.station.state shelf.old in
-        Concludes V.tells (V.tags now) V.hands V.fails result script visitor.old visitor.new (inside dock.new.station.state shelf.new) }
-    ensures on { OnOk result (GoesOn now 0 dock.old.station dock.new.station) }
-    ensures memory { OnErr result (dock.new.station.spent ≡ true) }
+    requires go { MayGo now io.old.station }
+    ensures ends { let script = comes io.old.station.rules now (arrival_seen arrival.entry) (gram_fault arrival.entry.octets.now) io.old.station.state shelf.old in
+        Concludes V.tells (V.tags now) V.hands V.fails result script visitor.old visitor.new (inside io.new.station.state shelf.new) }
+    ensures on { OnOk result (GoesOn now 0 io.old.station io.new.station) }
+    ensures memory { OnErr result (io.new.station.spent ≡ true) }
 {
     match GramOctets::read(arrival.octets) {
         Err(fault) => {
@@ -69,7 +69,7 @@ fn comes<V: Visitor<Frame>>(
                 link: arrival.link,
                 gram,
             };
-            arrive(dock, shelf, incoming, now, visitor)
+            arrive(io, shelf, incoming, now, visitor)
         }
     }
 }
@@ -82,18 +82,18 @@ fn hand_in<V: Visitor<Frame>>(
     now: u64,
     visitor: &mut V,
 ) -> Result<(), NoMemory>
-    requires ins { node.old.dock.station.state.relay.ins ≡ ins.now }
-    requires go { MayGo now node.old.dock.station }
-    ensures ends { let script = hand_in node.old.dock.station.rules now (arrived came.entry) node.old.dock.station.state node.old.shelf in
-        Concludes V.tells (V.tags now) V.hands V.fails result script visitor.old visitor.new (inside node.new.dock.station.state node.new.shelf) }
-    ensures on { OnOk result (GoesOn now 0 node.old.dock.station node.new.dock.station) }
-    ensures memory { OnErr result (node.new.dock.station.spent ≡ true) }
+    requires ins { node.old.io.station.state.relay.ins ≡ ins.now }
+    requires go { MayGo now node.old.io.station }
+    ensures ends { let script = hand_in node.old.io.station.rules now (arrived came.entry) node.old.io.station.state node.old.shelf in
+        Concludes V.tells (V.tags now) V.hands V.fails result script visitor.old visitor.new (inside node.new.io.station.state node.new.shelf) }
+    ensures on { OnOk result (GoesOn now 0 node.old.io.station node.new.io.station) }
+    ensures memory { OnErr result (node.new.io.station.spent ≡ true) }
     ensures next { node.new.next ≡ node.old.next }
     ensures room { vec_len node.new.buf ≡ vec_len node.old.buf }
 {
     match came {
         Some(arrival) if has_link(arrival.link, ins) => {
-            comes(&mut node.dock, &mut node.shelf, arrival, now, visitor)
+            comes(&mut node.io, &mut node.shelf, arrival, now, visitor)
         }
         _ => Ok(()),
     }
@@ -148,9 +148,9 @@ fn do_due<V: Visitor<Frame>>(
     visitor: &mut V,
 ) -> Result<(), NoMemory>
     requires may { MayTurn orders.now now node.old }
-    ensures ends { let script = do_due orders.now.setup.rules now node.old.shelf (left_of orders.now node.old.next) node.old.dock.station.state in
+    ensures ends { let script = do_due orders.now.setup.rules now node.old.shelf (left_of orders.now node.old.next) node.old.io.station.state in
         Concludes V.tells (V.tags now) V.hands V.fails result script visitor.old visitor.new (node_seen orders.now node.new) }
-    ensures memory { OnErr result (node.new.dock.station.spent ≡ true) }
+    ensures memory { OnErr result (node.new.io.station.spent ≡ true) }
     ensures ready { OnOk result (IsReady orders.now now node.new) }
 {
     'due: while node.next < orders.commands.len() {
@@ -159,7 +159,7 @@ fn do_due<V: Visitor<Frame>>(
             return Ok(());
         }
         do_task(
-            &mut node.dock.station,
+            &mut node.io.station,
             &command.task,
             &mut node.buf,
             now,
@@ -211,7 +211,7 @@ fn finish<V: Visitor<Frame>>(
     requires may { MayTurn orders.now now node.old }
     ensures ends { let script = finish (orders_seen orders.now) now (node_seen orders.now node.old) in
         Concludes V.tells (V.tags now) V.hands V.fails result script visitor.old visitor.new (turned result (node_seen orders.now node.new)) }
-    ensures memory { OnErr result (node.new.dock.station.spent ≡ true) }
+    ensures memory { OnErr result (node.new.io.station.spent ≡ true) }
     ensures ready { OnOk result (IsReady orders.now now node.new) }
     ensures going { IfOk result (λ stopped. stopped ≡ false → now < orders.now.stop) }
 {
@@ -219,7 +219,7 @@ fn finish<V: Visitor<Frame>>(
         visitor.tell(&Report::End);
         return Ok(true);
     }
-    tick(&mut node.dock.station, now, visitor)?;
+    tick(&mut node.io.station, now, visitor)?;
     Ok(false)
 }
 
@@ -237,7 +237,7 @@ pub fn turn<V: Visitor<Frame>>(
     requires may { MayTurn orders.now now node.old }
     ensures ends { let script = turn (orders_seen orders.now) now (arrived came.entry) (node_seen orders.now node.old) in
         Concludes V.tells (V.tags now) V.hands V.fails result script visitor.old visitor.new (turned result (node_seen orders.now node.new)) }
-    ensures memory { OnErr result (node.new.dock.station.spent ≡ true) }
+    ensures memory { OnErr result (node.new.io.station.spent ≡ true) }
     ensures ready { OnOk result (IsReady orders.now now node.new) }
     ensures going { IfOk result (λ stopped. stopped ≡ false → now < orders.now.stop) }
 {

@@ -30,7 +30,7 @@ module _ {L : Type 0} where
   copies_of s = s.notes.now.copies
 
   abbrev pub occasion_of : Reporter L → ledgers.Occasion
-  occasion_of s = occasion_seen s.occasion
+  occasion_of s = occasion_seen s.context
 
   -- what it lends stays the same, and so does the event
   pub record IsSame (s t : Reporter L) : Type 0 where

@@ -22,12 +22,12 @@ use dt_units::{Flow, NodeId};
 /// packet, or one that a sender made, of a host whose numbers begin elsewhere than the event's.
 pub fn mark_of(
     notes: &Notes,
-    occasion: &EventContext<'_>,
+    context: &EventContext<'_>,
     host: &Host,
     gram: GramOctets<'_>,
 ) -> Option<Mark>
-    ensures mark { IfSome result (λ mark. mark ≡ mark_of (occasion_seen occasion.entry.now) (ledgers_seen notes.now) host.now.state gram.entry.octets.now) }
-    ensures none { IsNone result ↔ LacksMark occasion.entry.now.rules.now host.now.rules (packet_read (gram_in gram.entry.octets.now)) }
+    ensures mark { IfSome result (λ mark. mark ≡ mark_of (occasion_seen context.entry.now) (ledgers_seen notes.now) host.now.state gram.entry.octets.now) }
+    ensures none { IsNone result ↔ LacksMark context.entry.now.rules.now host.now.rules (packet_read (gram_in gram.entry.octets.now)) }
 {
     let gram = gram.deltagram();
     let packet = match read_packet(&gram) {
@@ -35,8 +35,8 @@ pub fn mark_of(
         Err(_) => return None,
     };
     let flow = flow_of_packet(NodeId(gram.from), NodeId(gram.to), &packet);
-    match place_of(notes, occasion, host, &flow, &packet) {
-        Some(place) => Some(Mark::new(occasion.now, place)),
+    match place_of(notes, context, host, &flow, &packet) {
+        Some(place) => Some(Mark::new(context.now, place)),
         None => None,
     }
 }
@@ -45,19 +45,19 @@ pub fn mark_of(
 /// begin elsewhere than the event's.
 fn place_of(
     notes: &Notes,
-    occasion: &EventContext<'_>,
+    context: &EventContext<'_>,
     host: &Host,
     flow: &Flow,
     packet: &Packet<'_>,
 ) -> Option<u64>
-    ensures place { IfSome result (λ place. place ≡ place_for (occasion_seen occasion.entry.now) (ledger_of (ledgers_seen notes.now) flow.now) host.now.state flow.now (packet_of packet.now)) }
-    ensures none { IsNone result ↔ IsForeign occasion.entry.now.rules.now host.now.rules (packet_of packet.now) }
+    ensures place { IfSome result (λ place. place ≡ place_for (occasion_seen context.entry.now) (ledger_of (ledgers_seen notes.now) flow.now) host.now.state flow.now (packet_of packet.now)) }
+    ensures none { IsNone result ↔ IsForeign context.entry.now.rules.now host.now.rules (packet_of packet.now) }
 {
     match *packet {
-        Packet::Data { number, .. } => sent_place(notes, occasion, host, flow, number),
-        Packet::Meet { number, .. } => sent_place(notes, occasion, host, flow, number),
+        Packet::Data { number, .. } => sent_place(notes, context, host, flow, number),
+        Packet::Meet { number, .. } => sent_place(notes, context, host, flow, number),
         Packet::Ack { number, .. } => {
-            Some(acknowledged_place(notes, occasion, host, flow, number))
+            Some(acknowledged_place(notes, context, host, flow, number))
         }
         Packet::Close { .. } => Some(0),
     }
@@ -67,15 +67,15 @@ fn place_of(
 /// far the number is before the next one. None comes exactly where the host's numbers begin elsewhere.
 fn sent_place(
     notes: &Notes,
-    occasion: &EventContext<'_>,
+    context: &EventContext<'_>,
     host: &Host,
     flow: &Flow,
     number: u32,
 ) -> Option<u64>
-    ensures place { IfSome result (λ place. place ≡ place_sent occasion.entry.now.rules.now (ledger_of (ledgers_seen notes.now) flow.now) number (sender_at host.now.state flow.now)) }
-    ensures none { IsNone result ↔ (host.now.rules.start ≢ occasion.entry.now.rules.now.start) }
+    ensures place { IfSome result (λ place. place ≡ place_sent context.entry.now.rules.now (ledger_of (ledgers_seen notes.now) flow.now) number (sender_at host.now.state flow.now)) }
+    ensures none { IsNone result ↔ (host.now.rules.start ≢ context.entry.now.rules.now.start) }
 {
-    if host.rules().params().start != occasion.rules.params().start {
+    if host.rules().params().start != context.rules.params().start {
         return None;
     }
     let Some(next) = host.next_number(flow) else {
@@ -91,22 +91,22 @@ fn sent_place(
 /// expected one, else that of the packet that it answers.
 fn acknowledged_place(
     notes: &Notes,
-    occasion: &EventContext<'_>,
+    context: &EventContext<'_>,
     host: &Host,
     flow: &Flow,
     number: u32,
 ) -> u64
-    ensures { result ≡ ack_place (receiver_at host.now.state flow.now).standing (ledger_of (ledgers_seen notes.now) flow.now).given number occasion.entry.now.brought.place }
+    ensures { result ≡ ack_place (receiver_at host.now.state flow.now).standing (ledger_of (ledgers_seen notes.now) flow.now).given number context.entry.now.brought.place }
 {
     match host.expected(flow) {
         Some(expected) => {
             if number == expected {
                 after_given(&notes.ledger, flow)
             } else {
-                occasion.brought.place
+                context.brought.place
             }
         }
-        None => occasion.brought.place,
+        None => context.brought.place,
     }
 }
 

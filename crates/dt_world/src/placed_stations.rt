@@ -115,29 +115,29 @@ pub fn play<L: Lines>(
 pub fn deliver_to_station<'a, 'o, L: Lines>(
     placed: &mut PlacedStation,
     event: &mut PlacedEvent<'_>,
-    occasion: EventContext<'o>,
+    context: EventContext<'o>,
     notes: &'a mut Notes,
     lines: &'a mut L,
 ) -> Result<(), NoMemory>
     requires unspent { placed.old.station.spent ≡ false }
-    requires may { MayCome placed.old.station.rules (occasion.now + placed.old.zero) placed.old.station.state event.old }
-    requires past { placed.old.station.latest ≤ occasion.now + placed.old.zero }
-    ensures happened { let script = station_event placed.old.station.rules (occasion.entry.now + placed.old.zero) (event_seen event.old) placed.old.station.state in
-        Happened L.tells result (occasion_seen occasion.entry) script notes.old lines.old notes.new lines.new placed.new.station.state }
+    requires may { MayCome placed.old.station.rules (context.now + placed.old.zero) placed.old.station.state event.old }
+    requires past { placed.old.station.latest ≤ context.now + placed.old.zero }
+    ensures happened { let script = station_event placed.old.station.rules (context.entry.now + placed.old.zero) (event_seen event.old) placed.old.station.state in
+        Happened L.tells result (occasion_seen context.entry) script notes.old lines.old notes.new lines.new placed.new.station.state }
     ensures zero { placed.new.zero ≡ placed.old.zero }
     ensures life { placed.new.life ≡ placed.old.life }
     ensures plan { placed.new.plan ≡ placed.old.plan }
     ensures relay { OnOk result (emptied placed.new.station.state.relay ≡ emptied placed.old.station.state.relay) }
     ensures rules { placed.new.station.rules ≡ placed.old.station.rules }
-    ensures latest { placed.new.station.latest ≡ occasion.entry.now + placed.old.zero }
+    ensures latest { placed.new.station.latest ≡ context.entry.now + placed.old.zero }
     ensures spent { OnOk result (placed.new.station.spent ≡ false) }
 {
-    let now = Moment { ms: occasion.now };
+    let now = Moment { ms: context.now };
     let reading = read_clock(now, placed.zero);
     let mut reporter = Reporter {
         notes,
         lines,
-        occasion,
+        context,
         failed: false,
     };
     play(&mut placed.station, reading, event, &mut reporter)

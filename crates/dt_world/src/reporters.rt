@@ -21,7 +21,7 @@ use dt_station::Visitor;
 pub struct Reporter<'a, 'o, L> {
     pub notes: &'a mut Notes,
     pub lines: &'a mut L,
-    pub occasion: EventContext<'o>,
+    pub context: EventContext<'o>,
     pub failed: bool,
 }
 
@@ -37,7 +37,7 @@ impl<'a, 'o, L: Lines> Visitor<MarkedFrame> for Reporter<'a, 'o, L> {
     ghost fails = { λ s t. Stays s t };
 
     fn tag(&mut self, host: &Host, frame: &Frame, _now: u64) -> Mark {
-        match mark_of(self.notes, &self.occasion, host, frame.as_gram()) {
+        match mark_of(self.notes, &self.context, host, frame.as_gram()) {
             Some(mark) => mark,
             None => {
                 self.failed = true;
@@ -51,13 +51,13 @@ impl<'a, 'o, L: Lines> Visitor<MarkedFrame> for Reporter<'a, 'o, L> {
             return;
         }
         let effect = effect_of(report);
-        if note(self.notes, &self.occasion, &effect).is_err() {
+        if note(self.notes, &self.context, &effect).is_err() {
             self.failed = true;
             return;
         }
         self.lines.line(&LogLine {
-            moment: self.occasion.now,
-            node: Some(self.occasion.node),
+            moment: self.context.now,
+            node: Some(self.context.node),
             report: world_report(report, &effect, self.notes.copies.len()),
         });
     }
@@ -70,14 +70,14 @@ impl<'a, 'o, L: Lines> Visitor<MarkedFrame> for Reporter<'a, 'o, L> {
         if self.failed {
             return Err(NoMemory);
         }
-        let put = self.occasion.now;
+        let put = self.context.now;
         self.notes.copies.add(link, frame.as_slice(), mark, put)
     }
 }
 
 /// What a report says of the world is noted. After `NoMemory` nothing was.
-fn note(notes: &mut Notes, occasion: &EventContext<'_>, effect: &Effect) -> Result<(), NoMemory>
-    ensures ok { OnOk result (ledgers_seen notes.new ≡ ledgers_by (occasion_seen occasion.entry.now) (effect_seen effect.now) (ledgers_seen notes.old)) }
+fn note(notes: &mut Notes, context: &EventContext<'_>, effect: &Effect) -> Result<(), NoMemory>
+    ensures ok { OnOk result (ledgers_seen notes.new ≡ ledgers_by (occasion_seen context.entry.now) (effect_seen effect.now) (ledgers_seen notes.old)) }
     ensures err { OnErr result (ledgers_seen notes.new ≡ ledgers_seen notes.old) }
     ensures copies { notes.new.copies ≡ notes.old.copies }
 {
@@ -85,7 +85,7 @@ fn note(notes: &mut Notes, occasion: &EventContext<'_>, effect: &Effect) -> Resu
         Effect::Changes {
             flow,
             change: becomes,
-        } => change(notes, occasion, &flow, becomes),
+        } => change(notes, context, &flow, becomes),
         Effect::Leaves { .. } | Effect::Neither => Ok(()),
     }
 }

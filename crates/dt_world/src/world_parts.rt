@@ -55,14 +55,14 @@ pub fn event_at<L: Lines>(
     match parts.stations.get_mut(&node) {
         None => Ok(()),
         Some(placed) => {
-            let occasion = EventContext {
+            let context = EventContext {
                 rules: &parts.rules,
                 now: parts.now,
                 node,
                 life: placed.life,
                 brought,
             };
-            deliver_to_station(placed, event, occasion, &mut parts.notes, lines)
+            deliver_to_station(placed, event, context, &mut parts.notes, lines)
         }
     }
 }

@@ -85,7 +85,7 @@ module _ (g : Over) (c : After-take_turn g) where
   record Went : Type 0 where
     goes : Passed form orders first left.gives c.turns.watch (Some after) (edges_of left before.clock)
     same : c.take_turn.new.self.recorder.writer.form ≡ form
-    asks : (wait : ℕ) → wait ≡ wait_until (wakes_by (station_wake c.take_turn.new.self.node.dock.station.rules c.take_turn.new.self.node.dock.station.state) (next_moment c.args.orders.now.stop (left_of c.args.orders.now c.take_turn.new.self.node.next))) c.moment-moment.result → wait ≡ wait_in (pause_of orders c.turns.watch after)
+    asks : (wait : ℕ) → wait ≡ wait_until (wakes_by (station_wake c.take_turn.new.self.node.io.station.rules c.take_turn.new.self.node.io.station.state) (next_moment c.args.orders.now.stop (left_of c.args.orders.now c.take_turn.new.self.node.next))) c.moment-moment.result → wait ≡ wait_in (pause_of orders c.turns.watch after)
 
   went : (stopped : Bool) → stopped ≡ false → Ended (Ok stopped) → c.take_turn.new.self.recorder.writer.form ≡ c.turns.run.recorder.writer.form → IsReady c.args.orders.now c.moment-moment.result c.take_turn.new.self.node → Went
   went stopped e h same ready = record {

@@ -6,5 +6,5 @@ use Rattle.dt_notes.proofs.notes.give_up.Goals as goal
 
 pub returns-clause-becomes : goal.returns-clause-becomes
 returns-clause-becomes c =
-    rows_change_alone (occasion_seen c.args.occasion.now) (GivesUp c.args.count) c.args.flow.now c.args.notes.now.ledger c.args.notes.now.runs.entries
+    rows_change_alone (occasion_seen c.args.context.now) (GivesUp c.args.count) c.args.flow.now c.args.notes.now.ledger c.args.notes.now.runs.entries
     c.rows_mut.result c.in-Some.rows c.in-Some.rows.now c.settle_open.new.self _ c.in-Some.is (c.rows_mut.follows.holds c.settle_open.new.self) c.in-Some.ensures.value refl c.requires.there.run c.settle_open.ensures

@@ -6,7 +6,7 @@ use Rattle.dt_notes.proofs.notes.take_octets.Goals as goal
 pub returns-clause-ok : goal.returns-clause-ok
 returns-clause-ok c =
     let n = c.args.notes.now in
-    let o = occasion_seen c.args.occasion.now in
+    let o = occasion_seen c.args.context.now in
     let f = c.args.flow.now in
     both_change o Takes f n.ledger n.runs.entries c.take.new.self c.begin_run.new.runs.entries c.in_ok-take.ensures.ok
     (run_begins f c.make_room.new.runs.entries c.begin_run.new.runs.entries n.runs.entries c.begin_run.ensures c.make_room.ensures.same)

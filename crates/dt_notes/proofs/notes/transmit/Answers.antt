@@ -11,7 +11,7 @@ use Rattle.dt_notes.proofs.notes.transmit.Goals as goal
 pub returns-clause-becomes : goal.returns-clause-becomes
 returns-clause-becomes c =
     let n = c.args.notes.now in
-    let o = occasion_seen c.args.occasion.now in
+    let o = occasion_seen c.args.context.now in
     let f = c.args.flow.now in
     let t = Transmits c.args.count in
     let run = c.in-Some.run'.now in

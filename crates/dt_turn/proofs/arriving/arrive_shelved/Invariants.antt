@@ -8,14 +8,14 @@ use Rattle.dt_turn.proofs.arriving.arrive_shelved.Given as goal
 abbrev pub invariant-rounds : goal.invariant-rounds
 invariant-rounds g l =
     let v = g.V.Visitor in
-    let rules = l.fn.dock.station.rules in
+    let rules = l.fn.io.station.rules in
     record {
       most : ℕ;
       enough : length l.shelf.held < most;
-      leads : Leads v.tells (v.tags l.now) v.hands v.fails (rounds (suc (length l.fn.shelf.held)) rules l.now (first_round (incoming_seen l.fn.incoming) l.fn.dock.station.state l.fn.shelf)) l.fn.visitor (rounds most rules l.now (first_round (handed_seen l.dock.taken.value l.handed) l.dock.station.state l.shelf)) l.visitor;
-      taken : IsTaken l.dock.taken.value l.handed;
-      go : MayGo l.now l.dock.station;
-      on : GoesOn l.now 0 l.fn.dock.station l.dock.station;
+      leads : Leads v.tells (v.tags l.now) v.hands v.fails (rounds (suc (length l.fn.shelf.held)) rules l.now (first_round (incoming_seen l.fn.incoming) l.fn.io.station.state l.fn.shelf)) l.fn.visitor (rounds most rules l.now (first_round (handed_seen l.io.taken.value l.handed) l.io.station.state l.shelf)) l.visitor;
+      taken : IsTaken l.io.taken.value l.handed;
+      go : MayGo l.now l.io.station;
+      on : GoesOn l.now 0 l.fn.io.station l.io.station;
     }
 
 abbrev pub decreases-rounds : goal.decreases-rounds

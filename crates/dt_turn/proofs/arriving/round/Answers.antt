@@ -12,14 +12,14 @@ use Rattle.dt_turn.proofs.arriving.round.Goals as goal
 pub returns-in_err-hear_arrival-clause-ends : goal.returns-in_err-hear_arrival-clause-ends
 returns-in_err-hear_arrival-clause-ends g c =
     let v = g.V.Visitor in
-    let st = c.args.dock.now.station in
+    let st = c.args.io.now.station in
     let p = err_from_is_err_and c.from_residual.result c.from_residual.ensures.1 in
     rw (p.1, sym (rw c.deref.ensures at c.incoming-incoming.ensures)) (round_stops v.tells (v.tags c.args.now) v.hands v.fails st.rules c.args.now (incoming_seen c.incoming-incoming.result) st.state c.args.shelf.now c.args.visitor.now c.hear_arrival.new.visitor c.in_err-hear_arrival.ensures.ends)
 
 pub returns-in-Nothing-clause-ends : goal.returns-in-Nothing-clause-ends
 returns-in-Nothing-clause-ends g c =
     let v = g.V.Visitor in
-    let st = c.args.dock.now.station in
+    let st = c.args.io.now.station in
     let came = c.incoming-incoming.result in
     let now = c.args.now in
     let event = station_event st.rules now (Arrive came.link (plain came.gram.octets.now)) st.state in
@@ -31,7 +31,7 @@ returns-in-Nothing-clause-ends g c =
 pub returns-in-Accepted-clause-ends : goal.returns-in-Accepted-clause-ends
 returns-in-Accepted-clause-ends g c =
     let v = g.V.Visitor in
-    let st = c.args.dock.now.station in
+    let st = c.args.io.now.station in
     let came = c.incoming-incoming.result in
     let now = c.args.now in
     let event = station_event st.rules now (Arrive came.link (plain came.gram.octets.now)) st.state in
@@ -47,7 +47,7 @@ returns-in-Accepted-clause-ends g c =
 pub returns-in-Refused-clause-ends : goal.returns-in-Refused-clause-ends
 returns-in-Refused-clause-ends g c =
     let v = g.V.Visitor in
-    let st = c.args.dock.now.station in
+    let st = c.args.io.now.station in
     let came = c.incoming-incoming.result in
     let now = c.args.now in
     let event = station_event st.rules now (Arrive came.link (plain came.gram.octets.now)) st.state in

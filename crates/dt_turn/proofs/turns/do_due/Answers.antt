@@ -30,7 +30,7 @@ do_task-requires-clause-few g c =
     let i = c.due.invariant in
     let o = c.args.orders.now in
     let below : c.due.node.next ≤ most_commands = omega (arith, i.ready.next, o.commands.ok.0, length-map o.commands.items command_seen, c.requires.may.good.few) in
-    taken_more c.due.node.dock.station.state.host (c.due.node.next * most_octets) (most_commands * most_octets) (omega (arith, below)) i.ready.taken
+    taken_more c.due.node.io.station.state.host (c.due.node.next * most_octets) (most_commands * most_octets) (omega (arith, below)) i.ready.taken
 
 pub returns-then-from-now-clause-ends : goal.returns-then-from-now-clause-ends
 returns-then-from-now-clause-ends g c =
@@ -39,9 +39,9 @@ returns-then-from-now-clause-ends g c =
     let o = c.args.orders.now in
     let now = c.args.now in
     let i = c.due.invariant in
-    let whole = do_due o.setup.rules now c.args.node.now.shelf (left_of o c.args.node.now.next) c.args.node.now.dock.station.state in
+    let whole = do_due o.setup.rules now c.args.node.now.shelf (left_of o c.args.node.now.next) c.args.node.now.io.station.state in
     let late : now < c.index-command.result.now.at = omega (arith, c.if-from-now.true, c.from.ensures) in
-    rw i.shelf (due_ends v.tells (v.tags now) v.hands v.fails whole c.args.visitor.now c.due.visitor o.setup.rules c.due.node.dock.station.rules now c.args.node.now.shelf (left_of o c.due.node.next) (command_seen c.index-command.result.now) (left_of o (c.due.node.next + 1)) c.due.node.dock.station.state i.ready.rules left i.leads late)
+    rw i.shelf (due_ends v.tells (v.tags now) v.hands v.fails whole c.args.visitor.now c.due.visitor o.setup.rules c.due.node.io.station.rules now c.args.node.now.shelf (left_of o c.due.node.next) (command_seen c.index-command.result.now) (left_of o (c.due.node.next + 1)) c.due.node.io.station.state i.ready.rules left i.leads late)
 
 pub returns-in_err-do_task-clause-ends : goal.returns-in_err-do_task-clause-ends
 returns-in_err-do_task-clause-ends g c =
@@ -50,9 +50,9 @@ returns-in_err-do_task-clause-ends g c =
     let v = g.V.Visitor in
     let o = c.args.orders.now in
     let now = c.args.now in
-    let whole = do_due o.setup.rules now c.args.node.now.shelf (left_of o c.args.node.now.next) c.args.node.now.dock.station.state in
+    let whole = do_due o.setup.rules now c.args.node.now.shelf (left_of o c.args.node.now.next) c.args.node.now.io.station.state in
     let due : c.index-command.result.now.at ≤ now = omega (arith, c.if-from-now.false, c.from.ensures) in
-    rw (p.1) (due_stops v.tells (v.tags now) v.hands v.fails whole c.args.visitor.now c.due.visitor o.setup.rules c.due.node.dock.station.rules now c.args.node.now.shelf (left_of o c.due.node.next) (command_seen c.index-command.result.now) (left_of o (c.due.node.next + 1)) c.due.node.dock.station.state c.due.invariant.ready.rules left c.due.invariant.leads c.do_task.new.visitor due c.in_err-do_task.ensures.ends)
+    rw (p.1) (due_stops v.tells (v.tags now) v.hands v.fails whole c.args.visitor.now c.due.visitor o.setup.rules c.due.node.io.station.rules now c.args.node.now.shelf (left_of o c.due.node.next) (command_seen c.index-command.result.now) (left_of o (c.due.node.next + 1)) c.due.node.io.station.state c.due.invariant.ready.rules left c.due.invariant.leads c.do_task.new.visitor due c.in_err-do_task.ensures.ends)
 
 pub due-preserved : goal.due-preserved
 due-preserved g c =
@@ -61,10 +61,10 @@ due-preserved g c =
     let o = c.args.orders.now in
     let now = c.args.now in
     let i = c.due.invariant in
-    let whole = do_due o.setup.rules now c.args.node.now.shelf (left_of o c.args.node.now.next) c.args.node.now.dock.station.state in
+    let whole = do_due o.setup.rules now c.args.node.now.shelf (left_of o c.args.node.now.next) c.args.node.now.io.station.state in
     let due : c.index-command.result.now.at ≤ now = omega (arith, c.if-from-now.false, c.from.ensures) in
     record {
-      leads = due_goes v.tells (v.tags now) v.hands v.fails whole c.args.visitor.now c.due.visitor o.setup.rules c.due.node.dock.station.rules now c.args.node.now.shelf (left_of o c.due.node.next) (command_seen c.index-command.result.now) (left_of o (c.due.node.next + 1)) c.due.node.dock.station.state i.ready.rules (is_next g k) i.leads c.do_task.new.visitor c.do_task.new.station.state due c.in_ok-do_task.ensures.ends;
+      leads = due_goes v.tells (v.tags now) v.hands v.fails whole c.args.visitor.now c.due.visitor o.setup.rules c.due.node.io.station.rules now c.args.node.now.shelf (left_of o c.due.node.next) (command_seen c.index-command.result.now) (left_of o (c.due.node.next + 1)) c.due.node.io.station.state i.ready.rules (is_next g k) i.leads c.do_task.new.visitor c.do_task.new.station.state due c.in_ok-do_task.ensures.ends;
       ready = ready_on o now most_octets c.due.node _ i.ready c.in_ok-do_task.ensures.on (omega arith) c.in_ok-do_task.ensures.room (omega (arith, here g k, o.commands.ok.0));
       shelf = i.shelf;
     }

@@ -9,7 +9,7 @@ invariant-due g l =
     let v = g.V.Visitor in
     let rules = l.orders.setup.rules in
     record {
-      leads : Leads v.tells (v.tags l.now) v.hands v.fails (do_due rules l.now l.fn.node.shelf (left_of l.orders l.fn.node.next) l.fn.node.dock.station.state) l.fn.visitor (do_due rules l.now l.fn.node.shelf (left_of l.orders l.node.next) l.node.dock.station.state) l.visitor;
+      leads : Leads v.tells (v.tags l.now) v.hands v.fails (do_due rules l.now l.fn.node.shelf (left_of l.orders l.fn.node.next) l.fn.node.io.station.state) l.fn.visitor (do_due rules l.now l.fn.node.shelf (left_of l.orders l.node.next) l.node.io.station.state) l.visitor;
       ready : IsReady l.orders l.now l.node;
       shelf : l.node.shelf ≡ l.fn.node.shelf;
     }

@@ -19,14 +19,14 @@ returns-in_err-tick-clause-ends g c =
     let v = g.V.Visitor in
     let o = orders_seen c.args.orders.now in
     let node = node_seen c.args.orders.now c.args.node.now in
-    rw (p.1) (ticked_stops v.tells (v.tags c.args.now) v.hands v.fails o c.args.now node c.args.visitor.now c.tick.new.visitor c.args.node.now.dock.station.rules c.requires.may.ready.rules (omega (arith, c.if-from-now.false, c.from.ensures)) c.in_err-tick.ensures.ends)
+    rw (p.1) (ticked_stops v.tells (v.tags c.args.now) v.hands v.fails o c.args.now node c.args.visitor.now c.tick.new.visitor c.args.node.now.io.station.rules c.requires.may.ready.rules (omega (arith, c.if-from-now.false, c.from.ensures)) c.in_err-tick.ensures.ends)
 
 pub returns-clause-ends : goal.returns-clause-ends
 returns-clause-ends g c =
     let v = g.V.Visitor in
     let o = orders_seen c.args.orders.now in
     let node = node_seen c.args.orders.now c.args.node.now in
-    ticked_plays v.tells (v.tags c.args.now) v.hands v.fails o c.args.now node c.args.visitor.now c.tick.new.visitor c.args.node.now.dock.station.rules c.tick.new.station.state c.requires.may.ready.rules (omega (arith, c.if-from-now.false, c.from.ensures)) c.in_ok-tick.ensures.ends
+    ticked_plays v.tells (v.tags c.args.now) v.hands v.fails o c.args.now node c.args.visitor.now c.tick.new.visitor c.args.node.now.io.station.rules c.tick.new.station.state c.requires.may.ready.rules (omega (arith, c.if-from-now.false, c.from.ensures)) c.in_ok-tick.ensures.ends
 
 pub returns-clause-ready : goal.returns-clause-ready
 returns-clause-ready g c =

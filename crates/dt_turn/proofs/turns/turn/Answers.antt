@@ -13,7 +13,7 @@ returns-in_err-hand_in-clause-ends g c =
     let v = g.V.Visitor in
     let o = orders_seen c.args.orders.now in
     let node = node_seen c.args.orders.now c.args.node.now in
-    rw (p.1) (first_stops v.tells (v.tags c.args.now) v.hands v.fails o c.args.node.now.dock.station.rules c.args.now (arrived c.args.came) node c.args.visitor.now c.requires.may.ready.rules c.hand_in.new.visitor c.in_err-hand_in.ensures.ends)
+    rw (p.1) (first_stops v.tells (v.tags c.args.now) v.hands v.fails o c.args.node.now.io.station.rules c.args.now (arrived c.args.came) node c.args.visitor.now c.requires.may.ready.rules c.hand_in.new.visitor c.in_err-hand_in.ensures.ends)
 
 pub do_due-requires : goal.do_due-requires
 do_due-requires g c =
@@ -25,7 +25,7 @@ returns-in_err-do_due-clause-ends g c =
     let v = g.V.Visitor in
     let o = orders_seen c.args.orders.now in
     let node = node_seen c.args.orders.now c.args.node.now in
-    rw (p.1) (second_stops v.tells (v.tags c.args.now) v.hands v.fails o c.args.node.now.dock.station.rules c.args.now (arrived c.args.came) node c.args.visitor.now c.requires.may.ready.rules c.hand_in.new.visitor c.do_due.new.visitor (inside c.hand_in.new.node.dock.station.state c.hand_in.new.node.shelf) c.in_ok-hand_in.ensures.ends
+    rw (p.1) (second_stops v.tells (v.tags c.args.now) v.hands v.fails o c.args.node.now.io.station.rules c.args.now (arrived c.args.came) node c.args.visitor.now c.requires.may.ready.rules c.hand_in.new.visitor c.do_due.new.visitor (inside c.hand_in.new.node.io.station.state c.hand_in.new.node.shelf) c.in_ok-hand_in.ensures.ends
     (rw c.hand_in.ensures.next at c.in_err-do_due.ensures.ends))
 
 pub returns-clause-ends : goal.returns-clause-ends
@@ -33,5 +33,5 @@ returns-clause-ends g c =
     let v = g.V.Visitor in
     let o = orders_seen c.args.orders.now in
     let node = node_seen c.args.orders.now c.args.node.now in
-    third_ends v.tells (v.tags c.args.now) v.hands v.fails o c.args.node.now.dock.station.rules c.args.now (arrived c.args.came) node c.args.visitor.now c.requires.may.ready.rules c.hand_in.new.visitor c.do_due.new.visitor c.finish.new.visitor (inside c.hand_in.new.node.dock.station.state c.hand_in.new.node.shelf) (node_seen c.args.orders.now c.do_due.new.node) _ c.finish.result c.in_ok-hand_in.ensures.ends
+    third_ends v.tells (v.tags c.args.now) v.hands v.fails o c.args.node.now.io.station.rules c.args.now (arrived c.args.came) node c.args.visitor.now c.requires.may.ready.rules c.hand_in.new.visitor c.do_due.new.visitor c.finish.new.visitor (inside c.hand_in.new.node.io.station.state c.hand_in.new.node.shelf) (node_seen c.args.orders.now c.do_due.new.node) _ c.finish.result c.in_ok-hand_in.ensures.ends
     (rw c.hand_in.ensures.next at c.in_ok-do_due.ensures.ends) c.finish.ensures.ends

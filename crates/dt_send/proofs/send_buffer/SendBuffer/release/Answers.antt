@@ -9,22 +9,22 @@ pub returns-then-is_empty-clause-acts : goal.returns-then-is_empty-clause-acts
 returns-then-is_empty-clause-acts c =
     let r = c.requires in
     let none : length c.args.self.now.items.items ≡ 0 = grind (arith, nat_tests) in
-    released c.args.occasion.now.rules.now c.args.occasion.now.at (record_of c.args.self.now) r.chosen (omega (arith, all_wait c.args.occasion.now.rules.now c.args.occasion.now.at c.args.self.now r.rings r.chosen))
+    released c.args.context.now.rules.now c.args.context.now.at (record_of c.args.self.now) r.chosen (omega (arith, all_wait c.args.context.now.rules.now c.args.context.now.at c.args.self.now r.rings r.chosen))
 
 pub returns-clause-rings : goal.returns-clause-rings
 returns-clause-rings c =
     let r = c.requires in
     let k = c.args.self.now in
     let some : 0 < length k.items.items = grind (arith, nat_tests) in
-    let window : c.args.occasion.now.rules.now.window ≡ c.from-self.result = sym (c.from-self.ensures ∙ ap (λ (p : Params). p.window) c.params.ensures.same) in
-    subst (λ edge. IsSendBuffer c.args.occasion.now.rules.now (record k { left = 0; edge = edge; touched = c.args.occasion.now.at; crossed = None; next = 0 })) window
-    (anew_rings c.args.occasion.now.rules.now c.args.occasion.now.at k r.rings r.chosen c.args.occasion.now.timely some)
+    let window : c.args.context.now.rules.now.window ≡ c.from-self.result = sym (c.from-self.ensures ∙ ap (λ (p : Params). p.window) c.params.ensures.same) in
+    subst (λ edge. IsSendBuffer c.args.context.now.rules.now (record k { left = 0; edge = edge; touched = c.args.context.now.at; crossed = None; next = 0 })) window
+    (anew_rings c.args.context.now.rules.now c.args.context.now.at k r.rings r.chosen c.args.context.now.timely some)
 
 pub returns-clause-acts : goal.returns-clause-acts
 returns-clause-acts c =
     let r = c.requires in
     let k = c.args.self.now in
     let some : 0 < length k.items.items = grind (arith, nat_tests) in
-    let window : c.args.occasion.now.rules.now.window ≡ c.from-self.result = sym (c.from-self.ensures ∙ ap (λ (p : Params). p.window) c.params.ensures.same) in
-    renewed c.args.occasion.now.rules.now c.args.occasion.now.at (record_of k) r.chosen (omega (arith, some, all_wait c.args.occasion.now.rules.now c.args.occasion.now.at k r.rings r.chosen)) _
-    (ap (λ edge. record_of (record k { left = 0; edge = edge; touched = c.args.occasion.now.at; crossed = None; next = 0 })) (sym window) ∙ begins_anew c.args.occasion.now.rules.now c.args.occasion.now.at k r.rings r.chosen)
+    let window : c.args.context.now.rules.now.window ≡ c.from-self.result = sym (c.from-self.ensures ∙ ap (λ (p : Params). p.window) c.params.ensures.same) in
+    renewed c.args.context.now.rules.now c.args.context.now.at (record_of k) r.chosen (omega (arith, some, all_wait c.args.context.now.rules.now c.args.context.now.at k r.rings r.chosen)) _
+    (ap (λ edge. record_of (record k { left = 0; edge = edge; touched = c.args.context.now.at; crossed = None; next = 0 })) (sym window) ∙ begins_anew c.args.context.now.rules.now c.args.context.now.at k r.rings r.chosen)

@@ -29,7 +29,7 @@ returns-clause-cut c =
 pub returns-clause-frame : goal.returns-clause-frame
 returns-clause-frame c =
     let s = c.args.sent_segment.now in
-    let f = c.args.occasion.now.flow.now in
+    let f = c.args.context.now.flow.now in
     let from = s.offset - c.args.self.now.left in
     let all = c.args.self.now.items.items in
     let items = take s.length (drop from all) in
@@ -39,8 +39,8 @@ returns-clause-frame c =
     let last : c.item_in-2.result.end ≡ ends items = sym (ends-last items (s.length - 1) c.item_in-2.result c.requires.segment.piece (omega arith) (item_within all from s.length (s.length - 1) _ c.item_in-2.result (omega arith) (omega arith) c.item_in-2.ensures)) in
     let number = c.number_at.ensures in
     let drf = leads (record_of c.args.self.now) s.offset in
-    let same : Data f.from_port f.to_port c.number_at.result drf c.item_in.result.begin c.item_in-2.result.end (octets_of items) ≡ Data f.from_port f.to_port (number_of c.args.occasion.now.rules.now s.offset) drf (begins items) (ends items) (octets_of items) = cc in
+    let same : Data f.from_port f.to_port c.number_at.result drf c.item_in.result.begin c.item_in-2.result.end (octets_of items) ≡ Data f.from_port f.to_port (number_of c.args.context.now.rules.now s.offset) drf (begins items) (ends items) (octets_of items) = cc in
     c.append_octets.ensures
     ∙ c.write.ensures.spelled (octets_of items) (length-map items (λ (item : Item). item.octet) ∙ count)
     ∙ ap (λ (v : PacketValue). gram_spelling (carrying c.params.result.now.mpl f.from.0 f.to.0 v)) same
-    ∙ ap (λ (p : Params). gram_spelling (carrying p.mpl f.from.0 f.to.0 (Data f.from_port f.to_port (number_of c.args.occasion.now.rules.now s.offset) drf (begins items) (ends items) (octets_of items)))) c.params.ensures.same
+    ∙ ap (λ (p : Params). gram_spelling (carrying p.mpl f.from.0 f.to.0 (Data f.from_port f.to_port (number_of c.args.context.now.rules.now s.offset) drf (begins items) (ends items) (octets_of items)))) c.params.ensures.same
