@@ -38,9 +38,8 @@ fn is_request(happening: &Happening) -> bool
 {
     match happening {
         Happening::Request { .. } => true,
-        Happening::Answered { .. }
-        | Happening::Unsure { .. }
-        | Happening::ReplyUncertain { .. } => false,
+        Happening::Answered { .. } | Happening::Unsure { .. } | Happening::ReplyUncertain { .. } =>
+            false,
     }
 }
 
