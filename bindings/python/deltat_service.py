@@ -95,7 +95,7 @@ class Doubtful(NamedTuple):
 
 
 class ReplyUncertain(NamedTuple):
-    """Octets of replies to requests of this flow were given up: each was delivered once or not at all. Their callers aren't told."""
+    """Replies to requests of this flow were given up: each was delivered once or not at all. Their callers get no report."""
 
     flow: Flow
 
@@ -420,6 +420,8 @@ class Calls:
         self.node: Service = udp.node
         self._requests: deque[Request] = deque()
         self._ends: dict[int, Answered | Doubtful] = {}
+        self.uncertain: set[Flow] = set()
+        """The flows of requests of which a reply was given up. The program takes out what it has dealt with."""
         self._functions: dict[int, Callable[[Request], bytes | None]] = {}
 
     def call(self, flow: Flow, payload: bytes, patience: float = 5.0) -> bytes:
@@ -505,6 +507,8 @@ class Calls:
         for it in told:
             if isinstance(it, Request):
                 self._requests.append(it)
+            elif isinstance(it, ReplyUncertain):
+                self.uncertain.add(it.flow)
             else:
                 self._ends[it.number] = it
         return bool(told)
@@ -524,6 +528,8 @@ class AsyncCalls:
         self.node: Service = udp.node
         self._requests: deque[Request] = deque()
         self._ends: dict[int, asyncio.Future[Answered | Doubtful]] = {}
+        self.uncertain: set[Flow] = set()
+        """As that of `Calls`."""
         self._functions: dict[int, Callable[[Request], Awaitable[bytes | None]]] = {}
         self._tasks: set[asyncio.Task[None]] = set()
 
@@ -613,6 +619,8 @@ class AsyncCalls:
         for it in told:
             if isinstance(it, Request):
                 self._requests.append(it)
+            elif isinstance(it, ReplyUncertain):
+                self.uncertain.add(it.flow)
             elif it.number in self._ends and not self._ends[it.number].done():
                 self._ends[it.number].set_result(it)
         if told:

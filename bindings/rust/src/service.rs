@@ -84,7 +84,7 @@ pub enum Event {
     Answered { call: u64, len: usize },
     /// A call ended without one: it was served once or not at all, and may still be.
     Unsure { call: u64, cause: Cause },
-    /// Octets of replies to requests of this flow were given up: each was delivered once or not at all.
+    /// Replies to requests of this flow were given up: each was delivered once or not at all.
     ReplyUncertain { flow: Flow },
 }
 
