@@ -16,12 +16,12 @@ use Rattle.dt_service_model.specs.declared.calls.Cause.{Cause}
 use Rattle.dt_service_model.specs.declared.calls.Cause.TheVariants as cause
 use Rattle.dt_service_model.specs.declared.call_counts.CallCounts.{CallCounts}
 use Rattle.dt_service_model.specs.declared.happenings.Happening.{Happening}
-use Rattle.dt_service_model.specs.declared.happenings.Happening.TheVariants.{Answered, Request, Unsure}
+use Rattle.dt_service_model.specs.declared.happenings.Happening.TheVariants.{Answered, ReplyUncertain, Request, Unsure}
 use Rattle.dt_service_model.specs.declared.names.CallNumber.{CallNumber}
 use Rattle.dt_service_model.specs.declared.names.Token.{Token}
 use Rattle.dt_service_model.specs.declared.ports.PortKind.{PortKind}
 use Rattle.dt_service_model.specs.declared.ports.PortKind.TheVariants.{Caller, Service}
-use Rattle.dt_service_model.specs.Names.{call_number, number_of}
+use Rattle.dt_service_model.specs.Names.{call_number, number_of, number_with}
 use Rattle.dt_c.specs.declared.rows.FlowRow.{FlowRow}
 use Rattle.dt_c.specs.declared.service_rows.CallCountsRow.{CallCountsRow}
 use Rattle.dt_c.specs.declared.service_rows.EventRow.{EventRow}
@@ -117,6 +117,7 @@ abbrev pub event_row : Happening → EventRow
 event_row (Request token payload) = event_with 1 0 token.number (flow_row token.flow) (length payload)
 event_row (Answered call answer) = event_with 2 0 call no_flow (length answer)
 event_row (Unsure call cause) = event_with 3 (cause_number cause) call no_flow 0
+event_row (ReplyUncertain flow) = event_with 4 0 (number_with 0 0) (flow_row flow) 0
 
 abbrev pub no_event : ℕ → EventRow
 no_event status = record { number = 0; len = 0; flow = no_flow; status = status; kind = 0; cause = 0 }

@@ -292,6 +292,8 @@ const NO_FLOW: FlowRow = FlowRow {
     to_port: 0,
 };
 
+const NO_CALL: CallNumber = CallNumber { life: 0, count: 0 };
+
 fn cause_number(cause: Cause) -> u8
     ensures { result ≡ cause_number cause }
 {
@@ -318,6 +320,7 @@ pub fn event_row(happening: &Happening) -> EventRow
             event_with(2, 0, *call, NO_FLOW, answer.octets.len())
         }
         Happening::Unsure { call, cause } => event_with(3, cause_number(*cause), *call, NO_FLOW, 0),
+        Happening::ReplyUncertain { flow } => event_with(4, 0, NO_CALL, flow_row(*flow), 0),
     }
 }
 
