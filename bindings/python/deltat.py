@@ -42,12 +42,24 @@ from collections import deque
 from collections.abc import AsyncIterator, Iterator, Mapping, Sequence
 from dataclasses import astuple, dataclass
 from pathlib import Path
-from typing import NamedTuple
+from typing import TYPE_CHECKING, NamedTuple
+
+if TYPE_CHECKING:
+    from deltat_state import State, StateError, fresh_number
 
 __all__ = [
     "AsyncUdp", "BadParameter", "Counts", "DeltatError", "Flow", "Full", "KeptOut", "Kind", "Link", "Message", "NoMemory", "Node", "OutFrame", "Params",
-    "Piece", "Quiet", "Report", "Spent", "Status", "Totals", "Udp", "now",
+    "Piece", "Quiet", "Report", "Spent", "State", "StateError", "Status", "Totals", "Udp", "fresh_number", "now",
 ]
+
+
+def __getattr__(name: str) -> object:
+    """What deltat_state.py has, which stands on this module."""
+    if name in ("State", "StateError", "fresh_number"):
+        import deltat_state
+        return getattr(deltat_state, name)
+    raise AttributeError(f"module 'deltat' has no attribute {name!r}")
+
 
 ABI = 1
 MOST_FRAME = 8222
@@ -446,6 +458,16 @@ def _flow_of(it: _Flow) -> Flow:
     return Flow(it.source, it.source_port, it.target, it.target_port)
 
 
+def _start(state: State | None, number: int, params: Params, again: bool, at: int | None) -> tuple[bool, int]:
+    """As what, and when, a node is opened."""
+    if state is None:
+        return again, now() if at is None else at
+    if again or at is not None:
+        raise BadParameter("a node is opened with its state, or with `again` and `at`, and not with both")
+    state.check(number, params)
+    return state.again, state.opens_at(now())
+
+
 class Node:
     """A node of a network, without a socket. Moments are in ms; left out, they are `now()`. `too_long`: how many messages
     were longer than `longest`, and dropped, when `messages` last looked."""
@@ -454,21 +476,25 @@ class Node:
 
     def __init__(
         self, number: int, params: Params, links: Sequence[Link], routes: Mapping[int, int], again: bool = False,
-        at: int | None = None, longest: int = MOST_MESSAGE,
+        at: int | None = None, longest: int = MOST_MESSAGE, state: State | None = None,
     ) -> None:
         """Opens the node. `routes` has the link that leads to each node; `longest`, how many octets a message that comes may
-        have. BadParameter or NoMemory."""
-        self.number, self.params = number, params
+        have; `state`, its state folder, in place of `again`. BadParameter, NoMemory or StateError; each call that hands
+        something in may raise StateError too, and then nothing was done."""
+        self.number, self.params, self._state = number, params, state
+        again, at = _start(state, number, params, again, at)
         size, align = _library.dt_size(), _library.dt_align()
         self._memory = ctypes.create_string_buffer(size + align)
         at_octet = ctypes.addressof(self._memory)
         self._handle = ctypes.c_void_p(at_octet + -at_octet % align)
         self._room = ctypes.create_string_buffer(MOST_SEND)
         self._unread: dict[Flow, None] = {}
+        # whether the library looks for messages of some flow
+        self._is_reading = False
         self.too_long = 0
         self._reports: deque[Report] = deque(maxlen=10_000)
         _library.dt_init(self._handle)
-        self._open(links, routes, again, now() if at is None else at)
+        self._open(links, routes, again, at)
         self._raise(_library.dt_inbox(self._handle, _in_range(longest, 64, "the longest message")))
 
     def _open(self, links: Sequence[Link], routes: Mapping[int, int], again: bool, at: int) -> None:
@@ -501,16 +527,28 @@ class Node:
 
     def tick(self, at: int | None = None) -> None:
         """Does what is due."""
-        self._raise(_library.dt_tick(self._handle, now() if at is None else at))
+        at = now() if at is None else at
+        if self._state:
+            # a tick at which nothing is due sends nothing
+            due = _library.dt_wake(self._handle)
+            if due.some and due.at <= at:
+                self._note(at)
+        self._raise(_library.dt_tick(self._handle, at))
         self._listen()
+
+    def _note(self, at: int) -> None:
+        """Before each input: what leaves now, or is handed in, is the last thing of this life so far."""
+        if self._state:
+            self._state.note_packet(at)
 
     def arrive(self, link: int, datagram: bytes, waited: int = 0, at: int | None = None) -> Status:
         """Hands in a datagram that came on a link and waited so many ms on this machine, rounded up. DONE, or why it was
         dropped: BAD (it doesn't read), STALE (it has no life left), REFUSED (there is no such link), KEPT_OUT (by the
         guard)."""
-        octets = bytes(datagram)
+        octets, at = bytes(datagram), now() if at is None else at
+        self._note(at)
         came = _library.dt_arrive(
-            self._handle, now() if at is None else at, _in_range(link, 16, "a link"), octets, len(octets), min(waited, 0xFFFFFFFF)
+            self._handle, at, _in_range(link, 16, "a link"), octets, len(octets), min(waited, 0xFFFFFFFF)
         )
         self._raise(came.status)
         self._listen()
@@ -561,8 +599,9 @@ class Node:
         was taken."""
         if not 0 < len(octets) <= MOST_SEND:
             raise BadParameter(f"a send has 1 to {MOST_SEND} octets, and not {len(octets)}")
-        octets = bytes(octets)
-        sent = _library.dt_send(self._handle, now() if at is None else at, _flow(flow), octets, len(octets), begin, end)
+        octets, at = bytes(octets), now() if at is None else at
+        self._note(at)
+        sent = _library.dt_send(self._handle, at, _flow(flow), octets, len(octets), begin, end)
         self._raise(sent.status)
         self._listen()
         if sent.status == Status.FULL:
@@ -574,7 +613,9 @@ class Node:
 
     def read(self, flow: Flow, at: int | None = None) -> Piece | None:
         """The next unread octets of a flow to this node, at most 65,536 and of one message, or None."""
-        got = _library.dt_read(self._handle, now() if at is None else at, _flow(flow), self._room, MOST_SEND)
+        at = now() if at is None else at
+        self._note(at)
+        got = _library.dt_read(self._handle, at, _flow(flow), self._room, MOST_SEND)
         self._raise(got.status)
         self._listen()
         if got.status == Status.REFUSED:
@@ -618,14 +659,19 @@ class Node:
 
     def _take(self, at: int | None) -> Message | None:
         while True:
+            at_ = now() if at is None else at
+            self._is_reading = self._is_reading or bool(self._unread)
+            if self._is_reading:
+                self._note(at_)
             self._hear_flows()
-            it = _library.dt_take(self._handle, now() if at is None else at, self._room, len(self._room))
+            it = _library.dt_take(self._handle, at_, self._room, len(self._room))
             self._raise(it.status)
             self._listen()
             self.too_long = it.too_long
             if it.status == Status.DONE:
                 return Message(_flow_of(it.flow), ctypes.string_at(self._room, it.len), it.gap)
             if it.status == Status.NOTHING:
+                self._is_reading = False
                 return None
             if it.status == Status.ROOM:
                 self._room = ctypes.create_string_buffer(it.len)

@@ -119,13 +119,14 @@ class Recorded(deltat.Node):
 
     def __init__(
         self, path: str | pathlib.Path, number: int, params: Params, links: Sequence[Link], routes: Mapping[int, int], again: bool = False,
-        at: int | None = None,
+        at: int | None = None, state: deltat.State | None = None,
     ) -> None:
-        """Opens the node. BadParameter or NoMemory; OSError where nothing can be written there."""
+        """Opens the node. BadParameter, NoMemory or StateError; OSError where nothing can be written there."""
         strange = [it.number for it in links if it.number > 255]
         if strange:
             raise deltat.BadParameter(f"a link of a node that records is {strange[0]}, which is above 255")
-        self._path, self._base = pathlib.Path(path), deltat.now() if at is None else at
+        again, self._base = deltat._start(state, number, params, again, at)
+        self._path = pathlib.Path(path)
         self._path.write_text("")
         self._setup = self._setup_of(number, params, links, routes, again)
         self._run = _Run([], ["@ 0"], [], [], [])
@@ -136,6 +137,10 @@ class Recorded(deltat.Node):
         self._begun: dict[Flow, bytearray] = {}
         self._gaps: set[Flow] = set()
         super().__init__(number, params, links, routes, again, 0)
+        self._state = state
+
+    def _note(self, at: int) -> None:
+        super()._note(at + self._base)
 
     @staticmethod
     def _setup_of(number: int, params: Params, links: Sequence[Link], routes: Mapping[int, int], again: bool) -> list[str]:

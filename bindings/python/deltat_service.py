@@ -35,10 +35,13 @@ import time
 from collections import deque
 from collections.abc import AsyncIterator, Awaitable, Callable, Iterator, Mapping, Sequence
 from dataclasses import astuple, dataclass
-from typing import NamedTuple
+from typing import TYPE_CHECKING, NamedTuple
 
 import deltat
 from deltat import BadParameter, Counts, DeltatError, Flow, Full, KeptOut, Link, Message, NoMemory, OutFrame, Params, Spent, Status
+
+if TYPE_CHECKING:
+    from deltat import State
 
 __all__ = [
     "Answered", "AsyncCalls", "CallCounts", "Calls", "Cause", "Declined", "Doubtful", "Gone", "Happening", "Kind", "Limits", "Request", "Service",
@@ -217,17 +220,22 @@ class Service:
 
     def __init__(
         self, number: int, life: int, params: Params, links: Sequence[Link], routes: Mapping[int, int], again: bool = False,
-        at: int | None = None, limits: Limits = Limits(),
+        at: int | None = None, limits: Limits = Limits(), state: State | None = None,
     ) -> None:
-        """Opens it. `routes` has the link that leads to each node. BadParameter or NoMemory."""
-        self.number, self.life, self.params, self.limits = number, life, params, limits
+        """Opens it. `routes` has the link that leads to each node; `state` is its state folder, in place of `again`, and then
+        `life` is `state.life`. BadParameter, NoMemory or StateError; each call that hands something in may raise StateError
+        too, and then nothing was done."""
+        self.number, self.life, self.params, self.limits, self._state = number, life, params, limits, state
+        if state is not None and life != state.life:
+            raise BadParameter(f"the life is {life}; it must be that of the state, {state.life}")
+        again, at = deltat._start(state, number, params, again, at)
         size, align = _library.dt_service_size(), _library.dt_service_align()
         self._memory = ctypes.create_string_buffer(size + align)
         at_octet = ctypes.addressof(self._memory)
         self._handle = ctypes.c_void_p(at_octet + -at_octet % align)
         self._room = ctypes.create_string_buffer(deltat.MOST_SEND)
         _library.dt_service_init(self._handle)
-        self._open(links, routes, again, deltat.now() if at is None else at)
+        self._open(links, routes, again, at)
 
     def _open(self, links: Sequence[Link], routes: Mapping[int, int], again: bool, at: int) -> None:
         in_range = deltat._in_range
@@ -267,9 +275,9 @@ class Service:
         """Makes a call that ends within `patience` ms, 1 to 4,294,967,295, and returns its number. Declined, BadParameter or
         Spent; nothing of it was sent then. NoMemory: the node is closed, and the call may have been made: if it was,
         `happenings` tells its end."""
-        octets = bytes(payload)
+        octets, at = bytes(payload), self._noted(at)
         deltat._in_range(patience, 32, "the patience")
-        made = _library.dt_call(self._handle, deltat.now() if at is None else at, deltat._flow(flow), octets, len(octets), patience)
+        made = _library.dt_call(self._handle, at, deltat._flow(flow), octets, len(octets), patience)
         if made.status == Status.DONE:
             return made.number
         if made.status == Status.REFUSED:
@@ -281,8 +289,8 @@ class Service:
         """Replies to a request, once. Gone; or Full, and then it may be tried again (eight of the `free` octets are for its
         number); or BadParameter where it is too long; or Spent. NoMemory: the node is closed, and the reply may have been
         sent."""
-        octets = bytes(payload)
-        said = _library.dt_reply(self._handle, deltat.now() if at is None else at, _token(token), octets, len(octets))
+        octets, at = bytes(payload), self._noted(at)
+        said = _library.dt_reply(self._handle, at, _token(token), octets, len(octets))
         if said.status == Status.FULL:
             raise Full(said.free)
         if said.status == Status.REFUSED:
@@ -292,7 +300,7 @@ class Service:
 
     def forget(self, token: Token, at: int | None = None) -> None:
         """Gives a request up: it never has a reply. Gone."""
-        status = _library.dt_forget(self._handle, deltat.now() if at is None else at, _token(token))
+        status = _library.dt_forget(self._handle, self._noted(at), _token(token))
         self._raise(status)
         self._raise_gone(status, token)
 
@@ -333,13 +341,23 @@ class Service:
 
     def tick(self, at: int | None = None) -> None:
         """Does what is due."""
-        self._raise(_library.dt_service_tick(self._handle, deltat.now() if at is None else at))
+        at = deltat.now() if at is None else at
+        if self._state and (wake := self.wake) is not None and wake <= at:
+            self._noted(at)
+        self._raise(_library.dt_service_tick(self._handle, at))
+
+    def _noted(self, at: int | None) -> int:
+        """The moment of an input, which the state knows before it is done."""
+        at = deltat.now() if at is None else at
+        if self._state:
+            self._state.note_packet(at)
+        return at
 
     def arrive(self, link: int, datagram: bytes, waited: int = 0, at: int | None = None) -> Status:
         """Hands in a datagram, as `deltat.Node.arrive` does."""
-        octets = bytes(datagram)
+        octets, at = bytes(datagram), self._noted(at)
         came = _library.dt_service_arrive(
-            self._handle, deltat.now() if at is None else at, deltat._in_range(link, 16, "a link"), octets, len(octets), min(waited, 0xFFFFFFFF)
+            self._handle, at, deltat._in_range(link, 16, "a link"), octets, len(octets), min(waited, 0xFFFFFFFF)
         )
         self._raise(came.status)
         return Status(came.status)
