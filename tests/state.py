@@ -39,7 +39,7 @@ import tempfile
 import time
 from collections.abc import Iterator
 
-from lib import HOST, TOP, free_port, skip
+from lib import HOST, TOP, free_port, is_up, skip
 
 LIBRARY = TOP / "lib" / "libdeltat.so.0"
 if not LIBRARY.exists():
@@ -588,9 +588,10 @@ def loops(kills: bool) -> bool:
     name = "stopped" if kills else "loop"
     with tempfile.TemporaryDirectory() as folder:
         heard, environment = pathlib.Path(folder) / "heard", {**os.environ, "XDG_STATE_HOME": folder}
-        # a listener that was there before would be silent at first
         listening = listener(one, two, heard, environment)
-        time.sleep(1)
+        until = time.monotonic() + 20
+        while not is_up(int(two.split(":")[1])) and time.monotonic() < until:
+            time.sleep(0.05)
         begun, statuses = time.monotonic(), []
         for it in range(20):
             words = [sys.executable, CAT, one, two] + ["--linger", "60"] * kills
