@@ -1,6 +1,7 @@
 """Nodes that run while their tool does, over the library's Python module."""
 import argparse
 import contextlib
+import functools
 import pathlib
 import re
 import sys
@@ -50,10 +51,10 @@ def library() -> ModuleType:
     return deltat
 
 
-def recorded(path: str, *given: object) -> object:
+def recorded(path: str, *given: object, again: bool) -> object:
     """A node that keeps its run. OSError where nothing can be written there."""
     import deltat_record
-    return deltat_record.Recorded(path, *given)
+    return deltat_record.Recorded(path, *given, again=again)
 
 
 class Live:
@@ -66,8 +67,9 @@ class Live:
         self.params = self.deltat.Params(*astuple(chosen))
         # what a datagram waits at this machine is told and charged beside the link, so the link's charge hasn't it
         links = [self.deltat.Link(1, par.link_charge(hop, chosen) - par.SOCKET_WAIT)]
-        given = asked.own.node, self.params, links, {asked.peer.node: 1}, asked.again
-        node = recorded(asked.record, *given) if asked.record else self.deltat.Node(*given)
+        given = asked.own.node, self.params, links, {asked.peer.node: 1}
+        make = functools.partial(recorded, asked.record) if asked.record else self.deltat.Node
+        node = make(*given, again=asked.again)
         self.udp = self.deltat.Udp(node, (asked.own.host, asked.own.port), {asked.peer.node: (asked.peer.host, asked.peer.port)})
         self.flow = self.deltat.Flow(asked.own.node, asked.ports[0], asked.peer.node, asked.ports[1])
         self.taken = self.settled = self.uncertain = self.resent = 0
