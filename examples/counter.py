@@ -30,7 +30,7 @@ def answer(sums: dict[str, int], message: deltat.Message) -> str:
 
 async def serve(again: bool) -> None:
     sums: dict[str, int] = collections.Counter()
-    node = deltat.Node(2, PARAMS, [deltat.Link(1, CHARGE)], {1: 1}, again)
+    node = deltat.Node(2, PARAMS, [deltat.Link(1, CHARGE)], {1: 1}, again=again)
     async with deltat.AsyncUdp(node, ("127.0.0.1", 4002), {1: ("127.0.0.1", 4001)}) as udp:
         async for message in udp:
             await udp.send(message.flow.reversed(), answer(sums, message).encode())

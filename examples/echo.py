@@ -19,7 +19,7 @@ PARAMS = deltat.Params(mpl=482, r=450, a=5, rto=90, probe=180, seg=1442, cap=655
 
 def open_udp(number: int, again: bool) -> deltat.Udp:
     peers = {other: address for other, address in HOSTS.items() if other != number}
-    node = deltat.Node(number, PARAMS, [deltat.Link(1, charge=294)], {other: 1 for other in peers}, again)
+    node = deltat.Node(number, PARAMS, [deltat.Link(1, charge=294)], {other: 1 for other in peers}, again=again)
     return deltat.Udp(node, HOSTS[number], peers)
 
 

@@ -213,7 +213,8 @@ def with_nodes(top: pathlib.Path) -> list[tuple[str, bool]]:
     with deltat.State(top / "node", 1, PARAMS) as state:
         wrong = [lambda: deltat.Node(2, PARAMS, links, {2: 1}, state=state), lambda: deltat.Node(1, OTHER, links, {2: 1}, state=state)]
         found += [("a node with the state of another one", fails(deltat.StateError, "make a state", it)) for it in wrong]
-        found.append(("a node with both", fails(deltat.BadParameter, "not with both", lambda: deltat.Node(1, PARAMS, links, {2: 1}, True, state=state))))
+        both = lambda: deltat.Node(1, PARAMS, links, {2: 1}, again=True, state=state)  # noqa: E731
+        found.append(("a node with both", fails(TypeError, "more than one start", both)))
         node = deltat.Node(1, PARAMS, links, {2: 1}, state=state)
         node.send(FLOW, b"x")
     found.append(("a node whose state is closed", fails(deltat.StateError, "is closed", lambda: node.send(FLOW, b"x"))))
@@ -221,12 +222,12 @@ def with_nodes(top: pathlib.Path) -> list[tuple[str, bool]]:
     node.close()
     with deltat.State(top / "node", 1, PARAMS) as state:
         wrong = lambda: deltat_service.Service(1, 1, PARAMS, links, {2: 1}, state=state)  # noqa: E731
-        found.append(("a service with a life of its own", fails(deltat.BadParameter, "that of the state", wrong)))
-        service = deltat_service.Service(1, state.life, PARAMS, links, {2: 1}, state=state)
+        found.append(("a service with a life of its own", fails(TypeError, "a life is given", wrong)))
+        service = deltat_service.Service(1, None, PARAMS, links, {2: 1}, state=state)
         service.port(10, deltat_service.Kind.CALLER)
         found.append(("a service that is silent still", 0 < state.silence() <= QUIET and fails(deltat_service.Declined, "quiet", lambda: service.call(FLOW, b"x", 100))))
         time.sleep(state.silence() / 1000)
-        found.append(("and then calls", service.call(FLOW, b"x", 100) >> 32 == state.life == 2))
+        found.append(("and then calls", service.call(FLOW, b"x", 100) >> 32 == state.life == service.life == 2))
         service.close()
     return found
 
@@ -484,8 +485,9 @@ class World:
 
     def stop(self, number: int) -> None:
         state, node = self.nodes.pop(number)
+        if self.chance.random() < 0.5:
+            killed(state)
         node.close()
-        (deltat.State.close if self.chance.random() < 0.5 else killed)(state)
         self.opens[number] = self.now + self.chance.choice((0, 1, 10, 30, 60, 100, 2 * QUIET))
         if number == 1:
             self.open.clear()
@@ -640,13 +642,13 @@ def fresh() -> bool:
     heard = []
     ports = free_port(), free_port()
     usual = deltat.Params(mpl=102, r=195, a=2, rto=39, probe=78, seg=1442, cap=65536, rcap=65536, window=65536)
-    server = deltat.Node(2, usual, [deltat.Link(1, 74)], {}, True)
+    server = deltat.Node(2, usual, [deltat.Link(1, 74)], {}, again=True)
     begun = time.monotonic()
     with deltat.Udp(server, (HOST, ports[1]), {1: (HOST, ports[0])}) as udp:
         udp.settle(usual.quiet / 1000)
         for it in range(20):
             number = deltat.fresh_number()
-            node = deltat.Node(number, usual, [deltat.Link(1, 74)], {2: 1})
+            node = deltat.Node(number, usual, [deltat.Link(1, 74)], {2: 1}, again=False)
             with deltat.Udp(node, (HOST, ports[0]), {2: (HOST, ports[1])}) as client:
                 client.send(deltat.Flow(number, 10, 2, 20), b"%d" % it)
                 until, is_settled = time.monotonic() + 2, False

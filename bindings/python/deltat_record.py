@@ -1,6 +1,6 @@
 """A node that keeps what it took in, so that its run can be run again.
 
-    node = deltat_record.Recorded("run.txt", 2, params, links, routes)
+    node = deltat_record.Recorded("run.txt", 2, params, links, routes, again=True)
     ...
     node.close()
 
@@ -17,7 +17,7 @@ from __future__ import annotations
 import contextlib
 import pathlib
 import time
-from collections.abc import Iterator, Mapping, Sequence
+from collections.abc import Callable, Iterator, Mapping, Sequence
 from dataclasses import dataclass
 
 import deltat
@@ -49,7 +49,7 @@ def _fault(octets: bytes) -> str:
 _FAULTS = ("", "short", "version", "length", "dead", "protocol", "kind", "flags", "window", "size")
 
 # what stands behind the moment and the node, of each kind but PUT, which may have `unsent` behind it
-_WORDS = {
+_WORDS: dict[Kind, Callable[[Report], str]] = {
     Kind.TOOK: lambda it: f"took {it.flow} {it.count}",
     Kind.TOLD_QUIET: lambda it: f"refused {it.flow} quiet {it.moment}",
     Kind.TOLD_FULL: lambda it: f"refused {it.flow} full {it.count}",
@@ -118,29 +118,32 @@ class Recorded(deltat.Node):
     _TELL_OF_FLOWS = (Kind.ACCEPTED,)
 
     def __init__(
-        self, path: str | pathlib.Path, number: int, params: Params, links: Sequence[Link], routes: Mapping[int, int], again: bool = False,
-        at: int | None = None, state: deltat.State | None = None,
+        self, path: str | pathlib.Path, number: int, params: Params, links: Sequence[Link], routes: Mapping[int, int], *,
+        again: bool | None = None, state: deltat.State | None = None, at: int | None = None,
     ) -> None:
-        """Opens the node. BadParameter, NoMemory or StateError; OSError where nothing can be written there."""
+        """Opens the node, as a `Node`. TypeError, BadParameter, NoMemory or StateError; OSError if nothing can be written
+        there. Moments count from the start that a state knows, if there is one."""
         strange = [it.number for it in links if it.number > 255]
         if strange:
             raise deltat.BadParameter(f"a link of a node that records is {strange[0]}, which is above 255")
-        again, self._base = deltat._start(state, number, params, again, at)
-        self._path = pathlib.Path(path)
+        self._path, self._base = pathlib.Path(path), deltat.now() if at is None else at
         self._path.write_text("")
-        self._setup = self._setup_of(number, params, links, routes, again)
         self._run = _Run([], ["@ 0"], [], [], [])
         # the run up to where the record was full, and the moment of its stop
         self._kept: tuple[_Run, int] | None = None
-        self._left = MOST - sum(len(it) + 1 for it in self._setup)
         self._turn, self._event_at, self._handed, self._is_closed = _Turn(0, True), 0, 0, False
         self._begun: dict[Flow, bytearray] = {}
         self._gaps: set[Flow] = set()
-        super().__init__(number, params, links, routes, again, 0)
-        self._state = state
+        super().__init__(number, params, links, routes, again=again, state=state, at=0)
+        self._setup = self._setup_of(number, params, links, routes, self._is_again)
+        self._left = MOST - sum(len(it) + 1 for it in self._setup)
 
-    def _note(self, at: int) -> None:
-        super()._note(at + self._base)
+    def _begun_at(self, at: int | None) -> int:
+        self._base = super()._begun_at(self._base)
+        return 0
+
+    def _note(self, state: deltat.State, moment: int) -> None:
+        super()._note(state, moment + self._base)
 
     @staticmethod
     def _setup_of(number: int, params: Params, links: Sequence[Link], routes: Mapping[int, int], again: bool) -> list[str]:
