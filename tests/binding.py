@@ -25,6 +25,7 @@ In tests/all: no words, 300 s."""
 from __future__ import annotations
 
 import asyncio
+import contextlib
 import dataclasses
 import hashlib
 import heapq
@@ -37,6 +38,7 @@ import sys
 import tempfile
 import threading
 import time
+from collections.abc import Iterator
 
 from lib import HOST, PROGRAM, TOP, Between, bound, free_port, skip
 
@@ -516,12 +518,19 @@ def recorded() -> bool:
     return right and came > 20
 
 
+@contextlib.contextmanager
+def anew() -> Iterator[dict[str, str]]:
+    """The environment of nodes that never ran before."""
+    with tempfile.TemporaryDirectory() as folder:
+        yield {**os.environ, "XDG_STATE_HOME": folder}
+
+
 def asked(service: list[str]) -> bool:
     """Whether a service of the examples answers."""
-    with subprocess.Popen(service, stdout=subprocess.DEVNULL) as it:
+    with anew() as places, subprocess.Popen(service, stdout=subprocess.DEVNULL, env=places) as it:
         time.sleep(0.7)
         client = [sys.executable, str(TOP / "examples" / "echo.py"), "ask", "hello", "world"]
-        ran = subprocess.run(client, capture_output=True, text=True, timeout=20)
+        ran = subprocess.run(client, capture_output=True, text=True, timeout=20, env=places)
         it.kill()
     if ran.stdout != "olleh\ndlrow\n":
         print(f"examples: {service} was asked, and the answer was {ran.stdout!r} {ran.stderr[-200:]!r}")
@@ -530,10 +539,10 @@ def asked(service: list[str]) -> bool:
 
 def counted(service: list[str]) -> bool:
     """Whether a service of the examples that keeps sums answers what tools/dtcat.py sends."""
-    with subprocess.Popen(service, stdout=subprocess.DEVNULL) as it:
+    with anew() as places, subprocess.Popen(service, stdout=subprocess.DEVNULL, env=places) as it:
         time.sleep(0.7)
         client = [sys.executable, str(TOP / "tools" / "dtcat.py"), "1@4001", "2@4002", "--linger", "1"]
-        ran = subprocess.run(client, input="apples 3\npears 5\napples 4\n", capture_output=True, text=True, timeout=20)
+        ran = subprocess.run(client, input="apples 3\npears 5\napples 4\n", capture_output=True, text=True, timeout=20, env=places)
         it.kill()
     if ran.stdout != "apples 3\npears 5\napples 7\n":
         print(f"examples: {service} was asked, and the answer was {ran.stdout!r} {ran.stderr[-200:]!r}")

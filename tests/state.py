@@ -232,10 +232,19 @@ def with_nodes(top: pathlib.Path) -> list[tuple[str, bool]]:
     return found
 
 
+def documented() -> list[tuple[str, bool]]:
+    """The files that docs/formats.md shows are what this module reads and writes."""
+    shown = re.findall(r"^```example\n(deltat .*?)```$", (TOP / "docs" / "formats.md").read_text(), re.MULTILINE | re.DOTALL)
+    texts = {it.split()[1]: it.encode() for it in shown}
+    kept = deltat_state._Kept.read(texts.get("state", b""))
+    last = deltat_state._groups(deltat_state._LAST, texts.get("last", b""))
+    return [("the page's `state`", kept is not None and kept.octets() == texts["state"]), ("the page's `last`", last is not None and len(texts["last"]) == 125)]
+
+
 def answers() -> bool:
     with tempfile.TemporaryDirectory() as folder:
         top = pathlib.Path(folder)
-        found = [*starts(top / "a" / "b"), *damages(top), *refusals(top), *with_nodes(top)]
+        found = [*starts(top / "a" / "b"), *damages(top), *refusals(top), *with_nodes(top), *documented()]
     wrong = [name for name, holds in found if not holds]
     print(f"answers: {len(found) - len(wrong)} of {len(found)} hold" + "".join(f"\n  wrong: {it}" for it in wrong))
     return not wrong

@@ -52,17 +52,18 @@ from pathlib import Path
 from typing import TYPE_CHECKING, Any, NamedTuple, Self
 
 if TYPE_CHECKING:
-    from deltat_state import State, StateError, fresh_number
+    from deltat_state import State, StateError, fresh_number, usual_folder
 
 __all__ = [
     "AnyNode", "AsyncUdp", "BadParameter", "Counts", "DeltatError", "Flow", "Forked", "Full", "KeptOut", "Kind", "Link", "Message", "NoMemory", "Node",
     "OutFrame", "Params", "Piece", "Quiet", "Report", "Spent", "State", "StateError", "Status", "Totals", "Udp", "fresh_number", "now",
+    "usual_folder",
 ]
 
 
 def __getattr__(name: str) -> object:
     """What deltat_state.py has, which stands on this module."""
-    if name in ("State", "StateError", "fresh_number"):
+    if name in ("State", "StateError", "fresh_number", "usual_folder"):
         import deltat_state
         return getattr(deltat_state, name)
     raise AttributeError(f"module 'deltat' has no attribute {name!r}")

@@ -13,8 +13,8 @@ life had. Nobody but the program can keep both in mind, and a program that is ki
 
 That moment is written ahead of time, so a program that is killed at any instruction leaves one that is late enough.
 docs/formats.md has the form of the files; the tools and `tools/run-node` keep the same ones. This module is tested
-(`tests/state.py`), and not proved. Programs reach it as `deltat.State`, `deltat.StateError` and
-`deltat.fresh_number`."""
+(`tests/state.py`), and not proved. Programs reach it as `deltat.State`, `deltat.StateError`, `deltat.fresh_number` and
+`deltat.usual_folder`."""
 
 from __future__ import annotations
 
@@ -32,7 +32,7 @@ from pathlib import Path
 import deltat
 from deltat import BadParameter, DeltatError, Params
 
-__all__ = ["State", "StateError", "fresh_number"]
+__all__ = ["State", "StateError", "fresh_number", "usual_folder"]
 
 _LOG = logging.getLogger("deltat")
 _STATE = re.compile(
@@ -59,6 +59,13 @@ def fresh_number() -> int:
     no state folder and no silence. Where n numbers of that range are in use, or were within the last quiet time, it is
     one of these by a chance of n in 4,294,901,760; docs/premises.md has a table."""
     return _FIRST_FRESH + secrets.randbelow((1 << 32) - _FIRST_FRESH)
+
+
+def usual_folder(program: str, node: int) -> Path:
+    """A place for the state folder of a node that a user starts: $XDG_STATE_HOME/PROGRAM/NODE, or
+    ~/.local/state/PROGRAM/NODE. A service has one below /var/lib."""
+    home = Path(os.environ.get("XDG_STATE_HOME") or "")
+    return (home if home.is_absolute() else Path.home() / ".local" / "state") / program / str(node)
 
 
 # --- the machine

@@ -1,7 +1,6 @@
 """Nodes that run while their tool does, over the library's Python module."""
 import argparse
 import contextlib
-import os
 import pathlib
 import re
 import sys
@@ -63,12 +62,6 @@ def recorded(path: str, *given: object, state: object) -> object:
     return deltat_record.Recorded(path, *given, state=state)
 
 
-def usual_folder(node: int) -> pathlib.Path:
-    """Where the state of a node is that nobody gave a place."""
-    home = pathlib.Path(os.environ.get("XDG_STATE_HOME") or "")
-    return (home if home.is_absolute() else pathlib.Path.home() / ".local" / "state") / "deltat" / str(node)
-
-
 class Live:
     """The node of a tool, its socket, and what its flow has sent."""
 
@@ -81,7 +74,7 @@ class Live:
         # what a datagram waits at this machine is told and charged beside the link, so the link's charge hasn't it
         links = [self.deltat.Link(1, par.link_charge(hop, chosen) - par.SOCKET_WAIT)]
         # whoever says other delays has changed the parameters at both ends
-        folder = asked.state or usual_folder(asked.own.node)
+        folder = asked.state or self.deltat.usual_folder("deltat", asked.own.node)
         self.state = self.deltat.State(folder, asked.own.node, self.params, again=asked.again, changed=True)
         try:
             given = asked.own.node, self.params, links, {asked.peer.node: 1}
