@@ -182,7 +182,7 @@ class State:
     `again`: whether the node may have had an earlier life; `life`: the number of this one, which no earlier one had;
     `why`: in words, what the answer rests on. They are on the disk when the constructor returns.
 
-    Use one state for one opening of one node, and close the node before the state. It costs two syncs of the disk at
+    A state is for one opening of one node, which closes it when it is closed itself. It costs two syncs of the disk at
     its making, and a short write without one each quarter of the quiet time while datagrams leave or arrive."""
 
     def __init__(
