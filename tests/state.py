@@ -228,8 +228,26 @@ def with_nodes(top: pathlib.Path) -> list[tuple[str, bool]]:
         found.append(("a service that is silent still", 0 < state.silence() <= QUIET and fails(deltat_service.Declined, "quiet", lambda: service.call(FLOW, b"x", 100))))
         time.sleep(state.silence() / 1000)
         found.append(("and then calls", service.call(FLOW, b"x", 100) >> 32 == state.life == service.life == 2))
+        service.raise_life(state.next_life())
+        found.append(("by another life", service.call(FLOW, b"x", 100) >> 32 == 3 and "life 3\n" in (top / "node" / "state").read_text()))
         service.close()
     return found
+
+
+def unwritable(top: pathlib.Path) -> list[tuple[str, bool]]:
+    """A disk on which nothing can be written any more."""
+    begun = f"""import os, resource, signal, sys, time; sys.path.insert(0, {str(TOP / 'bindings' / 'python')!r}); import deltat
+def full(): signal.signal(signal.SIGXFSZ, signal.SIG_IGN); resource.setrlimit(resource.RLIMIT_FSIZE, (0, 0))
+params, folder = deltat.{PARAMS!r}, {str(top / 'full')!r}
+"""
+    after = begun + """state = deltat.State(folder, 1, params); node = deltat.Node(1, params, [deltat.Link(1, 10)], {2: 1}, state=state); full(); time.sleep(0.01)
+try: node.send(deltat.Flow(1, 1, 2, 1), b"x")
+except deltat.StateError as why: print(why, len(list(node.frames())), "frames")
+"""
+    before = begun + "full()\ntry: deltat.State(folder, 1, params)\nexcept OSError as why: print(type(why).__name__)"
+    told = [subprocess.run([sys.executable, "-c", it], capture_output=True, text=True, timeout=30).stdout for it in (after, before)]
+    right = "last can't be written" in told[0] and told[0].endswith(" 0 frames\n")
+    return [("a disk that is full: nothing is sent", right), ("a disk that is full: nothing starts", told[1] == "OSError\n")]
 
 
 def documented() -> list[tuple[str, bool]]:
@@ -244,7 +262,7 @@ def documented() -> list[tuple[str, bool]]:
 def answers() -> bool:
     with tempfile.TemporaryDirectory() as folder:
         top = pathlib.Path(folder)
-        found = [*starts(top / "a" / "b"), *damages(top), *refusals(top), *with_nodes(top), *documented()]
+        found = [*starts(top / "a" / "b"), *damages(top), *refusals(top), *with_nodes(top), *unwritable(top), *documented()]
     wrong = [name for name, holds in found if not holds]
     print(f"answers: {len(found) - len(wrong)} of {len(found)} hold" + "".join(f"\n  wrong: {it}" for it in wrong))
     return not wrong

@@ -94,6 +94,12 @@ def _clock() -> int | None:
     return int(found[1]) * 1_000_000_000 + int(found[2]) if found else None
 
 
+def _time() -> tuple[str, int]:
+    """By which boot and clock this process reads the time. (No boot, if either can't be known.)"""
+    clock = _clock()
+    return (_NO_BOOT, 0) if clock is None else (_boot(), clock)
+
+
 # --- files
 
 
@@ -204,7 +210,7 @@ class State:
             raise BadParameter(f"the node is {node}; it must be from 0 to 4294967295")
         params.fingerprint  # BadParameter where one is out of its range
         self.folder, self.node, self.params = Path(os.path.abspath(folder)), node, params
-        self._pid = os.getpid()
+        self._pid, self._time = os.getpid(), _time()
         self._ahead = max(params.quiet // 4, _LEAST_AHEAD)
         self._kept = _Kept(node, tuple(astuple(params)), 0)
         self._files: list[int] = []
@@ -322,7 +328,7 @@ class State:
             self._warn("the file last is damaged")
             return "the file last is damaged"
         boot, clock, until = found[0], int(found[1]), int(found[2])
-        if boot == _NO_BOOT or (boot, clock) != (_boot(), _clock()):
+        if boot == _NO_BOOT or (boot, clock) != self._time:
             return "the last life was before the machine started, or by another clock"
         if kept.numbers == self._kept.numbers:
             self._ended = self._until = until
@@ -391,9 +397,8 @@ class State:
         self._promise(now + self._ahead)
 
     def _promise(self, until: int) -> None:
-        clock = _clock()
-        boot = _NO_BOOT if clock is None else _boot()
-        octets = _checked(f"deltat last 1\nboot {boot}\nclock {clock or 0:+020d}\nuntil {until:020d}\n")
+        boot, clock = self._time
+        octets = _checked(f"deltat last 1\nboot {boot}\nclock {clock:+020d}\nuntil {until:020d}\n")
         try:
             # In place and without a sync: what a process wrote outlives it, and after another start of the machine
             # the file isn't believed.
