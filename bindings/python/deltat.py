@@ -66,8 +66,8 @@ LATE = 20
 MOST_BUSY, RETRY = 5, 50
 """After how many milliseconds of other work a loop of asyncio looks into the socket between two calls, and tries again
 whether a flow has room."""
-MOST_AT_ONCE = 256
-"""So many datagrams are taken in one after another before the program goes on."""
+MOST_AT_ONCE, MOST_UNFLUSHED = 256, 16
+"""So many datagrams are taken in one after another before the program goes on, and before what leaves goes on the wire."""
 MOST_FLOWS = 4_096
 """So many flows have a receiver at the most, by the guard that a socket makes."""
 MOST_REPORTS = 10_000
@@ -946,6 +946,7 @@ class Udp:
         handles all that came and is due, and returns the messages that are whole now. NoMemory or Spent."""
         self._wait(self._selector, timeout)
         with self._lock:
+            self._check()
             self._receive()
             at = now()
             self.node.tick(at)
@@ -953,10 +954,14 @@ class Udp:
             self.flush(at)
         return found
 
-    def _wait(self, selector: selectors.BaseSelector, timeout: float | None) -> None:
-        wake = self.node.wake
+    def _check(self) -> None:
+        """Spent if the socket is closed."""
         if self.is_closed:
             raise Spent(f"node {self.node.number} is closed")
+
+    def _wait(self, selector: selectors.BaseSelector, timeout: float | None) -> None:
+        wake = self.node.wake
+        self._check()
         # (a node that was called late may tell a moment that is past, at which nothing is due)
         wait = None if wake is None else max(wake - now(), 1) / 1000
         if timeout is not None:
@@ -966,6 +971,7 @@ class Udp:
     def _turn(self) -> set[int]:
         """Handles all that came and is due, but for messages; returns the nodes from which something came."""
         with self._lock:
+            self._check()
             heard = self._receive()
             at = now()
             self.node.tick(at)
@@ -974,8 +980,9 @@ class Udp:
 
     def _receive(self) -> set[int]:
         """Hands in what waits in the socket, up to 256 datagrams, and returns the nodes that made them. The clocks are read
-        before each look: at that moment, and not when the look has found nothing, the socket was empty."""
-        heard = set()
+        before each look: at that moment, and not when the look has found nothing, the socket was empty. What leaves goes on
+        the wire when some datagrams were taken in, or some milliseconds have passed."""
+        heard, since, count = set(), None, 0
         for _ in range(MOST_AT_ONCE):
             looked, wall = now(), _wall()
             try:
@@ -996,7 +1003,12 @@ class Udp:
             elif status is Status.KEPT_OUT and status not in self._said:
                 self._said.add(status)
                 _log.warning("node %d: the guard kept a datagram from %s out, for a port without a reader or of one flow too many: see kept_out(), guard()", self.node.number, address)
-            self.flush(at)
+            since, count = at if since is None else since, count + 1
+            if count == MOST_UNFLUSHED or at - since >= MOST_BUSY:
+                self.flush(since)
+                since, count = None, 0
+        if since is not None:
+            self.flush(since)
         self._looked_at = now()
         return heard
 
