@@ -659,12 +659,17 @@ ECHO = """
 async def main():
     node = service.Service(2, 1, PARAMS, LINKS, {1: 1}, again=False, limits=service.Limits(10, 4000, 4000))
     node.port(20, service.Kind.SERVICE)
+    node.port(21, service.Kind.SERVICE)
     async with deltat.AsyncUdp(node, (HOST, int(words[0])), {1: (HOST, int(words[1]))}) as udp:
         calls = service.AsyncCalls(udp)
 
         @calls.on(20)
         async def echo(request):
             return request.payload
+
+        @calls.on(21)
+        async def never(request):
+            await asyncio.sleep(1000)
 
         print("ready", flush=True)
         await calls.run()
@@ -691,6 +696,35 @@ async def call_on(udp: deltat.AsyncUdp, seconds: float, tasks: int) -> tuple[int
     begun = time.process_time()
     await asyncio.gather(*(one(it) for it in range(tasks)))
     return ends[0], ends[1], time.process_time() - begun
+
+
+async def cost_of(calls: service.AsyncCalls, waiting: int) -> float:
+    """What one of 150 calls one after another costs, in seconds of a processor, while so many others wait."""
+    others = [asyncio.ensure_future(calls.call(deltat.Flow(1, 11, 2, 21), b"", 60.0)) for _ in range(waiting)]
+    await asyncio.sleep(1)
+    begun = time.process_time()
+    for number in range(150):
+        holds(await calls.call(CALL, b"%d" % number, 10.0) == b"%d" % number, "another answer")
+    took = (time.process_time() - begun) / 150
+    for it in others:
+        it.cancel()
+    return took
+
+
+def others_wait() -> None:
+    """900 calls wait, and others are made: a datagram for these wakes none of the 900"""
+    ports = own_port(), own_port()
+
+    async def main() -> tuple[float, float]:
+        async with deltat.AsyncUdp(caller_of(1, 2, 2000), (HOST, ports[1]), {2: (HOST, ports[0])}) as udp:
+            calls = service.AsyncCalls(udp)
+            return await cost_of(calls, 0), await cost_of(calls, 900)
+
+    with process(ECHO, *ports) as it:
+        holds(line_of(it) == "ready", "the service doesn't begin")
+        alone, beside = asyncio.run(main())
+    print(f"  a call costs {1e6 * alone:.0f} us of a processor, and {1e6 * beside:.0f} us while 900 wait", flush=True)
+    holds(beside < 5 * alone, "it costs as much as the others")
 
 
 def many_calls() -> None:
@@ -789,7 +823,7 @@ def guards() -> None:
 
 CASES = [
     again_is_said, state_is_asked, forked, forked_loop, dropped, descriptors, longer_than_cap, units, octets_alone, given_up_is_kept, other_link, slow_clock,
-    bad_replies, two_over_one, closed_loops, slow_functions, blocked_loop, many_calls, flood, guards,
+    bad_replies, two_over_one, closed_loops, slow_functions, blocked_loop, others_wait, many_calls, flood, guards,
 ]
 
 
