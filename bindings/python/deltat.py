@@ -555,8 +555,8 @@ class State(Protocol):
 
 
 _CHOOSE = (
-    "say again=True if this node number may have been in use less than params.quiet ms ago (as in each program that may "
-    "be started anew), "
+    "say again=True if this node number may have been in use less than params.quiet ms ago (as in each program that "
+    "may be started anew), "
     "again=False only if it never was, or state=, which keeps that in a folder; exactly one of the two"
 )
 
@@ -643,8 +643,8 @@ class AnyNode:
         """The node's memory; Forked in another process than the one that opened it."""
         if self._owner != os.getpid():
             raise Forked(
-                f"node {self.number} was opened by process {self._owner}, and this is a forked child of it: open a node "
-                f"of another number here"
+                f"node {self.number} was opened by process {self._owner}, and this is a forked child of it: open a "
+                f"node of another number here"
             )
         return self._address
 
@@ -860,8 +860,8 @@ class Node(AnyNode):
         octets = _octets(octets)
         if not 0 < len(octets) <= self.params.cap:
             raise BadParameter(
-                f"a send on {flow} has {len(octets)} octets; 1 to {self.params.cap} fit (cap): send a longer message in "
-                f"parts, with begin and end"
+                f"a send on {flow} has {len(octets)} octets; 1 to {self.params.cap} fit (cap): send a longer message "
+                f"in parts, with begin and end"
             )
         sent = _library.dt_send(self._handle, now() if at is None else at, _flow(flow), octets, len(octets), begin, end)
         self._raise(sent.status)
@@ -1011,8 +1011,8 @@ class Udp:
         if link not in own:
             known = ", ".join(map(str, sorted(own))) or "none"
             raise BadParameter(
-                f"peer {peer}: its link is {'not named' if link is None else link}, and node {self.node.number} has the "
-                f"links {known}: name one of these in `routes`"
+                f"peer {peer}: its link is {'not named' if link is None else link}, and node {self.node.number} has "
+                f"the links {known}: name one of these in `routes`"
             )
         return link
 
@@ -1177,6 +1177,7 @@ class Udp:
         """While its block runs, and has done so for 10 ms or more, another thread does what came and is due: so what
         takes long doesn't hold the node up. Messages and requests wait for the program. In the block only calls of the
         socket and of its `Calls` are made, and none of the node itself."""
+        self.node._handle  # Forked, in a child
         with self._lock:
             self._depth += 1
             self._begun += 1
@@ -1345,7 +1346,7 @@ class AsyncUdp:
             self._arm_soon()
 
     def _arm_soon(self) -> None:
-        """The timer is set once each time the loop goes round."""
+        """Once each time the loop goes round, what was told is taken and the timer is set."""
         if not self._is_arming:
             self._is_arming = True
             self._loop.call_soon(self._arm)
@@ -1354,6 +1355,9 @@ class AsyncUdp:
         self._is_arming = False
         if self._failure or self.udp.is_closed:
             return
+        # (what was done since the last turn may have told something: a reply makes room for the next request)
+        for taker in self._takers:
+            taker()
         wake = self.node.wake
         # a timer that goes off too early arms itself again
         if wake is None or self._timer and self._armed_for <= wake:

@@ -514,9 +514,12 @@ class Calls:
         two of them the node waits for the program: what takes long is done in `with udp.background()`."""
         while True:
             end = None if seconds is None else time.monotonic() + seconds
+            if self.udp.is_closed:
+                self.node.wake  # Forked, in a child
+                return
             if deltat.now() - self.udp._looked_at > deltat.MOST_BUSY:
                 # of many requests that wait each may take its time: the node isn't left alone for so long
-                self._poll(0)
+                self._look()
             while (request := self._desk.next_request(self._line)) is None:
                 left = None if end is None else end - time.monotonic()
                 if left is not None and left <= 0:
@@ -581,6 +584,12 @@ class Calls:
             at = deltat.now()
             self.node.forget(token, at)
             self.udp.flush(at)
+
+    def _look(self) -> None:
+        """Does what came and is due, and takes what was told. Nothing if the socket is closed."""
+        with contextlib.suppress(Spent):
+            self.udp.poll(0)
+        self._take()
 
     def _poll(self, seconds: float | None) -> None:
         """Takes what was told; if nothing was, waits for it."""
@@ -659,7 +668,7 @@ class AsyncCalls:
         """The requests that come, until the socket is closed. NoMemory."""
         while True:
             self._came.clear()
-            while request := self._desk.next_request(self._line):
+            while not self.udp._failure and (request := self._desk.next_request(self._line)):
                 yield request
             if self.udp._failure:
                 if not self.udp.udp.is_closed:
@@ -694,16 +703,15 @@ class AsyncCalls:
             if reply is not None:
                 await self.reply(token, reply)
                 is_replied = True
-        except Spent:
-            # the node was closed while the function was at work
-            is_replied = True
         except Exception:
-            _log.exception(
-                "node %d: request %d of %s has no reply: it is forgotten, and its caller will be unsure",
-                self.node.number,
-                token.number,
-                token.flow,
-            )
+            # (not if the node was closed while the function was at work)
+            if not self.udp._failure:
+                _log.exception(
+                    "node %d: request %d of %s has no reply: it is forgotten, and its caller will be unsure",
+                    self.node.number,
+                    token.number,
+                    token.flow,
+                )
         finally:
             if not is_replied:
                 self._forget(token)
