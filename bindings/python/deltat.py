@@ -25,8 +25,8 @@ before is opened with `again=True`: it is silent first, for `Params.quiet` ms. S
             await udp.send(message.flow.reversed(), message.octets[::-1])
 
 A node and its socket are used by one thread at a time, and by the process that opened the node: in a forked child each
-call raises `Forked`. Moments, and parameters whose names end in `_ms`, are in ms; timeouts are in seconds. What a program
-should look at is logged by the logger `deltat`. The library is looked for at DELTAT_LIBRARY, if that is set,
+call raises `Forked`. Moments, and parameters whose names end in `_ms`, are in ms; timeouts are in seconds. What a
+program should look at is logged by the logger `deltat`. The library is looked for at DELTAT_LIBRARY, if that is set,
 then as `libdeltat.so.0` beside this file, in lib/ of the clone that has it, and in the system's places."""
 
 from __future__ import annotations
@@ -55,8 +55,33 @@ if TYPE_CHECKING:
     from deltat_state import State, StateError, fresh_number, usual_folder
 
 __all__ = [
-    "AnyNode", "AsyncUdp", "BadParameter", "Counts", "DeltatError", "Flow", "Forked", "Full", "KeptOut", "Kind", "Link", "Message", "NoMemory", "Node",
-    "OutFrame", "Params", "Piece", "Quiet", "Report", "Spent", "State", "StateError", "Status", "Totals", "Udp", "fresh_number", "now",
+    "AnyNode",
+    "AsyncUdp",
+    "BadParameter",
+    "Counts",
+    "DeltatError",
+    "Flow",
+    "Forked",
+    "Full",
+    "KeptOut",
+    "Kind",
+    "Link",
+    "Message",
+    "NoMemory",
+    "Node",
+    "OutFrame",
+    "Params",
+    "Piece",
+    "Quiet",
+    "Report",
+    "Spent",
+    "State",
+    "StateError",
+    "Status",
+    "Totals",
+    "Udp",
+    "fresh_number",
+    "now",
     "usual_folder",
 ]
 
@@ -79,9 +104,10 @@ LATE = 20
 MOST_BUSY, RETRY = 5, 50
 """After how many milliseconds of other work a loop of asyncio looks into the socket between two calls, and tries again
 whether a flow has room."""
-MOST_AT_ONCE = 256
-"""So many datagrams are taken in one after another before the program goes on."""
-MOST_FLOWS = 4_096
+MOST_AT_ONCE, MOST_UNFLUSHED = 256, 16
+"""So many datagrams are taken in one after another before the program goes on, and before what leaves goes on the
+wire."""
+MOST_FLOWS = 1_024
 """So many flows have a receiver at the most, by the guard that a socket makes."""
 MOST_REPORTS = 10_000
 RECEIVE_BUFFER = 2_097_152
@@ -141,13 +167,14 @@ class Kind(enum.IntEnum):
 
 
 class DeltatError(Exception):
-    """What a node refuses. But for NoMemory, and `deltat_service.Unsure`, nothing was sent or read by the call that raised it."""
+    """What a node refuses. But for NoMemory, and `deltat_service.Unsure`, nothing was sent or read by the call that
+    raised it."""
 
 
 class NoMemory(DeltatError):
-    """The library found no memory, and a first part of the call may have been done: of a send its octets may have been taken. A
-    node that raised this is spent, or is to be taken as spent: close it, and open it `again`. Only `guard`, `add_route` and
-    `follow`, and `port` of a service, changed nothing, and the node goes on."""
+    """The library found no memory, and a first part of the call may have been done: of a send its octets may have been
+    taken. A node that raised this is spent, or is to be taken as spent: close it, and open it `again`. Only `guard`,
+    `add_route` and `follow`, and `port` of a service, changed nothing, and the node goes on."""
 
 
 class Spent(DeltatError):
@@ -187,8 +214,10 @@ class _Params(ctypes.Structure):
 
 class _Flow(ctypes.Structure):
     _fields_ = [
-        ("source", ctypes.c_uint32), ("target", ctypes.c_uint32),
-        ("source_port", ctypes.c_uint16), ("target_port", ctypes.c_uint16),
+        ("source", ctypes.c_uint32),
+        ("target", ctypes.c_uint32),
+        ("source_port", ctypes.c_uint16),
+        ("target_port", ctypes.c_uint16),
     ]
 
 
@@ -218,20 +247,29 @@ class _Came(ctypes.Structure):
 
 class _Out(ctypes.Structure):
     _fields_ = [
-        ("len", ctypes.c_size_t), ("to", ctypes.c_uint32), ("link", ctypes.c_uint16), ("status", ctypes.c_uint8),
+        ("len", ctypes.c_size_t),
+        ("to", ctypes.c_uint32),
+        ("link", ctypes.c_uint16),
+        ("status", ctypes.c_uint8),
     ]
 
 
 class _Piece(ctypes.Structure):
     _fields_ = [
-        ("len", ctypes.c_size_t), ("status", ctypes.c_uint8),
-        ("begin", ctypes.c_bool), ("end", ctypes.c_bool), ("run", ctypes.c_bool),
+        ("len", ctypes.c_size_t),
+        ("status", ctypes.c_uint8),
+        ("begin", ctypes.c_bool),
+        ("end", ctypes.c_bool),
+        ("run", ctypes.c_bool),
     ]
 
 
 class _Message(ctypes.Structure):
     _fields_ = [
-        ("flow", _Flow), ("len", ctypes.c_size_t), ("too_long", ctypes.c_uint64), ("status", ctypes.c_uint8),
+        ("flow", _Flow),
+        ("len", ctypes.c_size_t),
+        ("too_long", ctypes.c_uint64),
+        ("status", ctypes.c_uint8),
         ("gap", ctypes.c_bool),
     ]
 
@@ -241,11 +279,15 @@ class _KeptOut(ctypes.Structure):
 
 
 class _Counts(ctypes.Structure):
-    _fields_ = [(name, ctypes.c_uint64) for name in "came refused left taken settled uncertain accepted read".split()] + [("status", ctypes.c_uint8)]
+    _fields_ = [
+        (name, ctypes.c_uint64) for name in "came refused left taken settled uncertain accepted read".split()
+    ] + [("status", ctypes.c_uint8)]
 
 
 class _Totals(ctypes.Structure):
-    _fields_ = [(name, ctypes.c_uint64) for name in "taken settled uncertain accepted read".split()] + [("status", ctypes.c_uint8)]
+    _fields_ = [(name, ctypes.c_uint64) for name in "taken settled uncertain accepted read".split()] + [
+        ("status", ctypes.c_uint8)
+    ]
 
 
 class _Fingerprint(ctypes.Structure):
@@ -258,16 +300,29 @@ class _Moment(ctypes.Structure):
 
 class _Report(ctypes.Structure):
     _fields_ = [
-        ("flow", _Flow), ("moment", ctypes.c_uint64), ("number", ctypes.c_uint32), ("count", ctypes.c_uint32),
-        ("window", ctypes.c_uint32), ("status", ctypes.c_uint8), ("kind", ctypes.c_uint8),
-        ("begin", ctypes.c_bool), ("end", ctypes.c_bool), ("run", ctypes.c_bool), ("sending", ctypes.c_bool),
+        ("flow", _Flow),
+        ("moment", ctypes.c_uint64),
+        ("number", ctypes.c_uint32),
+        ("count", ctypes.c_uint32),
+        ("window", ctypes.c_uint32),
+        ("status", ctypes.c_uint8),
+        ("kind", ctypes.c_uint8),
+        ("begin", ctypes.c_bool),
+        ("end", ctypes.c_bool),
+        ("run", ctypes.c_bool),
+        ("sending", ctypes.c_bool),
     ]
 
 
 def _calls() -> dict[str, tuple[object, list[object]]]:
     """Each export: what it answers, and what it takes."""
     p, size, u8, u16, u32, u64 = (
-        ctypes.c_void_p, ctypes.c_size_t, ctypes.c_uint8, ctypes.c_uint16, ctypes.c_uint32, ctypes.c_uint64,
+        ctypes.c_void_p,
+        ctypes.c_size_t,
+        ctypes.c_uint8,
+        ctypes.c_uint16,
+        ctypes.c_uint32,
+        ctypes.c_uint64,
     )
     flow, octets = ctypes.POINTER(_Flow), ctypes.c_void_p
     links, routes = ctypes.POINTER(_Link), ctypes.POINTER(_Route)
@@ -299,10 +354,12 @@ def _calls() -> dict[str, tuple[object, list[object]]]:
 
 
 def _load() -> ctypes.PyDLL:
-    """The library. A call of it takes some microseconds and blocks on nothing, so it keeps the interpreter's lock: no other
-    thread calls the same handle meanwhile, and none forks the process."""
+    """The library. A call of it takes some microseconds and blocks on nothing, so it keeps the interpreter's lock: no
+    other thread calls the same handle meanwhile, and none forks the process."""
     here = Path(__file__).resolve().parent
-    found = [str(it / "libdeltat.so.0") for it in (here, here.parent.parent / "lib") if (it / "libdeltat.so.0").exists()]
+    found = [
+        str(it / "libdeltat.so.0") for it in (here, here.parent.parent / "lib") if (it / "libdeltat.so.0").exists()
+    ]
     name = os.environ.get("DELTAT_LIBRARY") or (found or ["libdeltat.so.0"])[0]
     library = ctypes.PyDLL(name)
     for call, (answers, takes) in _calls().items():
@@ -349,8 +406,8 @@ class Params:
 
     @property
     def fingerprint(self) -> int:
-        """A number of 64 bits: programs whose parameters are equal have the same, and it would take a search to find others
-        that have it too. BadParameter where one is out of its range."""
+        """A number of 64 bits: programs whose parameters are equal have the same, and it would take a search to find
+        others that have it too. BadParameter where one is out of its range."""
         for name, value in zip(_Params._fields_, astuple(self)):
             _in_range(value, 32, name[0])
         it = _library.dt_fingerprint(_Params(*astuple(self)))
@@ -410,8 +467,8 @@ class Piece(NamedTuple):
 
 
 class Message(NamedTuple):
-    """A whole message of a flow. `gap`: octets of the flow between the message before and this one were passed over, or may
-    have been."""
+    """A whole message of a flow. `gap`: octets of the flow between the message before and this one were passed over, or
+    may have been."""
 
     flow: Flow
     octets: bytes
@@ -426,9 +483,9 @@ class KeptOut(NamedTuple):
 
 
 class Counts(NamedTuple):
-    """What a node counted since it was opened, without what its guard kept out: datagrams that came and that were refused,
-    datagrams that left, and octets of all flows: taken from the program, settled and uncertain of these; accepted, and
-    read of these."""
+    """What a node counted since it was opened, without what its guard kept out: datagrams that came and that were
+    refused, datagrams that left, and octets of all flows: taken from the program, settled and uncertain of these;
+    accepted, and read of these."""
 
     came: int
     refused: int
@@ -441,8 +498,8 @@ class Counts(NamedTuple):
 
 
 class Totals(NamedTuple):
-    """The octets of one flow since it is followed: taken from the program, settled and uncertain of these; accepted, and
-    read of these."""
+    """The octets of one flow since it is followed: taken from the program, settled and uncertain of these; accepted,
+    and read of these."""
 
     taken: int
     settled: int
@@ -491,7 +548,8 @@ def _flow_of(it: _Flow) -> Flow:
 
 
 _CHOOSE = (
-    "say again=True if this node number may have been in use less than params.quiet ms ago (a program that was started again, or may have been), "
+    "say again=True if this node number may have been in use less than params.quiet ms ago (as in each program that "
+    "may be started anew), "
     "again=False only if it never was, or state=, which keeps that in a folder; exactly one of the two"
 )
 
@@ -525,23 +583,34 @@ os.register_at_fork(after_in_child=_close_in_child)
 
 
 class AnyNode:
-    """What `Node` and `deltat_service.Service` have in common. It is closed by `close`, at the end of a `with` block, and
-    when it is dropped.
+    """What `Node` and `deltat_service.Service` have in common. It is closed by `close`, at the end of a `with` block,
+    and when it is dropped.
 
-    A node belongs to the process that opened it. In a forked child it is closed, and each call raises `Forked`: parent and
-    child would be two nodes of one number, and each would be handed the answers to the other's calls. A child that needs a
-    node opens one of its own, with a number of its own."""
+    A node belongs to the process that opened it. In a forked child it is closed, and each call raises `Forked`: parent
+    and child would be two nodes of one number, and each would be handed the answers to the other's calls. A child that
+    needs a node opens one of its own, with a number of its own."""
 
     _exports = _Exports("dt_")
 
     def __init__(
-        self, number: int, params: Params, links: Sequence[Link], routes: Mapping[int, int], again: bool | None, state: State | None
+        self,
+        number: int,
+        params: Params,
+        links: Sequence[Link],
+        routes: Mapping[int, int],
+        again: bool | None,
+        state: State | None,
     ) -> None:
         if (again is None) == (state is None):
             raise TypeError(f"node {number}: {'no' if again is None else 'more than one'} start was chosen: {_CHOOSE}")
         if state is not None:
             state.check(number, params)
-        self.number, self.params, self.links, self.routes = _in_range(number, 32, "the node"), params, tuple(links), dict(routes)
+        self.number, self.params, self.links, self.routes = (
+            _in_range(number, 32, "the node"),
+            params,
+            tuple(links),
+            dict(routes),
+        )
         size, align = self._exports.size(), self._exports.align()
         # (kept here too: a closed handle is asked as well)
         self._memory = ctypes.create_string_buffer(size + align)
@@ -568,7 +637,10 @@ class AnyNode:
     def _handle(self) -> ctypes.c_void_p:
         """The node's memory; Forked in another process than the one that opened it."""
         if self._owner != os.getpid():
-            raise Forked(f"node {self.number} was opened by process {self._owner}, and this is a forked child of it: open a node of another number here")
+            raise Forked(
+                f"node {self.number} was opened by process {self._owner}, and this is a forked child of it: open a "
+                f"node of another number here"
+            )
         return self._address
 
     def _begun_at(self, at: int | None) -> int:
@@ -598,10 +670,21 @@ class AnyNode:
             names = [name for name, *_ in _Params._fields_]
             for name, value in zip(names, astuple(self.params)):
                 _in_range(value, 32, name)
-            links = [_Link(_in_range(it.charge, 32, "a charge"), _in_range(it.pace, 32, "a pace"), _in_range(it.number, 16, "a link")) for it in self.links]
-            routes = [_Route(_in_range(to, 32, "a node"), _in_range(link, 16, "a link")) for to, link in self.routes.items()]
+            links = [
+                _Link(
+                    _in_range(it.charge, 32, "a charge"),
+                    _in_range(it.pace, 32, "a pace"),
+                    _in_range(it.number, 16, "a link"),
+                )
+                for it in self.links
+            ]
+            routes = [
+                _Route(_in_range(to, 32, "a node"), _in_range(link, 16, "a link")) for to, link in self.routes.items()
+            ]
             rows, ways = (_Link * max(len(links), 1))(*links), (_Route * max(len(routes), 1))(*routes)
-            opened = self._exports.open(self._handle, _Params(*astuple(self.params)), start, rows, len(links), ways, len(routes))
+            opened = self._exports.open(
+                self._handle, _Params(*astuple(self.params)), start, rows, len(links), ways, len(routes)
+            )
             if opened.status == Status.REFUSED:
                 what = names[opened.field] if opened.field < len(names) else "a field"
                 raise BadParameter(f"{what} is {opened.value}, which is out of its range")
@@ -618,7 +701,8 @@ class AnyNode:
             raise Spent(f"node {self.number} is closed, or found no memory before")
 
     def close(self) -> None:
-        """Frees what the node holds, and what wasn't taken of it. Called again, or in a forked child, it does nothing."""
+        """Frees what the node holds, and what wasn't taken of it. Called again, or in a forked child, it does
+        nothing."""
         if self._owner != os.getpid() or not self._finalizer.alive:
             return
         self._finalizer()
@@ -633,29 +717,38 @@ class AnyNode:
         self._raise(self._exports.tick(self._handle, moment))
 
     def arrive(self, link: int, datagram: bytes, waited: int = 0, at: int | None = None) -> Status:
-        """Hands in a datagram that came on a link and waited for `waited` ms on this machine, rounded up. DONE, or why it
-        was dropped: BAD (it isn't valid), STALE (it has no life left), REFUSED (there is no such link), KEPT_OUT (by the
-        guard). NoMemory or Spent."""
+        """Hands in a datagram that came on a link and waited for `waited` ms on this machine, rounded up. DONE, or why
+        it was dropped: BAD (it isn't valid), STALE (it has no life left), REFUSED (there is no such link), KEPT_OUT (by
+        the guard). NoMemory or Spent."""
         octets = _octets(datagram)
         if self._is_guard_due:
             self._set_guard(self._read_ports(), self._flows)
         came = self._exports.arrive(
-            self._handle, self._noted(at), _in_range(link, 16, "a link"), octets, len(octets), min(waited, 0xFFFFFFFF)
+            self._handle,
+            self._noted(at),
+            _in_range(link, 16, "a link"),
+            octets,
+            len(octets),
+            min(waited, 0xFFFFFFFF),
         )
         self._raise(came.status)
         return Status(came.status)
 
     def guard(self, ports: Sequence[int] | None = None, flows: int = 0xFFFFFFFF) -> None:
-        """From now on the node receives at these ports only (at all if none are named), and makes no receiver for a flow
-        while `flows` of them have one. What strangers send to others is dropped before the node sees it, and counted. It
-        takes the place of the guard that a socket makes. NoMemory, and then nothing changed; Spent."""
+        """From now on the node receives at these ports only (at all if none are named), and makes no receiver for a
+        flow while `flows` of them have one. What strangers send to others is dropped before the node sees it, and
+        counted. It takes the place of the guard that a socket makes. NoMemory, and then nothing changed; Spent."""
         self._set_guard(ports, flows)
         self._is_guarded = True
 
     def _set_guard(self, ports: Sequence[int] | None, flows: int) -> None:
         chosen = [_in_range(port, 16, "a port") for port in ports or ()]
         octets = (ctypes.c_uint16 * max(len(chosen), 1))(*chosen)
-        self._raise(self._exports.guard(self._handle, octets, len(chosen), ports is None, _in_range(flows, 32, "a number of flows")))
+        self._raise(
+            self._exports.guard(
+                self._handle, octets, len(chosen), ports is None, _in_range(flows, 32, "a number of flows")
+            )
+        )
         self._is_guard_due = False
 
     def _guard_by_default(self, flows: int) -> None:
@@ -680,11 +773,15 @@ class AnyNode:
         return Counts(*(getattr(it, name) for name in Counts._fields))
 
     def add_route(self, to: int, link: int) -> None:
-        """From now on packets to the node `to` leave on this link. BadParameter if no packets do, or there is a route to it
-        already; NoMemory, and then the node isn't spent; Spent."""
-        status = self._exports.add_route(self._handle, _Route(_in_range(to, 32, "a node"), _in_range(link, 16, "a link")))
+        """From now on packets to the node `to` leave on this link. BadParameter if no packets do, or there is a route
+        to it already; NoMemory, and then the node isn't spent; Spent."""
+        status = self._exports.add_route(
+            self._handle, _Route(_in_range(to, 32, "a node"), _in_range(link, 16, "a link"))
+        )
         if status in (Status.REFUSED, Status.HELD):
-            raise BadParameter(f"there is no link {link}" if status == Status.REFUSED else f"there is a route to node {to} already")
+            raise BadParameter(
+                f"there is no link {link}" if status == Status.REFUSED else f"there is a route to node {to} already"
+            )
         self._raise(status)
         self.routes[to] = link
 
@@ -716,20 +813,28 @@ def _free(close: Any, address: ctypes.c_void_p, memory: object) -> None:
 
 
 class Node(AnyNode):
-    """A node of a network, without a socket. Moments are in ms; left out, they are `now()`. `too_long`: how many messages
-    were longer than `longest`, and dropped, when `messages` last looked. `reports_dropped`: how many reports nobody took
-    in time; none of these is an UNCERTAIN."""
+    """A node of a network, without a socket. Moments are in ms; left out, they are `now()`. `too_long`: how many
+    messages were longer than `longest`, and dropped, when `messages` last looked. `reports_dropped`: how many reports
+    nobody took in time; none of these is an UNCERTAIN."""
 
     _TELL_OF_FLOWS: tuple[Kind, ...] = (Kind.ACCEPTED, Kind.RELEASED)
 
     def __init__(
-        self, number: int, params: Params, links: Sequence[Link], routes: Mapping[int, int], *, again: bool | None = None,
-        state: State | None = None, at: int | None = None, longest: int = MOST_MESSAGE,
+        self,
+        number: int,
+        params: Params,
+        links: Sequence[Link],
+        routes: Mapping[int, int],
+        *,
+        again: bool | None = None,
+        state: State | None = None,
+        at: int | None = None,
+        longest: int = MOST_MESSAGE,
     ) -> None:
-        """Opens the node. `routes` has the link that leads to each node; `longest` is how many octets a message that arrives
-        may have. Exactly one of `again` and `state` is given: `again` is whether this number may have been in use less than
-        `params.quiet` ms ago, and then the node is silent for as long; a `state` keeps that over the starts of a program.
-        TypeError if neither or both are; BadParameter or NoMemory; what the state raises."""
+        """Opens the node. `routes` has the link that leads to each node; `longest` is how many octets a message that
+        arrives may have. Exactly one of `again` and `state` is given: `again` is whether this number may have been in
+        use less than `params.quiet` ms ago, and then the node is silent for as long; a `state` keeps that over the
+        starts of a program. TypeError if neither or both are; BadParameter or NoMemory; what the state raises."""
         _in_range(longest, 64, "the longest message")
         super().__init__(number, params, links, routes, again, state)
         self._unread: dict[Flow, None] = {}
@@ -750,8 +855,8 @@ class Node(AnyNode):
         return status
 
     def follow(self, flow: Flow) -> None:
-        """From now on `totals` counts the octets of this flow, until the node is closed. One that is followed already stays
-        as it is."""
+        """From now on `totals` counts the octets of this flow, until the node is closed. One that is followed already
+        stays as it is."""
         self._raise(_library.dt_follow(self._handle, _flow(flow)))
 
     def totals(self, flow: Flow) -> Totals | None:
@@ -763,11 +868,14 @@ class Node(AnyNode):
         return Totals(*(getattr(it, name) for name in Totals._fields))
 
     def send(self, flow: Flow, octets: bytes, begin: bool = True, end: bool = True, at: int | None = None) -> None:
-        """Sends a message of 1 to `params.cap` octets, or a part of one. Full, Quiet or BadParameter, and then nothing of it
-        was taken."""
+        """Sends a message of 1 to `params.cap` octets, or a part of one. Full, Quiet or BadParameter, and then nothing
+        of it was taken."""
         octets = _octets(octets)
         if not 0 < len(octets) <= self.params.cap:
-            raise BadParameter(f"a send on {flow} has {len(octets)} octets; 1 to {self.params.cap} fit (cap): send a longer message in parts, with begin and end")
+            raise BadParameter(
+                f"a send on {flow} has {len(octets)} octets; 1 to {self.params.cap} fit (cap): send a longer message "
+                f"in parts, with begin and end"
+            )
         sent = _library.dt_send(self._handle, self._noted(at), _flow(flow), octets, len(octets), begin, end)
         self._raise(sent.status)
         self._listen()
@@ -785,11 +893,15 @@ class Node(AnyNode):
         self._listen()
         if got.status == Status.REFUSED:
             raise BadParameter(f"{flow} doesn't go from another node to node {self.number}")
-        return Piece(ctypes.string_at(self._room, got.len), got.begin, got.end, got.run) if got.status == Status.DONE else None
+        return (
+            Piece(ctypes.string_at(self._room, got.len), got.begin, got.end, got.run)
+            if got.status == Status.DONE
+            else None
+        )
 
     def reports(self) -> Iterator[Report]:
-        """The reports of the node, in their order, each once. Of more than 10,000 that nobody took the last ones; but no
-        UNCERTAIN is dropped: those of a flow that would be are joined to one, with the sum of their octets, which is
+        """The reports of the node, in their order, each once. Of more than 10,000 that nobody took the last ones; but
+        no UNCERTAIN is dropped: those of a flow that would be are joined to one, with the sum of their octets, which is
         handed out before the others."""
         self._handle  # Forked, in a child
         while self._given_up:
@@ -803,7 +915,20 @@ class Node(AnyNode):
             it = _library.dt_next_report(self._handle)
             if it.status != Status.DONE:
                 return
-            self._hear(Report(Kind(it.kind), _flow_of(it.flow), it.moment, it.number, it.count, it.window, it.begin, it.end, it.run, it.sending))
+            self._hear(
+                Report(
+                    Kind(it.kind),
+                    _flow_of(it.flow),
+                    it.moment,
+                    it.number,
+                    it.count,
+                    it.window,
+                    it.begin,
+                    it.end,
+                    it.run,
+                    it.sending,
+                )
+            )
 
     def _hear(self, told: Report) -> None:
         if told.kind in self._TELL_OF_FLOWS and not told.sending:
@@ -821,8 +946,8 @@ class Node(AnyNode):
         self._given_up[told.flow] = told._replace(count=told.count + (before.count if before else 0))
 
     def messages(self, at: int | None = None) -> Iterator[Message]:
-        """The whole messages of all flows to this node that can be read, each once, those of a flow in their order. NoMemory
-        or Spent."""
+        """The whole messages of all flows to this node that can be read, each once, those of a flow in their order.
+        NoMemory or Spent."""
         while message := self._take(at):
             yield message
 
@@ -857,15 +982,25 @@ class Udp:
     neighbour, by its node's number; whoever is no peer is not heard. A socket serves all of the node's links.
 
     Unless the program called `node.guard`, the node receives at the ports that have a reader (of a node of calls: those
-    with a kind), and on 4,096 flows at once, or 16 for each peer if that is more: so strangers that send from a peer's
+    with a kind), and on 1,024 flows at once, or 16 for each peer if that is more: so strangers that send from a peer's
     address don't make it grow."""
 
-    def __init__(self, node: AnyNode, bind: tuple[str, int], peers: Mapping[int, tuple[str, int]], routes: Mapping[int, int] | None = None) -> None:
-        """Binds the socket. `routes` has the number of each neighbour's link; left out, it is that of the node's route to
-        it, or the node's only link. BadParameter if that is no link of the node; OSError if the address can't be had."""
+    def __init__(
+        self,
+        node: AnyNode,
+        bind: tuple[str, int],
+        peers: Mapping[int, tuple[str, int]],
+        routes: Mapping[int, int] | None = None,
+    ) -> None:
+        """Binds the socket. `routes` has the number of each neighbour's link; left out, it is that of the node's route
+        to it, or the node's only link. BadParameter if that is no link of the node; OSError if the address can't be
+        had. """
         self.node = node
         links = {number: self._link_of(number, routes or {}) for number in peers}
-        self._addresses = {number: socket.getaddrinfo(*address, socket.AF_INET, socket.SOCK_DGRAM)[0][4] for number, address in peers.items()}
+        self._addresses = {
+            number: socket.getaddrinfo(*address, socket.AF_INET, socket.SOCK_DGRAM)[0][4]
+            for number, address in peers.items()
+        }
         self._links = {address: links[number] for number, address in self._addresses.items()}
         self._next_hop = {link: address for address, link in self._links.items()}
         node._guard_by_default(max(MOST_FLOWS, 16 * len(peers)))
@@ -892,7 +1027,10 @@ class Udp:
             (link,) = own
         if link not in own:
             known = ", ".join(map(str, sorted(own))) or "none"
-            raise BadParameter(f"peer {peer}: its link is {'not named' if link is None else link}, and node {self.node.number} has the links {known}: name one of these in `routes`")
+            raise BadParameter(
+                f"peer {peer}: its link is {'not named' if link is None else link}, and node {self.node.number} has "
+                f"the links {known}: name one of these in `routes`"
+            )
         return link
 
     def __enter__(self) -> Self:
@@ -939,9 +1077,9 @@ class Udp:
         return True
 
     def _waited(self, ancillary: list[tuple[int, int, bytes]], at: int) -> int:
-        """How long a datagram waited in the socket until the moment `at`, in ms, rounded up: by the kernel's stamp, or, if
-        the wall clock was set meanwhile or there is no stamp, as long as it can have. The wall clock is read after `at`:
-        a process that is stopped between the two counts the stop twice, and not at all the other way round."""
+        """How long a datagram waited in the socket until the moment `at`, in ms, rounded up: by the kernel's stamp, or,
+        if the wall clock was set meanwhile or there is no stamp, as long as it can have. The wall clock is read after
+        `at`: a process that is stopped between the two counts the stop twice, and not at all the other way round."""
         most, wall = at - self._empty_at, time.time_ns()
         if abs(wall // 1_000_000 - at - self._offset) > 2:
             return most
@@ -953,10 +1091,11 @@ class Udp:
         return most
 
     def poll(self, timeout: float | None = 0.0) -> list[Message]:
-        """Waits for a datagram, for `timeout` seconds at most (None: without end) and no longer than to the node's wake;
-        handles all that came and is due, and returns the messages that are whole now. NoMemory or Spent."""
+        """Waits for a datagram, for `timeout` seconds at most (None: without end) and no longer than to the node's
+        wake; handles all that came and is due, and returns the messages that are whole now. NoMemory or Spent."""
         self._wait(self._selector, timeout)
         with self._lock:
+            self._check()
             self._receive()
             at = now()
             self.node.tick(at)
@@ -964,10 +1103,14 @@ class Udp:
             self.flush(at)
         return found
 
-    def _wait(self, selector: selectors.BaseSelector, timeout: float | None) -> None:
-        wake = self.node.wake
+    def _check(self) -> None:
+        """Spent if the socket is closed."""
         if self.is_closed:
             raise Spent(f"node {self.node.number} is closed")
+
+    def _wait(self, selector: selectors.BaseSelector, timeout: float | None) -> None:
+        wake = self.node.wake
+        self._check()
         # (a node that was called late may tell a moment that is past, at which nothing is due)
         wait = None if wake is None else max(wake - now(), 1) / 1000
         if timeout is not None:
@@ -977,6 +1120,7 @@ class Udp:
     def _turn(self) -> set[int]:
         """Handles all that came and is due, but for messages; returns the nodes from which something came."""
         with self._lock:
+            self._check()
             heard = self._receive()
             at = now()
             self.node.tick(at)
@@ -984,9 +1128,10 @@ class Udp:
         return heard
 
     def _receive(self) -> set[int]:
-        """Hands in what waits in the socket, up to 256 datagrams, and returns the nodes that made them. The clocks are read
-        before each look: at that moment, and not when the look has found nothing, the socket was empty."""
-        heard = set()
+        """Hands in what waits in the socket, up to 256 datagrams, and returns the nodes that made them. The clocks are
+        read before each look: at that moment, and not when the look has found nothing, the socket was empty. What
+        leaves goes on the wire when some datagrams were taken in, or some milliseconds have passed."""
+        heard, since, count = set(), None, 0
         for _ in range(MOST_AT_ONCE):
             looked, wall = now(), _wall()
             try:
@@ -1006,8 +1151,18 @@ class Udp:
                 heard.add(int.from_bytes(datagram[8:12], "big"))
             elif status is Status.KEPT_OUT and status not in self._said:
                 self._said.add(status)
-                _log.warning("node %d: the guard kept a datagram from %s out, for a port without a reader or of one flow too many: see kept_out(), guard()", self.node.number, address)
-            self.flush(at)
+                _log.warning(
+                    "node %d: the guard kept a datagram from %s out, for a port without a reader or of one flow too "
+                    "many: see kept_out() and guard()",
+                    self.node.number,
+                    address,
+                )
+            since, count = at if since is None else since, count + 1
+            if count == MOST_UNFLUSHED or at - since >= MOST_BUSY:
+                self.flush(since)
+                since, count = None, 0
+        if since is not None:
+            self.flush(since)
         self._looked_at = now()
         return heard
 
@@ -1032,14 +1187,17 @@ class Udp:
 
     @contextlib.contextmanager
     def background(self) -> Iterator[None]:
-        """While its block runs, and has done so for 10 ms or more, another thread does what came and is due: so what takes
-        long doesn't hold the node up. Messages and requests wait for the program. In the block only calls of the socket and
-        of its `Calls` are made, and none of the node itself."""
+        """While its block runs, and has done so for 10 ms or more, another thread does what came and is due: so what
+        takes long doesn't hold the node up. Messages and requests wait for the program. In the block only calls of the
+        socket and of its `Calls` are made, and none of the node itself."""
+        self.node._handle  # Forked, in a child
         with self._lock:
             self._depth += 1
             self._begun += 1
             if self._standby is None:
-                self._standby = threading.Thread(target=self._stand_by, name=f"deltat node {self.node.number}", daemon=True)
+                self._standby = threading.Thread(
+                    target=self._stand_by, name=f"deltat node {self.node.number}", daemon=True
+                )
                 self._standby.start()
         try:
             yield
@@ -1048,8 +1206,8 @@ class Udp:
                 self._depth -= 1
 
     def _stand_by(self) -> None:
-        """Looks every 10 ms whether the program is in the same block as before, and does the node's work until it leaves
-        it. It ends when there was no block for a second."""
+        """Looks every 10 ms whether the program is in the same block as before, and does the node's work until it
+        leaves it. It ends when there was no block for a second."""
         selector = selectors.PollSelector()
         if not self.is_closed:
             selector.register(self.socket, selectors.EVENT_READ)
@@ -1094,11 +1252,17 @@ class AsyncUdp:
     """A node over a UDP socket in the running loop of asyncio: what comes and is due is done as the loop goes round.
 
     The loop watches the socket, and the datagrams are read here: a datagram endpoint of asyncio doesn't hand out the
-    kernel's stamps, so what a datagram waited while the loop was busy wouldn't be known. A message is read from the node
-    when the program asks for it, so of a program that is slow the senders are held back. NoMemory comes of each call
-    after the one that found none, and Spent of those that wait when it is closed."""
+    kernel's stamps, so what a datagram waited while the loop was busy wouldn't be known. A message is read from the
+    node when the program asks for it, so of a program that is slow the senders are held back. NoMemory comes of each
+    call after the one that found none, and Spent of those that wait when it is closed."""
 
-    def __init__(self, node: AnyNode, bind: tuple[str, int], peers: Mapping[int, tuple[str, int]], routes: Mapping[int, int] | None = None) -> None:
+    def __init__(
+        self,
+        node: AnyNode,
+        bind: tuple[str, int],
+        peers: Mapping[int, tuple[str, int]],
+        routes: Mapping[int, int] | None = None,
+    ) -> None:
         """Binds the socket, and joins the running loop: RuntimeError if none runs. As `Udp`."""
         self._loop = asyncio.get_running_loop()
         self.udp = Udp(node, bind, peers, routes)
@@ -1186,8 +1350,8 @@ class AsyncUdp:
                 return
 
     def _left(self, at: int) -> None:
-        """What left the node at that moment goes on the wire. If the loop was busy for so long that what came may get late,
-        it is looked at now."""
+        """What left the node at that moment goes on the wire. If the loop was busy for so long that what came may get
+        late, it is looked at now."""
         self.udp.flush(at)
         if at - self.udp._looked_at > MOST_BUSY and not self._failure:
             self._turn()
@@ -1195,7 +1359,7 @@ class AsyncUdp:
             self._arm_soon()
 
     def _arm_soon(self) -> None:
-        """The timer is set once each time the loop goes round."""
+        """Once each time the loop goes round, what was told is taken and the timer is set."""
         if not self._is_arming:
             self._is_arming = True
             self._loop.call_soon(self._arm)
@@ -1204,6 +1368,9 @@ class AsyncUdp:
         self._is_arming = False
         if self._failure or self.udp.is_closed:
             return
+        # (what was done since the last turn may have told something: a reply makes room for the next request)
+        for taker in self._takers:
+            taker()
         wake = self.node.wake
         # a timer that goes off too early arms itself again
         if wake is None or self._timer and self._armed_for <= wake:
@@ -1217,8 +1384,8 @@ class AsyncUdp:
         self._turn()
 
     def _does(self, act: Callable[[int], object]) -> float | None:
-        """Does something at the node, if the flow has room and the node isn't silent; else the seconds after which it is
-        worth another try at the latest."""
+        """Does something at the node, if the flow has room and the node isn't silent; else the seconds after which it
+        is worth another try at the latest."""
         self._check()
         at = now()
         try:
@@ -1235,8 +1402,8 @@ class AsyncUdp:
         return None
 
     async def _when_room(self, flow: Flow, act: Callable[[int], object]) -> None:
-        """Does something at the node as soon as the flow has room and the node isn't silent: what is to be done for a flow
-        in its order."""
+        """Does something at the node as soon as the flow has room and the node isn't silent: what is to be done for a
+        flow in its order."""
         if flow not in self._lines.get(flow.target, {}) and self._does(act) is None:
             return
         line = self._lines.setdefault(flow.target, {}).setdefault(flow, _Line())
@@ -1257,9 +1424,9 @@ class AsyncUdp:
                 del self._lines[flow.target]
 
     async def send(self, flow: Flow, octets: bytes, begin: bool = True, end: bool = True) -> None:
-        """Sends a message, or a part of one, of at most `params.cap` octets, as soon as there is room for it and the node
-        isn't silent. Those who wait for room of one flow are served in the order in which they came. BadParameter or Spent,
-        and then nothing of it was taken, as if the wait is cancelled; NoMemory, and then it may have been."""
+        """Sends a message, or a part of one, of at most `params.cap` octets, as soon as there is room for it and the
+        node isn't silent. Those who wait for room of one flow are served in the order in which they came. BadParameter
+        or Spent, and then nothing of it was taken, as if the wait is cancelled; NoMemory, and then it may have been."""
         node = self.node
         if not isinstance(node, Node):
             raise BadParameter(f"node {node.number} is one of calls, and has no plain messages")

@@ -1,4 +1,5 @@
-"""Request and reply between nodes, over libdeltat: a call is handed out once by the other node's service, or not at all.
+"""Request and reply between nodes, over libdeltat: a call is handed out once by the other node's service, or not at
+all.
 
     service = deltat_service.Service(2, life, params, [deltat.Link(1, charge)], {1: 1}, again=life > 1)
     service.port(20, deltat_service.Kind.SERVICE)
@@ -16,14 +17,15 @@
     with deltat.Udp(client, ("127.0.0.1", 4001), {2: ("127.0.0.1", 4002)}) as udp:
         answer = deltat_service.Calls(udp).call(deltat.Flow(1, 10, 2, 20), b"hello", timeout=5.0)
 
-A call ends once: with the answer that the service gave to this very call, or by `Unsure`: served once, or not at all, or
-later. `Declined` says that nothing of it was sent. docs/service.md tells what to do then.
+A call ends once: with the answer that the service gave to this very call, or by `Unsure`: served once, or not at all,
+or later. `Declined` says that nothing of it was sent. docs/service.md tells what to do then.
 
 A life is a number of 32 bits that this node number never had at an earlier opening or `raise_life`: counted in a file
 that is written before the first call. A port is a caller's or a service's in each life of its node, and callers call
 services alone.
 
-A call of a `Service` names its timeout `timeout_ms`, in ms; those of `Calls` and `AsyncCalls` are `timeout`, in seconds.
+A call of a `Service` names its timeout `timeout_ms`, in ms; those of `Calls` and `AsyncCalls` are `timeout`, in
+seconds.
 
 What a `Service` does is proved, up to the exports of the library; this file, which calls them, is tested only
 (`tests/services.py` compares it with a model of the definitions)."""
@@ -49,16 +51,32 @@ import deltat
 from deltat import BadParameter, DeltatError, Flow, Full, Link, NoMemory, Params, Spent, Status
 
 __all__ = [
-    "Answered", "AsyncCalls", "CallCounts", "Calls", "Cause", "Declined", "Doubtful", "Gone", "Happening", "Kind", "Limits", "Request", "Service",
-    "Token", "Unsure",
+    "Answered",
+    "AsyncCalls",
+    "CallCounts",
+    "Calls",
+    "Cause",
+    "Declined",
+    "Doubtful",
+    "Gone",
+    "Happening",
+    "Kind",
+    "Limits",
+    "Request",
+    "Service",
+    "Token",
+    "Unsure",
 ]
 
 MANY, NUMBERS, GONE = 16, 17, 18
 REQUEST, ANSWERED, UNSURE = 1, 2, 3
 _log = logging.getLogger("deltat")
 UNFIT = {
-    1: "the flow doesn't go from this node to another", 2: "the flow doesn't go from a caller's port", 3: "its message is too long",
-    4: "timeout_ms is 0, and is 1 at least", 5: "too many octets were handed in",
+    1: "the flow doesn't go from this node to another",
+    2: "the flow doesn't go from a caller's port",
+    3: "its message is too long",
+    4: "timeout_ms is 0, and is 1 at least",
+    5: "too many octets were handed in",
 }
 
 
@@ -107,8 +125,8 @@ Happening = Request | Answered | Doubtful
 
 
 class Declined(DeltatError):
-    """Nothing of the call was taken. `why` is `quiet` (until `until`, in ms), `full` (`free` octets are free, eight of which
-    a number takes), `many` (too many calls wait), or `numbers` (the life has no more: raise it)."""
+    """Nothing of the call was taken. `why` is `quiet` (until `until`, in ms), `full` (`free` octets are free, eight of
+    which a number takes), `many` (too many calls wait), or `numbers` (the life has no more: raise it)."""
 
     def __init__(self, why: str, until: int = 0, free: int = 0) -> None:
         super().__init__(why)
@@ -129,8 +147,8 @@ class Gone(DeltatError):
 
 @dataclass(frozen=True)
 class Limits:
-    """`waiting`: how many calls may wait or have an end that wasn't taken; `open`: how many requests may be without a reply, and
-    also how many may wait to be taken; `each`: how many requests of one flow may be without a reply."""
+    """`waiting`: how many calls may wait or have an end that wasn't taken; `open`: how many requests may be without a
+    reply, and also how many may wait to be taken; `each`: how many requests of one flow may be without a reply."""
 
     waiting: int = 1_000
     open: int = 1_000
@@ -138,8 +156,8 @@ class Limits:
 
 
 class CallCounts(NamedTuple):
-    """How many messages were dropped, by cause. `strange` and `reused` are alarms: a life was used before, or two nodes have
-    one number."""
+    """How many messages were dropped, by cause. `strange` and `reused` are alarms: a life was used before, or two nodes
+    have one number."""
 
     late: int
     old: int
@@ -154,7 +172,11 @@ class CallCounts(NamedTuple):
 
 
 class _Start(ctypes.Structure):
-    _fields_ = [("now", ctypes.c_uint64)] + [(name, ctypes.c_uint32) for name in "me life calls requests of_a_flow".split()] + [("again", ctypes.c_bool)]
+    _fields_ = (
+        [("now", ctypes.c_uint64)]
+        + [(name, ctypes.c_uint32) for name in "me life calls requests of_a_flow".split()]
+        + [("again", ctypes.c_bool)]
+    )
 
 
 class _Token(ctypes.Structure):
@@ -163,7 +185,11 @@ class _Token(ctypes.Structure):
 
 class _Made(ctypes.Structure):
     _fields_ = [
-        ("number", ctypes.c_uint64), ("until", ctypes.c_uint64), ("free", ctypes.c_uint32), ("status", ctypes.c_uint8), ("unfit", ctypes.c_uint8),
+        ("number", ctypes.c_uint64),
+        ("until", ctypes.c_uint64),
+        ("free", ctypes.c_uint32),
+        ("status", ctypes.c_uint8),
+        ("unfit", ctypes.c_uint8),
     ]
 
 
@@ -173,7 +199,11 @@ class _Replied(ctypes.Structure):
 
 class _Event(ctypes.Structure):
     _fields_ = [
-        ("number", ctypes.c_uint64), ("len", ctypes.c_size_t), ("flow", deltat._Flow), ("status", ctypes.c_uint8), ("kind", ctypes.c_uint8),
+        ("number", ctypes.c_uint64),
+        ("len", ctypes.c_size_t),
+        ("flow", deltat._Flow),
+        ("status", ctypes.c_uint8),
+        ("kind", ctypes.c_uint8),
         ("cause", ctypes.c_uint8),
     ]
 
@@ -185,7 +215,12 @@ class _CallCounts(ctypes.Structure):
 def _calls() -> dict[str, tuple[object, list[object]]]:
     """Each export: what it answers, and what it takes."""
     p, size, u8, u16, u32, u64 = (
-        ctypes.c_void_p, ctypes.c_size_t, ctypes.c_uint8, ctypes.c_uint16, ctypes.c_uint32, ctypes.c_uint64,
+        ctypes.c_void_p,
+        ctypes.c_size_t,
+        ctypes.c_uint8,
+        ctypes.c_uint16,
+        ctypes.c_uint32,
+        ctypes.c_uint64,
     )
     flow, token, octets = ctypes.POINTER(deltat._Flow), ctypes.POINTER(_Token), ctypes.c_void_p
     links, routes = ctypes.POINTER(deltat._Link), ctypes.POINTER(deltat._Route)
@@ -193,7 +228,10 @@ def _calls() -> dict[str, tuple[object, list[object]]]:
         "dt_service_size": (size, []),
         "dt_service_align": (size, []),
         "dt_service_init": (None, [p]),
-        "dt_service_open": (deltat._Opened, [p, ctypes.POINTER(deltat._Params), ctypes.POINTER(_Start), links, size, routes, size]),
+        "dt_service_open": (
+            deltat._Opened,
+            [p, ctypes.POINTER(deltat._Params), ctypes.POINTER(_Start), links, size, routes, size],
+        ),
         "dt_service_close": (None, [p]),
         "dt_port": (u8, [p, u16, u8]),
         "dt_call": (_Made, [p, u64, flow, octets, size, u32]),
@@ -221,18 +259,27 @@ for _name, (_answers, _takes) in _calls().items():
 
 
 class Service(deltat.AnyNode):
-    """A node that calls and serves, without a socket: `deltat.Udp` and `deltat.AsyncUdp` drive it as any other node. Moments
-    are in ms; left out, they are `deltat.now()`. It has no plain ports."""
+    """A node that calls and serves, without a socket: `deltat.Udp` and `deltat.AsyncUdp` drive it as any other node.
+    Moments are in ms; left out, they are `deltat.now()`. It has no plain ports."""
 
     _exports = deltat._Exports("dt_service_")
 
     def __init__(
-        self, number: int, life: int | None, params: Params, links: Sequence[Link], routes: Mapping[int, int], *, again: bool | None = None,
-        state: deltat.State | None = None, at: int | None = None, limits: Limits = Limits(),
+        self,
+        number: int,
+        life: int | None,
+        params: Params,
+        links: Sequence[Link],
+        routes: Mapping[int, int],
+        *,
+        again: bool | None = None,
+        state: deltat.State | None = None,
+        at: int | None = None,
+        limits: Limits = Limits(),
     ) -> None:
         """Opens it. `routes` has the link that leads to each node. Exactly one of `again` and `state` is given, as to
-        `deltat.Node`; a state has the life too, and then `life` is None. TypeError; BadParameter or NoMemory; what the state
-        raises."""
+        `deltat.Node`; a state has the life too, and then `life` is None. TypeError; BadParameter or NoMemory; what the
+        state raises."""
         if (life is None) != (state is not None):
             raise TypeError(f"node {number}: a life is given exactly if no state is, which counts lives itself")
         most = [deltat._in_range(it, 32, "a limit") for it in astuple(limits)]
@@ -244,8 +291,8 @@ class Service(deltat.AnyNode):
         self._open(_Start(self._begun_at(at), number, self.life, *most, self._is_again))
 
     def port(self, port: int, kind: Kind) -> None:
-        """Makes a port a caller's or a service's, before anything is sent from it or comes for it. BadParameter if it has a
-        kind; NoMemory, and then nothing changed; Spent."""
+        """Makes a port a caller's or a service's, before anything is sent from it or comes for it. BadParameter if it
+        has a kind; NoMemory, and then nothing changed; Spent."""
         status = _library.dt_port(self._handle, deltat._in_range(port, 16, "a port"), _KINDS[kind])
         if status == Status.HELD:
             raise BadParameter(f"port {port} has a kind")
@@ -258,23 +305,29 @@ class Service(deltat.AnyNode):
         return list(self._kinds)
 
     def call(self, flow: Flow, payload: bytes, timeout_ms: int, at: int | None = None) -> int:
-        """Makes a call that ends within `timeout_ms`, 1 to 4,294,967,295, and returns its number. Declined, BadParameter or
-        Spent; nothing of it was sent then. NoMemory: the node is closed, and the call may have been made: if it was,
-        `happenings` has its end."""
+        """Makes a call that ends within `timeout_ms`, 1 to 4,294,967,295, and returns its number. Declined,
+        BadParameter or Spent; nothing of it was sent then. NoMemory: the node is closed, and the call may have been
+        made: if it was, `happenings` has its end."""
         octets = deltat._octets(payload)
         deltat._in_range(timeout_ms, 32, "timeout_ms")
-        made = _library.dt_call(self._handle, self._noted(at), deltat._flow(flow), octets, len(octets), timeout_ms)
+        made = _library.dt_call(
+            self._handle, self._noted(at), deltat._flow(flow), octets, len(octets), timeout_ms
+        )
         if made.status == Status.DONE:
             return int(made.number)
         if made.status == Status.REFUSED:
             raise BadParameter(f"a call on {flow}: {UNFIT[made.unfit]}")
         self._raise(made.status)
-        raise Declined({Status.QUIET: "quiet", Status.FULL: "full", MANY: "many", NUMBERS: "numbers"}[made.status], made.until, made.free)
+        raise Declined(
+            {Status.QUIET: "quiet", Status.FULL: "full", MANY: "many", NUMBERS: "numbers"}[made.status],
+            made.until,
+            made.free,
+        )
 
     def reply(self, token: Token, payload: bytes, at: int | None = None) -> None:
-        """Replies to a request, once. Gone; or Full, and then it may be tried again (eight of the `free` octets are for its
-        number); or BadParameter if it is too long, and TypeError if it isn't bytes, and then the request waits on; or Spent.
-        NoMemory: the node is closed, and the reply may have been sent."""
+        """Replies to a request, once. Gone; or Full, and then it may be tried again (eight of the `free` octets are for
+        its number); or BadParameter if it is too long, and TypeError if it isn't bytes, and then the request waits on;
+        or Spent. NoMemory: the node is closed, and the reply may have been sent."""
         octets = deltat._octets(payload)
         said = _library.dt_reply(self._handle, self._noted(at), _token(token), octets, len(octets))
         if said.status == Status.FULL:
@@ -303,8 +356,8 @@ class Service(deltat.AnyNode):
         self.life = life
 
     def happenings(self) -> Iterator[Happening]:
-        """Requests and ends of calls, in their order, each once: also after `stop` and NoMemory. A program that has `Calls`
-        over the node's socket leaves this to them."""
+        """Requests and ends of calls, in their order, each once: also after `stop` and NoMemory. A program that has
+        `Calls` over the node's socket leaves this to them."""
         while True:
             it = _library.dt_next_event(self._handle, self._room, len(self._room))
             if it.status == Status.ROOM:
@@ -315,11 +368,13 @@ class Service(deltat.AnyNode):
                 yield Doubtful(it.number, _CAUSES[it.cause])
             else:
                 octets = ctypes.string_at(self._room, it.len)
-                yield Answered(it.number, octets) if it.kind == ANSWERED else Request(Token(deltat._flow_of(it.flow), it.number), octets)
+                yield Answered(it.number, octets) if it.kind == ANSWERED else Request(
+                    Token(deltat._flow_of(it.flow), it.number), octets
+                )
 
     def stop(self) -> None:
-        """Ends each call that waits as unsure, and does nothing more; `happenings` has what was told. Called again it does
-        nothing."""
+        """Ends each call that waits as unsure, and does nothing more; `happenings` has what was told. Called again it
+        does nothing."""
         _library.dt_service_stop(self._handle)
 
     def call_counts(self) -> CallCounts:
@@ -341,7 +396,8 @@ def _ms(timeout: float) -> int:
 
 
 class _Line:
-    """The requests that wait for those who serve a port. `wake` tells them that one came, or that none comes any more."""
+    """The requests that wait for those who serve a port. `wake` tells them that one came, or that none comes any
+    more."""
 
     def __init__(self, wake: Callable[[], None]) -> None:
         self.requests: deque[Request] = deque()
@@ -349,8 +405,8 @@ class _Line:
 
 
 class _Desk:
-    """Takes what a node of calls tells: the end of each call goes to who waits for it, each request into the line of who
-    serves its port. A node has one, however many `Calls` there are over its socket."""
+    """Takes what a node of calls tells: the end of each call goes to who waits for it, each request into the line of
+    who serves its port. A node has one, however many `Calls` there are over its socket."""
 
     def __init__(self, node: Service) -> None:
         # (the node has the desk)
@@ -370,7 +426,8 @@ class _Desk:
         return line
 
     def claim(self, port: int, line: _Line) -> None:
-        """From now on requests for a port wait in this line, those too that came before. BadParameter if another has it."""
+        """From now on requests for a port wait in this line, those too that came before. BadParameter if another has
+        it."""
         if self.lines.setdefault(deltat._in_range(port, 16, "a port"), line) is not line:
             raise BadParameter(f"port {port} is served by other Calls over this socket")
         line.requests += [it for it in self.others if it.token.flow.target_port == port]
@@ -419,8 +476,8 @@ ServesSometime = Callable[[Request], bytes | None | Awaitable[bytes | None]]
 class Calls:
     """Calls and requests over a socket that drives such a node, for one thread. Timeouts are in seconds.
 
-    There may be several over one socket. Each call gets its own end. A request goes to those `Calls` that serve its port: by
-    `ports`, or by a function (`on`); one for a port that nobody named goes to any."""
+    There may be several over one socket. Each call gets its own end. A request goes to those `Calls` that serve its
+    port: by `ports`, or by a function (`on`); one for a port that nobody named goes to any."""
 
     def __init__(self, udp: deltat.Udp, ports: Iterable[int] = ()) -> None:
         """BadParameter if the socket's node isn't one of calls, or other `Calls` serve a port."""
@@ -431,8 +488,8 @@ class Calls:
         self._functions: dict[int, Serves] = {}
 
     def call(self, flow: Flow, payload: bytes, timeout: float = 5.0) -> bytes:
-        """The answer to a call, within `timeout` seconds. Unsure; Declined, BadParameter or Spent if it wasn't made; NoMemory
-        if the node closed as it was to be made: take it as unsure."""
+        """The answer to a call, within `timeout` seconds. Unsure; Declined, BadParameter or Spent if it wasn't made;
+        NoMemory if the node closed as it was to be made: take it as unsure."""
         ended: list[Answered | Doubtful] = []
         with self.udp._lock:
             at = deltat.now()
@@ -453,13 +510,16 @@ class Calls:
         return _answer(ended[0])
 
     def requests(self, seconds: float | None = None) -> Iterator[Request]:
-        """The requests that come, for so long at most after the last one (None: until the socket is closed). Between two of
-        them the node waits for the program: what takes long is done in `with udp.background()`."""
+        """The requests that come, for so long at most after the last one (None: until the socket is closed). Between
+        two of them the node waits for the program: what takes long is done in `with udp.background()`."""
         while True:
             end = None if seconds is None else time.monotonic() + seconds
+            if self.udp.is_closed:
+                self.node.wake  # Forked, in a child
+                return
             if deltat.now() - self.udp._looked_at > deltat.MOST_BUSY:
                 # of many requests that wait each may take its time: the node isn't left alone for so long
-                self._poll(0)
+                self._look()
             while (request := self._desk.next_request(self._line)) is None:
                 left = None if end is None else end - time.monotonic()
                 if left is not None and left <= 0:
@@ -473,7 +533,8 @@ class Calls:
             yield request
 
     def reply(self, token: Token, payload: bytes, seconds: float = 60.0) -> None:
-        """Replies, as soon as there is room, for so long at most. Gone, Full or BadParameter; TypeError if it isn't bytes."""
+        """Replies, as soon as there is room, for so long at most. Gone, Full or BadParameter; TypeError if it isn't
+        bytes."""
         end = time.monotonic() + seconds
         while True:
             with self.udp._lock:
@@ -489,9 +550,9 @@ class Calls:
             self._poll(0.05)
 
     def on(self, port: int) -> Callable[[Serves], Serves]:
-        """Decorates the function that serves a port: what it returns is the reply. If it returns None or raises, or what it
-        returns is no reply (not bytes, or too long), the request is forgotten: its caller is unsure when its timeout is over.
-        BadParameter if other `Calls` over this socket serve the port."""
+        """Decorates the function that serves a port: what it returns is the reply. If it returns None or raises, or
+        what it returns is no reply (not bytes, or too long), the request is forgotten: its caller is unsure when its
+        timeout is over. BadParameter if other `Calls` over this socket serve the port."""
 
         def serves(function: Serves) -> Serves:
             self._desk.claim(port, self._line)
@@ -501,9 +562,9 @@ class Calls:
         return serves
 
     def run(self, seconds: float | None = None) -> None:
-        """Serves, for so long at most after the last request (None: until the socket is closed). One function runs at a time,
-        in this thread; while it takes long another thread does what the node has due (`deltat.Udp.background`). What a function
-        raises is raised here, when its request is forgotten."""
+        """Serves, for so long at most after the last request (None: until the socket is closed). One function runs at a
+        time, in this thread; while it takes long another thread does what the node has due (`deltat.Udp.background`).
+        What a function raises is raised here, when its request is forgotten."""
         for request in self.requests(seconds):
             function = self._functions.get(request.token.flow.target_port)
             is_replied = False
@@ -523,6 +584,12 @@ class Calls:
             at = deltat.now()
             self.node.forget(token, at)
             self.udp.flush(at)
+
+    def _look(self) -> None:
+        """Does what came and is due, and takes what was told. Nothing if the socket is closed."""
+        with contextlib.suppress(Spent):
+            self.udp.poll(0)
+        self._take()
 
     def _poll(self, seconds: float | None) -> None:
         """Takes what was told; if nothing was, waits for it."""
@@ -553,7 +620,8 @@ def _is_coroutine(function: object) -> bool:
 
 
 class AsyncCalls:
-    """The same over `deltat.AsyncUdp`: many calls may wait at once, and many requests be served. Timeouts are in seconds."""
+    """The same over `deltat.AsyncUdp`: many calls may wait at once, and many requests be served. Timeouts are in
+    seconds."""
 
     def __init__(self, udp: deltat.AsyncUdp, ports: Iterable[int] = (), workers: int = 1) -> None:
         """As `Calls`. `workers`: in how many threads the plain functions run that serve ports."""
@@ -576,9 +644,9 @@ class AsyncCalls:
             self._threads.shutdown(wait=False)
 
     async def call(self, flow: Flow, payload: bytes, timeout: float = 5.0) -> bytes:
-        """The answer to a call, within `timeout` seconds. Unsure; Declined, BadParameter or Spent if it wasn't made; NoMemory
-        if the node closed as it was to be made, or before: take it as unsure. If the wait is cancelled the call goes on, and
-        its end is dropped."""
+        """The answer to a call, within `timeout` seconds. Unsure; Declined, BadParameter or Spent if it wasn't made;
+        NoMemory if the node closed as it was to be made, or before: take it as unsure. If the wait is cancelled the
+        call goes on, and its end is dropped."""
         end: asyncio.Future[Answered | Doubtful] = asyncio.get_running_loop().create_future()
         self.udp._check()
         at = deltat.now()
@@ -600,7 +668,7 @@ class AsyncCalls:
         """The requests that come, until the socket is closed. NoMemory."""
         while True:
             self._came.clear()
-            while request := self._desk.next_request(self._line):
+            while not self.udp._failure and (request := self._desk.next_request(self._line)):
                 yield request
             if self.udp._failure:
                 if not self.udp.udp.is_closed:
@@ -609,9 +677,10 @@ class AsyncCalls:
             await self._came.wait()
 
     def on(self, port: int) -> Callable[[ServesSometime], ServesSometime]:
-        """Decorates the coroutine that serves a port, as `Calls.on`, or a plain function, which runs in a thread, one after
-        another where there is one worker. Several coroutines may be under way at once. If one raises, or what it returns is no
-        reply (not bytes, or too long), the request is forgotten, `run` goes on, and the logger `deltat` says it."""
+        """Decorates the coroutine that serves a port, as `Calls.on`, or a plain function, which runs in a thread, one
+        after another where there is one worker. Several coroutines may be under way at once. If one raises, or what it
+        returns is no reply (not bytes, or too long), the request is forgotten, `run` goes on, and the logger `deltat`
+        says it."""
 
         def serves(function: ServesSometime) -> ServesSometime:
             self._desk.claim(port, self._line)
@@ -634,11 +703,15 @@ class AsyncCalls:
             if reply is not None:
                 await self.reply(token, reply)
                 is_replied = True
-        except Spent:
-            # the node was closed while the function was at work
-            is_replied = True
         except Exception:
-            _log.exception("node %d: request %d of %s has no reply: it is forgotten, and its caller will be unsure", self.node.number, token.number, token.flow)
+            # (not if the node was closed while the function was at work)
+            if not self.udp._failure:
+                _log.exception(
+                    "node %d: request %d of %s has no reply: it is forgotten, and its caller will be unsure",
+                    self.node.number,
+                    token.number,
+                    token.flow,
+                )
         finally:
             if not is_replied:
                 self._forget(token)
