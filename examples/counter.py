@@ -5,7 +5,8 @@ No message is added twice, whatever the network repeats, and who sent it needs n
     examples/counter.py
     printf 'apples 3\\npears 5\\napples 4\\n' | tools/dtcat.py 1@4001 2@4002 --linger 1
 
-It is node 2 on port 4002, for node 1 on port 4001. Say `again` after it where it ran less than a second before."""
+It is node 2 on port 4002, for node 1 on port 4001. By its state folder, ~/.local/state/deltat-counter/2, it is silent at
+first if it ran less than half a second before."""
 import asyncio
 import collections
 import pathlib
@@ -28,13 +29,14 @@ def answer(sums: dict[str, int], message: deltat.Message) -> str:
     return f"{name} {sums[name]}"
 
 
-async def serve(again: bool) -> None:
+async def serve() -> None:
     sums: dict[str, int] = collections.Counter()
-    node = deltat.Node(2, PARAMS, [deltat.Link(1, CHARGE)], {1: 1}, again)
-    async with deltat.AsyncUdp(node, ("127.0.0.1", 4002), {1: ("127.0.0.1", 4001)}) as udp:
-        async for message in udp:
-            await udp.send(message.flow.reversed(), answer(sums, message).encode())
+    with deltat.State(deltat.usual_folder("deltat-counter", 2), 2, PARAMS) as state:
+        node = deltat.Node(2, PARAMS, [deltat.Link(1, CHARGE)], {1: 1}, state=state)
+        async with deltat.AsyncUdp(node, ("127.0.0.1", 4002), {1: ("127.0.0.1", 4001)}) as udp:
+            async for message in udp:
+                await udp.send(message.flow.reversed(), answer(sums, message).encode())
 
 
 if __name__ == "__main__":
-    asyncio.run(serve("again" in sys.argv[1:]))
+    asyncio.run(serve())

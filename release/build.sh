@@ -124,7 +124,9 @@ if [ -f "$libraries/libdeltat.so.0" ]; then
     install -m 644 "$libraries/libdeltat.a" "$libraries/libdeltat.so.0" "$root/usr/lib/$triplet"
     ln -s libdeltat.so.0 "$root/usr/lib/$triplet/libdeltat.so"
     ln -s ../../../../include/deltat.h "$doc/include/deltat.h"
-    install -m 644 "$top/bindings/python/deltat.py" "$top/bindings/python/deltat_record.py" "$top/bindings/python/deltat_service.py" "$root/usr/lib/python3/dist-packages"
+    for module in deltat deltat_record deltat_service deltat_state; do
+        install -m 644 "$top/bindings/python/$module.py" "$root/usr/lib/python3/dist-packages"
+    done
     python3 "$top/release/manpage.py" "$top/docs/library.md" "$version" "$date" >"$room/library.3"
     gzip -n9 <"$room/library.3" >"$root/usr/share/man/man3/libdeltat.3.gz"
     sed -i -e '$s/(5)$/(5),/' -e '$a.BR libdeltat (3)' "$room/deltat.1"

@@ -25,6 +25,7 @@ In tests/all: no words, 300 s."""
 from __future__ import annotations
 
 import asyncio
+import contextlib
 import dataclasses
 import hashlib
 import heapq
@@ -37,6 +38,7 @@ import sys
 import tempfile
 import threading
 import time
+from collections.abc import Iterator
 
 from lib import HOST, PROGRAM, TOP, Between, bound, free_port, skip
 
@@ -57,7 +59,7 @@ SHORT_RECORD = 1_500_000
 
 
 def node_of(number: int, other: int, again: bool, at: int) -> deltat.Node:
-    return deltat.Node(number, PARAMS, [deltat.Link(1, CHARGE)], {other: 1}, again, at)
+    return deltat.Node(number, PARAMS, [deltat.Link(1, CHARGE)], {other: 1}, again=again, at=at)
 
 
 def refused(error: type[Exception], call: object, *words: object, **named: object) -> bool:
@@ -72,8 +74,8 @@ def refused(error: type[Exception], call: object, *words: object, **named: objec
 def refusals() -> bool:
     node, flow = node_of(1, 2, False, 0), deltat.Flow(1, 10, 2, 20)
     right = [
-        refused(deltat.BadParameter, deltat.Node, 1, deltat.Params(1, 3000, 200, 500, 800, 100, 4096, 4096, 512), [], {}),
-        refused(deltat.BadParameter, deltat.Node, 1 << 32, PARAMS, [], {}),
+        refused(deltat.BadParameter, deltat.Node, 1, deltat.Params(1, 3000, 200, 500, 800, 100, 4096, 4096, 512), [], {}, again=False),
+        refused(deltat.BadParameter, deltat.Node, 1 << 32, PARAMS, [], {}, again=False),
         refused(deltat.BadParameter, node.send, flow, b"", at=1),
         refused(deltat.BadParameter, node.send, flow, bytes(65537), at=1),
         refused(deltat.BadParameter, node.send, flow.reversed(), b"hello", at=1),
@@ -101,7 +103,7 @@ def refusals() -> bool:
     octets = b"".join(it.to_bytes(4, "big") for it in dataclasses.astuple(PARAMS))
     right += [PARAMS.fingerprint == int.from_bytes(hashlib.sha256(octets).digest()[:8], "big")]
     right.append(refused(deltat.BadParameter, lambda: dataclasses.replace(PARAMS, mpl=1).fingerprint))
-    lonely = deltat.Node(1, PARAMS, [deltat.Link(1, CHARGE)], {}, False, 0)
+    lonely = deltat.Node(1, PARAMS, [deltat.Link(1, CHARGE)], {}, again=False, at=0)
     right.append(lonely.totals(flow) is None)
     lonely.follow(flow)
     lonely.send(flow, b"nowhere", at=1)
@@ -134,7 +136,7 @@ def taken(nodes: list[deltat.Node], at: int, is_lost: bool = False) -> list[tupl
 
 def whole() -> bool:
     longest = 150_000
-    nodes, flow, found = [node_of(1, 2, False, 0), deltat.Node(2, PARAMS, [deltat.Link(1, CHARGE)], {1: 1}, False, 0, longest)], deltat.Flow(1, 10, 2, 20), []
+    nodes, flow, found = [node_of(1, 2, False, 0), deltat.Node(2, PARAMS, [deltat.Link(1, CHARGE)], {1: 1}, again=False, at=0, longest=longest)], deltat.Flow(1, 10, 2, 20), []
     octets, at = random.Random(3).randbytes(longest), 0
     for place in range(0, longest, 50_000):
         nodes[0].send(flow, octets[place : place + 50_000], place == 0, place == 100_000, at=at)
@@ -154,7 +156,7 @@ def whole() -> bool:
     if found != wanted:
         print(f"whole: {[(port, it[:10], len(it), gap) for port, it, gap in found]} came")
     right = found == wanted and nodes[1].too_long == 0
-    nodes = [node_of(1, 2, False, 0), deltat.Node(2, PARAMS, [deltat.Link(1, CHARGE)], {1: 1}, False, 0, longest=5)]
+    nodes = [node_of(1, 2, False, 0), deltat.Node(2, PARAMS, [deltat.Link(1, CHARGE)], {1: 1}, again=False, at=0, longest=5)]
     for it in (b"longer", b"short", b"longest", b"end"):
         nodes[0].send(flow, it, at=1)
     return right and taken(nodes, 1) == [(10, b"short", True), (10, b"end", False)] and nodes[1].too_long == 2
@@ -240,7 +242,7 @@ sys.path.insert(0, {path!r})
 import deltat
 number, port, to, again, seconds = (int(word) for word in sys.argv[1:6])
 params = deltat.Params(mpl=1000, r=3000, a=200, rto=100, probe=800, seg=500, cap=65536, rcap=65536, window=65536)
-node = deltat.Node(number, params, [deltat.Link(1, 300)], {{3 - number: 1}}, bool(again))
+node = deltat.Node(number, params, [deltat.Link(1, 300)], {{3 - number: 1}}, again=bool(again))
 end, count = time.monotonic() + seconds, 0
 with deltat.Udp(node, ({host!r}, port), {{3 - number: ({host!r}, to)}}) as udp:
     while time.monotonic() < end:
@@ -381,7 +383,7 @@ def asynchronous() -> bool:
 
 
 def service_of(number: int, ports: dict[int, deltat_service.Kind]) -> deltat_service.Service:
-    service = deltat_service.Service(number, 1, PARAMS, [deltat.Link(1, CHARGE)], {3 - number: 1})
+    service = deltat_service.Service(number, 1, PARAMS, [deltat.Link(1, CHARGE)], {3 - number: 1}, again=False)
     for port, kind in ports.items():
         service.port(port, kind)
     return service
@@ -517,7 +519,7 @@ def recorded() -> bool:
         nodes = {}
         for number, most in ((1, deltat_record.MOST), (2, SHORT_RECORD)):
             deltat_record.MOST = most
-            nodes[number] = deltat_record.Recorded(f"{folder}/{number}", number, PARAMS, [deltat.Link(1, CHARGE)], {3 - number: 1}, number == 2)
+            nodes[number] = deltat_record.Recorded(f"{folder}/{number}", number, PARAMS, [deltat.Link(1, CHARGE)], {3 - number: 1}, again=number == 2)
         ends = {number: Failing(node, (HOST, link.nodes[number - 1]), {3 - number: (HOST, link.port(number))}) for number, node in nodes.items()}
         came = exchanged(ends, chance, PARAMS.quiet / 1000 + 6)
         for number, udp in ends.items():
@@ -533,12 +535,19 @@ def recorded() -> bool:
     return right and came > 20
 
 
+@contextlib.contextmanager
+def anew() -> Iterator[dict[str, str]]:
+    """The environment of nodes that never ran before."""
+    with tempfile.TemporaryDirectory() as folder:
+        yield {**os.environ, "XDG_STATE_HOME": folder}
+
+
 def asked(service: list[str]) -> bool:
     """Whether a service of the examples answers."""
-    with subprocess.Popen(service, stdout=subprocess.DEVNULL) as it:
+    with anew() as places, subprocess.Popen(service, stdout=subprocess.DEVNULL, env=places) as it:
         time.sleep(0.7)
         client = [sys.executable, str(TOP / "examples" / "echo.py"), "ask", "hello", "world"]
-        ran = subprocess.run(client, capture_output=True, text=True, timeout=20)
+        ran = subprocess.run(client, capture_output=True, text=True, timeout=20, env=places)
         it.kill()
     if ran.stdout != "olleh\ndlrow\n":
         print(f"examples: {service} was asked, and the answer was {ran.stdout!r} {ran.stderr[-200:]!r}")
@@ -547,10 +556,10 @@ def asked(service: list[str]) -> bool:
 
 def counted(service: list[str]) -> bool:
     """Whether a service of the examples that keeps sums answers what tools/dtcat.py sends."""
-    with subprocess.Popen(service, stdout=subprocess.DEVNULL) as it:
+    with anew() as places, subprocess.Popen(service, stdout=subprocess.DEVNULL, env=places) as it:
         time.sleep(0.7)
         client = [sys.executable, str(TOP / "tools" / "dtcat.py"), "1@4001", "2@4002", "--linger", "1"]
-        ran = subprocess.run(client, input="apples 3\npears 5\napples 4\n", capture_output=True, text=True, timeout=20)
+        ran = subprocess.run(client, input="apples 3\npears 5\napples 4\n", capture_output=True, text=True, timeout=20, env=places)
         it.kill()
     if ran.stdout != "apples 3\npears 5\napples 7\n":
         print(f"examples: {service} was asked, and the answer was {ran.stdout!r} {ran.stderr[-200:]!r}")

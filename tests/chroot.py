@@ -8,7 +8,7 @@ its variant minbase has, and one that has python3, man, pkg-config, a C compiler
 
 - In the first, which has no toolchain, no compiler and no Python, the package is installed, every block of README and
   of the tutorial is run in a copy of its pages, a clone's `./deltat` takes the installed program, and two nodes start by
-  their stamps. Then it is removed, and nothing is left.
+  their state folders. Then it is removed, and nothing is left.
 - In the second, the blocks of the other pages for users are run, with the library where `make -C lib` has made it; a
   program in C is compiled by pkg-config, and a client in Python asks it; man shows each man page. Then systemd is
   started there, as the first process of namespaces and of a cgroup of its own: the unit's node starts as `first`, is
@@ -42,15 +42,15 @@ ALONE = ("unshare", "--mount", "--propagation", "private", "--net")
 
 # what the plain tree hasn't got
 BARE = "for it in rt gcc cc tcc clang python3 man make; do ! command -v $it || exit 1; done"
-# two nodes that are started by stamps, and which stamps there are
-STAMPS = """cp -rL /usr/share/doc/deltat /root/pages
+# two nodes that are started by their state folders, and what these have
+STATES = """cp -rL /usr/share/doc/deltat /root/pages
 cd /root/pages
-mkdir stamps
-timeout 30 tools/run-node stamps examples/node-2.script >two &
-tools/run-node stamps examples/node-1.script >one
+mkdir state-1 state-2
+timeout 30 tools/run-node state-2 examples/node-2.script >two &
+tools/run-node state-1 examples/node-1.script >one
 grep -q 'read 2:20>1:10 rbe 776f726c64' one
 wait
-ls stamps
+ls state-1 state-2
 """
 REMOVED = """dpkg --purge deltat >/dev/null
 find / -xdev -path /root -prune -o -path /proc -prune -o -name '*deltat*' -print
@@ -195,8 +195,9 @@ def plain_cases(root: Path, package: str) -> list[Case]:
     ran = within(root, f"cd clone && ./deltat replay < {path}")
     right = (ran.returncode, ran.stdout) == (0, log) and "this is /usr/bin/deltat, which is installed" in ran.stderr
     cases.append(("a clone's ./deltat is the installed one", right, ran.stderr.strip()))
-    ran = within(root, STAMPS)
-    cases.append(("two nodes by their stamps", (ran.returncode, ran.stdout) == (0, "node-1.script\nnode-1.stamp\nnode-2.script\nnode-2.stamp\n"), ran.stderr[-300:]))
+    ran = within(root, STATES)
+    folders = "state-1:\nlock\nnode-1.script\nstate\n\nstate-2:\nlock\nnode-2.script\nstate\n"
+    cases.append(("two nodes by their state folders", (ran.returncode, ran.stdout) == (0, folders), ran.stderr[-300:]))
     ran = within(root, REMOVED)
     return [*cases, ("removed, and nothing is left", (ran.returncode, ran.stdout) == (0, ""), ran.stdout + ran.stderr[-300:])]
 

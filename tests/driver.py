@@ -237,9 +237,9 @@ class Network:
         it = self.numbers
         params = deltat.Params(it.mpl, it.r, it.a, it.rto, it.probe, it.seg, it.cap, it.rcap, it.window, it.run_limit, it.start)
         mine = [deltat.Link(link, *costs) for link, costs in self.links.items()]
-        self.nodes = {ME: deltat.Node(ME, params, mine, {2: 1, 3: 2, FAR: 1}, self.again, 0)}
+        self.nodes = {ME: deltat.Node(ME, params, mine, {2: 1, 3: 2, FAR: 1}, again=self.again, at=0)}
         for link, (number, other) in enumerate(((2, 3), (3, 2)), 1):
-            self.nodes[number] = deltat.Node(number, params, [deltat.Link(1, *self.links[link])], {ME: 1, other: 1}, False, 0)
+            self.nodes[number] = deltat.Node(number, params, [deltat.Link(1, *self.links[link])], {ME: 1, other: 1}, again=False, at=0)
         self.under_way: list[tuple[int, int, int, int, bytes]] = []
         self.commands: list[str] = []
         self.trace = ["@ 0"]

@@ -120,7 +120,7 @@ def files(root: Path) -> list[Case]:
     wanted = ["usr/lib/deltat/run-node", "usr/lib/deltat/params.py", "lib/systemd/system/deltat-node@.service", "usr/share/man/man1/deltat.1.gz",
               "usr/share/man/man5/deltat-formats.5.gz", "usr/share/bash-completion/completions/deltat", "usr/share/zsh/vendor-completions/_deltat"]
     if LIBRARY.exists():
-        wanted += ["usr/include/deltat.h", "usr/lib/python3/dist-packages/deltat.py", "usr/lib/python3/dist-packages/deltat_record.py", "usr/lib/python3/dist-packages/deltat_service.py", "usr/share/man/man3/libdeltat.3.gz"]
+        wanted += ["usr/include/deltat.h", "usr/lib/python3/dist-packages/deltat.py", "usr/lib/python3/dist-packages/deltat_record.py", "usr/lib/python3/dist-packages/deltat_service.py", "usr/lib/python3/dist-packages/deltat_state.py", "usr/share/man/man3/libdeltat.3.gz"]
         wanted += [f"usr/lib/{os.uname().machine}-linux-gnu/{it}" for it in ("libdeltat.a", "libdeltat.so.0", "libdeltat.so", "pkgconfig/deltat.pc")]
     missing = [it for it in wanted if not (root / it).is_file()] + [it.name for it in (TOP / "docs").glob("*.md") if not (doc / "docs" / it.name).is_file()]
     missing += [it.name for it in (TOP / "examples").rglob("*") if it.is_file() and it.suffix != ".pyc" and not (doc / it.relative_to(TOP)).is_file()]
@@ -225,7 +225,7 @@ def used(root: Path, room: Path) -> list[Case]:
 # two nodes of the package's Python module, and a message
 ASKS = """import deltat
 params = deltat.Params(1000, 3000, 200, 100, 800, 500, 4096, 4096, 4096)
-one, two = (deltat.Node(it, params, [deltat.Link(1, 90)], {3 - it: 1}, at=0) for it in (1, 2))
+one, two = (deltat.Node(it, params, [deltat.Link(1, 90)], {3 - it: 1}, again=False, at=0) for it in (1, 2))
 one.send(deltat.Flow(1, 10, 2, 20), b"hello", at=0)
 for frame in one.frames():
     two.arrive(frame.link, frame.octets, at=1)

@@ -125,7 +125,7 @@ class Simulated:
     def station(self, me: int, at: int, is_again: bool) -> PlainStation | LibraryStation:
         if self.deltat:
             params = self.deltat.Params(**dataclasses.asdict(self.params))
-            node = self.deltat.Node(me, params, [self.deltat.Link(1, CHARGE)], {3 - me: 1}, is_again, at)
+            node = self.deltat.Node(me, params, [self.deltat.Link(1, CHARGE)], {3 - me: 1}, again=is_again, at=at)
             self.stations.append(LibraryStation(self.deltat, node))
         else:
             self.stations.append(PlainStation(me, self.params, at, is_again))
@@ -254,11 +254,11 @@ class Pair(Alone):
         links, routes = [deltat.Link(it, WORLD_CHARGE) for it in others], {it: it for it in others}
         self.life = next(run.lives[me])
         params = deltat.Params(**dataclasses.asdict(run.params))
-        plain = deltat.Node(me, params, links, routes, is_again, run.at)
+        plain = deltat.Node(me, params, links, routes, again=is_again, at=run.at)
         self.model = service_model.Node(me, self.life, LibraryStation(deltat, plain), run.limits, run.at)
         service = importlib.import_module("deltat_service")
         limits = service.Limits(run.limits.most_waiting, run.limits.most_open, run.limits.most_each)
-        self.other = Half(service, service.Service(me, self.life, params, links, routes, is_again, run.at, limits))
+        self.other = Half(service, service.Service(me, self.life, params, links, routes, again=is_again, at=run.at, limits=limits))
         for port, kind in PORTS:
             self.model.port(port, kind)
             self.other.port(port, kind)

@@ -8,6 +8,8 @@ hasn't made the library, and with 1 where one of these fails:
 - ping: ten messages to a listener are acknowledged, and one to nobody is uncertain, with status 1.
 - recorded: what two ends and a ping recorded by --record is run again by `deltat retrace` to the very log beside it. It
   is left out where there is no program (./build).
+- states: a node that runs has its state folder to itself, the folder of another node is refused, one that can't be
+  written starts nothing, a node whose parameters were other ones is silent first, and --state and --help say where.
 - refused: faulty words, a port in use and no library are status 2, with a line that says so.
 
 In tests/all: no words, 120 s."""
@@ -19,7 +21,7 @@ import sys
 import tempfile
 import time
 
-from lib import HOST, PROGRAM, TOP, bound, free_port, skip
+from lib import HOST, PROGRAM, TOP, bound, free_port, is_up, skip
 
 LIBRARY = TOP / "lib" / "libdeltat.so.0"
 CAT, PING = str(TOP / "tools" / "dtcat.py"), str(TOP / "tools" / "dtping.py")
@@ -27,14 +29,19 @@ if not LIBRARY.exists():
     skip(f"{LIBRARY} isn't there: make -C lib")
 
 
+HOME = tempfile.TemporaryDirectory()
+places = {"XDG_STATE_HOME": HOME.name}
+
+
 def ends() -> tuple[str, str]:
-    """Two nodes at free ports."""
+    """Two nodes at free ports, which never ran before."""
+    places["XDG_STATE_HOME"] = tempfile.mkdtemp(dir=HOME.name)
     return f"1@{HOST}:{free_port()}", f"2@{HOST}:{free_port()}"
 
 
 def start(*words: str, given: bytes | None = None) -> "subprocess.Popen[bytes]":
     # a listener is stopped by an interrupt, which a shell in the background has its children ignore
-    it = subprocess.Popen([sys.executable, *words], stdin=subprocess.PIPE, stdout=subprocess.PIPE, stderr=subprocess.PIPE,
+    it = subprocess.Popen([sys.executable, *words], stdin=subprocess.PIPE, stdout=subprocess.PIPE, stderr=subprocess.PIPE, env={**os.environ, **places},
                           preexec_fn=lambda: signal.signal(signal.SIGINT, signal.SIG_DFL))
     if given is not None:
         it.stdin.write(given)
@@ -123,6 +130,37 @@ def recorded() -> bool:
         return set(statuses) <= {0, 1} and all([is_run_again(it) for it in records])
 
 
+def states() -> bool:
+    right = True
+
+    def tell(name: str, holds: bool) -> None:
+        nonlocal right
+        right &= holds
+        if not holds:
+            print(f"states: {name}")
+
+    one, two = ends()
+    listener = start(CAT, two, one, "--listen")
+    until = time.monotonic() + 20
+    while not is_up(int(two.split(":")[1])) and time.monotonic() < until:
+        time.sleep(0.05)
+    status, _, said = ended(start(CAT, two, one, given=b"x"))
+    tell("a second node 2", status == 2 and f"in use by process {listener.pid};" in said and f"{places['XDG_STATE_HOME']}/deltat/2" in said)
+    folder = os.path.join(HOME.name, "named")
+    status, _, said = ended(start(PING, one, two, "--count", "1", "--state", folder))
+    tell("a folder that is named", status < 2 and sorted(os.listdir(folder)) == ["last", "lock", "state"])
+    status, _, said = ended(start(PING, "3@" + one.split("@")[1], two, "--count", "1", "--state", folder))
+    tell("another node's folder", status == 2 and "is of node 1, and this is node 3" in said)
+    status, _, said = ended(start(PING, one, two, "--count", "1", "--state", "/proc/nowhere"))
+    tell("no folder", status == 2 and "/proc" in said)
+    begun = time.monotonic()
+    status, out, said = ended(start(PING, one, two, "--count", "1", "--state", folder, "--again", "--round-trip", "400"))
+    tell("other delays", "is silent for" in said and time.monotonic() - begun > 1 and "1 messages" in out)
+    stopped(listener)
+    tell("--help", "~/.local/state/deltat/NODE" in " ".join(ended(start(CAT, "--help"))[1].split()))
+    return right
+
+
 def refused() -> bool:
     right = True
     one, two = ends()
@@ -139,7 +177,7 @@ def refused() -> bool:
 
 def main() -> int:
     failed = 0
-    for test in (lines, both, ping, recorded, refused):
+    for test in (lines, both, ping, recorded, states, refused):
         well = test()
         failed += not well
         print(f"{test.__name__}: {'ok' if well else 'FAILED'}", flush=True)

@@ -155,15 +155,17 @@ class Reader:
         return not lacks and all(self.has_program(name) for begun, name in WANTED.items() if begun in block.text)
 
     def start(self, text: str) -> "subprocess.Popen[str]":
+        # (the nodes of each page are new ones)
+        places = {**os.environ, "XDG_STATE_HOME": str(self.top / "state")}
         return subprocess.Popen(["bash", "-euc", "set -o pipefail\n" + text], cwd=self.top, stdin=subprocess.DEVNULL, stdout=subprocess.PIPE,
-                                stderr=subprocess.STDOUT, text=True, start_new_session=True)
+                                stderr=subprocess.STDOUT, text=True, start_new_session=True, env=places)
 
     def service(self, text: str) -> "subprocess.Popen[str] | None":
         """Starts a service in Python, where there is what it needs."""
         if not self.has_library:
             return None
         path = {**os.environ, "PYTHONPATH": str(self.top / "bindings" / "python")}
-        return subprocess.Popen([sys.executable, "-c", text], env=path, stderr=subprocess.PIPE, text=True)
+        return subprocess.Popen([sys.executable, "-c", text], env=path, cwd=self.top, stderr=subprocess.PIPE, text=True)
 
     def finish(self, process: "subprocess.Popen[str]") -> str:
         """What it wrote, once it has ended; a status other than 0 is written behind that."""

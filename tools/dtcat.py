@@ -6,7 +6,9 @@
     seq 1000 | tools/dtcat.py 1@10.0.0.1:4001 2@10.0.0.2:4001
 
 Each line comes at most once, whole, and in order. Both ends say the same --delay and --round-trip. With --whole all of
-standard input is one message of at most 65,536 octets, and messages are written as they are.
+standard input is one message of at most 65,536 octets, and messages are written as they are. A start that follows
+another one of the same node waits first: until the quiet time since that one's last datagram is over (half a second
+with the usual delays), as the node's state folder says.
 
 It ends when standard input has ended and all that was sent is acknowledged or given up, and with --linger SECONDS so
 much later; with --listen it sends nothing and goes on until it is interrupted. Statuses: 0 all was acknowledged; 1

@@ -1,23 +1,23 @@
 """A node that keeps what it took in, so that its run can be run again.
 
-    node = deltat_record.Recorded("run.txt", 2, params, links, routes)
+    node = deltat_record.Recorded("run.txt", 2, params, links, routes, again=True)
     ...
     node.close()
 
-After that `deltat retrace < run.txt` writes what run.txt.log has: every report of the node, as the library told it. What
-a run did on one machine can so be seen on another one, line by line, and with other eyes.
+After that `deltat retrace < run.txt` writes what run.txt.log has: every report of the node, as the library told it.
+What a run did on one machine can so be seen on another one, line by line, and with other eyes.
 
-A script of a node does its commands in the first turn of their moment. So of a node that records a send or a read begins
-a new millisecond, unless it follows another one: it waits for that, and takes up to 1 ms longer. Moments are those since
-the node was opened. What is kept lies in memory until the node is closed; `retrace` reads 16,777,216 octets at most, and
-what came after about as many isn't kept."""
+A script of a node does its commands in the first turn of their moment. So of a node that records a send or a read
+begins a new millisecond, unless it follows another one: it waits for that, and takes up to 1 ms longer. Moments are
+those since the node was opened. What is kept lies in memory until the node is closed; `retrace` reads 16,777,216 octets
+at most, and what came after about as many isn't kept."""
 
 from __future__ import annotations
 
 import contextlib
 import pathlib
 import time
-from collections.abc import Iterator, Mapping, Sequence
+from collections.abc import Callable, Iterator, Mapping, Sequence
 from dataclasses import dataclass
 
 import deltat
@@ -49,7 +49,7 @@ def _fault(octets: bytes) -> str:
 _FAULTS = ("", "short", "version", "length", "dead", "protocol", "kind", "flags", "window", "size")
 
 # what stands behind the moment and the node, of each kind but PUT, which may have `unsent` behind it
-_WORDS = {
+_WORDS: dict[Kind, Callable[[Report], str]] = {
     Kind.TOOK: lambda it: f"took {it.flow} {it.count}",
     Kind.TOLD_QUIET: lambda it: f"refused {it.flow} quiet {it.moment}",
     Kind.TOLD_FULL: lambda it: f"refused {it.flow} full {it.count}",
@@ -80,7 +80,8 @@ _WORDS = {
 
 @dataclass
 class _Turn:
-    """The turn that is under way: its moment, whether it is the first one of it, and whether its tick is still to come."""
+    """The turn that is under way: its moment, whether it is the first one of it, and whether its tick is still to
+    come."""
 
     moment: int
     is_first: bool
@@ -107,7 +108,16 @@ class _Run:
         for number in reversed(failed):
             moment, node, _, link, _ = self.log[self.puts[number - 1]].split(" ")
             self.log.insert(self.puts[number - 1] + 1, f"{moment} {node} unsent {link}")
-        lines = [*setup, *self.commands, f"at {stop} stop", "trace", *(f"! {number}" for number in failed), *self.trace, "< -", f"@ {stop}"]
+        lines = [
+            *setup,
+            *self.commands,
+            f"at {stop} stop",
+            "trace",
+            *(f"! {number}" for number in failed),
+            *self.trace,
+            "< -",
+            f"@ {stop}",
+        ]
         return "".join(f"{it}\n" for it in lines), "".join(f"{it}\n" for it in [*self.log, f"end {stop}"])
 
 
@@ -118,33 +128,56 @@ class Recorded(deltat.Node):
     _TELL_OF_FLOWS = (Kind.ACCEPTED,)
 
     def __init__(
-        self, path: str | pathlib.Path, number: int, params: Params, links: Sequence[Link], routes: Mapping[int, int], again: bool = False,
+        self,
+        path: str | pathlib.Path,
+        number: int,
+        params: Params,
+        links: Sequence[Link],
+        routes: Mapping[int, int],
+        *,
+        again: bool | None = None,
+        state: deltat.State | None = None,
         at: int | None = None,
     ) -> None:
-        """Opens the node. BadParameter or NoMemory; OSError where nothing can be written there."""
+        """Opens the node, as a `Node`. TypeError, BadParameter, NoMemory or StateError; OSError if nothing can be written
+        there. Moments count from the start that a state knows, if there is one."""
         strange = [it.number for it in links if it.number > 255]
         if strange:
             raise deltat.BadParameter(f"a link of a node that records is {strange[0]}, which is above 255")
         self._path, self._base = pathlib.Path(path), deltat.now() if at is None else at
         self._path.write_text("")
-        self._setup = self._setup_of(number, params, links, routes, again)
         self._run = _Run([], ["@ 0"], [], [], [])
         # the run up to where the record was full, and the moment of its stop
         self._kept: tuple[_Run, int] | None = None
-        self._left = MOST - sum(len(it) + 1 for it in self._setup)
         self._turn, self._event_at, self._handed, self._is_closed = _Turn(0, True), 0, 0, False
         self._begun: dict[Flow, bytearray] = {}
         self._gaps: set[Flow] = set()
-        super().__init__(number, params, links, routes, again, 0)
+        super().__init__(number, params, links, routes, again=again, state=state, at=0)
+        self._setup = self._setup_of(number, params, links, routes, self._is_again)
+        self._left = MOST - sum(len(it) + 1 for it in self._setup)
+
+    def _begun_at(self, at: int | None) -> int:
+        self._base = super()._begun_at(self._base)
+        return 0
+
+    def _note(self, state: deltat.State, moment: int) -> None:
+        super()._note(state, moment + self._base)
 
     @staticmethod
-    def _setup_of(number: int, params: Params, links: Sequence[Link], routes: Mapping[int, int], again: bool) -> list[str]:
+    def _setup_of(
+        number: int, params: Params, links: Sequence[Link], routes: Mapping[int, int], again: bool
+    ) -> list[str]:
         """The setup of the script. Its addresses stand for those that its sockets had: nothing is sent there."""
         it = params
-        lines = [f"params {it.mpl} {it.r} {it.a} {it.rto} {it.probe} {it.seg} {it.cap} {it.rcap} {it.window} {it.run_limit} {it.start}"]
+        lines = [
+            f"params {it.mpl} {it.r} {it.a} {it.rto} {it.probe} {it.seg} {it.cap} {it.rcap} {it.window} {it.run_limit} "
+            f"{it.start}"
+        ]
         lines += [f"me {number} {'again' if again else 'first'}", "local 127.0.0.1:1"]
         first = {link.number: link for link in reversed(links)}
-        lines += [f"peer {link.number} 127.0.0.1:1 {link.charge} {link.pace}" for link in links if first[link.number] is link]
+        lines += [
+            f"peer {link.number} 127.0.0.1:1 {link.charge} {link.pace}" for link in links if first[link.number] is link
+        ]
         return lines + [f"route {to} {link}" for to, link in routes.items() if link in first and to != number] + ["go"]
 
     # --- turns

@@ -1,6 +1,7 @@
-"""Request and reply between nodes, over libdeltat: a call is handed out once by the other node's service, or not at all.
+"""Request and reply between nodes, over libdeltat: a call is handed out once by the other node's service, or not at
+all.
 
-    service = deltat_service.Service(2, life, params, [deltat.Link(1, charge)], {1: 1})
+    service = deltat_service.Service(2, life, params, [deltat.Link(1, charge)], {1: 1}, again=life > 1)
     service.port(20, deltat_service.Kind.SERVICE)
     with deltat.Udp(service, ("127.0.0.1", 4002), {1: ("127.0.0.1", 4001)}) as udp:
         served = deltat_service.Calls(udp)
@@ -11,17 +12,20 @@
 
         served.run()
 
-    client = deltat_service.Service(1, life, params, [deltat.Link(1, charge)], {2: 1})
+    client = deltat_service.Service(1, life, params, [deltat.Link(1, charge)], {2: 1}, again=life > 1)
     client.port(10, deltat_service.Kind.CALLER)
     with deltat.Udp(client, ("127.0.0.1", 4001), {2: ("127.0.0.1", 4002)}) as udp:
-        answer = deltat_service.Calls(udp).call(deltat.Flow(1, 10, 2, 20), b"hello", patience=5.0)
+        answer = deltat_service.Calls(udp).call(deltat.Flow(1, 10, 2, 20), b"hello", timeout=5.0)
 
-A call ends once: with the answer that the service gave to this very call, or by `Unsure`: served once, or not at all, or
-later. `Declined` says that nothing of it was sent. docs/service.md tells what to do then.
+A call ends once: with the answer that the service gave to this very call, or by `Unsure`: served once, or not at all,
+or later. `Declined` says that nothing of it was sent. docs/service.md tells what to do then.
 
 A life is a number of 32 bits that this node number never had at an earlier opening or `raise_life`: counted in a file
 that is written before the first call. A port is a caller's or a service's in each life of its node, and callers call
 services alone.
+
+A call of a `Service` names its timeout `timeout_ms`, in ms; those of `Calls` and `AsyncCalls` are `timeout`, in
+seconds.
 
 What a `Service` does is proved, up to the exports of the library; this file, which calls them, is tested only
 (`tests/services.py` compares it with a model of the definitions)."""
@@ -29,27 +33,51 @@ What a `Service` does is proved, up to the exports of the library; this file, wh
 from __future__ import annotations
 
 import asyncio
+import contextlib
 import ctypes
 import enum
+import functools
+import inspect
+import logging
 import time
+import weakref
 from collections import deque
-from collections.abc import AsyncIterator, Awaitable, Callable, Iterator, Mapping, Sequence
+from collections.abc import AsyncIterator, Awaitable, Callable, Iterable, Iterator, Mapping, Sequence
+from concurrent.futures import ThreadPoolExecutor
 from dataclasses import astuple, dataclass
 from typing import NamedTuple
 
 import deltat
-from deltat import BadParameter, Counts, DeltatError, Flow, Full, KeptOut, Link, Message, NoMemory, OutFrame, Params, Spent, Status
+from deltat import BadParameter, DeltatError, Flow, Full, Link, NoMemory, Params, Spent, Status
 
 __all__ = [
-    "Answered", "AsyncCalls", "CallCounts", "Calls", "Cause", "Declined", "Doubtful", "Gone", "Happening", "Kind", "Limits",
-    "ReplyUncertain", "Request", "Service", "Token", "Unsure",
+    "Answered",
+    "AsyncCalls",
+    "CallCounts",
+    "Calls",
+    "Cause",
+    "Declined",
+    "Doubtful",
+    "Gone",
+    "Happening",
+    "Kind",
+    "Limits",
+    "ReplyUncertain",
+    "Request",
+    "Service",
+    "Token",
+    "Unsure",
 ]
 
 MANY, NUMBERS, GONE = 16, 17, 18
 REQUEST, ANSWERED, UNSURE, REPLY_UNCERTAIN = 1, 2, 3, 4
+_log = logging.getLogger("deltat")
 UNFIT = {
-    1: "the flow doesn't go from this node to another", 2: "the flow doesn't go from a caller's port", 3: "its message is too long",
-    4: "a patience is 1 ms or more", 5: "too many octets were handed in",
+    1: "the flow doesn't go from this node to another",
+    2: "the flow doesn't go from a caller's port",
+    3: "its message is too long",
+    4: "timeout_ms is 0, and is 1 at least",
+    5: "too many octets were handed in",
 }
 
 
@@ -104,8 +132,8 @@ Happening = Request | Answered | Doubtful | ReplyUncertain
 
 
 class Declined(DeltatError):
-    """Nothing of the call was taken. `why` is `quiet` (until `until`, in ms), `full` (`free` octets are free, eight of which
-    a number takes), `many` (too many calls wait), or `numbers` (the life has no more: raise it)."""
+    """Nothing of the call was taken. `why` is `quiet` (until `until`, in ms), `full` (`free` octets are free, eight of
+    which a number takes), `many` (too many calls wait), or `numbers` (the life has no more: raise it)."""
 
     def __init__(self, why: str, until: int = 0, free: int = 0) -> None:
         super().__init__(why)
@@ -126,8 +154,8 @@ class Gone(DeltatError):
 
 @dataclass(frozen=True)
 class Limits:
-    """`waiting`: how many calls may wait or have an end that wasn't taken; `open`: how many requests may be without a reply, and
-    also how many may wait to be taken; `each`: how many requests of one flow may be without a reply."""
+    """`waiting`: how many calls may wait or have an end that wasn't taken; `open`: how many requests may be without a
+    reply, and also how many may wait to be taken; `each`: how many requests of one flow may be without a reply."""
 
     waiting: int = 1_000
     open: int = 1_000
@@ -135,8 +163,8 @@ class Limits:
 
 
 class CallCounts(NamedTuple):
-    """How many messages were dropped, by cause. `strange` and `reused` are alarms: a life was used before, or two nodes have
-    one number."""
+    """How many messages were dropped, by cause. `strange` and `reused` are alarms: a life was used before, or two nodes
+    have one number."""
 
     late: int
     old: int
@@ -151,7 +179,11 @@ class CallCounts(NamedTuple):
 
 
 class _Start(ctypes.Structure):
-    _fields_ = [("now", ctypes.c_uint64)] + [(name, ctypes.c_uint32) for name in "me life calls requests of_a_flow".split()] + [("again", ctypes.c_bool)]
+    _fields_ = (
+        [("now", ctypes.c_uint64)]
+        + [(name, ctypes.c_uint32) for name in "me life calls requests of_a_flow".split()]
+        + [("again", ctypes.c_bool)]
+    )
 
 
 class _Token(ctypes.Structure):
@@ -160,7 +192,11 @@ class _Token(ctypes.Structure):
 
 class _Made(ctypes.Structure):
     _fields_ = [
-        ("number", ctypes.c_uint64), ("until", ctypes.c_uint64), ("free", ctypes.c_uint32), ("status", ctypes.c_uint8), ("unfit", ctypes.c_uint8),
+        ("number", ctypes.c_uint64),
+        ("until", ctypes.c_uint64),
+        ("free", ctypes.c_uint32),
+        ("status", ctypes.c_uint8),
+        ("unfit", ctypes.c_uint8),
     ]
 
 
@@ -170,7 +206,11 @@ class _Replied(ctypes.Structure):
 
 class _Event(ctypes.Structure):
     _fields_ = [
-        ("number", ctypes.c_uint64), ("len", ctypes.c_size_t), ("flow", deltat._Flow), ("status", ctypes.c_uint8), ("kind", ctypes.c_uint8),
+        ("number", ctypes.c_uint64),
+        ("len", ctypes.c_size_t),
+        ("flow", deltat._Flow),
+        ("status", ctypes.c_uint8),
+        ("kind", ctypes.c_uint8),
         ("cause", ctypes.c_uint8),
     ]
 
@@ -182,7 +222,12 @@ class _CallCounts(ctypes.Structure):
 def _calls() -> dict[str, tuple[object, list[object]]]:
     """Each export: what it answers, and what it takes."""
     p, size, u8, u16, u32, u64 = (
-        ctypes.c_void_p, ctypes.c_size_t, ctypes.c_uint8, ctypes.c_uint16, ctypes.c_uint32, ctypes.c_uint64,
+        ctypes.c_void_p,
+        ctypes.c_size_t,
+        ctypes.c_uint8,
+        ctypes.c_uint16,
+        ctypes.c_uint32,
+        ctypes.c_uint64,
     )
     flow, token, octets = ctypes.POINTER(deltat._Flow), ctypes.POINTER(_Token), ctypes.c_void_p
     links, routes = ctypes.POINTER(deltat._Link), ctypes.POINTER(deltat._Route)
@@ -190,7 +235,10 @@ def _calls() -> dict[str, tuple[object, list[object]]]:
         "dt_service_size": (size, []),
         "dt_service_align": (size, []),
         "dt_service_init": (None, [p]),
-        "dt_service_open": (deltat._Opened, [p, ctypes.POINTER(deltat._Params), ctypes.POINTER(_Start), links, size, routes, size]),
+        "dt_service_open": (
+            deltat._Opened,
+            [p, ctypes.POINTER(deltat._Params), ctypes.POINTER(_Start), links, size, routes, size],
+        ),
         "dt_service_close": (None, [p]),
         "dt_port": (u8, [p, u16, u8]),
         "dt_call": (_Made, [p, u64, flow, octets, size, u32]),
@@ -217,78 +265,78 @@ for _name, (_answers, _takes) in _calls().items():
     _export.restype, _export.argtypes = _answers, _takes
 
 
-class Service:
-    """A node that calls and serves, without a socket: `deltat.Udp` and `deltat.AsyncUdp` drive it as any other node. Moments
-    are in ms; left out, they are `deltat.now()`. It has no plain ports."""
+class Service(deltat.AnyNode):
+    """A node that calls and serves, without a socket: `deltat.Udp` and `deltat.AsyncUdp` drive it as any other node.
+    Moments are in ms; left out, they are `deltat.now()`. It has no plain ports."""
+
+    _exports = deltat._Exports("dt_service_")
 
     def __init__(
-        self, number: int, life: int, params: Params, links: Sequence[Link], routes: Mapping[int, int], again: bool = False,
-        at: int | None = None, limits: Limits = Limits(),
+        self,
+        number: int,
+        life: int | None,
+        params: Params,
+        links: Sequence[Link],
+        routes: Mapping[int, int],
+        *,
+        again: bool | None = None,
+        state: deltat.State | None = None,
+        at: int | None = None,
+        limits: Limits = Limits(),
     ) -> None:
-        """Opens it. `routes` has the link that leads to each node. BadParameter or NoMemory."""
-        self.number, self.life, self.params, self.limits = number, life, params, limits
-        size, align = _library.dt_service_size(), _library.dt_service_align()
-        self._memory = ctypes.create_string_buffer(size + align)
-        at_octet = ctypes.addressof(self._memory)
-        self._handle = ctypes.c_void_p(at_octet + -at_octet % align)
-        self._room = ctypes.create_string_buffer(deltat.MOST_SEND)
-        _library.dt_service_init(self._handle)
-        self._open(links, routes, again, deltat.now() if at is None else at)
-
-    def _open(self, links: Sequence[Link], routes: Mapping[int, int], again: bool, at: int) -> None:
-        in_range = deltat._in_range
-        names = [name for name, _ in deltat._Params._fields_]
-        for name, value in zip(names, astuple(self.params)):
-            in_range(value, 32, name)
-        rows = (deltat._Link * max(len(links), 1))(
-            *(deltat._Link(in_range(it.charge, 32, "a charge"), in_range(it.pace, 32, "a pace"), in_range(it.number, 16, "a link")) for it in links)
-        )
-        ways = (deltat._Route * max(len(routes), 1))(
-            *(deltat._Route(in_range(to, 32, "a node"), in_range(link, 16, "a link")) for to, link in routes.items())
-        )
-        most = [in_range(it, 32, "a limit") for it in astuple(self.limits)]
-        start = _Start(at, in_range(self.number, 32, "the node"), in_range(self.life, 32, "the life"), *most, again)
-        opened = _library.dt_service_open(self._handle, deltat._Params(*astuple(self.params)), start, rows, len(links), ways, len(routes))
-        if opened.status == Status.REFUSED:
-            what = names[opened.field] if opened.field < len(names) else "a field"
-            raise BadParameter(f"{what} is {opened.value}, which is out of its range")
-        self._raise(opened.status)
-
-    def _raise(self, status: int) -> None:
-        """Raises what a status says, if it says that something went wrong for good."""
-        if status == Status.NO_MEMORY:
-            raise NoMemory("there was no memory")
-        if status in (Status.SPENT, Status.CLOSED):
-            raise Spent("the node is closed, or found no memory before")
+        """Opens it. `routes` has the link that leads to each node. Exactly one of `again` and `state` is given, as to
+        `deltat.Node`; a state has the life too, and then `life` is None. TypeError; BadParameter or NoMemory; what the
+        state raises."""
+        if (life is None) != (state is not None):
+            raise TypeError(f"node {number}: a life is given exactly if no state is, which counts lives itself")
+        most = [deltat._in_range(it, 32, "a limit") for it in astuple(limits)]
+        deltat._in_range(life or 0, 32, "the life")
+        super().__init__(number, params, links, routes, again, state)
+        self.limits, self.life = limits, life or 0 if self._state is None else self._state.life
+        self._kinds: dict[int, Kind] = {}
+        self._desk = _Desk(self)
+        self._open(_Start(self._begun_at(at), number, self.life, *most, self._is_again))
 
     def port(self, port: int, kind: Kind) -> None:
-        """Makes a port a caller's or a service's, before anything is sent from it or comes for it. BadParameter where it
-        has a kind."""
+        """Makes a port a caller's or a service's, before anything is sent from it or comes for it. BadParameter if it
+        has a kind; NoMemory, and then nothing changed; Spent."""
         status = _library.dt_port(self._handle, deltat._in_range(port, 16, "a port"), _KINDS[kind])
         if status == Status.HELD:
             raise BadParameter(f"port {port} has a kind")
         self._raise(status)
+        self._kinds[port] = kind
+        # the guard is made anew before the next datagram, once for however many ports
+        self._is_guard_due = self._flows > 0 and not self._is_guarded
 
-    def call(self, flow: Flow, payload: bytes, patience: int, at: int | None = None) -> int:
-        """Makes a call that ends within `patience` ms, 1 to 4,294,967,295, and returns its number. Declined, BadParameter or
-        Spent; nothing of it was sent then. NoMemory: the node is closed, and the call may have been made: if it was,
-        `happenings` tells its end."""
-        octets = bytes(payload)
-        deltat._in_range(patience, 32, "the patience")
-        made = _library.dt_call(self._handle, deltat.now() if at is None else at, deltat._flow(flow), octets, len(octets), patience)
+    def _read_ports(self) -> Sequence[int]:
+        return list(self._kinds)
+
+    def call(self, flow: Flow, payload: bytes, timeout_ms: int, at: int | None = None) -> int:
+        """Makes a call that ends within `timeout_ms`, 1 to 4,294,967,295, and returns its number. Declined,
+        BadParameter or Spent; nothing of it was sent then. NoMemory: the node is closed, and the call may have been
+        made: if it was, `happenings` has its end."""
+        octets = deltat._octets(payload)
+        deltat._in_range(timeout_ms, 32, "timeout_ms")
+        made = _library.dt_call(
+            self._handle, self._noted(at), deltat._flow(flow), octets, len(octets), timeout_ms
+        )
         if made.status == Status.DONE:
-            return made.number
+            return int(made.number)
         if made.status == Status.REFUSED:
             raise BadParameter(f"a call on {flow}: {UNFIT[made.unfit]}")
         self._raise(made.status)
-        raise Declined({Status.QUIET: "quiet", Status.FULL: "full", MANY: "many", NUMBERS: "numbers"}[made.status], made.until, made.free)
+        raise Declined(
+            {Status.QUIET: "quiet", Status.FULL: "full", MANY: "many", NUMBERS: "numbers"}[made.status],
+            made.until,
+            made.free,
+        )
 
     def reply(self, token: Token, payload: bytes, at: int | None = None) -> None:
-        """Replies to a request, once. Gone; or Full, and then it may be tried again (eight of the `free` octets are for its
-        number); or BadParameter where it is too long; or Spent. NoMemory: the node is closed, and the reply may have been
-        sent."""
-        octets = bytes(payload)
-        said = _library.dt_reply(self._handle, deltat.now() if at is None else at, _token(token), octets, len(octets))
+        """Replies to a request, once. Gone; or Full, and then it may be tried again (eight of the `free` octets are for
+        its number); or BadParameter if it is too long, and TypeError if it isn't bytes, and then the request waits on;
+        or Spent. NoMemory: the node is closed, and the reply may have been sent."""
+        octets = deltat._octets(payload)
+        said = _library.dt_reply(self._handle, self._noted(at), _token(token), octets, len(octets))
         if said.status == Status.FULL:
             raise Full(said.free)
         if said.status == Status.REFUSED:
@@ -298,7 +346,7 @@ class Service:
 
     def forget(self, token: Token, at: int | None = None) -> None:
         """Gives a request up: it never has a reply. Gone."""
-        status = _library.dt_forget(self._handle, deltat.now() if at is None else at, _token(token))
+        status = _library.dt_forget(self._handle, self._noted(at), _token(token))
         self._raise(status)
         self._raise_gone(status, token)
 
@@ -307,7 +355,7 @@ class Service:
             raise Gone(f"request {token.number} of {token.flow}")
 
     def raise_life(self, life: int) -> None:
-        """Goes on with another life, which this node number never had. BadParameter where it is in use."""
+        """Goes on with another life, which this node number never had. BadParameter if it is in use."""
         status = _library.dt_raise(self._handle, deltat._in_range(life, 32, "the life"))
         if status == Status.HELD:
             raise BadParameter(f"the life {life} is in use")
@@ -315,7 +363,8 @@ class Service:
         self.life = life
 
     def happenings(self) -> Iterator[Happening]:
-        """What was told, in its order, each once: also after `stop` and NoMemory."""
+        """Requests and ends of calls, in their order, each once: also after `stop` and NoMemory. A program that has
+        `Calls` over the node's socket leaves this to them."""
         while True:
             it = _library.dt_next_event(self._handle, self._room, len(self._room))
             if it.status == Status.ROOM:
@@ -328,190 +377,246 @@ class Service:
                 yield ReplyUncertain(deltat._flow_of(it.flow))
             else:
                 octets = ctypes.string_at(self._room, it.len)
-                yield Answered(it.number, octets) if it.kind == ANSWERED else Request(Token(deltat._flow_of(it.flow), it.number), octets)
+                yield Answered(it.number, octets) if it.kind == ANSWERED else Request(
+                    Token(deltat._flow_of(it.flow), it.number), octets
+                )
 
     def stop(self) -> None:
-        """Ends each call that waits as unsure, and does nothing more; `happenings` tells what was told. Called again it does
-        nothing."""
+        """Ends each call that waits as unsure, and does nothing more; `happenings` has what was told. Called again it
+        does nothing."""
         _library.dt_service_stop(self._handle)
 
-    def close(self) -> None:
-        """Frees what the node holds, and what wasn't taken of what was told. Called again it does nothing."""
-        _library.dt_service_close(self._handle)
-
-    def tick(self, at: int | None = None) -> None:
-        """Does what is due."""
-        self._raise(_library.dt_service_tick(self._handle, deltat.now() if at is None else at))
-
-    def arrive(self, link: int, datagram: bytes, waited: int = 0, at: int | None = None) -> Status:
-        """Hands in a datagram, as `deltat.Node.arrive` does."""
-        octets = bytes(datagram)
-        came = _library.dt_service_arrive(
-            self._handle, deltat.now() if at is None else at, deltat._in_range(link, 16, "a link"), octets, len(octets), min(waited, 0xFFFFFFFF)
-        )
-        self._raise(came.status)
-        return Status(came.status)
-
-    def guard(self, ports: Sequence[int] | None = None, flows: int = 0xFFFFFFFF) -> None:
-        """As `deltat.Node.guard`."""
-        chosen = [deltat._in_range(port, 16, "a port") for port in ports or ()]
-        octets = (ctypes.c_uint16 * max(len(chosen), 1))(*chosen)
-        self._raise(_library.dt_service_guard(self._handle, octets, len(chosen), ports is None, deltat._in_range(flows, 32, "a number of flows")))
-
-    def kept_out(self) -> KeptOut:
-        """How many datagrams the guard kept out since the node was opened."""
-        it = _library.dt_service_kept_out(self._handle)
-        return KeptOut(it.closed, it.crowded)
-
-    def counts(self) -> Counts:
-        """What the node counted of datagrams, frames and octets. Spent where it is closed."""
-        it = _library.dt_service_counts(self._handle)
-        self._raise(it.status)
-        return Counts(*(getattr(it, name) for name in Counts._fields))
-
     def call_counts(self) -> CallCounts:
-        """How many messages were dropped, by cause. Spent where the node is closed."""
+        """How many messages were dropped, by cause. Spent if the node is closed."""
         it = _library.dt_call_counts(self._handle)
         self._raise(it.status)
         return CallCounts(*(getattr(it, name) for name in CallCounts._fields))
-
-    def add_route(self, to: int, link: int) -> None:
-        """As `deltat.Node.add_route`."""
-        status = _library.dt_service_add_route(self._handle, deltat._Route(deltat._in_range(to, 32, "a node"), deltat._in_range(link, 16, "a link")))
-        if status in (Status.REFUSED, Status.HELD):
-            raise BadParameter(f"there is no link {link}" if status == Status.REFUSED else f"there is a route to node {to} already")
-        self._raise(status)
-
-    def frames(self) -> Iterator[OutFrame]:
-        """The datagrams that left the node, in their order, each once."""
-        while True:
-            out = _library.dt_service_next_frame(self._handle, self._room, len(self._room))
-            if out.status != Status.DONE:
-                return
-            yield OutFrame(out.link, out.to, ctypes.string_at(self._room, out.len))
-
-    def unsent(self) -> None:
-        """Says that the frame that `frames` handed out last wasn't put on the wire: it is a loss, and nothing else."""
-
-    def messages(self, at: int | None = None) -> Iterator[Message]:
-        """There are none but requests and answers."""
-        return iter(())
-
-    @property
-    def wake(self) -> int | None:
-        """The moment at which `tick` has something to do, or None."""
-        it = _library.dt_service_wake(self._handle)
-        return it.at if it.some else None
 
 
 def _token(token: Token) -> _Token:
     return _Token(number=deltat._in_range(token.number, 64, "the number of a call"), flow=deltat._flow(token.flow))
 
 
-def _patience(seconds: float) -> int:
-    return max(1, round(seconds * 1000))
+def _ms(timeout: float) -> int:
+    """A timeout in seconds, in ms, 1 at least."""
+    if not timeout < 4_294_967:
+        raise BadParameter(f"timeout is {timeout} s; it is below 4,294,967 s (of a Service, timeout_ms is in ms)")
+    return max(1, round(timeout * 1000))
+
+
+class _Line:
+    """The requests that wait for those who serve a port. `wake` tells them that one came, or that none comes any
+    more."""
+
+    def __init__(self, wake: Callable[[], None]) -> None:
+        self.requests: deque[Request] = deque()
+        self.wake = wake
+
+
+class _Desk:
+    """Takes what a node of calls tells: the end of each call goes to who waits for it, each request into the line of
+    who serves its port. A node has one, however many `Calls` there are over its socket."""
+
+    def __init__(self, node: Service) -> None:
+        # (the node has the desk)
+        self._node = weakref.ref(node)
+        self.ends: dict[int, Callable[[Answered | Doubtful], None]] = {}
+        # the lines of ports that somebody serves, the requests for other ports, and all lines
+        self.lines: dict[int, _Line] = {}
+        self.others: deque[Request] = deque()
+        self.all: list[_Line] = []
+        # the flows of requests of which a reply was given up: one entry a flow
+        self.uncertain: set[Flow] = set()
+
+    def opened(self, ports: Iterable[int], wake: Callable[[], None] = lambda: None) -> _Line:
+        """A line for these ports. BadParameter if another one has one of them."""
+        line = _Line(wake)
+        for port in ports:
+            self.claim(port, line)
+        self.all.append(line)
+        return line
+
+    def claim(self, port: int, line: _Line) -> None:
+        """From now on requests for a port wait in this line, those too that came before. BadParameter if another has
+        it."""
+        if self.lines.setdefault(deltat._in_range(port, 16, "a port"), line) is not line:
+            raise BadParameter(f"port {port} is served by other Calls over this socket")
+        line.requests += [it for it in self.others if it.token.flow.target_port == port]
+        self.others = deque(it for it in self.others if it.token.flow.target_port != port)
+
+    def next_request(self, line: _Line) -> Request | None:
+        """The first request that waits in a line, or else for a port that nobody serves."""
+        return line.requests.popleft() if line.requests else self.others.popleft() if self.others else None
+
+    def take(self) -> bool:
+        """Takes what was told since. Whether there was something."""
+        node, is_some = self._node(), False
+        for it in node.happenings() if node else ():
+            is_some = True
+            if isinstance(it, ReplyUncertain):
+                self.uncertain.add(it.flow)
+                continue
+            if not isinstance(it, Request):
+                end = self.ends.pop(it.number, None)
+                if end:
+                    end(it)
+                continue
+            line = self.lines.get(it.token.flow.target_port)
+            (line.requests if line else self.others).append(it)
+            for waiting in (line,) if line else self.all:
+                waiting.wake()
+        return is_some
+
+    def close(self) -> None:
+        """Ends each call that waits as unsure, and tells all that nothing comes any more."""
+        while self.ends:
+            number, end = self.ends.popitem()
+            end(Doubtful(number, Cause.CLOSED))
+        for line in self.all:
+            line.wake()
+
+
+def _service(node: deltat.AnyNode) -> Service:
+    """The node, if it is one of calls. BadParameter if it isn't."""
+    if not isinstance(node, Service):
+        raise BadParameter(f"node {node.number} isn't a deltat_service.Service: it has plain messages, and no calls")
+    return node
+
+
+Serves = Callable[[Request], bytes | None]
+ServesSometime = Callable[[Request], bytes | None | Awaitable[bytes | None]]
 
 
 class Calls:
-    """Calls and requests over a socket that drives such a node, for one thread."""
+    """Calls and requests over a socket that drives such a node, for one thread. Timeouts are in seconds.
 
-    def __init__(self, udp: deltat.Udp) -> None:
+    There may be several over one socket. Each call gets its own end. A request goes to those `Calls` that serve its
+    port: by `ports`, or by a function (`on`); one for a port that nobody named goes to any."""
+
+    def __init__(self, udp: deltat.Udp, ports: Iterable[int] = ()) -> None:
+        """BadParameter if the socket's node isn't one of calls, or other `Calls` serve a port."""
         self.udp: deltat.Udp = udp
-        self.node: Service = udp.node
-        self._requests: deque[Request] = deque()
-        self._ends: dict[int, Answered | Doubtful] = {}
-        self.uncertain: set[Flow] = set()
-        """The flows of requests of which a reply was given up. The program takes out what it has dealt with."""
-        self._functions: dict[int, Callable[[Request], bytes | None]] = {}
+        self.node: Service = _service(udp.node)
+        self._desk = self.node._desk
+        self._line = self._desk.opened(ports)
+        self.uncertain: set[Flow] = self._desk.uncertain
+        """The flows of requests of which a reply was given up, of all `Calls` over this socket. The program takes out what
+        it has dealt with."""
+        self._functions: dict[int, Serves] = {}
 
-    def call(self, flow: Flow, payload: bytes, patience: float = 5.0) -> bytes:
-        """The answer to a call, within `patience` seconds. Unsure; Declined, BadParameter or Spent where it wasn't made; NoMemory
-        where the node closed as it was to be made: take it as unsure."""
-        at = deltat.now()
-        try:
-            number = self.node.call(flow, payload, _patience(patience), at)
-        finally:
-            self.udp.flush(at)
-        while number not in self._ends:
+    def call(self, flow: Flow, payload: bytes, timeout: float = 5.0) -> bytes:
+        """The answer to a call, within `timeout` seconds. Unsure; Declined, BadParameter or Spent if it wasn't made;
+        NoMemory if the node closed as it was to be made: take it as unsure."""
+        ended: list[Answered | Doubtful] = []
+        with self.udp._lock:
+            at = deltat.now()
             try:
+                number = self.node.call(flow, payload, _ms(timeout), at)
+                self._desk.ends[number] = ended.append
+            finally:
+                self.udp.flush(at)
+        try:
+            while not ended:
                 self._poll(None)
-            except (NoMemory, Spent):
-                self._take()
-                self._ends.setdefault(number, Doubtful(number, Cause.CLOSED))
-        return _answer(self._ends.pop(number))
+        except (NoMemory, Spent):
+            self._take()
+            if not ended:
+                raise Unsure(Cause.CLOSED) from None
+        finally:
+            self._desk.ends.pop(number, None)
+        return _answer(ended[0])
 
     def requests(self, seconds: float | None = None) -> Iterator[Request]:
-        """The requests that come, for so long at most after the last one (None: without end)."""
+        """The requests that come, for so long at most after the last one (None: until the socket is closed). Between
+        two of them the node waits for the program: what takes long is done in `with udp.background()`."""
         while True:
             end = None if seconds is None else time.monotonic() + seconds
-            while not self._requests:
+            if self.udp.is_closed:
+                self.node.wake  # Forked, in a child
+                return
+            if deltat.now() - self.udp._looked_at > deltat.MOST_BUSY:
+                # of many requests that wait each may take its time: the node isn't left alone for so long
+                self._look()
+            while (request := self._desk.next_request(self._line)) is None:
                 left = None if end is None else end - time.monotonic()
                 if left is not None and left <= 0:
                     return
-                self._poll(left)
-            while self._requests:
-                yield self._requests.popleft()
+                try:
+                    self._poll(left)
+                except Spent as why:
+                    if isinstance(why, deltat.Forked) or not self.udp.is_closed:
+                        raise
+                    return
+            yield request
 
     def reply(self, token: Token, payload: bytes, seconds: float = 60.0) -> None:
-        """Replies, as soon as there is room, for so long at most. Gone, Full or BadParameter."""
+        """Replies, as soon as there is room, for so long at most. Gone, Full or BadParameter; TypeError if it isn't
+        bytes."""
         end = time.monotonic() + seconds
         while True:
-            at = deltat.now()
-            try:
-                self.node.reply(token, payload, at)
-                return
-            except Full:
-                if time.monotonic() >= end:
-                    raise
-            finally:
-                self.udp.flush(at)
+            with self.udp._lock:
+                at = deltat.now()
+                try:
+                    self.node.reply(token, payload, at)
+                    return
+                except Full:
+                    if time.monotonic() >= end:
+                        raise
+                finally:
+                    self.udp.flush(at)
             self._poll(0.05)
 
-    def on(self, port: int) -> Callable[[Callable[[Request], bytes | None]], Callable[[Request], bytes | None]]:
-        """Decorates the function that serves a port: what it returns is the reply. Where it returns None or raises, the
-        request is forgotten: its caller is unsure when its patience is over."""
+    def on(self, port: int) -> Callable[[Serves], Serves]:
+        """Decorates the function that serves a port: what it returns is the reply. If it returns None or raises, or
+        what it returns is no reply (not bytes, or too long), the request is forgotten: its caller is unsure when its
+        timeout is over. BadParameter if other `Calls` over this socket serve the port."""
 
-        def serves(function: Callable[[Request], bytes | None]) -> Callable[[Request], bytes | None]:
+        def serves(function: Serves) -> Serves:
+            self._desk.claim(port, self._line)
             self._functions[port] = function
             return function
 
         return serves
 
     def run(self, seconds: float | None = None) -> None:
-        """Serves, for so long at most after the last request (None: without end). What a function raises is raised here, when
-        its request is forgotten."""
+        """Serves, for so long at most after the last request (None: until the socket is closed). One function runs at a
+        time, in this thread; while it takes long another thread does what the node has due (`deltat.Udp.background`).
+        What a function raises is raised here, when its request is forgotten."""
         for request in self.requests(seconds):
             function = self._functions.get(request.token.flow.target_port)
-            reply = None
+            is_replied = False
             try:
-                reply = function(request) if function else None
+                with self.udp.background():
+                    reply = function(request) if function else None
+                if reply is not None:
+                    self.reply(request.token, reply)
+                    is_replied = True
             finally:
-                if reply is None:
+                if not is_replied:
                     self._forget(request.token)
-            if reply is not None:
-                self.reply(request.token, reply)
 
     def _forget(self, token: Token) -> None:
-        at = deltat.now()
-        self.node.forget(token, at)
-        self.udp.flush(at)
+        """Forgets a request, if the node has it and isn't closed."""
+        with self.udp._lock, contextlib.suppress(Gone, Spent):
+            at = deltat.now()
+            self.node.forget(token, at)
+            self.udp.flush(at)
+
+    def _look(self) -> None:
+        """Does what came and is due, and takes what was told. Nothing if the socket is closed."""
+        with contextlib.suppress(Spent):
+            self.udp.poll(0)
+        self._take()
 
     def _poll(self, seconds: float | None) -> None:
-        """Takes what was told; where nothing was, waits for it."""
+        """Takes what was told; if nothing was, waits for it."""
         if not self._take():
             self.udp.poll(seconds)
             self._take()
 
     def _take(self) -> bool:
-        told = list(self.node.happenings())
-        for it in told:
-            if isinstance(it, Request):
-                self._requests.append(it)
-            elif isinstance(it, ReplyUncertain):
-                self.uncertain.add(it.flow)
-            else:
-                self._ends[it.number] = it
-        return bool(told)
+        with self.udp._lock:
+            return self._desk.take()
 
 
 def _answer(end: Answered | Doubtful) -> bytes:
@@ -520,109 +625,129 @@ def _answer(end: Answered | Doubtful) -> bytes:
     return end.answer
 
 
+def _ended(future: asyncio.Future[Answered | Doubtful], end: Answered | Doubtful) -> None:
+    """Hands the end of a call to who waits for it, if it still does."""
+    if not future.done():
+        future.set_result(end)
+
+
+def _is_coroutine(function: object) -> bool:
+    """Whether a call of it runs nothing before it is awaited."""
+    return inspect.iscoroutinefunction(function) or inspect.iscoroutinefunction(getattr(function, "__call__", None))
+
+
 class AsyncCalls:
-    """The same over `deltat.AsyncUdp`: many calls may wait at once, and many requests be served."""
+    """The same over `deltat.AsyncUdp`: many calls may wait at once, and many requests be served. Timeouts are in
+    seconds."""
 
-    def __init__(self, udp: deltat.AsyncUdp) -> None:
+    def __init__(self, udp: deltat.AsyncUdp, ports: Iterable[int] = (), workers: int = 1) -> None:
+        """As `Calls`. `workers`: in how many threads the plain functions run that serve ports."""
         self.udp: deltat.AsyncUdp = udp
-        self.node: Service = udp.node
-        self._requests: deque[Request] = deque()
-        self._ends: dict[int, asyncio.Future[Answered | Doubtful]] = {}
-        self.uncertain: set[Flow] = set()
+        self.node: Service = _service(udp.node)
+        self._desk = self.node._desk
+        self._came = asyncio.Event()
+        self._line = self._desk.opened(ports, self._came.set)
+        self.uncertain: set[Flow] = self._desk.uncertain
         """As that of `Calls`."""
-        self._functions: dict[int, Callable[[Request], Awaitable[bytes | None]]] = {}
+        self._functions: dict[int, ServesSometime] = {}
         self._tasks: set[asyncio.Task[None]] = set()
+        self._threads = ThreadPoolExecutor(workers, f"deltat node {self.node.number}")
+        udp._takers.append(self._take)
 
-    async def call(self, flow: Flow, payload: bytes, patience: float = 5.0) -> bytes:
-        """The answer to a call, within `patience` seconds. Unsure; Declined, BadParameter or Spent where it wasn't made; NoMemory
-        where the node closed as it was to be made, or before: take it as unsure. Where the wait is cancelled the call goes
-        on, and its end is dropped."""
-        number = self._does(lambda at: self.node.call(flow, payload, _patience(patience), at))
-        end = self._ends[number] = asyncio.get_running_loop().create_future()
+    def _take(self) -> None:
+        """Takes what a turn told, and ends what waits when there are no more turns."""
+        if not self.udp.udp.is_closed:
+            self._desk.take()
+        if self.udp._failure:
+            self._desk.close()
+            self._threads.shutdown(wait=False)
+
+    async def call(self, flow: Flow, payload: bytes, timeout: float = 5.0) -> bytes:
+        """The answer to a call, within `timeout` seconds. Unsure; Declined, BadParameter or Spent if it wasn't made;
+        NoMemory if the node closed as it was to be made, or before: take it as unsure. If the wait is cancelled the
+        call goes on, and its end is dropped."""
+        end: asyncio.Future[Answered | Doubtful] = asyncio.get_running_loop().create_future()
+        self.udp._check()
+        at = deltat.now()
         try:
-            while not end.done():
-                await self._step()
-        except (NoMemory, Spent):
-            self._take()
-            return _answer(end.result() if end.done() else Doubtful(number, Cause.CLOSED))
+            number = self.node.call(flow, payload, _ms(timeout), at)
+            self._desk.ends[number] = functools.partial(_ended, end)
+        except NoMemory as why:
+            self.udp._fail(why)
+            raise
         finally:
-            del self._ends[number]
-        return _answer(end.result())
+            self.udp._left(at)
+        return _answer(await end)
 
     async def reply(self, token: Token, payload: bytes) -> None:
-        """Replies, as soon as there is room. Gone or BadParameter, NoMemory or Spent."""
-        while True:
-            try:
-                return self._does(lambda at: self.node.reply(token, payload, at))
-            except Full:
-                await self._step()
+        """Replies, as soon as there is room. Gone or BadParameter, NoMemory or Spent; TypeError if it isn't bytes."""
+        await self.udp._when_room(token.flow.reversed(), lambda at: self.node.reply(token, payload, at))
 
     async def requests(self) -> AsyncIterator[Request]:
-        """The requests that come, without end."""
+        """The requests that come, until the socket is closed. NoMemory."""
         while True:
-            while self._requests:
-                yield self._requests.popleft()
-            await self._step()
+            self._came.clear()
+            while not self.udp._failure and (request := self._desk.next_request(self._line)):
+                yield request
+            if self.udp._failure:
+                if not self.udp.udp.is_closed:
+                    self.udp._check()
+                return
+            await self._came.wait()
 
-    def on(self, port: int) -> Callable[[Callable[[Request], Awaitable[bytes | None]]], Callable[[Request], Awaitable[bytes | None]]]:
-        """Decorates the coroutine that serves a port, as `Calls.on`. Several may be under way at once. Of one that raises the
-        request is forgotten, and `run` goes on: asyncio logs what it raised."""
+    def on(self, port: int) -> Callable[[ServesSometime], ServesSometime]:
+        """Decorates the coroutine that serves a port, as `Calls.on`, or a plain function, which runs in a thread, one
+        after another where there is one worker. Several coroutines may be under way at once. If one raises, or what it
+        returns is no reply (not bytes, or too long), the request is forgotten, `run` goes on, and the logger `deltat`
+        says it."""
 
-        def serves(function: Callable[[Request], Awaitable[bytes | None]]) -> Callable[[Request], Awaitable[bytes | None]]:
+        def serves(function: ServesSometime) -> ServesSometime:
+            self._desk.claim(port, self._line)
             self._functions[port] = function
             return function
 
         return serves
 
     async def run(self) -> None:
-        """Serves, until it is cancelled."""
+        """Serves, until it is cancelled or the socket is closed."""
         async for request in self.requests():
             task = asyncio.get_running_loop().create_task(self._serve(request))
             self._tasks.add(task)
             task.add_done_callback(self._tasks.discard)
 
     async def _serve(self, request: Request) -> None:
+        token, is_replied = request.token, False
+        try:
+            reply = await self._served(request)
+            if reply is not None:
+                await self.reply(token, reply)
+                is_replied = True
+        except Exception:
+            # (not if the node was closed while the function was at work)
+            if not self.udp._failure:
+                _log.exception(
+                    "node %d: request %d of %s has no reply: it is forgotten, and its caller will be unsure",
+                    self.node.number,
+                    token.number,
+                    token.flow,
+                )
+        finally:
+            if not is_replied:
+                self._forget(token)
+
+    async def _served(self, request: Request) -> bytes | None:
+        """What the function of a request's port returns."""
         function = self._functions.get(request.token.flow.target_port)
-        reply = None
-        try:
-            reply = await function(request) if function else None
-        finally:
-            if reply is None:
-                self._does(lambda at: self.node.forget(request.token, at))
-        if reply is not None:
-            await self.reply(request.token, reply)
+        if function is None:
+            return None
+        result: bytes | None | Awaitable[bytes | None]
+        if _is_coroutine(function):
+            result = function(request)
+        else:
+            result = await asyncio.get_running_loop().run_in_executor(self._threads, function, request)
+        return await result if isinstance(result, Awaitable) else result
 
-    def _does(self, act: Callable[[int], object]) -> object:
-        """Does something at the node, and puts what leaves on the wire."""
-        if self.udp._failure:
-            raise self.udp._failure
-        at = deltat.now()
-        try:
-            return act(at)
-        finally:
-            self.udp.udp.flush(at)
-            self.udp._arm()
-            self._take()
-
-    async def _step(self) -> None:
-        """Takes what was told; where nothing was, waits until something changed."""
-        if self._take():
-            await asyncio.sleep(0)
-            return
-        if self.udp._failure:
-            raise self.udp._failure
-        await self.udp._wait()
-        self._take()
-
-    def _take(self) -> bool:
-        told = list(self.node.happenings())
-        for it in told:
-            if isinstance(it, Request):
-                self._requests.append(it)
-            elif isinstance(it, ReplyUncertain):
-                self.uncertain.add(it.flow)
-            elif it.number in self._ends and not self._ends[it.number].done():
-                self._ends[it.number].set_result(it)
-        if told:
-            self.udp._changed.set()
-        return bool(told)
+    def _forget(self, token: Token) -> None:
+        """Forgets a request, if the node has it and isn't closed."""
+        with contextlib.suppress(Gone, Spent, NoMemory):
+            self.udp._does(lambda at: self.node.forget(token, at))

@@ -5,7 +5,7 @@ them again.
     bank.py ask|ask-tcp FOLDER NUMBER UNTIL SEED
 
 UNTIL is a moment in ms of `deltat.now()`: until then a client gives orders, and after it only finds out what became of
-them. In FOLDER are the journal of the bank, and the notes of each client."""
+them. In FOLDER are the journal of the bank, the notes of each client, and the state folders of their nodes."""
 import asyncio
 import os
 import pathlib
@@ -38,11 +38,9 @@ DRAIN_MS = 15_000
 
 def bank_udp(folder: pathlib.Path) -> deltat.Udp:
     """The bank's node: each client is a link of its own."""
-    notes = Notes(folder / "bank.notes", BANK)
-    life = notes.new_life()
     links = [deltat.Link(it, CHARGE) for it in range(1, CLIENTS + 1)]
     routes = {it: it for it in range(1, CLIENTS + 1)}
-    node = service.Service(BANK, life, PARAMS, links, routes, again=life > 1)
+    node = service.Service(BANK, None, PARAMS, links, routes, state=deltat.State(folder / "bank", BANK, PARAMS))
     node.port(20, service.Kind.SERVICE)
     peers = {it: (CLIENT_HOST, PORT + it + (TO_CLIENT if IS_RELAYED else 0)) for it in routes}
     return deltat.Udp(node, (BANK_HOST, PORT), peers, routes)
@@ -67,8 +65,8 @@ class Client:
     def __init__(self, folder: pathlib.Path, number: int, until: int, seed: int) -> None:
         self.number, self.until = number, until
         self.notes = Notes(folder / f"client-{number}.notes", number)
-        self.life = self.notes.new_life()
-        self.chance = random.Random(f"{seed} {number} {self.life}")
+        self.folder = folder / f"client-{number}"
+        self.chance = random.Random(f"{seed} {number} {self.notes.new_life()}")
 
     def order(self) -> str:
         """A new order, which is written down before it is given."""
@@ -90,7 +88,8 @@ class CallingClient(Client):
     order was handed out before the question, or never will be."""
 
     def run(self) -> None:
-        node = service.Service(self.number, self.life, PARAMS, [deltat.Link(1, CHARGE)], {BANK: 1}, again=self.life > 1)
+        state = deltat.State(self.folder, self.number, PARAMS)
+        node = service.Service(self.number, None, PARAMS, [deltat.Link(1, CHARGE)], {BANK: 1}, state=state)
         node.port(10, service.Kind.CALLER)
         with client_udp(node) as self.udp:
             self.calls = service.Calls(self.udp)

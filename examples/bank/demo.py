@@ -213,7 +213,7 @@ def first_ask(folder: pathlib.Path) -> None:
     """How long a first answer takes, in ms: on a flow, or a connection, that was never used."""
     time.sleep(1)
     took: dict[str, list[float]] = {"calls": [], "TCP": []}
-    node = service.Service(1, 1, bank.PARAMS, [deltat.Link(1, bank.CHARGE)], {bank.BANK: 1})
+    node = service.Service(1, 1, bank.PARAMS, [deltat.Link(1, bank.CHARGE)], {bank.BANK: 1}, again=False)
     with bank.client_udp(node) as udp:
         calls = service.Calls(udp)
         for at in range(FIRSTS):

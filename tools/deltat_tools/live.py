@@ -13,6 +13,10 @@ from deltat_tools import parameters as par
 from deltat_tools.arguments import number
 
 
+SILENCE_SAID = 1_000
+"""A silence that is longer, in ms, is said on standard error."""
+
+
 class End(NamedTuple):
     """A node and its address. Written `NODE@HOST:PORT`, or `NODE@PORT` on 127.0.0.1."""
 
@@ -35,7 +39,9 @@ def add_words(it: argparse.ArgumentParser) -> None:
     it.add_argument("--delay", type=number(0, par.DAY), default=50, help="the longest delay of the link, in ms (50): the same at both ends")
     it.add_argument("--round-trip", type=number(0, par.DAY), default=20, help="a usual round trip, in ms (20): the same at both ends")
     it.add_argument("--ports", nargs=2, type=number(0, 65_535, int), default=(10, 10), metavar=("OWN", "PEER"), help="the ports of the flow (10 10)")
-    it.add_argument("--again", action="store_true", help="this node's number may have been used shortly before: be silent at first")
+    it.add_argument("--state", metavar="DIR", type=pathlib.Path, help="the node's state folder, by which it knows how long it has to be silent at first "
+                    "($XDG_STATE_HOME/deltat/NODE, or ~/.local/state/deltat/NODE)")
+    it.add_argument("--again", action="store_true", help="be silent for the whole quiet time, whatever the state folder says")
     it.add_argument("--record", metavar="PATH", help="keep what the node takes in: `deltat retrace` writes of PATH what is in PATH.log, the node's log")
 
 
@@ -50,25 +56,36 @@ def library() -> ModuleType:
     return deltat
 
 
-def recorded(path: str, *given: object) -> object:
+def recorded(path: str, *given: object, state: object) -> object:
     """A node that keeps its run. OSError where nothing can be written there."""
     import deltat_record
-    return deltat_record.Recorded(path, *given)
+    return deltat_record.Recorded(path, *given, state=state)
 
 
 class Live:
     """The node of a tool, its socket, and what its flow has sent."""
 
-    def __init__(self, asked: argparse.Namespace) -> None:
-        self.deltat = library()
+    def __init__(self, asked: argparse.Namespace, deltat: ModuleType) -> None:
+        """As `opened`, which closes what this opens, the state folder last."""
+        self.deltat = deltat
         hop = par.Hop(asked.delay, 2, 100.0)
         chosen = par.suited([[hop]], par.Wishes(asked.round_trip))
         self.params = self.deltat.Params(*astuple(chosen))
         # what a datagram waits at this machine is told and charged beside the link, so the link's charge hasn't it
         links = [self.deltat.Link(1, par.link_charge(hop, chosen) - par.SOCKET_WAIT)]
-        given = asked.own.node, self.params, links, {asked.peer.node: 1}, asked.again
-        node = recorded(asked.record, *given) if asked.record else self.deltat.Node(*given)
-        self.udp = self.deltat.Udp(node, (asked.own.host, asked.own.port), {asked.peer.node: (asked.peer.host, asked.peer.port)})
+        # whoever says other delays has changed the parameters at both ends
+        folder = asked.state or self.deltat.usual_folder("deltat", asked.own.node)
+        self.state = self.deltat.State(folder, asked.own.node, self.params, again=asked.again, changed=True)
+        try:
+            given = asked.own.node, self.params, links, {asked.peer.node: 1}
+            node = recorded(asked.record, *given, state=self.state) if asked.record else self.deltat.Node(*given, state=self.state)
+            self.udp = self.deltat.Udp(node, (asked.own.host, asked.own.port), {asked.peer.node: (asked.peer.host, asked.peer.port)})
+        except BaseException:
+            self.state.close()
+            raise
+        if self.state.silence() > SILENCE_SAID:
+            print(f"{pathlib.Path(sys.argv[0]).name}: node {asked.own.node} is silent for {self.state.silence() / 1000:.1f} s, since it ran before ({folder})",
+                  file=sys.stderr)
         self.flow = self.deltat.Flow(asked.own.node, asked.ports[0], asked.peer.node, asked.ports[1])
         self.taken = self.settled = self.uncertain = self.resent = 0
 
@@ -95,11 +112,12 @@ class Live:
 
 @contextlib.contextmanager
 def opened(asked: argparse.Namespace) -> Iterator[Live]:
-    """The node that was asked for, closed behind its use. OSError where its port can't be had; ValueError where there
-    are no parameters for such a link."""
+    """The node that was asked for, closed after its use. OSError where its port can't be had, or its state folder not
+    written; ValueError where there are no parameters for such a link, or the state folder is another node's or in use."""
+    deltat = library()
     try:
-        it = Live(asked)
-    except par.Unsuited as why:
+        it = Live(asked, deltat)
+        with it.state, it.udp:
+            yield it
+    except (par.Unsuited, deltat.StateError) as why:
         raise ValueError(str(why)) from why
-    with it.udp:
-        yield it
