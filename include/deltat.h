@@ -3,7 +3,7 @@
  * The program feeds it datagrams, octets to send and the time; it takes datagrams to put on the wire, octets that
  * came, and the moment when to call again. Each function but the four of sizes and alignments has a proved contract, in
  * crates/dt_c: what it returns, what the handle holds after it and what it writes. That memory is found and is freed is
- * tested. What is promised between nodes (once, in order) are laws with premises of their own: docs/library.md and
+ * tested. The promises between nodes (once, in order) are laws with premises of their own: docs/library.md and
  * docs/service.md have them.
  *
  *   for (;;) {
@@ -184,9 +184,9 @@ uint8_t dt_add_route(dt_node *n, const struct dt_route *route);
 /* How long a node that is opened `again` is silent: 3 mpl + r + a; 0 exactly where a parameter is out of its range. */
 uint64_t dt_quiet(const struct dt_params *p);
 
-/* A number of the parameters, which two programs compare. Equal parameters give equal numbers. That different ones give
- * different numbers isn't proved. It is the first eight octets of the SHA-256 digest of
- * the eleven numbers, each as four octets, the greatest first in both. DONE; REFUSED: a parameter is out of its range. */
+/* A number of the parameters, which two programs compare. Equal parameters give equal numbers. That different ones
+ * give different numbers isn't proved. It is the first eight octets of the SHA-256 digest of the eleven numbers, each
+ * as four octets, the greatest first in both. DONE; REFUSED: a parameter is out of its range. */
 struct dt_fingerprint dt_fingerprint(const struct dt_params *p);
 
 /* EVENTS. Each is one event of the node's definition at `now`, and all that is due then is done; its frames wait for
@@ -226,13 +226,14 @@ uint8_t dt_inbox(dt_node *n, size_t longest);
 uint8_t dt_hear(dt_node *n, const struct dt_flow *f);
 
 /* A whole message of the first flow that was heard of and has one: the first `len` octets of the buffer, the rest of
- * which is as it was. `gap`: a run mark was read before it, or octets were lost for want of memory, so octets of the flow before it are
- * lost, or may be; it isn't set for a message that was too long. `too_long`: so many messages of all
- * flows were longer than `longest` since dt_inbox, 2^64 - 1 at most. Flows are read as by dt_read, and what is due at
- * `now` is done then. DONE CLOSED, and where it isn't DONE the buffer is as it was; NOTHING: no flow has one; ROOM: it
- * has `len` octets, and waits; LOST: the message of this flow is lost, and the next one has a gap; MORE: 65,537 flows
- * had none, and others may have one; NO_MEMORY SPENT: a flow can't be read, and dt_take looks at it no more, so the
- * next one answers NOTHING where no other flow was heard of. A message that waits for room is handed out all the same. */
+ * which is as it was. `gap`: a run mark was read before it, or octets were lost for want of memory, so octets of the
+ * flow before it are lost, or may be; it isn't set for a message that was too long. `too_long`: so many messages of
+ * all flows were longer than `longest` since dt_inbox, 2^64 - 1 at most. Flows are read as by dt_read, and what is due
+ * at `now` is done then. DONE CLOSED, and where it isn't DONE the buffer is as it was; NOTHING: no flow has one; ROOM:
+ * it has `len` octets, and waits; LOST: the message of this flow is lost, and the next one has a gap; MORE: 65,537
+ * flows had none, and others may have one; NO_MEMORY SPENT: a flow can't be read, and dt_take looks at it no more, so
+ * the next one answers NOTHING where no other flow was heard of. A message that waits for room is handed out all the
+ * same. */
 struct dt_message dt_take(dt_node *n, uint64_t now, uint8_t *buf, size_t room);
 
 /* THE GUARD: what strangers may open. From now on the node receives at these ports, or at all ports where `all` is set,
