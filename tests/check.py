@@ -108,6 +108,20 @@ def pages(room: Room) -> Iterator[tuple[str, bool, str]]:
     yield spoilt(room, "tools/dtping.py", lambda it: it + "\ndef (:\n", "a script in Python that can't be read fails")
     yield spoilt(room, "release/gate.sh", lambda it: it + "\nif true\n", "a script of the shell that can't be read fails")
     yield spoilt(room, "README.md", lambda it: it.replace("\n0 lost 0\n", "\n0 lost 1\n"), "a log that README doesn't show fails")
+    yield lost(room)
+
+
+def lost(room: Room) -> tuple[str, bool, str]:
+    """A file that isn't there fails its check, and what the gate ended with stays the status."""
+    file = room.top / "examples" / "loss-repeat-restart.schedule"
+    file.rename(room.folder / "schedule")
+    try:
+        status, lines = room.ran(FAILS, "check")
+    finally:
+        (room.folder / "schedule").rename(file)
+    # (the pages name the file too)
+    is_right = status == 3 and lines[-1] == "96 passed, 3 failed"
+    return "a file that isn't there fails, and the gate's status stays", is_right, f"{status}: {lines[-1]}"
 
 
 def quick(room: Room) -> Iterator[tuple[str, bool, str]]:
