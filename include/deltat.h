@@ -1,20 +1,22 @@
 /* deltat.h: a Delta-t node without a socket, a clock or a thread of its own.
  *
  * The program feeds it datagrams, octets to send and the time; it takes datagrams to put on the wire, octets that
- * came, and the moment when to call again. What each function does is proved, but for the sizes and
- * alignments, which are the compiler's: a sentence of its contract stands beside it, and the contract itself in crates/dt_c.
- * What the program owes nothing checks:
+ * came, and the moment when to call again. Each function but the four of sizes and alignments has a proved contract, in
+ * crates/dt_c: what it returns, what the handle holds after it and what it writes. That memory is found and is freed is
+ * tested. The promises between nodes (once, in order) are laws with premises of their own: docs/library.md and
+ * docs/service.md have them.
  *
  *   for (;;) {
  *       struct dt_moment wake = dt_wake(node);        wait for the socket, at most until `wake`
  *       a datagram came: dt_arrive(node, now(), link, buf, len, waited);   none did: dt_tick(node, now());
  *       while ((r = dt_next_report(node)).status == DT_DONE)
- *           if (r.kind == DT_ACCEPTED || r.kind == DT_RELEASED) dt_hear(node, &r.flow);
- *       while ((m = dt_take(node, now(), buf, sizeof buf)).status == DT_DONE)     m.len octets of m.flow are a message
+ *           if (r.kind == DT_ACCEPTED || r.kind == DT_RELEASED) dt_hear(node, &r.flow);    again if it finds no memory
+ *       while ((m = dt_take(node, now(), buf, longest)).status == DT_DONE || m.status == DT_MORE || m.status == DT_LOST)
+ *           if (m.status == DT_DONE)                  m.len octets of m.flow are a message
  *       while ((f = dt_next_frame(node, buf, sizeof buf)).status == DT_DONE)     send it on f.link, or to f.to
  *   }
  *
- * What you owe
+ * Duties of the caller. The library can't check these.
  *   memory   A handle lies in dt_size() octets of yours, aligned to dt_align(). dt_init first, once; from then on it
  *            is never read, written, copied or moved; dt_close before the memory goes. No pointer is null, not even
  *            where a length is 0; each length is that of the memory there, below 2^63; nothing that one call is given
@@ -31,7 +33,7 @@
  *            rounded up: by SO_TIMESTAMPNS, or the time since the socket was last found empty. A datagram that was
  *            changed on its way is not handed in: a wire that can change one has a checksum or a key of its own.
  *   restart  A node number that may have been used less than dt_quiet() ms ago is opened with `again`.
- *   peers    All nodes have the same parameters but `start`, and different numbers.
+ *   peers    All nodes have the same parameters, and different numbers.
  */
 #ifndef DELTAT_H
 #define DELTAT_H
@@ -54,14 +56,14 @@ enum dt_status {
                          dt_service_tick and dt_service_arrive, and the service is stopped. Of other calls nothing
                          changed */
     DT_CLOSED = 2,    /* the handle holds no node, or none with an inbox; nothing changed */
-    DT_REFUSED = 3,   /* an argument is out of its range; nothing changed */
+    DT_REFUSED = 3,   /* an argument is out of its range; nothing changed but, of a datagram, a count */
     DT_HELD = 4,      /* there is a node, an inbox or a route already; nothing changed */
     DT_NOTHING = 5,   /* there is nothing to hand over */
     DT_ROOM = 6,      /* the buffer is too small, and what was to go into it waits on */
     DT_FULL = 7,      /* the octets don't fit, and weren't taken; what else was due is done */
     DT_QUIET = 8,     /* the node is silent, and took none; what else was due is done */
-    DT_SPENT = 9,     /* an earlier call found no memory, or the service was stopped; nothing changed, but that dt_take
-                         looks for no message of that flow any more */
+    DT_SPENT = 9,     /* an earlier call found no memory, or the service was stopped; nothing changed but, of a datagram,
+                         a count, and that dt_take looks for no message of that flow any more */
     DT_BAD = 11,      /* the datagram doesn't read; nothing changed but a count */
     DT_STALE = 12,    /* the datagram waited for all of its life, or longer; nothing changed but a count */
     DT_KEPT_OUT = 13, /* the guard doesn't admit the datagram, which is lost and counted; nothing else changed */
@@ -166,7 +168,7 @@ uint32_t dt_abi(void);   /* DT_ABI of the library: compare it with the header's 
 size_t dt_size(void);    /* how many octets a handle takes */
 size_t dt_align(void);   /* to how many it is aligned */
 void dt_init(dt_node *n);  /* on fresh memory: the handle holds no node */
-void dt_close(dt_node *n); /* frees what the node holds; the handle holds no node, and may be opened again */
+void dt_close(dt_node *n); /* the handle holds no node, and may be opened again. That all memory is freed is tested */
 
 /* Makes the node of these parameters, start, links and routes, all of which are copied. DONE NO_MEMORY HELD; REFUSED,
  * exactly where a parameter is out of its range: `field` is the place of the first such one in dt_params, counted from
@@ -182,9 +184,9 @@ uint8_t dt_add_route(dt_node *n, const struct dt_route *route);
 /* How long a node that is opened `again` is silent: 3 mpl + r + a; 0 exactly where a parameter is out of its range. */
 uint64_t dt_quiet(const struct dt_params *p);
 
-/* A number of the parameters: two programs that hand it to each other see where theirs differ, since equal parameters
- * have equal ones, and it would take a search for two others to. It is the first eight octets of the SHA-256 digest of
- * the eleven numbers, each as four octets, the greatest first in both. DONE; REFUSED: a parameter is out of its range. */
+/* A number of the parameters, which two programs compare. Equal parameters give equal numbers. That different ones
+ * give different numbers isn't proved. It is the first eight octets of the SHA-256 digest of the eleven numbers, each
+ * as four octets, the greatest first in both. DONE; REFUSED: a parameter is out of its range. */
 struct dt_fingerprint dt_fingerprint(const struct dt_params *p);
 
 /* EVENTS. Each is one event of the node's definition at `now`, and all that is due then is done; its frames wait for
@@ -210,11 +212,12 @@ struct dt_sent dt_send(dt_node *n, uint64_t now, const struct dt_flow *f, const 
  * one; ROOM: `room` is 0. */
 struct dt_piece dt_read(dt_node *n, uint64_t now, const struct dt_flow *f, uint8_t *buf, size_t room);
 
-/* MESSAGES, put together from what is read: each from its begin mark to its end mark, whole and once, those of a flow
- * in the order in which they were sent. Who takes the messages of a flow doesn't call dt_read for it. */
+/* MESSAGES, put together from what is read, each from its begin mark to its end mark. A law says that messages which a
+ * program joins so from its reads were sent, each once at most and in order; that dt_take hands out these is tested. A
+ * program that takes the messages of a flow doesn't call dt_read for it. */
 
-/* From now on messages of at most `longest` octets are put together; a longer one is dropped and counted. What has come
- * of a message that isn't whole lies in memory. DONE CLOSED HELD */
+/* From now on messages of at most `longest` octets are put together; a longer one is dropped and counted. The part
+ * of a message that has arrived is kept in memory. DONE CLOSED HELD */
 uint8_t dt_inbox(dt_node *n, size_t longest);
 
 /* Octets of this flow may be unread, so dt_take looks for a message of it. Call it at each report ACCEPTED, and at each
@@ -223,12 +226,14 @@ uint8_t dt_inbox(dt_node *n, size_t longest);
 uint8_t dt_hear(dt_node *n, const struct dt_flow *f);
 
 /* A whole message of the first flow that was heard of and has one: the first `len` octets of the buffer, the rest of
- * which is as it was. `gap`: octets of the flow before it are lost, or may be. `too_long`: so many messages of all
- * flows were longer than `longest` since dt_inbox, 2^64 - 1 at most. Flows are read as by dt_read, and what is due at
- * `now` is done then. DONE CLOSED, and where it isn't DONE the buffer is as it was; NOTHING: no flow has one; ROOM: it
- * has `len` octets, and waits; LOST: the message of this flow is lost, and the next one has a gap; MORE: 65,537 flows
- * had none, and others may have one; NO_MEMORY SPENT: a flow can't be read, and dt_take looks at it no more, so the
- * next one answers NOTHING where no other flow was heard of. A message that waits for room is handed out all the same. */
+ * which is as it was. `gap`: a run mark was read before it, or octets were lost for want of memory, so octets of the
+ * flow before it are lost, or may be; it isn't set for a message that was too long. `too_long`: so many messages of
+ * all flows were longer than `longest` since dt_inbox, 2^64 - 1 at most. Flows are read as by dt_read, and what is due
+ * at `now` is done then. DONE CLOSED, and where it isn't DONE the buffer is as it was; NOTHING: no flow has one; ROOM:
+ * it has `len` octets, and waits; LOST: the message of this flow is lost, and the next one has a gap; MORE: 65,537
+ * flows had none, and others may have one; NO_MEMORY SPENT: a flow can't be read, and dt_take looks at it no more, so
+ * the next one answers NOTHING where no other flow was heard of. A message that waits for room is handed out all the
+ * same. */
 struct dt_message dt_take(dt_node *n, uint64_t now, uint8_t *buf, size_t room);
 
 /* THE GUARD: what strangers may open. From now on the node receives at these ports, or at all ports where `all` is set,
@@ -264,26 +269,28 @@ struct dt_out dt_next_frame(dt_node *n, uint8_t *buf, size_t room);
 struct dt_report dt_next_report(dt_node *n);
 
 /* The least moment at which something is due: dt_tick then. None (`some` is false) where there is no such moment, the
- * node is spent or the handle holds none. Nothing changes. After a dt_tick it is past only of a node that was called so
- * late that a segment isn't sent again any more; nothing is due then, so let a loop wait for 1 ms at least. */
+ * node is spent or the handle holds none. Nothing changes. It may be past after a dt_tick too, as of a node that was called
+ * so late that a segment isn't sent again any more, so let a loop wait for 1 ms at least. */
 struct dt_moment dt_wake(dt_node *n);
 
 /* SERVICES: request and reply between nodes. A service is a node of its own kind, in a handle of its own kind, with the
  * duties above; dt_node calls aren't for it, and it has no plain ports. Each call below that has a `now` is one turn of the
  * definition: an event, or none where a token is forgotten, and then its end. What came for ports with a kind is read then,
  * in whole messages; requests are handed out and calls are answered; and each call whose octets were given up or whose
- * patience is over ends. What is refused isn't a turn, and changes nothing (a datagram: a count).
+ * patience is over ends. What is refused isn't a turn, and changes nothing (a datagram: a count). That a request is handed
+ * out once at most and that an answer is the one to its call are laws about networks in which each node is a service:
+ * docs/service.md has their premises.
  *
  *   for (;;) {
  *       struct dt_moment wake = dt_service_wake(s);       wait for the socket, at most until `wake`
  *       a datagram came: dt_service_arrive(s, now(), link, buf, len, waited);   none did: dt_service_tick(s, now());
- *       while ((e = dt_next_event(s, buf, sizeof buf)).status == DT_DONE)
+ *       while ((e = dt_next_event(s, buf, sizeof buf)).status == DT_DONE)         65,536 octets have room for each
  *           if (e.kind == DT_REQUEST) dt_reply(s, now(), &(struct dt_token){e.number, e.flow}, answer, len);   at once or later,
  *                                                                                                        in any order
  *       while ((f = dt_service_next_frame(s, buf, sizeof buf)).status == DT_DONE)    send it on f.link, or to f.to
  *   }
  *
- * What you owe beside the duties above
+ * Duties beside those above
  *   life     No two openings of a node number, and no dt_raise, have the same life: counted in a file that is written
  *            before the first call, or drawn. Else a late answer may be taken for the answer to another call.
  *   kinds    A port is a caller's or a service's in each life of its node, and callers call services alone. */
@@ -309,9 +316,9 @@ struct dt_call_counts { uint64_t late, old, strange, reused, cut, too_long, too_
 
 enum dt_port_kind { DT_CALLER = 1, DT_SERVICE = 2 };
 enum dt_event_kind {
-    DT_REQUEST = 1,  /* a request was handed out, once: its token is `number` and `flow`, and `len` octets are its payload */
-    DT_ANSWERED = 2, /* the call `number` ended with its answer, `len` octets: its request was handed out once */
-    DT_UNSURE = 3,   /* the call `number` ended without: it was served once or not at all, and may still be; `cause` */
+    DT_REQUEST = 1,  /* a request: its token is `number` and `flow`, and `len` octets are its payload */
+    DT_ANSWERED = 2, /* the call `number` ended with its answer, `len` octets */
+    DT_UNSURE = 3,   /* the call `number` ended without: its request was handed out, or not, or may still be; `cause` */
     DT_REPLY_UNCERTAIN = 4 /* replies to requests of `flow` were given up: each was delivered once or not at all, and its caller gets no
                               report. `flow` is reported again only after this event was taken */
 };
@@ -327,7 +334,7 @@ enum dt_unfit { /* why a call or a reply is REFUSED */
 size_t dt_service_size(void);          /* how many octets a handle of a service takes */
 size_t dt_service_align(void);         /* to how many it is aligned */
 void dt_service_init(dt_service *s);   /* on fresh memory: the handle holds no service */
-void dt_service_close(dt_service *s);  /* frees what the service holds, untold ends too; the handle may be opened again */
+void dt_service_close(dt_service *s);  /* the handle holds no service, its untaken ends are gone; it may be opened again */
 
 /* Makes the service of these parameters, start, links and routes, all of which are copied; no port has a kind. As dt_open:
  * DONE NO_MEMORY HELD REFUSED. */

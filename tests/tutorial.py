@@ -43,7 +43,7 @@ from lib import PROGRAM, TOP
 
 PAGES = ["README.md", "docs/tutorial.md", "docs/parameters.md", "docs/operating.md", "docs/building.md", "docs/library.md", "docs/tools.md"]
 # what a page tells people to run and this doesn't: the whole build and its tests, and what changes the machine
-NOT_RUN = ("./build", "rt ci", "tests/all", "bench/all", "sudo ", "release/build.sh", "release/gate.sh", "make -C lib")
+NOT_RUN = ("./build", "./check", "rt ci", "tests/all", "bench/all", "sudo ", "release/build.sh", "release/gate.sh", "make -C lib")
 # reports that come more often, or not at all, where a machine is busy
 BUSY = {"put", "resent", "replied", "ignored", "quiet", "unsent"}
 SECONDS = 120

@@ -1,8 +1,11 @@
 """The bank's servers and clients, over calls between nodes and over TCP. `demo.py` starts them, kills them, and starts
 them again.
 
-    bank.py serve|serve-tcp FOLDER
+    bank.py serve|serve-tcp|serve-names|serve-synced FOLDER
     bank.py ask|ask-tcp FOLDER NUMBER UNTIL SEED
+
+`serve-names` and `serve-synced` serve over TCP, by a bank that remembers the names of orders in memory, or in files that
+are synced; their clients are those of `ask-tcp`.
 
 UNTIL is a moment in ms of `deltat.now()`: until then a client gives orders, and after it only finds out what became of
 them. In FOLDER are the journal of the bank, the notes of each client, and the state folders of their nodes."""
@@ -14,7 +17,7 @@ import socket
 import sys
 import time
 
-from accounts import ACCOUNTS, Bank, Notes
+from accounts import ACCOUNTS, Bank, NamedBank, Notes, SyncedBank
 
 sys.path.insert(0, str(pathlib.Path(__file__).resolve().parents[2] / "bindings" / "python"))
 import deltat  # noqa: E402
@@ -117,17 +120,19 @@ class CallingClient(Client):
         if fate is None:
             self.notes.note(f"unsure {order}")
         else:
-            self.notes.note(f"fate {order} {fate}")
+            self.notes.new_fate(order, fate)
 
     def look(self, order: str) -> None:
         fate = self.asked(f"booked? {order}".encode())
         if fate is not None:
-            self.notes.note(f"fate {order} {fate}")
+            self.notes.new_fate(order, fate)
 
 
-async def serve_tcp(folder: pathlib.Path) -> None:
-    bank = Bank(folder / "journal")
+OVER_TCP = {"serve-tcp": Bank, "serve-names": NamedBank, "serve-synced": SyncedBank}
+"""The banks that are served over TCP."""
 
+
+async def serve_tcp(bank: Bank) -> None:
     async def answer(reader: asyncio.StreamReader, writer: asyncio.StreamWriter) -> None:
         try:
             while line := await reader.readline():
@@ -142,25 +147,32 @@ async def serve_tcp(folder: pathlib.Path) -> None:
 
 
 class TcpClient(Client):
-    """Over TCP: an order that isn't answered in time, or whose connection breaks, is given again."""
+    """Over TCP: an order that isn't answered in time, or whose connection breaks, is given again. With a bank that
+    remembers names that is what to do; with one that doesn't the order may be booked twice."""
 
     stream: socket.socket | None = None
+    # whether octets of the last request may have reached the bank
+    is_unsure = False
 
     def run(self) -> None:
         while not self.is_over():
             order = next(iter(self.notes.open_orders()), None) or self.order()
             fate = self.asked(f"transfer {order} {self.notes.orders[order]}\n".encode())
             if fate is not None:
-                self.notes.note(f"fate {order} {fate}")
+                self.notes.new_fate(order, fate)
                 time.sleep(self.think())
+            elif self.is_unsure:
+                self.notes.note(f"unsure {order}")
         if self.number == 1 and (told := self.asked(b"sum\n")):
             self.notes.note(f"sum {told}")
 
     def asked(self, request: bytes) -> str | None:
         """What was answered, or None: there was no connection, it broke, or it took too long."""
+        self.is_unsure = False
         try:
             if self.stream is None:
                 self.stream = socket.create_connection((BANK_HOST, PORT), PATIENCE)
+            self.is_unsure = True
             self.stream.sendall(request)
             answer = b""
             while not answer.endswith(b"\n"):
@@ -181,8 +193,8 @@ def main() -> None:
     word, folder, *words = sys.argv[1:]
     if word == "serve":
         serve(pathlib.Path(folder))
-    elif word == "serve-tcp":
-        asyncio.run(serve_tcp(pathlib.Path(folder)))
+    elif word in OVER_TCP:
+        asyncio.run(serve_tcp(OVER_TCP[word](pathlib.Path(folder, "journal"))))
     else:
         number, until, seed = map(int, words)
         (CallingClient if word == "ask" else TcpClient)(pathlib.Path(folder), number, until, seed).run()

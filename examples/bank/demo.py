@@ -1,19 +1,27 @@
 #!/usr/bin/env python3
-"""A bank whose servers and clients are killed, over a link that drops, repeats and reorders: by calls, and over TCP.
+"""A bank whose servers and clients are killed, over a link that drops, repeats and reorders: by calls, and over TCP
+without and with names of orders that the bank remembers.
 
     examples/bank/demo.py [--seconds S] [--seed N] [--loss P] [--repeat P] [--late P] [--keep FOLDER] [--relay]
 
-20 clients give orders to a bank of 100 accounts, each written down, each given once by a call, or again and again over
-TCP until it is answered. The link is that of tests/wan.py, two network namespaces with 20 ms between them each way,
+20 clients give orders to a bank of 100 accounts, and write each of them down before. It runs four times:
+
+- calls: an order is given once, by a call, and a client that is unsure asks what became of it;
+- TCP: an order is given again until it is answered;
+- TCP+names: likewise, and the bank remembers the name of each order with its answer, in memory;
+- TCP+synced: likewise, in files that are synced before it answers.
+
+The link is that of tests/wan.py, two network namespaces with 20 ms between them each way,
 which wants root and /dev/net/tun. Where there are none, or with --relay, both ends are on this machine, and a relay
 between them does the same to the datagrams of calls; TCP has no losses and no delay then. A client is killed every
 0.7 s, the bank every 10 s, each at a random moment, and started again. After the time that was asked for nobody is
 killed any more, and each client finds out what became of its last orders.
 
-Then the journal of the bank is compared with the notes of all clients. It ends with 0 where by calls the sum of the
-accounts is what it was, no order was booked twice, and each order of which its client was told is as it was told; else
-with 1. What TCP with retries did stands beside it. At last the first answer of both is measured over the same delay
-without losses: a flow or a connection of its own for each."""
+Then the journal of the bank is compared with the notes of all clients. Ends with 0 if by calls the sum of the accounts
+is what it was, no order was booked twice, and the fate of each order is the one that its client noted; else with 1. The
+table has the same counts of the other three, and what each way took. The times from a kill on have the 0 to 300 ms after
+which the program is started, and its start. At last the first answer is measured over the same delay without losses, a
+flow or a connection of its own for each, and how long one line takes to be written and synced."""
 import argparse
 import asyncio
 import heapq
@@ -36,14 +44,16 @@ HERE = pathlib.Path(__file__).resolve().parent
 sys.path[:0] = [str(HERE), str(HERE.parents[1] / "tests")]
 
 import bank  # noqa: E402
-from accounts import ACCOUNTS, START, Bank, Notes  # noqa: E402
+from accounts import ACCOUNTS, START, Bank, Notes, moment  # noqa: E402
 from bank import deltat, service  # noqa: E402
 from wan import Bound, Carrier, Link, Outcome, impaired_link, stop  # noqa: E402
 
 DELAY = 20
 KILL_CLIENT, KILL_BANK = 0.7, 10.0
-FIRSTS = 20
-WAYS = {"calls": ("serve", "ask"), "TCP": ("serve-tcp", "ask-tcp")}
+FIRSTS, SYNCS = 20, 100
+WAYS = {"calls": ("serve", "ask"), "TCP": ("serve-tcp", "ask-tcp"), "TCP+names": ("serve-names", "ask-tcp"), "TCP+synced": ("serve-synced", "ask-tcp")}
+# what a row of the table has
+Cell = int | float | None
 
 
 class Keeper:
@@ -54,22 +64,27 @@ class Keeper:
         self.running: dict[str, "subprocess.Popen[bytes]"] = {}
         # those that were killed, and when they start again
         self.due = {name: 0 for name in commands}
+        kills.touch()
+
+    def kill(self, now: int) -> None:
+        """Kills one of them at random, and notes its name and the moment."""
+        name = self.chance.choice(sorted(self.running))
+        self.running[name].kill()
+        with self.kills.open("a") as kills:
+            kills.write(f"{name} {moment()}\n")
+        self.running.pop(name).wait()
+        self.due[name] = now + self.chance.randint(0, 300)
 
     def go(self) -> int:
         """Until each has ended by itself. Ends with 1 where one failed."""
-        kill_at, killed = deltat.now() + 1000 * self.chance.expovariate(1 / self.each), 0
+        kill_at = deltat.now() + 1000 * self.chance.expovariate(1 / self.each)
         while self.running or self.due:
             now = deltat.now()
             for name in [name for name, at in self.due.items() if at <= now]:
                 del self.due[name]
                 self.running[name] = subprocess.Popen([sys.executable, *self.commands[name]])
             if kill_at <= now < self.until and self.running:
-                name = self.chance.choice(sorted(self.running))
-                self.running[name].kill()
-                self.running.pop(name).wait()
-                self.due[name] = now + self.chance.randint(0, 300)
-                killed += 1
-                self.kills.write_text(str(killed))
+                self.kill(now)
                 kill_at = now + 1000 * self.chance.expovariate(1 / self.each)
             for name, it in list(self.running.items()):
                 if it.poll() is not None:
@@ -95,14 +110,41 @@ def keep(words: list[str]) -> int:
     return Keeper(commands, each, int(until), chance, pathlib.Path(folder) / f"killed-{side}").go()
 
 
-def outcome(folder: pathlib.Path) -> dict[str, int]:
+def kills(folder: pathlib.Path, side: str) -> list[tuple[str, int]]:
+    """The programs of a side that were killed, each with its moment."""
+    path = folder / f"killed-{side}"
+    lines = path.read_text().splitlines() if path.exists() else []
+    return [(name, int(at)) for name, _, at in (it.rpartition(" ") for it in lines)]
+
+
+def part(numbers: list[int], which: float) -> Cell:
+    """The number below which this part of them is, or None if there are none."""
+    return sorted(numbers)[min(int(which * len(numbers)), len(numbers) - 1)] if numbers else None
+
+
+def times(folder: pathlib.Path, notes: list[Notes]) -> dict[str, Cell]:
+    """In ms: from an order to its fate, and from a kill to the next fate that was noted: by the client that was killed, or
+    by any client of an order that was given after the bank was killed."""
+    took = [it.known[order] - it.given[order] for it in notes for order in it.known if order in it.given]
+    known = [(it.given[order], at) for it in notes for order, at in it.known.items() if order in it.given]
+    own = {f"client {it.number}": sorted(it.known.values()) for it in notes}
+    of_clients = [next((at for at in own[name] if at > killed), 0) - killed for name, killed in kills(folder, "clients") if name in own]
+    of_bank = [min((at for given, at in known if given > killed), default=0) - killed for _, killed in kills(folder, "bank")]
+    return {
+        "ms to an order's fate, half of them within": part(took, 0.5),
+        "ms to an order's fate, 99 of 100 within": part(took, 0.99),
+        "ms from a client's kill to a fate, half": part([it for it in of_clients if it > 0], 0.5),
+        "ms from the bank's kill to a fate, half": part([it for it in of_bank if it > 0], 0.5),
+    }
+
+
+def outcome(folder: pathlib.Path) -> dict[str, Cell]:
     """What the journal and the notes say."""
     books = Bank(folder / "journal")
     notes = [Notes(folder / f"client-{it}.notes", it) for it in range(1, bank.CLIENTS + 1)]
     orders = {order: fate for it in notes for order, fate in {**dict.fromkeys(it.orders), **it.fates}.items()}
     journal = Counter(line.split()[0] for line in (folder / "journal").read_text().splitlines())
     sums = [told for it in notes for told in it.sums]
-    killed = {side: int((folder / f"killed-{side}").read_text()) if (folder / f"killed-{side}").exists() else 0 for side in ("bank", "clients")}
     return {
         "orders": len(orders),
         "booked": len(journal),
@@ -111,10 +153,11 @@ def outcome(folder: pathlib.Path) -> dict[str, int]:
         "told otherwise than it is booked": sum((fate == "booked") != (order in journal) for order, fate in orders.items() if fate),
         "not found out": sum(not fate for fate in orders.values()),
         "booked, and given by nobody": sum(it not in orders for it in journal),
-        "kills of clients": killed["clients"],
-        "kills of the bank": killed["bank"],
+        "kills of clients": len(kills(folder, "clients")),
+        "kills of the bank": len(kills(folder, "bank")),
         "the sum, less what it was": sum(books.accounts) - ACCOUNTS * START,
         "sums that clients were told wrongly": sum(it != ACCOUNTS * START for it in sums),
+        **times(folder, notes),
     }
 
 
@@ -185,7 +228,7 @@ def has_namespaces() -> bool:
         return False
 
 
-def over(way: str, link: Link, seconds: float, seed: int, folder: pathlib.Path) -> dict[str, int]:
+def over(way: str, link: Link, seconds: float, seed: int, folder: pathlib.Path) -> dict[str, Cell]:
     """A run of the bank over a link."""
     folder.mkdir()
     until = deltat.now() + round(1000 * seconds) + 1_000
@@ -195,7 +238,8 @@ def over(way: str, link: Link, seconds: float, seed: int, folder: pathlib.Path) 
     if ran.stopped or any(ran.statuses):
         raise SystemExit(f"demo: {way}: the clients ended with {ran.statuses[1]}" + (", stopped" if ran.stopped else ""))
     print(f"{way}: {ran.counts if ran.counts.went else 'without losses'}", flush=True)
-    return outcome(folder)
+    found = outcome(folder)
+    return found | {"packets an order that was booked": round(ran.counts.went / found["booked"], 1) if ran.counts.went and found["booked"] else None}
 
 
 # --- first answers
@@ -205,7 +249,7 @@ def first_serve(folder: pathlib.Path) -> None:
     """Both banks at once, each with its journal."""
     other = folder / "tcp"
     other.mkdir(exist_ok=True)
-    threading.Thread(target=lambda: asyncio.run(bank.serve_tcp(other)), daemon=True).start()
+    threading.Thread(target=lambda: asyncio.run(bank.serve_tcp(Bank(other / "journal"))), daemon=True).start()
     bank.serve(folder)
 
 
@@ -229,25 +273,39 @@ def first_ask(folder: pathlib.Path) -> None:
     (folder / "first").write_text(json.dumps(took))
 
 
+def synced(path: pathlib.Path) -> float:
+    """How long a line takes until it is written and synced, in ms: the median of some."""
+    took = []
+    with path.open("ab", buffering=0) as it:
+        for _ in range(SYNCS):
+            begun = time.monotonic()
+            it.write(b"1.0 3 4 10\n")
+            os.fdatasync(it.fileno())
+            took.append(1000 * (time.monotonic() - begun))
+    return statistics.median(took)
+
+
 def firsts(folder: pathlib.Path) -> dict[str, float]:
-    """The median of the first answers, in ms."""
+    """The median of the first answers, in ms. What names cost isn't in it: it asks for a balance."""
     folder.mkdir()
     words = [sys.executable, str(HERE / "demo.py")]
     ran = linked([[*words, "first-serve", str(folder)], [*words, "first-ask", str(folder)]], Link(DELAY), Bound(40))
     if ran.stopped or any(ran.statuses):
         raise SystemExit("demo: the first answers didn't come")
     took = {way: statistics.median(it) for way, it in json.loads((folder / "first").read_text()).items()}
-    return {way: it for way, it in took.items() if way == "calls" or not bank.IS_RELAYED}
+    over_tcp = None if bank.IS_RELAYED else took["TCP"]
+    return {way: it for way in WAYS if (it := took["calls"] if way == "calls" else over_tcp) is not None}
 
 
-def table(found: dict[str, dict[str, int]], first: dict[str, float]) -> str:
+def table(found: dict[str, dict[str, Cell]], first: dict[str, float], sync: float) -> str:
     names = list(next(iter(found.values())))
-    lines = [["", *found]] + [[name, *(str(it[name]) for it in found.values())] for name in names]
+    lines = [["", *found]] + [[name, *("-" if it[name] is None else str(it[name]) for it in found.values())] for name in names]
     lines.append([f"first answer, {DELAY} ms each way", *(f"{first[way]:.0f} ms" if way in first else "-" for way in found)])
+    lines.append(["a line that is written and synced", *(f"{sync:.2f} ms" if way == "TCP+synced" else "-" for way in found)])
     return "\n".join(f"{it[0]:44}" + "".join(f"{word:>12}" for word in it[1:]) for it in lines)
 
 
-def is_kept(it: dict[str, int]) -> bool:
+def is_kept(it: dict[str, Cell]) -> bool:
     """Whether the promise was kept, and something happened."""
     wrong = ("booked more than once", "told otherwise than it is booked", "booked, and given by nobody", "the sum, less what it was",
              "sums that clients were told wrongly")
@@ -264,7 +322,7 @@ def demonstrate(folder: pathlib.Path, given: argparse.Namespace) -> int:
     print(f"{DELAY} ms each way; of 100 packets {100 * link.loss:.0f} dropped, {100 * link.dup:.0f} repeated, {100 * link.reorder:.0f} late by up to "
           f"{2 * DELAY} ms more; {place}; {given.seconds:.0f} s, seed {given.seed}", flush=True)
     found = {way: over(way, link, given.seconds, given.seed, folder / way) for way in WAYS}
-    print(table(found, firsts(folder / "firsts")))
+    print(table(found, firsts(folder / "firsts"), synced(folder / "synced")))
     return 0 if is_kept(found["calls"]) else 1
 
 
