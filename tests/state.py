@@ -21,7 +21,7 @@ ends with 77 where `make -C lib` hasn't made the library, and with 1 where one o
 - fresh: twenty clients with numbers that nobody had, one after another, without a folder and without silence; and
   the table of docs/premises.md.
 
-In tests/all: no words, 300 s."""
+In tests/all: no words, 600 s."""
 from __future__ import annotations
 
 import collections
@@ -608,23 +608,24 @@ def exchanged() -> bool:
 # --- tools
 
 
-def listener(one: str, two: str, heard: pathlib.Path, environment: dict[str, str]) -> "subprocess.Popen[bytes]":
+def listener(one: str, two: str, heard: pathlib.Path, environment: dict[str, str], *delays: str) -> "subprocess.Popen[bytes]":
     with heard.open("wb") as out:
-        return subprocess.Popen([sys.executable, CAT, two, one, "--listen"], stdout=out, env=environment, stdin=subprocess.DEVNULL)
+        words = [sys.executable, CAT, two, one, "--listen", *delays]
+        return subprocess.Popen(words, stdout=out, env=environment, stdin=subprocess.DEVNULL)
 
 
-def loops(name: str, count: int, kills: bool) -> bool:
+def loops(name: str, count: int, kills: bool, *delays: str) -> bool:
     """Starts one sender after another. On a busy machine a line may be told as uncertain; what is acknowledged is heard."""
     one, two = f"1@{HOST}:{free_port()}", f"2@{HOST}:{free_port()}"
     with tempfile.TemporaryDirectory() as folder:
         heard, environment = pathlib.Path(folder) / "heard", {**os.environ, "XDG_STATE_HOME": folder}
-        listening = listener(one, two, heard, environment)
+        listening = listener(one, two, heard, environment, *delays)
         until = time.monotonic() + 20
         while not is_up(int(two.split(":")[1])) and time.monotonic() < until:
             time.sleep(0.05)
         begun, statuses = time.monotonic(), []
         for it in range(count):
-            words = [sys.executable, CAT, one, two] + ["--linger", "60"] * kills
+            words = [sys.executable, CAT, one, two, *delays] + ["--linger", "60"] * kills
             with subprocess.Popen(words, stdin=subprocess.PIPE, stderr=subprocess.DEVNULL, env=environment) as sender:
                 sender.stdin.write(f"line{it}\n".encode())
                 sender.stdin.close()
@@ -646,11 +647,12 @@ def loops(name: str, count: int, kills: bool) -> bool:
 
 
 def loop() -> bool:
-    return loops("loop", 20, kills=False)
+    # (where the machine is so busy that a start takes half a second, only the second loop has to wait)
+    return loops("loop", 20, False) and loops("loop, by longer delays", 6, False, "--delay", "900", "--round-trip", "100")
 
 
 def stopped() -> bool:
-    return loops("stopped", 12, kills=True)
+    return loops("stopped", 12, True)
 
 
 # --- fresh
