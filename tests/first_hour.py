@@ -45,7 +45,7 @@ import deltat_service as service  # noqa: E402
 PARAMS = deltat.Params(mpl=482, r=450, a=5, rto=90, probe=180, seg=1442, cap=65536, rcap=65536, window=65536)
 SMALL = deltat.Params(mpl=482, r=450, a=5, rto=90, probe=180, seg=1442, cap=4096, rcap=4096, window=4096)
 # of a machine that has more to do than it can: each step may take a second
-PATIENT = deltat.Params(mpl=4000, r=9000, a=50, rto=800, probe=1600, seg=1442, cap=65536, rcap=65536, window=65536)
+PATIENT = deltat.Params(mpl=4000, r=15000, a=50, rto=250, probe=500, seg=1442, cap=65536, rcap=65536, window=65536)
 LINKS = [deltat.Link(1, charge=274)]
 CALL = deltat.Flow(1, 10, 2, 20)
 
@@ -510,7 +510,7 @@ class Lines(logging.Handler):
 
 
 def bad_replies() -> None:
-    """a function returns a text, a number, too many octets or raises, oftener than requests may be open: others go on"""
+    """a function returns a text, a number, too many octets or raises, oftener than requests may be open: all go on"""
     bad = {b"text": "text", b"number": 5, b"long": bytes(65_530)}
 
     async def main(log: Lines) -> None:
@@ -739,8 +739,8 @@ async def main():
 
 asyncio.run(main())
 """
-# calls a second, with 1,000 under way: a machine that does nothing else does ten times as many (docs/service.md)
-FLOOR = 300
+# calls a second with 1,000 under way, of a machine that has little else to do, and of one that has more than it can
+FLOOR = 1500, 100
 
 
 async def call_on(udp: deltat.AsyncUdp, seconds: float, tasks: int) -> tuple[int, int, float]:
@@ -751,7 +751,7 @@ async def call_on(udp: deltat.AsyncUdp, seconds: float, tasks: int) -> tuple[int
         flow = deltat.Flow(1, 10 + number % 2, 2, 20)
         while time.monotonic() < end:
             try:
-                holds(await calls.call(flow, b"%d" % number, 10.0) == b"%d" % number, "another answer")
+                holds(await calls.call(flow, b"%d" % number, 30.0) == b"%d" % number, "another answer")
                 ends[0] += 1
             except service.Unsure:
                 ends[1] += 1
@@ -793,14 +793,15 @@ def others_wait() -> None:
 async def calls_at(ports: tuple[int, int], params: deltat.Params, seconds: float) -> tuple[int, int, float]:
     """As `call_on`, of 1,000 calls."""
     async with deltat.AsyncUdp(caller_of(1, 2, 2000, params), (HOST, ports[1]), {2: (HOST, ports[0])}) as udp:
-        return await asyncio.wait_for(call_on(udp, seconds, 1000), 40)
+        return await asyncio.wait_for(call_on(udp, seconds, 1000), 60)
 
 
 def many_calls() -> None:
     """1,000 calls are under way at once: all are answered, and quickly (a busy machine gets times that allow for it)"""
-    seconds, best = 3.0, 0.0
+    seconds, best, is_patient = 3.0, 0.0, os.getloadavg()[0] > (os.cpu_count() or 1)
+    floor = FLOOR[is_patient]
     for attempt in range(4):
-        ports, is_patient = (own_port(), own_port()), attempt > 1 or os.getloadavg()[0] > (os.cpu_count() or 1)
+        ports = own_port(), own_port()
         with process(ECHO, *ports, *["patient"] * is_patient) as it:
             holds(line_of(it) == "ready", "the service doesn't begin")
             answered, unsure, took = asyncio.run(calls_at(ports, PATIENT if is_patient else PARAMS, seconds))
@@ -811,9 +812,9 @@ def many_calls() -> None:
         )
         if not unsure:
             best = max(best, answered / seconds)
-        if best >= (5000 if attempt < 1 else FLOOR):
+        if best >= (5000 if attempt < 1 and not is_patient else floor):
             break
-    holds(best >= FLOOR, f"{best:.0f} calls a second, of the runs in which none was unsure")
+    holds(best >= floor, f"{best:.0f} calls a second, of the runs in which none was unsure")
 
 
 def blocked_loop() -> None:
