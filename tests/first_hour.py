@@ -621,6 +621,8 @@ def two_over_one() -> None:
     for number in range(20):
         for calls in (one, other):
             holds(calls.call(CALL, b"%d" % number, 3.0) == b"ok %d" % number, "another answer")
+        # one that is made for a single call leaves nothing behind
+        holds(service.Calls(client, [12]).call(CALL, b"x", 3.0) == b"ok x", "another answer")
     client.close()
     server.close()
     serving.join(5)

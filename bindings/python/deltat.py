@@ -53,6 +53,7 @@ from typing import Any, NamedTuple, Protocol, Self
 
 __all__ = [
     "AnyNode",
+    "AnyState",
     "AsyncUdp",
     "BadParameter",
     "Counts",
@@ -73,7 +74,6 @@ __all__ = [
     "Quiet",
     "Report",
     "Spent",
-    "State",
     "Status",
     "Totals",
     "Udp",
@@ -547,7 +547,7 @@ class OpenedState(Protocol):
         """The node was closed in order."""
 
 
-class State(Protocol):
+class AnyState(Protocol):
     """What a node number's starts have to know of one another: `deltat_state.State`, or any object with this call."""
 
     def open(self, node_number: int, params: Params) -> OpenedState:
@@ -606,7 +606,7 @@ class AnyNode:
         links: Sequence[Link],
         routes: Mapping[int, int],
         again: bool | None,
-        state: State | None,
+        state: AnyState | None,
     ) -> None:
         if (again is None) == (state is None):
             raise TypeError(f"node {number}: {'no' if again is None else 'more than one'} start was chosen: {_CHOOSE}")
@@ -815,7 +815,7 @@ class Node(AnyNode):
         routes: Mapping[int, int],
         *,
         again: bool | None = None,
-        state: State | None = None,
+        state: AnyState | None = None,
         at: int | None = None,
         longest: int = MOST_MESSAGE,
     ) -> None:
@@ -977,7 +977,7 @@ class Udp:
     ) -> None:
         """Binds the socket. `routes` has the number of each neighbour's link; left out, it is that of the node's route
         to it, or the node's only link. BadParameter if that is no link of the node; OSError if the address can't be
-        had. """
+        had."""
         self.node = node
         links = {number: self._link_of(number, routes or {}) for number in peers}
         self._addresses = {
