@@ -437,10 +437,10 @@ def slow_clock() -> None:
     real, stop, failed = deltat.now, 0.03, []
     for has_stamps in (True, False):
         for is_before in (True, False):
-            for place in range(14):
+            for place in range(20):
                 failed += stopped_at(place, stop, is_before, has_stamps)
     deltat.now = real
-    holds(not failed, f"{len(failed)} of 56 stops: {failed[0] if failed else ''}")
+    holds(not failed, f"{len(failed)} of 80 stops: {failed[0] if failed else ''}")
 
 
 def stopped_at(place: int, stop: float, is_before: bool, has_stamps: bool) -> list[str]:
@@ -466,16 +466,14 @@ def stopped_at(place: int, stop: float, is_before: bool, has_stamps: bool) -> li
             value = int(read()) if is_before else value
         return value
 
-    with peer, deltat.Udp(node, (HOST, port), {2: peer.getsockname()}) as udp:
-        if not has_stamps:
-            udp.socket.setsockopt(socket.SOL_SOCKET, deltat._SO_TIMESTAMPNS, 0)
-        time.sleep(0.002)
-        deltat.now, before = slow, deltat.now
-        try:
+    usual = deltat.now, deltat._SO_TIMESTAMPNS
+    deltat.now, deltat._SO_TIMESTAMPNS = slow, usual[1] if has_stamps else socket.SO_REUSEADDR
+    try:
+        with peer, deltat.Udp(node, (HOST, port), {2: peer.getsockname()}) as udp:
             for _ in range(4):
                 udp.poll(0.001)
-        finally:
-            deltat.now = before
+    finally:
+        deltat.now, deltat._SO_TIMESTAMPNS = usual
     # (a moment is rounded down, and what was waited is rounded up)
     return [
         f"at reading {place}, {'before' if is_before else 'behind'} it, stamps {has_stamps}: "

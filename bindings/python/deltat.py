@@ -987,11 +987,12 @@ class Udp:
         self._links = {address: links[number] for number, address in self._addresses.items()}
         self._next_hop = {link: address for address, link in self._links.items()}
         node._guard_by_default(max(MOST_FLOWS, 16 * len(peers)))
+        # (before there is a socket into which something could come)
+        self._empty_at = now()
+        self._offset = _wall() - self._empty_at
         self.socket = _bound(bind)
         self._selector = selectors.PollSelector()
         self._selector.register(self.socket, selectors.EVENT_READ)
-        self._empty_at = now()
-        self._offset = _wall() - self._empty_at
         self.unsent = self.unheard = 0
         """Datagrams that were too late to be sent, or that the system didn't take; that came from no peer."""
         self._looked_at = self._empty_at
