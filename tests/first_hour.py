@@ -226,6 +226,8 @@ def forked() -> None:
     serving = echo_calls(server)
     calls = service.Calls(client)
     plain = node_of(5, 6)
+    folder = tempfile.TemporaryDirectory()
+    record = deltat_record.Recorded(f"{folder.name}/run", 7, PARAMS, LINKS, {6: 1}, again=False)
     holds(calls.call(CALL, b"zero") == b"ok zero", "no answer before the fork")
 
     def tries() -> str:
@@ -256,14 +258,18 @@ def forked() -> None:
             client.socket.fileno() < 0 and client.node._exports.counts(memory).status == deltat.Status.CLOSED,
             "the child's copies are open",
         )
-        client.close()
-        plain.close()
+        for it in (client, plain, record):
+            it.close()
+        holds(os.path.getsize(f"{folder.name}/run") == 0, "a child writes its parent's record")
         return ""
 
     for number in range(3):
         found = in_child(tries)
         holds(not found, f"in a child: {found}")
         holds(calls.call(CALL, b"%d" % number) == b"ok %d" % number, "a wrong answer behind a fork")
+    record.close()
+    holds(os.path.getsize(f"{folder.name}/run") > 0, "the parent writes no record")
+    folder.cleanup()
     client.close()
     server.close()
     serving.join(5)
@@ -717,6 +723,38 @@ def slow_functions() -> None:
                 udp.close()
 
 
+def background_work() -> None:
+    """a program works for 2 s: in `background` a message that comes meanwhile is acknowledged, and waits for it"""
+    one, two, _ = pair_of_udp(node_of(1, 2), node_of(2, 1))
+    with one, two:
+        one.send(CALL, b"hello")
+        for _ in range(5):
+            one.poll(0.01)
+            two.poll(0.01)
+        told: list[deltat.Report] = []
+
+        def asks() -> None:
+            time.sleep(0.3)
+            one.send(CALL, b"meanwhile")
+            end = time.monotonic() + 3
+            while time.monotonic() < end and not any(
+                it.kind in (deltat.Kind.SETTLED, deltat.Kind.UNCERTAIN) for it in told
+            ):
+                one.poll(0.05)
+                told.extend(one.node.reports())
+
+        list(one.node.reports())
+        asking = threading.Thread(target=asks)
+        asking.start()
+        with two.background():
+            time.sleep(2)
+        came = two.poll(0)
+        asking.join()
+        kinds = [it.kind.name for it in told if it.kind in (deltat.Kind.SETTLED, deltat.Kind.UNCERTAIN)]
+        holds(kinds == ["SETTLED"], f"the reports are {kinds}")
+        holds([it.octets for it in came] == [b"meanwhile"], f"{came} came")
+
+
 ECHO = """
 async def main():
     params = PATIENT if words[2:] == ["patient"] else PARAMS
@@ -920,6 +958,7 @@ CASES = [
     two_over_one,
     closed_loops,
     slow_functions,
+    background_work,
     blocked_loop,
     others_wait,
     many_calls,

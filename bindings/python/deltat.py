@@ -639,6 +639,11 @@ class AnyNode:
         self.close()
 
     @property
+    def _is_inherited(self) -> bool:
+        """Whether another process opened it, of which this one is a forked child."""
+        return self._owner != os.getpid()
+
+    @property
     def _handle(self) -> ctypes.c_void_p:
         """The node's memory; Forked in another process than the one that opened it."""
         if self._owner != os.getpid():
@@ -694,7 +699,7 @@ class AnyNode:
     def close(self) -> None:
         """Frees what the node holds, and what wasn't taken of it. Called again, or in a forked child, it does
         nothing."""
-        if self._owner != os.getpid() or not self._finalizer.alive:
+        if self._is_inherited or not self._finalizer.alive:
             return
         self._finalizer()
         if self._state is not None:
