@@ -330,6 +330,15 @@ def descriptors() -> None:
             it.close()
 
 
+def receive_buffer() -> None:
+    """a burst comes: the kernel keeps as much of it as for `deltat node`"""
+    most = int(pathlib.Path("/proc/sys/net/core/rmem_max").read_text())
+    with deltat.Udp(node_of(1, 2), (HOST, own_port()), {2: (HOST, own_port())}) as udp:
+        kept = udp.socket.getsockopt(socket.SOL_SOCKET, socket.SO_RCVBUF)
+        # (the kernel doubles what it is asked for)
+        holds(kept >= 2 * min(most, 1 << 21), f"{kept} octets are kept, and {most} are allowed")
+
+
 # --- what is told
 
 
@@ -947,6 +956,7 @@ CASES = [
     forked_loop,
     dropped,
     descriptors,
+    receive_buffer,
     longer_than_cap,
     units,
     octets_alone,
