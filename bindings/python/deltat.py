@@ -53,7 +53,6 @@ from typing import Any, NamedTuple, Protocol, Self
 
 __all__ = [
     "AnyNode",
-    "AnyState",
     "AsyncUdp",
     "BadParameter",
     "Counts",
@@ -74,6 +73,7 @@ __all__ = [
     "Quiet",
     "Report",
     "Spent",
+    "State",
     "Status",
     "Totals",
     "Udp",
@@ -547,7 +547,7 @@ class OpenedState(Protocol):
         """The node was closed in order."""
 
 
-class AnyState(Protocol):
+class State(Protocol):
     """What a node number's starts have to know of one another: `deltat_state.State`, or any object with this call."""
 
     def open(self, node_number: int, params: Params) -> OpenedState:
@@ -606,7 +606,7 @@ class AnyNode:
         links: Sequence[Link],
         routes: Mapping[int, int],
         again: bool | None,
-        state: AnyState | None,
+        state: State | None,
     ) -> None:
         if (again is None) == (state is None):
             raise TypeError(f"node {number}: {'no' if again is None else 'more than one'} start was chosen: {_CHOOSE}")
@@ -820,7 +820,7 @@ class Node(AnyNode):
         routes: Mapping[int, int],
         *,
         again: bool | None = None,
-        state: AnyState | None = None,
+        state: State | None = None,
         at: int | None = None,
         longest: int = MOST_MESSAGE,
     ) -> None:

@@ -136,7 +136,7 @@ class Recorded(deltat.Node):
         routes: Mapping[int, int],
         *,
         again: bool | None = None,
-        state: deltat.AnyState | None = None,
+        state: deltat.State | None = None,
         at: int | None = None,
     ) -> None:
         """Opens the node, as a `Node`. TypeError, BadParameter or NoMemory; OSError if nothing can be written there. A

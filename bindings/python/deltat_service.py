@@ -273,7 +273,7 @@ class Service(deltat.AnyNode):
         routes: Mapping[int, int],
         *,
         again: bool | None = None,
-        state: deltat.AnyState | None = None,
+        state: deltat.State | None = None,
         at: int | None = None,
         limits: Limits = Limits(),
     ) -> None:
