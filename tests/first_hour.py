@@ -4,7 +4,7 @@ told. `tests/first_hour.py [--bindings FOLDER] [--list] [CASE ..]`; FOLDER is bi
 case (`--list` prints them) does what a program did that broke the promise, hung, grew or was told nothing, over sockets
 of this machine. Prints a line a case; ends with 1 if one fails, and with 77 if there is no library.
 
-In tests/all: no words, 300 s."""
+In tests/all: no words, 600 s."""
 from __future__ import annotations
 
 import argparse
@@ -840,7 +840,7 @@ def others_wait() -> None:
 async def calls_at(ports: tuple[int, int], params: deltat.Params, seconds: float) -> tuple[int, int, float]:
     """As `call_on`, of 1,000 calls."""
     async with deltat.AsyncUdp(caller_of(1, 2, 2000, params), (HOST, ports[1]), {2: (HOST, ports[0])}) as udp:
-        return await asyncio.wait_for(call_on(udp, seconds, 1000), 60)
+        return await asyncio.wait_for(call_on(udp, seconds, 1000), 80)
 
 
 def many_calls() -> None:
