@@ -947,6 +947,26 @@ def guards() -> None:
     with deltat.Udp(server, (HOST, own_port()), {1: (HOST, own_port())}):
         server.port(30, service.Kind.SERVICE)
         holds([admitted(server, port) for port in (20, 30, 31)] == [False, False, True], "the program's guard is gone")
+    usual, deltat.MOST_FLOWS = deltat.MOST_FLOWS, 2
+    server, caller = server_of(2, [1]), caller_of(1, 2)
+    caller.call(CALL, b"x", 1000)
+    frame = bytearray(next(caller.frames()).octets)
+
+    def flows(first: int) -> int:
+        """How many of 100 new flows are admitted."""
+        count = 0
+        for port in range(first, first + 100):
+            frame[18:20] = port.to_bytes(2, "big")
+            count += server.arrive(1, frame) is deltat.Status.DONE
+        return count
+
+    with deltat.Udp(server, (HOST, own_port()), {1: (HOST, own_port())}):
+        found = [flows(1000)]
+        for number in range(50, 52):
+            server.add_route(number, 1)
+        found.append(flows(2000))
+    deltat.MOST_FLOWS = usual
+    holds(found == [16, 32], f"{found} flows are admitted with one route, and more with three")
 
 
 CASES = [

@@ -93,8 +93,8 @@ whether a flow has room."""
 MOST_AT_ONCE, MOST_UNFLUSHED = 256, 16
 """So many datagrams are taken in one after another before the program goes on, and before what leaves goes on the
 wire."""
-MOST_FLOWS = 1_024
-"""So many flows have a receiver at the most, by the guard that a socket makes."""
+MOST_FLOWS, FLOWS_EACH = 1_024, 16
+"""So many flows have a receiver at the most, by the guard that a socket makes: in all, or for each peer and route."""
 MOST_REPORTS = 10_000
 RECEIVE_BUFFER = 2_097_152
 """Octets that the kernel is asked to keep for a socket, as `deltat node` asks; it may keep fewer."""
@@ -625,8 +625,8 @@ class AnyNode:
         self._owner = os.getpid()
         self._state = None if state is None else state.open(number, params)
         self._is_again = bool(again) if self._state is None else self._state.again
-        # whether the program set a guard; how many flows the guard of a socket admits, and whether its ports changed
-        self._is_guarded, self._flows, self._is_guard_due = False, 0, False
+        # whether the program set a guard; of how many peers a socket made one, and whether it has to be made anew
+        self._is_guarded, self._peers, self._is_guard_due = False, 0, False
         self._exports.init(self._address)
         self._finalizer = weakref.finalize(self, _free, self._exports.close, self._address, self._memory)
         self._finalizer.atexit = False
@@ -715,7 +715,7 @@ class AnyNode:
         the guard). NoMemory or Spent."""
         octets = _octets(datagram)
         if self._is_guard_due:
-            self._set_guard(self._read_ports(), self._flows)
+            self._guard_by_default(self._peers)
         came = self._exports.arrive(
             self._handle,
             now() if at is None else at,
@@ -744,11 +744,16 @@ class AnyNode:
         )
         self._is_guard_due = False
 
-    def _guard_by_default(self, flows: int) -> None:
-        """If the program set no guard: the node receives at the ports that have a reader, on so many flows at once."""
+    def _guard_by_default(self, peers: int) -> None:
+        """If the program set no guard: the node receives at the ports that have a reader, and on some flows of each peer
+        and each node to which there is a route."""
         if not self._is_guarded:
-            self._flows = flows
-            self._set_guard(self._read_ports(), flows)
+            self._peers = peers
+            self._set_guard(self._read_ports(), max(MOST_FLOWS, FLOWS_EACH * max(peers, len(self.routes))))
+
+    def _guard_anew(self) -> None:
+        """The guard of a socket is made anew before the next datagram, once for however many changes."""
+        self._is_guard_due = self._peers > 0 and not self._is_guarded
 
     def _read_ports(self) -> Sequence[int] | None:
         """The ports that have a reader; None if all have."""
@@ -777,6 +782,7 @@ class AnyNode:
             )
         self._raise(status)
         self.routes[to] = link
+        self._guard_anew()
 
     def frames(self) -> Iterator[OutFrame]:
         """The datagrams that left the node, in their order, each once."""
@@ -970,8 +976,8 @@ class Udp:
     neighbour, by its node's number; whoever is no peer is not heard. A socket serves all of the node's links.
 
     Unless the program called `node.guard`, the node receives at the ports that have a reader (of a node of calls: those
-    with a kind), and on 1,024 flows at once, or 16 for each peer if that is more: so strangers that send from a peer's
-    address don't make it grow."""
+    with a kind), and on 1,024 flows at once, or 16 for each peer or each route if that is more: so strangers that send
+    from a peer's address don't make it grow."""
 
     def __init__(
         self,
@@ -991,7 +997,7 @@ class Udp:
         }
         self._links = {address: links[number] for number, address in self._addresses.items()}
         self._next_hop = {link: address for address, link in self._links.items()}
-        node._guard_by_default(max(MOST_FLOWS, 16 * len(peers)))
+        node._guard_by_default(max(len(peers), 1))
         # (before there is a socket into which something could come)
         self._empty_at = now()
         self._offset = _wall() - self._empty_at

@@ -298,8 +298,7 @@ class Service(deltat.AnyNode):
             raise BadParameter(f"port {port} has a kind")
         self._raise(status)
         self._kinds[port] = kind
-        # the guard is made anew before the next datagram, once for however many ports
-        self._is_guard_due = self._flows > 0 and not self._is_guarded
+        self._guard_anew()
 
     def _read_ports(self) -> Sequence[int]:
         return list(self._kinds)
