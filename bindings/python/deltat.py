@@ -625,11 +625,12 @@ class AnyNode:
         self._owner = os.getpid()
         self._state = None if state is None else state.open(number, params)
         self._is_again = bool(again) if self._state is None else self._state.again
-        # whether the program set a guard; of how many peers a socket made one, and whether it has to be made anew
-        self._is_guarded, self._peers, self._is_guard_due = False, 0, False
+        # whether the program set a guard; how many flows the guard of a socket admits, and whether its ports changed
+        self._is_guarded, self._flows, self._is_guard_due = False, 0, False
         self._exports.init(self._address)
         self._finalizer = weakref.finalize(self, _free, self._exports.close, self._address, self._memory)
         self._finalizer.atexit = False
+        self._peers = 0
         _nodes.add(self)
 
     def __enter__(self) -> Self:
@@ -745,15 +746,15 @@ class AnyNode:
         self._is_guard_due = False
 
     def _guard_by_default(self, peers: int) -> None:
-        """If the program set no guard: the node receives at the ports that have a reader, and on some flows of each peer
-        and each node to which there is a route."""
+        """If the program set no guard: the node receives at the ports that have a reader, and on some flows of each
+        peer and each node to which there is a route."""
         if not self._is_guarded:
-            self._peers = peers
-            self._set_guard(self._read_ports(), max(MOST_FLOWS, FLOWS_EACH * max(peers, len(self.routes))))
+            self._peers, self._flows = peers, max(MOST_FLOWS, FLOWS_EACH * max(peers, len(self.routes)))
+            self._set_guard(self._read_ports(), self._flows)
 
     def _guard_anew(self) -> None:
         """The guard of a socket is made anew before the next datagram, once for however many changes."""
-        self._is_guard_due = self._peers > 0 and not self._is_guarded
+        self._is_guard_due = self._flows > 0 and not self._is_guarded
 
     def _read_ports(self) -> Sequence[int] | None:
         """The ports that have a reader; None if all have."""
