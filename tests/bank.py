@@ -9,8 +9,8 @@
   isn't found out; the same over TCP with names in files that are synced; or nothing happened: too few orders, no kills,
   none that was unsure, no packets dropped or repeated.
 
-It needs the library (`make -C lib`), and is skipped without it. The link is that of tests/wan.py, or a relay where there
-are no namespaces.
+It needs the library (`make -C lib`), and is skipped without it. The link is that of tests/wan.py, or a relay where
+there are no namespaces.
 
 In tests/all: no words, 360 s."""
 import os
@@ -60,10 +60,11 @@ def judged() -> list[tuple[str, bool, str]]:
 
 
 def answers(kind: type[Bank], is_started_again: bool) -> list[bytes]:
-    """What a bank answers to an order that is given twice, and to one that it refuses, given again when it could be booked;
-    where it is started again, after each request."""
+    """What a bank answers to an order that is given twice, and to one that it refuses, given again when it could be
+    booked; where it is started again, after each request."""
     # account 3 has no 2,000 before account 5 pays
-    requests = [b"transfer 1.0 1 2 10", b"transfer 1.0 1 2 10", b"transfer 2.0 3 4 2000", b"transfer 3.0 5 3 1000", b"transfer 2.0 3 4 2000", b"balance 1"]
+    once, refused, pays = b"transfer 1.0 1 2 10", b"transfer 2.0 3 4 2000", b"transfer 3.0 5 3 1000"
+    requests = [once, once, refused, pays, refused, b"balance 1"]
     with tempfile.TemporaryDirectory() as name:
         journal = pathlib.Path(name, "journal")
         bank, said = kind(journal), []
@@ -78,9 +79,9 @@ def named() -> list[tuple[str, bool, str]]:
     """Which banks do an order once."""
     once = [b"booked", b"booked", b"refused", b"booked", b"refused", b"%d" % (START - 10)]
     twice = [b"booked", b"booked", b"refused", b"booked", b"booked", b"%d" % (START - 20)]
-    wanted = [("Bank", Bank, twice, twice), ("NamedBank", NamedBank, once, twice), ("SyncedBank", SyncedBank, once, once)]
-    cases = [(f"{name}{', started again' * is_again}", answers(kind, is_again), (running, again)[is_again])
-             for name, kind, running, again in wanted for is_again in (False, True)]
+    wanted = [(Bank, twice, twice), (NamedBank, once, twice), (SyncedBank, once, once)]
+    cases = [(f"{kind.__name__}{', started again' * is_again}", answers(kind, is_again), (running, again)[is_again])
+             for kind, running, again in wanted for is_again in (False, True)]
     return [(f"orders of {name}", said == right, "" if said == right else str(said)) for name, said, right in cases]
 
 
@@ -119,11 +120,12 @@ def ran(seconds: str) -> list[tuple[str, bool, str]]:
     happened = ("orders", "booked", "kills of clients", "kills of the bank", "times an order was unsure")
     return [
         ("it ends with 0", it.returncode == 0, it.stderr.strip()[-300:]),
-        *((f"none by {way}: {name}", number(name, way) == 0, str(number(name, way))) for way in ("calls", "TCP+synced") for name in wrong),
+        *((f"none by {way}: {name}", number(name, way) == 0, str(number(name, way)))
+          for way in ("calls", demo.SYNCED) for name in wrong),
         *((f"some: {name}", number(name) > 0, str(number(name))) for name in happened),
         ("packets were dropped, repeated and late", went is not None and all(int(count) for count in went.groups()), went[0] if went else ""),
         ("more than 20 orders by each way", all(number("orders", way) > 20 for way in demo.WAYS), ""),
-        ("kills of clients and of the bank by each way", all(number(name, way) > 0 for way in demo.WAYS for name in happened[2:4]), ""),
+        ("kills of both by each way", all(number(name, way) > 0 for way in demo.WAYS for name in happened[2:4]), ""),
     ]
 
 

@@ -1,5 +1,5 @@
-"""Banks of accounts, and what their clients write down. An order isn't idempotent: booked twice, it moves the money twice.
-`Bank` doesn't look whether it booked that order before; `NamedBank` and `SyncedBank` remember the names of orders.
+"""Banks of accounts, and what their clients write down. An order isn't idempotent: booked twice, it moves the money
+twice. `Bank` doesn't look whether it booked that order before; `NamedBank` and `SyncedBank` remember names of orders.
 
 What all of them write is in their files before they continue, so killing a program takes nothing of it away."""
 import os
@@ -50,8 +50,8 @@ class Bank:
 
 
 class NamedBank(Bank):
-    """Remembers the name of each order and its answer, in memory: an order that is given again gets its first answer, and
-    isn't booked again. A bank that is started again knows no names."""
+    """Remembers the name of each order and its answer, in memory: an order that is given again gets its first answer,
+    and isn't booked again. A bank that is started again knows no names."""
 
     def __init__(self, journal: pathlib.Path) -> None:
         super().__init__(journal)

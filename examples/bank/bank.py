@@ -4,8 +4,8 @@ them again.
     bank.py serve|serve-tcp|serve-names|serve-synced FOLDER
     bank.py ask|ask-tcp FOLDER NUMBER UNTIL SEED
 
-`serve-names` and `serve-synced` serve over TCP, by a bank that remembers the names of orders in memory, or in files that
-are synced; their clients are those of `ask-tcp`.
+`serve-names` and `serve-synced` serve over TCP, by a bank that remembers the names of orders in memory, or in files
+that are synced; their clients are those of `ask-tcp`.
 
 UNTIL is a moment in ms of `deltat.now()`: until then a client gives orders, and after it only finds out what became of
 them. In FOLDER are the journal of the bank, the notes of each client, and the state folders of their nodes."""

@@ -19,8 +19,8 @@ killed any more, and each client finds out what became of its last orders.
 
 Then the journal of the bank is compared with the notes of all clients. Ends with 0 if by calls the sum of the accounts
 is what it was, no order was booked twice, and the fate of each order is the one that its client noted; else with 1. The
-table has the same counts of the other three, and what each way took. The times from a kill on have the 0 to 300 ms after
-which the program is started, and its start. At last the first answer is measured over the same delay without losses, a
+table has the same counts of the other three, and what each way took. Times from a kill have the 0 to 300 ms after which
+the program is started again, and its start. At last the first answer is measured over the same delay without losses, a
 flow or a connection of its own for each, and how long one line takes to be written and synced."""
 import argparse
 import asyncio
@@ -39,6 +39,7 @@ import tempfile
 import threading
 import time
 from collections import Counter
+from collections.abc import Iterable
 
 HERE = pathlib.Path(__file__).resolve().parent
 sys.path[:0] = [str(HERE), str(HERE.parents[1] / "tests")]
@@ -51,7 +52,14 @@ from wan import Bound, Carrier, Link, Outcome, impaired_link, stop  # noqa: E402
 DELAY = 20
 KILL_CLIENT, KILL_BANK = 0.7, 10.0
 FIRSTS, SYNCS = 20, 100
-WAYS = {"calls": ("serve", "ask"), "TCP": ("serve-tcp", "ask-tcp"), "TCP+names": ("serve-names", "ask-tcp"), "TCP+synced": ("serve-synced", "ask-tcp")}
+SYNCED = "TCP+synced"
+# what the bank and its clients are started with
+WAYS = {
+    "calls": ("serve", "ask"),
+    "TCP": ("serve-tcp", "ask-tcp"),
+    "TCP+names": ("serve-names", "ask-tcp"),
+    SYNCED: ("serve-synced", "ask-tcp"),
+}
 # what a row of the table has
 Cell = int | float | None
 
@@ -123,13 +131,18 @@ def part(numbers: list[int], which: float) -> Cell:
 
 
 def times(folder: pathlib.Path, notes: list[Notes]) -> dict[str, Cell]:
-    """In ms: from an order to its fate, and from a kill to the next fate that was noted: by the client that was killed, or
-    by any client of an order that was given after the bank was killed."""
+    """In ms: from an order to its fate, and from a kill to the next fate that was noted: by the client that was killed,
+    or by any client of an order that was given after the bank was killed."""
     took = [it.known[order] - it.given[order] for it in notes for order in it.known if order in it.given]
     known = [(it.given[order], at) for it in notes for order, at in it.known.items() if order in it.given]
-    own = {f"client {it.number}": sorted(it.known.values()) for it in notes}
-    of_clients = [next((at for at in own[name] if at > killed), 0) - killed for name, killed in kills(folder, "clients") if name in own]
-    of_bank = [min((at for given, at in known if given > killed), default=0) - killed for _, killed in kills(folder, "bank")]
+    own = {f"client {it.number}": list(it.known.values()) for it in notes}
+
+    def after(killed: int, moments: Iterable[int]) -> int:
+        """From a kill to the first of these moments that is later; negative if there is none."""
+        return min((at for at in moments if at > killed), default=0) - killed
+
+    of_clients = [after(at, own.get(name, ())) for name, at in kills(folder, "clients")]
+    of_bank = [after(at, (fate for given, fate in known if given > at)) for _, at in kills(folder, "bank")]
     return {
         "ms to an order's fate, half of them within": part(took, 0.5),
         "ms to an order's fate, 99 of 100 within": part(took, 0.99),
@@ -239,7 +252,8 @@ def over(way: str, link: Link, seconds: float, seed: int, folder: pathlib.Path) 
         raise SystemExit(f"demo: {way}: the clients ended with {ran.statuses[1]}" + (", stopped" if ran.stopped else ""))
     print(f"{way}: {ran.counts if ran.counts.went else 'without losses'}", flush=True)
     found = outcome(folder)
-    return found | {"packets an order that was booked": round(ran.counts.went / found["booked"], 1) if ran.counts.went and found["booked"] else None}
+    each = round(ran.counts.went / found["booked"], 1) if ran.counts.went and found["booked"] else None
+    return found | {"packets an order that was booked": each}
 
 
 # --- first answers
@@ -299,9 +313,10 @@ def firsts(folder: pathlib.Path) -> dict[str, float]:
 
 def table(found: dict[str, dict[str, Cell]], first: dict[str, float], sync: float) -> str:
     names = list(next(iter(found.values())))
-    lines = [["", *found]] + [[name, *("-" if it[name] is None else str(it[name]) for it in found.values())] for name in names]
+    lines = [["", *found]]
+    lines += [[name, *("-" if it[name] is None else str(it[name]) for it in found.values())] for name in names]
     lines.append([f"first answer, {DELAY} ms each way", *(f"{first[way]:.0f} ms" if way in first else "-" for way in found)])
-    lines.append(["a line that is written and synced", *(f"{sync:.2f} ms" if way == "TCP+synced" else "-" for way in found)])
+    lines.append(["a line that is written and synced", *(f"{sync:.2f} ms" if way == SYNCED else "-" for way in found)])
     return "\n".join(f"{it[0]:44}" + "".join(f"{word:>12}" for word in it[1:]) for it in lines)
 
 
