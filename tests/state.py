@@ -25,6 +25,7 @@ In tests/all: no words, 600 s."""
 from __future__ import annotations
 
 import collections
+import concurrent.futures
 import contextlib
 import heapq
 import logging
@@ -447,47 +448,46 @@ def what_is_answered(folder: pathlib.Path, log: pathlib.Path, now: int) -> str:
     return ""
 
 
+def traced(place: pathlib.Path, base: int, *options: str) -> int:
+    """Runs the program under strace, with its folder and its log in a place. Its status."""
+    environment = {**os.environ, "PYTHONHASHSEED": "0", "PYTHONDONTWRITEBYTECODE": "1"}
+    words = [sys.executable, "-S", __file__, "child", str(place / "it"), str(place / "log"), str(base)]
+    return subprocess.run(["strace", "-qq", *options, *words], env=environment, stderr=subprocess.DEVNULL, timeout=60).returncode
+
+
+def killed_at(call: str, count: int, place: pathlib.Path, base: int) -> None:
+    traced(place, base, "-f", "--seccomp-bpf", "-o", "/dev/null", "-e", f"trace={call}", f"--inject={call}:signal=KILL:when={count}")
+
+
 def killed_at_each_call() -> bool:
     if not shutil.which("strace"):
         print("killed: not tried, since there is no strace")
         return True
     wrong, tried = [], 0
-    with tempfile.TemporaryDirectory() as top:
-        place = pathlib.Path(top)
-        environment = {**os.environ, "PYTHONHASHSEED": "0", "PYTHONDONTWRITEBYTECODE": "1"}
-
-        def run(base: int, *options: str) -> int:
-            words = [sys.executable, __file__, "child", str(place / "it" / "folder"), str(place / "log"), str(base)]
-            return subprocess.run(["strace", *options, *words], env=environment, stderr=subprocess.DEVNULL, timeout=60).returncode
-
+    with tempfile.TemporaryDirectory() as top, concurrent.futures.ThreadPoolExecutor(4) as runners:
+        kept = pathlib.Path(top) / "kept"
         for number, name in enumerate(("empty", "closed", "left by a kill")):
+            # what was there before: nothing, a life that was closed in order, one that was killed as it wrote
+            kept.mkdir(exist_ok=True)
             base = BASE + number * 5 * QUIET
-            kept = place / f"kept-{number}"
-            if name == "left by a kill":
-                run(BASE, "-qq", "-o", "/dev/null", "-e", "trace=pwrite64", "--inject=pwrite64:signal=KILL:when=4")
-            if (place / "it").exists():
-                shutil.copytree(place / "it", kept)
-                shutil.copy(place / "log", place / f"log-{number}")
-            if run(base, "-qq", "-o", str(place / "listing")) != 0:
+            listed = shutil.copytree(kept, pathlib.Path(top) / f"listed-{number}")
+            if traced(listed, base, "-o", str(listed / "listing")) != 0:
                 print("killed: not tried, since strace can't trace here")
                 return True
-            for call, count in calls_of(place / "listing"):
-                shutil.rmtree(place / "it", ignore_errors=True)
-                (place / "log").unlink(missing_ok=True)
-                if kept.exists():
-                    shutil.copytree(kept, place / "it")
-                    shutil.copy(place / f"log-{number}", place / "log")
-                run(base, "-qq", "-o", "/dev/null", "-e", f"trace={call}", f"--inject={call}:signal=KILL:when={count}")
-                tried += 1
-                why = what_is_answered(place / "it" / "folder", place / "log", base + 3 * QUIET + 2)
-                if why:
-                    wrong.append(f"{name}, {call} {count}: {why}")
-            # the next round begins with a whole run, closed in order
-            for it in ("it", "log"):
-                shutil.rmtree(place / it) if (place / it).is_dir() else (place / it).unlink(missing_ok=True)
-            run(BASE - 10 * QUIET, "-qq", "-o", "/dev/null", "-e", "trace=none")
+            calls = calls_of(listed / "listing")
+            places = [shutil.copytree(kept, pathlib.Path(top) / f"{number}-{it}") for it in range(len(calls))]
+            list(runners.map(lambda it: killed_at(*it[0], it[1], base), zip(calls, places)))
+            for (call, count), place in zip(calls, places):
+                why = what_is_answered(place / "it", place / "log", base + 3 * QUIET + 2)
+                wrong += [f"{name}, {call} {count}: {why}"] * bool(why)
+            tried += len(calls)
+            if number == 0:
+                shutil.rmtree(kept)
+                kept = listed
+            else:
+                killed_at("pwrite64", 4, kept, base)
     print(f"killed: at {tried} calls" + "".join(f"\n  {it}" for it in wrong[:5]))
-    return not wrong and tried > 60
+    return not wrong and tried > 100
 
 
 # --- exchanged
