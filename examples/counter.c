@@ -30,13 +30,13 @@ static uint64_t milliseconds(clockid_t clock) {
 static uint64_t now(void) { return milliseconds(CLOCK_BOOTTIME); }
 
 static void stop_on(uint8_t status) {
-    if (status == DT_NO_MEMORY || status == DT_SPENT || status == DT_CLOSED) exit(1);
+    if (status == DT_NO_MEMORY || status == DT_STOPPED || status == DT_NOT_OPEN) exit(1);
 }
 
 /* the socket is connected to node 1: what strangers send doesn't come */
 static void flush(int wire, dt_node *node, uint64_t at) {
-    uint8_t frame[DT_MOST_FRAME];
-    for (struct dt_out out; (out = dt_next_frame(node, frame, sizeof frame)).status == DT_DONE;)
+    uint8_t frame[DT_MAX_DATAGRAM];
+    for (struct dt_datagram out; (out = dt_node_next_datagram(node, frame, sizeof frame)).status == DT_OK;)
         if (now() - at <= LATE) send(wire, frame, out.len, 0); /* what is later counts as lost */
 }
 
@@ -54,7 +54,7 @@ static uint32_t waited(struct msghdr *head, uint64_t at) {
 }
 
 static void receive(int wire, dt_node *node) {
-    uint8_t datagram[DT_MOST_FRAME + 1];
+    uint8_t datagram[DT_MAX_DATAGRAM + 1];
     char room[128];
     for (;;) {
         struct iovec octets = {datagram, sizeof datagram};
@@ -63,13 +63,13 @@ static void receive(int wire, dt_node *node) {
         uint64_t at = now();
         if (len < 0 && errno == ECONNREFUSED) continue; /* of what was sent before: node 1 isn't there */
         if (len < 0) return (void)(empty_at = at);
-        stop_on(dt_arrive(node, at, LINK, datagram, (size_t)len, waited(&head, at)).status);
+        stop_on(dt_node_receive(node, at, LINK, datagram, (size_t)len, waited(&head, at)).status);
         flush(wire, node, at);
     }
 }
 
 static void answer(dt_node *node, uint64_t at, const struct dt_flow *flow) {
-    struct dt_flow back = {flow->to, flow->from, flow->to_port, flow->from_port};
+    struct dt_flow back = {flow->target, flow->source, flow->target_port, flow->source_port};
     char name[32], text[64] = "that isn't a name and a number";
     long long number;
     if (sscanf(message, "%31s %lld", name, &number) == 2)
@@ -79,14 +79,14 @@ static void answer(dt_node *node, uint64_t at, const struct dt_flow *flow) {
                 snprintf(text, sizeof text, "%s %lld", name, sums[i].sum += number);
                 break;
             }
-    stop_on(dt_send(node, at, &back, (uint8_t *)text, strlen(text), true, true).status);
+    stop_on(dt_node_send(node, at, &back, (uint8_t *)text, strlen(text), true, true).status);
 }
 
 /* answers the messages that are whole; one that is too long is dropped by the library */
 static void serve(dt_node *node, uint64_t at) {
     struct dt_message it;
-    while ((it = dt_take(node, at, (uint8_t *)message, MOST)).status == DT_DONE || it.status == DT_MORE || it.status == DT_LOST)
-        if (it.status == DT_DONE) message[it.len] = '\0', answer(node, at, &it.flow);
+    while ((it = dt_node_next_message(node, at, (uint8_t *)message, MOST)).status == DT_OK || it.status == DT_MORE || it.status == DT_LOST)
+        if (it.status == DT_OK) message[it.len] = '\0', answer(node, at, &it.flow);
     stop_on(it.status);
 }
 
@@ -96,18 +96,18 @@ int main(int count, char **words) {
     peer.sin_port = htons(4001);
     if (setsockopt(wire, SOL_SOCKET, SO_TIMESTAMPNS, &yes, sizeof yes) || bind(wire, (struct sockaddr *)&own, sizeof own) || connect(wire, (struct sockaddr *)&peer, sizeof peer)) return perror("counter"), 1;
     struct dt_start start = {now(), 2, count > 1 && !strcmp(words[1], "again")};
-    dt_node *node = aligned_alloc(dt_align(), (dt_size() + dt_align() - 1) / dt_align() * dt_align());
-    if (!node || dt_abi() != DT_ABI) return 1;
-    dt_init(node);
-    if (dt_open(node, &PARAMS, &start, &(struct dt_link){CHARGE, 0, LINK}, 1, &(struct dt_route){1, LINK}, 1).status != DT_DONE || dt_inbox(node, MOST) != DT_DONE) return 1;
+    dt_node *node = aligned_alloc(dt_node_align(), (dt_node_size() + dt_node_align() - 1) / dt_node_align() * dt_node_align());
+    if (!node || dt_abi_version() != DT_ABI_VERSION) return 1;
+    dt_node_init(node);
+    if (dt_node_open(node, &PARAMS, &start, &(struct dt_link){CHARGE, 0, LINK}, 1, &(struct dt_route){1, LINK}, 1).status != DT_OK || dt_node_enable_messages(node, MOST) != DT_OK) return 1;
     for (empty_at = now();;) {
-        struct dt_moment wake = dt_wake(node);
+        struct dt_moment wake = dt_node_wake(node);
         uint64_t at = now();
         poll(&(struct pollfd){wire, POLLIN, 0}, 1, !wake.some ? -1 : wake.at <= at ? 1 : wake.at - at > 1000 ? 1000 : (int)(wake.at - at));
         receive(wire, node);
-        stop_on(dt_tick(node, at = now()));
-        for (struct dt_report it; (it = dt_next_report(node)).status == DT_DONE;)
-            if (it.kind == DT_ACCEPTED || it.kind == DT_RELEASED) stop_on(dt_hear(node, &it.flow));
+        stop_on(dt_node_tick(node, at = now()));
+        for (struct dt_report it; (it = dt_node_next_report(node)).status == DT_OK;)
+            if (it.kind == DT_REPORT_ACCEPTED || it.kind == DT_REPORT_RECORD_RELEASED) stop_on(dt_node_mark_readable(node, &it.flow));
         serve(node, at);
         flush(wire, node, at);
     }

@@ -34,16 +34,16 @@ static uint64_t milliseconds(clockid_t clock) {
 static uint64_t now(void) { return milliseconds(CLOCK_BOOTTIME); }
 
 static void stop_on(uint8_t status, const char *what) {
-    if (status != DT_NO_MEMORY && status != DT_SPENT && status != DT_CLOSED) return;
+    if (status != DT_NO_MEMORY && status != DT_STOPPED && status != DT_NOT_OPEN) return;
     fprintf(stderr, "echo: %s: status %u\n", what, status);
     exit(1);
 }
 
 /* puts on the wire what left the node at that moment */
 static void flush(int wire, dt_node *node, uint64_t at) {
-    uint8_t frame[DT_MOST_FRAME];
-    struct dt_out out;
-    while ((out = dt_next_frame(node, frame, sizeof frame)).status == DT_DONE)
+    uint8_t frame[DT_MAX_DATAGRAM];
+    struct dt_datagram out;
+    while ((out = dt_node_next_datagram(node, frame, sizeof frame)).status == DT_OK)
         if (out.to == 1 && now() - at <= LATE) /* what is later counts as lost */
             sendto(wire, frame, out.len, 0, (struct sockaddr *)&client, sizeof client);
 }
@@ -72,7 +72,7 @@ static void receive(int wire, dt_node *node) {
         if (len < 0) break;
         if (from.sin_addr.s_addr != client.sin_addr.s_addr || from.sin_port != client.sin_port) continue; /* a stranger */
         uint64_t at = now();
-        stop_on(dt_arrive(node, at, LINK, datagram, (size_t)len, waited(&head, at)).status, "a datagram");
+        stop_on(dt_node_receive(node, at, LINK, datagram, (size_t)len, waited(&head, at)).status, "a datagram");
         flush(wire, node, at);
     }
     empty_at = now();
@@ -80,22 +80,22 @@ static void receive(int wire, dt_node *node) {
 
 /* answers a whole message on the way back */
 static void answer(dt_node *node, uint64_t at, const struct dt_flow *flow, size_t len) {
-    struct dt_flow back = {flow->to, flow->from, flow->to_port, flow->from_port};
+    struct dt_flow back = {flow->target, flow->source, flow->target_port, flow->source_port};
     for (size_t i = 0, j = len; i + 1 < j; i++) {
         uint8_t it = message[i];
         message[i] = message[--j];
         message[j] = it;
     }
-    struct dt_sent sent = dt_send(node, at, &back, message, len, true, true);
+    struct dt_send_result sent = dt_node_send(node, at, &back, message, len, true, true);
     stop_on(sent.status, "an answer");
-    if (sent.status != DT_DONE) fprintf(stderr, "echo: an answer wasn't sent: status %u\n", sent.status);
+    if (sent.status != DT_OK) fprintf(stderr, "echo: an answer wasn't sent: status %u\n", sent.status);
 }
 
 /* answers the messages that are whole */
 static void serve(dt_node *node, uint64_t at) {
     struct dt_message it;
-    while ((it = dt_take(node, at, message, sizeof message)).status == DT_DONE || it.status == DT_MORE || it.status == DT_LOST)
-        if (it.status == DT_DONE) answer(node, at, &it.flow, it.len);
+    while ((it = dt_node_next_message(node, at, message, sizeof message)).status == DT_OK || it.status == DT_MORE || it.status == DT_LOST)
+        if (it.status == DT_OK) answer(node, at, &it.flow, it.len);
     stop_on(it.status, "a message");
 }
 
@@ -108,22 +108,22 @@ int main(int count, char **words) {
     struct dt_link link = {294, 0, LINK};
     struct dt_route route = {1, LINK};
     struct dt_start start = {now(), 2, count > 1 && !strcmp(words[1], "again")};
-    dt_node *node = aligned_alloc(dt_align(), (dt_size() + dt_align() - 1) / dt_align() * dt_align());
-    if (!node || dt_abi() != DT_ABI) return fprintf(stderr, "echo: no memory, or another library\n"), 1;
-    dt_init(node);
-    if (dt_open(node, &PARAMS, &start, &link, 1, &route, 1).status != DT_DONE || dt_inbox(node, MOST) != DT_DONE) return fprintf(stderr, "echo: the node can't be opened\n"), 1;
+    dt_node *node = aligned_alloc(dt_node_align(), (dt_node_size() + dt_node_align() - 1) / dt_node_align() * dt_node_align());
+    if (!node || dt_abi_version() != DT_ABI_VERSION) return fprintf(stderr, "echo: no memory, or another library\n"), 1;
+    dt_node_init(node);
+    if (dt_node_open(node, &PARAMS, &start, &link, 1, &route, 1).status != DT_OK || dt_node_enable_messages(node, MOST) != DT_OK) return fprintf(stderr, "echo: the node can't be opened\n"), 1;
 
     for (empty_at = now();;) {
-        struct dt_moment wake = dt_wake(node);
+        struct dt_moment wake = dt_node_wake(node);
         int64_t wait = wake.some ? (int64_t)(wake.at - now()) : -1;
         struct pollfd it = {.fd = wire, .events = POLLIN};
         poll(&it, 1, wake.some ? (int)(wait < 1 ? 1 : wait > 1000 ? 1000 : wait) : -1);
         receive(wire, node);
         uint64_t at = now();
-        stop_on(dt_tick(node, at), "a tick");
+        stop_on(dt_node_tick(node, at), "a tick");
         struct dt_report report;
-        while ((report = dt_next_report(node)).status == DT_DONE)
-            if (report.kind == DT_ACCEPTED || report.kind == DT_RELEASED) stop_on(dt_hear(node, &report.flow), "a flow");
+        while ((report = dt_node_next_report(node)).status == DT_OK)
+            if (report.kind == DT_REPORT_ACCEPTED || report.kind == DT_REPORT_RECORD_RELEASED) stop_on(dt_node_mark_readable(node, &report.flow), "a flow");
         serve(node, at);
         flush(wire, node, at);
     }

@@ -38,7 +38,7 @@ static struct { uint8_t octets[MOST]; size_t len; bool begun; } message;
 static void end(int it) { is_over = it; }
 
 static void stop_on(uint8_t status, const char *what) {
-    if (status != DT_NO_MEMORY && status != DT_SPENT && status != DT_CLOSED) return;
+    if (status != DT_NO_MEMORY && status != DT_STOPPED && status != DT_NOT_OPEN) return;
     fprintf(stderr, "serial: %s: status %u\n", what, status);
     exit(1);
 }
@@ -83,9 +83,9 @@ static size_t unstuff(uint8_t *octets, size_t len) {
 
 /* puts what left the node at that moment on the line; what the line doesn't take whole comes spoilt, and is lost */
 static void flush(int line, dt_node *node, uint64_t at) {
-    uint8_t frame[DT_MOST_FRAME + CHECK], stuffed[MOST_STUFFED];
-    struct dt_out out;
-    while ((out = dt_next_frame(node, frame, DT_MOST_FRAME)).status == DT_DONE) {
+    uint8_t frame[DT_MAX_DATAGRAM + CHECK], stuffed[MOST_STUFFED];
+    struct dt_datagram out;
+    while ((out = dt_node_next_datagram(node, frame, DT_MAX_DATAGRAM)).status == DT_OK) {
         if (out.len > 30 + SEGMENT || now() - at > LATE) continue;
         uint32_t check = crc32(frame, out.len);
         for (int i = 0; i < CHECK; i++) frame[out.len + i] = (uint8_t)(check >> 8 * i);
@@ -109,7 +109,7 @@ static void arrive(dt_node *node, uint8_t *octets, size_t len, uint64_t at) {
         spoilt++;
         return;
     }
-    stop_on(dt_arrive(node, at, LINK, octets, len - CHECK, (uint32_t)(at - empty_at)).status, "a frame");
+    stop_on(dt_node_receive(node, at, LINK, octets, len - CHECK, (uint32_t)(at - empty_at)).status, "a frame");
 }
 
 static void receive(int line, dt_node *node) {
@@ -139,8 +139,8 @@ static void receive(int line, dt_node *node) {
 /* reads what is unread of a flow, joins it to messages, and writes those that are whole; one above 4,096 octets isn't */
 static void read_flow(dt_node *node, uint64_t at, const struct dt_flow *flow) {
     static uint8_t octets[MOST];
-    struct dt_piece piece;
-    while ((piece = dt_read(node, at, flow, octets, sizeof octets)).status == DT_DONE) {
+    struct dt_read_result piece;
+    while ((piece = dt_node_read(node, at, flow, octets, sizeof octets)).status == DT_OK) {
         if (piece.begin || piece.run) message.begun = piece.begin, message.len = 0;
         if (!message.begun || message.len + piece.len > MOST) {
             message.begun = false;
@@ -174,9 +174,9 @@ static void take_line(void) {
 static void send_line(dt_node *node, uint64_t at, const struct dt_flow *flow) {
     unsigned long under_way = taken - settled - uncertain;
     if (under_way > 0 && under_way + given.len > AHEAD) return;
-    uint8_t status = dt_send(node, at, flow, given.octets, given.len, true, true).status;
+    uint8_t status = dt_node_send(node, at, flow, given.octets, given.len, true, true).status;
     stop_on(status, "a line");
-    if (status == DT_DONE) given.whole = false, given.len = 0;
+    if (status == DT_OK) given.whole = false, given.len = 0;
 }
 
 static int opened_line(const char *name) {
@@ -193,15 +193,15 @@ static dt_node *opened_node(uint32_t me, uint32_t peer, bool again) {
     struct dt_link link = {CHARGE, PACE, LINK};
     struct dt_route route = {peer, LINK};
     struct dt_start start = {now(), me, again};
-    dt_node *node = aligned_alloc(dt_align(), (dt_size() + dt_align() - 1) / dt_align() * dt_align());
-    if (!node || dt_abi() != DT_ABI) return NULL;
-    dt_init(node);
-    return dt_open(node, &PARAMS, &start, &link, 1, &route, 1).status == DT_DONE ? node : NULL;
+    dt_node *node = aligned_alloc(dt_node_align(), (dt_node_size() + dt_node_align() - 1) / dt_node_align() * dt_node_align());
+    if (!node || dt_abi_version() != DT_ABI_VERSION) return NULL;
+    dt_node_init(node);
+    return dt_node_open(node, &PARAMS, &start, &link, 1, &route, 1).status == DT_OK ? node : NULL;
 }
 
 /* waits for the line, for standard input where a line of it can be sent, and for the node's wake */
 static void wait_for(int line, dt_node *node) {
-    struct dt_moment wake = dt_wake(node);
+    struct dt_moment wake = dt_node_wake(node);
     uint64_t at = now();
     struct pollfd its[] = {{line, POLLIN, 0}, {STDIN_FILENO, POLLIN, 0}};
     int wait = !wake.some || wake.at > at + 100 ? 100 : wake.at <= at ? 1 : (int)(wake.at - at);
@@ -213,7 +213,7 @@ int main(int count, char **words) {
     int line = count < 4 ? -1 : opened_line(words[1]);
     if (line < 0) return fprintf(stderr, "serial DEVICE ME PEER [again]\n"), 2;
     struct dt_flow flow = {(uint32_t)atol(words[2]), (uint32_t)atol(words[3]), PORT, PORT};
-    dt_node *node = opened_node(flow.from, flow.to, count > 4 && !strcmp(words[4], "again"));
+    dt_node *node = opened_node(flow.source, flow.target, count > 4 && !strcmp(words[4], "again"));
     if (!node) return fprintf(stderr, "serial: the node can't be opened\n"), 1;
     fcntl(STDIN_FILENO, F_SETFL, fcntl(STDIN_FILENO, F_GETFL) | O_NONBLOCK);
     signal(SIGINT, end), signal(SIGTERM, end);
@@ -221,19 +221,19 @@ int main(int count, char **words) {
         wait_for(line, node);
         receive(line, node);
         uint64_t at = now();
-        stop_on(dt_tick(node, at), "a tick");
+        stop_on(dt_node_tick(node, at), "a tick");
         if (given.whole) send_line(node, at, &flow);
         struct dt_report it;
-        while ((it = dt_next_report(node)).status == DT_DONE) {
-            if (it.kind == DT_ACCEPTED) read_flow(node, at, &it.flow);
-            if (it.kind == DT_TOOK) taken += it.count;
-            if (it.kind == DT_SETTLED) settled += it.count;
-            if (it.kind == DT_UNCERTAIN) uncertain += it.count;
+        while ((it = dt_node_next_report(node)).status == DT_OK) {
+            if (it.kind == DT_REPORT_ACCEPTED) read_flow(node, at, &it.flow);
+            if (it.kind == DT_REPORT_SEND_QUEUED) taken += it.count;
+            if (it.kind == DT_REPORT_ACKNOWLEDGED) settled += it.count;
+            if (it.kind == DT_REPORT_UNCERTAIN) uncertain += it.count;
         }
         flush(line, node, at);
     }
     fprintf(stderr, "%lu frames spoilt, %lu octets uncertain\n", spoilt, uncertain);
-    dt_close(node);
+    dt_node_close(node);
     free(node);
     return 0;
 }

@@ -192,9 +192,10 @@ enum dt_fault { /* why a datagram is DT_MALFORMED: the first test that failed; a
  * Structs that may grow begin with `size`: zero the struct and set `size` to its sizeof. A function
  * that takes such a struct returns DT_INVALID, and changes nothing, if the size is wrong. A struct
  * that you pass in has exactly the size of this header. A struct that a call fills has at least
- * that: the call writes the fields of this header and leaves `size` and what follows them as they
- * were. A later library that knows more fields will take the sizes of this header too. Other
- * structs keep their layout. Reserved fields are 0. */
+ * that: the call writes the fields of this header, and leaves `size`, reserved fields and what
+ * follows them as they were. It is filled when DT_OK is returned, and otherwise unchanged, unless
+ * the function says more. A later library that knows more fields will take the sizes of this header
+ * too. Other structs keep their layout. Reserved fields are 0. */
 
 typedef struct dt_node dt_node;
 typedef struct dt_service dt_service;
@@ -356,8 +357,8 @@ void dt_node_free(dt_node *node);
  *   DT_OK
  *   DT_NO_MEMORY  nothing changed
  *   DT_EXISTS     the handle is open; nothing changed
- *   DT_INVALID    a parameter is out of range (`field`, `value`: the first such), or options are;
- *                 nothing changed
+ *   DT_INVALID    a size, `start_as` or a reserved field is wrong (`field` is 0), or a parameter is
+ *                 out of range (`field`, `value`: the first such); nothing changed
  * Cost: each link reserves room for 64 of the longest datagrams, about 526,000 octets. */
 struct dt_open_result dt_node_open(dt_node *node, const struct dt_params *params,
                                    const struct dt_node_options *options);
@@ -444,7 +445,7 @@ struct dt_read_result dt_node_read(dt_node *node, uint64_t now, const struct dt_
  * DT_MAX_DATAGRAM it always fits.
  *   DT_OK                it is yours, and waits no more
  *   DT_NONE              none waits
- *   DT_BUFFER_TOO_SMALL  `len` octets are needed; it keeps waiting
+ *   DT_BUFFER_TOO_SMALL  `len` octets are needed; it keeps waiting, and `out` is filled
  *   DT_NOT_OPEN */
 dt_status dt_node_next_datagram(dt_node *node, uint8_t *buf, size_t room, struct dt_datagram *out);
 
@@ -496,7 +497,8 @@ dt_status dt_node_mark_readable(dt_node *node, const struct dt_flow *flow);
  *   DT_STOPPED           as DT_NO_MEMORY; a message that waits for room can still be taken
  *   DT_NOT_OPEN          or messages aren't enabled
  * After DT_NO_MEMORY or DT_STOPPED the flow that couldn't be read is marked no more. Unless DT_OK
- * is returned the buffer is unchanged.
+ * is returned the buffer is unchanged. `out` is filled unless DT_NOT_OPEN is returned: what doesn't
+ * apply is 0, and `dropped_too_long` always applies.
  * Cost: looks at marked flows one by one, and copies each octet three times. */
 dt_status dt_node_next_message(dt_node *node, uint64_t now, uint8_t *buf, size_t room,
                                struct dt_message *out);
@@ -739,7 +741,8 @@ dt_status dt_service_forget(dt_service *service, uint64_t now, const struct dt_t
  * waited, with DT_CAUSE_STOPPED.
  *   DT_OK
  *   DT_NONE
- *   DT_BUFFER_TOO_SMALL  `len` octets are needed; this event, and those after it, wait
+ *   DT_BUFFER_TOO_SMALL  `len` octets are needed; this event, and those after it, wait. Of `out`
+ *                        only `len` is set, all else is 0
  *   DT_NOT_OPEN */
 dt_status dt_service_next_event(dt_service *service, uint8_t *buf, size_t room,
                                 struct dt_event *out);

@@ -80,7 +80,7 @@ static uint64_t number(char **line) { return strtoull(word(line), NULL, 10); }
 
 static struct dt_flow flow_of(char **line) {
     struct dt_flow it;
-    if (sscanf(word(line), "%" SCNu32 ":%" SCNu16 ">%" SCNu32 ":%" SCNu16, &it.from, &it.from_port, &it.to, &it.to_port) != 4) strange("no flow");
+    if (sscanf(word(line), "%" SCNu32 ":%" SCNu16 ">%" SCNu32 ":%" SCNu16, &it.from, &it.source_port, &it.to, &it.target_port) != 4) strange("no flow");
     return it;
 }
 
@@ -201,7 +201,7 @@ static void begun(const char *what) { printf("%" PRIu64 " %" PRIu32 " %s", momen
 
 static void about(const char *what, const struct dt_report *it) {
     begun(what);
-    printf(" %" PRIu32 ":%" PRIu16 ">%" PRIu32 ":%" PRIu16, it->flow.from, it->flow.from_port, it->flow.to, it->flow.to_port);
+    printf(" %" PRIu32 ":%" PRIu16 ">%" PRIu32 ":%" PRIu16, it->flow.source, it->flow.source_port, it->flow.target, it->flow.target_port);
 }
 
 /* up to three letters where their marks are set, or a dash */
@@ -238,11 +238,11 @@ static void piece(const struct dt_report *it, size_t len) {
 
 /* a frame goes over the wire, which may not take it */
 static void give(const struct dt_report *it) {
-    static uint8_t frame[DT_MOST_FRAME];
-    struct dt_out out = dt_next_frame(node, frame, sizeof frame);
+    static uint8_t frame[DT_MAX_DATAGRAM];
+    struct dt_datagram out = dt_node_next_datagram(node, frame, sizeof frame);
     begun("put");
     printf(" %" PRIu32 " %" PRIu32, it->number, it->count);
-    if (out.status != DT_DONE || out.link != it->number) strange("a packet left, and its frame isn't there");
+    if (out.status != DT_OK || out.link != it->number) strange("a packet left, and its frame isn't there");
     if (out.len < 16 || it->count != ((uint32_t)frame[4] << 24 | (uint32_t)frame[5] << 16 | (uint32_t)frame[6] << 8 | frame[7])) strange("a frame has another life than was told");
     gives++;
     while (next_failing < trace.failing.len && trace.failing.at[next_failing] < gives) next_failing++;
@@ -255,37 +255,37 @@ static void give(const struct dt_report *it) {
 static void bad(uint32_t fault, uint32_t value, size_t len) {
     begun("bad");
     printf(" %s", FAULTS[fault]);
-    if (fault != DT_DEAD) printf(" %" PRIu32, value);
-    if (fault == DT_LENGTH) printf(" %zu", len - 16);
+    if (fault != DT_FAULT_LIFETIME) printf(" %" PRIu32, value);
+    if (fault == DT_FAULT_LENGTH) printf(" %zu", len - 16);
 }
 
 static void line_of(const struct dt_report *it, size_t len) {
     switch (it->kind) {
-    case DT_TOOK: one("took", it, it->count); break;
-    case DT_TOLD_QUIET: about("refused", it), printf(" quiet %" PRIu64, it->moment); break;
-    case DT_TOLD_FULL: about("refused", it), printf(" full %" PRIu32, it->count); break;
-    case DT_SENT: segment("sent", it); break;
-    case DT_RESENT: segment("resent", it); break;
-    case DT_MET: one("met", it, it->number); break;
-    case DT_UNCERTAIN: one("uncertain", it, it->count); break;
-    case DT_RELEASED: about("released", it), printf(it->sending ? " send" : " receive"); break;
-    case DT_RENEWED: about("renewed", it); break;
-    case DT_ACKED: numbers("acked", it, it->number, it->window); break;
-    case DT_REPLIED: numbers("replied", it, it->number, it->window); break;
-    case DT_ACCEPTED: numbers("accepted", it, it->number, it->count), printf(it->run ? " run" : " on"); break;
-    case DT_DROPPED: one("dropped", it, it->number); break;
-    case DT_CLOSING: one("closing", it, it->number); break;
-    case DT_SETTLED: numbers("settled", it, it->count, it->window); break;
-    case DT_IGNORED: numbers("ignored", it, it->number, it->window); break;
-    case DT_MET_QUIET: begun("quiet"), printf(" %" PRIu64, it->moment); break;
-    case DT_WAS_READ: piece(it, len); break;
-    case DT_NOT_READ: about("nothing", it); break;
-    case DT_PUT: give(it); break;
-    case DT_EXPIRED_IN: begun("expired in"), printf(" %" PRIu32, it->number); break;
-    case DT_EXPIRED_OUT: begun("expired out"), printf(" %" PRIu32, it->number); break;
-    case DT_NO_ROUTE: begun("noroute"), printf(" %" PRIu32, it->number); break;
-    case DT_LINK_FULL: begun("full"), printf(" %" PRIu32, it->number); break;
-    case DT_UNREADABLE: bad(it->number, it->count, 0); break;
+    case DT_REPORT_SEND_QUEUED: one("took", it, it->count); break;
+    case DT_REPORT_SEND_QUIET: about("refused", it), printf(" quiet %" PRIu64, it->moment); break;
+    case DT_REPORT_SEND_FULL: about("refused", it), printf(" full %" PRIu32, it->count); break;
+    case DT_REPORT_SEGMENT_SENT: segment("sent", it); break;
+    case DT_REPORT_SEGMENT_RESENT: segment("resent", it); break;
+    case DT_REPORT_PROBE_SENT: one("met", it, it->number); break;
+    case DT_REPORT_UNCERTAIN: one("uncertain", it, it->count); break;
+    case DT_REPORT_RECORD_RELEASED: about("released", it), printf(it->sending ? " send" : " receive"); break;
+    case DT_REPORT_RECORD_RENEWED: about("renewed", it); break;
+    case DT_REPORT_ACK_SENT: numbers("acked", it, it->number, it->window); break;
+    case DT_REPORT_REPLY_SENT: numbers("replied", it, it->number, it->window); break;
+    case DT_REPORT_ACCEPTED: numbers("accepted", it, it->number, it->count), printf(it->run ? " run" : " on"); break;
+    case DT_REPORT_PACKET_DROPPED: one("dropped", it, it->number); break;
+    case DT_REPORT_RUN_ENDED: one("closing", it, it->number); break;
+    case DT_REPORT_ACKNOWLEDGED: numbers("settled", it, it->count, it->window); break;
+    case DT_REPORT_ACK_IGNORED: numbers("ignored", it, it->number, it->window); break;
+    case DT_REPORT_PACKET_QUIET: begun("quiet"), printf(" %" PRIu64, it->moment); break;
+    case DT_REPORT_READ: piece(it, len); break;
+    case DT_REPORT_READ_NONE: about("nothing", it); break;
+    case DT_REPORT_PACKET_OUT: give(it); break;
+    case DT_REPORT_EXPIRED_IN: begun("expired in"), printf(" %" PRIu32, it->number); break;
+    case DT_REPORT_EXPIRED_OUT: begun("expired out"), printf(" %" PRIu32, it->number); break;
+    case DT_REPORT_NO_ROUTE: begun("noroute"), printf(" %" PRIu32, it->number); break;
+    case DT_REPORT_LINK_FULL: begun("full"), printf(" %" PRIu32, it->number); break;
+    case DT_REPORT_PACKET_MALFORMED: bad(it->number, it->count, 0); break;
     default: strange("a report of another kind");
     }
     putchar('\n');
@@ -294,7 +294,7 @@ static void line_of(const struct dt_report *it, size_t len) {
 /* The lines of a call, which may have read so many octets. A call without memory ends the run. */
 static void told(uint8_t status, size_t len) {
     struct dt_report it;
-    while ((it = dt_next_report(node)).status == DT_DONE) line_of(&it, len);
+    while ((it = dt_node_next_report(node)).status == DT_OK) line_of(&it, len);
     if (status == DT_NO_MEMORY) exit(NO_MEMORY);
 }
 
@@ -303,20 +303,20 @@ static void told(uint8_t status, size_t len) {
 static void arrive(const struct take *it) {
     static const uint8_t nothing[1];
     const uint8_t *octets = it->datagram.len > 0 ? it->datagram.at : nothing;
-    struct dt_came came = dt_arrive(node, moment, it->link, octets, it->datagram.len, 0);
-    if (came.status == DT_BAD) bad(came.fault, came.value, it->datagram.len), putchar('\n');
-    else if (came.status != DT_DONE && came.status != DT_REFUSED && came.status != DT_NO_MEMORY) strange("another answer to a datagram");
+    struct dt_receive_result came = dt_node_receive(node, moment, it->link, octets, it->datagram.len, 0);
+    if (came.status == DT_MALFORMED) bad(came.fault, came.value, it->datagram.len), putchar('\n');
+    else if (came.status != DT_OK && came.status != DT_INVALID && came.status != DT_NO_MEMORY) strange("another answer to a datagram");
     told(came.status, 0);
 }
 
 static void do_command(const struct command *it) {
     if (it->sent.at == NULL) {
-        struct dt_piece read = dt_read(node, moment, &it->flow, room, it->most);
-        if (read.status != DT_DONE && read.status != DT_NOTHING && read.status != DT_NO_MEMORY) strange("another answer to a read");
+        struct dt_read_result read = dt_node_read(node, moment, &it->flow, room, it->most);
+        if (read.status != DT_OK && read.status != DT_NONE && read.status != DT_NO_MEMORY) strange("another answer to a read");
         told(read.status, read.len);
     } else {
-        struct dt_sent sent = dt_send(node, moment, &it->flow, it->sent.at, it->sent.len, it->begin, it->end);
-        if (sent.status != DT_DONE && sent.status != DT_FULL && sent.status != DT_QUIET && sent.status != DT_NO_MEMORY) strange("another answer to a send");
+        struct dt_send_result sent = dt_node_send(node, moment, &it->flow, it->sent.at, it->sent.len, it->begin, it->end);
+        if (sent.status != DT_OK && sent.status != DT_FULL && sent.status != DT_QUIET && sent.status != DT_NO_MEMORY) strange("another answer to a send");
         told(sent.status, 0);
     }
 }
@@ -329,7 +329,7 @@ static bool turn(const struct take *came, size_t *next) {
         printf("end %" PRIu64 "\n", moment);
         return true;
     }
-    told(dt_tick(node, moment), 0);
+    told(dt_node_tick(node, moment), 0);
     return false;
 }
 
@@ -365,15 +365,15 @@ static int opened(void) {
     static const struct dt_route no_route;
     const struct dt_link *links = script.links.len > 0 ? script.links.at : &no_link;
     const struct dt_route *routes = script.routes.len > 0 ? script.routes.at : &no_route;
-    node = (dt_node *)grown(NULL, dt_size());
-    dt_init(node);
-    struct dt_opened it = dt_open(node, &script.params, &script.start, links, script.links.len, routes, script.routes.len);
+    node = (dt_node *)grown(NULL, dt_node_size());
+    dt_node_init(node);
+    struct dt_open_result it = dt_node_open(node, &script.params, &script.start, links, script.links.len, routes, script.routes.len);
     if (it.status == DT_NO_MEMORY) return NO_MEMORY;
-    if (it.status == DT_REFUSED && it.field < sizeof names / sizeof *names) {
+    if (it.status == DT_INVALID && it.field < sizeof names / sizeof *names) {
         printf("line %zu: param %s %" PRIu32 "\n", script.params_line, names[it.field], it.value);
         return REFUSED;
     }
-    if (it.status != DT_DONE) strange("another answer to the opening");
+    if (it.status != DT_OK) strange("another answer to the opening");
     return DONE;
 }
 
@@ -381,6 +381,6 @@ int main(void) {
     read_input();
     int status = opened();
     if (status == DONE) status = run();
-    if (node != NULL) dt_close(node);
+    if (node != NULL) dt_node_close(node);
     return status;
 }
