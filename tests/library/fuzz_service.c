@@ -43,7 +43,7 @@ static size_t call_count;
 struct node {
     dt_service *handle[2];
     struct dt_params params;
-    struct dt_service_options start;
+    struct dt_service_options limits;
     bool is_open, is_again, is_spent, was_late, is_lazy, is_guarded;
     unsigned openings;
     uint32_t life, count;
@@ -76,6 +76,9 @@ static struct call *call_of(const struct dt_flow *flow, uint64_t number) {
     return NULL;
 }
 
+/* what the program hands over with a call, and gets back with its end */
+static uint64_t user_of(const struct call *it) { return (uint64_t)(it - calls) * 0x9E3779B97F4A7C15u; }
+
 /* a call of this opening of a node */
 static struct call *own_call(const struct node *n, uint64_t number) {
     for (size_t i = call_count; i-- > 0;)
@@ -102,8 +105,8 @@ static size_t tokens(const struct node *n, const struct dt_flow *flow) {
 /* --- what was told */
 
 static void is_handed_out(struct node *n, const struct dt_event *it, const uint8_t *octets) {
-    struct call *call = call_of(&it->flow, it->number);
-    WANT(it->flow.target == name_of(n) && it->flow.source != it->flow.target && it->cause == 0);
+    struct call *call = call_of(&it->flow, it->call);
+    WANT(it->flow.target == name_of(n) && it->flow.source != it->flow.target && it->cause == 0 && it->user == 0);
     if (!keeps_duties) {
         /* a payload that was changed may have the name of any call */
         if (call != NULL) call->was_handed_out = call->is_token = true, call->served_by = n->openings;
@@ -114,12 +117,12 @@ static void is_handed_out(struct node *n, const struct dt_event *it, const uint8
     for (const struct call *later = call + 1; later < calls + call_count; later++) WANT(!later->was_handed_out || !is_flow(&later->flow, &call->flow));
     call->was_handed_out = call->is_token = true;
     call->served_by = n->openings;
-    WANT(tokens(n, NULL) <= n->start.requests && tokens(n, &it->flow) <= n->start.of_a_flow);
+    WANT(tokens(n, NULL) <= n->limits.max_requests && tokens(n, &it->flow) <= n->limits.max_requests_per_flow);
 }
 
 static void is_answered(struct node *n, const struct dt_event *it, const uint8_t *octets) {
-    struct call *call = own_call(n, it->number);
-    WANT(call != NULL && call->fate == WAITS && is_no_flow(&it->flow) && it->cause == 0);
+    struct call *call = own_call(n, it->call);
+    WANT(call != NULL && call->fate == WAITS && is_no_flow(&it->flow) && it->cause == 0 && it->user == user_of(call));
     call->fate = ANSWERED;
     if (!keeps_duties) return;
     WANT(call->was_replied && call->reply_len == it->len);
@@ -127,31 +130,34 @@ static void is_answered(struct node *n, const struct dt_event *it, const uint8_t
 }
 
 static void is_unsure(struct node *n, const struct dt_event *it) {
-    struct call *call = own_call(n, it->number);
-    WANT(call != NULL && call->fate == WAITS && is_no_flow(&it->flow) && it->len == 0);
+    struct call *call = own_call(n, it->call);
+    WANT(call != NULL && call->fate == WAITS && is_no_flow(&it->flow) && it->len == 0 && it->user == user_of(call));
     WANT(it->cause == DT_CAUSE_GIVEN_UP || it->cause == DT_CAUSE_TIMEOUT || it->cause == DT_CAUSE_STOPPED);
     if (it->cause == DT_CAUSE_TIMEOUT) WANT(n->judged >= call->due);
     WANT((it->cause == DT_CAUSE_STOPPED) <= n->is_spent);
     call->fate = UNSURE;
 }
 
-/* The next thing that both sides tell, into memory of exactly its size. Whether there was one. */
+/* The next event of both sides, into memory of exactly its size. Whether there was one. */
 static bool takes_event(struct node *n) {
     uint8_t *small = block(0);
-    struct dt_event none = dt_service_next_event(n->handle[0], small, 0);
-    if (none.status == DT_NONE || none.status == DT_NOT_OPEN) {
-        WANT(none.status == (n->is_open ? DT_NONE : DT_NOT_OPEN) && dt_service_next_event(n->handle[1], small, 0).status == none.status);
+    SIZED(dt_event, one);
+    SIZED(dt_event, other);
+    dt_status status = dt_service_next_event(n->handle[0], small, 0, &one);
+    if (status == DT_NONE || status == DT_NOT_OPEN) {
+        WANT(status == (n->is_open ? DT_NONE : DT_NOT_OPEN) && dt_service_next_event(n->handle[1], small, 0, &other) == status);
         free(small);
         return false;
     }
     free(small);
-    WANT(none.status == DT_OK || (none.status == DT_BUFFER_TOO_SMALL && none.len >= 1 && none.len <= 65528));
-    size_t len = none.len;
+    WANT(status == DT_OK || (status == DT_BUFFER_TOO_SMALL && one.len >= 1 && one.len <= DT_MAX_PAYLOAD));
+    WANT(status == DT_OK || (one.kind == 0 && one.call == 0 && one.user == 0 && is_no_flow(&one.flow)));
+    size_t len = one.len;
     uint8_t *octets = block(len + BEHIND), *twin = block(len);
     memset(octets, 0xEE, len + BEHIND);
-    struct dt_event one = none.status == DT_OK ? none : dt_service_next_event(n->handle[0], octets, len + BEHIND), other = dt_service_next_event(n->handle[1], twin, len);
-    WANT(one.status == DT_OK && other.status == DT_OK && one.len == len && other.len == len && is_same(octets, twin, len));
-    WANT(one.number == other.number && one.kind == other.kind && one.cause == other.cause && is_flow(&one.flow, &other.flow));
+    if (status != DT_OK) WANT(dt_service_next_event(n->handle[0], octets, len + BEHIND, &one) == DT_OK);
+    WANT(dt_service_next_event(n->handle[1], twin, len, &other) == DT_OK && one.len == len && other.len == len && is_same(octets, twin, len));
+    WANT(one.call == other.call && one.kind == other.kind && one.cause == other.cause && one.user == other.user && is_flow(&one.flow, &other.flow));
     for (size_t i = len; i < len + BEHIND; i++) WANT(octets[i] == 0xEE);
     happens(one.kind * 4u + one.cause);
     if (one.kind == DT_EVENT_REQUEST) is_handed_out(n, &one, octets);
@@ -175,27 +181,35 @@ static void takes_events(struct node *n) {
     }
 }
 
+static bool is_same_dropped(const struct dt_call_counts *one, const struct dt_call_counts *other) {
+    return one->late_replies == other->late_replies && one->old_replies == other->old_replies && one->unknown_replies == other->unknown_replies &&
+           one->reused_requests == other->reused_requests && one->cut == other->cut && one->too_long == other->too_long && one->too_short == other->too_short;
+}
+
 static bool is_same_counts(const struct node *n) {
-    struct dt_node_counts one = dt_service_get_counts(n->handle[0]), other = dt_service_get_counts(n->handle[1]);
-    struct dt_call_counts mine = dt_service_get_call_counts(n->handle[0]), twin = dt_service_get_call_counts(n->handle[1]);
+    SIZED(dt_node_counts, one);
+    SIZED(dt_node_counts, other);
+    SIZED(dt_call_counts, mine);
+    SIZED(dt_call_counts, twin);
+    dt_status status = n->is_open ? DT_OK : DT_NOT_OPEN;
+    WANT(dt_service_get_counts(n->handle[0], &one) == status && dt_service_get_counts(n->handle[1], &other) == status);
+    WANT(dt_service_get_call_counts(n->handle[0], &mine) == status && dt_service_get_call_counts(n->handle[1], &twin) == status);
     struct dt_blocked_counts kept = dt_service_get_blocked_counts(n->handle[0]);
-    WANT(one.status == (n->is_open ? DT_OK : DT_NOT_OPEN) && mine.status == one.status);
-    WANT(n->is_guarded || kept.closed + kept.crowded == 0);
-    if (keeps_duties) WANT(mine.strange == 0 && mine.reused == 0 && mine.too_long == 0 && mine.too_short == 0);
+    WANT(n->is_guarded || kept.closed_port + kept.too_many_flows == 0);
+    if (keeps_duties) WANT(mine.unknown_replies == 0 && mine.reused_requests == 0 && mine.too_long == 0 && mine.too_short == 0);
     /* what the second one isn't asked isn't counted there */
-    return one.status == other.status && one.left == other.left && one.taken == other.taken && one.settled == other.settled && one.uncertain == other.uncertain &&
-           one.accepted == other.accepted && one.read == other.read && mine.status == twin.status && mine.late == twin.late && mine.old == twin.old &&
-           mine.strange == twin.strange && mine.reused == twin.reused && mine.cut == twin.cut && mine.too_long == twin.too_long && mine.too_short == twin.too_short;
+    return one.datagrams_out == other.datagrams_out && one.octets_queued == other.octets_queued && one.octets_acknowledged == other.octets_acknowledged &&
+           one.octets_uncertain == other.octets_uncertain && one.octets_accepted == other.octets_accepted && one.octets_read == other.octets_read &&
+           is_same_dropped(&mine, &twin);
 }
 
 static void looks_on(struct node *n) {
     while (takes_frame(index_of(n)).some) {}
     if (!n->is_lazy || !n->is_open) takes_events(n);
-    struct dt_moment one = dt_service_wake(n->handle[0]), other = dt_service_wake(n->handle[1]);
-    WANT(one.some == other.some && one.at == other.at && (one.some || one.at == 0));
-    /* where a call came so late that a segment isn't sent again any more, the node still tells when it was to be */
-    WANT(!one.some || (n->is_open && !n->is_spent && (n->was_late || one.at > n->greatest)));
-    n->wake = one.some ? one.at : UINT64_MAX;
+    n->wake = dt_service_wake(n->handle[0]);
+    WANT(n->wake == dt_service_wake(n->handle[1]));
+    /* a node that was called so late that a segment isn't sent again any more still has the time at which it was to be */
+    WANT(n->wake == DT_NEVER || (n->is_open && !n->is_spent && (n->was_late || n->wake > n->greatest)));
     if (!n->is_lazy && n->is_open && !n->is_spent)
         for (size_t i = 0; i < call_count; i++) WANT(!is_of(&calls[i], n) || calls[i].fate != WAITS || n->wake <= calls[i].due);
     WANT(is_same_counts(n));
@@ -283,32 +297,32 @@ static size_t longest(const struct node *n) { return n->params.cap < NAME ? 0 : 
 
 static bool is_caller(const struct dt_flow *flow) { return flow->source_port < PORTS; }
 
-static void makes_call(struct node *n, const struct dt_flow *flow, size_t len, uint32_t patience) {
+static void makes_call(struct node *n, const struct dt_flow *flow, size_t len, uint32_t timeout) {
     if (call_count == MOST_CALLS) return;
     size_t pending = waiting(n);
     uint64_t moment = moment_of(n);
     uint8_t *payload = block(len);
     for (size_t i = 0; i < len; i++) payload[i] = asked_octet(call_count, i);
-#define CALL(side) dt_service_call(side, moment, flow, payload, len, patience)
+#define CALL(side) dt_service_call(side, moment, flow, payload, len, timeout, user_of(&calls[call_count]))
     struct dt_call_result one, other = {0, 0, 0, 0, 0};
     BOTH(CALL, one, other, FIELD)
 #undef CALL
     free(payload);
     uint8_t status = one.status;
     bool is_wrong = flow->source != name_of(n) || flow->target == flow->source, is_long = n->params.cap < NAME || len > longest(n), is_quiet = n->is_again && counted(n, moment) < n->until;
-    const bool whys[] = {[0] = false, [DT_INVALID_FLOW] = is_wrong, [DT_INVALID_PORT] = !is_caller(flow), [DT_INVALID_LENGTH] = is_long, [DT_INVALID_TIMEOUT] = patience == 0, [DT_INVALID_TOTAL] = false};
-    WANT(status == DT_INVALID ? one.unfit >= DT_INVALID_FLOW && one.unfit <= DT_INVALID_TOTAL && whys[one.unfit] : one.unfit == 0);
-    WANT(status == DT_QUIET ? is_quiet && one.until == n->until : one.until == 0);
+    const bool whys[] = {[0] = false, [DT_INVALID_FLOW] = is_wrong, [DT_INVALID_PORT] = !is_caller(flow), [DT_INVALID_LENGTH] = is_long, [DT_INVALID_TIMEOUT] = timeout == 0, [DT_INVALID_TOTAL] = false};
+    WANT(status == DT_INVALID ? one.invalid >= DT_INVALID_FLOW && one.invalid <= DT_INVALID_TOTAL && whys[one.invalid] : one.invalid == 0);
+    WANT(status == DT_QUIET ? is_quiet && one.quiet_until == n->until : one.quiet_until == 0);
     WANT(status == DT_FULL ? !is_quiet && one.free < len + NAME && one.free <= n->params.cap : one.free == 0);
-    WANT(status != DT_TOO_MANY_CALLS || pending == n->start.calls);
+    WANT(status != DT_TOO_MANY_CALLS || pending == n->limits.max_calls);
     if (status == DT_OK || status == DT_QUIET || status == DT_FULL) {
-        WANT(!is_wrong && !is_long && is_caller(flow) && patience > 0 && pending < n->start.calls);
+        WANT(!is_wrong && !is_long && is_caller(flow) && timeout > 0 && pending < n->limits.max_calls);
         WANT((status == DT_QUIET) == is_quiet);
     } else WANT(has_changed_nothing(status) || status == DT_NO_MEMORY);
     uint64_t number = (uint64_t)n->life << 32 | n->count;
-    WANT(status == DT_OK ? one.number == number && other.number == number : one.number == 0);
+    WANT(status == DT_OK ? one.call == number && other.call == number : one.call == 0);
     if (status == DT_OK || status == DT_NO_MEMORY) {
-        struct call it = {.flow = *flow, .number = number, .due = counted(n, moment) + patience, .len = len, .made_by = n->openings, .in_doubt = status == DT_NO_MEMORY};
+        struct call it = {.flow = *flow, .number = number, .due = counted(n, moment) + timeout, .len = len, .made_by = n->openings, .in_doubt = status == DT_NO_MEMORY};
         calls[call_count++] = it;
         n->count++;
     }
@@ -331,7 +345,7 @@ static void replies(struct node *n, struct call *call, size_t len) {
     uint8_t status = one.status;
     bool is_token = is_token_of(call, n), is_long = n->params.cap < NAME || len > longest(n);
     WANT(status == DT_OK || status == DT_FULL || status == DT_NOT_OPEN || status == DT_GONE || status == DT_STOPPED || status == DT_INVALID || status == DT_NO_MEMORY);
-    WANT(status == DT_INVALID ? one.unfit == DT_INVALID_LENGTH && is_long : one.unfit == 0);
+    WANT(status == DT_INVALID ? one.invalid == DT_INVALID_LENGTH && is_long : one.invalid == 0);
     WANT(status == DT_FULL ? one.free < len + NAME && one.free <= n->params.cap : one.free == 0);
     if (n->is_open && !n->is_spent && keeps_duties) WANT(is_token ? status != DT_GONE : status == DT_GONE || status == DT_INVALID);
     if (status == DT_OK || status == DT_NO_MEMORY) call->was_replied = true, call->reply_len = len;
@@ -409,24 +423,22 @@ static void has_port(struct node *n, uint16_t port, uint8_t kind) {
 static void opens(struct node *n, bool again, bool new_life) {
     size_t me = index_of(n);
     n->life += new_life;
-    n->start.now = now + n->offset;
-    n->start.me = name_of(n);
-    n->start.life = n->life;
-    n->start.again = again;
+    n->limits.life = n->life;
+    struct dt_node_options options = options_of(me, now + n->offset, again);
     for (size_t i = 0; i < 2; i++) {
-        struct dt_open_result it = dt_service_open(n->handle[i], &n->params, &n->start, links[me], link_count[me], ROUTES[me], 2);
+        struct dt_open_result it = dt_service_open(n->handle[i], &n->params, &options, &n->limits);
         WANT(it.status == DT_OK && it.field == 0 && it.value == 0);
     }
-    WANT(dt_service_open(n->handle[0], &n->params, &n->start, links[me], link_count[me], ROUTES[me], 2).status == DT_EXISTS);
+    WANT(dt_service_open(n->handle[0], &n->params, &options, &n->limits).status == DT_EXISTS);
     WANT(dt_service_add_route(n->handle[0], &ROUTES[me][0]) == DT_EXISTS);
     n->openings++;
     n->count = 0;
     n->is_open = true;
     n->is_again = again;
     n->is_spent = n->was_late = n->is_guarded = false;
-    n->wake = UINT64_MAX;
-    n->greatest = n->judged = again ? counted(n, n->start.now) : 0;
-    n->until = again ? (n->start.now < LAST ? n->start.now : LAST) + dt_params_quiet_ms(&n->params) : 0;
+    n->wake = DT_NEVER;
+    n->greatest = n->judged = again ? counted(n, options.now) : 0;
+    n->until = again ? (options.now < LAST ? options.now : LAST) + dt_params_quiet_ms(&n->params) : 0;
     for (uint16_t i = 0; i < PORTS; i++) {
         has_port(n, CALLER_PORT + i, DT_PORT_CALLER);
         has_port(n, SERVICE_PORT + i, DT_PORT_SERVICE);
@@ -453,11 +465,17 @@ static void takes_in(size_t node, uint16_t link, const uint8_t *octets, size_t l
 
 static void is_ticked(size_t node) { ticks(&nodes[node]); }
 
-static struct dt_moment wake_of(size_t node) { return dt_service_wake(nodes[node].handle[0]); }
+static uint64_t wake_of(size_t node) { return dt_service_wake(nodes[node].handle[0]); }
 
 static uint64_t offset_of(size_t node) { return nodes[node].offset; }
 
-static struct dt_datagram next_frame(size_t node, size_t side, uint8_t *buf, size_t room) { return dt_service_next_datagram(nodes[node].handle[side], buf, room); }
+static struct frame next_frame(size_t node, size_t side, uint8_t *buf, size_t room) {
+    struct frame it;
+    memset(&it, 0, sizeof it);
+    it.it.size = sizeof it.it;
+    it.status = dt_service_next_datagram(nodes[node].handle[side], buf, room, &it.it);
+    return it;
+}
 
 /* something under way comes with another octet, or the number of its call is another one */
 static void comes_changed(uint8_t which, uint8_t where, uint8_t how) {
@@ -494,9 +512,10 @@ static void begins(struct input *in) {
         n->params.start += CHOICE(STARTS, octet(in));
         n->offset = CHOICE(CLOCKS, octet(in));
         n->is_lazy = lazy >> i & 1;
-        n->start.calls = CHOICE(PLACES, lazy >> 3);
-        n->start.requests = CHOICE(PLACES, (lazy >> 4) + i);
-        n->start.of_a_flow = CHOICE(PLACES, (lazy >> 5) + i);
+        n->limits.size = sizeof n->limits;
+        n->limits.max_calls = CHOICE(PLACES, lazy >> 3);
+        n->limits.max_requests = CHOICE(PLACES, (lazy >> 4) + i);
+        n->limits.max_requests_per_flow = CHOICE(PLACES, (lazy >> 5) + i);
         for (size_t j = 0; j < 2; j++) {
             n->handle[j] = (dt_service *)block(dt_service_size());
             dt_service_init(n->handle[j]);
@@ -506,7 +525,7 @@ static void begins(struct input *in) {
     for (size_t i = 0; i < NODES; i++) {
         link_count[i] = i == 1 ? 2 : 1;
         for (size_t j = 0; j < link_count[i]; j++) {
-            struct dt_link it = {CHOICE(CHARGES, charges + i), CHOICE(PACES, paces + i + j), (uint16_t)(j + 1)};
+            struct dt_link it = {CHOICE(CHARGES, charges + i), CHOICE(PACES, paces + i + j), (uint16_t)(j + 1), 0};
             links[i][j] = it;
         }
     }
