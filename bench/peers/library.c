@@ -49,22 +49,24 @@ static uint32_t setting(const char *name, uint32_t usual) {
     return it == NULL ? usual : (uint32_t)atoi(it);
 }
 
-static void must(uint8_t status, const char *what) {
+static void must(dt_status status, const char *what) {
     if (status == DT_NO_MEMORY || status == DT_STOPPED || status == DT_NOT_OPEN || status == DT_INVALID) fail(what);
 }
 
 static dt_node *opened(uint32_t me) {
     uint32_t charge = setting("DELAY_MS", 1) + 2 * LATE, rto = setting("RTO_MS", 40), mpl = 2 * charge, a = 5;
     uint32_t room = getenv("MANY_FLOWS") == NULL ? MOST : 4096;
-    struct dt_params params = {mpl, 20 * rto, a, rto, 2 * rto, 1400, room, room, room, 2147483648u, 0};
-    struct dt_start start = {clock_ms(CLOCK_BOOTTIME), me, me == SERVER && getenv("AGAIN") != NULL};
-    struct dt_link link = {charge, 0, LINK};
+    struct dt_params params = {sizeof params, mpl, 20 * rto, a, rto, 2 * rto, 1400, room, room, room, 2147483648u, 0};
+    struct dt_link link = {charge, 0, LINK, 0};
     struct dt_route routes[CLIENTS + 1] = {{SERVER, LINK}};
     for (uint32_t i = 0; i < CLIENTS; i++) routes[1 + i] = (struct dt_route){FIRST_CLIENT + i, LINK};
-    dt_node *node = aligned_alloc(dt_node_align(), (dt_node_size() + dt_node_align() - 1) / dt_node_align() * dt_node_align());
+    struct dt_node_options options = {
+        .size = sizeof options, .node = me, .now = clock_ms(CLOCK_BOOTTIME), .links = &link, .link_count = 1,
+        .routes = me == SERVER ? routes + 1 : routes, .route_count = me == SERVER ? CLIENTS : 1,
+        .start_as = me == SERVER && getenv("AGAIN") != NULL ? DT_START_AGAIN : DT_START_FIRST};
+    dt_node *node = dt_node_new();
     if (node == NULL) fail("out of memory");
-    dt_node_init(node);
-    if (dt_node_open(node, &params, &start, &link, 1, me == SERVER ? routes + 1 : routes, me == SERVER ? CLIENTS : 1).status != DT_OK) fail("no node");
+    if (dt_node_open(node, &params, &options).status != DT_OK) fail("no node");
     return node;
 }
 
@@ -117,11 +119,11 @@ static void happens(struct end *it, uint64_t at) {
 static void flush(struct end *it) {
     static struct batch out;
     static unsigned char rooms[BATCH][DT_MAX_DATAGRAM];
-    struct dt_datagram left;
+    struct dt_datagram left = {.size = sizeof left};
     unsigned frames, count;
     if (it->left_at == 0) return;
     do {
-        for (frames = count = 0; frames < BATCH && (left = dt_node_next_datagram(it->node, rooms[frames], DT_MAX_DATAGRAM)).status == DT_OK; frames++) {
+        for (frames = count = 0; frames < BATCH && dt_node_next_datagram(it->node, rooms[frames], DT_MAX_DATAGRAM, &left) == DT_OK; frames++) {
             struct sockaddr_in *peer = &it->peers[place_of(left.to)];
             out.octets[frames] = (struct iovec){rooms[frames], left.len};
             if (count > 0 && goes_on(&out.heads[count - 1].msg_hdr, peer, left.len)) {
@@ -176,11 +178,12 @@ static int receive(struct end *it) {
         in.octets[i] = (struct iovec){rooms[i], sizeof rooms[i]};
         in.heads[i].msg_hdr = (struct msghdr){.msg_name = &in.peers[i], .msg_namelen = sizeof in.peers[i], .msg_iov = &in.octets[i], .msg_iovlen = 1, .msg_control = in.controls[i], .msg_controllen = sizeof in.controls[i]};
     }
+    uint64_t looked_at = clock_ms(CLOCK_BOOTTIME);
     int count = recvmmsg(it->door, in.heads, BATCH, MSG_WAITFORONE, NULL);
     it->now = clock_ms(CLOCK_BOOTTIME);
     used = count < 0 ? 0 : count;
     if (count < 0) {
-        it->empty_at = it->now;
+        it->empty_at = looked_at;
         return 0;
     }
     happens(it, it->now);
@@ -236,11 +239,11 @@ static void give(struct end *it, uint64_t at, struct dt_flow flow, const unsigne
 /* takes what the node told, answers each message with ANSWER octets where it serves, and tells how many came */
 static int messages(struct end *it, uint64_t at, int serves) {
     static unsigned char answer[ANSWER];
-    struct dt_report report;
+    struct dt_report report = {.size = sizeof report};
     struct dt_flow last = {0, 0, 0, 0};
     size_t ahead = 0; /* octets of the last flow that were read before it was told that they came */
     int count = 0, ended;
-    while ((report = dt_node_next_report(it->node)).status == DT_OK) {
+    while (dt_node_next_report(it->node, &report) == DT_OK) {
         if (report.kind == DT_REPORT_UNCERTAIN) it->given_up = 1;
         if (report.kind != DT_REPORT_ACCEPTED) continue;
         if (memcmp(&last, &report.flow, sizeof last) != 0) last = report.flow, ahead = 0;
@@ -323,9 +326,9 @@ static void ask_flows(struct end *it, uint32_t me, const struct question *asked,
 /* hands what left one node to the other, and tells whether there was something */
 static int carry(struct end *from, struct end *to, uint64_t at) {
     unsigned char frame[DT_MAX_DATAGRAM];
-    struct dt_datagram out;
+    struct dt_datagram out = {.size = sizeof out};
     int count = 0;
-    while ((out = dt_node_next_datagram(from->node, frame, sizeof frame)).status == DT_OK) {
+    while (dt_node_next_datagram(from->node, frame, sizeof frame, &out) == DT_OK) {
         must(dt_node_receive(to->node, at, LINK, frame, out.len, 0).status, "a datagram");
         to->events++;
         count++;
@@ -336,9 +339,9 @@ static int carry(struct end *from, struct end *to, uint64_t at) {
 /* takes what a node told, and answers the messages where it serves */
 static int serve_memory(struct end *it, uint64_t at, int serves) {
     static const unsigned char answer[ANSWER];
-    struct dt_report report;
+    struct dt_report report = {.size = sizeof report};
     int count = 0, ended;
-    while ((report = dt_node_next_report(it->node)).status == DT_OK) {
+    while (dt_node_next_report(it->node, &report) == DT_OK) {
         if (report.kind != DT_REPORT_ACCEPTED) continue;
         it->events++;
         message_of(it, &report.flow, at, serves, &ended);
