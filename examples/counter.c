@@ -107,7 +107,7 @@ static void serve(dt_node *node, uint64_t at) {
 
 /* Opens node 2 with what `tools/params.py 50 20` tells, as counter.py and dtcat.py have it. */
 static dt_node *opened(bool again) {
-    const struct dt_network network = {.size = sizeof network, .delay_ms = 50, .round_trip_ms = 20};
+    const struct dt_network network = {.size = sizeof network, .delay_us = 50000, .round_trip_us = 20000};
     struct dt_params params = {.size = sizeof params};
     struct dt_link link = {.number = LINK};
     const struct dt_route route = {1, LINK};

@@ -48,13 +48,13 @@
  *     your charge allows (a drop is a loss, and losses are harmless). docs/premises.md says what a
  *     charge is made of.
  *  5. Wait on this machine. `waited_ms` is at least the time the datagram waited here before
- *     dt_node_receive. Two measures are never too small, so pass the lesser of both: (a) `now` less
- *     the time of the kernel's stamp (SO_TIMESTAMPNS), rounded up; leave it out if the stamp lies
- *     in the future, since the wall clock was set; (b) `now` less the last time at which the socket
- *     was found empty. For (b) read the clock BEFORE each recv, and keep that reading if the recv
- *     finds nothing: a program that is stopped between the two then measures too much, and not too
- *     little. With (b) only, look at the socket right before you wait, or what arrives is taken to
- *     have waited for as long as you did.
+ *     dt_node_receive. Pass the lesser of two measures: (a) `now` less the time of the kernel's
+ *     stamp (SO_TIMESTAMPNS), rounded up; leave it out if the stamp lies in the future; (b) `now`
+ *     less the last time at which the socket was found empty. For (b) read the clock BEFORE each
+ *     recv, and keep that reading if the recv finds nothing: a program that is stopped between the
+ *     two then measures too much, and not too little. By (b) alone, a datagram that arrives while
+ *     you wait has waited since you began to; wait for 10 ms at most then. (a) is too small if the
+ *     wall clock is set back while the datagram waits; where that may happen, use (b) alone.
  *  6. Intact datagrams. Don't pass in a datagram that was changed on its way. A wire that can
  *     change one needs its own checksum or key.
  *  7. Restart. Open a node number that may have been used less than dt_params_quiet_ms() ago with
@@ -798,11 +798,15 @@ dt_status dt_service_get_counts(dt_service *service, struct dt_node_counts *out)
 /* Returns the version of the library: DELTAT_VERSION of the header that it was made with. */
 const char *dt_version(void);
 
-/* Returns the name of a status as this header has it, as "DT_FULL". Another number: "unknown". */
+/* Returns the name of a status as this header has it, as "DT_FULL". Another number: "unknown
+ * status". */
 const char *dt_status_name(dt_status status);
 
-/* Returns the name of a kind of report as this header has it, as "DT_REPORT_ACCEPTED". Another
- * number: "unknown". */
+/* Returns the name of a fault, as "DT_FAULT_SHORT". Another number: "unknown fault". */
+const char *dt_fault_name(uint8_t fault);
+
+/* Returns the name of a kind of report, as "DT_REPORT_ACCEPTED". Another number: "unknown
+ * report". */
 const char *dt_report_name(uint8_t kind);
 
 /* Writes the line that the logs of `deltat node` have for a report of node `node` at `now`, as
@@ -813,21 +817,21 @@ const char *dt_report_name(uint8_t kind);
 size_t dt_report_line(const struct dt_report *report, uint64_t now, uint32_t node, char *buf,
                       size_t room);
 
-struct dt_network {       /* what is known of a network; a field that is 0 has its default */
+struct dt_network {         /* what is known of a network; a field that is 0 has its default */
     uint32_t size;
-    uint32_t hops;        /* links of the longest path: 1 to 256; default 1 */
-    double delay_ms;      /* longest delay of a link, with all queues, under load: 0 to
-                             86,400,000; 0 is meant */
-    double round_trip_ms; /* a usual round trip from end to end: 0 to 86,400,000; 0 is meant */
-    double drift_ppm;     /* by how much a clock may run wrong, in parts per million: to 100,000;
-                             default 100 */
-    uint32_t tries;       /* transmissions of a segment: 1 to 1,000; default 5 */
-    uint32_t mtu;         /* least MTU of the links: 1 to 65,535; default 1,500 */
-    uint32_t buffer;      /* octets of a flow under way, or unread: 1 to 65,536; default 65,536 */
-    uint32_t wait_ms;     /* longest wait of a packet at a node before it leaves: 1 to 86,400,000;
-                             default 2 */
-    uint32_t shelf;       /* resends of a lost packet while others wait on the shelf of a
-                             `deltat node`: 0 to 1,000; 0 is meant */
+    uint32_t hops;          /* links of the longest path: 1 to 256; default 1 */
+    uint64_t delay_us;      /* longest delay of a link, with all queues, under load, in microseconds:
+                               at most a day; 0 is meant */
+    uint64_t round_trip_us; /* a usual round trip from end to end: at most a day; 0 is meant */
+    uint32_t drift_ppm;     /* by how much a clock may run wrong, in parts per million: 1 to 100,000;
+                               default 100 */
+    uint32_t tries;         /* transmissions of a segment: 1 to 1,000; default 5 */
+    uint32_t mtu;           /* least MTU of the links: 59 to 65,535; default 1,500 */
+    uint32_t buffer;        /* octets of a flow under way, or unread: 1 to 65,536; default 65,536 */
+    uint32_t wait_ms;       /* longest wait of a packet at a node before it leaves: 1 to 86,400,000;
+                               default 2 */
+    uint32_t shelf;         /* resends of a lost packet while others wait on the shelf of a
+                               `deltat node`: 0 to 1,000; 0 is meant */
 };
 
 /* Computes the parameters for a network, and the charge of each of its links, as tools/params.py

@@ -23,7 +23,22 @@ const char *dt_status_name(dt_status status) {
     case DT_TOO_MANY_CALLS: return "DT_TOO_MANY_CALLS";
     case DT_LIFE_USED_UP: return "DT_LIFE_USED_UP";
     case DT_GONE: return "DT_GONE";
-    default: return "unknown";
+    default: return "unknown status";
+    }
+}
+
+const char *dt_fault_name(uint8_t fault) {
+    switch (fault) {
+    case DT_FAULT_SHORT: return "DT_FAULT_SHORT";
+    case DT_FAULT_VERSION: return "DT_FAULT_VERSION";
+    case DT_FAULT_LENGTH: return "DT_FAULT_LENGTH";
+    case DT_FAULT_LIFETIME: return "DT_FAULT_LIFETIME";
+    case DT_FAULT_PROTOCOL: return "DT_FAULT_PROTOCOL";
+    case DT_FAULT_KIND: return "DT_FAULT_KIND";
+    case DT_FAULT_FLAGS: return "DT_FAULT_FLAGS";
+    case DT_FAULT_WINDOW: return "DT_FAULT_WINDOW";
+    case DT_FAULT_SIZE: return "DT_FAULT_SIZE";
+    default: return "unknown fault";
     }
 }
 
@@ -54,6 +69,6 @@ const char *dt_report_name(uint8_t kind) {
     case DT_REPORT_NO_ROUTE: return "DT_REPORT_NO_ROUTE";
     case DT_REPORT_LINK_FULL: return "DT_REPORT_LINK_FULL";
     case DT_REPORT_PACKET_MALFORMED: return "DT_REPORT_PACKET_MALFORMED";
-    default: return "unknown";
+    default: return "unknown report";
     }
 }

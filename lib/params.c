@@ -1,37 +1,33 @@
-/* The parameters for a network: what tools/params.py computes, in the same steps and the same floating numbers.
- * tests/parameters.py compares the two. */
+/* The parameters for a network: what tools/params.py computes, in the same steps. tests/interface.py compares the
+ * two. */
 #include "deltat.h"
 
 enum { DAY = 86400000, SENDING_WAIT = 20, SOCKET_WAIT = 20, CLOCK_STEPS = 3, LIFE_LEFT = 5 };
 /* IPv4 and UDP, the frame around a packet, and the packet */
 enum { HEADERS = 28 + 16 + 14 };
 
-static uint64_t rounded_up(double it) {
-    uint64_t whole = (uint64_t)it;
-    return (double)whole < it ? whole + 1 : whole;
-}
+static uint64_t rounded_up(uint64_t whole, uint64_t part) { return (whole + part - 1) / part; }
 
 static uint32_t or_default(uint32_t it, uint32_t value) { return it > 0 ? it : value; }
 
-static bool is_within(double it, double most) { return it >= 0 && it <= most; /* not for a NaN */ }
-
 /* The network with its defaults. Whether its fields are in their ranges. */
 static bool is_fit(struct dt_network *it) {
-    bool is_fit = is_within(it->delay_ms, DAY) && is_within(it->round_trip_ms, DAY) && is_within(it->drift_ppm, 100000);
     it->hops = or_default(it->hops, 1);
+    it->drift_ppm = or_default(it->drift_ppm, 100);
     it->tries = or_default(it->tries, 5);
     it->mtu = or_default(it->mtu, 1500);
     it->buffer = or_default(it->buffer, 65536);
     it->wait_ms = or_default(it->wait_ms, 2);
-    if (is_fit && !(it->drift_ppm > 0)) it->drift_ppm = 100;
-    return is_fit && it->hops <= 256 && it->tries <= 1000 && it->mtu <= 65535 && it->buffer <= 65536 && it->wait_ms <= DAY && it->shelf <= 1000;
+    return it->delay_us <= 1000 * (uint64_t)DAY && it->round_trip_us <= 1000 * (uint64_t)DAY && it->hops <= 256 &&
+           it->drift_ppm <= 100000 && it->tries <= 1000 && it->mtu > HEADERS && it->mtu <= 65535 && it->buffer <= 65536 &&
+           it->wait_ms <= DAY && it->shelf <= 1000;
 }
 
 /* The charge of a link as the tool has it, with a wait in the socket that isn't measured. `spacing` is the longest time
  * over which two clocks are compared. */
 static uint64_t whole_charge(const struct dt_network *it, uint64_t spacing) {
-    uint64_t drift = rounded_up(2 * it->drift_ppm * (double)spacing / 1000000);
-    return rounded_up(it->delay_ms) + SENDING_WAIT + SOCKET_WAIT + CLOCK_STEPS + drift;
+    uint64_t drift = rounded_up(2 * (uint64_t)it->drift_ppm * spacing, 1000000);
+    return rounded_up(it->delay_us, 1000) + SENDING_WAIT + SOCKET_WAIT + CLOCK_STEPS + drift;
 }
 
 /* The lifetime that a packet needs for the longest path, if packets had the lifetime `mpl`. */
@@ -43,8 +39,8 @@ static uint64_t lifetime(const struct dt_network *it, uint64_t mpl, uint64_t r, 
 dt_status dt_params_for(const struct dt_network *network, struct dt_params *params, uint32_t *charge) {
     if (network->size != sizeof *network || params->size < sizeof *params) return DT_INVALID;
     struct dt_network it = *network;
-    if (!is_fit(&it) || it.mtu <= HEADERS) return DT_INVALID;
-    uint64_t a = rounded_up(it.round_trip_ms / 10), rto = rounded_up(1.5 * it.round_trip_ms), mpl = 2, needed;
+    if (!is_fit(&it)) return DT_INVALID;
+    uint64_t a = rounded_up(it.round_trip_us, 10000), rto = rounded_up(3 * it.round_trip_us, 2000), mpl = 2, needed;
     if (a < 1) a = 1;
     rto += 2 * a + 5;
     uint64_t r = rto * it.tries, seg = it.mtu - HEADERS;

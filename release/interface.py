@@ -6,8 +6,8 @@
     release/interface.py rust       prints the Rust declarations
 
 The header is the source. Made from it: the Rust declarations (RUST), the ctypes tables (PYTHON), the places of fields
-that tests/library/layout.c has a compiler check, and the names in lib/names.c. release/manpage.py takes the calls of
-libdeltat(3) from here. Compared with it: DELTAT_VERSION with VERSION, and the exports and structs of crates/dt_c, name by
+that tests/library/layout.c has a compiler check, the names in lib/names.c, and the enums of include/deltat.hpp.
+release/manpage.py takes the calls of libdeltat(3) from here. Compared with it: DELTAT_VERSION with VERSION, and the exports and structs of crates/dt_c, name by
 name and type by type. Ends with 1 if something differs, and with 2 if the words are wrong or the header isn't understood.
 
 It reads the C that the header has: `#define NAME VALUE`, enums with a number for each name, structs of plain fields, and
@@ -21,10 +21,11 @@ from typing import NamedTuple
 
 TOP = Path(__file__).resolve().parent.parent
 HEADER = TOP / "include" / "deltat.h"
-RUST = TOP / "bindings" / "rust" / "src" / "sys.rs"
+RUST = TOP / "bindings" / "rust" / "deltat-sys" / "src" / "sys.rs"
 PYTHON = TOP / "bindings" / "python" / "_deltat_c.py"
 LAYOUT = TOP / "tests" / "library" / "layout.c"
 NAMES = TOP / "lib" / "names.c"
+CPLUS = TOP / "include" / "deltat.hpp"
 MADE_BY = "made by release/interface.py from include/deltat.h; to change it, change that"
 
 
@@ -509,14 +510,26 @@ def layout_c() -> str:
 def names_c() -> str:
     """The names of statuses and of reports."""
     lines = [f"/* Names for logs: {MADE_BY}. */", '#include "deltat.h"', "", "const char *dt_version(void) { return DELTAT_VERSION; }", ""]
-    for function, enum, value in (("dt_status_name", "dt_status_code", "dt_status status"), ("dt_report_name", "dt_report_kind", "uint8_t kind")):
-        lines += [f"const char *{function}({value}) {{", f"    switch ({value.split()[1]}) {{"]
+    for what, enum, value in (("status", "dt_status_code", "dt_status status"), ("fault", "dt_fault", "uint8_t fault"), ("report", "dt_report_kind", "uint8_t kind")):
+        lines += [f"const char *dt_{what}_name({value}) {{", f"    switch ({value.split()[1]}) {{"]
         lines += [f'    case {it.name}: return "{it.name}";' for it in header().enum(enum).members]
-        lines += ['    default: return "unknown";', "    }", "}", ""]
+        lines += [f'    default: return "unknown {what}";', "    }", "}", ""]
     return "\n".join(lines[:-1]) + "\n"
 
 
-MADE: dict[Path, Callable[[], str]] = {RUST: rust, PYTHON: python, LAYOUT: layout_c, NAMES: names_c}
+def cplus() -> str:
+    """The header for C++, with the enums between its two marks."""
+    lines: list[str] = []
+    for it in header().enums:
+        lines.append(f"enum class {PYTHON_ENUMS.get(it.name, camel(it.name))} : std::uint8_t {{")
+        lines += [f"    {camel(one.name.removeprefix(it.prefix))} = {one.name}," for one in it.members]
+        lines += ["};", ""]
+    first, last = (f"// {it}: made by release/interface.py\n" for it in ("begin", "end"))
+    before, _, behind = CPLUS.read_text().partition(first)
+    return before + first + "\n".join(lines) + behind[behind.index(last):]
+
+
+MADE: dict[Path, Callable[[], str]] = {RUST: rust, PYTHON: python, LAYOUT: layout_c, NAMES: names_c, CPLUS: cplus}
 
 
 # --- the exports
@@ -526,7 +539,7 @@ MADE: dict[Path, Callable[[], str]] = {RUST: rust, PYTHON: python, LAYOUT: layou
 EXPORTED = {"dt_params": "CParams", "dt_flow": "CFlow", "dt_link": "CLink", "dt_route": "CRoute", "dt_report": "CReport", "dt_token": "CToken",
             "dt_call_counts": "CCallCounts"}
 # functions that plain C of lib/ has, and their structs
-IN_C = re.compile(r"dt_(version|status_name|report_name|report_line|params_for|node_new|node_free|service_new|service_free)")
+IN_C = re.compile(r"dt_(version|status_name|fault_name|report_name|report_line|params_for|node_new|node_free|service_new|service_free)")
 STRUCTS_IN_C = {"dt_network"}
 RATTLE_TYPES = {"u8": "uint8_t", "u16": "uint16_t", "u32": "uint32_t", "u64": "uint64_t", "usize": "size_t", "bool": "bool", "Handle": "dt_node",
                 "ServiceHandle": "dt_service"}

@@ -12,6 +12,8 @@ valgrind and with the address and undefined-behaviour sanitizers, where the mach
 - messages.c: whole messages: with gaps, in parts, too long, for a buffer that is too small, of many flows.
 - each_failure.c: each request for memory fails in turn.
 - services.c: calls and replies, each of their answers, and each request for memory fails in turn.
+- handles.cpp: deltat.hpp, as C++17 and C++20, and without exceptions and RTTI; and the two programs of docs/library.md,
+  examples/hello.c and hello.cpp, of 25 lines at most.
 - strangers.c: N random datagrams (1,000,000), after which the node takes as much memory as before, and some thousand
   flows from one peer; a million flows at a guard that lets a thousand in; and 200,000 that come and go, each with half a
   message for an inbox. In C99 alone.
@@ -139,6 +141,35 @@ def try_program(tally: Tally, program: Program, driver: str, language: Language,
         tally.run(f"{what}, sanitizers", [sanitized])
 
 
+# C++ as deltat.hpp is compiled
+DIALECTS = (("-std=c++17", "-fsanitize=address,undefined"), ("-std=c++20",), ("-std=c++17", "-fno-exceptions", "-fno-rtti"))
+
+
+def try_handles(tally: Tally, driver: str, library: pathlib.Path, folder: pathlib.Path) -> None:
+    """The header for C++, by a compiler of C++."""
+    linked = [*members(driver, folder), library]
+    for words in DIALECTS:
+        for source in (HERE / "handles.cpp", TOP / "examples" / "hello.cpp"):
+            what, built = f"{source.name}, {driver} {' '.join(words)}", folder / f"{source.stem}-{driver}"
+            command = [driver, *words, *WARNINGS, "-Wconversion", "-O1", f"-I{TOP / 'include'}", source, *linked, "-o", built]
+            if tally.run(what, command):
+                tally.run(what, [built])
+
+
+def try_hello(tally: Tally, driver: str, library: pathlib.Path, folder: pathlib.Path) -> None:
+    """The shortest program in C."""
+    built = folder / f"hello-{driver}"
+    language = Language("C11", ("-std=c11",), (driver,))
+    if tally.run(f"hello.c, {driver}", compiled(driver, language, [TOP / "examples" / "hello.c"], built, [*members(driver, folder), library])):
+        tally.run(f"hello.c, {driver}", [built])
+
+
+def is_short(path: pathlib.Path) -> bool:
+    """Whether a program has at most 25 lines, none of them above 120 columns."""
+    lines = path.read_text().splitlines()
+    return len(lines) <= 25 and all(len(it) <= 120 for it in lines)
+
+
 def try_strangers(tally: Tally, driver: str, count: int, library: pathlib.Path, folder: pathlib.Path) -> None:
     """Random datagrams, bare, under valgrind and with the sanitizers, and many flows."""
     language = Language("C99", ("-std=gnu99",), (driver,))
@@ -178,6 +209,12 @@ def main() -> int:
             tally.run(f"deltat.h, {driver}, {language.name}", compiled(driver, language, [folder / "alone.c"], folder / "alone.o", ["-c"]))
             for program in PROGRAMS:
                 try_program(tally, program, driver, language, library, folder)
+        for driver in (it for it in CPLUS if shutil.which(it)):
+            try_hello(tally, driver, library, folder)
+            if shutil.which(CPLUS[driver]):
+                try_handles(tally, CPLUS[driver], library, folder)
+        for name in ("hello.c", "hello.cpp"):
+            tally.run(f"{name} is short", ["true" if is_short(TOP / "examples" / name) else "false"])
         try_strangers(tally, next(ways())[0], given.datagrams, library, folder)
     print(f"{tally.passed} passed, {tally.failed} failed")
     return 1 if tally.failed else 0

@@ -365,9 +365,9 @@ class Network(ctypes.Structure):
     _fields_ = [
         ("size", ctypes.c_uint32),
         ("hops", ctypes.c_uint32),
-        ("delay_ms", ctypes.c_double),
-        ("round_trip_ms", ctypes.c_double),
-        ("drift_ppm", ctypes.c_double),
+        ("delay_us", ctypes.c_uint64),
+        ("round_trip_us", ctypes.c_uint64),
+        ("drift_ppm", ctypes.c_uint32),
         ("tries", ctypes.c_uint32),
         ("mtu", ctypes.c_uint32),
         ("buffer", ctypes.c_uint32),
@@ -586,6 +586,10 @@ FUNCTIONS: dict[str, tuple[object, list[object]]] = {
         [],
     ),
     "dt_status_name": (
+        ctypes.c_char_p,
+        [ctypes.c_uint8],
+    ),
+    "dt_fault_name": (
         ctypes.c_char_p,
         [ctypes.c_uint8],
     ),

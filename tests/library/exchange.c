@@ -259,8 +259,8 @@ static void helpers_help(void) {
     report.count = 5;
     report.run = true;
     WANT(!strcmp(dt_version(), DELTAT_VERSION));
-    WANT(!strcmp(dt_status_name(DT_FULL), "DT_FULL") && !strcmp(dt_status_name(10), "unknown"));
-    WANT(!strcmp(dt_report_name(report.kind), "DT_REPORT_ACCEPTED") && !strcmp(dt_report_name(0), "unknown"));
+    WANT(!strcmp(dt_status_name(DT_FULL), "DT_FULL") && !strcmp(dt_status_name(10), "unknown status"));
+    WANT(!strcmp(dt_report_name(report.kind), "DT_REPORT_ACCEPTED") && !strcmp(dt_report_name(0), "unknown report") && !strcmp(dt_fault_name(DT_FAULT_SIZE), "DT_FAULT_SIZE"));
     WANT(dt_report_line(&report, 120, 2, line, sizeof line) == 32 && !strcmp(line, "120 2 accepted 1:10>2:20 0 5 run"));
     WANT(dt_report_line(&report, 120, 2, line, 6) == 32 && !strcmp(line, "120 2"));
     line[0] = 'x';
@@ -281,8 +281,8 @@ static void parameters_are_computed(void) {
     SIZED(dt_network, network);
     SIZED(dt_params, found);
     uint32_t charge = 0;
-    network.delay_ms = 250;
-    network.round_trip_ms = 50;
+    network.delay_us = 250000;
+    network.round_trip_us = 50000;
     network.shelf = 2;
     WANT(dt_params_for(&network, &found, &charge) == DT_OK && charge == 274);
     WANT(found.mpl == 482 && found.r == 450 && found.a == 5 && found.rto == 90 && found.probe == 180 && found.seg == 1442);

@@ -161,16 +161,16 @@ AT(dt_call_counts, cut, 40);
 AT(dt_call_counts, too_long, 48);
 AT(dt_call_counts, too_short, 56);
 
-SIZE(dt_network, 56);
+SIZE(dt_network, 48);
 AT(dt_network, size, 0);
 AT(dt_network, hops, 4);
-AT(dt_network, delay_ms, 8);
-AT(dt_network, round_trip_ms, 16);
+AT(dt_network, delay_us, 8);
+AT(dt_network, round_trip_us, 16);
 AT(dt_network, drift_ppm, 24);
-AT(dt_network, tries, 32);
-AT(dt_network, mtu, 36);
-AT(dt_network, buffer, 40);
-AT(dt_network, wait_ms, 44);
-AT(dt_network, shelf, 48);
+AT(dt_network, tries, 28);
+AT(dt_network, mtu, 32);
+AT(dt_network, buffer, 36);
+AT(dt_network, wait_ms, 40);
+AT(dt_network, shelf, 44);
 
 int main(void) { return 0; }
