@@ -311,7 +311,9 @@ enum dt_port_kind { DT_CALLER = 1, DT_SERVICE = 2 };
 enum dt_event_kind {
     DT_REQUEST = 1,  /* a request was handed out, once: its token is `number` and `flow`, and `len` octets are its payload */
     DT_ANSWERED = 2, /* the call `number` ended with its answer, `len` octets: its request was handed out once */
-    DT_UNSURE = 3    /* the call `number` ended without: it was served once or not at all, and may still be; `cause` */
+    DT_UNSURE = 3,   /* the call `number` ended without: it was served once or not at all, and may still be; `cause` */
+    DT_REPLY_UNCERTAIN = 4 /* replies to requests of `flow` were given up: each was delivered once or not at all, and its caller gets no
+                              report. `flow` is reported again only after this event was taken */
 };
 enum dt_cause { DT_GIVEN_UP = 1, DT_PATIENCE = 2, DT_WAS_CLOSED = 3 };
 enum dt_unfit { /* why a call or a reply is REFUSED */

@@ -156,6 +156,7 @@ static bool takes_event(struct node *n) {
     happens(one.kind * 4u + one.cause);
     if (one.kind == DT_REQUEST) is_handed_out(n, &one, octets);
     else if (one.kind == DT_ANSWERED) is_answered(n, &one, octets);
+    else if (one.kind == DT_REPLY_UNCERTAIN) WANT(one.flow.to == name_of(n) && one.flow.from != one.flow.to && one.number == 0 && one.len == 0);
     else {
         WANT(one.kind == DT_UNSURE);
         is_unsure(n, &one);

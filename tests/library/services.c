@@ -156,11 +156,40 @@ static void answers(dt_service *client, dt_service *server) {
     WANT(dt_service_counts(client).refused == 0 && dt_service_kept_out(client).closed == 0 && !dt_service_wake(client).some);
 }
 
+/* What waits at one is lost. */
+static void lose(dt_service *from) {
+    while (dt_service_next_frame(from, frame, sizeof frame).status == DT_DONE) {}
+}
+
+/* Replies that are lost are given up: the service is told the flow of their requests, once for both. A reply that comes
+   isn't among them. */
+static void replies_are_uncertain(dt_service *client, dt_service *server) {
+    uint64_t now = 100;
+    WANT(opens(client, 1, false) == DT_DONE && opens(server, 2, false) == DT_DONE);
+    ports(client);
+    ports(server);
+    for (unsigned i = 0; i < 2; i++) WANT(dt_call(client, now, &flow, payload, 1, 60000).status == DT_DONE);
+    WANT(!carry(client, server, now));
+    for (struct dt_event it; (it = next(server)).status == DT_DONE;) {
+        struct dt_token token = {it.number, it.flow};
+        WANT(it.kind == DT_REQUEST && dt_reply(server, now, &token, payload, 1).status == DT_DONE);
+    }
+    for (; now < 6000; now += 100) {
+        WANT(dt_service_tick(server, now) == DT_DONE);
+        lose(server);
+    }
+    struct dt_event it = next(server);
+    WANT(it.kind == DT_REPLY_UNCERTAIN && it.number == 0 && it.cause == 0 && carries(it, came, 0));
+    WANT(it.flow.from == 1 && it.flow.to == 2 && it.flow.from_port == 10 && it.flow.to_port == 20);
+    WANT(next(server).status == DT_NOTHING && dt_service_tick(server, now) == DT_DONE && next(server).status == DT_NOTHING);
+    WANT(dt_service_stop(client) == DT_DONE && dt_service_stop(server) == DT_DONE);
+}
+
 /* The ends that a service tells: those of the calls that were made, each once. A call that found no memory may be told. */
 static void ends(dt_service *s, bool *has_end, unsigned made, bool broke) {
     struct dt_event it;
     while ((it = next(s)).status == DT_DONE) {
-        if (it.kind == DT_REQUEST) continue;
+        if (it.kind == DT_REQUEST || it.kind == DT_REPLY_UNCERTAIN) continue;
         uint32_t count = (uint32_t)it.number;
         WANT(count < made + broke && !has_end[count]);
         has_end[count] = true;
@@ -214,6 +243,12 @@ int main(void) {
     dt_service_close(client);
     dt_service_close(server);
     WANT(held == 0 && dt_service_tick(client, 0) == DT_CLOSED);
+    dt_service_init(client);
+    dt_service_init(server);
+    replies_are_uncertain(client, server);
+    dt_service_close(client);
+    dt_service_close(server);
+    WANT(held == 0);
     do {
         fail_at++;
         requests = 0;

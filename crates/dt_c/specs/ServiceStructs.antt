@@ -16,12 +16,12 @@ use Rattle.dt_service_model.specs.declared.calls.Cause.{Cause}
 use Rattle.dt_service_model.specs.declared.calls.Cause.TheVariants as cause
 use Rattle.dt_service_model.specs.declared.call_counts.CallCounts.{CallCounts}
 use Rattle.dt_service_model.specs.declared.happenings.Happening.{Happening}
-use Rattle.dt_service_model.specs.declared.happenings.Happening.TheVariants.{Answered, Request, Unsure}
+use Rattle.dt_service_model.specs.declared.happenings.Happening.TheVariants.{Answered, ReplyUncertain, Request, Unsure}
 use Rattle.dt_service_model.specs.declared.names.CallNumber.{CallNumber}
 use Rattle.dt_service_model.specs.declared.names.Token.{Token}
 use Rattle.dt_service_model.specs.declared.ports.PortKind.{PortKind}
 use Rattle.dt_service_model.specs.declared.ports.PortKind.TheVariants.{Caller, Service}
-use Rattle.dt_service_model.specs.Names.{call_number, number_of}
+use Rattle.dt_service_model.specs.Names.{call_number, number_of, number_with}
 use Rattle.dt_c.specs.declared.c_structs.CFlow.{CFlow}
 use Rattle.dt_c.specs.declared.service_structs.CCallCounts.{CCallCounts}
 use Rattle.dt_c.specs.declared.service_structs.Event.{Event}
@@ -128,6 +128,7 @@ abbrev pub event : Happening → Event
 event (Request token payload) = event_with 1 0 token.number (c_flow token.flow) (length payload)
 event (Answered call answer) = event_with 2 0 call no_flow (length answer)
 event (Unsure call cause) = event_with 3 (cause_number cause) call no_flow 0
+event (ReplyUncertain flow) = event_with 4 0 (number_with 0 0) (c_flow flow) 0
 
 -- what the caller's struct has of it
 abbrev pub event_in : Happening → Event → Event

@@ -294,6 +294,8 @@ fn event_with(kind: u8, cause: u8, number: CallNumber, flow: CFlow, len: usize) 
     }
 }
 
+const NO_CALL: CallNumber = CallNumber { life: 0, count: 0 };
+
 fn cause_number(cause: Cause) -> u8
     ensures { result ≡ cause_number cause }
 {
@@ -322,6 +324,7 @@ fn event_of(happening: &Happening) -> Event
         Happening::Unsure { call, cause } => {
             event_with(3, cause_number(*cause), *call, no_flow(), 0)
         }
+        Happening::ReplyUncertain { flow } => event_with(4, 0, NO_CALL, c_flow(*flow), 0),
     }
 }
 
