@@ -105,9 +105,10 @@ static void serve(dt_node *node, uint64_t at) {
     stop_on(status);
 }
 
-/* Opens node 2 with what `tools/params.py 50 20` tells, as counter.py and dtcat.py have it. */
+/* Opens node 2 with what `tools/params.py 50 20` tells, as counter.py and dtcat.py have it; the charge is less by the
+   wait in the socket, which is measured here. */
 static dt_node *opened(bool again) {
-    const struct dt_network network = {.size = sizeof network, .delay_us = 50000, .round_trip_us = 20000};
+    const struct dt_network network = DT_NETWORK(50000, 20000);
     struct dt_params params = {.size = sizeof params};
     struct dt_link link = {.number = LINK};
     const struct dt_route route = {1, LINK};
@@ -115,9 +116,10 @@ static dt_node *opened(bool again) {
         .size = sizeof options, .node = 2, .now = now(), .start_as = again ? DT_START_AGAIN : DT_START_FIRST,
         .links = &link, .link_count = 1, .routes = &route, .route_count = 1};
     const uint16_t port = PORT;
+    if (dt_params_for(&network, &params, &link.charge) != DT_OK) return NULL;
+    link.charge -= 20;
     dt_node *node = dt_node_new();
     bool is_open = node && dt_abi_version() == DT_ABI_VERSION &&
-                   dt_params_for(&network, &params, &link.charge) == DT_OK &&
                    dt_node_open(node, &params, &options).status == DT_OK &&
                    dt_node_enable_messages(node, MOST) == DT_OK &&
                    dt_node_set_guard(node, &port, 1, false, FLOWS) == DT_OK;

@@ -2,7 +2,7 @@
 #include <stdio.h>
 
 static dt_node *opened(uint32_t number, uint32_t peer) {
-    struct dt_network network = {.size = sizeof network, .delay_us = 20000, .round_trip_us = 10000};
+    struct dt_network network = DT_NETWORK(20000, 10000); /* a link of 20 ms, a round trip of 10 ms */
     struct dt_params params = {.size = sizeof params};
     struct dt_link link = {.number = 1};
     struct dt_route route = {.to = peer, .link = 1};

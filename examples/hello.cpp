@@ -3,11 +3,9 @@
 #include <vector>
 
 int main() {
-    deltat::Network network;
-    network.delay_us = 20'000, network.round_trip_us = 10'000;
     deltat::ServiceOptions limits;
     limits.life = 1, limits.max_calls = limits.max_requests = limits.max_requests_per_flow = 10;
-    const auto its = deltat::params_for(network);
+    const auto its = deltat::params_for({20'000, 10'000});
     const std::vector<deltat::Link> links{{its->charge, 0, 1, 0}};
     const std::vector<deltat::Route> to_server{{2, 1}}, to_client{{1, 1}};
     deltat::Service client, server;

@@ -13,10 +13,10 @@
  *   3 Status codes                 7 Output       11 Services: request and reply
  *   4 Types                        8 Messages     12 Helpers: names, log lines, parameters
  *
- * What is proved. The contract of each function of sections 5 to 11 (crates/dt_c) is proved for all
- * arguments, under duty 1. What the calls of several nodes give together is proved by the laws of
+ * What is proved. The contract of each function (crates/dt_c) is proved for all arguments, under
+ * duty 1. What the calls of several nodes give together is proved by the laws of
  * crates/dt_network and crates/dt_service_laws, under all duties and the assumptions below them.
- * Only tested: section 12 (plain C, lib/), dt_*_new, dt_*_free, sizes and alignments, that
+ * Only tested: names and lines of section 12, dt_*_new, dt_*_free, sizes and alignments, that
  * dt_*_close returns the memory, and that a call finds memory when there is some.
  *
  * ---- 1 DUTIES OF THE CALLER ----
@@ -285,7 +285,7 @@ struct dt_message {
     struct dt_flow flow;
     size_t len;
     uint64_t dropped_too_long; /* messages of all flows above `longest` so far; stops at 2^64 - 1 */
-    bool gap;                  /* octets of the flow before this message may be missing */
+    bool gap;                  /* octets of the flow before this message are left out, or may be */
 };
 
 struct dt_datagram {
@@ -467,8 +467,8 @@ uint64_t dt_node_wake(dt_node *node);
  * isn't proved. */
 
 /* Enables dt_node_next_message, for messages of at most `longest` octets. A longer one is dropped
- * and counted in `dropped_too_long`; `gap` doesn't show it. The begun part of a message stays in
- * memory.
+ * and counted in `dropped_too_long`, and the next message of its flow has `gap`. The begun part of
+ * a message stays in memory.
  *   DT_OK
  *   DT_EXISTS    already enabled; nothing changed
  *   DT_NOT_OPEN */
@@ -584,7 +584,7 @@ dt_status dt_node_get_flow_counts(dt_node *node, const struct dt_flow *flow,
  *               struct dt_token token = {event.call, event.flow};
  *               dt_service_reply(service, now(), &token, answer, answer_len);
  *                                   now or later, in any order; DT_FULL: keep the token, try again
- *           } else
+ *           } else if (event.kind != DT_EVENT_REPLY_UNCERTAIN)
  *               the call with event.user is over
  *       }
  *       send_all();
@@ -637,8 +637,11 @@ struct dt_reply_result {
 enum dt_event_kind {
     DT_EVENT_REQUEST = 1,  /* answer it: `call`, `flow`, and `len` octets of payload */
     DT_EVENT_ANSWERED = 2, /* your call ended with `len` octets of answer: `call`, `user` */
-    DT_EVENT_UNSURE = 3    /* it ended without: it was served once or not at all, or still will be:
+    DT_EVENT_UNSURE = 3,   /* it ended without: it was served once or not at all, or still will be:
                               `call`, `user`, `cause` */
+    DT_EVENT_REPLY_UNCERTAIN = 4 /* replies to requests of `flow` were given up: each was delivered
+                              once or not at all, and its caller gets no report. Reported again for
+                              this flow only after this event was taken */
 };
 
 enum dt_cause {
@@ -654,7 +657,7 @@ struct dt_event {
     uint64_t call;
     uint64_t user;       /* what you passed to dt_service_call; 0 for a request */
     size_t len;
-    struct dt_flow flow; /* of a request; else 0 */
+    struct dt_flow flow; /* of a request, or of the requests of uncertain replies; else 0 */
 };
 
 struct dt_call_counts { /* messages that were dropped, by cause; each stops at 2^64 - 1 */
@@ -792,8 +795,8 @@ dt_status dt_service_get_counts(dt_service *service, struct dt_node_counts *out)
 
 /* ---- 12 HELPERS: NAMES, LOG LINES, PARAMETERS ----
  *
- * Plain C beside the proved part, for programs that want it. None needs a handle, allocates or
- * reads a clock; what they return as text is constant. */
+ * None needs a handle, allocates or reads a clock; what they return as text is constant.
+ * dt_params_for is proved, the others are plain C (lib/). */
 
 /* Returns the version of the library: DELTAT_VERSION of the header that it was made with. */
 const char *dt_version(void);
@@ -817,29 +820,34 @@ const char *dt_report_name(uint8_t kind);
 size_t dt_report_line(const struct dt_report *report, uint64_t now, uint32_t node, char *buf,
                       size_t room);
 
-struct dt_network {         /* what is known of a network; a field that is 0 has its default */
+struct dt_network {         /* what is known of a network, and wanted of it */
     uint32_t size;
-    uint32_t hops;          /* links of the longest path: 1 to 256; default 1 */
+    uint32_t hops;          /* links of the longest path: 1 to 256 */
     uint64_t delay_us;      /* longest delay of a link, with all queues, under load, in microseconds:
-                               at most a day; 0 is meant */
-    uint64_t round_trip_us; /* a usual round trip from end to end: at most a day; 0 is meant */
-    uint32_t drift_ppm;     /* by how much a clock may run wrong, in parts per million: 1 to 100,000;
-                               default 100 */
-    uint32_t tries;         /* transmissions of a segment: 1 to 1,000; default 5 */
-    uint32_t mtu;           /* least MTU of the links: 59 to 65,535; default 1,500 */
-    uint32_t buffer;        /* octets of a flow under way, or unread: 1 to 65,536; default 65,536 */
-    uint32_t wait_ms;       /* longest wait of a packet at a node before it leaves: 1 to 86,400,000;
-                               default 2 */
+                               at most a day */
+    uint64_t round_trip_us; /* a usual round trip from end to end: at most a day */
+    uint32_t drift_ppm;     /* by how much a clock may run wrong, in parts per million: at most
+                               100,000 */
+    uint32_t tries;         /* transmissions of a segment before it is given up: 1 to 1,000 */
+    uint32_t mtu;           /* least MTU of the links: 59 to 65,535 */
+    uint32_t room;          /* octets of a flow under way, or unread: 1 to 65,536 */
+    uint32_t wait_ms;       /* longest wait of a packet at a node before it leaves: at most a day */
     uint32_t shelf;         /* resends of a lost packet while others wait on the shelf of a
-                               `deltat node`: 0 to 1,000; 0 is meant */
+                               `deltat node`: at most 1,000 */
 };
 
+/* Initializes a struct dt_network of one hop with usual values: clocks within 100 ppm, 5
+ * transmissions, an MTU of 1,500, the largest room, no relays and no shelf. */
+#define DT_NETWORK(delay_us, round_trip_us) \
+    { sizeof(struct dt_network), 1, (delay_us), (round_trip_us), 100, 5, 1500, 65536, 2, 0 }
+
 /* Computes the parameters for a network, and the charge of each of its links, as tools/params.py
- * does. `*charge` is 20 ms less than that tool's, which leaves room for a wait in the socket that
- * isn't measured; here duty 5 measures it. docs/parameters.md says what the numbers cost.
+ * does; docs/parameters.md says what the numbers cost. The charge has room for a wait of 20 ms in
+ * the receiver's socket: a node that keeps duty 5 may have a charge of 20 less.
  *   DT_OK       `params` (all of it but `size`) and `*charge` are set
- *   DT_INVALID  a field is out of range, `size` of either is wrong, or no parameters fit; nothing
- *               changed */
+ *   DT_INVALID  a field is out of range, or `size` of either struct is wrong; nothing changed
+ *   DT_NONE     no parameters suit: a packet would live for more than a day; nothing changed
+ * Cost: a few steps for usual clocks. */
 dt_status dt_params_for(const struct dt_network *network, struct dt_params *params,
                         uint32_t *charge);
 

@@ -120,6 +120,7 @@ enum class EventKind : std::uint8_t {
     Request = DT_EVENT_REQUEST,
     Answered = DT_EVENT_ANSWERED,
     Unsure = DT_EVENT_UNSURE,
+    ReplyUncertain = DT_EVENT_REPLY_UNCERTAIN,
 };
 
 enum class Cause : std::uint8_t {
@@ -204,13 +205,18 @@ using Route = dt_route;
 using Token = dt_token;
 using BlockedCounts = dt_blocked_counts;
 using Params = detail::Sized<dt_params>;
-using Network = detail::Sized<dt_network>;
 using ServiceOptions = detail::Sized<dt_service_options>;
 using Datagram = detail::Sized<dt_datagram>;
 using Message = detail::Sized<dt_message>;
 using NodeCounts = detail::Sized<dt_node_counts>;
 using FlowCounts = detail::Sized<dt_flow_counts>;
 using CallCounts = detail::Sized<dt_call_counts>;
+
+// a network of one hop with the usual values of DT_NETWORK
+struct Network : dt_network {
+    Network(std::uint64_t delay_us, std::uint64_t round_trip_us) noexcept
+        : dt_network DT_NETWORK(delay_us, round_trip_us) {}
+};
 
 // the flow on the way back
 inline Flow reversed(const Flow &it) noexcept { return {it.target, it.source, it.target_port, it.source_port}; }

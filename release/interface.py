@@ -216,7 +216,7 @@ def constant_of(name: str, text: str, says: str) -> Constant:
 PARTS = re.compile(
     r"(?P<comment>/\*.*?\*/)"
     rf"|\#define (?P<constant>{NAME}) (?P<value>\S+)[ \t]*(?:/\*(?P<beside>.*?)\*/)?"
-    r"|(?P<other>\#[^\n]*)|(?P<language>extern \"C\" \{|\})"
+    r"|(?P<other>\#(?:[^\n]*\\\n)*[^\n]*)|(?P<language>extern \"C\" \{|\})"
     rf"|typedef struct (?P<opaque>{NAME}) \w+;|(?P<alias>typedef [^;]*;)"
     rf"|enum (?P<enum>{NAME}) \{{(?P<members>.*?)\n?\}};"
     rf"|struct (?P<struct>{NAME}) \{{(?P<fields>.*?)\n\}};"
@@ -536,11 +536,10 @@ MADE: dict[Path, Callable[[], str]] = {RUST: rust, PYTHON: python, LAYOUT: layou
 
 
 # what the structs of crates/dt_c are called, where it isn't their name here without its prefix
-EXPORTED = {"dt_params": "CParams", "dt_flow": "CFlow", "dt_link": "CLink", "dt_route": "CRoute", "dt_report": "CReport", "dt_token": "CToken",
+EXPORTED = {"dt_params": "CParams", "dt_flow": "CFlow", "dt_link": "CLink", "dt_route": "CRoute", "dt_report": "CReport", "dt_token": "CToken", "dt_network": "CNetwork",
             "dt_call_counts": "CCallCounts"}
-# functions that plain C of lib/ has, and their structs
-IN_C = re.compile(r"dt_(version|status_name|fault_name|report_name|report_line|params_for|node_new|node_free|service_new|service_free)")
-STRUCTS_IN_C = {"dt_network"}
+# functions that plain C of lib/ has
+IN_C = re.compile(r"dt_(version|status_name|fault_name|report_name|report_line|node_new|node_free|service_new|service_free)")
 RATTLE_TYPES = {"u8": "uint8_t", "u16": "uint16_t", "u32": "uint32_t", "u64": "uint64_t", "usize": "size_t", "bool": "bool", "Handle": "dt_node",
                 "ServiceHandle": "dt_service"}
 
@@ -594,8 +593,6 @@ def differences_of_exports() -> Iterator[str]:
             yield f"{name} has another signature in crates/dt_c"
     for it in header().structs:
         other = EXPORTED.get(it.name, camel(it.name))
-        if it.name in STRUCTS_IN_C:
-            continue
         if other not in structs:
             yield f"crates/dt_c has no {other} for struct {it.name}"
         elif [bare(one.type) for one in it.fields] != structs[other]:

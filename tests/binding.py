@@ -16,7 +16,7 @@ these fails, and with 77 where there is no library:
 - asynchronous: in a loop of asyncio a service answers four clients' messages over such a link, a sender waits for room
   while its messages aren't read, and who waits when it is closed is told.
 - services: a service of two ports answers 30 calls over such a link, each once; a call that nobody replies to is unsure;
-  100 calls at once in a loop of asyncio are answered, and one that waits when it is closed is unsure.
+  a service is told of a reply to a client that is away; 100 calls at once in a loop of asyncio are answered, and one that waits when it is closed is unsure.
 - examples: examples/echo.py asks itself, and examples/echo.c, which is compiled first, at the ports that they name; and
   tools/dtcat.py asks examples/counter.py and examples/counter.c.
 - rust: the tests of bindings/rust, where there is cargo, and its example is asked.
@@ -445,6 +445,21 @@ async def calls_at_once(link: Between, payloads: list[bytes]) -> bool:
     return answers == [it[::-1] for it in payloads] and isinstance(told, deltat_service.Unsure) and told.cause is deltat_service.Cause.CLOSED
 
 
+def reply_given_up(link: Between) -> bool:
+    """Whether a service is told the flow of a request whose client went away before the reply."""
+    flow = deltat.Flow(1, 10, 2, 20)
+    service = service_of(2, {20: deltat_service.Kind.SERVICE})
+    with deltat.Udp(service, (HOST, link.nodes[1]), {1: (HOST, link.port(2))}) as udp:
+        calls = deltat_service.Calls(udp)
+        calls.on(20)(lambda request: request.payload)
+        client = service_of(1, {10: deltat_service.Kind.CALLER})
+        with deltat.Udp(client, (HOST, link.nodes[0]), {2: (HOST, link.port(1))}) as asks:
+            client.call(flow, b"and away", 10_000)
+            asks.flush(deltat.now())
+        calls.run((PARAMS.mpl + PARAMS.r + PARAMS.a) / 1000 + 3)
+        return calls.uncertain == {flow}
+
+
 def services() -> bool:
     chance = random.Random(11)
     payloads = [b"%d " % it + bytes(it * 37 % 2000) for it in range(100)]
@@ -455,6 +470,8 @@ def services() -> bool:
         right = calls_in_turn(link, payloads[:30])
         serving.join()
         right = served == [*payloads[:30], b"silent"] and right
+    with Between(lambda number, octets: 1) as link:
+        right = reply_given_up(link) and right
     with Between(lambda number, octets: chance.choices([0, 1, 2], [10, 75, 15])[0]) as link:
         return asyncio.run(calls_at_once(link, payloads)) and right
 

@@ -84,7 +84,7 @@ def has_numbers_of(words: str, text: str) -> bool:
     numbers, charge, *_ = told(words)
     first = [int(it) for it in numbers.split()[1:10]]
     delay, round_trip = words.split()
-    if f".delay_us = {delay}000, .round_trip_us = {round_trip}000}}" in text and "dt_params_for(" in text:
+    if f"DT_NETWORK({delay}000, {round_trip}000)" in text and "dt_params_for(" in text:
         # the library computes them, and tests/interface.py compares it with the tool
         return True
     found = re.search(r"PARAMS = (?:deltat\.Params\(|\{)(.*)[)}]", text)

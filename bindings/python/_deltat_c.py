@@ -114,6 +114,7 @@ class EventKind(enum.IntEnum):
     REQUEST = 1
     ANSWERED = 2
     UNSURE = 3
+    REPLY_UNCERTAIN = 4
 
 
 class Cause(enum.IntEnum):
@@ -360,7 +361,7 @@ class CallCounts(ctypes.Structure):
 
 
 class Network(ctypes.Structure):
-    """What is known of a network; a field that is 0 has its default."""
+    """What is known of a network, and wanted of it."""
 
     _fields_ = [
         ("size", ctypes.c_uint32),
@@ -370,7 +371,7 @@ class Network(ctypes.Structure):
         ("drift_ppm", ctypes.c_uint32),
         ("tries", ctypes.c_uint32),
         ("mtu", ctypes.c_uint32),
-        ("buffer", ctypes.c_uint32),
+        ("room", ctypes.c_uint32),
         ("wait_ms", ctypes.c_uint32),
         ("shelf", ctypes.c_uint32),
     ]

@@ -276,20 +276,20 @@ static void helpers_help(void) {
     dt_service_free(NULL);
 }
 
-/* The numbers of `tools/params.py 250 50 --shelf 2`, whose charge has 20 ms more. */
+/* The numbers of `tools/params.py 250 50 --shelf 2`. */
 static void parameters_are_computed(void) {
-    SIZED(dt_network, network);
+    struct dt_network network = DT_NETWORK(250000, 50000);
     SIZED(dt_params, found);
     uint32_t charge = 0;
-    network.delay_us = 250000;
-    network.round_trip_us = 50000;
     network.shelf = 2;
-    WANT(dt_params_for(&network, &found, &charge) == DT_OK && charge == 274);
+    WANT(dt_params_for(&network, &found, &charge) == DT_OK && charge == 294);
     WANT(found.mpl == 482 && found.r == 450 && found.a == 5 && found.rto == 90 && found.probe == 180 && found.seg == 1442);
     WANT(found.cap == 65536 && found.rcap == 65536 && found.window == 65536 && found.run_limit == 2147483648u && found.start == 0);
     network.mtu = 58;
-    WANT(dt_params_for(&network, &found, &charge) == DT_INVALID && found.mpl == 482 && charge == 274);
+    WANT(dt_params_for(&network, &found, &charge) == DT_INVALID && found.mpl == 482 && charge == 294);
     network.mtu = 59;
+    network.delay_us = UINT64_C(86400000000);
+    WANT(dt_params_for(&network, &found, &charge) == DT_NONE && found.mpl == 482 && charge == 294);
     network.size--;
     WANT(dt_params_for(&network, &found, &charge) == DT_INVALID);
 }

@@ -162,6 +162,7 @@ static bool takes_event(struct node *n) {
     happens(one.kind * 4u + one.cause);
     if (one.kind == DT_EVENT_REQUEST) is_handed_out(n, &one, octets);
     else if (one.kind == DT_EVENT_ANSWERED) is_answered(n, &one, octets);
+    else if (one.kind == DT_EVENT_REPLY_UNCERTAIN) WANT(one.flow.target == name_of(n) && one.flow.source != one.flow.target && one.call == 0 && one.user == 0 && one.len == 0);
     else {
         WANT(one.kind == DT_EVENT_UNSURE);
         is_unsure(n, &one);

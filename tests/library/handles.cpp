@@ -37,11 +37,9 @@ std::array<std::uint8_t, DT_MAX_DATAGRAM> datagram;
 std::vector<std::uint8_t> buffer(DT_MAX_PAYLOAD);
 
 deltat::NetworkParams network() {
-    deltat::Network it;
-    it.delay_us = 20'000;
-    it.round_trip_us = 10'000;
+    deltat::Network it(20'000, 10'000);
     const auto found = deltat::params_for(it);
-    WANT(found && found->params.seg == 1442 && found->charge == 44);
+    WANT(found && found->params.seg == 1442 && found->charge == 64);
     it.mtu = 1;
     WANT(!deltat::params_for(it));
     return *found;

@@ -169,7 +169,7 @@ AT(dt_network, round_trip_us, 16);
 AT(dt_network, drift_ppm, 24);
 AT(dt_network, tries, 28);
 AT(dt_network, mtu, 32);
-AT(dt_network, buffer, 36);
+AT(dt_network, room, 36);
 AT(dt_network, wait_ms, 40);
 AT(dt_network, shelf, 44);
 

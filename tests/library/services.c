@@ -210,11 +210,41 @@ static void answers(dt_service *client, dt_service *server) {
     a_stop_ends_calls(client, now + 300);
 }
 
+/* What waits at one is lost. */
+static void lose(dt_service *from) {
+    SIZED(dt_datagram, out);
+    while (dt_service_next_datagram(from, frame, sizeof frame, &out) == DT_OK) {}
+}
+
+/* Replies that are lost are given up: the service reports the flow of their requests, once for both. */
+static void replies_are_uncertain(dt_service *client, dt_service *server) {
+    uint64_t now = 100;
+    struct next it;
+    WANT(opens(client, 1, false) == DT_OK && opens(server, 2, false) == DT_OK);
+    ports(client);
+    ports(server);
+    for (unsigned i = 0; i < 2; i++) WANT(calls(client, now, 1, 60000, i).status == DT_OK);
+    WANT(!carry(client, server, now));
+    while ((it = next(server)).status == DT_OK) {
+        struct dt_token token = {it.event.call, it.event.flow};
+        WANT(it.event.kind == DT_EVENT_REQUEST && dt_service_reply(server, now, &token, payload, 1).status == DT_OK);
+    }
+    for (; now < 6000; now += 100) {
+        WANT(dt_service_tick(server, now) == DT_OK);
+        lose(server);
+    }
+    it = next(server);
+    WANT(it.event.kind == DT_EVENT_REPLY_UNCERTAIN && it.event.call == 0 && it.event.cause == 0 && it.event.user == 0 && carries(&it, came, 0));
+    WANT(it.event.flow.source == 1 && it.event.flow.target == 2 && it.event.flow.source_port == 10 && it.event.flow.target_port == 20);
+    WANT(next(server).status == DT_NONE && dt_service_tick(server, now) == DT_OK && next(server).status == DT_NONE);
+    WANT(dt_service_stop(client) == DT_OK && dt_service_stop(server) == DT_OK);
+}
+
 /* The ends that a service reports: those of the calls that were made, each once. A call that found no memory may have one. */
 static void ends(dt_service *s, bool *has_end, unsigned made, bool broke) {
     struct next it;
     while ((it = next(s)).status == DT_OK) {
-        if (it.event.kind == DT_EVENT_REQUEST) continue;
+        if (it.event.kind == DT_EVENT_REQUEST || it.event.kind == DT_EVENT_REPLY_UNCERTAIN) continue;
         uint32_t count = (uint32_t)it.event.call;
         WANT(count < made + broke && !has_end[count] && it.event.user == count);
         has_end[count] = true;
@@ -275,6 +305,12 @@ int main(void) {
     dt_service_close(client);
     dt_service_close(server);
     WANT(held == 0 && dt_service_tick(client, 0) == DT_NOT_OPEN);
+    dt_service_init(client);
+    dt_service_init(server);
+    replies_are_uncertain(client, server);
+    dt_service_close(client);
+    dt_service_close(server);
+    WANT(held == 0);
     do {
         fail_at++;
         requests = 0;

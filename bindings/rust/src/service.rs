@@ -84,6 +84,8 @@ pub enum Event {
     Answered { call: u64, len: usize },
     /// A call ended without one: it was served once or not at all, and may still be.
     Unsure { call: u64, cause: Cause },
+    /// Replies to requests of this flow were given up: each was delivered once or not at all.
+    ReplyUncertain { flow: Flow },
 }
 
 /// How many messages were dropped, by cause. `strange` and `reused` are alarms.
@@ -180,6 +182,7 @@ impl Service {
             (6, _) => Err(Error::Room { wanted: it.len }),
             (0, 1) => Ok(Some(Event::Request { token: Token { number: it.number, flow: it.flow }, len: it.len })),
             (0, 2) => Ok(Some(Event::Answered { call: it.number, len: it.len })),
+            (0, 4) => Ok(Some(Event::ReplyUncertain { flow: it.flow })),
             (0, _) => Ok(Some(Event::Unsure { call: it.number, cause })),
             (status, _) => done(status).map(|()| None),
         }
