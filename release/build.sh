@@ -116,13 +116,13 @@ install -m 644 "$top/release/_deltat" "$root/usr/share/zsh/vendor-completions/_d
 install -m 644 "$top/release/overrides" "$root/usr/share/lintian/overrides/deltat"
 
 sed -e "s/@VERSION@/$version/" -e "s/@DATE@/$date/" "$top/release/deltat.1" >"$room/deltat.1"
-if [ -f "$libraries/libdeltat.so.0" ]; then
+if [ -f "$libraries/libdeltat.so.2" ]; then
     mkdir -p "$root/usr/include" "$root/usr/lib/$triplet/pkgconfig" "$root/usr/lib/python3/dist-packages" "$root/usr/share/man/man3" "$doc/include"
     make -s -C "$top/lib" deltat.pc PREFIX=/usr LIBDIR="/usr/lib/$triplet" PC="$room/deltat.pc"
     install -m 644 "$room/deltat.pc" "$root/usr/lib/$triplet/pkgconfig/deltat.pc"
     install -m 644 "$top/include/deltat.h" "$root/usr/include/deltat.h"
-    install -m 644 "$libraries/libdeltat.a" "$libraries/libdeltat.so.0" "$root/usr/lib/$triplet"
-    ln -s libdeltat.so.0 "$root/usr/lib/$triplet/libdeltat.so"
+    install -m 644 "$libraries/libdeltat.a" "$libraries/libdeltat.so.2" "$root/usr/lib/$triplet"
+    ln -s libdeltat.so.2 "$root/usr/lib/$triplet/libdeltat.so"
     ln -s ../../../../include/deltat.h "$doc/include/deltat.h"
     for module in deltat deltat_record deltat_service deltat_state; do
         install -m 644 "$top/bindings/python/$module.py" "$root/usr/lib/python3/dist-packages"
@@ -131,7 +131,7 @@ if [ -f "$libraries/libdeltat.so.0" ]; then
     gzip -n9 <"$room/library.3" >"$root/usr/share/man/man3/libdeltat.3.gz"
     sed -i -e '$s/(5)$/(5),/' -e '$a.BR libdeltat (3)' "$room/deltat.1"
     cat "$top/release/overrides.library" >>"$root/usr/share/lintian/overrides/deltat"
-    printf 'libdeltat 0 deltat (>= %s)\n' "$version" >"$root/DEBIAN/shlibs"
+    printf 'libdeltat 2 deltat (>= %s)\n' "$version" >"$root/DEBIAN/shlibs"
     printf 'activate-noawait ldconfig\n' >"$root/DEBIAN/triggers"
 fi
 
@@ -152,7 +152,7 @@ changelog | gzip -n9 >"$doc/changelog.gz"
 
 # the least C library that has all that the program and the library name
 set -- "$program"
-[ ! -f "$libraries/libdeltat.so.0" ] || set -- "$@" "$libraries/libdeltat.so.0"
+[ ! -f "$libraries/libdeltat.so.2" ] || set -- "$@" "$libraries/libdeltat.so.2"
 least=$(cat "$@" | grep -ao 'GLIBC_[0-9][0-9.]*' | sort -Vu | tail -n 1)
 {
     printf 'Package: deltat\nVersion: %s\nArchitecture: %s\nMaintainer: %s\n' "$version" "$architecture" "$maintainer"

@@ -1,6 +1,6 @@
 #!/usr/bin/env python3
 """The Python binding over libdeltat, in memory and over sockets of this machine, and the one for Rust.
-`tests/binding.py [LIBRARY] [TEST ..]`; LIBRARY is lib/libdeltat.so.0 where none is named. Ends with 1 where one of
+`tests/binding.py [LIBRARY] [TEST ..]`; LIBRARY is lib/libdeltat.so.2 where none is named. Ends with 1 where one of
 these fails, and with 77 where there is no library:
 
 - refusals: what is out of range, too long, for no one or too early is refused by its own exception, and nothing is sent.
@@ -42,7 +42,7 @@ from collections.abc import Iterator
 
 from lib import HOST, PROGRAM, TOP, Between, bound, free_port, skip
 
-LIBRARY = TOP / "lib" / "libdeltat.so.0"
+LIBRARY = TOP / "lib" / "libdeltat.so.2"
 named = [it for it in sys.argv[1:2] if it.endswith(".so") or ".so." in it]
 os.environ["DELTAT_LIBRARY"] = os.path.abspath(named[0]) if named else str(LIBRARY)
 if not os.path.exists(os.environ["DELTAT_LIBRARY"]):

@@ -25,7 +25,7 @@ from pathlib import Path
 
 from lib import TOP, program, skip, tell
 
-LIBRARY = TOP / "lib" / "libdeltat.so.0"
+LIBRARY = TOP / "lib" / "libdeltat.so.2"
 COMMANDS = ["audit", "calls", "make", "node", "replay", "retrace", "trace"]
 Case = tuple[str, bool, str]
 
@@ -121,7 +121,7 @@ def files(root: Path) -> list[Case]:
               "usr/share/man/man5/deltat-formats.5.gz", "usr/share/bash-completion/completions/deltat", "usr/share/zsh/vendor-completions/_deltat"]
     if LIBRARY.exists():
         wanted += ["usr/include/deltat.h", "usr/lib/python3/dist-packages/deltat.py", "usr/lib/python3/dist-packages/deltat_record.py", "usr/lib/python3/dist-packages/deltat_service.py", "usr/lib/python3/dist-packages/deltat_state.py", "usr/share/man/man3/libdeltat.3.gz"]
-        wanted += [f"usr/lib/{os.uname().machine}-linux-gnu/{it}" for it in ("libdeltat.a", "libdeltat.so.0", "libdeltat.so", "pkgconfig/deltat.pc")]
+        wanted += [f"usr/lib/{os.uname().machine}-linux-gnu/{it}" for it in ("libdeltat.a", "libdeltat.so.2", "libdeltat.so", "pkgconfig/deltat.pc")]
     missing = [it for it in wanted if not (root / it).is_file()] + [it.name for it in (TOP / "docs").glob("*.md") if not (doc / "docs" / it.name).is_file()]
     missing += [it.name for it in (TOP / "examples").rglob("*") if it.is_file() and it.suffix != ".pyc" and not (doc / it.relative_to(TOP)).is_file()]
     said = (doc / "PROVED").read_text()
@@ -237,7 +237,7 @@ def asks(root: Path) -> list[Case]:
     """The library, as one who has the package uses it."""
     if not LIBRARY.exists():
         return [("the library", True, "it isn't made here")]
-    library = str(root / f"usr/lib/{os.uname().machine}-linux-gnu/libdeltat.so.0")
+    library = str(root / f"usr/lib/{os.uname().machine}-linux-gnu/libdeltat.so.2")
     ran = run(sys.executable, "-c", ASKS, PYTHONPATH=str(root / "usr/lib/python3/dist-packages"), DELTAT_LIBRARY=library)
     return [("the library's Python module", ran.stdout == "[b'hello']\n", ran.stderr)]
 

@@ -25,7 +25,7 @@ CHARGE = 50
 
 def library(path: str | None) -> types.ModuleType | None:
     """The binding, or None where there is no library."""
-    found = pathlib.Path(path) if path else TOP / "lib" / "libdeltat.so.0"
+    found = pathlib.Path(path) if path else TOP / "lib" / "libdeltat.so.2"
     if not found.exists():
         return None
     os.environ["DELTAT_LIBRARY"] = str(found.resolve())
