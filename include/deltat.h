@@ -226,9 +226,8 @@ uint8_t dt_inbox(dt_node *n, size_t longest);
 uint8_t dt_hear(dt_node *n, const struct dt_flow *f);
 
 /* A whole message of the first flow that was heard of and has one: the first `len` octets of the buffer, the rest of
- * which is as it was. `gap`: a run mark was read before it, or octets were lost for want of memory, so octets of the
- * flow before it are lost, or may be; it isn't set for a message that was too long. `too_long`: so many messages of
- * all flows were longer than `longest` since dt_inbox, 2^64 - 1 at most. Flows are read as by dt_read, and what is due
+ * which is as it was. `gap`: octets of the flow before it were left out, or may have been: a run mark was read,
+ * octets were lost for want of memory, or a message was too long. `too_long`: so many messages of all flows were longer than `longest` since dt_inbox, 2^64 - 1 at most. Flows are read as by dt_read, and what is due
  * at `now` is done then. DONE CLOSED, and where it isn't DONE the buffer is as it was; NOTHING: no flow has one; ROOM:
  * it has `len` octets, and waits; LOST: the message of this flow is lost, and the next one has a gap; MORE: 65,537
  * flows had none, and others may have one; NO_MEMORY SPENT: a flow can't be read, and dt_take looks at it no more, so
