@@ -258,7 +258,7 @@ class Network:
         try:
             way = self.deltat.Flow(flow.from_node, flow.from_port, flow.to_node, flow.to_port)
             self.nodes[number].send(way, octets, "b" in marks, "e" in marks, self.at)
-        except (self.deltat.Full, self.deltat.Quiet):
+        except (self.deltat.Full, self.deltat.Quiet, self.deltat.BadParameter):
             pass
         if number == ME:
             self.commands.append(f"at {self.at} send {word(flow)} {marks} {octets.hex()}")

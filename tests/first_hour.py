@@ -4,7 +4,7 @@ told. `tests/first_hour.py [--bindings FOLDER] [--list] [CASE ..]`; FOLDER is bi
 case (`--list` prints them) does what a program did that broke the promise, hung, grew or was told nothing, over sockets
 of this machine. Prints a line a case; ends with 1 if one fails, and with 77 if there is no library.
 
-In tests/all: no words, 300 s."""
+In tests/all: no words, 600 s."""
 from __future__ import annotations
 
 import argparse
@@ -45,7 +45,7 @@ import deltat_service as service  # noqa: E402
 PARAMS = deltat.Params(mpl=482, r=450, a=5, rto=90, probe=180, seg=1442, cap=65536, rcap=65536, window=65536)
 SMALL = deltat.Params(mpl=482, r=450, a=5, rto=90, probe=180, seg=1442, cap=4096, rcap=4096, window=4096)
 # of a machine that has more to do than it can: each step may take a second
-PATIENT = deltat.Params(mpl=4000, r=9000, a=50, rto=800, probe=1600, seg=1442, cap=65536, rcap=65536, window=65536)
+PATIENT = deltat.Params(mpl=4000, r=15000, a=50, rto=250, probe=500, seg=1442, cap=65536, rcap=65536, window=65536)
 LINKS = [deltat.Link(1, charge=274)]
 CALL = deltat.Flow(1, 10, 2, 20)
 
@@ -227,6 +227,8 @@ def forked() -> None:
     serving = echo_calls(server)
     calls = service.Calls(client)
     plain = node_of(5, 6)
+    folder = tempfile.TemporaryDirectory()
+    record = deltat_record.Recorded(f"{folder.name}/run", 7, PARAMS, LINKS, {6: 1}, again=False)
     holds(calls.call(CALL, b"zero") == b"ok zero", "no answer before the fork")
 
     def tries() -> str:
@@ -247,7 +249,7 @@ def forked() -> None:
             "send": lambda: plain.send(deltat.Flow(5, 1, 6, 1), b"x"),
         }
         for name, ask in asked.items():
-            with raises(deltat.Forked, "forked child"):
+            with raises(getattr(deltat, "Forked", deltat.Spent), "forked child"):
                 try:
                     ask()
                 except Exception as why:
@@ -257,14 +259,18 @@ def forked() -> None:
             client.socket.fileno() < 0 and client.node._exports.counts(memory).status == deltat.Status.CLOSED,
             "the child's copies are open",
         )
-        client.close()
-        plain.close()
+        for it in (client, plain, record):
+            it.close()
+        holds(os.path.getsize(f"{folder.name}/run") == 0, "a child writes its parent's record")
         return ""
 
     for number in range(3):
         found = in_child(tries)
         holds(not found, f"in a child: {found}")
         holds(calls.call(CALL, b"%d" % number) == b"ok %d" % number, "a wrong answer behind a fork")
+    record.close()
+    holds(os.path.getsize(f"{folder.name}/run") > 0, "the parent writes no record")
+    folder.cleanup()
     client.close()
     server.close()
     serving.join(5)
@@ -323,6 +329,15 @@ def descriptors() -> None:
     finally:
         for it in held:
             it.close()
+
+
+def receive_buffer() -> None:
+    """a burst comes: the kernel keeps as much of it as for `deltat node`"""
+    most = int(pathlib.Path("/proc/sys/net/core/rmem_max").read_text())
+    with deltat.Udp(node_of(1, 2), (HOST, own_port()), {2: (HOST, own_port())}) as udp:
+        kept = udp.socket.getsockopt(socket.SOL_SOCKET, socket.SO_RCVBUF)
+        # (the kernel doubles what it is asked for)
+        holds(kept >= 2 * min(most, 1 << 21), f"{kept} octets are kept, and {most} are allowed")
 
 
 # --- what is told
@@ -438,10 +453,10 @@ def slow_clock() -> None:
     real, stop, failed = deltat.now, 0.03, []
     for has_stamps in (True, False):
         for is_before in (True, False):
-            for place in range(14):
+            for place in range(20):
                 failed += stopped_at(place, stop, is_before, has_stamps)
     deltat.now = real
-    holds(not failed, f"{len(failed)} of 56 stops: {failed[0] if failed else ''}")
+    holds(not failed, f"{len(failed)} of 80 stops: {failed[0] if failed else ''}")
 
 
 def stopped_at(place: int, stop: float, is_before: bool, has_stamps: bool) -> list[str]:
@@ -467,16 +482,14 @@ def stopped_at(place: int, stop: float, is_before: bool, has_stamps: bool) -> li
             value = int(read()) if is_before else value
         return value
 
-    with peer, deltat.Udp(node, (HOST, port), {2: peer.getsockname()}) as udp:
-        if not has_stamps:
-            udp.socket.setsockopt(socket.SOL_SOCKET, deltat._SO_TIMESTAMPNS, 0)
-        time.sleep(0.002)
-        deltat.now, before = slow, deltat.now
-        try:
+    usual = deltat.now, deltat._SO_TIMESTAMPNS
+    deltat.now, deltat._SO_TIMESTAMPNS = slow, usual[1] if has_stamps else socket.SO_REUSEADDR
+    try:
+        with peer, deltat.Udp(node, (HOST, port), {2: peer.getsockname()}) as udp:
             for _ in range(4):
                 udp.poll(0.001)
-        finally:
-            deltat.now = before
+    finally:
+        deltat.now, deltat._SO_TIMESTAMPNS = usual
     # (a moment is rounded down, and what was waited is rounded up)
     return [
         f"at reading {place}, {'before' if is_before else 'behind'} it, stamps {has_stamps}: "
@@ -511,7 +524,7 @@ class Lines(logging.Handler):
 
 
 def bad_replies() -> None:
-    """a function returns a text, a number, too many octets or raises, oftener than requests may be open: others go on"""
+    """a function returns a text, a number, too many octets or raises, oftener than requests may be open: all go on"""
     bad = {b"text": "text", b"number": 5, b"long": bytes(65_530)}
 
     async def main(log: Lines) -> None:
@@ -622,6 +635,8 @@ def two_over_one() -> None:
     for number in range(20):
         for calls in (one, other):
             holds(calls.call(CALL, b"%d" % number, 3.0) == b"ok %d" % number, "another answer")
+        # one that is made for a single call leaves nothing behind
+        holds(service.Calls(client, [12]).call(CALL, b"x", 3.0) == b"ok x", "another answer")
     client.close()
     server.close()
     serving.join(5)
@@ -718,6 +733,38 @@ def slow_functions() -> None:
                 udp.close()
 
 
+def background_work() -> None:
+    """a program works for 2 s: in `background` a message that comes meanwhile is acknowledged, and waits for it"""
+    one, two, _ = pair_of_udp(node_of(1, 2), node_of(2, 1))
+    with one, two:
+        one.send(CALL, b"hello")
+        for _ in range(5):
+            one.poll(0.01)
+            two.poll(0.01)
+        told: list[deltat.Report] = []
+
+        def asks() -> None:
+            time.sleep(0.3)
+            one.send(CALL, b"meanwhile")
+            end = time.monotonic() + 3
+            while time.monotonic() < end and not any(
+                it.kind in (deltat.Kind.SETTLED, deltat.Kind.UNCERTAIN) for it in told
+            ):
+                one.poll(0.05)
+                told.extend(one.node.reports())
+
+        list(one.node.reports())
+        asking = threading.Thread(target=asks)
+        asking.start()
+        with two.background():
+            time.sleep(2)
+        came = two.poll(0)
+        asking.join()
+        kinds = [it.kind.name for it in told if it.kind in (deltat.Kind.SETTLED, deltat.Kind.UNCERTAIN)]
+        holds(kinds == ["SETTLED"], f"the reports are {kinds}")
+        holds([it.octets for it in came] == [b"meanwhile"], f"{came} came")
+
+
 ECHO = """
 async def main():
     params = PATIENT if words[2:] == ["patient"] else PARAMS
@@ -740,8 +787,8 @@ async def main():
 
 asyncio.run(main())
 """
-# calls a second, with 1,000 under way: a machine that does nothing else does ten times as many (docs/service.md)
-FLOOR = 300
+# calls a second with 1,000 under way, of a machine that has little else to do, and of one that has more than it can
+FLOOR = 1500, 100
 
 
 async def call_on(udp: deltat.AsyncUdp, seconds: float, tasks: int) -> tuple[int, int, float]:
@@ -752,7 +799,7 @@ async def call_on(udp: deltat.AsyncUdp, seconds: float, tasks: int) -> tuple[int
         flow = deltat.Flow(1, 10 + number % 2, 2, 20)
         while time.monotonic() < end:
             try:
-                holds(await calls.call(flow, b"%d" % number, 10.0) == b"%d" % number, "another answer")
+                holds(await calls.call(flow, b"%d" % number, 30.0) == b"%d" % number, "another answer")
                 ends[0] += 1
             except service.Unsure:
                 ends[1] += 1
@@ -794,14 +841,15 @@ def others_wait() -> None:
 async def calls_at(ports: tuple[int, int], params: deltat.Params, seconds: float) -> tuple[int, int, float]:
     """As `call_on`, of 1,000 calls."""
     async with deltat.AsyncUdp(caller_of(1, 2, 2000, params), (HOST, ports[1]), {2: (HOST, ports[0])}) as udp:
-        return await asyncio.wait_for(call_on(udp, seconds, 1000), 40)
+        return await asyncio.wait_for(call_on(udp, seconds, 1000), 80)
 
 
 def many_calls() -> None:
     """1,000 calls are under way at once: all are answered, and quickly (a busy machine gets times that allow for it)"""
-    seconds, best = 3.0, 0.0
+    seconds, best, is_patient = 3.0, 0.0, os.getloadavg()[0] > (os.cpu_count() or 1)
+    floor = FLOOR[is_patient]
     for attempt in range(4):
-        ports, is_patient = (own_port(), own_port()), attempt > 1 or os.getloadavg()[0] > (os.cpu_count() or 1)
+        ports = own_port(), own_port()
         with process(ECHO, *ports, *["patient"] * is_patient) as it:
             holds(line_of(it) == "ready", "the service doesn't begin")
             answered, unsure, took = asyncio.run(calls_at(ports, PATIENT if is_patient else PARAMS, seconds))
@@ -812,9 +860,9 @@ def many_calls() -> None:
         )
         if not unsure:
             best = max(best, answered / seconds)
-        if best >= (5000 if attempt < 1 else FLOOR):
+        if best >= (5000 if attempt < 1 and not is_patient else floor):
             break
-    holds(best >= FLOOR, f"{best:.0f} calls a second, of the runs in which none was unsure")
+    holds(best >= floor, f"{best:.0f} calls a second, of the runs in which none was unsure")
 
 
 def blocked_loop() -> None:
@@ -900,6 +948,26 @@ def guards() -> None:
     with deltat.Udp(server, (HOST, own_port()), {1: (HOST, own_port())}):
         server.port(30, service.Kind.SERVICE)
         holds([admitted(server, port) for port in (20, 30, 31)] == [False, False, True], "the program's guard is gone")
+    usual, deltat.MOST_FLOWS = deltat.MOST_FLOWS, 2
+    server, caller = server_of(2, [1]), caller_of(1, 2)
+    caller.call(CALL, b"x", 1000)
+    frame = bytearray(next(caller.frames()).octets)
+
+    def flows(first: int) -> int:
+        """How many of 100 new flows are admitted."""
+        count = 0
+        for port in range(first, first + 100):
+            frame[18:20] = port.to_bytes(2, "big")
+            count += server.arrive(1, frame) is deltat.Status.DONE
+        return count
+
+    with deltat.Udp(server, (HOST, own_port()), {1: (HOST, own_port())}):
+        found = [flows(1000)]
+        for number in range(50, 52):
+            server.add_route(number, 1)
+        found.append(flows(2000))
+    deltat.MOST_FLOWS = usual
+    holds(found == [16, 32], f"{found} flows are admitted with one route, and more with three")
 
 
 CASES = [
@@ -909,6 +977,7 @@ CASES = [
     forked_loop,
     dropped,
     descriptors,
+    receive_buffer,
     longer_than_cap,
     units,
     octets_alone,
@@ -920,6 +989,7 @@ CASES = [
     two_over_one,
     closed_loops,
     slow_functions,
+    background_work,
     blocked_loop,
     others_wait,
     many_calls,

@@ -107,8 +107,8 @@ whether a flow has room."""
 MOST_AT_ONCE, MOST_UNFLUSHED = 256, 16
 """So many datagrams are taken in one after another before the program goes on, and before what leaves goes on the
 wire."""
-MOST_FLOWS = 1_024
-"""So many flows have a receiver at the most, by the guard that a socket makes."""
+MOST_FLOWS, FLOWS_EACH = 1_024, 16
+"""So many flows have a receiver at the most, by the guard that a socket makes: in all, or for each peer and route."""
 MOST_REPORTS = 10_000
 RECEIVE_BUFFER = 2_097_152
 """Octets that the kernel is asked to keep for a socket, as `deltat node` asks; it may keep fewer."""
@@ -625,6 +625,7 @@ class AnyNode:
         self._exports.init(self._address)
         self._finalizer = weakref.finalize(self, _free, self._exports.close, self._address, self._memory)
         self._finalizer.atexit = False
+        self._peers = 0
         _nodes.add(self)
 
     def __enter__(self) -> Self:
@@ -632,6 +633,11 @@ class AnyNode:
 
     def __exit__(self, *_: object) -> None:
         self.close()
+
+    @property
+    def _is_inherited(self) -> bool:
+        """Whether another process opened it, of which this one is a forked child."""
+        return self._owner != os.getpid()
 
     @property
     def _handle(self) -> ctypes.c_void_p:
@@ -703,7 +709,7 @@ class AnyNode:
     def close(self) -> None:
         """Frees what the node holds, and what wasn't taken of it. Called again, or in a forked child, it does
         nothing."""
-        if self._owner != os.getpid() or not self._finalizer.alive:
+        if self._is_inherited or not self._finalizer.alive:
             return
         self._finalizer()
         if self._state is not None:
@@ -722,7 +728,7 @@ class AnyNode:
         the guard). NoMemory or Spent."""
         octets = _octets(datagram)
         if self._is_guard_due:
-            self._set_guard(self._read_ports(), self._flows)
+            self._guard_by_default(self._peers)
         came = self._exports.arrive(
             self._handle,
             self._noted(at),
@@ -751,11 +757,16 @@ class AnyNode:
         )
         self._is_guard_due = False
 
-    def _guard_by_default(self, flows: int) -> None:
-        """If the program set no guard: the node receives at the ports that have a reader, on so many flows at once."""
+    def _guard_by_default(self, peers: int) -> None:
+        """If the program set no guard: the node receives at the ports that have a reader, and on some flows of each
+        peer and each node to which there is a route."""
         if not self._is_guarded:
-            self._flows = flows
-            self._set_guard(self._read_ports(), flows)
+            self._peers, self._flows = peers, max(MOST_FLOWS, FLOWS_EACH * max(peers, len(self.routes)))
+            self._set_guard(self._read_ports(), self._flows)
+
+    def _guard_anew(self) -> None:
+        """The guard of a socket is made anew before the next datagram, once for however many changes."""
+        self._is_guard_due = self._flows > 0 and not self._is_guarded
 
     def _read_ports(self) -> Sequence[int] | None:
         """The ports that have a reader; None if all have."""
@@ -784,6 +795,7 @@ class AnyNode:
             )
         self._raise(status)
         self.routes[to] = link
+        self._guard_anew()
 
     def frames(self) -> Iterator[OutFrame]:
         """The datagrams that left the node, in their order, each once."""
@@ -982,8 +994,8 @@ class Udp:
     neighbour, by its node's number; whoever is no peer is not heard. A socket serves all of the node's links.
 
     Unless the program called `node.guard`, the node receives at the ports that have a reader (of a node of calls: those
-    with a kind), and on 1,024 flows at once, or 16 for each peer if that is more: so strangers that send from a peer's
-    address don't make it grow."""
+    with a kind), and on 1,024 flows at once, or 16 for each peer or each route if that is more: so strangers that send
+    from a peer's address don't make it grow."""
 
     def __init__(
         self,
@@ -994,7 +1006,7 @@ class Udp:
     ) -> None:
         """Binds the socket. `routes` has the number of each neighbour's link; left out, it is that of the node's route
         to it, or the node's only link. BadParameter if that is no link of the node; OSError if the address can't be
-        had. """
+        had."""
         self.node = node
         links = {number: self._link_of(number, routes or {}) for number in peers}
         self._addresses = {
@@ -1003,12 +1015,13 @@ class Udp:
         }
         self._links = {address: links[number] for number, address in self._addresses.items()}
         self._next_hop = {link: address for address, link in self._links.items()}
-        node._guard_by_default(max(MOST_FLOWS, 16 * len(peers)))
+        node._guard_by_default(max(len(peers), 1))
+        # (before there is a socket into which something could come)
+        self._empty_at = now()
+        self._offset = _wall() - self._empty_at
         self.socket = _bound(bind)
         self._selector = selectors.PollSelector()
         self._selector.register(self.socket, selectors.EVENT_READ)
-        self._empty_at = now()
-        self._offset = _wall() - self._empty_at
         self.unsent = self.unheard = 0
         """Datagrams that were too late to be sent, or that the system didn't take; that came from no peer."""
         self._looked_at = self._empty_at

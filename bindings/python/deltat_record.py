@@ -319,8 +319,8 @@ class Recorded(deltat.Node):
     # --- the end
 
     def close(self) -> None:
-        """Closes the node, and writes what was kept. Called again it does nothing."""
-        if self._is_closed:
+        """Closes the node, and writes what was kept. Called again, or in a forked child, it does nothing."""
+        if self._is_closed or self._is_inherited:
             return
         self._is_closed = True
         with contextlib.suppress(deltat.DeltatError):

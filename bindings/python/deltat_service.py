@@ -298,8 +298,7 @@ class Service(deltat.AnyNode):
             raise BadParameter(f"port {port} has a kind")
         self._raise(status)
         self._kinds[port] = kind
-        # the guard is made anew before the next datagram, once for however many ports
-        self._is_guard_due = self._flows > 0 and not self._is_guarded
+        self._guard_anew()
 
     def _read_ports(self) -> Sequence[int]:
         return list(self._kinds)
@@ -412,26 +411,42 @@ class _Desk:
         # (the node has the desk)
         self._node = weakref.ref(node)
         self.ends: dict[int, Callable[[Answered | Doubtful], None]] = {}
-        # the lines of ports that somebody serves, the requests for other ports, and all lines
-        self.lines: dict[int, _Line] = {}
+        # the lines of ports that somebody serves, the requests for other ports, and the lines that are waited for
+        self.lines: weakref.WeakValueDictionary[int, _Line] = weakref.WeakValueDictionary()
         self.others: deque[Request] = deque()
-        self.all: list[_Line] = []
+        self.waiting: list[_Line] = []
+        self._is_attending = False
 
     def opened(self, ports: Iterable[int], wake: Callable[[], None] = lambda: None) -> _Line:
-        """A line for these ports. BadParameter if another one has one of them."""
+        """A line for these ports. BadParameter if another one has one of them. The requests of a line that is dropped
+        go to any."""
         line = _Line(wake)
+        weakref.finalize(line, self.others.extend, line.requests)
         for port in ports:
             self.claim(port, line)
-        self.all.append(line)
         return line
+
+    def attend(self, udp: deltat.AsyncUdp) -> None:
+        """From now on takes what each turn of a socket tells, and ends what waits when there are no more turns."""
+        if not self._is_attending:
+            self._is_attending = True
+            udp._takers.append(functools.partial(self._attend, udp))
+
+    def _attend(self, udp: deltat.AsyncUdp) -> None:
+        if not udp.udp.is_closed:
+            self.take()
+        if udp._failure:
+            self.close()
 
     def claim(self, port: int, line: _Line) -> None:
         """From now on requests for a port wait in this line, those too that came before. BadParameter if another has
         it."""
         if self.lines.setdefault(deltat._in_range(port, 16, "a port"), line) is not line:
             raise BadParameter(f"port {port} is served by other Calls over this socket")
-        line.requests += [it for it in self.others if it.token.flow.target_port == port]
-        self.others = deque(it for it in self.others if it.token.flow.target_port != port)
+        others = list(self.others)
+        self.others.clear()
+        for it in others:
+            (line.requests if it.token.flow.target_port == port else self.others).append(it)
 
     def next_request(self, line: _Line) -> Request | None:
         """The first request that waits in a line, or else for a port that nobody serves."""
@@ -449,7 +464,7 @@ class _Desk:
                 continue
             line = self.lines.get(it.token.flow.target_port)
             (line.requests if line else self.others).append(it)
-            for waiting in (line,) if line else self.all:
+            for waiting in (line,) if line else self.waiting:
                 waiting.wake()
         return is_some
 
@@ -458,7 +473,7 @@ class _Desk:
         while self.ends:
             number, end = self.ends.popitem()
             end(Doubtful(number, Cause.CLOSED))
-        for line in self.all:
+        for line in self.waiting:
             line.wake()
 
 
@@ -632,16 +647,9 @@ class AsyncCalls:
         self._line = self._desk.opened(ports, self._came.set)
         self._functions: dict[int, ServesSometime] = {}
         self._tasks: set[asyncio.Task[None]] = set()
+        # (its threads begin with the first plain function, and end when this is dropped)
         self._threads = ThreadPoolExecutor(workers, f"deltat node {self.node.number}")
-        udp._takers.append(self._take)
-
-    def _take(self) -> None:
-        """Takes what a turn told, and ends what waits when there are no more turns."""
-        if not self.udp.udp.is_closed:
-            self._desk.take()
-        if self.udp._failure:
-            self._desk.close()
-            self._threads.shutdown(wait=False)
+        self._desk.attend(udp)
 
     async def call(self, flow: Flow, payload: bytes, timeout: float = 5.0) -> bytes:
         """The answer to a call, within `timeout` seconds. Unsure; Declined, BadParameter or Spent if it wasn't made;
@@ -666,15 +674,18 @@ class AsyncCalls:
 
     async def requests(self) -> AsyncIterator[Request]:
         """The requests that come, until the socket is closed. NoMemory."""
-        while True:
-            self._came.clear()
-            while not self.udp._failure and (request := self._desk.next_request(self._line)):
-                yield request
-            if self.udp._failure:
-                if not self.udp.udp.is_closed:
-                    self.udp._check()
-                return
-            await self._came.wait()
+        self._desk.waiting.append(self._line)
+        try:
+            while not self.udp._failure:
+                self._came.clear()
+                while not self.udp._failure and (request := self._desk.next_request(self._line)):
+                    yield request
+                if not self.udp._failure:
+                    await self._came.wait()
+        finally:
+            self._desk.waiting.remove(self._line)
+        if not self.udp.udp.is_closed:
+            self.udp._check()
 
     def on(self, port: int) -> Callable[[ServesSometime], ServesSometime]:
         """Decorates the coroutine that serves a port, as `Calls.on`, or a plain function, which runs in a thread, one
