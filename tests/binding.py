@@ -159,7 +159,7 @@ def whole() -> bool:
     nodes = [node_of(1, 2, False, 0), deltat.Node(2, PARAMS, [deltat.Link(1, CHARGE)], {1: 1}, again=False, at=0, longest=5)]
     for it in (b"longer", b"short", b"longest", b"end"):
         nodes[0].send(flow, it, at=1)
-    return right and taken(nodes, 1) == [(10, b"short", True), (10, b"end", False)] and nodes[1].too_long == 2
+    return right and taken(nodes, 1) == [(10, b"short", True), (10, b"end", True)] and nodes[1].too_long == 2
 
 
 class Run:
