@@ -1,0 +1,1377 @@
+// made by release/interface.py from include/deltat.h; to change it, change that.
+//! What libdeltat exports, as include/deltat.h has it: names, duties and statuses are those of C.
+#![allow(non_camel_case_types)]
+
+use core::ffi::c_char;
+use core::marker::{PhantomData, PhantomPinned};
+
+pub const DELTAT_VERSION: &str = "0.1.1";
+pub const DELTAT_VERSION_MAJOR: u32 = 0;
+pub const DELTAT_VERSION_MINOR: u32 = 1;
+pub const DELTAT_VERSION_PATCH: u32 = 1;
+pub const DT_ABI_VERSION: u32 = 2;
+/// octets; no datagram that leaves a node is longer
+pub const DT_MAX_DATAGRAM: usize = 8_222;
+/// octets; no request or reply is longer
+pub const DT_MAX_PAYLOAD: usize = 65_528;
+/// octets, the final 0 included; no line of a report is longer
+pub const DT_MAX_REPORT_LINE: usize = 128;
+/// from dt_*_wake: nothing is due
+pub const DT_NEVER: u64 = 18_446_744_073_709_551_615;
+
+// `enum dt_status_code`
+pub const DT_OK: u8 = 0;
+/// an allocation failed; see below
+pub const DT_NO_MEMORY: u8 = 1;
+/// the handle isn't open, or messages aren't enabled
+pub const DT_NOT_OPEN: u8 = 2;
+/// an argument is out of range, or a struct's `size` is wrong; nothing changed but a count
+pub const DT_INVALID: u8 = 3;
+/// already open, enabled, routed or set; nothing changed
+pub const DT_EXISTS: u8 = 4;
+/// there is nothing to return
+pub const DT_NONE: u8 = 5;
+/// `len` octets are needed; what was to be returned waits
+pub const DT_BUFFER_TOO_SMALL: u8 = 6;
+/// the octets don't fit into the flow's send buffer; none was taken
+pub const DT_FULL: u8 = 7;
+/// the node is silent after its start; none was taken
+pub const DT_QUIET: u8 = 8;
+/// an earlier call ran out of memory, or the service was stopped
+pub const DT_STOPPED: u8 = 9;
+/// the datagram isn't valid; only a count changed
+pub const DT_MALFORMED: u8 = 11;
+/// the datagram's lifetime is over; only a count changed
+pub const DT_EXPIRED: u8 = 12;
+/// the guard doesn't admit the datagram; only a count changed
+pub const DT_BLOCKED: u8 = 13;
+/// no message found yet; call again
+pub const DT_MORE: u8 = 14;
+/// out of memory: octets that arrived are lost; the node is usable
+pub const DT_LOST: u8 = 15;
+/// max_calls are waiting or have an end that wasn't taken
+pub const DT_TOO_MANY_CALLS: u8 = 16;
+/// 2^32 calls were made in this life: call dt_service_set_life
+pub const DT_LIFE_USED_UP: u8 = 17;
+/// the request isn't open any more; nothing changed
+pub const DT_GONE: u8 = 18;
+
+// `enum dt_fault`: why a datagram is DT_MALFORMED: the first test that failed; and its `value`
+/// too few octets for a header: their number
+pub const DT_FAULT_SHORT: u8 = 1;
+/// unknown version: the version
+pub const DT_FAULT_VERSION: u8 = 2;
+/// the length field is wrong: its value
+pub const DT_FAULT_LENGTH: u8 = 3;
+/// the lifetime is 0: 0
+pub const DT_FAULT_LIFETIME: u8 = 4;
+/// another protocol: its number
+pub const DT_FAULT_PROTOCOL: u8 = 5;
+/// unknown kind of packet: the kind
+pub const DT_FAULT_KIND: u8 = 6;
+/// flags that this kind doesn't allow: the flags
+pub const DT_FAULT_FLAGS: u8 = 7;
+/// a window that this kind doesn't allow: the window
+pub const DT_FAULT_WINDOW: u8 = 8;
+/// a number of octets that this kind doesn't allow: the number
+pub const DT_FAULT_SIZE: u8 = 9;
+
+// `enum dt_start`: there is no default: 0 is DT_INVALID
+/// the number was never used, or not for dt_params_quiet_ms()
+pub const DT_START_FIRST: u8 = 1;
+/// it may have been: the node is silent for that time from `now`
+pub const DT_START_AGAIN: u8 = 2;
+
+// `enum dt_report_kind`: what a report says, and the fields it sets beside `flow`; others are 0
+/// dt_node_send took `count` octets
+pub const DT_REPORT_SEND_QUEUED: u8 = 1;
+/// dt_node_send met the silence, which ends at `time`
+pub const DT_REPORT_SEND_QUIET: u8 = 2;
+/// dt_node_send found room for `count` octets only
+pub const DT_REPORT_SEND_FULL: u8 = 3;
+/// first transmission: `number` of its first octet, `count`, `begin`, `end`; `run`: nothing before it is
+/// outstanding
+pub const DT_REPORT_SEGMENT_SENT: u8 = 4;
+/// later transmission; as above
+pub const DT_REPORT_SEGMENT_RESENT: u8 = 5;
+/// a closed window was probed at `number`
+pub const DT_REPORT_PROBE_SENT: u8 = 6;
+/// `count` octets were given up: delivered once or not at all
+pub const DT_REPORT_UNCERTAIN: u8 = 7;
+/// the send record (`sending`) or the receive record is gone
+pub const DT_REPORT_RECORD_RELEASED: u8 = 8;
+/// the send record began again, for octets that wait
+pub const DT_REPORT_RECORD_RENEWED: u8 = 9;
+/// an owed acknowledgement left: `number`, `window`
+pub const DT_REPORT_ACK_SENT: u8 = 10;
+/// a packet was answered at once: `number`, `window`
+pub const DT_REPORT_REPLY_SENT: u8 = 11;
+/// `count` octets from `number` on can be read; `run`: octets before them may be missing
+pub const DT_REPORT_ACCEPTED: u8 = 12;
+/// a packet of no use: `number`
+pub const DT_REPORT_PACKET_DROPPED: u8 = 13;
+/// the sender says that no more octets follow `number`
+pub const DT_REPORT_RUN_ENDED: u8 = 14;
+/// `count` octets reached the other node; `window`
+pub const DT_REPORT_ACKNOWLEDGED: u8 = 15;
+/// an acknowledgement of no use: `number`, `window`
+pub const DT_REPORT_ACK_IGNORED: u8 = 16;
+/// a packet met the silence, which ends at `time`; no flow
+pub const DT_REPORT_PACKET_QUIET: u8 = 17;
+/// octets were read: `begin`, `end`, `run`
+pub const DT_REPORT_READ: u8 = 18;
+/// a read found nothing
+pub const DT_REPORT_READ_NONE: u8 = 19;
+/// a packet left on link `number`, lifetime `count`; no flow
+pub const DT_REPORT_PACKET_OUT: u8 = 20;
+/// a packet from link `number` had no lifetime left; no flow
+pub const DT_REPORT_EXPIRED_IN: u8 = 21;
+/// a packet for link `number` had none left; no flow
+pub const DT_REPORT_EXPIRED_OUT: u8 = 22;
+/// there is no route to node `number`; no flow
+pub const DT_REPORT_NO_ROUTE: u8 = 23;
+/// 64 packets wait for link `number`: it is lost; no flow
+pub const DT_REPORT_LINK_FULL: u8 = 24;
+/// `number`: enum dt_fault, `count`: its value; no flow
+pub const DT_REPORT_PACKET_MALFORMED: u8 = 25;
+
+// `enum dt_port_kind`
+pub const DT_PORT_CALLER: u8 = 1;
+pub const DT_PORT_SERVICE: u8 = 2;
+
+// `enum dt_invalid`: why a call or a reply is DT_INVALID; 0: it isn't
+/// the flow doesn't go from this node to another
+pub const DT_INVALID_FLOW: u8 = 1;
+/// the flow doesn't come from a caller's port
+pub const DT_INVALID_PORT: u8 = 2;
+/// payload and 8 octets are more than `cap` or 65,536
+pub const DT_INVALID_LENGTH: u8 = 3;
+/// `timeout_ms` is 0
+pub const DT_INVALID_TIMEOUT: u8 = 4;
+/// 2^62 octets would have been passed in
+pub const DT_INVALID_TOTAL: u8 = 5;
+
+// `enum dt_event_kind`
+/// answer it: `call`, `flow`, and `len` octets of payload
+pub const DT_EVENT_REQUEST: u8 = 1;
+/// your call ended with `len` octets of answer: `call`, `user`
+pub const DT_EVENT_ANSWERED: u8 = 2;
+/// it ended without: it was served once or not at all, or still will be: `call`, `user`, `cause`
+pub const DT_EVENT_UNSURE: u8 = 3;
+
+// `enum dt_cause`
+/// octets of the request weren't acknowledged in time
+pub const DT_CAUSE_GIVEN_UP: u8 = 1;
+/// no answer came within `timeout_ms`
+pub const DT_CAUSE_TIMEOUT: u8 = 2;
+/// the service stopped
+pub const DT_CAUSE_STOPPED: u8 = 3;
+
+/// A status: one of the constants of `enum dt_status_code`.
+pub type dt_status = u8;
+
+/// A handle. Its octets are the library's.
+#[repr(C)]
+pub struct dt_node {
+    _data: [u8; 0],
+    _marker: PhantomData<(*mut u8, PhantomPinned)>,
+}
+
+/// A handle. Its octets are the library's.
+#[repr(C)]
+pub struct dt_service {
+    _data: [u8; 0],
+    _marker: PhantomData<(*mut u8, PhantomPinned)>,
+}
+
+/// One-way stream of octets from a port of one node to a port of another. The way back is another flow.
+#[repr(C)]
+#[derive(Clone, Copy, Debug, PartialEq, Eq, Hash)]
+pub struct dt_flow {
+    pub source: u32,
+    pub target: u32,
+    pub source_port: u16,
+    pub target_port: u16,
+}
+
+impl dt_flow {
+    /// All fields 0.
+    pub const fn new() -> Self {
+        Self {
+            source: 0,
+            target: 0,
+            source_port: 0,
+            target_port: 0,
+        }
+    }
+}
+
+impl Default for dt_flow {
+    fn default() -> Self {
+        Self::new()
+    }
+}
+
+/// The parameters of a network, equal at all nodes. dt_params_for computes them.
+#[repr(C)]
+#[derive(Clone, Copy, Debug, PartialEq, Eq, Hash)]
+pub struct dt_params {
+    pub size: u32,
+    /// longest lifetime of a packet: 2 to 86,400,000
+    pub mpl: u32,
+    /// from the first transmission to the last: 1 to 86,400,000
+    pub r: u32,
+    /// longest delay of an acknowledgement: 1 to 86,400,000
+    pub a: u32,
+    /// from one transmission to the next: 1 to 86,400,000
+    pub rto: u32,
+    /// from the last transmission to a window probe: 1 to 86,400,000, and below 3 mpl + r + a
+    pub probe: u32,
+    /// most octets of a segment: 1 to 8,192
+    pub seg: u32,
+    /// send buffer of a flow: 1 to 65,536
+    pub cap: u32,
+    /// receive buffer of a flow, its unread octets: 1 to 65,536
+    pub rcap: u32,
+    /// window of a new send record: 1 to 65,536
+    pub window: u32,
+    /// quantum of sequence numbers: 1 to 2,147,483,648; use the largest
+    pub run_limit: u32,
+    /// first sequence number of a send record: any
+    pub start: u32,
+}
+
+impl dt_params {
+    /// All fields 0, and `size` as it has to be.
+    pub const fn new() -> Self {
+        Self {
+            size: core::mem::size_of::<Self>() as u32,
+            mpl: 0,
+            r: 0,
+            a: 0,
+            rto: 0,
+            probe: 0,
+            seg: 0,
+            cap: 0,
+            rcap: 0,
+            window: 0,
+            run_limit: 0,
+            start: 0,
+        }
+    }
+}
+
+impl Default for dt_params {
+    fn default() -> Self {
+        Self::new()
+    }
+}
+
+/// A link of this node, in both directions.
+#[repr(C)]
+#[derive(Clone, Copy, Debug, PartialEq, Eq, Hash)]
+pub struct dt_link {
+    /// longest time under way; taken off the lifetime of what arrives
+    pub charge: u32,
+    /// least time from one datagram that leaves to the next; 0: no limit
+    pub pace: u32,
+    pub number: u16,
+    pub reserved: u16,
+}
+
+impl dt_link {
+    /// All fields 0.
+    pub const fn new() -> Self {
+        Self {
+            charge: 0,
+            pace: 0,
+            number: 0,
+            reserved: 0,
+        }
+    }
+}
+
+impl Default for dt_link {
+    fn default() -> Self {
+        Self::new()
+    }
+}
+
+/// Datagrams for node `to` leave on this link.
+#[repr(C)]
+#[derive(Clone, Copy, Debug, PartialEq, Eq, Hash)]
+pub struct dt_route {
+    pub to: u32,
+    pub link: u16,
+}
+
+impl dt_route {
+    /// All fields 0.
+    pub const fn new() -> Self {
+        Self {
+            to: 0,
+            link: 0,
+        }
+    }
+}
+
+impl Default for dt_route {
+    fn default() -> Self {
+        Self::new()
+    }
+}
+
+#[repr(C)]
+#[derive(Clone, Copy, Debug)]
+pub struct dt_node_options {
+    pub size: u32,
+    /// the number of this node
+    pub node: u32,
+    pub now: u64,
+    /// copied; the first of two with one number counts
+    pub links: *const dt_link,
+    pub link_count: usize,
+    /// copied; the first of two to one node counts; one over an unknown link leads nowhere
+    pub routes: *const dt_route,
+    pub route_count: usize,
+    /// enum dt_start
+    pub start_as: u8,
+}
+
+impl dt_node_options {
+    /// All fields 0, and `size` as it has to be.
+    pub const fn new() -> Self {
+        Self {
+            size: core::mem::size_of::<Self>() as u32,
+            node: 0,
+            now: 0,
+            links: core::ptr::null(),
+            link_count: 0,
+            routes: core::ptr::null(),
+            route_count: 0,
+            start_as: 0,
+        }
+    }
+}
+
+impl Default for dt_node_options {
+    fn default() -> Self {
+        Self::new()
+    }
+}
+
+#[repr(C)]
+#[derive(Clone, Copy, Debug, PartialEq, Eq, Hash)]
+pub struct dt_open_result {
+    /// DT_INVALID by a parameter: its value
+    pub value: u32,
+    pub status: dt_status,
+    /// and its place in dt_params: 1 is mpl; 0: an option is wrong
+    pub field: u8,
+}
+
+impl dt_open_result {
+    /// All fields 0.
+    pub const fn new() -> Self {
+        Self {
+            value: 0,
+            status: 0,
+            field: 0,
+        }
+    }
+}
+
+impl Default for dt_open_result {
+    fn default() -> Self {
+        Self::new()
+    }
+}
+
+#[repr(C)]
+#[derive(Clone, Copy, Debug, PartialEq, Eq, Hash)]
+pub struct dt_receive_result {
+    /// DT_MALFORMED: see enum dt_fault; else 0
+    pub value: u32,
+    pub status: dt_status,
+    /// DT_MALFORMED: enum dt_fault; else 0
+    pub fault: u8,
+}
+
+impl dt_receive_result {
+    /// All fields 0.
+    pub const fn new() -> Self {
+        Self {
+            value: 0,
+            status: 0,
+            fault: 0,
+        }
+    }
+}
+
+impl Default for dt_receive_result {
+    fn default() -> Self {
+        Self::new()
+    }
+}
+
+#[repr(C)]
+#[derive(Clone, Copy, Debug, PartialEq, Eq, Hash)]
+pub struct dt_send_result {
+    /// DT_QUIET: the time at which the silence ends; else 0
+    pub quiet_until: u64,
+    /// DT_FULL: how many octets fit now; else 0
+    pub free: u32,
+    pub status: dt_status,
+}
+
+impl dt_send_result {
+    /// All fields 0.
+    pub const fn new() -> Self {
+        Self {
+            quiet_until: 0,
+            free: 0,
+            status: 0,
+        }
+    }
+}
+
+impl Default for dt_send_result {
+    fn default() -> Self {
+        Self::new()
+    }
+}
+
+#[repr(C)]
+#[derive(Clone, Copy, Debug, PartialEq, Eq, Hash)]
+pub struct dt_read_result {
+    pub len: usize,
+    pub status: dt_status,
+    /// a message begins with the first octet; ends with the last
+    pub begin: bool,
+    /// a message begins with the first octet; ends with the last
+    pub end: bool,
+    /// octets of the flow before these may be missing
+    pub gap: bool,
+}
+
+impl dt_read_result {
+    /// All fields 0.
+    pub const fn new() -> Self {
+        Self {
+            len: 0,
+            status: 0,
+            begin: false,
+            end: false,
+            gap: false,
+        }
+    }
+}
+
+impl Default for dt_read_result {
+    fn default() -> Self {
+        Self::new()
+    }
+}
+
+#[repr(C)]
+#[derive(Clone, Copy, Debug, PartialEq, Eq, Hash)]
+pub struct dt_message {
+    pub size: u32,
+    pub flow: dt_flow,
+    pub len: usize,
+    /// messages of all flows above `longest` so far; stops at 2^64 - 1
+    pub dropped_too_long: u64,
+    /// octets of the flow before this message may be missing
+    pub gap: bool,
+}
+
+impl dt_message {
+    /// All fields 0, and `size` as it has to be.
+    pub const fn new() -> Self {
+        Self {
+            size: core::mem::size_of::<Self>() as u32,
+            flow: dt_flow::new(),
+            len: 0,
+            dropped_too_long: 0,
+            gap: false,
+        }
+    }
+}
+
+impl Default for dt_message {
+    fn default() -> Self {
+        Self::new()
+    }
+}
+
+#[repr(C)]
+#[derive(Clone, Copy, Debug, PartialEq, Eq, Hash)]
+pub struct dt_datagram {
+    pub size: u32,
+    /// the node that it is for; with relays between, not the next one
+    pub to: u32,
+    pub len: usize,
+    pub link: u16,
+}
+
+impl dt_datagram {
+    /// All fields 0, and `size` as it has to be.
+    pub const fn new() -> Self {
+        Self {
+            size: core::mem::size_of::<Self>() as u32,
+            to: 0,
+            len: 0,
+            link: 0,
+        }
+    }
+}
+
+impl Default for dt_datagram {
+    fn default() -> Self {
+        Self::new()
+    }
+}
+
+#[repr(C)]
+#[derive(Clone, Copy, Debug, PartialEq, Eq, Hash)]
+pub struct dt_report {
+    pub size: u32,
+    pub flow: dt_flow,
+    pub time: u64,
+    pub number: u32,
+    pub count: u32,
+    pub window: u32,
+    /// enum dt_report_kind
+    pub kind: u8,
+    pub begin: bool,
+    pub end: bool,
+    pub run: bool,
+    pub sending: bool,
+}
+
+impl dt_report {
+    /// All fields 0, and `size` as it has to be.
+    pub const fn new() -> Self {
+        Self {
+            size: core::mem::size_of::<Self>() as u32,
+            flow: dt_flow::new(),
+            time: 0,
+            number: 0,
+            count: 0,
+            window: 0,
+            kind: 0,
+            begin: false,
+            end: false,
+            run: false,
+            sending: false,
+        }
+    }
+}
+
+impl Default for dt_report {
+    fn default() -> Self {
+        Self::new()
+    }
+}
+
+#[repr(C)]
+#[derive(Clone, Copy, Debug, PartialEq, Eq, Hash)]
+pub struct dt_blocked_counts {
+    pub closed_port: u64,
+    pub too_many_flows: u64,
+}
+
+impl dt_blocked_counts {
+    /// All fields 0.
+    pub const fn new() -> Self {
+        Self {
+            closed_port: 0,
+            too_many_flows: 0,
+        }
+    }
+}
+
+impl Default for dt_blocked_counts {
+    fn default() -> Self {
+        Self::new()
+    }
+}
+
+/// since the opening, without what the guard blocked
+#[repr(C)]
+#[derive(Clone, Copy, Debug, PartialEq, Eq, Hash)]
+pub struct dt_node_counts {
+    pub size: u32,
+    pub reserved: u32,
+    /// handled
+    pub datagrams_in: u64,
+    /// DT_INVALID, DT_MALFORMED, DT_EXPIRED or DT_STOPPED
+    pub datagrams_refused: u64,
+    pub datagrams_out: u64,
+    /// all flows: taken by dt_node_send
+    pub octets_queued: u64,
+    /// of these: reached the other node
+    pub octets_acknowledged: u64,
+    /// of these: given up
+    pub octets_uncertain: u64,
+    /// arrived, and could be read
+    pub octets_accepted: u64,
+    /// of these: read
+    pub octets_read: u64,
+}
+
+impl dt_node_counts {
+    /// All fields 0, and `size` as it has to be.
+    pub const fn new() -> Self {
+        Self {
+            size: core::mem::size_of::<Self>() as u32,
+            reserved: 0,
+            datagrams_in: 0,
+            datagrams_refused: 0,
+            datagrams_out: 0,
+            octets_queued: 0,
+            octets_acknowledged: 0,
+            octets_uncertain: 0,
+            octets_accepted: 0,
+            octets_read: 0,
+        }
+    }
+}
+
+impl Default for dt_node_counts {
+    fn default() -> Self {
+        Self::new()
+    }
+}
+
+/// of one flow, since dt_node_count_flow
+#[repr(C)]
+#[derive(Clone, Copy, Debug, PartialEq, Eq, Hash)]
+pub struct dt_flow_counts {
+    pub size: u32,
+    pub reserved: u32,
+    pub octets_queued: u64,
+    pub octets_acknowledged: u64,
+    pub octets_uncertain: u64,
+    pub octets_accepted: u64,
+    pub octets_read: u64,
+}
+
+impl dt_flow_counts {
+    /// All fields 0, and `size` as it has to be.
+    pub const fn new() -> Self {
+        Self {
+            size: core::mem::size_of::<Self>() as u32,
+            reserved: 0,
+            octets_queued: 0,
+            octets_acknowledged: 0,
+            octets_uncertain: 0,
+            octets_accepted: 0,
+            octets_read: 0,
+        }
+    }
+}
+
+impl Default for dt_flow_counts {
+    fn default() -> Self {
+        Self::new()
+    }
+}
+
+#[repr(C)]
+#[derive(Clone, Copy, Debug, PartialEq, Eq, Hash)]
+pub struct dt_service_options {
+    pub size: u32,
+    /// duty 9
+    pub life: u32,
+    /// calls that wait or have an end that wasn't taken
+    pub max_calls: u32,
+    /// requests without a reply; also those that wait to be taken
+    pub max_requests: u32,
+    /// requests of one flow without a reply
+    pub max_requests_per_flow: u32,
+}
+
+impl dt_service_options {
+    /// All fields 0, and `size` as it has to be.
+    pub const fn new() -> Self {
+        Self {
+            size: core::mem::size_of::<Self>() as u32,
+            life: 0,
+            max_calls: 0,
+            max_requests: 0,
+            max_requests_per_flow: 0,
+        }
+    }
+}
+
+impl Default for dt_service_options {
+    fn default() -> Self {
+        Self::new()
+    }
+}
+
+/// The name of a request: its call's number (life in the upper 32 bits, count in the lower) and the flow that it
+/// arrived on. You may store, compare and log it.
+#[repr(C)]
+#[derive(Clone, Copy, Debug, PartialEq, Eq, Hash)]
+pub struct dt_token {
+    pub call: u64,
+    pub flow: dt_flow,
+}
+
+impl dt_token {
+    /// All fields 0.
+    pub const fn new() -> Self {
+        Self {
+            call: 0,
+            flow: dt_flow::new(),
+        }
+    }
+}
+
+impl Default for dt_token {
+    fn default() -> Self {
+        Self::new()
+    }
+}
+
+#[repr(C)]
+#[derive(Clone, Copy, Debug, PartialEq, Eq, Hash)]
+pub struct dt_call_result {
+    /// DT_OK: the number of the call; else 0
+    pub call: u64,
+    /// DT_QUIET: the time at which the silence ends; else 0
+    pub quiet_until: u64,
+    /// DT_FULL: octets that fit now; a request needs 8 more; else 0
+    pub free: u32,
+    pub status: dt_status,
+    /// DT_INVALID: enum dt_invalid; else 0
+    pub invalid: u8,
+}
+
+impl dt_call_result {
+    /// All fields 0.
+    pub const fn new() -> Self {
+        Self {
+            call: 0,
+            quiet_until: 0,
+            free: 0,
+            status: 0,
+            invalid: 0,
+        }
+    }
+}
+
+impl Default for dt_call_result {
+    fn default() -> Self {
+        Self::new()
+    }
+}
+
+#[repr(C)]
+#[derive(Clone, Copy, Debug, PartialEq, Eq, Hash)]
+pub struct dt_reply_result {
+    /// DT_FULL: as in dt_call_result
+    pub free: u32,
+    pub status: dt_status,
+    pub invalid: u8,
+}
+
+impl dt_reply_result {
+    /// All fields 0.
+    pub const fn new() -> Self {
+        Self {
+            free: 0,
+            status: 0,
+            invalid: 0,
+        }
+    }
+}
+
+impl Default for dt_reply_result {
+    fn default() -> Self {
+        Self::new()
+    }
+}
+
+#[repr(C)]
+#[derive(Clone, Copy, Debug, PartialEq, Eq, Hash)]
+pub struct dt_event {
+    pub size: u32,
+    /// enum dt_event_kind
+    pub kind: u8,
+    /// enum dt_cause, else 0
+    pub cause: u8,
+    pub call: u64,
+    /// what you passed to dt_service_call; 0 for a request
+    pub user: u64,
+    pub len: usize,
+    /// of a request; else 0
+    pub flow: dt_flow,
+}
+
+impl dt_event {
+    /// All fields 0, and `size` as it has to be.
+    pub const fn new() -> Self {
+        Self {
+            size: core::mem::size_of::<Self>() as u32,
+            kind: 0,
+            cause: 0,
+            call: 0,
+            user: 0,
+            len: 0,
+            flow: dt_flow::new(),
+        }
+    }
+}
+
+impl Default for dt_event {
+    fn default() -> Self {
+        Self::new()
+    }
+}
+
+/// messages that were dropped, by cause; each stops at 2^64 - 1
+#[repr(C)]
+#[derive(Clone, Copy, Debug, PartialEq, Eq, Hash)]
+pub struct dt_call_counts {
+    pub size: u32,
+    pub reserved: u32,
+    /// to calls of this life that have ended
+    pub late_replies: u64,
+    /// to calls of another life
+    pub old_replies: u64,
+    /// ALARM: to a call that this life hasn't made, or on another flow
+    pub unknown_replies: u64,
+    /// ALARM: a request with the name of one that is open
+    pub reused_requests: u64,
+    /// incomplete: a gap, a new message or the receiver's end
+    pub cut: u64,
+    /// above 65,536 octets
+    pub too_long: u64,
+    /// below 8 octets
+    pub too_short: u64,
+}
+
+impl dt_call_counts {
+    /// All fields 0, and `size` as it has to be.
+    pub const fn new() -> Self {
+        Self {
+            size: core::mem::size_of::<Self>() as u32,
+            reserved: 0,
+            late_replies: 0,
+            old_replies: 0,
+            unknown_replies: 0,
+            reused_requests: 0,
+            cut: 0,
+            too_long: 0,
+            too_short: 0,
+        }
+    }
+}
+
+impl Default for dt_call_counts {
+    fn default() -> Self {
+        Self::new()
+    }
+}
+
+/// what is known of a network; a field that is 0 has its default
+#[repr(C)]
+#[derive(Clone, Copy, Debug)]
+pub struct dt_network {
+    pub size: u32,
+    /// links of the longest path: 1 to 256; default 1
+    pub hops: u32,
+    /// longest delay of a link, with all queues, under load: 0 to 86,400,000; 0 is meant
+    pub delay_ms: f64,
+    /// a usual round trip from end to end: 0 to 86,400,000; 0 is meant
+    pub round_trip_ms: f64,
+    /// by how much a clock may run wrong, in parts per million: to 100,000; default 100
+    pub drift_ppm: f64,
+    /// transmissions of a segment: 1 to 1,000; default 5
+    pub tries: u32,
+    /// least MTU of the links: 1 to 65,535; default 1,500
+    pub mtu: u32,
+    /// octets of a flow under way, or unread: 1 to 65,536; default 65,536
+    pub buffer: u32,
+    /// longest wait of a packet at a node before it leaves: 1 to 86,400,000; default 2
+    pub wait_ms: u32,
+    /// resends of a lost packet while others wait on the shelf of a `deltat node`: 0 to 1,000; 0 is meant
+    pub shelf: u32,
+}
+
+impl dt_network {
+    /// All fields 0, and `size` as it has to be.
+    pub const fn new() -> Self {
+        Self {
+            size: core::mem::size_of::<Self>() as u32,
+            hops: 0,
+            delay_ms: 0.0,
+            round_trip_ms: 0.0,
+            drift_ppm: 0.0,
+            tries: 0,
+            mtu: 0,
+            buffer: 0,
+            wait_ms: 0,
+            shelf: 0,
+        }
+    }
+}
+
+impl Default for dt_network {
+    fn default() -> Self {
+        Self::new()
+    }
+}
+
+extern "C" {
+    /// Returns the interface version of the library. Compare it with DT_ABI_VERSION first.
+    pub fn dt_abi_version() -> u32;
+
+    /// Returns the size of a node's handle.
+    pub fn dt_node_size() -> usize;
+
+    /// Returns the alignment of a node's handle.
+    pub fn dt_node_align() -> usize;
+
+    /// Makes fresh memory a handle that isn't open.
+    pub fn dt_node_init(node: *mut dt_node);
+
+    /// Allocates a handle that isn't open. Null: out of memory.
+    pub fn dt_node_new() -> *mut dt_node;
+
+    /// Closes a handle of dt_node_new and releases its memory. Does nothing with a null pointer.
+    pub fn dt_node_free(node: *mut dt_node);
+
+    /// Opens a node.
+    ///
+    /// - `DT_OK`
+    /// - `DT_NO_MEMORY`: nothing changed
+    /// - `DT_EXISTS`: the handle is open; nothing changed
+    /// - `DT_INVALID`: a parameter is out of range (`field`, `value`: the first such), or options are; nothing
+    /// changed
+    ///
+    /// Cost: each link reserves room for 64 of the longest datagrams, about 526,000 octets.
+    pub fn dt_node_open(
+        node: *mut dt_node,
+        params: *const dt_params,
+        options: *const dt_node_options,
+    ) -> dt_open_result;
+
+    /// Releases what the node holds. The handle isn't open then, and may be opened again.
+    pub fn dt_node_close(node: *mut dt_node);
+
+    /// Adds a route. Routes can't be changed or removed while a node is open.
+    ///
+    /// - `DT_OK`
+    /// - `DT_NO_MEMORY`: nothing changed; the node is usable
+    /// - `DT_NOT_OPEN`
+    /// - `DT_STOPPED`: nothing changed
+    /// - `DT_INVALID`: there is no link with this number
+    /// - `DT_EXISTS`: there is a route to this node
+    pub fn dt_node_add_route(node: *mut dt_node, route: *const dt_route) -> dt_status;
+
+    /// Returns how long a node that starts with DT_START_AGAIN is silent: 3 mpl + r + a. 0: a parameter is out of
+    /// range, or `size` is wrong.
+    pub fn dt_params_quiet_ms(params: *const dt_params) -> u64;
+
+    /// Computes a number by which two programs can compare their parameters. Equal parameters give equal numbers.
+    /// It is the first eight octets, most significant first, of the SHA-256 digest of the eleven parameters as
+    /// 32-bit big-endian numbers. That different parameters give different numbers isn't proved.
+    ///
+    /// - `DT_OK`: `*fingerprint` is set
+    /// - `DT_INVALID`: a parameter is out of range, or `size` is wrong; `*fingerprint` is 0
+    pub fn dt_params_fingerprint(params: *const dt_params, fingerprint: *mut u64) -> dt_status;
+
+    /// Does what is due: resends, acknowledgements, timeouts.
+    ///
+    /// - `DT_OK`
+    /// - `DT_NO_MEMORY`: done in part; the node is stopped
+    /// - `DT_NOT_OPEN`
+    /// - `DT_STOPPED`: nothing changed
+    pub fn dt_node_tick(node: *mut dt_node, now: u64) -> dt_status;
+
+    /// Passes in a datagram that arrived on `link`. `waited_ms` (duty 5) is taken off its lifetime.
+    ///
+    /// - `DT_OK`: it was handled; a valid header with an invalid packet inside is dropped and reported
+    /// - `DT_NO_MEMORY`: done in part; the node is stopped
+    /// - `DT_NOT_OPEN`
+    /// - `DT_BLOCKED`: the guard doesn't admit it; dt_node_get_blocked_counts counts it
+    /// - `DT_STOPPED`: the node is stopped
+    /// - `DT_INVALID`: there is no such link
+    /// - `DT_MALFORMED`: the header isn't valid: `fault`, `value`
+    /// - `DT_EXPIRED`: `waited_ms` is its whole lifetime or more
+    ///
+    /// The last four add one to `datagrams_refused` and change nothing else.
+    pub fn dt_node_receive(
+        node: *mut dt_node,
+        now: u64,
+        link: u16,
+        datagram: *const u8,
+        len: usize,
+        waited_ms: u32,
+    ) -> dt_receive_result;
+
+    /// Sends octets: all of them or none. `begin`: the first one begins a message; `end`: the last one ends it. For
+    /// a whole message set both.
+    ///
+    /// - `DT_OK`: the node has taken them; reports will say what becomes of them
+    /// - `DT_NO_MEMORY`: they may have been taken; the node is stopped
+    /// - `DT_NOT_OPEN`
+    /// - `DT_STOPPED`: nothing changed
+    /// - `DT_INVALID`: `flow` doesn't go from this node to another, `len` is 0, or 2^62 octets would have been
+    /// passed in; nothing changed
+    /// - `DT_QUIET`: the node is silent until `quiet_until`; none was taken
+    /// - `DT_FULL`: only `free` octets fit; none was taken. More than `cap` octets never fit
+    pub fn dt_node_send(
+        node: *mut dt_node,
+        now: u64,
+        flow: *const dt_flow,
+        octets: *const u8,
+        len: usize,
+        begin: bool,
+        end: bool,
+    ) -> dt_send_result;
+
+    /// Reads unread octets of a flow, at most `room` and not beyond the end of a message. For programs that want
+    /// octets as they arrive; don't mix it with dt_node_next_message on one flow. What the buffer holds after the
+    /// first `len` octets isn't defined.
+    ///
+    /// - `DT_OK`: `len`, `begin`, `end`, `gap`
+    /// - `DT_NONE`: nothing is unread
+    /// - `DT_NO_MEMORY`: octets may have been read; the node is stopped
+    /// - `DT_NOT_OPEN`
+    /// - `DT_STOPPED`: nothing changed
+    /// - `DT_INVALID`: `flow` doesn't go from another node to this one; nothing changed
+    /// - `DT_BUFFER_TOO_SMALL`: `room` is 0; nothing changed
+    pub fn dt_node_read(
+        node: *mut dt_node,
+        now: u64,
+        flow: *const dt_flow,
+        buf: *mut u8,
+        room: usize,
+    ) -> dt_read_result;
+
+    /// Takes the next datagram to put on the wire, into the first `len` octets of `buf`. With room for
+    /// DT_MAX_DATAGRAM it always fits.
+    ///
+    /// - `DT_OK`: it is yours, and waits no more
+    /// - `DT_NONE`: none waits
+    /// - `DT_BUFFER_TOO_SMALL`: `len` octets are needed; it keeps waiting
+    /// - `DT_NOT_OPEN`
+    pub fn dt_node_next_datagram(
+        node: *mut dt_node,
+        buf: *mut u8,
+        room: usize,
+        out: *mut dt_datagram,
+    ) -> dt_status;
+
+    /// Takes the next report, in the order in which things happened. Reports use memory until they are taken, so
+    /// take them all in each round.
+    ///
+    /// - `DT_OK`
+    /// - `DT_NONE`
+    /// - `DT_NOT_OPEN`
+    pub fn dt_node_next_report(node: *mut dt_node, out: *mut dt_report) -> dt_status;
+
+    /// Returns the time at which to call dt_node_tick next. DT_NEVER: nothing is due, or the node is stopped or not
+    /// open. The time may be past on a node that was called so late that a segment can't be resent any more.
+    /// Nothing is due then, so wait for 1 ms at least.
+    pub fn dt_node_wake(node: *mut dt_node) -> u64;
+
+    /// Enables dt_node_next_message, for messages of at most `longest` octets. A longer one is dropped and counted
+    /// in `dropped_too_long`; `gap` doesn't show it. The begun part of a message stays in memory.
+    ///
+    /// - `DT_OK`
+    /// - `DT_EXISTS`: already enabled; nothing changed
+    /// - `DT_NOT_OPEN`
+    pub fn dt_node_enable_messages(node: *mut dt_node, longest: usize) -> dt_status;
+
+    /// Says that a flow may have unread octets. Call it for each DT_REPORT_ACCEPTED, and for each
+    /// DT_REPORT_RECORD_RELEASED of a receive record, so that memory of a flow without a receiver is freed.
+    ///
+    /// - `DT_OK`
+    /// - `DT_NO_MEMORY`: nothing changed: call it again, or messages of the flow may stay unread
+    /// - `DT_NOT_OPEN`: or messages aren't enabled
+    ///
+    /// Cost: grows with the number of marked flows that aren't read to their end.
+    pub fn dt_node_mark_readable(node: *mut dt_node, flow: *const dt_flow) -> dt_status;
+
+    /// Takes the next whole message of any marked flow, into the first `len` octets of `buf`; what follows them
+    /// stays as it was. Messages of one flow are returned in the order in which they were sent. Does what is due at
+    /// `now`. `gap` is true for the first message of a flow too: what was sent before it isn't known.
+    ///
+    /// - `DT_OK`: the message is yours
+    /// - `DT_NONE`: no marked flow has one
+    /// - `DT_MORE`: 65,537 flows had none; others may: call again
+    /// - `DT_BUFFER_TOO_SMALL`: it has `len` octets and waits: call again with room for them
+    /// - `DT_LOST`: out of memory: octets of `flow` are lost, and its next message has `gap`; the node is usable:
+    /// call again
+    /// - `DT_NO_MEMORY`: the node is stopped
+    /// - `DT_STOPPED`: as DT_NO_MEMORY; a message that waits for room can still be taken
+    /// - `DT_NOT_OPEN`: or messages aren't enabled
+    ///
+    /// After DT_NO_MEMORY or DT_STOPPED the flow that couldn't be read is marked no more. Unless DT_OK is returned
+    /// the buffer is unchanged. Cost: looks at marked flows one by one, and copies each octet three times.
+    pub fn dt_node_next_message(
+        node: *mut dt_node,
+        now: u64,
+        buf: *mut u8,
+        room: usize,
+        out: *mut dt_message,
+    ) -> dt_status;
+
+    /// Limits what strangers can open: from now on the node receives only at `ports` (`all`: at every port), and
+    /// makes no receiver for a new flow while `max_flows` flows have one. A datagram for another port, or of one
+    /// flow too many, is DT_BLOCKED before the node sees it. Flows that have a receiver keep it, and
+    /// acknowledgements are always admitted. A node opens with all ports and 4,294,967,295 flows.
+    ///
+    /// - `DT_OK`
+    /// - `DT_NO_MEMORY`: nothing changed
+    /// - `DT_NOT_OPEN`
+    pub fn dt_node_set_guard(
+        node: *mut dt_node,
+        ports: *const u16,
+        port_count: usize,
+        all: bool,
+        max_flows: u32,
+    ) -> dt_status;
+
+    /// Returns how many datagrams the guard blocked since the opening. Both stop at 2^64 - 1.
+    pub fn dt_node_get_blocked_counts(node: *mut dt_node) -> dt_blocked_counts;
+
+    /// Gets the counters of a node.
+    ///
+    /// - `DT_OK`
+    /// - `DT_NOT_OPEN`
+    pub fn dt_node_get_counts(node: *mut dt_node, out: *mut dt_node_counts) -> dt_status;
+
+    /// Starts counting the octets of a flow from or to this node, until the node closes. Does nothing if the flow
+    /// is counted already.
+    ///
+    /// - `DT_OK`
+    /// - `DT_NO_MEMORY`: nothing changed
+    /// - `DT_NOT_OPEN`
+    ///
+    /// Cost: 64 octets a flow.
+    pub fn dt_node_count_flow(node: *mut dt_node, flow: *const dt_flow) -> dt_status;
+
+    /// Gets the counters of a flow.
+    ///
+    /// - `DT_OK`
+    /// - `DT_NOT_OPEN`
+    /// - `DT_NONE`: the flow isn't counted
+    pub fn dt_node_get_flow_counts(
+        node: *mut dt_node,
+        flow: *const dt_flow,
+        out: *mut dt_flow_counts,
+    ) -> dt_status;
+
+    /// Returns the size of a service's handle.
+    pub fn dt_service_size() -> usize;
+
+    /// Returns the alignment of a service's handle.
+    pub fn dt_service_align() -> usize;
+
+    /// Makes fresh memory a handle of a service that isn't open.
+    pub fn dt_service_init(service: *mut dt_service);
+
+    /// Allocates a handle of a service that isn't open. Null: out of memory.
+    pub fn dt_service_new() -> *mut dt_service;
+
+    /// Closes a handle of dt_service_new and releases its memory. Does nothing with a null pointer.
+    pub fn dt_service_free(service: *mut dt_service);
+
+    /// Releases what the service holds, events not yet taken included. The handle isn't open then, and may be
+    /// opened again.
+    pub fn dt_service_close(service: *mut dt_service);
+
+    /// Opens a service. No port has a kind yet. Returns as dt_node_open.
+    pub fn dt_service_open(
+        service: *mut dt_service,
+        params: *const dt_params,
+        options: *const dt_node_options,
+        service_options: *const dt_service_options,
+    ) -> dt_open_result;
+
+    /// Makes a port a caller's or a service's, until the service is closed. Messages for a port without a kind
+    /// aren't read.
+    ///
+    /// - `DT_OK`
+    /// - `DT_NO_MEMORY`: nothing changed
+    /// - `DT_NOT_OPEN`
+    /// - `DT_INVALID`: there is no such kind
+    /// - `DT_EXISTS`: the port has a kind
+    pub fn dt_service_set_port(service: *mut dt_service, port: u16, kind: u8) -> dt_status;
+
+    /// Makes a call on a flow from a caller's port. It ends, by an event with `user`, in the first call with a
+    /// `now` of `timeout_ms` or more after this one, at the latest.
+    ///
+    /// - `DT_OK`: `call` is its number
+    /// - `DT_NO_MEMORY`: the service is stopped. The call may have been made, so take it as unsure; if it was, an
+    /// event says so
+    /// - `DT_NOT_OPEN`
+    /// - `DT_STOPPED`: nothing changed
+    /// - `DT_INVALID`: `invalid` says why; nothing changed
+    /// - `DT_TOO_MANY_CALLS`: nothing changed
+    /// - `DT_LIFE_USED_UP`: nothing changed
+    /// - `DT_QUIET`: the node is silent until `quiet_until`; nothing was sent
+    /// - `DT_FULL`: the flow has `free` octets left; nothing was sent
+    pub fn dt_service_call(
+        service: *mut dt_service,
+        now: u64,
+        flow: *const dt_flow,
+        payload: *const u8,
+        len: usize,
+        timeout_ms: u32,
+        user: u64,
+    ) -> dt_call_result;
+
+    /// Replies to a request, once.
+    ///
+    /// - `DT_OK`: the node has taken the reply, and the request is closed
+    /// - `DT_NO_MEMORY`: the service is stopped, and the reply may have been sent
+    /// - `DT_NOT_OPEN`
+    /// - `DT_STOPPED`: nothing changed
+    /// - `DT_INVALID`: `invalid` says why; nothing changed
+    /// - `DT_GONE`: it has a reply, was forgotten, or is of an earlier life
+    /// - `DT_FULL`: the flow has `free` octets left: try again later; the request stays open
+    pub fn dt_service_reply(
+        service: *mut dt_service,
+        now: u64,
+        token: *const dt_token,
+        payload: *const u8,
+        len: usize,
+    ) -> dt_reply_result;
+
+    /// Closes a request without a reply, so that there is room for another. Its caller becomes unsure. Does not do
+    /// what the node has due; dt_service_tick does.
+    ///
+    /// - `DT_OK`
+    /// - `DT_NO_MEMORY`: the service is stopped
+    /// - `DT_NOT_OPEN`
+    /// - `DT_GONE`: as dt_service_reply, or the service is stopped
+    pub fn dt_service_forget(
+        service: *mut dt_service,
+        now: u64,
+        token: *const dt_token,
+    ) -> dt_status;
+
+    /// Takes the next event, in the order in which they happened, each once, with its payload in the first `len`
+    /// octets of `buf`; what follows them stays as it was. Does no other work. After the service has stopped it
+    /// returns the events that wait, and then DT_EVENT_UNSURE for each call that waited, with DT_CAUSE_STOPPED.
+    ///
+    /// - `DT_OK`
+    /// - `DT_NONE`
+    /// - `DT_BUFFER_TOO_SMALL`: `len` octets are needed; this event, and those after it, wait
+    /// - `DT_NOT_OPEN`
+    pub fn dt_service_next_event(
+        service: *mut dt_service,
+        buf: *mut u8,
+        room: usize,
+        out: *mut dt_event,
+    ) -> dt_status;
+
+    /// Numbers the calls from now on in this life, from 0. Calls that wait keep their numbers.
+    ///
+    /// - `DT_OK`
+    /// - `DT_NOT_OPEN`
+    /// - `DT_EXISTS`: it is the present life, or that of a call that waits; nothing changed
+    pub fn dt_service_set_life(service: *mut dt_service, life: u32) -> dt_status;
+
+    /// Gets the counters of dropped messages.
+    ///
+    /// - `DT_OK`
+    /// - `DT_NOT_OPEN`
+    pub fn dt_service_get_call_counts(
+        service: *mut dt_service,
+        out: *mut dt_call_counts,
+    ) -> dt_status;
+
+    /// Stops the service: each call that waits becomes unsure, requests are forgotten, and what isn't taken yet can
+    /// be taken. Takes no memory.
+    ///
+    /// - `DT_OK`
+    /// - `DT_NOT_OPEN`
+    pub fn dt_service_stop(service: *mut dt_service) -> dt_status;
+
+    /// As dt_node_tick; when it returns DT_NO_MEMORY the service is stopped.
+    pub fn dt_service_tick(service: *mut dt_service, now: u64) -> dt_status;
+
+    /// As dt_node_receive; when it returns DT_NO_MEMORY the service is stopped. A stopped service doesn't count
+    /// datagrams.
+    pub fn dt_service_receive(
+        service: *mut dt_service,
+        now: u64,
+        link: u16,
+        datagram: *const u8,
+        len: usize,
+        waited_ms: u32,
+    ) -> dt_receive_result;
+
+    /// As dt_node_next_datagram.
+    pub fn dt_service_next_datagram(
+        service: *mut dt_service,
+        buf: *mut u8,
+        room: usize,
+        out: *mut dt_datagram,
+    ) -> dt_status;
+
+    /// As dt_node_wake, timeouts of calls included. DT_NEVER once the service is stopped.
+    pub fn dt_service_wake(service: *mut dt_service) -> u64;
+
+    /// As dt_node_add_route. Returns DT_STOPPED after a lack of memory only, not after dt_service_stop.
+    pub fn dt_service_add_route(service: *mut dt_service, route: *const dt_route) -> dt_status;
+
+    /// As dt_node_set_guard.
+    pub fn dt_service_set_guard(
+        service: *mut dt_service,
+        ports: *const u16,
+        port_count: usize,
+        all: bool,
+        max_flows: u32,
+    ) -> dt_status;
+
+    /// As dt_node_get_blocked_counts.
+    pub fn dt_service_get_blocked_counts(service: *mut dt_service) -> dt_blocked_counts;
+
+    /// As dt_node_get_counts.
+    pub fn dt_service_get_counts(service: *mut dt_service, out: *mut dt_node_counts) -> dt_status;
+
+    /// Returns the version of the library: DELTAT_VERSION of the header that it was made with.
+    pub fn dt_version() -> *const c_char;
+
+    /// Returns the name of a status as this header has it, as "DT_FULL". Another number: "unknown".
+    pub fn dt_status_name(status: dt_status) -> *const c_char;
+
+    /// Returns the name of a kind of report as this header has it, as "DT_REPORT_ACCEPTED". Another number:
+    /// "unknown".
+    pub fn dt_report_name(kind: u8) -> *const c_char;
+
+    /// Writes the line that the logs of `deltat node` have for a report of node `node` at `now`, as "120 2 accepted
+    /// 1:10>2:20 0 5 run", without a line feed and with a 0 at its end. Returns how many octets the line has
+    /// without the 0. If `room` isn't more than that, the line is cut; in DT_MAX_REPORT_LINE octets each fits.
+    /// docs/formats.md describes the lines. That of DT_REPORT_READ ends in a blank: a log has the octets that were
+    /// read behind it, in hexadecimal.
+    pub fn dt_report_line(
+        report: *const dt_report,
+        now: u64,
+        node: u32,
+        buf: *mut c_char,
+        room: usize,
+    ) -> usize;
+
+    /// Computes the parameters for a network, and the charge of each of its links, as tools/params.py does.
+    /// `*charge` is 20 ms less than that tool's, which leaves room for a wait in the socket that isn't measured;
+    /// here duty 5 measures it. docs/parameters.md says what the numbers cost.
+    ///
+    /// - `DT_OK`: `params` (all of it but `size`) and `*charge` are set
+    /// - `DT_INVALID`: a field is out of range, `size` of either is wrong, or no parameters fit; nothing changed
+    pub fn dt_params_for(
+        network: *const dt_network,
+        params: *mut dt_params,
+        charge: *mut u32,
+    ) -> dt_status;
+}
