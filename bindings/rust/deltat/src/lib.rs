@@ -85,18 +85,29 @@ mod clock;
 mod counts;
 mod endpoint;
 mod error;
+mod network;
 mod node;
 mod report;
 mod service;
 mod types;
+mod udp;
 
 pub use clock::now;
 pub use counts::{BlockedCounts, CallCounts, FlowCounts, NodeCounts};
 pub use endpoint::{Calls, Endpoint, Kind, Messages};
 pub use error::{Declined, Error, Fault, InvalidReason, NotReplied};
+pub use network::Network;
 pub use node::{Message, Node, Piece};
 pub use report::{Report, ReportKind};
 pub use service::{Cause, Event, PortKind, Service, ServiceOptions, Token};
 pub use types::{
     Datagram, Flow, Link, NodeOptions, Params, Route, Start, ABI_VERSION, MAX_DATAGRAM, MAX_PAYLOAD,
 };
+pub use udp::{Peer, Udp};
+
+/// The version of libdeltat that the program is linked to, as "0.1.1".
+#[must_use]
+pub fn version() -> &'static str {
+    // SAFETY: what dt_version returns is constant text, which ends with a 0.
+    unsafe { std::ffi::CStr::from_ptr(deltat_sys::dt_version()) }.to_str().unwrap_or("unknown")
+}

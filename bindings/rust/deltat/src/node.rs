@@ -183,6 +183,23 @@ impl Endpoint<Messages> {
         }
     }
 
+    /// Takes the reports that wait, marks the flows of those that are [`readable`](Report::readable), and
+    /// passes each to `each`.
+    ///
+    /// # Errors
+    ///
+    /// `NotOpen`: messages aren't enabled, and a flow was to be marked. `OutOfMemory`: the flow of the
+    /// last report that was taken isn't marked; the node is usable.
+    pub fn take_reports(&mut self, mut each: impl FnMut(Report)) -> Result<(), Error> {
+        while let Some(report) = self.next_report()? {
+            each(report);
+            if let Some(flow) = report.readable() {
+                self.mark_readable(flow)?;
+            }
+        }
+        Ok(())
+    }
+
     /// Starts counting the octets of a flow from or to this node, until the node is dropped. Does nothing
     /// if the flow is counted already.
     ///

@@ -120,6 +120,7 @@ pub struct Report {
     pub run: bool,
     /// It is about the send record, and not the receive record.
     pub sending: bool,
+    code: u8,
 }
 
 impl Report {
@@ -131,6 +132,36 @@ impl Report {
             ReportKind::Accepted => Some(self.flow),
             ReportKind::RecordReleased if !self.sending => Some(self.flow),
             _ => None,
+        }
+    }
+
+    /// The line that the logs of `deltat node` have for this report of node `node` at `now`, as
+    /// `120 2 accepted 1:10>2:20 0 5 run`; docs/formats.md describes the lines. That of
+    /// [`ReportKind::Read`] ends in a blank: a log has the octets that were read after it.
+    #[must_use]
+    pub fn line(&self, now: u64, node: u32) -> String {
+        let mut text = [0_u8; sys::DT_MAX_REPORT_LINE];
+        // SAFETY: the report is a struct of the header, which is only read, and the text is borrowed
+        // for the call only.
+        let len = unsafe {
+            sys::dt_report_line(&self.to_c(), now, node, text.as_mut_ptr().cast(), text.len())
+        };
+        String::from_utf8_lossy(&text[..len.min(text.len() - 1)]).into_owned()
+    }
+
+    fn to_c(self) -> sys::dt_report {
+        sys::dt_report {
+            flow: self.flow.to_c(),
+            time: self.time,
+            number: self.number,
+            count: self.count,
+            window: self.window,
+            kind: self.code,
+            begin: self.begin,
+            end: self.end,
+            run: self.run,
+            sending: self.sending,
+            ..sys::dt_report::new()
         }
     }
 
@@ -146,6 +177,7 @@ impl Report {
             end: it.end,
             run: it.run,
             sending: it.sending,
+            code: it.kind,
         }
     }
 }

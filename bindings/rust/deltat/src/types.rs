@@ -13,8 +13,8 @@ pub const MAX_DATAGRAM: usize = sys::DT_MAX_DATAGRAM;
 /// Octets of the longest request or reply: each event fits a buffer of this length.
 pub const MAX_PAYLOAD: usize = sys::DT_MAX_PAYLOAD;
 
-/// The parameters of a network, equal at all of its nodes. `tools/params.py` computes them, and
-/// docs/parameters.md says how.
+/// The parameters of a network, equal at all of its nodes. [`Params::for_network`] and
+/// `tools/params.py` compute them, and docs/parameters.md says how.
 #[derive(Clone, Copy, Debug, PartialEq, Eq, Hash)]
 pub struct Params {
     /// Longest lifetime of a packet in ms: 2 to 86,400,000.
@@ -59,6 +59,13 @@ impl Params {
         // SAFETY: as in `quiet_ms`; the number is written.
         let status = unsafe { sys::dt_params_fingerprint(&self.to_c(), &mut value) };
         (status == sys::DT_OK).then_some(value)
+    }
+
+    pub(crate) fn of_c(it: sys::dt_params) -> Params {
+        let sys::dt_params {
+            mpl, r, a, rto, probe, seg, cap, rcap, window, run_limit, start, ..
+        } = it;
+        Params { mpl, r, a, rto, probe, seg, cap, rcap, window, run_limit, start }
     }
 
     pub(crate) fn to_c(self) -> sys::dt_params {

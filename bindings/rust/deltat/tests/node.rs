@@ -5,8 +5,8 @@ use std::error::Error as _;
 
 use common::{node, FLOW, LINK, PARAMS};
 use deltat::{
-    Datagram, Declined, Endpoint, Error, Fault, Flow, InvalidReason, Message, Node, NodeOptions,
-    NotReplied, Params, Piece, ReportKind, Route, Start, MAX_DATAGRAM,
+    Datagram, Declined, Endpoint, Error, Fault, Flow, InvalidReason, Message, Network, Node,
+    NodeOptions, NotReplied, Params, Piece, ReportKind, Route, Start, MAX_DATAGRAM,
 };
 
 const LENGTH: Error = Error::Invalid { reason: InvalidReason::Length };
@@ -206,6 +206,47 @@ fn parameters_out_of_range_are_named() {
     assert_eq!(Params { mpl: 1, ..PARAMS }.fingerprint(), None);
     assert!(PARAMS.fingerprint().is_some());
     assert_ne!(PARAMS.fingerprint(), Params { start: 1, ..PARAMS }.fingerprint());
+}
+
+#[test]
+fn parameters_are_computed_for_a_network() {
+    // as `tools/params.py 250 50 --shelf 2` has them, with a charge that is 20 ms less
+    let (params, charge) =
+        Params::for_network(&Network { shelf: 2, ..Network::new(250.0, 50.0) }).unwrap();
+    let wanted = Params {
+        mpl: 482,
+        r: 450,
+        a: 5,
+        rto: 90,
+        probe: 180,
+        seg: 1442,
+        cap: 65536,
+        rcap: 65536,
+        window: 65536,
+        ..PARAMS
+    };
+    assert_eq!((params, charge), (wanted, 274));
+    let unfit = Error::Invalid { reason: InvalidReason::Argument };
+    assert_eq!(Params::for_network(&Network::new(-1.0, 50.0)), Err(unfit));
+}
+
+#[test]
+fn reports_have_the_lines_of_logs() {
+    let (mut one, mut two) = (node(1, Start::First, 0), node(2, Start::First, 0));
+    one.send(1, FLOW, b"hello", true, true).unwrap();
+    carry(&mut one, &mut two, 120);
+    let mut lines = Vec::new();
+    while let Some(report) = two.next_report().unwrap() {
+        if report.kind == ReportKind::Accepted {
+            lines.push(report.line(120, 2));
+        }
+    }
+    assert_eq!(lines, ["120 2 accepted 1:10>2:20 0 5 run"]);
+    assert!(
+        deltat::version().split('.').all(|it| it.parse::<u32>().is_ok()),
+        "{}",
+        deltat::version()
+    );
 }
 
 #[test]
