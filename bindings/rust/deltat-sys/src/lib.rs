@@ -4,7 +4,6 @@
 //! call does, what its caller must do, and when each status is returned. Programs use the crate
 //! `deltat`, which is safe. `build.rs` finds the library: in `DELTAT_LIB_DIR`, else in `lib/` of the
 //! clone, else where a `deltat.pc` says.
-#![no_std]
 
 // as it was made, so that it can be compared with what the header gives
 #[rustfmt::skip]

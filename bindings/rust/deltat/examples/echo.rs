@@ -12,8 +12,8 @@ use std::env;
 use std::error::Error;
 
 use deltat::{
-    now, Flow, Link, Messages, Network, Node, NodeOptions, Params, Peer, ReportKind, Route, Start,
-    Udp,
+    now, Flow, Link, Messages, Network, Node, NodeOptions, Params, Peer, Report, ReportKind, Route,
+    Start, Udp,
 };
 
 const LONGEST: usize = 65_536;
@@ -35,17 +35,22 @@ fn open(node: u32, port: u16, start: Start) -> Result<Udp<Messages>, Box<dyn Err
     Ok(Udp::bind(address("OWN", 4000 + node), it, &[peer])?)
 }
 
+fn tell(report: Report) {
+    if report.kind == ReportKind::Uncertain {
+        eprintln!("echo: {} octets of {} are uncertain", report.count, report.flow);
+    }
+}
+
 fn serve(start: Start) -> Result<(), Box<dyn Error>> {
     let (mut udp, mut buf) = (open(2, 20, start)?, vec![0; LONGEST]);
     loop {
         let at = udp.turn()?;
-        udp.node.take_reports(|_| ())?;
+        udp.node.take_reports(tell)?;
         while let Some(message) = udp.node.next_message(at, &mut buf)? {
-            let octets = &mut buf[..message.len];
-            octets.reverse();
-            if let Err(why) = udp.node.send(at, message.flow.reversed(), octets, true, true) {
-                eprintln!("echo: an answer wasn't sent: {why}");
-            }
+            buf[..message.len].reverse();
+            // waits for room, and meanwhile for no further messages: so a client that doesn't read is held
+            // back, and nothing is dropped
+            udp.send(message.flow.reversed(), &buf[..message.len])?;
         }
     }
 }
@@ -56,11 +61,7 @@ fn ask(start: Start, words: &[String]) -> Result<(), Box<dyn Error>> {
     let (begun, mut unsent, mut answers) = (now(), words.iter().peekable(), 0);
     while answers < words.len() {
         let at = udp.turn()?;
-        udp.node.take_reports(|report| {
-            if report.kind == ReportKind::Uncertain {
-                eprintln!("echo: {} octets are uncertain", report.count);
-            }
-        })?;
+        udp.node.take_reports(tell)?;
         while let Some(message) = udp.node.next_message(at, &mut buf)? {
             println!("{}", String::from_utf8_lossy(&buf[..message.len]));
             answers += 1;

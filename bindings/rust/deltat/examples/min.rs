@@ -17,8 +17,7 @@ fn main() -> Result<(), Box<dyn std::error::Error>> {
         udp.node.take_reports(|_| ())?;
         while let Some(message) = udp.node.next_message(at, &mut buf)? {
             buf[..message.len].reverse();
-            let (back, answer) = (message.flow.reversed(), &buf[..message.len]);
-            udp.node.send(at, back, answer, true, true).unwrap_or_else(|why| eprintln!("{why}"));
+            udp.send(message.flow.reversed(), &buf[..message.len])?; // waits for room
         }
     }
 }

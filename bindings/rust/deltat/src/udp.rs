@@ -5,7 +5,7 @@ use std::net::{SocketAddr, ToSocketAddrs, UdpSocket};
 use std::time::Duration;
 
 use crate::endpoint::Kind;
-use crate::{now, Endpoint};
+use crate::{now, Endpoint, Flow, Messages};
 
 /// No datagram is sent later than this after the node made it.
 const LATE_MS: u64 = 20;
@@ -214,6 +214,29 @@ impl<K: Kind> Udp<K> {
     }
 }
 
+impl Udp<Messages> {
+    /// Sends a whole message. Takes turns as long as the node is silent or the flow has no room, which
+    /// ends when octets are acknowledged or given up. Messages that arrive meanwhile wait in the node.
+    ///
+    /// # Errors
+    ///
+    /// As [`turn`](Udp::turn) and [`Node::send`](crate::Node::send), but for `Full` and `Quiet`.
+    pub fn send(&mut self, flow: Flow, octets: &[u8]) -> Result<()> {
+        loop {
+            self.flush()?;
+            let at = (self.clock)();
+            match self.node.send(at, flow, octets, true, true) {
+                Ok(()) => return self.send_made_at(at),
+                Err(crate::Error::Full { .. } | crate::Error::Quiet { .. }) => {
+                    self.send_made_at(at)?;
+                    self.turn()?;
+                }
+                Err(why) => return Err(why.into()),
+            }
+        }
+    }
+}
+
 impl From<crate::Error> for Error {
     fn from(why: crate::Error) -> Error {
         Error::new(ErrorKind::Other, why)
@@ -225,7 +248,7 @@ mod tests {
     use std::cell::{Cell, RefCell};
 
     use super::*;
-    use crate::{Flow, Link, Messages, Node, NodeOptions, Params, Route, Start, MAX_DATAGRAM};
+    use crate::{Link, Node, NodeOptions, Params, Route, Start, MAX_DATAGRAM};
 
     const PARAMS: Params = Params {
         mpl: 1000,
@@ -348,6 +371,24 @@ mod tests {
         peer.send_to(&hello(), udp.local_address().unwrap()).unwrap();
         udp.turn().unwrap();
         assert_eq!(udp.node.blocked_counts().unwrap().closed_port, 1);
+    }
+
+    #[test]
+    fn a_send_waits_until_the_silence_is_over() {
+        let (peer, address) = socket();
+        let routes = [Route { to: 1, link: 1 }];
+        let links = [Link { number: 1, charge: 90, pace: 0 }];
+        let (now, start) = (slow(), Start::Again);
+        let options = NodeOptions { node: 2, now, links: &links, routes: &routes, start };
+        let quiet = Params { mpl: 5, r: 20, a: 1, rto: 5, probe: 10, ..PARAMS };
+        let node = Node::open(&quiet, &options).unwrap();
+        let peers = [Peer { node: 1, link: 1, address }];
+        let mut udp = Udp::with_clock(socket().0, node, &peers, slow).unwrap();
+        let flow = Flow { source: 2, target: 1, source_port: 20, target_port: 10 };
+        udp.send(flow, b"hello").unwrap();
+        assert!(slow() >= now + quiet.quiet_ms().unwrap());
+        assert_eq!(peer.recv(&mut [0; 99]).unwrap(), 35);
+        assert_eq!(udp.send(flow.reversed(), b"back").unwrap_err().kind(), ErrorKind::Other);
     }
 
     #[test]
