@@ -7,7 +7,7 @@
 - crates: without a network and without warnings cargo builds all of it, runs the tests of both crates and those in
   their documents, and makes the documents; clippy has nothing to say, where there is one.
 - found: the library is found by a deltat.pc, also the shared one; a folder without it is named in the error.
-- former: a program isn't linked with a library of another interface.
+- interfaces: a program isn't linked with a library of interface 1, and one of interface 3 is refused at the opening.
 - short: the program of docs/library.md is examples/min.rs, has 25 lines or fewer, and answers.
 - echo: over a link that drops 1 of 100 datagrams the example answers 120 words, each once and in order, while
   strangers send to it and it is stopped eight times for 80 ms; opened again it is silent at first, and answers. On a
@@ -150,6 +150,18 @@ def crates(folder: str) -> bool:
     return well("cargo clippy", cargo(folder, "clippy", "--all-targets", "--", "-D", "warnings")) and right
 
 
+USER = """use deltat::{Network, Node, NodeOptions, Params, Start};
+fn main() {
+    let (params, _) = Params::for_network(&Network::new(1000, 1000)).unwrap();
+    let options = NodeOptions { node: 1, now: 0, links: &[], routes: &[], start: Start::Again };
+    match Node::open(&params, &options) {
+        Ok(_) => println!("{}", deltat::version()),
+        Err(why) => println!("{why}"),
+    }
+}
+"""
+
+
 def user_of(folder: str) -> pathlib.Path:
     """A crate that stands where a copy of the two crates is, as one that is installed, and not in a clone."""
     top = pathlib.Path(folder, "installed")
@@ -158,7 +170,7 @@ def user_of(folder: str) -> pathlib.Path:
     package = '[package]\nname = "user"\nversion = "0.1.0"\nedition = "2021"\n'
     dependencies = '[dependencies]\ndeltat = { path = "../rust/crates/deltat" }\n'
     (top / "user" / "Cargo.toml").write_text(f"{package}{dependencies}[workspace]\n")
-    (top / "user" / "src" / "main.rs").write_text('fn main() { println!("{}", deltat::version()); }\n')
+    (top / "user" / "src" / "main.rs").write_text(USER)
     return top / "user"
 
 
@@ -195,17 +207,31 @@ def found(folder: str) -> bool:
     return right
 
 
-def former(folder: str) -> bool:
-    """A library of interface 1, of which no export has a name of interface 2."""
-    place = pathlib.Path(folder, "former")
-    place.mkdir()
-    (place / "former.c").write_text("unsigned dt_abi(void); unsigned dt_abi(void) { return 1; }\n")
-    ran(["cc", "-c", "former.c", "-o", "former.o"], 30, cwd=place)
-    ran(["ar", "rcs", "libdeltat.a", "former.o"], 30, cwd=place)
-    it = cargo(f"{folder}/former-target", "build", "--example", "min", DELTAT_LIB_DIR=str(place))
+def of_interface(place: pathlib.Path, name: str, version: int) -> None:
+    """An object for libdeltat.a in which a function tells the interface."""
+    place.mkdir(exist_ok=True)
+    (place / "told.c").write_text(f"unsigned {name}(void); unsigned {name}(void) {{ return {version}; }}\n")
+    ran(["cc", "-c", "told.c", "-o", "told.o"], 30, cwd=place)
+
+
+def interfaces(folder: str) -> bool:
+    # of interface 1 no export has a name of interface 2
+    former = pathlib.Path(folder, "former")
+    of_interface(former, "dt_abi", 1)
+    ran(["ar", "rcs", "libdeltat.a", "told.o"], 30, cwd=former)
+    it = cargo(f"{folder}/interfaces", "build", "--example", "min", DELTAT_LIB_DIR=str(former))
     right = it.returncode != 0 and "dt_abi_version" in it.stderr
     if not right:
-        print(f"former: cargo ended with {it.returncode}: {it.stderr[-600:]}")
+        print(f"interfaces: cargo ended with {it.returncode}: {it.stderr[-600:]}")
+    later = pathlib.Path(folder, "later")
+    of_interface(later, "dt_abi_version", 3)
+    ran(["objcopy", "--redefine-sym", "dt_abi_version=own", str(LIBRARY / "libdeltat.a"), "libdeltat.a"], 30, cwd=later)
+    ran(["ar", "rs", "libdeltat.a", "told.o"], 30, cwd=later)
+    names = {**os.environ, "DELTAT_LIB_DIR": str(later), "CARGO_TARGET_DIR": f"{folder}/interfaces"}
+    it = ran(["cargo", "run", "--offline"], 200, cwd=user_of(folder), env=names)
+    if not it.stdout.startswith("libdeltat has interface 3, and this crate is for 2"):
+        print(f"interfaces: cargo ended with {it.returncode}: {it.stdout} {it.stderr[-600:]}")
+        right = False
     return right
 
 
@@ -331,7 +357,7 @@ def calls(folder: str) -> bool:
 
 
 TESTS: dict[str, Callable[[str], bool]] = {
-    it.__name__: it for it in (declared, crates, found, former, short, echo, calls)
+    it.__name__: it for it in (declared, crates, found, interfaces, short, echo, calls)
 }
 
 

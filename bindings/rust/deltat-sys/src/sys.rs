@@ -158,6 +158,9 @@ pub const DT_EVENT_REQUEST: u8 = 1;
 pub const DT_EVENT_ANSWERED: u8 = 2;
 /// it ended without: it was served once or not at all, or still will be: `call`, `user`, `cause`
 pub const DT_EVENT_UNSURE: u8 = 3;
+/// replies to requests of `flow` were given up: each was delivered once or not at all, and its caller gets no
+/// report. Reported again for this flow only after this event was taken
+pub const DT_EVENT_REPLY_UNCERTAIN: u8 = 4;
 
 // `enum dt_cause`
 /// octets of the request weren't acknowledged in time
@@ -481,7 +484,7 @@ pub struct dt_message {
     pub len: usize,
     /// messages of all flows above `longest` so far; stops at 2^64 - 1
     pub dropped_too_long: u64,
-    /// octets of the flow before this message may be missing
+    /// octets of the flow before this message are left out, or may be
     pub gap: bool,
 }
 
@@ -807,7 +810,7 @@ pub struct dt_event {
     /// what you passed to dt_service_call; 0 for a request
     pub user: u64,
     pub len: usize,
-    /// of a request; else 0
+    /// of a request, or of the requests of uncertain replies; else 0
     pub flow: dt_flow,
 }
 
@@ -877,28 +880,28 @@ impl Default for dt_call_counts {
     }
 }
 
-/// what is known of a network; a field that is 0 has its default
+/// what is known of a network, and wanted of it
 #[repr(C)]
-#[derive(Clone, Copy, Debug)]
+#[derive(Clone, Copy, Debug, PartialEq, Eq, Hash)]
 pub struct dt_network {
     pub size: u32,
-    /// links of the longest path: 1 to 256; default 1
+    /// links of the longest path: 1 to 256
     pub hops: u32,
-    /// longest delay of a link, with all queues, under load: 0 to 86,400,000; 0 is meant
-    pub delay_ms: f64,
-    /// a usual round trip from end to end: 0 to 86,400,000; 0 is meant
-    pub round_trip_ms: f64,
-    /// by how much a clock may run wrong, in parts per million: to 100,000; default 100
-    pub drift_ppm: f64,
-    /// transmissions of a segment: 1 to 1,000; default 5
+    /// longest delay of a link, with all queues, under load, in microseconds: at most a day
+    pub delay_us: u64,
+    /// a usual round trip from end to end: at most a day
+    pub round_trip_us: u64,
+    /// by how much a clock may run wrong, in parts per million: at most 100,000
+    pub drift_ppm: u32,
+    /// transmissions of a segment before it is given up: 1 to 1,000
     pub tries: u32,
-    /// least MTU of the links: 1 to 65,535; default 1,500
+    /// least MTU of the links: 59 to 65,535
     pub mtu: u32,
-    /// octets of a flow under way, or unread: 1 to 65,536; default 65,536
-    pub buffer: u32,
-    /// longest wait of a packet at a node before it leaves: 1 to 86,400,000; default 2
+    /// octets of a flow under way, or unread: 1 to 65,536
+    pub room: u32,
+    /// longest wait of a packet at a node before it leaves: at most a day
     pub wait_ms: u32,
-    /// resends of a lost packet while others wait on the shelf of a `deltat node`: 0 to 1,000; 0 is meant
+    /// resends of a lost packet while others wait on the shelf of a `deltat node`: at most 1,000
     pub shelf: u32,
 }
 
@@ -908,12 +911,12 @@ impl dt_network {
         Self {
             size: core::mem::size_of::<Self>() as u32,
             hops: 0,
-            delay_ms: 0.0,
-            round_trip_ms: 0.0,
-            drift_ppm: 0.0,
+            delay_us: 0,
+            round_trip_us: 0,
+            drift_ppm: 0,
             tries: 0,
             mtu: 0,
-            buffer: 0,
+            room: 0,
             wait_ms: 0,
             shelf: 0,
         }
@@ -1082,7 +1085,8 @@ extern "C" {
     pub fn dt_node_wake(node: *mut dt_node) -> u64;
 
     /// Enables dt_node_next_message, for messages of at most `longest` octets. A longer one is dropped and counted
-    /// in `dropped_too_long`; `gap` doesn't show it. The begun part of a message stays in memory.
+    /// in `dropped_too_long`, and the next message of its flow has `gap`. The begun part of a message stays in
+    /// memory.
     ///
     /// - `DT_OK`
     /// - `DT_EXISTS`: already enabled; nothing changed
@@ -1346,11 +1350,13 @@ extern "C" {
     /// Returns the version of the library: DELTAT_VERSION of the header that it was made with.
     pub fn dt_version() -> *const c_char;
 
-    /// Returns the name of a status as this header has it, as "DT_FULL". Another number: "unknown".
+    /// Returns the name of a status as this header has it, as "DT_FULL". Another number: "unknown status".
     pub fn dt_status_name(status: dt_status) -> *const c_char;
 
-    /// Returns the name of a kind of report as this header has it, as "DT_REPORT_ACCEPTED". Another number:
-    /// "unknown".
+    /// Returns the name of a fault, as "DT_FAULT_SHORT". Another number: "unknown fault".
+    pub fn dt_fault_name(fault: u8) -> *const c_char;
+
+    /// Returns the name of a kind of report, as "DT_REPORT_ACCEPTED". Another number: "unknown report".
     pub fn dt_report_name(kind: u8) -> *const c_char;
 
     /// Writes the line that the logs of `deltat node` have for a report of node `node` at `now`, as "120 2 accepted
@@ -1366,12 +1372,15 @@ extern "C" {
         room: usize,
     ) -> usize;
 
-    /// Computes the parameters for a network, and the charge of each of its links, as tools/params.py does.
-    /// `*charge` is 20 ms less than that tool's, which leaves room for a wait in the socket that isn't measured;
-    /// here duty 5 measures it. docs/parameters.md says what the numbers cost.
+    /// Computes the parameters for a network, and the charge of each of its links, as tools/params.py does;
+    /// docs/parameters.md says what the numbers cost. The charge has room for a wait of 20 ms in the receiver's
+    /// socket: a node that keeps duty 5 may have a charge of 20 less.
     ///
     /// - `DT_OK`: `params` (all of it but `size`) and `*charge` are set
-    /// - `DT_INVALID`: a field is out of range, `size` of either is wrong, or no parameters fit; nothing changed
+    /// - `DT_INVALID`: a field is out of range, or `size` of either struct is wrong; nothing changed
+    /// - `DT_NONE`: no parameters suit: a packet would live for more than a day; nothing changed
+    ///
+    /// Cost: a few steps for usual clocks.
     pub fn dt_params_for(
         network: *const dt_network,
         params: *mut dt_params,

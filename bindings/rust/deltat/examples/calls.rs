@@ -21,7 +21,8 @@ const TIMEOUT_MS: u32 = 10_000;
 fn open(node: u32, life: u32, port: u16, kind: PortKind) -> Result<Udp<Calls>, Box<dyn Error>> {
     let address = |name, usual| env::var(name).unwrap_or_else(|_| format!("127.0.0.1:{usual}"));
     let peer = Peer { node: 3 - node, link: 1, address: address("PEER", 4003 - node).parse()? };
-    let (params, charge) = Params::for_network(&Network { shelf: 2, ..Network::new(250.0, 50.0) })?;
+    let network = Network { shelf: 2, ..Network::new(250_000, 50_000) };
+    let (params, charge) = Params::for_network(&network)?;
     let links = [Link { number: peer.link, charge, pace: 0 }];
     let routes = [Route { to: peer.node, link: peer.link }];
     let start = Start::Again;
@@ -40,12 +41,18 @@ fn serve() -> Result<(), Box<dyn Error>> {
     loop {
         let at = udp.turn()?;
         while let Some(event) = udp.node.next_event(&mut buf)? {
-            if let Event::Request { token, len } = event {
-                buf[..len].reverse();
-                if let Err(why) = udp.node.reply(at, token, &buf[..len]) {
-                    eprintln!("calls: {why}");
-                    let _ = udp.node.forget(at, token);
+            match event {
+                Event::Request { token, len } => {
+                    buf[..len].reverse();
+                    if let Err(why) = udp.node.reply(at, token, &buf[..len]) {
+                        eprintln!("calls: {why}");
+                        let _ = udp.node.forget(at, token);
+                    }
                 }
+                Event::ReplyUncertain { flow } => {
+                    eprintln!("calls: a reply to {flow} is uncertain")
+                }
+                _ => (),
             }
         }
     }

@@ -24,13 +24,14 @@ fn open(node: u32, port: u16, start: Start) -> Result<Udp<Messages>, Box<dyn Err
     let address = |name, usual| env::var(name).unwrap_or_else(|_| format!("127.0.0.1:{usual}"));
     let peer = Peer { node: 3 - node, link: 1, address: address("PEER", 4003 - node).parse()? };
     // as `tools/params.py 250 50 --shelf 2` has them for all nodes
-    let (params, charge) = Params::for_network(&Network { shelf: 2, ..Network::new(250.0, 50.0) })?;
+    let network = Network { shelf: 2, ..Network::new(250_000, 50_000) };
+    let (params, charge) = Params::for_network(&network)?;
     let links = [Link { number: peer.link, charge, pace: 0 }];
     let routes = [Route { to: peer.node, link: peer.link }];
     let options = NodeOptions { node, now: now(), links: &links, routes: &routes, start };
     let mut it = Node::open(&params, &options)?;
     it.enable_messages(LONGEST)?;
-    // strangers can open no more than this
+    // datagrams for other ports are blocked, and strangers open 1,000 flows at most
     it.set_guard(Some(&[port]), 1000)?;
     Ok(Udp::bind(address("OWN", 4000 + node), it, &[peer])?)
 }

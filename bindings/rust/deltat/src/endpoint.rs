@@ -192,7 +192,7 @@ impl<K: Kind> Endpoint<K> {
     ///
     /// # Errors
     ///
-    /// `Malformed`, `Expired`, `Blocked`: the datagram was dropped, and the program goes on
+    /// `Malformed`, `Expired`, `Blocked`: the datagram was dropped, and the program continues
     /// ([`Error::is_dropped`]). `Invalid`: the node has no such link. `OutOfMemory`: done in part, and
     /// the node is stopped. `Stopped`.
     pub fn receive(

@@ -51,7 +51,7 @@ pub enum Error {
     /// The datagram's lifetime is over, and it was dropped. Only a count changed.
     Expired,
     /// The guard doesn't admit the datagram, which was dropped. Only a count changed. Strangers can
-    /// cause it at any time, so a program goes on.
+    /// cause it at any time, so a program continues.
     Blocked,
     /// Out of memory: octets of this flow that arrived are lost, and its next message has a gap. The
     /// node is usable.
@@ -73,7 +73,7 @@ pub enum Error {
 
 impl Error {
     /// Whether [`Endpoint::receive`](crate::Endpoint::receive) dropped the datagram, for a reason for
-    /// which the program isn't to blame: it goes on. `Malformed`, `Expired` and `Blocked`.
+    /// which the program isn't to blame: it continues. `Malformed`, `Expired` and `Blocked`.
     #[must_use]
     pub fn is_dropped(&self) -> bool {
         matches!(self, Error::Malformed { .. } | Error::Expired | Error::Blocked)
@@ -170,6 +170,8 @@ pub enum InvalidReason {
     Timeout,
     /// 2^62 octets would have been passed in.
     Total,
+    /// No parameters suit the network: a packet would live for more than a day.
+    Network,
     /// A reason that this crate doesn't know.
     Unknown(u8),
 }
@@ -205,6 +207,9 @@ impl fmt::Display for InvalidReason {
             }
             InvalidReason::Timeout => write!(f, "the timeout is 0 ms; it must be at least 1 ms"),
             InvalidReason::Total => write!(f, "2^62 octets would have been passed in"),
+            InvalidReason::Network => {
+                write!(f, "no parameters suit: a packet would live for more than a day")
+            }
             InvalidReason::Unknown(reason) => write!(f, "unexpected reason {reason}"),
         }
     }

@@ -8,7 +8,8 @@
 //! ([`Endpoint::receive`]), octets to send ([`Node::send`]) and the time; it takes out datagrams to
 //! put on the wire ([`Endpoint::next_datagram`]), messages ([`Node::next_message`]), reports
 //! ([`Node::next_report`]) and the time of the next call ([`Endpoint::wake`]). A [`Service`] makes
-//! and answers calls instead. What both do is in [`Endpoint`], of which they are two kinds.
+//! and answers calls instead. Both are kinds of [`Endpoint`], which has the calls that they share.
+//! [`Udp`] is an endpoint over a UDP socket, for programs without an event loop of their own.
 //!
 //! Times and durations are in milliseconds and lengths in octets, unless a name says something else.
 //!
@@ -34,11 +35,7 @@
 //! while let Some(datagram) = one.next_datagram(&mut buf)? {
 //!     two.receive(2, 1, &buf[..datagram.len], 0)?; // it arrived, and didn't wait
 //! }
-//! while let Some(report) = two.next_report()? {
-//!     if let Some(flow) = report.readable() {
-//!         two.mark_readable(flow)?;
-//!     }
-//! }
+//! two.take_reports(|report| println!("{}", report.line(2, 2)))?;
 //! let message = two.next_message(3, &mut buf)?.expect("it arrived whole");
 //! assert_eq!(&buf[..message.len], b"hello");
 //! # Ok(())
@@ -48,19 +45,20 @@
 //! # Duties of the caller
 //!
 //! The library can't check these. If one is broken, octets may be delivered twice, or be acknowledged
-//! without having been delivered, and no call says so. Memory and threads, the first two duties of
-//! include/deltat.h, are kept by this crate.
+//! without having been delivered, and no call says so. This crate keeps the first two duties of
+//! include/deltat.h, memory and threads. [`Udp`] keeps the clock and the wait, and the part of the
+//! delay that is on this machine.
 //!
-//! - **Clock.** The time comes from one clock that never steps back, runs at the right rate and keeps
+//! - **Clock.** Take the time from one clock that never steps back, runs at the right rate and keeps
 //!   counting while the machine sleeps: [`now`], and not [`std::time::Instant`].
 //! - **Delay.** No datagram is under way on a link for longer than the receiver's [`Link::charge`].
 //!   Put datagrams on the wire after each call, and drop one that is later than the charge allows.
-//! - **Wait.** [`Endpoint::receive`] is told at least how long the datagram waited on this machine. If
-//!   that is the time since the socket was last found empty, read the clock before each look at the
+//! - **Wait.** Pass at least the time that a datagram waited on this machine to [`Endpoint::receive`].
+//!   If that is the time since the socket was last found empty, read the clock before each look at the
 //!   socket, and note that reading if the look finds nothing.
-//! - **Intact datagrams.** A datagram that was changed on its way isn't passed in.
-//! - **Restart.** A node number that may have been used less than [`Params::quiet_ms`] ago is opened
-//!   with [`Start::Again`].
+//! - **Intact datagrams.** Don't pass in a datagram that was changed on its way.
+//! - **Restart.** Open a node number that may have been used less than [`Params::quiet_ms`] ago with
+//!   [`Start::Again`].
 //! - **One network.** All nodes have equal parameters, and no two nodes have the same number.
 //! - **Lives and ports**, of services: see [`Service`].
 //!
@@ -70,14 +68,14 @@
 //! in both processes, it would be two nodes with one number, which take each other's
 //! acknowledgements and answers. So in a child every call returns [`Error::OtherProcess`], and
 //! dropping the copy doesn't touch it. A child that needs a node opens one with a number of its own.
-//! Processes are told apart by their identifiers, at the cost of a `getpid` in each call.
+//! Each call compares the identifier of the process with that at the opening, which costs a `getpid`.
+//! A child that has its parent's identifier, in a new namespace of processes, isn't recognized.
 //!
 //! # What is proved
 //!
 //! What each call of libdeltat does is proved against its contract, and what the calls of all nodes
-//! of a network give together, under these duties (`docs/library.md` says how far). This crate, which
-//! makes those calls, is tested. With a node that ran out of memory in a call that takes the time,
-//! nothing can be done but to drop it and open it with [`Start::Again`].
+//! of a network give together, under these duties; docs/library.md says how far. This crate, which
+//! makes those calls, is tested.
 #![warn(missing_docs)]
 #![deny(unsafe_op_in_unsafe_fn)]
 

@@ -1,46 +1,46 @@
 //! Parameters computed for a network.
 use deltat_sys as sys;
 
-use crate::{Error, Params};
+use crate::{Error, InvalidReason, Params};
 
-/// What is known of a network, for [`Params::for_network`]. A field that is 0 has its default, but
-/// `delay_ms`, `round_trip_ms` and `shelf`, where 0 is meant. Write
-/// `Network { hops: 2, ..Network::new(250.0, 50.0) }`.
-#[derive(Clone, Copy, Debug, PartialEq)]
+/// What is known of a network, and wanted of it, for [`Params::for_network`]. Begin with
+/// [`Network::new`], as in `Network { hops: 2, ..Network::new(250_000, 50_000) }`.
+#[derive(Clone, Copy, Debug, PartialEq, Eq, Hash)]
 pub struct Network {
-    /// Longest delay of a link in ms, with all queues, under load: 0 to 86,400,000.
-    pub delay_ms: f64,
-    /// A usual round trip from end to end in ms: 0 to 86,400,000.
-    pub round_trip_ms: f64,
-    /// Links of the longest path: 1 to 256; default 1.
+    /// Links of the longest path: 1 to 256.
     pub hops: u32,
-    /// By how much a clock may run wrong, in parts per million: to 100,000; default 100.
-    pub drift_ppm: f64,
-    /// Transmissions of a segment: 1 to 1,000; default 5.
+    /// Longest delay of a link in microseconds, with all queues, under load: at most a day.
+    pub delay_us: u64,
+    /// A usual round trip from end to end in microseconds: at most a day.
+    pub round_trip_us: u64,
+    /// By how much a clock may run wrong, in parts per million: at most 100,000.
+    pub drift_ppm: u32,
+    /// Transmissions of a segment before it is given up: 1 to 1,000.
     pub tries: u32,
-    /// Least MTU of the links in octets: 1 to 65,535; default 1,500.
+    /// Least MTU of the links in octets: 59 to 65,535.
     pub mtu: u32,
-    /// Octets of a flow under way, or unread: 1 to 65,536; default 65,536.
-    pub buffer: u32,
-    /// Longest wait of a packet at a node before it leaves, in ms: 1 to 86,400,000; default 2.
+    /// Octets of a flow under way, or unread: 1 to 65,536.
+    pub room: u32,
+    /// Longest wait of a packet at a node before it leaves, in ms: at most a day.
     pub wait_ms: u32,
-    /// Resends of a lost packet while others wait on the shelf of a `deltat node`: 0 to 1,000.
+    /// Resends of a lost packet while others wait on the shelf of a `deltat node`: at most 1,000.
     pub shelf: u32,
 }
 
 impl Network {
-    /// A network with this longest delay of a link and this usual round trip, and defaults.
+    /// A network of one hop with usual values: clocks within 100 ppm, 5 transmissions, an MTU of 1,500,
+    /// the largest room, no relays and no shelf.
     #[must_use]
-    pub fn new(delay_ms: f64, round_trip_ms: f64) -> Network {
+    pub fn new(delay_us: u64, round_trip_us: u64) -> Network {
         Network {
-            delay_ms,
-            round_trip_ms,
-            hops: 0,
-            drift_ppm: 0.0,
-            tries: 0,
-            mtu: 0,
-            buffer: 0,
-            wait_ms: 0,
+            hops: 1,
+            delay_us,
+            round_trip_us,
+            drift_ppm: 100,
+            tries: 5,
+            mtu: 1500,
+            room: 65_536,
+            wait_ms: 2,
             shelf: 0,
         }
     }
@@ -48,39 +48,33 @@ impl Network {
 
 impl Params {
     /// The parameters for a network, and the charge of each of its links in ms, as `tools/params.py`
-    /// computes them. The charge is 20 ms less than that tool's, which leaves room for a wait in the
-    /// socket that isn't measured; here [`Endpoint::receive`](crate::Endpoint::receive) is told it.
+    /// computes them; docs/parameters.md says what the numbers cost. The charge has room for a wait of
+    /// 20 ms in the receiver's socket: a node that passes each wait to
+    /// [`Endpoint::receive`](crate::Endpoint::receive) may have a charge of 20 less.
     ///
     /// # Errors
     ///
-    /// `Invalid`: a field is out of its range, or no parameters fit.
+    /// `Invalid`: a field is out of its range, or (`Network`) no parameters suit.
     pub fn for_network(network: &Network) -> Result<(Params, u32), Error> {
-        let Network {
-            delay_ms,
-            round_trip_ms,
-            hops,
-            drift_ppm,
-            tries,
-            mtu,
-            buffer,
-            wait_ms,
-            shelf,
-        } = *network;
+        let Network { hops, delay_us, round_trip_us, drift_ppm, tries, mtu, room, wait_ms, shelf } =
+            *network;
         let known = sys::dt_network {
-            delay_ms,
-            round_trip_ms,
             hops,
+            delay_us,
+            round_trip_us,
             drift_ppm,
             tries,
             mtu,
-            buffer,
+            room,
             wait_ms,
             shelf,
             ..sys::dt_network::new()
         };
         let (mut params, mut charge) = (sys::dt_params::new(), 0);
         // SAFETY: structs of the header, which are borrowed for the call only.
-        Error::check(unsafe { sys::dt_params_for(&known, &mut params, &mut charge) })?;
-        Ok((Params::of_c(params), charge))
+        match unsafe { sys::dt_params_for(&known, &mut params, &mut charge) } {
+            sys::DT_NONE => Err(Error::Invalid { reason: InvalidReason::Network }),
+            status => Error::check(status).map(|()| (Params::of_c(params), charge)),
+        }
     }
 }

@@ -115,6 +115,12 @@ pub enum Event {
         /// Why it ended.
         cause: Cause,
     },
+    /// Replies to requests of a flow were given up: each was delivered once or not at all, and its
+    /// caller gets no report. Happens again for this flow only after this event was taken.
+    ReplyUncertain {
+        /// The flow of the requests.
+        flow: Flow,
+    },
     /// A kind of event that this crate doesn't know.
     Unknown(u8),
 }
@@ -130,6 +136,7 @@ impl Event {
             sys::DT_EVENT_UNSURE => {
                 Event::Unsure { call: it.call, user: it.user, cause: Cause::of_c(it.cause) }
             }
+            sys::DT_EVENT_REPLY_UNCERTAIN => Event::ReplyUncertain { flow: Flow::of_c(it.flow) },
             other => Event::Unknown(other),
         }
     }

@@ -134,8 +134,8 @@ pub struct Route {
     pub link: u16,
 }
 
-/// How a node starts. There is no default: a wrong `First` lets octets be delivered twice, and be
-/// acknowledged though they were dropped.
+/// How a node starts. There is no default: after a wrong `First` octets may be delivered twice, or be
+/// acknowledged without having been delivered.
 #[derive(Clone, Copy, Debug, PartialEq, Eq, Hash)]
 pub enum Start {
     /// The number was never used, or not for [`Params::quiet_ms`].

@@ -42,7 +42,7 @@ pub struct Peer {
 /// use deltat::{now, Link, Network, Node, NodeOptions, Params, Peer, Route, Start, Udp};
 ///
 /// # fn main() -> Result<(), Box<dyn std::error::Error>> {
-/// let (params, charge) = Params::for_network(&Network::new(250.0, 50.0))?;
+/// let (params, charge) = Params::for_network(&Network::new(250_000, 50_000))?;
 /// let (links, routes) = ([Link { number: 1, charge, pace: 0 }], [Route { to: 1, link: 1 }]);
 /// let start = Start::Again;
 /// let mut node = Node::open(&params, &NodeOptions { node: 2, now: now(), links: &links, routes: &routes, start })?;
@@ -164,14 +164,14 @@ impl<K: Kind> Udp<K> {
         let due = self.node.wake()?.map_or(SLICE_MS, |it| it.saturating_sub((self.clock)()));
         self.socket.set_nonblocking(false)?;
         self.socket.set_read_timeout(Some(Duration::from_millis(due.clamp(1, SLICE_MS))))?;
-        // an error that lasts comes again in `receive`
+        // if an error lasts, `receive` returns it
         let _ = self.socket.peek(&mut [0]);
         self.socket.set_nonblocking(true)
     }
 
     fn receive(&mut self) -> Result<()> {
         for _ in 0..BATCH {
-            // before the look: if the program is stopped behind it, this is too early and not too late
+            // before the look: if the program is stopped after it, this is too early, and not too late
             let looked_at = (self.clock)();
             let (len, from) = match self.socket.recv_from(&mut self.buf) {
                 Ok(it) => it,

@@ -210,9 +210,9 @@ fn parameters_out_of_range_are_named() {
 
 #[test]
 fn parameters_are_computed_for_a_network() {
-    // as `tools/params.py 250 50 --shelf 2` has them, with a charge that is 20 ms less
+    // as `tools/params.py 250 50 --shelf 2` has them
     let (params, charge) =
-        Params::for_network(&Network { shelf: 2, ..Network::new(250.0, 50.0) }).unwrap();
+        Params::for_network(&Network { shelf: 2, ..Network::new(250_000, 50_000) }).unwrap();
     let wanted = Params {
         mpl: 482,
         r: 450,
@@ -225,9 +225,13 @@ fn parameters_are_computed_for_a_network() {
         window: 65536,
         ..PARAMS
     };
-    assert_eq!((params, charge), (wanted, 274));
+    assert_eq!((params, charge), (wanted, 294));
     let unfit = Error::Invalid { reason: InvalidReason::Argument };
-    assert_eq!(Params::for_network(&Network::new(-1.0, 50.0)), Err(unfit));
+    let no_hops = Network { hops: 0, ..Network::new(250_000, 50_000) };
+    assert_eq!(Params::for_network(&no_hops), Err(unfit));
+    let too_long = Network::new(86_400_000_000, 50_000);
+    let none = Error::Invalid { reason: InvalidReason::Network };
+    assert_eq!(Params::for_network(&too_long), Err(none));
 }
 
 #[test]
