@@ -79,23 +79,35 @@ pub struct Udp<K: Kind> {
 
 impl<K: Kind> Udp<K> {
     /// Binds a socket for a node and its peers. A datagram for another node, which a relay passes on,
-    /// goes to the first peer on its link.
+    /// goes to the first peer on its link. Datagrams that the node made before are dropped; it resends
+    /// them.
     ///
     /// # Errors
     ///
     /// Those of the socket.
     pub fn bind(own: impl ToSocketAddrs, node: Endpoint<K>, peers: &[Peer]) -> Result<Udp<K>> {
-        Udp::with_clock(UdpSocket::bind(own)?, node, peers, now)
+        // before the binding: the socket was empty then
+        let empty_at = now();
+        Udp::with_clock(UdpSocket::bind(own)?, empty_at, node, peers, now)
+    }
+
+    /// As [`bind`](Udp::bind), over a socket that the program has bound: with a larger receive buffer, say,
+    /// which std can't set. Nobody knows how long what waits in it has waited, so that is dropped.
+    ///
+    /// # Errors
+    ///
+    /// Those of the socket.
+    pub fn with_socket(socket: UdpSocket, node: Endpoint<K>, peers: &[Peer]) -> Result<Udp<K>> {
+        Udp::with_clock(socket, 0, node, peers, now)
     }
 
     fn with_clock(
         socket: UdpSocket,
+        empty_at: u64,
         node: Endpoint<K>,
         peers: &[Peer],
         clock: fn() -> u64,
     ) -> Result<Udp<K>> {
-        // what arrived since the binding counts as having waited since then
-        let empty_at = clock();
         socket.set_nonblocking(true)?;
         let mut gateways = HashMap::new();
         for it in peers {
@@ -110,7 +122,8 @@ impl<K: Kind> Udp<K> {
             buf: vec![0; ROOM],
             clock,
             empty_at,
-            turned_at: empty_at,
+            // nobody knows when the node made what waits in it by now: that is dropped, and resent
+            turned_at: 0,
             not_sent: 0,
         })
     }
@@ -307,7 +320,8 @@ mod tests {
     fn udp() -> (Udp<Messages>, UdpSocket) {
         let (peer, address) = socket();
         let peers = [Peer { node: 1, link: 1, address }];
-        (Udp::with_clock(socket().0, node(2, 0), &peers, slow).unwrap(), peer)
+        let empty_at = slow();
+        (Udp::with_clock(socket().0, empty_at, node(2, 0), &peers, slow).unwrap(), peer)
     }
 
     fn datagram(node: &mut Node) -> Vec<u8> {
@@ -365,6 +379,19 @@ mod tests {
     }
 
     #[test]
+    fn what_waits_in_a_socket_of_the_programs_is_dropped() {
+        let ((peer, address), (own, to)) = (socket(), socket());
+        peer.send_to(&hello(), to).unwrap();
+        let peers = [Peer { node: 1, link: 1, address }];
+        let mut udp = Udp::with_socket(own, node(2, now()), &peers).unwrap();
+        udp.turn().unwrap();
+        assert_eq!(udp.node.counts().unwrap().datagrams_refused, 1);
+        peer.send_to(&hello(), to).unwrap();
+        udp.turn().unwrap();
+        assert_eq!(udp.node.counts().unwrap().octets_accepted, 5);
+    }
+
+    #[test]
     fn what_the_guard_blocks_does_not_end_the_program() {
         let (mut udp, peer) = udp();
         udp.node.set_guard(Some(&[21]), 1000).unwrap();
@@ -383,7 +410,7 @@ mod tests {
         let quiet = Params { mpl: 5, r: 20, a: 1, rto: 5, probe: 10, ..PARAMS };
         let node = Node::open(&quiet, &options).unwrap();
         let peers = [Peer { node: 1, link: 1, address }];
-        let mut udp = Udp::with_clock(socket().0, node, &peers, slow).unwrap();
+        let mut udp = Udp::with_clock(socket().0, now, node, &peers, slow).unwrap();
         let flow = Flow { source: 2, target: 1, source_port: 20, target_port: 10 };
         udp.send(flow, b"hello").unwrap();
         assert!(slow() >= now + quiet.quiet_ms().unwrap());
@@ -394,19 +421,22 @@ mod tests {
     #[test]
     fn what_is_late_is_not_sent() {
         let (mut udp, _peer) = udp();
+        let early = Flow { source: 2, target: 1, source_port: 20, target_port: 11 };
+        udp.node.send(slow(), early, b"before the first turn", true, true).unwrap();
         let at = udp.turn().unwrap();
+        assert_eq!(udp.not_sent(), 1);
         let flow = Flow { source: 2, target: 1, source_port: 20, target_port: 10 };
         udp.node.send(at, flow, b"hello", true, true).unwrap();
         TIME.with(|it| it.set(it.get() + LATE_MS));
         udp.flush().unwrap();
-        assert_eq!(udp.not_sent(), 1);
+        assert_eq!(udp.not_sent(), 2);
     }
 
     #[test]
     fn a_peer_on_a_link_that_is_not_the_nodes_is_an_error() {
         let (peer, address) = socket();
         let peers = [Peer { node: 1, link: 7, address }];
-        let mut udp = Udp::with_clock(socket().0, node(2, 0), &peers, slow).unwrap();
+        let mut udp = Udp::with_clock(socket().0, slow(), node(2, 0), &peers, slow).unwrap();
         peer.send_to(&hello(), udp.local_address().unwrap()).unwrap();
         let why = udp.turn().unwrap_err();
         assert_eq!(why.to_string(), "invalid argument: the node has no link with this number");
