@@ -97,6 +97,22 @@ fn a_request_that_is_forgotten_is_gone() {
 }
 
 #[test]
+fn a_reply_that_is_given_up_is_reported() {
+    let (mut client, mut server) = (service(1, &LIMITS), service(2, &LIMITS));
+    let call = client.call(1, FLOW, b"hello", 300, 0).unwrap();
+    carry(&mut client, &mut server, 5);
+    assert!(matches!(server.next_event(&mut [0; 9]), Ok(Some(Event::Request { .. }))));
+    server.reply(6, Token { call, flow: FLOW }, b"lost").unwrap();
+    let mut seen = None;
+    for at in (10..20_000).step_by(50) {
+        server.tick(at).unwrap();
+        while server.next_datagram(&mut [0; MAX_DATAGRAM]).unwrap().is_some() {}
+        seen = seen.or(server.next_event(&mut []).unwrap());
+    }
+    assert_eq!(seen, Some(Event::ReplyUncertain { flow: FLOW }));
+}
+
+#[test]
 fn errors_of_calls_pass_through_a_question_mark() {
     fn boxed() -> Result<(), Box<dyn std::error::Error>> {
         let mut client = service(1, &LIMITS);
