@@ -6,7 +6,7 @@
 clang, languages C99, C11 and C++17, all with -Wall -Wextra -Werror; each program runs bare, and those of C99 also under
 valgrind and with the address and undefined-behaviour sanitizers, where the machine has them:
 
-- layout.c: sizes and places of fields, by the compiler alone: crates/dt_c/src/rows.rt and service_rows.rt prove the same sizes.
+- layout.c: sizes and places of fields, by the compiler alone: crates/dt_c/src/c_structs.rt and service_structs.rt prove the same sizes.
 - exchange.c: two nodes, a message that comes whole, and each refusal.
 - messages.c: whole messages: with gaps, in parts, too long, for a buffer that is too small, of many flows.
 - each_failure.c: each request for memory fails in turn.
