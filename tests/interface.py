@@ -9,7 +9,6 @@ Usage: tests/interface.py [FOLDER], with libdeltat.a and libdeltat.so.2 in FOLDE
   a parameter that has another type.
 - The ctypes tables have the sizes and places of release/interface.py, and load the library. dt_status_name,
   dt_fault_name and dt_report_name give each constant's own name.
-- dt_params_for computes what tools/params.py computes, for random networks, or both refuse.
 - A program of interface 1 isn't linked, with libdeltat.a or with libdeltat.so, and the linker names its functions; one
   that is linked already doesn't start, with libdeltat.so.2 under its own name or under that of the older library; and
   the module for ctypes refuses a library of interface 1.
@@ -21,7 +20,6 @@ import ctypes
 import importlib
 import os
 import pathlib
-import random
 import re
 import shutil
 import subprocess
@@ -32,11 +30,9 @@ from collections.abc import Iterator
 from lib import TOP, skip
 
 sys.dont_write_bytecode = True
-sys.path[:0] = [str(TOP / "release"), str(TOP / "bindings" / "python"), str(TOP / "tools")]
+sys.path[:0] = [str(TOP / "release"), str(TOP / "bindings" / "python")]
 import interface  # noqa: E402
-from deltat_tools import parameters  # noqa: E402
 
-NETWORKS, SEED = 20_000, 1
 SONAME = f"libdeltat.so.{next(it.value for it in interface.header().constants if it.name == 'DT_ABI_VERSION')}"
 
 # what a program of interface 1 declared, as far as it is called here
@@ -127,71 +123,6 @@ def names(library: ctypes.CDLL) -> Iterator[Case]:
     yield "the library has the version of VERSION", version == (TOP / "VERSION").read_text().strip(), version
 
 
-def network(chance: random.Random) -> dict[str, int]:
-    """A network by chance, mostly of usual numbers."""
-    times = [0, 1, 300, 999, 1000, 2000, 20_000, 50_000, 250_000, 12_345_678]
-    it = {
-        "delay_us": chance.choice(times + [chance.randrange(10**6)] * 8),
-        "round_trip_us": chance.choice(times + [chance.randrange(10**6)] * 8),
-        "hops": chance.choice([1, 1, 1, 2, 3, 5]),
-        "drift_ppm": chance.choice([0, 20, 100, 100, 500, chance.randint(1, 1000)]),
-        "tries": chance.choice([1, 5, 5, 5, 20]),
-        "mtu": chance.choice([59, 576, 1280, 1500, 1500, 9000, 65_535]),
-        "room": chance.choice([1, 100, 4096, 65_536, 65_536]),
-        "wait_ms": chance.choice([0, 2, 2, 2, 50]),
-        "shelf": chance.choice([0, 0, 0, 2, 10]),
-    }
-    # one of four has a field at the end of its range, or beyond it
-    if chance.random() < 0.25:
-        name = chance.choice([*MOST])
-        it[name] = chance.choice([MOST[name], MOST[name] + 1, MOST[name] // 10])
-    if chance.random() < 0.02:
-        it["mtu"] = 58
-    return it
-
-
-MOST = {"delay_us": 86_400_000_000, "round_trip_us": 86_400_000_000, "hops": 256, "drift_ppm": 100_000, "tries": 1000, "mtu": 65_535,
-        "room": 65_536, "wait_ms": 86_400_000, "shelf": 1000}
-
-
-def by_tool(it: dict[str, int]) -> tuple[list[int], int] | None:
-    """What tools/params.py has for it: eleven numbers, and the charge."""
-    if any(it[name] > most for name, most in MOST.items()):
-        return None
-    hop = parameters.Hop(it["delay_us"] / 1000, it["wait_ms"], it["drift_ppm"])
-    wishes = parameters.Wishes(it["round_trip_us"] / 1000, it["tries"], it["mtu"], it["room"], it["shelf"])
-    try:
-        params = parameters.suited([[hop] * it["hops"]], wishes)
-    except parameters.Unsuited:
-        return None
-    numbers = [getattr(params, name) for name in (*parameters.RANGES, "start")]
-    return numbers, parameters.link_charge(hop, params)
-
-
-def by_library(library: ctypes.CDLL, tables: object, it: dict[str, int]) -> tuple[list[int], int] | None:
-    its, params, charge = tables.sized(tables.Network), tables.sized(tables.Params), ctypes.c_uint32(77)
-    for name, value in it.items():
-        setattr(its, name, value)
-    status = library.dt_params_for(ctypes.byref(its), ctypes.byref(params), ctypes.byref(charge))
-    if status != tables.Status.OK:
-        is_fit = all(value <= MOST[name] for name, value in it.items()) and it["mtu"] > 58
-        wanted = tables.Status.NONE if is_fit else tables.Status.INVALID
-        return None if status == wanted and charge.value == 77 and params.mpl == 0 else ([], 0)
-    assert library.dt_params_quiet_ms(ctypes.byref(params)) > 0
-    return [getattr(params, name) for name in (*parameters.RANGES, "start")], charge.value
-
-
-def computed(library: ctypes.CDLL, tables: object) -> Iterator[Case]:
-    chance, differ, refused = random.Random(SEED), [], 0
-    for _ in range(NETWORKS):
-        it = network(chance)
-        tool, own = by_tool(it), by_library(library, tables, it)
-        refused += tool is None
-        differ += [f"{it}: {tool}, and by the library {own}"] if tool != own else []
-    said = f"{NETWORKS} networks, {refused} refused; seed {SEED}"
-    yield "dt_params_for computes what tools/params.py does", not differ and NETWORKS // 10 < refused < NETWORKS, "; ".join([said, *differ[:2]])
-
-
 def former(folder: pathlib.Path, libraries: pathlib.Path, tables: object) -> Iterator[Case]:
     """What a program of interface 1 meets."""
     (folder / "former.c").write_text(FORMER)
@@ -266,7 +197,6 @@ def cases(libraries: pathlib.Path) -> Iterator[Case]:
     yield from copies()
     yield from layouts(tables)
     yield from names(library)
-    yield from computed(library, tables)
     with tempfile.TemporaryDirectory() as folder:
         yield from former(pathlib.Path(folder), libraries, tables)
         yield from installed(pathlib.Path(folder), libraries)
@@ -280,7 +210,7 @@ def main() -> int:
         skip("there is no compiler of C, or no make")
     failed = count = 0
     for name, good, more in cases(libraries):
-        print(f"{'ok' if good else 'FAILED'}: {name}{': ' + more if more and (not good or 'networks' in more) else ''}", flush=True)
+        print(f"{'ok' if good else 'FAILED'}: {name}{': ' + more if more and not good else ''}", flush=True)
         failed, count = failed + (not good), count + 1
     print(f"{count - failed} passed, {failed} failed")
     return 1 if failed else 0
