@@ -1,37 +1,118 @@
-/* deltat.h: a Delta-t node without a socket, a clock or a thread of its own.
+/* deltat.h - Delta-t nodes for C and C++, without sockets, clocks or threads. Interface version 2.
  *
- * The program feeds it datagrams, octets to send and the time; it takes datagrams to put on the wire, octets that
- * came, and the moment when to call again. What each function does is proved, but for the sizes and
- * alignments, which are the compiler's: a sentence of its contract stands beside it, and the contract itself in crates/dt_c.
- * What the program owes nothing checks:
+ * Delta-t carries messages over datagrams that may be lost, repeated, reordered or delayed. No
+ * octet is delivered twice, a flow's octets stay in order, and reports say which sent octets were
+ * acknowledged and which are uncertain. There is no handshake.
  *
+ * The library does no I/O. Your program passes in datagrams, messages to send and the time; it
+ * takes out datagrams to put on the wire, messages that arrived, and the time of the next call.
+ *
+ * Contents
+ *   1 Duties of the caller         5 Lifecycle     9 Limits: the guard
+ *   2 The loop of a program        6 Input        10 Counters
+ *   3 Status codes                 7 Output       11 Services: request and reply
+ *   4 Types                        8 Messages     12 Helpers: names, log lines, parameters
+ *
+ * What is proved. The contract of each function (crates/dt_c) is proved for all arguments, under
+ * duty 1. What the calls of several nodes give together is proved by the laws of
+ * crates/dt_network and crates/dt_service_laws, under all duties and the assumptions below them.
+ * Only tested: names and lines of section 12, dt_*_new, dt_*_free, sizes and alignments, that
+ * dt_*_close returns the memory, and that a call finds memory when there is some.
+ *
+ * ---- 1 DUTIES OF THE CALLER ----
+ *
+ * The library can't check these. If you break one of 3 to 10, octets may be delivered twice, or be
+ * acknowledged without having been delivered, or an answer may be another call's; no call will say
+ * so.
+ *
+ *  1. Memory. Get a handle from dt_node_new, or place it yourself: dt_node_size() octets of your
+ *     memory, aligned to dt_node_align() (a service: the dt_service_ functions), on which
+ *     dt_node_init is called once before any other call. Don't read, write, copy or move a handle,
+ *     and call dt_node_close before you release its memory. No pointer may be null, even if a
+ *     length is 0. A length is the number of elements at the pointer, and they take less than 2^63
+ *     octets. Nothing passed to a call may overlap what the call writes. A bool is 0 or 1. The
+ *     library allocates with rattle_alloc, rattle_realloc and rattle_dealloc (lib/heap.c: malloc,
+ *     realloc, free); link your own to replace them.
+ *  2. Threads. One call at a time per handle, from any thread; different handles may be used at the
+ *     same time if the allocator allows it. No call blocks or calls back. Make no call in a signal
+ *     handler, nor in the forked child of a process with threads. After any fork only one of the
+ *     two processes may keep using a handle: two copies are two nodes with one number (duty 8).
+ *  3. Clock. `now` is in milliseconds, from one clock that never steps back, runs at the right
+ *     rate and keeps counting while the machine sleeps (Linux: CLOCK_BOOTTIME, not
+ *     CLOCK_MONOTONIC). A `now` below an earlier one counts as the earlier one, and one above 2^62
+ *     as 2^62.
+ *  4. Link delay. No datagram is under way on a link for longer than the receiver's `charge` for
+ *     that link. Time counts from the call that made the datagram available to
+ *     dt_node_next_datagram, to the `now` that the receiver passes to dt_node_receive, less
+ *     `waited_ms`. So put datagrams on the wire after each call, and drop one that is later than
+ *     your charge allows (a drop is a loss, and losses are harmless). docs/premises.md says what a
+ *     charge is made of.
+ *  5. Wait on this machine. `waited_ms` is at least the time the datagram waited here before
+ *     dt_node_receive. Pass the lesser of two measures: (a) `now` less the time of the kernel's
+ *     stamp (SO_TIMESTAMPNS), rounded up; leave it out if the stamp lies in the future; (b) `now`
+ *     less the last time at which the socket was found empty. For (b) read the clock BEFORE each
+ *     recv, and keep that reading if the recv finds nothing: a program that is stopped between the
+ *     two then measures too much, and not too little. By (b) alone, a datagram that arrives while
+ *     you wait has waited since you began to; wait for 10 ms at most then. (a) is too small if the
+ *     wall clock is set back while the datagram waits; where that may happen, use (b) alone.
+ *  6. Intact datagrams. Don't pass in a datagram that was changed on its way. A wire that can
+ *     change one needs its own checksum or key.
+ *  7. Restart. Open a node number that may have been used less than dt_params_quiet_ms() ago with
+ *     DT_START_AGAIN.
+ *  8. One network. All nodes have equal parameters, and no two nodes have the same number.
+ *  9. Lives (services). No two openings of a node number, and no dt_service_set_life, use the same
+ *     life. Count it in a file that is written, and synced if the machine may crash, before the
+ *     first call; or draw it at random.
+ * 10. Ports (services). A port is a caller's or a service's for the whole of one life, and callers
+ *     call only service ports.
+ *
+ * The laws assume more than these duties. Outside the following they say nothing:
+ *   - The clocks of two nodes differ by a constant whole number of milliseconds, over restarts too.
+ *     Two machines round differently, and a clock that begins at a reboot begins anew. Charges are
+ *     made longer to pay for rounding and drift (docs/premises.md), but no law says that this
+ *     suffices.
+ *   - A link has the same number at both of its ends, and the parameters are equal including
+ *     `start`.
+ *   - Every opening of a node but its first uses DT_START_AGAIN, with the links it had before.
+ *   - Services: every node of the network is a service, and no route is added while one is open.
+ *
+ * ---- 2 THE LOOP OF A PROGRAM ----
+ *
+ *   uint8_t out[DT_MAX_DATAGRAM];                          every datagram fits
  *   for (;;) {
- *       struct dt_moment wake = dt_wake(node);        wait for the socket, at most until `wake`
- *       a datagram came: dt_arrive(node, now(), link, buf, len, waited);   none did: dt_tick(node, now());
- *       while ((r = dt_next_report(node)).status == DT_DONE)
- *           if (r.kind == DT_ACCEPTED || r.kind == DT_RELEASED) dt_hear(node, &r.flow);
- *       while ((m = dt_take(node, now(), buf, sizeof buf)).status == DT_DONE)     m.len octets of m.flow are a message
- *       while ((f = dt_next_frame(node, buf, sizeof buf)).status == DT_DONE)     send it on f.link, or to f.to
+ *       wake = dt_node_wake(node);                         DT_NEVER: nothing is due
+ *       wait for a datagram until `wake`, but for at least 1 ms
+ *       for (;;) {
+ *           looked_at = now();
+ *           if (!receive a datagram, without waiting) break;
+ *           at = now();
+ *           dt_node_receive(node, at, link, octets, len, the lesser of at - empty_at and
+ *                                                        at - stamp, rounded up: duty 5);
+ *           send_all();
+ *       }
+ *       empty_at = looked_at;                              and before the loop: now()
+ *       at = now();
+ *       if (dt_node_tick(node, at) != DT_OK) break;        out of memory: close, open again
+ *       while (dt_node_next_report(node, &report) == DT_OK)
+ *           if (report.kind == DT_REPORT_ACCEPTED ||
+ *               (report.kind == DT_REPORT_RECORD_RELEASED && !report.sending))
+ *               if (dt_node_mark_readable(node, &report.flow) == DT_NO_MEMORY)
+ *                   keep the flow, and mark it again before the next dt_node_next_message
+ *       do {
+ *           status = dt_node_next_message(node, at, buf, room, &message);
+ *           if (status == DT_OK) use message.len octets of buf
+ *           if (status == DT_BUFFER_TOO_SMALL) make buf message.len octets long
+ *           if (status == DT_LOST) a message of message.flow is lost: log it
+ *       } while (status == DT_OK || status == DT_BUFFER_TOO_SMALL || status == DT_LOST ||
+ *                status == DT_MORE);
+ *       if (status != DT_NONE) break;                      out of memory: close, open again
+ *       send_all();
  *   }
  *
- * What you owe
- *   memory   A handle lies in dt_size() octets of yours, aligned to dt_align(). dt_init first, once; from then on it
- *            is never read, written, copied or moved; dt_close before the memory goes. No pointer is null, not even
- *            where a length is 0; each length is that of the memory there, below 2^63; nothing that one call is given
- *            overlaps another thing that it writes; a bool is 0 or 1. The library takes more memory by rattle_alloc,
- *            rattle_realloc and rattle_dealloc, which lib/heap.c writes over malloc, realloc and free.
- *   threads  One call at a time for each handle, from any thread; different handles at the same time, where malloc
- *            allows that. No call blocks, and none calls back. None from a signal handler, and none in the forked
- *            child of a process with threads.
- *   time     `now` is in ms, of one clock that never goes back, goes at the right rate and GOES ON WHILE THE MACHINE
- *            SLEEPS (CLOCK_BOOTTIME, not CLOCK_MONOTONIC). A `now` below the greatest of an earlier event counts as
- *            that one, and one above 2^62 as 2^62.
- *   links    No datagram is under way on a link for longer than the link's charge, counted from the call after which
- *            dt_next_frame could hand it out. What it waited on this machine before dt_arrive is told as `waited`,
- *            rounded up: by SO_TIMESTAMPNS, or the time since the socket was last found empty. A datagram that was
- *            changed on its way is not handed in: a wire that can change one has a checksum or a key of its own.
- *   restart  A node number that may have been used less than dt_quiet() ms ago is opened with `again`.
- *   peers    All nodes have the same parameters but `start`, and different numbers.
+ *   send_all: while (dt_node_next_datagram(node, out, sizeof out, &datagram) == DT_OK)
+ *                 send datagram.len octets of out on datagram.link, or to node datagram.to;
+ *
+ * examples/echo.c and examples/counter.c are whole programs.
  */
 #ifndef DELTAT_H
 #define DELTAT_H
@@ -42,345 +123,733 @@
 extern "C" {
 #endif
 
-#define DT_ABI 1u
-#define DT_MOST_FRAME 8222u /* octets of a frame: no frame wants more room */
+/* The version of the library, as DELTAT_VERSION in text. dt_version() is that of the library that
+ * the program is linked to. */
+#define DELTAT_VERSION "0.1.1"
+#define DELTAT_VERSION_MAJOR 0
+#define DELTAT_VERSION_MINOR 1
+#define DELTAT_VERSION_PATCH 1
+
+/* The version of this interface. It rises when a program must be changed or compiled anew. */
+#define DT_ABI_VERSION 2u
+#define DT_MAX_DATAGRAM 8222u    /* octets; no datagram that leaves a node is longer */
+#define DT_MAX_PAYLOAD 65528u    /* octets; no request or reply is longer */
+#define DT_MAX_REPORT_LINE 128u  /* octets, the final 0 included; no line of a report is longer */
+#define DT_NEVER UINT64_MAX      /* from dt_*_wake: nothing is due */
+
+/* ---- 3 STATUS CODES ----
+ *
+ * Every function that can fail returns one of these, by itself or in the field `status` of its
+ * result. The comment at each function lists all that it can return, its cause, and what it leaves.
+ * Each function that takes a struct with `size` (section 4) can return DT_INVALID for it too. */
+
+typedef uint8_t dt_status;
+
+enum dt_status_code {
+    DT_OK = 0,
+    DT_NO_MEMORY = 1,         /* an allocation failed; see below */
+    DT_NOT_OPEN = 2,          /* the handle isn't open, or messages aren't enabled */
+    DT_INVALID = 3,           /* an argument is out of range, or a struct's `size` is wrong; nothing
+                                 changed but a count */
+    DT_EXISTS = 4,            /* already open, enabled, routed or set; nothing changed */
+    DT_NONE = 5,              /* there is nothing to return */
+    DT_BUFFER_TOO_SMALL = 6,  /* `len` octets are needed; what was to be returned waits */
+    DT_FULL = 7,              /* the octets don't fit into the flow's send buffer; none was taken */
+    DT_QUIET = 8,             /* the node is silent after its start; none was taken */
+    DT_STOPPED = 9,           /* an earlier call ran out of memory, or the service was stopped */
+    DT_MALFORMED = 11,        /* the datagram isn't valid; only a count changed */
+    DT_EXPIRED = 12,          /* the datagram's lifetime is over; only a count changed */
+    DT_BLOCKED = 13,          /* the guard doesn't admit the datagram; only a count changed */
+    DT_MORE = 14,             /* no message found yet; call again */
+    DT_LOST = 15,             /* out of memory: octets that arrived are lost; the node is usable */
+    DT_TOO_MANY_CALLS = 16,   /* max_calls are waiting or have an end that wasn't taken */
+    DT_LIFE_USED_UP = 17,     /* 2^32 calls were made in this life: call dt_service_set_life */
+    DT_GONE = 18              /* the request isn't open any more; nothing changed */
+};
+/* DT_NO_MEMORY of dt_node_tick, _receive, _send, _read and _next_message: the call was done in
+ * part, and from then on the node is stopped. Take the datagrams and reports that wait, close the
+ * handle, and open it with DT_START_AGAIN. The same holds of the functions of a service that take
+ * `now`. When another function returns DT_NO_MEMORY, nothing has changed and the node is usable.
+ *
+ * DT_FULL and DT_QUIET: whatever else was due at `now` was done. */
+
+enum dt_fault { /* why a datagram is DT_MALFORMED: the first test that failed; and its `value` */
+    DT_FAULT_SHORT = 1,    /* too few octets for a header: their number */
+    DT_FAULT_VERSION = 2,  /* unknown version: the version */
+    DT_FAULT_LENGTH = 3,   /* the length field is wrong: its value */
+    DT_FAULT_LIFETIME = 4, /* the lifetime is 0: 0 */
+    DT_FAULT_PROTOCOL = 5, /* another protocol: its number */
+    DT_FAULT_KIND = 6,     /* unknown kind of packet: the kind */
+    DT_FAULT_FLAGS = 7,    /* flags that this kind doesn't allow: the flags */
+    DT_FAULT_WINDOW = 8,   /* a window that this kind doesn't allow: the window */
+    DT_FAULT_SIZE = 9      /* a number of octets that this kind doesn't allow: the number */
+};
+
+/* ---- 4 TYPES ----
+ *
+ * Times are in milliseconds and sizes in octets.
+ *
+ * Structs that may grow begin with `size`: zero the struct and set `size` to its sizeof. A function
+ * that takes such a struct returns DT_INVALID, and changes nothing, if the size is wrong. A struct
+ * that you pass in has exactly the size of this header. A struct that a call fills has at least
+ * that: the call writes the fields of this header, and leaves `size`, reserved fields and what
+ * follows them as they were. It is filled when DT_OK is returned, and otherwise unchanged, unless
+ * the function says more. A later library that knows more fields will take the sizes of this header
+ * too. Other structs keep their layout. Reserved fields are 0. */
 
 typedef struct dt_node dt_node;
+typedef struct dt_service dt_service;
 
-enum dt_status {
-    DT_DONE = 0,
-    DT_NO_MEMORY = 1, /* of an event, dt_read and dt_take a first part was done, and the node is spent: what waits can
-                         still be taken, then it is closed and opened `again`. So it is of dt_call, dt_reply, dt_forget,
-                         dt_service_tick and dt_service_arrive, and the service is stopped. Of other calls nothing
-                         changed */
-    DT_CLOSED = 2,    /* the handle holds no node, or none with an inbox; nothing changed */
-    DT_REFUSED = 3,   /* an argument is out of its range; nothing changed */
-    DT_HELD = 4,      /* there is a node, an inbox or a route already; nothing changed */
-    DT_NOTHING = 5,   /* there is nothing to hand over */
-    DT_ROOM = 6,      /* the buffer is too small, and what was to go into it waits on */
-    DT_FULL = 7,      /* the octets don't fit, and weren't taken; what else was due is done */
-    DT_QUIET = 8,     /* the node is silent, and took none; what else was due is done */
-    DT_SPENT = 9,     /* an earlier call found no memory, or the service was stopped; nothing changed, but that dt_take
-                         looks for no message of that flow any more */
-    DT_BAD = 11,      /* the datagram doesn't read; nothing changed but a count */
-    DT_STALE = 12,    /* the datagram waited for all of its life, or longer; nothing changed but a count */
-    DT_KEPT_OUT = 13, /* the guard doesn't admit the datagram, which is lost and counted; nothing else changed */
-    DT_MORE = 14,     /* many flows were looked at, and none had a message; others may have one */
-    DT_LOST = 15,     /* there was no memory for octets of the flow that were read: they are lost, the node goes on */
-    DT_MANY = 16,     /* as many calls as may be wait or have ends that weren't taken; nothing changed */
-    DT_NUMBERS = 17,  /* each number of this life was used: dt_raise; nothing changed */
-    DT_GONE = 18      /* the token isn't open: it had its reply, was forgotten or is of a former life; nothing changed */
+/* One-way stream of octets from a port of one node to a port of another. The way back is another
+ * flow. */
+struct dt_flow {
+    uint32_t source, target;
+    uint16_t source_port, target_port;
 };
 
-enum dt_fault { /* the first test of a datagram that fails, and what `value` tells */
-    DT_SHORT = 1,    /* too few octets for a header: how many */
-    DT_VERSION = 2,  /* another version: which */
-    DT_LENGTH = 3,   /* another count of octets than it tells: the count that it tells */
-    DT_DEAD = 4,     /* its life is 0 */
-    DT_PROTOCOL = 5, /* another protocol: which */
-    DT_KIND = 6,     /* no such kind of packet: which */
-    DT_FLAGS = 7,    /* flags that the kind doesn't allow: which */
-    DT_WINDOW = 8,   /* a window that the kind doesn't allow: which */
-    DT_SIZE = 9      /* a count of octets that the kind doesn't allow: which */
-};
-
-/* Times are in ms, sizes in octets. */
+/* The parameters of a network, equal at all nodes. dt_params_for computes them. */
 struct dt_params {
-    uint32_t mpl;       /* the longest life of a packet: 2 to 86,400,000 */
-    uint32_t r;         /* how long a segment is sent again: 1 to 86,400,000 */
-    uint32_t a;         /* the longest delay of an acknowledgement: 1 to 86,400,000 */
+    uint32_t size;
+    uint32_t mpl;       /* longest lifetime of a packet: 2 to 86,400,000 */
+    uint32_t r;         /* from the first transmission to the last: 1 to 86,400,000 */
+    uint32_t a;         /* longest delay of an acknowledgement: 1 to 86,400,000 */
     uint32_t rto;       /* from one transmission to the next: 1 to 86,400,000 */
-    uint32_t probe;     /* from the last transmission to a rendezvous: 1 to 86,400,000, below 3 mpl + r + a */
-    uint32_t seg;       /* a segment: 1 to 8,192 */
-    uint32_t cap;       /* what a send record holds: 1 to 65,536 */
-    uint32_t rcap;      /* what may be unread: 1 to 65,536 */
-    uint32_t window;    /* the window of a new send record: 1 to 65,536 */
-    uint32_t run_limit; /* the quantum of a run of sequence numbers: 1 to 2,147,483,648 */
-    uint32_t start;     /* the number of a record's first octet: any */
+    uint32_t probe;     /* from the last transmission to a window probe: 1 to 86,400,000, and below
+                           3 mpl + r + a */
+    uint32_t seg;       /* most octets of a segment: 1 to 8,192 */
+    uint32_t cap;       /* send buffer of a flow: 1 to 65,536 */
+    uint32_t rcap;      /* receive buffer of a flow, its unread octets: 1 to 65,536 */
+    uint32_t window;    /* window of a new send record: 1 to 65,536 */
+    uint32_t run_limit; /* quantum of sequence numbers: 1 to 2,147,483,648; use the largest */
+    uint32_t start;     /* first sequence number of a send record: any */
 };
 
-/* How a node starts. `again`: its number may have been used not long ago, so it is silent for dt_quiet() ms. */
-struct dt_start { uint64_t now; uint32_t me; bool again; };
-/* A link on which packets leave, `pace` ms one after the other, and come, each paying `charge` ms of its life. */
-struct dt_link { uint32_t charge, pace; uint16_t link; };
-/* Packets to the node `to` leave on this link. */
-struct dt_route { uint32_t to; uint16_t link; };
-/* Octets that go from a port of a node to a port of another. The way back is another flow. */
-struct dt_flow { uint32_t from, to; uint16_t from_port, to_port; };
+/* A link of this node, in both directions. */
+struct dt_link {
+    uint32_t charge;   /* longest time under way; taken off the lifetime of what arrives */
+    uint32_t pace;     /* least time from one datagram that leaves to the next; 0: no limit */
+    uint16_t number;
+    uint16_t reserved;
+};
 
-struct dt_opened { uint32_t value; uint8_t status, field; };
-struct dt_came { uint32_t value; uint8_t status, fault; };
-struct dt_sent { uint64_t until; uint32_t free; uint8_t status; };
-struct dt_piece { size_t len; uint8_t status; bool begin, end, run; };
-struct dt_message { struct dt_flow flow; size_t len; uint64_t too_long; uint8_t status; bool gap; };
-struct dt_out { size_t len; uint32_t to; uint16_t link; uint8_t status; };
-struct dt_moment { uint64_t at; bool some; };
-struct dt_kept_out { uint64_t closed, crowded; };
-struct dt_fingerprint { uint64_t value; uint8_t status; };
-/* Datagrams that came and that were refused, frames that left; and octets of all flows, by what was told of them: TOOK,
- * SETTLED, UNCERTAIN, ACCEPTED, and those that were read. Each is 2^64 - 1 at most. */
-struct dt_counts { uint64_t came, refused, left, taken, settled, uncertain, accepted, read; uint8_t status; };
-/* The same octets of one flow, since it is followed. */
-struct dt_totals { uint64_t taken, settled, uncertain, accepted, read; uint8_t status; };
+/* Datagrams for node `to` leave on this link. */
+struct dt_route {
+    uint32_t to;
+    uint16_t link;
+};
 
-enum dt_kind { /* what a report tells, and its fields; the others are 0. Those with no flow are told so */
-    DT_TOOK = 1,         /* a send was taken: `count` octets */
-    DT_TOLD_QUIET = 2,   /* a send met quiet time, until `moment` */
-    DT_TOLD_FULL = 3,    /* a send didn't fit: `count` octets do */
-    DT_SENT = 4,         /* a segment went for the first time: `number` of its first octet, `count` octets, begin, end,
-                            `run`: it begins a data run */
-    DT_RESENT = 5,       /* a segment went again: the same */
-    DT_MET = 6,          /* a rendezvous went out: `number` */
-    DT_UNCERTAIN = 7,    /* `count` octets were given up: they may have come or not */
-    DT_RELEASED = 8,     /* a record was released: `sending`, the send record, or else the receive record */
-    DT_RENEWED = 9,      /* a send record began again */
-    DT_ACKED = 10,       /* an owed acknowledgement went out: `number`, `window` */
-    DT_REPLIED = 11,     /* a reply went out at once: the same */
-    DT_ACCEPTED = 12,    /* data was accepted, and can be read: `number`, `count` octets, `run`: what stood before it
-                            isn't known */
-    DT_DROPPED = 13,     /* a packet was dropped: `number` */
-    DT_CLOSING = 14,     /* no more data of a run follows: `number` after its last octet */
-    DT_SETTLED = 15,     /* an acknowledgement was used: `count` octets came, `window` */
-    DT_IGNORED = 16,     /* an acknowledgement changed nothing: `number`, `window` */
-    DT_MET_QUIET = 17,   /* a packet met quiet time, until `moment`; no flow */
-    DT_WAS_READ = 18,    /* a piece was read: begin, end, run */
-    DT_NOT_READ = 19,    /* a read found nothing */
-    DT_PUT = 20,         /* a packet left on the link `number` with a life of `count` ms; no flow */
-    DT_EXPIRED_IN = 21,  /* an arrival on the link `number` had no life left; no flow */
-    DT_EXPIRED_OUT = 22, /* a packet that waited for the link `number` had none; no flow */
-    DT_NO_ROUTE = 23,    /* no route names the node `number`; no flow */
-    DT_LINK_FULL = 24,   /* as many packets as may wait for the link `number` waited; no flow */
-    DT_UNREADABLE = 25   /* a packet came that doesn't read: `number` is a dt_fault, `count` its value; no flow */
+enum dt_start {         /* there is no default: 0 is DT_INVALID */
+    DT_START_FIRST = 1, /* the number was never used, or not for dt_params_quiet_ms() */
+    DT_START_AGAIN = 2  /* it may have been: the node is silent for that time from `now` */
+};
+
+struct dt_node_options {
+    uint32_t size;
+    uint32_t node;                 /* the number of this node */
+    uint64_t now;
+    const struct dt_link *links;   /* copied; the first of two with one number counts */
+    size_t link_count;
+    const struct dt_route *routes; /* copied; the first of two to one node counts; one over an
+                                      unknown link leads nowhere */
+    size_t route_count;
+    uint8_t start_as;              /* enum dt_start */
+};
+
+struct dt_open_result {
+    uint32_t value;   /* DT_INVALID by a parameter: its value */
+    dt_status status;
+    uint8_t field;    /* and its place in dt_params: 1 is mpl; 0: an option is wrong */
+};
+
+struct dt_receive_result {
+    uint32_t value; /* DT_MALFORMED: see enum dt_fault; else 0 */
+    dt_status status;
+    uint8_t fault;  /* DT_MALFORMED: enum dt_fault; else 0 */
+};
+
+struct dt_send_result {
+    uint64_t quiet_until; /* DT_QUIET: the time at which the silence ends; else 0 */
+    uint32_t free;        /* DT_FULL: how many octets fit now; else 0 */
+    dt_status status;
+};
+
+struct dt_read_result {
+    size_t len;
+    dt_status status;
+    bool begin, end; /* a message begins with the first octet; ends with the last */
+    bool gap;        /* octets of the flow before these may be missing */
+};
+
+struct dt_message {
+    uint32_t size;
+    struct dt_flow flow;
+    size_t len;
+    uint64_t dropped_too_long; /* messages of all flows above `longest` so far; stops at 2^64 - 1 */
+    bool gap;                  /* octets of the flow before this message are left out, or may be */
+};
+
+struct dt_datagram {
+    uint32_t size;
+    uint32_t to;   /* the node that it is for; with relays between, not the next one */
+    size_t len;
+    uint16_t link;
+};
+
+enum dt_report_kind { /* what a report says, and the fields it sets beside `flow`; others are 0 */
+    DT_REPORT_SEND_QUEUED = 1,      /* dt_node_send took `count` octets */
+    DT_REPORT_SEND_QUIET = 2,       /* dt_node_send met the silence, which ends at `time` */
+    DT_REPORT_SEND_FULL = 3,        /* dt_node_send found room for `count` octets only */
+    DT_REPORT_SEGMENT_SENT = 4,     /* first transmission: `number` of its first octet, `count`,
+                                       `begin`, `end`; `run`: nothing before it is outstanding */
+    DT_REPORT_SEGMENT_RESENT = 5,   /* later transmission; as above */
+    DT_REPORT_PROBE_SENT = 6,       /* a closed window was probed at `number` */
+    DT_REPORT_UNCERTAIN = 7,        /* `count` octets were given up: delivered once or not at all */
+    DT_REPORT_RECORD_RELEASED = 8,  /* the send record (`sending`) or the receive record is gone */
+    DT_REPORT_RECORD_RENEWED = 9,   /* the send record began again, for octets that wait */
+    DT_REPORT_ACK_SENT = 10,        /* an owed acknowledgement left: `number`, `window` */
+    DT_REPORT_REPLY_SENT = 11,      /* a packet was answered at once: `number`, `window` */
+    DT_REPORT_ACCEPTED = 12,        /* `count` octets from `number` on can be read; `run`: octets
+                                       before them may be missing */
+    DT_REPORT_PACKET_DROPPED = 13,  /* a packet of no use: `number` */
+    DT_REPORT_RUN_ENDED = 14,       /* the sender says that no more octets follow `number` */
+    DT_REPORT_ACKNOWLEDGED = 15,    /* `count` octets reached the other node; `window` */
+    DT_REPORT_ACK_IGNORED = 16,     /* an acknowledgement of no use: `number`, `window` */
+    DT_REPORT_PACKET_QUIET = 17,    /* a packet met the silence, which ends at `time`; no flow */
+    DT_REPORT_READ = 18,            /* octets were read: `begin`, `end`, `run` */
+    DT_REPORT_READ_NONE = 19,       /* a read found nothing */
+    DT_REPORT_PACKET_OUT = 20,      /* a packet left on link `number`, lifetime `count`; no flow */
+    DT_REPORT_EXPIRED_IN = 21,      /* a packet from link `number` had no lifetime left; no flow */
+    DT_REPORT_EXPIRED_OUT = 22,     /* a packet for link `number` had none left; no flow */
+    DT_REPORT_NO_ROUTE = 23,        /* there is no route to node `number`; no flow */
+    DT_REPORT_LINK_FULL = 24,       /* 64 packets wait for link `number`: it is lost; no flow */
+    DT_REPORT_PACKET_MALFORMED = 25 /* `number`: enum dt_fault, `count`: its value; no flow */
 };
 
 struct dt_report {
+    uint32_t size;
     struct dt_flow flow;
-    uint64_t moment;
+    uint64_t time;
     uint32_t number, count, window;
-    uint8_t status, kind;
+    uint8_t kind; /* enum dt_report_kind */
     bool begin, end, run, sending;
 };
 
-/* THE HANDLE */
-uint32_t dt_abi(void);   /* DT_ABI of the library: compare it with the header's */
-size_t dt_size(void);    /* how many octets a handle takes */
-size_t dt_align(void);   /* to how many it is aligned */
-void dt_init(dt_node *n);  /* on fresh memory: the handle holds no node */
-void dt_close(dt_node *n); /* frees what the node holds; the handle holds no node, and may be opened again */
+/* ---- 5 LIFECYCLE ---- */
 
-/* Makes the node of these parameters, start, links and routes, all of which are copied. DONE NO_MEMORY HELD; REFUSED,
- * exactly where a parameter is out of its range: `field` is the place of the first such one in dt_params, counted from
- * 0, and `value` what it has. Where a link or a node stands twice the first counts; a route by a link that isn't there
- * leads nowhere. */
-struct dt_opened dt_open(dt_node *n, const struct dt_params *p, const struct dt_start *start, const struct dt_link *links,
-                         size_t link_count, const struct dt_route *routes, size_t route_count);
+/* Returns the interface version of the library. Compare it with DT_ABI_VERSION first. */
+uint32_t dt_abi_version(void);
 
-/* From now on packets to the route's node leave on its link, as by a route of dt_open. DONE CLOSED SPENT; REFUSED: no
- * packets leave on this link; HELD: the node has a route; NO_MEMORY: nothing changed, and the node isn't spent. */
-uint8_t dt_add_route(dt_node *n, const struct dt_route *route);
+/* Returns the size of a node's handle. */
+size_t dt_node_size(void);
+/* Returns the alignment of a node's handle. */
+size_t dt_node_align(void);
 
-/* How long a node that is opened `again` is silent: 3 mpl + r + a; 0 exactly where a parameter is out of its range. */
-uint64_t dt_quiet(const struct dt_params *p);
+/* Makes fresh memory a handle that isn't open. */
+void dt_node_init(dt_node *node);
 
-/* A number of the parameters: two programs that hand it to each other see where theirs differ, since equal parameters
- * have equal ones, and it would take a search for two others to. It is the first eight octets of the SHA-256 digest of
- * the eleven numbers, each as four octets, the greatest first in both. DONE; REFUSED: a parameter is out of its range. */
-struct dt_fingerprint dt_fingerprint(const struct dt_params *p);
+/* Allocates a handle that isn't open. Null: out of memory. */
+dt_node *dt_node_new(void);
 
-/* EVENTS. Each is one event of the node's definition at `now`, and all that is due then is done; its frames wait for
- * dt_next_frame, after those that wait already. */
+/* Closes a handle of dt_node_new and releases its memory. Does nothing with a null pointer. */
+void dt_node_free(dt_node *node);
 
-/* What is due is done. DONE NO_MEMORY CLOSED SPENT */
-uint8_t dt_tick(dt_node *n, uint64_t now);
+/* Opens a node.
+ *   DT_OK
+ *   DT_NO_MEMORY  nothing changed
+ *   DT_EXISTS     the handle is open; nothing changed
+ *   DT_INVALID    a size, `start_as` or a reserved field is wrong (`field` is 0), or a parameter is
+ *                 out of range (`field`, `value`: the first such); nothing changed
+ * Cost: each link reserves room for 64 of the longest datagrams, about 526,000 octets. */
+struct dt_open_result dt_node_open(dt_node *node, const struct dt_params *params,
+                                   const struct dt_node_options *options);
 
-/* A datagram came on a link and waited so many ms here, which are taken off its life. DONE NO_MEMORY CLOSED SPENT;
- * KEPT_OUT: the guard doesn't admit it; REFUSED: no packets come on this link; BAD: its header doesn't read (`fault`,
- * `value`); STALE. dt_counts counts each that is refused so; nothing else of the node changes then. A header that reads
- * with a packet that doesn't is DONE, and is dropped. */
-struct dt_came dt_arrive(dt_node *n, uint64_t now, uint16_t link, const uint8_t *datagram, size_t len, uint32_t waited);
+/* Releases what the node holds. The handle isn't open then, and may be opened again. */
+void dt_node_close(dt_node *node);
 
-/* Octets are sent, all of them or none; the first begins a message where `begin` says so, and the last ends one where
- * `end` does. DONE NO_MEMORY CLOSED SPENT; REFUSED: the flow doesn't go from this node to another, or there are no
- * octets, or 2^62 would have been handed in; QUIET: silent until `until`; FULL: `free` octets fit. */
-struct dt_sent dt_send(dt_node *n, uint64_t now, const struct dt_flow *f, const uint8_t *octets, size_t len, bool begin, bool end);
+/* Adds a route. Routes can't be changed or removed while a node is open.
+ *   DT_OK
+ *   DT_NO_MEMORY  nothing changed; the node is usable
+ *   DT_NOT_OPEN
+ *   DT_STOPPED    nothing changed
+ *   DT_INVALID    there is no link with this number
+ *   DT_EXISTS     there is a route to this node */
+dt_status dt_node_add_route(dt_node *node, const struct dt_route *route);
 
-/* Unread octets are read, at most `room`, and not beyond the end of a message: the first `len` of the buffer. `begin`
- * and `end`: they begin a message, they end one; `run`: what stood before them isn't known. DONE NO_MEMORY CLOSED
- * SPENT; NOTHING: none is unread, and what was due is done; REFUSED: the flow doesn't go from another node to this
- * one; ROOM: `room` is 0. */
-struct dt_piece dt_read(dt_node *n, uint64_t now, const struct dt_flow *f, uint8_t *buf, size_t room);
+/* Returns how long a node that starts with DT_START_AGAIN is silent: 3 mpl + r + a. 0: a parameter
+ * is out of range, or `size` is wrong. */
+uint64_t dt_params_quiet_ms(const struct dt_params *params);
 
-/* MESSAGES, put together from what is read: each from its begin mark to its end mark, whole and once, those of a flow
- * in the order in which they were sent. Who takes the messages of a flow doesn't call dt_read for it. */
+/* Computes a number by which two programs can compare their parameters. Equal parameters give equal
+ * numbers. It is the first eight octets, most significant first, of the SHA-256 digest of the
+ * eleven parameters as 32-bit big-endian numbers. That different parameters give different numbers
+ * isn't proved.
+ *   DT_OK       `*fingerprint` is set
+ *   DT_INVALID  a parameter is out of range, or `size` is wrong; `*fingerprint` is 0 */
+dt_status dt_params_fingerprint(const struct dt_params *params, uint64_t *fingerprint);
 
-/* From now on messages of at most `longest` octets are put together; a longer one is dropped and counted. What has come
- * of a message that isn't whole lies in memory. DONE CLOSED HELD */
-uint8_t dt_inbox(dt_node *n, size_t longest);
+/* ---- 6 INPUT ----
+ *
+ * Each function here first does all that is due at `now`. Put the datagrams that it made on the
+ * wire. */
 
-/* Octets of this flow may be unread, so dt_take looks for a message of it. Call it at each report ACCEPTED, and at each
- * RELEASED, so that nothing is kept of a flow that has no receiver. It takes a look at each flow that was heard of and
- * isn't read to its end. DONE CLOSED; NO_MEMORY: nothing changed. */
-uint8_t dt_hear(dt_node *n, const struct dt_flow *f);
+/* Does what is due: resends, acknowledgements, timeouts.
+ *   DT_OK
+ *   DT_NO_MEMORY  done in part; the node is stopped
+ *   DT_NOT_OPEN
+ *   DT_STOPPED    nothing changed */
+dt_status dt_node_tick(dt_node *node, uint64_t now);
 
-/* A whole message of the first flow that was heard of and has one: the first `len` octets of the buffer, the rest of
- * which is as it was. `gap`: octets of the flow before it are lost, or may be. `too_long`: so many messages of all
- * flows were longer than `longest` since dt_inbox, 2^64 - 1 at most. Flows are read as by dt_read, and what is due at
- * `now` is done then. DONE CLOSED, and where it isn't DONE the buffer is as it was; NOTHING: no flow has one; ROOM: it
- * has `len` octets, and waits; LOST: the message of this flow is lost, and the next one has a gap; MORE: 65,537 flows
- * had none, and others may have one; NO_MEMORY SPENT: a flow can't be read, and dt_take looks at it no more, so the
- * next one answers NOTHING where no other flow was heard of. A message that waits for room is handed out all the same. */
-struct dt_message dt_take(dt_node *n, uint64_t now, uint8_t *buf, size_t room);
+/* Passes in a datagram that arrived on `link`. `waited_ms` (duty 5) is taken off its lifetime.
+ *   DT_OK         it was handled; a valid header with an invalid packet inside is dropped and
+ *                 reported
+ *   DT_NO_MEMORY  done in part; the node is stopped
+ *   DT_NOT_OPEN
+ *   DT_BLOCKED    the guard doesn't admit it; dt_node_get_blocked_counts counts it
+ *   DT_STOPPED    the node is stopped
+ *   DT_INVALID    there is no such link
+ *   DT_MALFORMED  the header isn't valid: `fault`, `value`
+ *   DT_EXPIRED    `waited_ms` is its whole lifetime or more
+ * The last four add one to `datagrams_refused` and change nothing else. */
+struct dt_receive_result dt_node_receive(dt_node *node, uint64_t now, uint16_t link,
+                                         const uint8_t *datagram, size_t len, uint32_t waited_ms);
 
-/* THE GUARD: what strangers may open. From now on the node receives at these ports, or at all ports where `all` is set,
- * and makes no receiver for a flow while `flows` of them have one; those that have one keep it. What comes for another
- * port, or of one flow too many, is lost before the node sees it. Acknowledgements always come. A node opens with all
- * ports and 2^32 - 1 flows. DONE CLOSED; NO_MEMORY: nothing changed. */
-uint8_t dt_guard(dt_node *n, const uint16_t *ports, size_t port_count, bool all, uint32_t flows);
+/* Sends octets: all of them or none. `begin`: the first one begins a message; `end`: the last one
+ * ends it. For a whole message set both.
+ *   DT_OK         the node has taken them; reports will say what becomes of them
+ *   DT_NO_MEMORY  they may have been taken; the node is stopped
+ *   DT_NOT_OPEN
+ *   DT_STOPPED    nothing changed
+ *   DT_INVALID    `flow` doesn't go from this node to another, `len` is 0, or 2^62 octets would
+ *                 have been passed in; nothing changed
+ *   DT_QUIET      the node is silent until `quiet_until`; none was taken
+ *   DT_FULL       only `free` octets fit; none was taken. More than `cap` octets never fit */
+struct dt_send_result dt_node_send(dt_node *node, uint64_t now, const struct dt_flow *flow,
+                                   const uint8_t *octets, size_t len, bool begin, bool end);
 
-/* How many datagrams the guard kept out since dt_open, 2^64 - 1 at most: for ports that aren't open, and of flows too
- * many. Nothing changes. */
-struct dt_kept_out dt_kept_out(dt_node *n);
+/* Reads unread octets of a flow, at most `room` and not beyond the end of a message. For programs
+ * that want octets as they arrive; don't mix it with dt_node_next_message on one flow. What the
+ * buffer holds after the first `len` octets isn't defined.
+ *   DT_OK         `len`, `begin`, `end`, `gap`
+ *   DT_NONE       nothing is unread
+ *   DT_NO_MEMORY  octets may have been read; the node is stopped
+ *   DT_NOT_OPEN
+ *   DT_STOPPED    nothing changed
+ *   DT_INVALID    `flow` doesn't go from another node to this one; nothing changed
+ *   DT_BUFFER_TOO_SMALL  `room` is 0; nothing changed */
+struct dt_read_result dt_node_read(dt_node *node, uint64_t now, const struct dt_flow *flow,
+                                   uint8_t *buf, size_t room);
 
-/* What the node counted since dt_open, without what the guard kept out. Nothing changes. DONE CLOSED */
-struct dt_counts dt_counts(dt_node *n);
+/* ---- 7 OUTPUT ---- */
 
-/* From now on what is told of the octets of this flow is counted, of one from this node or to it; one that is followed
- * already stays as it is. Flows are followed until dt_close, 64 octets each. DONE CLOSED; NO_MEMORY: nothing changed. */
-uint8_t dt_follow(dt_node *n, const struct dt_flow *flow);
+/* Takes the next datagram to put on the wire, into the first `len` octets of `buf`. With room for
+ * DT_MAX_DATAGRAM it always fits.
+ *   DT_OK                it is yours, and waits no more
+ *   DT_NONE              none waits
+ *   DT_BUFFER_TOO_SMALL  `len` octets are needed; it keeps waiting, and `out` is filled
+ *   DT_NOT_OPEN */
+dt_status dt_node_next_datagram(dt_node *node, uint8_t *buf, size_t room, struct dt_datagram *out);
 
-/* The octets of a flow, by what was told of them since it is followed. Nothing changes. DONE CLOSED; NOTHING: it isn't
- * followed. */
-struct dt_totals dt_totals(dt_node *n, const struct dt_flow *flow);
+/* Takes the next report, in the order in which things happened. Reports use memory until they are
+ * taken, so take them all in each round.
+ *   DT_OK  DT_NONE  DT_NOT_OPEN */
+dt_status dt_node_next_report(dt_node *node, struct dt_report *out);
 
-/* WHAT IS TO BE TAKEN, AND WHEN TO CALL AGAIN */
+/* Returns the time at which to call dt_node_tick next. DT_NEVER: nothing is due, or the node is
+ * stopped or not open. The time may be past on a node that was called so late that a segment can't
+ * be resent any more. Nothing is due then, so wait for 1 ms at least. */
+uint64_t dt_node_wake(dt_node *node);
 
-/* The first frame that waits, `len` octets at the head of the buffer, is for the node `to` and leaves on `link`; it
- * waits no more, and the rest of the buffer is as it was. DONE CLOSED; NOTHING: none waits; ROOM: `len` octets are
- * needed, and it goes on waiting. */
-struct dt_out dt_next_frame(dt_node *n, uint8_t *buf, size_t room);
+/* ---- 8 MESSAGES ----
+ *
+ * Whole messages, put together from what is read. Each that is returned has all octets from its
+ * begin mark to its end mark. The law of messages, each once and in order (dt_service_laws), is
+ * about reads that a program joins by these rules; that dt_node_next_message finds every message
+ * isn't proved. */
 
-/* The first report that waits, which waits no more. DONE CLOSED; NOTHING: none waits. Reports take memory until they
- * are taken. */
-struct dt_report dt_next_report(dt_node *n);
+/* Enables dt_node_next_message, for messages of at most `longest` octets. A longer one is dropped
+ * and counted in `dropped_too_long`, and the next message of its flow has `gap`. The begun part of
+ * a message stays in memory.
+ *   DT_OK
+ *   DT_EXISTS    already enabled; nothing changed
+ *   DT_NOT_OPEN */
+dt_status dt_node_enable_messages(dt_node *node, size_t longest);
 
-/* The least moment at which something is due: dt_tick then. None (`some` is false) where there is no such moment, the
- * node is spent or the handle holds none. Nothing changes. After a dt_tick it is past only of a node that was called so
- * late that a segment isn't sent again any more; nothing is due then, so let a loop wait for 1 ms at least. */
-struct dt_moment dt_wake(dt_node *n);
+/* Says that a flow may have unread octets. Call it for each DT_REPORT_ACCEPTED, and for each
+ * DT_REPORT_RECORD_RELEASED of a receive record, so that memory of a flow without a receiver is
+ * freed.
+ *   DT_OK
+ *   DT_NO_MEMORY  nothing changed: call it again, or messages of the flow may stay unread
+ *   DT_NOT_OPEN   or messages aren't enabled
+ * Cost: grows with the number of marked flows that aren't read to their end. */
+dt_status dt_node_mark_readable(dt_node *node, const struct dt_flow *flow);
 
-/* SERVICES: request and reply between nodes. A service is a node of its own kind, in a handle of its own kind, with the
- * duties above; dt_node calls aren't for it, and it has no plain ports. Each call below that has a `now` is one turn of the
- * definition: an event, or none where a token is forgotten, and then its end. What came for ports with a kind is read then,
- * in whole messages; requests are handed out and calls are answered; and each call whose octets were given up or whose
- * patience is over ends. What is refused isn't a turn, and changes nothing (a datagram: a count).
+/* Takes the next whole message of any marked flow, into the first `len` octets of `buf`; what
+ * follows them stays as it was. Messages of one flow are returned in the order in which they were
+ * sent. Does what is due at `now`. `gap` is true for the first message of a flow too: what was sent
+ * before it isn't known.
+ *   DT_OK                the message is yours
+ *   DT_NONE              no marked flow has one
+ *   DT_MORE              65,537 flows had none; others may: call again
+ *   DT_BUFFER_TOO_SMALL  it has `len` octets and waits: call again with room for them
+ *   DT_LOST              out of memory: octets of `flow` are lost, and its next message has `gap`;
+ *                        the node is usable: call again
+ *   DT_NO_MEMORY         the node is stopped
+ *   DT_STOPPED           as DT_NO_MEMORY; a message that waits for room can still be taken
+ *   DT_NOT_OPEN          or messages aren't enabled
+ * After DT_NO_MEMORY or DT_STOPPED the flow that couldn't be read is marked no more. Unless DT_OK
+ * is returned the buffer is unchanged. `out` is filled unless DT_NOT_OPEN is returned: what doesn't
+ * apply is 0, and `dropped_too_long` always applies.
+ * Cost: looks at marked flows one by one, and copies each octet three times. */
+dt_status dt_node_next_message(dt_node *node, uint64_t now, uint8_t *buf, size_t room,
+                               struct dt_message *out);
+
+/* ---- 9 LIMITS: THE GUARD ---- */
+
+/* Limits what strangers can open: from now on the node receives only at `ports` (`all`: at every
+ * port), and makes no receiver for a new flow while `max_flows` flows have one. A datagram for
+ * another port, or of one flow too many, is DT_BLOCKED before the node sees it. Flows that have a
+ * receiver keep it, and acknowledgements are always admitted. A node opens with all ports and
+ * 4,294,967,295 flows.
+ *   DT_OK
+ *   DT_NO_MEMORY  nothing changed
+ *   DT_NOT_OPEN */
+dt_status dt_node_set_guard(dt_node *node, const uint16_t *ports, size_t port_count, bool all,
+                            uint32_t max_flows);
+
+struct dt_blocked_counts {
+    uint64_t closed_port, too_many_flows;
+};
+
+/* Returns how many datagrams the guard blocked since the opening. Both stop at 2^64 - 1. */
+struct dt_blocked_counts dt_node_get_blocked_counts(dt_node *node);
+
+/* ---- 10 COUNTERS ----
+ *
+ * Counters change nothing, begin at 0, and stop at 2^64 - 1. */
+
+struct dt_node_counts { /* since the opening, without what the guard blocked */
+    uint32_t size;
+    uint32_t reserved;
+    uint64_t datagrams_in;        /* handled */
+    uint64_t datagrams_refused;   /* DT_INVALID, DT_MALFORMED, DT_EXPIRED or DT_STOPPED */
+    uint64_t datagrams_out;
+    uint64_t octets_queued;       /* all flows: taken by dt_node_send */
+    uint64_t octets_acknowledged; /* of these: reached the other node */
+    uint64_t octets_uncertain;    /* of these: given up */
+    uint64_t octets_accepted;     /* arrived, and could be read */
+    uint64_t octets_read;         /* of these: read */
+};
+
+struct dt_flow_counts { /* of one flow, since dt_node_count_flow */
+    uint32_t size;
+    uint32_t reserved;
+    uint64_t octets_queued, octets_acknowledged, octets_uncertain, octets_accepted, octets_read;
+};
+
+/* Gets the counters of a node.   DT_OK  DT_NOT_OPEN */
+dt_status dt_node_get_counts(dt_node *node, struct dt_node_counts *out);
+
+/* Starts counting the octets of a flow from or to this node, until the node closes. Does nothing if
+ * the flow is counted already.
+ *   DT_OK
+ *   DT_NO_MEMORY  nothing changed
+ *   DT_NOT_OPEN
+ * Cost: 64 octets a flow. */
+dt_status dt_node_count_flow(dt_node *node, const struct dt_flow *flow);
+
+/* Gets the counters of a flow.   DT_OK  DT_NOT_OPEN  DT_NONE: the flow isn't counted */
+dt_status dt_node_get_flow_counts(dt_node *node, const struct dt_flow *flow,
+                                  struct dt_flow_counts *out);
+
+/* ---- 11 SERVICES: REQUEST AND REPLY ----
+ *
+ * A service is a node that makes calls and answers them, in a handle of its own type. It has no
+ * plain messages, and dt_node functions aren't for it. Under the duties and assumptions of section
+ * 1 a request is handed out at most once, requests of a flow are handed out in the order in which
+ * they were made, an answer is the service's own answer to that very call, and a call ends at most
+ * once.
+ *
+ * Each function here that takes `now` reads what arrived, hands out requests, and ends calls that
+ * were answered, given up or timed out; all but dt_service_forget first do what is due at `now`. An
+ * argument or a datagram that is refused does none of this.
+ * Cost: grows with the number of calls that wait and of requests that are open.
  *
  *   for (;;) {
- *       struct dt_moment wake = dt_service_wake(s);       wait for the socket, at most until `wake`
- *       a datagram came: dt_service_arrive(s, now(), link, buf, len, waited);   none did: dt_service_tick(s, now());
- *       while ((e = dt_next_event(s, buf, sizeof buf)).status == DT_DONE)
- *           if (e.kind == DT_REQUEST) dt_reply(s, now(), &(struct dt_token){e.number, e.flow}, answer, len);   at once or later,
- *                                                                                                        in any order
- *       while ((f = dt_service_next_frame(s, buf, sizeof buf)).status == DT_DONE)    send it on f.link, or to f.to
+ *       wake = dt_service_wake(service);
+ *       wait for a datagram until `wake`, but for at least 1 ms
+ *       receive what arrived, as in section 2, by dt_service_receive
+ *       running = dt_service_tick(service, now()) == DT_OK;
+ *       while (dt_service_next_event(service, buf, DT_MAX_PAYLOAD, &event) == DT_OK) {
+ *           if (event.kind == DT_EVENT_REQUEST) {
+ *               struct dt_token token = {event.call, event.flow};
+ *               dt_service_reply(service, now(), &token, answer, answer_len);
+ *                                   now or later, in any order; DT_FULL: keep the token, try again
+ *           } else if (event.kind != DT_EVENT_REPLY_UNCERTAIN)
+ *               the call with event.user is over
+ *       }
+ *       send_all();
+ *       if (!running) break;        stopped: each call has had its event; close, open again
  *   }
  *
- * What you owe beside the duties above
- *   life     No two openings of a node number, and no dt_raise, have the same life: counted in a file that is written
- *            before the first call, or drawn. Else a late answer may be taken for the answer to another call.
- *   kinds    A port is a caller's or a service's in each life of its node, and callers call services alone. */
+ * In a buffer of DT_MAX_PAYLOAD octets every event fits. With a shorter one, DT_BUFFER_TOO_SMALL
+ * says in event.len how long it must be, and the event waits. */
 
-typedef struct dt_service dt_service;
+struct dt_service_options {
+    uint32_t size;
+    uint32_t life;                  /* duty 9 */
+    uint32_t max_calls;             /* calls that wait or have an end that wasn't taken */
+    uint32_t max_requests;          /* requests without a reply; also those that wait to be taken */
+    uint32_t max_requests_per_flow; /* requests of one flow without a reply */
+    /* at a limit of requests flows aren't read any more; nothing is dropped */
+};
 
-/* How a service starts: as dt_start, with a life; `calls`, how many calls may wait or have an end that wasn't taken;
- * `requests`, how many requests may be without a reply, and also how many may wait to be taken; `of_a_flow`, how many of one
- * flow may be without a reply. Where there is no room for a request its flow isn't read, and nothing is dropped. */
-struct dt_service_start { uint64_t now; uint32_t me, life, calls, requests, of_a_flow; bool again; };
-/* The name of a request: the flow on which it came and the number of its call, which is its life in the upper 32 bits and
- * a count in the lower. It may be stored, compared and logged. */
-struct dt_token { uint64_t number; struct dt_flow flow; };
+enum dt_port_kind { DT_PORT_CALLER = 1, DT_PORT_SERVICE = 2 };
 
-struct dt_made { uint64_t number, until; uint32_t free; uint8_t status, unfit; };
-struct dt_replied { uint32_t free; uint8_t status, unfit; };
-struct dt_event { uint64_t number; size_t len; struct dt_flow flow; uint8_t status, kind, cause; };
-/* How many messages were dropped: replies to calls of this life that have ended, and of other lives; at a caller with a
- * number that no call of this life has had yet or that waits on another flow, and at a service with a name that is open
- * (both are alarms: a life was used before); cut by a gap, a new beginning or the end of a receive record; above 65,536
- * octets; and below eight. Each is 2^64 - 1 at most. */
-struct dt_call_counts { uint64_t late, old, strange, reused, cut, too_long, too_short; uint8_t status; };
+/* The name of a request: its call's number (life in the upper 32 bits, count in the lower) and the
+ * flow that it arrived on. You may store, compare and log it. */
+struct dt_token {
+    uint64_t call;
+    struct dt_flow flow;
+};
 
-enum dt_port_kind { DT_CALLER = 1, DT_SERVICE = 2 };
+enum dt_invalid { /* why a call or a reply is DT_INVALID; 0: it isn't */
+    DT_INVALID_FLOW = 1,    /* the flow doesn't go from this node to another */
+    DT_INVALID_PORT = 2,    /* the flow doesn't come from a caller's port */
+    DT_INVALID_LENGTH = 3,  /* payload and 8 octets are more than `cap` or 65,536 */
+    DT_INVALID_TIMEOUT = 4, /* `timeout_ms` is 0 */
+    DT_INVALID_TOTAL = 5    /* 2^62 octets would have been passed in */
+};
+
+struct dt_call_result {
+    uint64_t call;        /* DT_OK: the number of the call; else 0 */
+    uint64_t quiet_until; /* DT_QUIET: the time at which the silence ends; else 0 */
+    uint32_t free;        /* DT_FULL: octets that fit now; a request needs 8 more; else 0 */
+    dt_status status;
+    uint8_t invalid;      /* DT_INVALID: enum dt_invalid; else 0 */
+};
+
+struct dt_reply_result {
+    uint32_t free;    /* DT_FULL: as in dt_call_result */
+    dt_status status;
+    uint8_t invalid;
+};
+
 enum dt_event_kind {
-    DT_REQUEST = 1,  /* a request was handed out, once: its token is `number` and `flow`, and `len` octets are its payload */
-    DT_ANSWERED = 2, /* the call `number` ended with its answer, `len` octets: its request was handed out once */
-    DT_UNSURE = 3    /* the call `number` ended without: it was served once or not at all, and may still be; `cause` */
-};
-enum dt_cause { DT_GIVEN_UP = 1, DT_PATIENCE = 2, DT_WAS_CLOSED = 3 };
-enum dt_unfit { /* why a call or a reply is REFUSED */
-    DT_BAD_FLOW = 1,     /* its flow doesn't go from this node to another */
-    DT_NOT_A_CALLER = 2, /* its flow doesn't go from a caller's port */
-    DT_TOO_LONG = 3,     /* its message, eight octets more, has more than `cap` octets or 65,536 */
-    DT_NO_PATIENCE = 4,  /* patience is 0 */
-    DT_TOO_MANY = 5      /* with it 2^62 octets would have been handed in */
+    DT_EVENT_REQUEST = 1,  /* answer it: `call`, `flow`, and `len` octets of payload */
+    DT_EVENT_ANSWERED = 2, /* your call ended with `len` octets of answer: `call`, `user` */
+    DT_EVENT_UNSURE = 3,   /* it ended without: it was served once or not at all, or still will be:
+                              `call`, `user`, `cause` */
+    DT_EVENT_REPLY_UNCERTAIN = 4 /* replies to requests of `flow` were given up: each was delivered
+                              once or not at all, and its caller gets no report. Reported again for
+                              this flow only after this event was taken */
 };
 
-size_t dt_service_size(void);          /* how many octets a handle of a service takes */
-size_t dt_service_align(void);         /* to how many it is aligned */
-void dt_service_init(dt_service *s);   /* on fresh memory: the handle holds no service */
-void dt_service_close(dt_service *s);  /* frees what the service holds, untold ends too; the handle may be opened again */
+enum dt_cause {
+    DT_CAUSE_GIVEN_UP = 1, /* octets of the request weren't acknowledged in time */
+    DT_CAUSE_TIMEOUT = 2,  /* no answer came within `timeout_ms` */
+    DT_CAUSE_STOPPED = 3   /* the service stopped */
+};
 
-/* Makes the service of these parameters, start, links and routes, all of which are copied; no port has a kind. As dt_open:
- * DONE NO_MEMORY HELD REFUSED. */
-struct dt_opened dt_service_open(dt_service *s, const struct dt_params *p, const struct dt_service_start *start,
-                                 const struct dt_link *links, size_t link_count, const struct dt_route *routes, size_t route_count);
+struct dt_event {
+    uint32_t size;
+    uint8_t kind;        /* enum dt_event_kind */
+    uint8_t cause;       /* enum dt_cause, else 0 */
+    uint64_t call;
+    uint64_t user;       /* what you passed to dt_service_call; 0 for a request */
+    size_t len;
+    struct dt_flow flow; /* of a request, or of the requests of uncertain replies; else 0 */
+};
 
-/* A port gets its kind, for good. What comes to a port without one isn't read. DONE CLOSED; HELD: it has one; REFUSED: there
- * is no such kind; NO_MEMORY: nothing changed. */
-uint8_t dt_port(dt_service *s, uint16_t port, uint8_t kind);
+struct dt_call_counts { /* messages that were dropped, by cause; each stops at 2^64 - 1 */
+    uint32_t size;
+    uint32_t reserved;
+    uint64_t late_replies;    /* to calls of this life that have ended */
+    uint64_t old_replies;     /* to calls of another life */
+    uint64_t unknown_replies; /* ALARM: to a call that this life hasn't made, or on another flow */
+    uint64_t reused_requests; /* ALARM: a request with the name of one that is open */
+    uint64_t cut;             /* incomplete: a gap, a new message or the receiver's end */
+    uint64_t too_long;        /* above 65,536 octets */
+    uint64_t too_short;       /* below 8 octets */
+    /* ALARM: a life was used before (duty 9), or two nodes have one number (duty 8). Without an
+       alarm neither is ruled out. */
+};
 
-/* A call: a request with this payload goes on a flow from a caller's port, and its end comes by dt_next_event, at the latest
- * in the first turn `patience` ms or more after `now`. DONE: it has `number`. QUIET: silent until `until`, and FULL: `free`
- * octets are free, eight of which the number takes; then nothing of it was taken, and what else was due is done. CLOSED MANY
- * NUMBERS SPENT; REFUSED: `unfit`. NO_MEMORY: the service is stopped, as by dt_service_stop; the call may have been made all
- * the same, so take it as unsure, and then dt_next_event tells its end too. */
-struct dt_made dt_call(dt_service *s, uint64_t now, const struct dt_flow *f, const uint8_t *payload, size_t len, uint32_t patience);
+/* Returns the size of a service's handle. */
+size_t dt_service_size(void);
+/* Returns the alignment of a service's handle. */
+size_t dt_service_align(void);
+/* Makes fresh memory a handle of a service that isn't open. */
+void dt_service_init(dt_service *service);
+/* Allocates a handle of a service that isn't open. Null: out of memory. */
+dt_service *dt_service_new(void);
+/* Closes a handle of dt_service_new and releases its memory. Does nothing with a null pointer. */
+void dt_service_free(dt_service *service);
+/* Releases what the service holds, events not yet taken included. The handle isn't open then, and
+ * may be opened again. */
+void dt_service_close(dt_service *service);
 
-/* The reply to a request, once. DONE: the node has it, and the token is open no more; FULL: `free` octets are free, as in
- * dt_call, what else was due is done, and the reply may be tried again. CLOSED GONE SPENT; REFUSED: `unfit`. NO_MEMORY: the
- * service is stopped, and the reply may have been sent. */
-struct dt_replied dt_reply(dt_service *s, uint64_t now, const struct dt_token *t, const uint8_t *payload, size_t len);
+/* Opens a service. No port has a kind yet. Returns as dt_node_open. */
+struct dt_open_result dt_service_open(dt_service *service, const struct dt_params *params,
+                                      const struct dt_node_options *options,
+                                      const struct dt_service_options *service_options);
 
-/* A request gets no reply: its token is open no more, and there is room for another. Beside this the turn reads what waits to be
- * read, and ends calls whose patience is over; what the node has to do at `now` waits for a call that does it, as
- * dt_service_tick. DONE CLOSED GONE; NO_MEMORY: the service is stopped. */
-uint8_t dt_forget(dt_service *s, uint64_t now, const struct dt_token *t);
+/* Makes a port a caller's or a service's, until the service is closed. Messages for a port
+ * without a kind aren't read.
+ *   DT_OK
+ *   DT_NO_MEMORY  nothing changed
+ *   DT_NOT_OPEN
+ *   DT_INVALID    there is no such kind
+ *   DT_EXISTS     the port has a kind */
+dt_status dt_service_set_port(dt_service *service, uint16_t port, uint8_t kind);
 
-/* What happened, in its order and each once: `len` octets at the head of the buffer, the rest of which is as it was; a flow is
- * told of a request alone. It is no turn. After NO_MEMORY and dt_service_stop it hands out what was told, and then that each
- * call that waited is UNSURE, WAS_CLOSED. DONE CLOSED; NOTHING: nothing was told; ROOM: `len` octets are needed, and it goes
- * on waiting. */
-struct dt_event dt_next_event(dt_service *s, uint8_t *buf, size_t room);
+/* Makes a call on a flow from a caller's port. It ends, by an event with `user`, in the first call
+ * with a `now` of `timeout_ms` or more after this one, at the latest.
+ *   DT_OK              `call` is its number
+ *   DT_NO_MEMORY       the service is stopped. The call may have been made, so take it as unsure;
+ *                      if it was, an event says so
+ *   DT_NOT_OPEN
+ *   DT_STOPPED         nothing changed
+ *   DT_INVALID         `invalid` says why; nothing changed
+ *   DT_TOO_MANY_CALLS  nothing changed
+ *   DT_LIFE_USED_UP    nothing changed
+ *   DT_QUIET           the node is silent until `quiet_until`; nothing was sent
+ *   DT_FULL            the flow has `free` octets left; nothing was sent */
+struct dt_call_result dt_service_call(dt_service *service, uint64_t now, const struct dt_flow *flow,
+                                      const uint8_t *payload, size_t len, uint32_t timeout_ms,
+                                      uint64_t user);
 
-/* From now on calls have numbers of this life, from 0 on; what waits goes on waiting by its own number. DONE CLOSED; HELD: it
- * is the life of the service, or of a call that waits. */
-uint8_t dt_raise(dt_service *s, uint32_t life);
+/* Replies to a request, once.
+ *   DT_OK         the node has taken the reply, and the request is closed
+ *   DT_NO_MEMORY  the service is stopped, and the reply may have been sent
+ *   DT_NOT_OPEN
+ *   DT_STOPPED    nothing changed
+ *   DT_INVALID    `invalid` says why; nothing changed
+ *   DT_GONE       it has a reply, was forgotten, or is of an earlier life
+ *   DT_FULL       the flow has `free` octets left: try again later; the request stays open */
+struct dt_reply_result dt_service_reply(dt_service *service, uint64_t now,
+                                        const struct dt_token *token, const uint8_t *payload,
+                                        size_t len);
 
-/* What was dropped. Nothing changes. DONE CLOSED */
-struct dt_call_counts dt_call_counts(dt_service *s);
+/* Closes a request without a reply, so that there is room for another. Its caller becomes unsure.
+ * Does not do what the node has due; dt_service_tick does.
+ *   DT_OK
+ *   DT_NO_MEMORY  the service is stopped
+ *   DT_NOT_OPEN
+ *   DT_GONE       as dt_service_reply, or the service is stopped */
+dt_status dt_service_forget(dt_service *service, uint64_t now, const struct dt_token *token);
 
-/* Each call that waits is unsure, all else but what wasn't taken is forgotten, and no turn is done any more. It takes no
- * memory. DONE CLOSED */
-uint8_t dt_service_stop(dt_service *s);
+/* Takes the next event, in the order in which they happened, each once, with its payload in the
+ * first `len` octets of `buf`; what follows them stays as it was. Does no other work. After the
+ * service has stopped it returns the events that wait, and then DT_EVENT_UNSURE for each call that
+ * waited, with DT_CAUSE_STOPPED.
+ *   DT_OK
+ *   DT_NONE
+ *   DT_BUFFER_TOO_SMALL  `len` octets are needed; this event, and those after it, wait. Of `out`
+ *                        only `len` is set, all else is 0
+ *   DT_NOT_OPEN */
+dt_status dt_service_next_event(dt_service *service, uint8_t *buf, size_t room,
+                                struct dt_event *out);
 
-/* As dt_tick, dt_arrive, dt_next_frame, dt_wake, dt_add_route, dt_guard, dt_kept_out and dt_counts, of a service. A tick and
- * a datagram are SPENT where an earlier call found no memory or the service was stopped, and where they find no memory the
- * service is stopped. The wake has the least end of a patience too, and a service that was stopped has none. */
-uint8_t dt_service_tick(dt_service *s, uint64_t now);
-struct dt_came dt_service_arrive(dt_service *s, uint64_t now, uint16_t link, const uint8_t *datagram, size_t len, uint32_t waited);
-struct dt_out dt_service_next_frame(dt_service *s, uint8_t *buf, size_t room);
-struct dt_moment dt_service_wake(dt_service *s);
-uint8_t dt_service_add_route(dt_service *s, const struct dt_route *route);
-uint8_t dt_service_guard(dt_service *s, const uint16_t *ports, size_t port_count, bool all, uint32_t flows);
-struct dt_kept_out dt_service_kept_out(dt_service *s);
-struct dt_counts dt_service_counts(dt_service *s);
+/* Numbers the calls from now on in this life, from 0. Calls that wait keep their numbers.
+ *   DT_OK
+ *   DT_NOT_OPEN
+ *   DT_EXISTS    it is the present life, or that of a call that waits; nothing changed */
+dt_status dt_service_set_life(dt_service *service, uint32_t life);
+
+/* Gets the counters of dropped messages.   DT_OK  DT_NOT_OPEN */
+dt_status dt_service_get_call_counts(dt_service *service, struct dt_call_counts *out);
+
+/* Stops the service: each call that waits becomes unsure, requests are forgotten, and what isn't
+ * taken yet can be taken. Takes no memory.   DT_OK  DT_NOT_OPEN */
+dt_status dt_service_stop(dt_service *service);
+
+/* As dt_node_tick; when it returns DT_NO_MEMORY the service is stopped. */
+dt_status dt_service_tick(dt_service *service, uint64_t now);
+
+/* As dt_node_receive; when it returns DT_NO_MEMORY the service is stopped. A stopped service
+ * doesn't count datagrams. */
+struct dt_receive_result dt_service_receive(dt_service *service, uint64_t now, uint16_t link,
+                                            const uint8_t *datagram, size_t len,
+                                            uint32_t waited_ms);
+
+/* As dt_node_next_datagram. */
+dt_status dt_service_next_datagram(dt_service *service, uint8_t *buf, size_t room,
+                                   struct dt_datagram *out);
+
+/* As dt_node_wake, timeouts of calls included. DT_NEVER once the service is stopped. */
+uint64_t dt_service_wake(dt_service *service);
+
+/* As dt_node_add_route. Returns DT_STOPPED after a lack of memory only, not after
+ * dt_service_stop. */
+dt_status dt_service_add_route(dt_service *service, const struct dt_route *route);
+
+/* As dt_node_set_guard. */
+dt_status dt_service_set_guard(dt_service *service, const uint16_t *ports, size_t port_count,
+                               bool all, uint32_t max_flows);
+
+/* As dt_node_get_blocked_counts. */
+struct dt_blocked_counts dt_service_get_blocked_counts(dt_service *service);
+
+/* As dt_node_get_counts. */
+dt_status dt_service_get_counts(dt_service *service, struct dt_node_counts *out);
+
+/* ---- 12 HELPERS: NAMES, LOG LINES, PARAMETERS ----
+ *
+ * None needs a handle, allocates or reads a clock; what they return as text is constant.
+ * dt_params_for is proved, the others are plain C (lib/). */
+
+/* Returns the version of the library: DELTAT_VERSION of the header that it was made with. */
+const char *dt_version(void);
+
+/* Returns the name of a status as this header has it, as "DT_FULL". Another number: "unknown
+ * status". */
+const char *dt_status_name(dt_status status);
+
+/* Returns the name of a fault, as "DT_FAULT_SHORT". Another number: "unknown fault". */
+const char *dt_fault_name(uint8_t fault);
+
+/* Returns the name of a kind of report, as "DT_REPORT_ACCEPTED". Another number: "unknown
+ * report". */
+const char *dt_report_name(uint8_t kind);
+
+/* Writes the line that the logs of `deltat node` have for a report of node `node` at `now`, as
+ * "120 2 accepted 1:10>2:20 0 5 run", without a line feed and with a 0 at its end. Returns how many
+ * octets the line has without the 0. If `room` isn't more than that, the line is cut; in
+ * DT_MAX_REPORT_LINE octets each fits. docs/formats.md describes the lines. That of DT_REPORT_READ
+ * ends in a blank: a log has the octets that were read behind it, in hexadecimal. */
+size_t dt_report_line(const struct dt_report *report, uint64_t now, uint32_t node, char *buf,
+                      size_t room);
+
+struct dt_network {         /* what is known of a network, and wanted of it */
+    uint32_t size;
+    uint32_t hops;          /* links of the longest path: 1 to 256 */
+    uint64_t delay_us;      /* longest delay of a link, with all queues, under load, in microseconds:
+                               at most a day */
+    uint64_t round_trip_us; /* a usual round trip from end to end: at most a day */
+    uint32_t drift_ppm;     /* by how much a clock may run wrong, in parts per million: at most
+                               100,000 */
+    uint32_t tries;         /* transmissions of a segment before it is given up: 1 to 1,000 */
+    uint32_t mtu;           /* least MTU of the links: 59 to 65,535 */
+    uint32_t room;          /* octets of a flow under way, or unread: 1 to 65,536 */
+    uint32_t wait_ms;       /* longest wait of a packet at a node before it leaves: at most a day */
+    uint32_t shelf;         /* resends of a lost packet while others wait on the shelf of a
+                               `deltat node`: at most 1,000 */
+};
+
+/* Initializes a struct dt_network of one hop with usual values: clocks within 100 ppm, 5
+ * transmissions, an MTU of 1,500, the largest room, no relays and no shelf. */
+#define DT_NETWORK(delay_us, round_trip_us) \
+    { sizeof(struct dt_network), 1, (delay_us), (round_trip_us), 100, 5, 1500, 65536, 2, 0 }
+
+/* Computes the parameters for a network, and the charge of each of its links, as tools/params.py
+ * does; docs/parameters.md says what the numbers cost. The charge has room for a wait of 20 ms in
+ * the receiver's socket: a node that keeps duty 5 may have a charge of 20 less.
+ *   DT_OK       `params` (all of it but `size`) and `*charge` are set
+ *   DT_INVALID  a field is out of range, or `size` of either struct is wrong; nothing changed
+ *   DT_NONE     no parameters suit: a packet would live for more than a day; nothing changed
+ * Cost: a few steps for usual clocks. */
+dt_status dt_params_for(const struct dt_network *network, struct dt_params *params,
+                        uint32_t *charge);
 
 #ifdef __cplusplus
 }

@@ -1,16 +1,8 @@
-/* The three functions through which libdeltat takes memory, over malloc. A program with an allocator of its own, or a
-   firmware with an arena, writes such a file in its place: blocks are aligned to 16, and `ok` is false where there is
-   no memory. */
-#include <stdbool.h>
-#include <stddef.h>
-#include <stdint.h>
+/* The functions by which libdeltat allocates, over malloc. A program with an allocator of its own, or a firmware with an
+   arena, links such a file in its place: blocks are aligned to 16, and `ok` is false if there is no memory. */
+#include "memory.h"
+
 #include <stdlib.h>
-
-struct tried { bool ok; uint8_t *p; };
-
-struct tried rattle_alloc(size_t size, size_t align);
-struct tried rattle_realloc(uint8_t *p, size_t kept, size_t size, size_t align);
-void rattle_dealloc(uint8_t *p);
 
 static struct tried tried(void *p) {
     struct tried t = {p != NULL, (uint8_t *)p};

@@ -19,7 +19,7 @@ import tempfile
 
 from lib import TOP, skip, tell
 
-LIBRARY = TOP / "lib" / "libdeltat.so.0"
+LIBRARY = TOP / "lib" / "libdeltat.so.2"
 if not LIBRARY.exists():
     skip(f"{LIBRARY} isn't there: make -C lib")
 os.environ["DELTAT_LIBRARY"] = str(LIBRARY)

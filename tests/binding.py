@@ -1,6 +1,6 @@
 #!/usr/bin/env python3
 """The Python binding over libdeltat, in memory and over sockets of this machine.
-`tests/binding.py [LIBRARY] [TEST ..]`; LIBRARY is lib/libdeltat.so.0 where none is named. Ends with 1 where one of
+`tests/binding.py [LIBRARY] [TEST ..]`; LIBRARY is lib/libdeltat.so.2 where none is named. Ends with 1 where one of
 these fails, and with 77 where there is no library:
 
 - refusals: what is out of range, too long, for no one or too early is refused by its own exception, and nothing is sent.
@@ -16,7 +16,7 @@ these fails, and with 77 where there is no library:
 - asynchronous: in a loop of asyncio a service answers four clients' messages over such a link, a sender waits for room
   while its messages aren't read, and who waits when it is closed is told.
 - services: a service of two ports answers 30 calls over such a link, each once; a call that nobody replies to is unsure;
-  100 calls at once in a loop of asyncio are answered, and one that waits when it is closed is unsure.
+  a service is told of a reply to a client that is away; 100 calls at once in a loop of asyncio are answered, and one that waits when it is closed is unsure.
 - examples: examples/echo.py asks itself, and examples/echo.c, which is compiled first, at the ports that they name; and
   tools/dtcat.py asks examples/counter.py and examples/counter.c.
 
@@ -39,7 +39,7 @@ import time
 
 from lib import HOST, PROGRAM, TOP, Between, bound, free_port, skip
 
-LIBRARY = TOP / "lib" / "libdeltat.so.0"
+LIBRARY = TOP / "lib" / "libdeltat.so.2"
 named = [it for it in sys.argv[1:2] if it.endswith(".so") or ".so." in it]
 os.environ["DELTAT_LIBRARY"] = os.path.abspath(named[0]) if named else str(LIBRARY)
 if not os.path.exists(os.environ["DELTAT_LIBRARY"]):
@@ -444,6 +444,21 @@ async def calls_at_once(link: Between, payloads: list[bytes]) -> bool:
     return answers == [it[::-1] for it in payloads] and isinstance(told, deltat_service.Unsure) and told.cause is deltat_service.Cause.CLOSED
 
 
+def reply_given_up(link: Between) -> bool:
+    """Whether a service is told the flow of a request whose client went away before the reply."""
+    flow = deltat.Flow(1, 10, 2, 20)
+    service = service_of(2, {20: deltat_service.Kind.SERVICE})
+    with deltat.Udp(service, (HOST, link.nodes[1]), {1: (HOST, link.port(2))}) as udp:
+        calls = deltat_service.Calls(udp)
+        calls.on(20)(lambda request: request.payload)
+        client = service_of(1, {10: deltat_service.Kind.CALLER})
+        with deltat.Udp(client, (HOST, link.nodes[0]), {2: (HOST, link.port(1))}) as asks:
+            client.call(flow, b"and away", 10_000)
+            asks.flush(deltat.now())
+        calls.run((PARAMS.mpl + PARAMS.r + PARAMS.a) / 1000 + 3)
+        return calls.uncertain == {flow}
+
+
 def services() -> bool:
     chance = random.Random(11)
     payloads = [b"%d " % it + bytes(it * 37 % 2000) for it in range(100)]
@@ -454,6 +469,8 @@ def services() -> bool:
         right = calls_in_turn(link, payloads[:30])
         serving.join()
         right = served == [*payloads[:30], b"silent"] and right
+    with Between(lambda number, octets: 1) as link:
+        right = reply_given_up(link) and right
     with Between(lambda number, octets: chance.choices([0, 1, 2], [10, 75, 15])[0]) as link:
         return asyncio.run(calls_at_once(link, payloads)) and right
 

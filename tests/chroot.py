@@ -58,7 +58,7 @@ find / -xdev -path /root -prune -o -path /proc -prune -o -name '*deltat*' -print
 # the service of examples/ in C, compiled by the pkg-config file, and a client in Python that asks it
 COMPILED = """cd /root/copy
 cc -std=gnu11 -O2 examples/echo.c $(pkg-config --cflags --libs deltat) -o /root/echo
-ldconfig -p | grep -q libdeltat.so.0
+ldconfig -p | grep -q libdeltat.so.2
 timeout 30 /root/echo &
 sleep 1
 python3 examples/echo.py ask hello world

@@ -381,7 +381,7 @@ def main() -> int:
     given = reads.parse_args()
     if not os.access(given.program, os.X_OK):
         skip(f"there is no program {given.program}: ./build")
-    if not given.library.exists() or not LIBRARY.with_name("libdeltat.so.0").exists():
+    if not given.library.exists() or not LIBRARY.with_name("libdeltat.so.2").exists():
         skip(f"{given.library} isn't there: make -C lib")
     statuses: collections.Counter[int] = collections.Counter()
     words: collections.Counter[str] = collections.Counter()

@@ -4,13 +4,16 @@
 `tests/library.py [ARCHIVE] [--datagrams N]` takes the archive at that path; with no word it is the one that
 `./build --only dt_c` leaves in crates/dt_c/out, which it builds where there is none. The header is compiled alone too. Compilers are gcc and
 clang, languages C99, C11 and C++17, all with -Wall -Wextra -Werror; each program runs bare, and those of C99 also under
-valgrind and with the address and undefined-behaviour sanitizers, where the machine has them:
+valgrind and with the address and undefined-behaviour sanitizers, where the machine has them. The C files of lib/ are compiled by each compiler with these warnings, and linked:
 
-- layout.c: sizes and places of fields, by the compiler alone: crates/dt_c/src/rows.rt and service_rows.rt prove the same sizes.
-- exchange.c: two nodes, a message that comes whole, and each refusal.
+- layout.c: sizes and places of fields, by the compiler alone, as release/interface.py has them of the header; crates/dt_c
+  proves the same sizes.
+- exchange.c: two nodes, a message that comes whole, each refusal, wrong sizes of structs, and the calls of plain C.
 - messages.c: whole messages: with gaps, in parts, too long, for a buffer that is too small, of many flows.
 - each_failure.c: each request for memory fails in turn.
 - services.c: calls and replies, each of their answers, and each request for memory fails in turn.
+- handles.cpp: deltat.hpp, as C++17 and C++20, and without exceptions and RTTI; and the two programs of docs/library.md,
+  examples/hello.c and hello.cpp, of 25 lines at most.
 - strangers.c: N random datagrams (1,000,000), after which the node takes as much memory as before, and some thousand
   flows from one peer; a million flows at a guard that lets a thousand in; and 200,000 that come and go, each with half a
   message for an inbox. In C99 alone.
@@ -33,6 +36,9 @@ HERE = TOP / "tests" / "library"
 ARCHIVE = TOP / "crates" / "dt_c" / "out" / "libdt_c.a"
 WARNINGS = ("-Wall", "-Wextra", "-Werror", "-pedantic")
 SECONDS = 300
+# the plain C of the library, and each compiler of C with that of C++ beside it
+SOURCES = sorted((TOP / "lib").glob("*.c"))
+CPLUS = {"gcc": "g++", "clang": "clang++"}
 
 
 class Language(NamedTuple):
@@ -102,6 +108,12 @@ def compiled(driver: str, language: Language, sources: Sequence[pathlib.Path], o
     return [driver, *language.words, *WARNINGS, "-O1", "-gdwarf-4", f"-I{TOP / 'include'}", *as_what, *sources, "-x", "none", *more, "-o", out]
 
 
+def members(driver: str, folder: pathlib.Path, without_heap: bool = False) -> list[pathlib.Path]:
+    """What the C files of lib/ were compiled to for programs of a compiler."""
+    for_c = next(it for it in CPLUS if driver in (it, CPLUS[it]))
+    return [folder / f"{it.stem}-{for_c}.o" for it in SOURCES if not (without_heap and it.stem == "heap")]
+
+
 def ways() -> Iterator[tuple[str, Language]]:
     """Each compiler that is there, with each language that it takes."""
     for language in LANGUAGES:
@@ -114,9 +126,8 @@ def try_program(tally: Tally, program: Program, driver: str, language: Language,
     """Compiles a program in one way, and runs it bare, and in C99 with what looks at its memory."""
     what = f"{program.file}, {driver}, {language.name}"
     name = f"{program.file}-{driver}-{language.name}"
-    heap = folder / f"heap-{driver}.o"
     built = folder / name
-    linked = [library] if program.has_heap else [heap, library]
+    linked = [*members(driver, folder, without_heap=program.has_heap), library]
     if not tally.run(what, compiled(driver, language, [HERE / program.file], built, linked)):
         return
     tally.run(what, [built])
@@ -130,11 +141,40 @@ def try_program(tally: Tally, program: Program, driver: str, language: Language,
         tally.run(f"{what}, sanitizers", [sanitized])
 
 
+# C++ as deltat.hpp is compiled
+DIALECTS = (("-std=c++17", "-fsanitize=address,undefined"), ("-std=c++20",), ("-std=c++17", "-fno-exceptions", "-fno-rtti"))
+
+
+def try_handles(tally: Tally, driver: str, library: pathlib.Path, folder: pathlib.Path) -> None:
+    """The header for C++, by a compiler of C++."""
+    linked = [*members(driver, folder), library]
+    for words in DIALECTS:
+        for source in (HERE / "handles.cpp", TOP / "examples" / "hello.cpp"):
+            what, built = f"{source.name}, {driver} {' '.join(words)}", folder / f"{source.stem}-{driver}"
+            command = [driver, *words, *WARNINGS, "-Wconversion", "-O1", f"-I{TOP / 'include'}", source, *linked, "-o", built]
+            if tally.run(what, command):
+                tally.run(what, [built])
+
+
+def try_hello(tally: Tally, driver: str, library: pathlib.Path, folder: pathlib.Path) -> None:
+    """The shortest program in C."""
+    built = folder / f"hello-{driver}"
+    language = Language("C11", ("-std=c11",), (driver,))
+    if tally.run(f"hello.c, {driver}", compiled(driver, language, [TOP / "examples" / "hello.c"], built, [*members(driver, folder), library])):
+        tally.run(f"hello.c, {driver}", [built])
+
+
+def is_short(path: pathlib.Path) -> bool:
+    """Whether a program has at most 25 lines, none of them above 120 columns."""
+    lines = path.read_text().splitlines()
+    return len(lines) <= 25 and all(len(it) <= 120 for it in lines)
+
+
 def try_strangers(tally: Tally, driver: str, count: int, library: pathlib.Path, folder: pathlib.Path) -> None:
     """Random datagrams, bare, under valgrind and with the sanitizers, and many flows."""
     language = Language("C99", ("-std=gnu99",), (driver,))
-    heap, bare, sanitized = folder / f"heap-{driver}.o", folder / "strangers", folder / "strangers-sanitized"
-    if not tally.run("strangers.c", compiled(driver, language, [HERE / "strangers.c"], bare, [heap, library])):
+    linked, bare, sanitized = [*members(driver, folder), library], folder / "strangers", folder / "strangers-sanitized"
+    if not tally.run("strangers.c", compiled(driver, language, [HERE / "strangers.c"], bare, linked)):
         return
     few = ["datagrams", str(FEW_DATAGRAMS)]
     tally.run("random datagrams", [bare, "datagrams", str(count)], SECONDS + count // 10_000, tells=True)
@@ -144,7 +184,7 @@ def try_strangers(tally: Tally, driver: str, count: int, library: pathlib.Path, 
     if shutil.which("valgrind") is not None:
         tally.run("random datagrams, valgrind", ["valgrind", "--quiet", "--error-exitcode=9", "--leak-check=full", bare, *few])
     flags = ["-fsanitize=address,undefined", "-fno-sanitize-recover=all"]
-    if tally.run("strangers.c, sanitizers", compiled(driver, language, [HERE / "strangers.c"], sanitized, [*flags, heap, library])):
+    if tally.run("strangers.c, sanitizers", compiled(driver, language, [HERE / "strangers.c"], sanitized, [*flags, *linked])):
         tally.run("random datagrams, sanitizers", [sanitized, *few])
 
 
@@ -159,18 +199,22 @@ def main() -> int:
     tally = Tally()
     with tempfile.TemporaryDirectory() as name:
         folder = pathlib.Path(name)
-        (folder / "alone.c").write_text('#include "deltat.h"\ntypedef struct dt_came came;\n')
-        for driver in ("gcc", "clang"):
-            for_cplus = {"gcc": "g++", "clang": "clang++"}[driver]
-            if shutil.which(driver) is not None:
-                heap = folder / f"heap-{driver}.o"
-                tally.run(f"heap.c, {driver}", [driver, "-std=c99", *WARNINGS, "-gdwarf-4", "-c", TOP / "lib" / "heap.c", "-o", heap])
-                if heap.exists():
-                    shutil.copy(heap, folder / f"heap-{for_cplus}.o")
+        (folder / "alone.c").write_text('#include "deltat.h"\ntypedef struct dt_report report;\n')
+        for driver in (it for it in CPLUS if shutil.which(it)):
+            for source in SOURCES:
+                made = folder / f"{source.stem}-{driver}.o"
+                command = [driver, "-std=c99", *WARNINGS, "-gdwarf-4", f"-I{TOP / 'include'}", "-c", source, "-o", made]
+                tally.run(f"{source.name}, {driver}", command)
         for driver, language in ways():
             tally.run(f"deltat.h, {driver}, {language.name}", compiled(driver, language, [folder / "alone.c"], folder / "alone.o", ["-c"]))
             for program in PROGRAMS:
                 try_program(tally, program, driver, language, library, folder)
+        for driver in (it for it in CPLUS if shutil.which(it)):
+            try_hello(tally, driver, library, folder)
+            if shutil.which(CPLUS[driver]):
+                try_handles(tally, CPLUS[driver], library, folder)
+        for name in ("hello.c", "hello.cpp"):
+            tally.run(f"{name} is short", ["true" if is_short(TOP / "examples" / name) else "false"])
         try_strangers(tally, next(ways())[0], given.datagrams, library, folder)
     print(f"{tally.passed} passed, {tally.failed} failed")
     return 1 if tally.failed else 0

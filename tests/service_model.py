@@ -9,6 +9,7 @@ answered by a tuple that begins with a word, and what a turn tells is a list of 
     ("made", number)    ("declined", "numbers" | "many" | "quiet" | "full"[, until or free])    ("refused",)
     ("done",)    ("gone",)    ("full", free)
     ("request", Token, payload)    ("answered", number, payload)    ("unsure", number, "given up" | "patience" | "closed")
+    ("doubtful", Flow), of a reply that was given up: the flow of its request
 
 `judged(node, events)` is the judge: the list of what each event of a list told.
 
@@ -156,7 +157,7 @@ class Node:
             return ("refused",)
         if self.count == MOST_COUNT:
             return ("declined", "numbers")
-        if len(self.waiting) + sum(it[0] != "request" for it in self.queue) >= self.limits.most_waiting:
+        if len(self.waiting) + sum(it[0] in ("answered", "unsure") for it in self.queue) >= self.limits.most_waiting:
             return ("declined", "many")
         number = number_of(self.life, self.count)
         sent = self.station.send(self.now, flow, message_of(number, payload))
@@ -254,6 +255,7 @@ class Node:
                 self._count_off(flow, count)
             elif word == "uncertain":
                 doubted |= self._count_off(flow, count)
+                self._doubt_reply(flow)
             elif word == "accepted":
                 self.records.add(flow)
                 if flow.target_port in self.kinds:
@@ -261,6 +263,13 @@ class Node:
             elif word == "released":
                 self.records.discard(flow)
         return doubted
+
+    def _doubt_reply(self, flow: Flow) -> None:
+        """Octets of a flow were given up. Where they are replies, the flow of their requests is told, and not again before
+        that was taken."""
+        told = ("doubtful", flow.reversed())
+        if self.kinds.get(flow.source_port) == SERVICE and told not in self.queue:
+            self._tell(told)
 
     def _count_off(self, flow: Flow, count: int) -> set[int]:
         """Takes the leftmost octets off that have no fate yet, and tells whose they are."""

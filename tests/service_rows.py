@@ -1,4 +1,4 @@
-"""Ten worked runs of calls between two nodes, each row with all that it tells. `tests/services.py` holds them.
+"""Eleven worked runs of calls between two nodes, each row with all that it tells. `tests/services.py` holds them.
 
 The client is node 1 with the life 5, the server node 2 with the life 1; F is the flow 1:10>2:20, and R its way back. The
 parameters are mpl 1000, r 3000, a 200, rto 500 and probe 800, segments of 100 octets and rooms and windows of 4,096,
@@ -55,6 +55,18 @@ TEXT = """
 40 | reply 5.0 "A" | done; sent R 0 9 dbe | 5.0 | -
 3000 | tick | unsure 5.0 patience | - | -
 3010 | comes | accepted R 0 9 run; counted late 1 | - | -
+
+# two replies are lost
+0 | call "a" 8000 | made 5.0; sent F 0 9 dbe | 5.0 | -
+0 | call "b" 8000 | made 5.1; sent F 9 9 be | 5.0, 5.1 | -
+40 | comes | accepted F 0 9 run; handed 5.0 "a" | 5.0, 5.1 | 5.0
+40 | comes | accepted F 9 9 on; handed 5.1 "b" | 5.0, 5.1 | 5.0, 5.1
+40 | comes | settled F 18 4087 | 5.0, 5.1 | 5.0, 5.1
+40 | reply 5.0 "A" | done; sent R 0 9 dbe | 5.0, 5.1 | 5.1
+40 | reply 5.1 "B" | done; sent R 9 9 be | 5.0, 5.1 | -
+5239 | server ticks | | 5.0, 5.1 | -
+5240 | server ticks | uncertain R 9; uncertain R 9; doubtful F | 5.0, 5.1 | -
+8000 | tick | unsure 5.0 patience; unsure 5.1 patience | - | -
 
 # a slow service, and its client restarts
 0 | call "pay A" 8000 | made 5.0; sent F 0 13 dbe | 5.0 | -
@@ -263,6 +275,8 @@ def told_line(it: tuple[object, ...]) -> str:
         return f'handed {call_name(rest[0].number)} "{rest[1].decode()}"'
     if word == "answered":
         return f'answered {call_name(rest[0])} "{rest[1].decode()}"'
+    if word == "doubtful":
+        return f"doubtful {FLOW_NAMES[rest[0]]}"
     if word in ("unsure", "made"):
         return " ".join([word, call_name(rest[0]), *rest[1:]])
     return " ".join(str(part) for part in it)

@@ -237,7 +237,10 @@ class Referee:
         """Checks what a turn told against what it read and gave up."""
         station, node = host.station, host.node
         wholes, station.wholes = station.wholes, []
-        doubts, station.doubts = {it.call for it in station.doubts if it.call.request is it}, []
+        given_up, station.doubts = station.doubts, []
+        doubts = {it.call for it in given_up if it.call.request is it}
+        lost = {it.call.flow for it in given_up if it.call.request is not it}
+        holds(is_closed or all(node.queue.count(("doubtful", it)) == 1 for it in lost), "doubtful exactly: a reply was given up")
         requests = [it for it in wholes if node.kinds[it.flow.target_port] == SERVICE]
         replies = [it for it in wholes if node.kinds[it.flow.target_port] == CALLER]
         answers = {it.call for it in replies if it.call.number in host.waits and host.waits[it.call.number] is it.call}
@@ -249,6 +252,9 @@ class Referee:
                 holds(bool(requests), "it is the call's: a request, and no message came whole")
                 self.handed_out(host, words[0], words[1], requests.pop(0))
                 self.totals["handed out"] += 1
+            elif what == "doubtful":
+                holds(words[0] in lost and node.queue.count(("doubtful", words[0])) == 1, "doubtful exactly: no reply was given up, or it is told twice")
+                self.totals["doubtful"] += 1
             elif what == "answered":
                 holds((words[0], words[1]) in came, "its own answer: no such reply came whole")
                 self.answered(host, words[0], words[1], came[words[0], words[1]])

@@ -25,7 +25,7 @@ CHARGE = 50
 
 def library(path: str | None) -> types.ModuleType | None:
     """The binding, or None where there is no library."""
-    found = pathlib.Path(path) if path else TOP / "lib" / "libdeltat.so.0"
+    found = pathlib.Path(path) if path else TOP / "lib" / "libdeltat.so.2"
     if not found.exists():
         return None
     os.environ["DELTAT_LIBRARY"] = str(found.resolve())
@@ -207,6 +207,8 @@ class Half:
                 told.append(("request", Token(Flow(*it.token.flow), it.token.number), it.payload))
             elif isinstance(it, self.service.Answered):
                 told.append(("answered", *it))
+            elif isinstance(it, self.service.ReplyUncertain):
+                told.append(("doubtful", Flow(*it.flow)))
             else:
                 told.append(("unsure", it.number, it.cause.value))
         return told
@@ -339,6 +341,10 @@ class World:
             self.tokens[me].append(token)
             self.totals["handed out"] += 1
             return
+        if it[0] == "doubtful":
+            holds(it[1].target == me and it[1] in WORLD_FLOWS, "a reply that nobody made is uncertain")
+            self.totals["doubtful"] += 1
+            return
         token = self.names[me, it[1]]
         self.ends[token] += 1
         holds(self.ends[token] == 1, "a call has two ends")
@@ -435,5 +441,5 @@ def world(count: int, first: int, deltat: types.ModuleType | None) -> bool:
         totals += run.totals
     agrees = ", and its services tell the same" if deltat else ""
     print(f"{count} runs over {over} hold{agrees}: " + ", ".join(f"{name} {it}" for name, it in sorted(totals.items())), flush=True)
-    wanted = ("answered", "given up", "patience", "closed", "reply gone", "reply full", "old", "late", "cut")
+    wanted = ("answered", "given up", "doubtful", "patience", "closed", "reply gone", "reply full", "old", "late", "cut")
     return totals["strange"] + totals["reused"] == 0 and all(totals[it] for it in wanted)

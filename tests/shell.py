@@ -21,7 +21,7 @@ import time
 
 from lib import HOST, PROGRAM, TOP, bound, free_port, skip
 
-LIBRARY = TOP / "lib" / "libdeltat.so.0"
+LIBRARY = TOP / "lib" / "libdeltat.so.2"
 CAT, PING = str(TOP / "tools" / "dtcat.py"), str(TOP / "tools" / "dtping.py")
 if not LIBRARY.exists():
     skip(f"{LIBRARY} isn't there: make -C lib")

@@ -25,7 +25,7 @@ from dataclasses import asdict, dataclass, replace
 
 from lib import TOP, growth, memory_of
 
-LIBRARY = TOP / "lib" / "libdeltat.so.0"
+LIBRARY = TOP / "lib" / "libdeltat.so.2"
 SERVICE, SERVED_PORT = 6, 20
 # each node of calls, and the node of the ring that it has a link to: two of the ring relay what goes between them
 SPURS = {SERVICE: 1, 7: 2, 8: 5}

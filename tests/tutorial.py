@@ -146,7 +146,7 @@ class Reader:
 
     @property
     def has_library(self) -> bool:
-        return (self.top / "lib" / "libdeltat.so.0").exists()
+        return (self.top / "lib" / "libdeltat.so.2").exists()
 
     def has_program(self, name: str) -> bool:
         return bool(shutil.which(name))
@@ -257,7 +257,7 @@ class Installed(Reader):
 
     @property
     def has_library(self) -> bool:
-        return self.has_program("python3") and bool(list(self.root.glob("usr/lib/*/libdeltat.so.0")))
+        return self.has_program("python3") and bool(list(self.root.glob("usr/lib/*/libdeltat.so.2")))
 
     def has_program(self, name: str) -> bool:
         return (self.root / "usr/bin" / name).exists()

@@ -49,22 +49,24 @@ static uint32_t setting(const char *name, uint32_t usual) {
     return it == NULL ? usual : (uint32_t)atoi(it);
 }
 
-static void must(uint8_t status, const char *what) {
-    if (status == DT_NO_MEMORY || status == DT_SPENT || status == DT_CLOSED || status == DT_REFUSED) fail(what);
+static void must(dt_status status, const char *what) {
+    if (status == DT_NO_MEMORY || status == DT_STOPPED || status == DT_NOT_OPEN || status == DT_INVALID) fail(what);
 }
 
 static dt_node *opened(uint32_t me) {
     uint32_t charge = setting("DELAY_MS", 1) + 2 * LATE, rto = setting("RTO_MS", 40), mpl = 2 * charge, a = 5;
     uint32_t room = getenv("MANY_FLOWS") == NULL ? MOST : 4096;
-    struct dt_params params = {mpl, 20 * rto, a, rto, 2 * rto, 1400, room, room, room, 2147483648u, 0};
-    struct dt_start start = {clock_ms(CLOCK_BOOTTIME), me, me == SERVER && getenv("AGAIN") != NULL};
-    struct dt_link link = {charge, 0, LINK};
+    struct dt_params params = {sizeof params, mpl, 20 * rto, a, rto, 2 * rto, 1400, room, room, room, 2147483648u, 0};
+    struct dt_link link = {charge, 0, LINK, 0};
     struct dt_route routes[CLIENTS + 1] = {{SERVER, LINK}};
     for (uint32_t i = 0; i < CLIENTS; i++) routes[1 + i] = (struct dt_route){FIRST_CLIENT + i, LINK};
-    dt_node *node = aligned_alloc(dt_align(), (dt_size() + dt_align() - 1) / dt_align() * dt_align());
+    struct dt_node_options options = {
+        .size = sizeof options, .node = me, .now = clock_ms(CLOCK_BOOTTIME), .links = &link, .link_count = 1,
+        .routes = me == SERVER ? routes + 1 : routes, .route_count = me == SERVER ? CLIENTS : 1,
+        .start_as = me == SERVER && getenv("AGAIN") != NULL ? DT_START_AGAIN : DT_START_FIRST};
+    dt_node *node = dt_node_new();
     if (node == NULL) fail("out of memory");
-    dt_init(node);
-    if (dt_open(node, &params, &start, &link, 1, me == SERVER ? routes + 1 : routes, me == SERVER ? CLIENTS : 1).status != DT_DONE) fail("no node");
+    if (dt_node_open(node, &params, &options).status != DT_OK) fail("no node");
     return node;
 }
 
@@ -116,12 +118,12 @@ static void happens(struct end *it, uint64_t at) {
 /* puts on the wire what left since it was done last */
 static void flush(struct end *it) {
     static struct batch out;
-    static unsigned char rooms[BATCH][DT_MOST_FRAME];
-    struct dt_out left;
+    static unsigned char rooms[BATCH][DT_MAX_DATAGRAM];
+    struct dt_datagram left = {.size = sizeof left};
     unsigned frames, count;
     if (it->left_at == 0) return;
     do {
-        for (frames = count = 0; frames < BATCH && (left = dt_next_frame(it->node, rooms[frames], DT_MOST_FRAME)).status == DT_DONE; frames++) {
+        for (frames = count = 0; frames < BATCH && dt_node_next_datagram(it->node, rooms[frames], DT_MAX_DATAGRAM, &left) == DT_OK; frames++) {
             struct sockaddr_in *peer = &it->peers[place_of(left.to)];
             out.octets[frames] = (struct iovec){rooms[frames], left.len};
             if (count > 0 && goes_on(&out.heads[count - 1].msg_hdr, peer, left.len)) {
@@ -164,7 +166,7 @@ static void arrive(struct end *it, const unsigned char *datagram, size_t len, co
         uint32_t maker = (uint32_t)datagram[8] << 24 | (uint32_t)datagram[9] << 16 | (uint32_t)datagram[10] << 8 | datagram[11];
         if (maker != SERVER) it->peers[place_of(maker)] = *from;
     }
-    must(dt_arrive(it->node, it->now, LINK, datagram, len, wait).status, "a datagram");
+    must(dt_node_receive(it->node, it->now, LINK, datagram, len, wait).status, "a datagram");
 }
 
 /* Waits for a datagram, as long as the socket does, and takes in all that wait. Whether one came. */
@@ -176,11 +178,12 @@ static int receive(struct end *it) {
         in.octets[i] = (struct iovec){rooms[i], sizeof rooms[i]};
         in.heads[i].msg_hdr = (struct msghdr){.msg_name = &in.peers[i], .msg_namelen = sizeof in.peers[i], .msg_iov = &in.octets[i], .msg_iovlen = 1, .msg_control = in.controls[i], .msg_controllen = sizeof in.controls[i]};
     }
+    uint64_t looked_at = clock_ms(CLOCK_BOOTTIME);
     int count = recvmmsg(it->door, in.heads, BATCH, MSG_WAITFORONE, NULL);
     it->now = clock_ms(CLOCK_BOOTTIME);
     used = count < 0 ? 0 : count;
     if (count < 0) {
-        it->empty_at = it->now;
+        it->empty_at = looked_at;
         return 0;
     }
     happens(it, it->now);
@@ -201,10 +204,10 @@ static int receive(struct end *it) {
    its answer; of an answer that isn't the one that is waited for no end is told. */
 static size_t message_of(struct end *it, const struct dt_flow *flow, uint64_t at, int serves, int *ended) {
     static unsigned char number[NUMBER];
-    struct dt_piece piece;
+    struct dt_read_result piece;
     size_t octets = 0;
     *ended = 0;
-    while (!*ended && (piece = dt_read(it->node, at, flow, octets_read, sizeof octets_read)).status == DT_DONE) {
+    while (!*ended && (piece = dt_node_read(it->node, at, flow, octets_read, sizeof octets_read)).status == DT_OK) {
         if (piece.begin && serves && piece.len >= HEAD + NUMBER) served(memcpy(it->asked, octets_read + HEAD, NUMBER));
         if (piece.begin && !serves && piece.len >= NUMBER) memcpy(number, octets_read, NUMBER);
         octets += piece.len;
@@ -221,9 +224,9 @@ static size_t hand_in(struct end *it, uint64_t at, struct dt_flow flow, const un
     happens(it, at);
     while (handed < len) {
         size_t part = len - handed < most ? len - handed : most;
-        struct dt_sent sent = dt_send(it->node, at, &flow, octets + handed, part, handed == 0, handed + part == len);
+        struct dt_send_result sent = dt_node_send(it->node, at, &flow, octets + handed, part, handed == 0, handed + part == len);
         must(sent.status, "a message");
-        if (sent.status != DT_DONE) break;
+        if (sent.status != DT_OK) break;
         handed += part;
     }
     return handed;
@@ -236,20 +239,20 @@ static void give(struct end *it, uint64_t at, struct dt_flow flow, const unsigne
 /* takes what the node told, answers each message with ANSWER octets where it serves, and tells how many came */
 static int messages(struct end *it, uint64_t at, int serves) {
     static unsigned char answer[ANSWER];
-    struct dt_report report;
+    struct dt_report report = {.size = sizeof report};
     struct dt_flow last = {0, 0, 0, 0};
     size_t ahead = 0; /* octets of the last flow that were read before it was told that they came */
     int count = 0, ended;
-    while ((report = dt_next_report(it->node)).status == DT_DONE) {
-        if (report.kind == DT_UNCERTAIN) it->given_up = 1;
-        if (report.kind != DT_ACCEPTED) continue;
+    while (dt_node_next_report(it->node, &report) == DT_OK) {
+        if (report.kind == DT_REPORT_UNCERTAIN) it->given_up = 1;
+        if (report.kind != DT_REPORT_ACCEPTED) continue;
         if (memcmp(&last, &report.flow, sizeof last) != 0) last = report.flow, ahead = 0;
         if (ahead < report.count) ahead += message_of(it, &report.flow, at, serves, &ended);
         else ended = 0;
         ahead -= ahead < report.count ? ahead : report.count;
         if (!ended) continue;
         count++;
-        struct dt_flow back = {report.flow.to, report.flow.from, report.flow.to_port, report.flow.from_port};
+        struct dt_flow back = {report.flow.target, report.flow.source, report.flow.target_port, report.flow.source_port};
         memcpy(answer, it->asked, NUMBER);
         if (serves) give(it, at, back, answer, ANSWER);
     }
@@ -264,7 +267,7 @@ static int turn(struct end *it, int serves) {
     if (receive(it)) count = messages(it, it->now, serves);
     if (it->now > it->ticked) {
         happens(it, it->now);
-        must(dt_tick(it->node, it->now), "a tick");
+        must(dt_node_tick(it->node, it->now), "a tick");
         count += messages(it, it->now, serves);
         it->ticked = it->now;
     }
@@ -322,11 +325,11 @@ static void ask_flows(struct end *it, uint32_t me, const struct question *asked,
 
 /* hands what left one node to the other, and tells whether there was something */
 static int carry(struct end *from, struct end *to, uint64_t at) {
-    unsigned char frame[DT_MOST_FRAME];
-    struct dt_out out;
+    unsigned char frame[DT_MAX_DATAGRAM];
+    struct dt_datagram out = {.size = sizeof out};
     int count = 0;
-    while ((out = dt_next_frame(from->node, frame, sizeof frame)).status == DT_DONE) {
-        must(dt_arrive(to->node, at, LINK, frame, out.len, 0).status, "a datagram");
+    while (dt_node_next_datagram(from->node, frame, sizeof frame, &out) == DT_OK) {
+        must(dt_node_receive(to->node, at, LINK, frame, out.len, 0).status, "a datagram");
         to->events++;
         count++;
     }
@@ -336,16 +339,16 @@ static int carry(struct end *from, struct end *to, uint64_t at) {
 /* takes what a node told, and answers the messages where it serves */
 static int serve_memory(struct end *it, uint64_t at, int serves) {
     static const unsigned char answer[ANSWER];
-    struct dt_report report;
+    struct dt_report report = {.size = sizeof report};
     int count = 0, ended;
-    while ((report = dt_next_report(it->node)).status == DT_DONE) {
-        if (report.kind != DT_ACCEPTED) continue;
+    while (dt_node_next_report(it->node, &report) == DT_OK) {
+        if (report.kind != DT_REPORT_ACCEPTED) continue;
         it->events++;
         message_of(it, &report.flow, at, serves, &ended);
         if (!ended) continue;
         count++;
-        struct dt_flow back = {report.flow.to, report.flow.from, report.flow.to_port, report.flow.from_port};
-        if (serves) must(dt_send(it->node, at, &back, answer, ANSWER, true, true).status, "an answer"), it->events++;
+        struct dt_flow back = {report.flow.target, report.flow.source, report.flow.target_port, report.flow.source_port};
+        if (serves) must(dt_node_send(it->node, at, &back, answer, ANSWER, true, true).status, "an answer"), it->events++;
     }
     return count;
 }
@@ -357,10 +360,10 @@ static void in_memory(uint32_t count, uint32_t octets) {
     double begun = now();
     for (uint32_t i = 0; i < count; i++) {
         uint64_t at = clock_ms(CLOCK_BOOTTIME);
-        while (dt_send(client.node, at, &flow, sent, octets, true, true).status != DT_DONE) {
+        while (dt_node_send(client.node, at, &flow, sent, octets, true, true).status != DT_OK) {
             /* what was sent before isn't acknowledged yet: it is, `a` ms later */
             at = clock_ms(CLOCK_BOOTTIME);
-            must(dt_tick(server.node, at), "a tick");
+            must(dt_node_tick(server.node, at), "a tick");
             server.events++;
             carry(&server, &client, at);
             serve_memory(&client, at, 0);

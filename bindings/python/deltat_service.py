@@ -41,12 +41,12 @@ import deltat
 from deltat import BadParameter, Counts, DeltatError, Flow, Full, KeptOut, Link, Message, NoMemory, OutFrame, Params, Spent, Status
 
 __all__ = [
-    "Answered", "AsyncCalls", "CallCounts", "Calls", "Cause", "Declined", "Doubtful", "Gone", "Happening", "Kind", "Limits", "Request", "Service",
-    "Token", "Unsure",
+    "Answered", "AsyncCalls", "CallCounts", "Calls", "Cause", "Declined", "Doubtful", "Gone", "Happening", "Kind", "Limits",
+    "ReplyUncertain", "Request", "Service", "Token", "Unsure",
 ]
 
 MANY, NUMBERS, GONE = 16, 17, 18
-REQUEST, ANSWERED, UNSURE = 1, 2, 3
+REQUEST, ANSWERED, UNSURE, REPLY_UNCERTAIN = 1, 2, 3, 4
 UNFIT = {
     1: "the flow doesn't go from this node to another", 2: "the flow doesn't go from a caller's port", 3: "its message is too long",
     4: "a patience is 1 ms or more", 5: "too many octets were handed in",
@@ -94,7 +94,13 @@ class Doubtful(NamedTuple):
     cause: Cause
 
 
-Happening = Request | Answered | Doubtful
+class ReplyUncertain(NamedTuple):
+    """Replies to requests of this flow were given up: each was delivered once or not at all. Their callers get no report."""
+
+    flow: Flow
+
+
+Happening = Request | Answered | Doubtful | ReplyUncertain
 
 
 class Declined(DeltatError):
@@ -318,6 +324,8 @@ class Service:
                 return
             elif it.kind == UNSURE:
                 yield Doubtful(it.number, _CAUSES[it.cause])
+            elif it.kind == REPLY_UNCERTAIN:
+                yield ReplyUncertain(deltat._flow_of(it.flow))
             else:
                 octets = ctypes.string_at(self._room, it.len)
                 yield Answered(it.number, octets) if it.kind == ANSWERED else Request(Token(deltat._flow_of(it.flow), it.number), octets)
@@ -412,6 +420,8 @@ class Calls:
         self.node: Service = udp.node
         self._requests: deque[Request] = deque()
         self._ends: dict[int, Answered | Doubtful] = {}
+        self.uncertain: set[Flow] = set()
+        """The flows of requests of which a reply was given up. The program takes out what it has dealt with."""
         self._functions: dict[int, Callable[[Request], bytes | None]] = {}
 
     def call(self, flow: Flow, payload: bytes, patience: float = 5.0) -> bytes:
@@ -497,6 +507,8 @@ class Calls:
         for it in told:
             if isinstance(it, Request):
                 self._requests.append(it)
+            elif isinstance(it, ReplyUncertain):
+                self.uncertain.add(it.flow)
             else:
                 self._ends[it.number] = it
         return bool(told)
@@ -516,6 +528,8 @@ class AsyncCalls:
         self.node: Service = udp.node
         self._requests: deque[Request] = deque()
         self._ends: dict[int, asyncio.Future[Answered | Doubtful]] = {}
+        self.uncertain: set[Flow] = set()
+        """As that of `Calls`."""
         self._functions: dict[int, Callable[[Request], Awaitable[bytes | None]]] = {}
         self._tasks: set[asyncio.Task[None]] = set()
 
@@ -605,6 +619,8 @@ class AsyncCalls:
         for it in told:
             if isinstance(it, Request):
                 self._requests.append(it)
+            elif isinstance(it, ReplyUncertain):
+                self.uncertain.add(it.flow)
             elif it.number in self._ends and not self._ends[it.number].done():
                 self._ends[it.number].set_result(it)
         if told:

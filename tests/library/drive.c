@@ -5,7 +5,7 @@
    The input is a script without a shelf, a line `trace`, and a trace, as docs/formats.md has them. It is taken to be
    well formed: what isn't ends the driver with 2. Ends with the statuses of `retrace`: 0 the stop was met, 3 a
    parameter is out of its range, 4 there was no memory, 5 the wire failed, 6 the clock stands still. */
-#include "deltat.h"
+#include "calls.h"
 #include <inttypes.h>
 #include <stdio.h>
 #include <stdlib.h>
@@ -48,7 +48,8 @@ static void *grown(void *at, size_t size) {
 
 static struct {
     struct dt_params params;
-    struct dt_start start;
+    uint32_t me;
+    bool again;
     uint64_t stop;
     size_t params_line;
     LIST(struct dt_link) links;
@@ -80,7 +81,7 @@ static uint64_t number(char **line) { return strtoull(word(line), NULL, 10); }
 
 static struct dt_flow flow_of(char **line) {
     struct dt_flow it;
-    if (sscanf(word(line), "%" SCNu32 ":%" SCNu16 ">%" SCNu32 ":%" SCNu16, &it.from, &it.from_port, &it.to, &it.to_port) != 4) strange("no flow");
+    if (sscanf(word(line), "%" SCNu32 ":%" SCNu16 ">%" SCNu32 ":%" SCNu16, &it.source, &it.source_port, &it.target, &it.target_port) != 4) strange("no flow");
     return it;
 }
 
@@ -96,6 +97,7 @@ static struct octets octets_of(const char *hex) {
 
 static void read_params(char *line) {
     struct dt_params *p = &script.params;
+    p->size = sizeof *p;
     uint32_t *const fields[] = {&p->mpl, &p->r, &p->a, &p->rto, &p->probe, &p->seg, &p->cap, &p->rcap, &p->window, &p->run_limit, &p->start};
     for (size_t i = 0; i < sizeof fields / sizeof *fields && line != NULL; i++) *fields[i] = (uint32_t)number(&line);
 }
@@ -126,11 +128,12 @@ static void read_script(char *line) {
     if (!strcmp(first, "params")) read_params(line);
     else if (!strcmp(first, "at")) read_command(line);
     else if (!strcmp(first, "me")) {
-        script.start.me = (uint32_t)number(&line);
-        script.start.again = !strcmp(word(&line), "again");
+        script.me = (uint32_t)number(&line);
+        script.again = !strcmp(word(&line), "again");
     } else if (!strcmp(first, "peer")) {
         struct dt_link it;
-        it.link = (uint16_t)number(&line);
+        it.reserved = 0;
+        it.number = (uint16_t)number(&line);
         word(&line);
         it.charge = (uint32_t)number(&line);
         it.pace = (uint32_t)number(&line);
@@ -197,104 +200,46 @@ static uint8_t room[MOST_READ];
 
 static const char *const FAULTS[] = {"", "short", "version", "length", "dead", "protocol", "kind", "flags", "window", "size"};
 
-static void begun(const char *what) { printf("%" PRIu64 " %" PRIu32 " %s", moment, script.start.me, what); }
+static void begun(const char *what) { printf("%" PRIu64 " %" PRIu32 " %s", moment, script.me, what); }
 
-static void about(const char *what, const struct dt_report *it) {
-    begun(what);
-    printf(" %" PRIu32 ":%" PRIu16 ">%" PRIu32 ":%" PRIu16, it->flow.from, it->flow.from_port, it->flow.to, it->flow.to_port);
-}
-
-/* up to three letters where their marks are set, or a dash */
-static void letters(const char *all, bool first, bool begin, bool end) {
-    putchar(' ');
-    if (first) putchar(all[0]);
-    if (begin) putchar(all[1]);
-    if (end) putchar(all[2]);
-    if (!first && !begin && !end) putchar('-');
-}
-
-static void segment(const char *what, const struct dt_report *it) {
-    about(what, it);
-    printf(" %" PRIu32 " %" PRIu32, it->number, it->count);
-    letters("dbe", it->run, it->begin, it->end);
-}
-
-static void numbers(const char *what, const struct dt_report *it, uint32_t first, uint32_t second) {
-    about(what, it);
-    printf(" %" PRIu32 " %" PRIu32, first, second);
-}
-
-static void one(const char *what, const struct dt_report *it, uint32_t number) {
-    about(what, it);
-    printf(" %" PRIu32, number);
-}
-
-static void piece(const struct dt_report *it, size_t len) {
-    about("read", it);
-    letters("rbe", it->run, it->begin, it->end);
-    putchar(' ');
+static void hex(size_t len) {
     for (size_t i = 0; i < len; i++) putchar("0123456789abcdef"[room[i] >> 4]), putchar("0123456789abcdef"[room[i] & 15]);
 }
 
 /* a frame goes over the wire, which may not take it */
 static void give(const struct dt_report *it) {
-    static uint8_t frame[DT_MOST_FRAME];
-    struct dt_out out = dt_next_frame(node, frame, sizeof frame);
-    begun("put");
-    printf(" %" PRIu32 " %" PRIu32, it->number, it->count);
-    if (out.status != DT_DONE || out.link != it->number) strange("a packet left, and its frame isn't there");
-    if (out.len < 16 || it->count != ((uint32_t)frame[4] << 24 | (uint32_t)frame[5] << 16 | (uint32_t)frame[6] << 8 | frame[7])) strange("a frame has another life than was told");
+    static uint8_t frame[DT_MAX_DATAGRAM];
+    SIZED(dt_datagram, out);
+    if (dt_node_next_datagram(node, frame, sizeof frame, &out) != DT_OK || out.link != it->number) strange("a packet left, and its frame isn't there");
+    if (out.len < 16 || it->count != ((uint32_t)frame[4] << 24 | (uint32_t)frame[5] << 16 | (uint32_t)frame[6] << 8 | frame[7])) strange("a frame has another lifetime than its report");
     gives++;
     while (next_failing < trace.failing.len && trace.failing.at[next_failing] < gives) next_failing++;
     if (next_failing == trace.failing.len || trace.failing.at[next_failing] != gives) return;
-    putchar('\n');
     begun("unsent");
-    printf(" %" PRIu32, it->number);
+    printf(" %" PRIu32 "\n", it->number);
 }
 
-static void bad(uint32_t fault, uint32_t value, size_t len) {
+/* the line for a datagram that isn't valid, which is no report */
+static void bad(const struct dt_receive_result *it, size_t len) {
     begun("bad");
-    printf(" %s", FAULTS[fault]);
-    if (fault != DT_DEAD) printf(" %" PRIu32, value);
-    if (fault == DT_LENGTH) printf(" %zu", len - 16);
-}
-
-static void line_of(const struct dt_report *it, size_t len) {
-    switch (it->kind) {
-    case DT_TOOK: one("took", it, it->count); break;
-    case DT_TOLD_QUIET: about("refused", it), printf(" quiet %" PRIu64, it->moment); break;
-    case DT_TOLD_FULL: about("refused", it), printf(" full %" PRIu32, it->count); break;
-    case DT_SENT: segment("sent", it); break;
-    case DT_RESENT: segment("resent", it); break;
-    case DT_MET: one("met", it, it->number); break;
-    case DT_UNCERTAIN: one("uncertain", it, it->count); break;
-    case DT_RELEASED: about("released", it), printf(it->sending ? " send" : " receive"); break;
-    case DT_RENEWED: about("renewed", it); break;
-    case DT_ACKED: numbers("acked", it, it->number, it->window); break;
-    case DT_REPLIED: numbers("replied", it, it->number, it->window); break;
-    case DT_ACCEPTED: numbers("accepted", it, it->number, it->count), printf(it->run ? " run" : " on"); break;
-    case DT_DROPPED: one("dropped", it, it->number); break;
-    case DT_CLOSING: one("closing", it, it->number); break;
-    case DT_SETTLED: numbers("settled", it, it->count, it->window); break;
-    case DT_IGNORED: numbers("ignored", it, it->number, it->window); break;
-    case DT_MET_QUIET: begun("quiet"), printf(" %" PRIu64, it->moment); break;
-    case DT_WAS_READ: piece(it, len); break;
-    case DT_NOT_READ: about("nothing", it); break;
-    case DT_PUT: give(it); break;
-    case DT_EXPIRED_IN: begun("expired in"), printf(" %" PRIu32, it->number); break;
-    case DT_EXPIRED_OUT: begun("expired out"), printf(" %" PRIu32, it->number); break;
-    case DT_NO_ROUTE: begun("noroute"), printf(" %" PRIu32, it->number); break;
-    case DT_LINK_FULL: begun("full"), printf(" %" PRIu32, it->number); break;
-    case DT_UNREADABLE: bad(it->number, it->count, 0); break;
-    default: strange("a report of another kind");
-    }
+    printf(" %s", FAULTS[it->fault]);
+    if (it->fault != DT_FAULT_LIFETIME) printf(" %" PRIu32, it->value);
+    if (it->fault == DT_FAULT_LENGTH) printf(" %zu", len - 16);
     putchar('\n');
 }
 
 /* The lines of a call, which may have read so many octets. A call without memory ends the run. */
-static void told(uint8_t status, size_t len) {
-    struct dt_report it;
-    while ((it = dt_next_report(node)).status == DT_DONE) line_of(&it, len);
+static void told(dt_status status, size_t len) {
+    char line[DT_MAX_REPORT_LINE];
+    SIZED(dt_report, it);
+    while (dt_node_next_report(node, &it) == DT_OK) {
+        if (it.kind < DT_REPORT_SEND_QUEUED || it.kind > DT_REPORT_PACKET_MALFORMED) strange("a report of another kind");
+        if (dt_report_line(&it, moment, script.me, line, sizeof line) >= sizeof line) strange("a longer line than DT_MAX_REPORT_LINE");
+        fputs(line, stdout);
+        if (it.kind == DT_REPORT_READ) hex(len);
+        putchar('\n');
+        if (it.kind == DT_REPORT_PACKET_OUT) give(&it);
+    }
     if (status == DT_NO_MEMORY) exit(NO_MEMORY);
 }
 
@@ -303,20 +248,20 @@ static void told(uint8_t status, size_t len) {
 static void arrive(const struct take *it) {
     static const uint8_t nothing[1];
     const uint8_t *octets = it->datagram.len > 0 ? it->datagram.at : nothing;
-    struct dt_came came = dt_arrive(node, moment, it->link, octets, it->datagram.len, 0);
-    if (came.status == DT_BAD) bad(came.fault, came.value, it->datagram.len), putchar('\n');
-    else if (came.status != DT_DONE && came.status != DT_REFUSED && came.status != DT_NO_MEMORY) strange("another answer to a datagram");
+    struct dt_receive_result came = dt_node_receive(node, moment, it->link, octets, it->datagram.len, 0);
+    if (came.status == DT_MALFORMED) bad(&came, it->datagram.len);
+    else if (came.status != DT_OK && came.status != DT_INVALID && came.status != DT_NO_MEMORY) strange("another answer to a datagram");
     told(came.status, 0);
 }
 
 static void do_command(const struct command *it) {
     if (it->sent.at == NULL) {
-        struct dt_piece read = dt_read(node, moment, &it->flow, room, it->most);
-        if (read.status != DT_DONE && read.status != DT_NOTHING && read.status != DT_NO_MEMORY) strange("another answer to a read");
+        struct dt_read_result read = dt_node_read(node, moment, &it->flow, room, it->most);
+        if (read.status != DT_OK && read.status != DT_NONE && read.status != DT_NO_MEMORY) strange("another answer to a read");
         told(read.status, read.len);
     } else {
-        struct dt_sent sent = dt_send(node, moment, &it->flow, it->sent.at, it->sent.len, it->begin, it->end);
-        if (sent.status != DT_DONE && sent.status != DT_FULL && sent.status != DT_QUIET && sent.status != DT_NO_MEMORY) strange("another answer to a send");
+        struct dt_send_result sent = dt_node_send(node, moment, &it->flow, it->sent.at, it->sent.len, it->begin, it->end);
+        if (sent.status != DT_OK && sent.status != DT_FULL && sent.status != DT_QUIET && sent.status != DT_NO_MEMORY) strange("another answer to a send");
         told(sent.status, 0);
     }
 }
@@ -329,7 +274,7 @@ static bool turn(const struct take *came, size_t *next) {
         printf("end %" PRIu64 "\n", moment);
         return true;
     }
-    told(dt_tick(node, moment), 0);
+    told(dt_node_tick(node, moment), 0);
     return false;
 }
 
@@ -363,17 +308,20 @@ static int opened(void) {
     static const char *const names[] = {"mpl", "r", "a", "rto", "probe", "seg", "cap", "rcap", "window", "run_limit", "start"};
     static const struct dt_link no_link;
     static const struct dt_route no_route;
-    const struct dt_link *links = script.links.len > 0 ? script.links.at : &no_link;
-    const struct dt_route *routes = script.routes.len > 0 ? script.routes.at : &no_route;
-    node = (dt_node *)grown(NULL, dt_size());
-    dt_init(node);
-    struct dt_opened it = dt_open(node, &script.params, &script.start, links, script.links.len, routes, script.routes.len);
+    struct dt_node_options options = node_options(script.me, 0, script.again, &no_link, &no_route);
+    if (script.links.len > 0) options.links = script.links.at;
+    if (script.routes.len > 0) options.routes = script.routes.at;
+    options.link_count = script.links.len;
+    options.route_count = script.routes.len;
+    node = dt_node_new();
+    if (node == NULL) return NO_MEMORY;
+    struct dt_open_result it = dt_node_open(node, &script.params, &options);
     if (it.status == DT_NO_MEMORY) return NO_MEMORY;
-    if (it.status == DT_REFUSED && it.field < sizeof names / sizeof *names) {
-        printf("line %zu: param %s %" PRIu32 "\n", script.params_line, names[it.field], it.value);
+    if (it.status == DT_INVALID && it.field >= 1 && it.field <= sizeof names / sizeof *names) {
+        printf("line %zu: param %s %" PRIu32 "\n", script.params_line, names[it.field - 1], it.value);
         return REFUSED;
     }
-    if (it.status != DT_DONE) strange("another answer to the opening");
+    if (it.status != DT_OK) strange("another answer to the opening");
     return DONE;
 }
 
@@ -381,6 +329,6 @@ int main(void) {
     read_input();
     int status = opened();
     if (status == DONE) status = run();
-    if (node != NULL) dt_close(node);
+    dt_node_free(node);
     return status;
 }

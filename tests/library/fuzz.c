@@ -7,7 +7,7 @@
 
    - a call answers with a status that deltat.h doesn't give it, or with another one than its arguments ask for;
    - a call that changed nothing by its status changed something: each node is there twice, the second one isn't asked
-     what the first refused (but a dt_take of a spent node), and both have to go on alike;
+     what the first refused (but a dt_node_next_message of a spent node), and both have to go on alike;
    - a frame doesn't read, isn't the one that its report tells, or the octets behind it or behind a message changed;
    - a report has a field that its kind hasn't, or isn't of this node;
    - counts and totals aren't the sums of the reports;
@@ -42,8 +42,8 @@ static struct known flows[FLOWS];
 static uint8_t places[MOST_SENT + 1];
 
 static size_t place_of(const struct dt_flow *f) {
-    if (f->from < 1 || f->from > NODES || f->to < 1 || f->to > NODES || f->from_port >= PORTS || f->to_port != f->from_port + 20) return FLOWS;
-    return ((f->from - 1) * NODES + f->to - 1) * PORTS + f->from_port;
+    if (f->source < 1 || f->source > NODES || f->target < 1 || f->target > NODES || f->source_port >= PORTS || f->target_port != f->source_port + 20) return FLOWS;
+    return ((f->source - 1) * NODES + f->target - 1) * PORTS + f->source_port;
 }
 
 /* --- the nodes */
@@ -56,7 +56,7 @@ struct node {
     bool is_open, is_again, is_spent, was_late, uses_inbox, has_inbox, is_guarded, has_one_port;
     uint16_t open_port;
     uint64_t greatest, until, too_long, kept_out, wake;
-    struct dt_counts counts;
+    struct dt_node_counts counts;
     struct { struct dt_flow flow; struct sums sums; } followed[MOST_FOLLOWED];
     size_t followed_count;
     uint64_t offset;
@@ -70,132 +70,136 @@ struct told { unsigned took, full, quiet, read, not_read, puts; uint64_t count, 
 
 enum { F = 1, M = 2, N = 4, C = 8, W = 16, MARKS = 32, RUN = 64, SIDE = 128, MINE = 256, TO_ME = 512 };
 static const unsigned FIELDS[] = {
-    [DT_TOOK] = F | C | MINE, [DT_TOLD_QUIET] = F | M | MINE, [DT_TOLD_FULL] = F | C | MINE, [DT_SENT] = F | N | C | MARKS | RUN | MINE,
-    [DT_RESENT] = F | N | C | MARKS | RUN | MINE, [DT_MET] = F | N | MINE, [DT_UNCERTAIN] = F | C | MINE, [DT_RELEASED] = F | SIDE, [DT_RENEWED] = F | MINE,
-    [DT_ACKED] = F | N | W | TO_ME, [DT_REPLIED] = F | N | W | TO_ME, [DT_ACCEPTED] = F | N | C | RUN | TO_ME, [DT_DROPPED] = F | N, [DT_CLOSING] = F | N | TO_ME,
-    [DT_SETTLED] = F | C | W | MINE, [DT_IGNORED] = F | N | W | MINE, [DT_MET_QUIET] = M, [DT_WAS_READ] = F | MARKS | RUN | TO_ME, [DT_NOT_READ] = F | TO_ME,
-    [DT_PUT] = N | C, [DT_EXPIRED_IN] = N, [DT_EXPIRED_OUT] = N, [DT_NO_ROUTE] = N, [DT_LINK_FULL] = N, [DT_UNREADABLE] = N | C,
+    [DT_REPORT_SEND_QUEUED] = F | C | MINE, [DT_REPORT_SEND_QUIET] = F | M | MINE, [DT_REPORT_SEND_FULL] = F | C | MINE, [DT_REPORT_SEGMENT_SENT] = F | N | C | MARKS | RUN | MINE,
+    [DT_REPORT_SEGMENT_RESENT] = F | N | C | MARKS | RUN | MINE, [DT_REPORT_PROBE_SENT] = F | N | MINE, [DT_REPORT_UNCERTAIN] = F | C | MINE, [DT_REPORT_RECORD_RELEASED] = F | SIDE, [DT_REPORT_RECORD_RENEWED] = F | MINE,
+    [DT_REPORT_ACK_SENT] = F | N | W | TO_ME, [DT_REPORT_REPLY_SENT] = F | N | W | TO_ME, [DT_REPORT_ACCEPTED] = F | N | C | RUN | TO_ME, [DT_REPORT_PACKET_DROPPED] = F | N, [DT_REPORT_RUN_ENDED] = F | N | TO_ME,
+    [DT_REPORT_ACKNOWLEDGED] = F | C | W | MINE, [DT_REPORT_ACK_IGNORED] = F | N | W | MINE, [DT_REPORT_PACKET_QUIET] = M, [DT_REPORT_READ] = F | MARKS | RUN | TO_ME, [DT_REPORT_READ_NONE] = F | TO_ME,
+    [DT_REPORT_PACKET_OUT] = N | C, [DT_REPORT_EXPIRED_IN] = N, [DT_REPORT_EXPIRED_OUT] = N, [DT_REPORT_NO_ROUTE] = N, [DT_REPORT_LINK_FULL] = N, [DT_REPORT_PACKET_MALFORMED] = N | C,
 };
 
 static void look_at_report(const struct node *n, const struct dt_report *it) {
     uint32_t me = (uint32_t)(n - nodes) + 1;
-    WANT(it->kind >= DT_TOOK && it->kind <= DT_UNREADABLE);
+    WANT(it->kind >= DT_REPORT_SEND_QUEUED && it->kind <= DT_REPORT_PACKET_MALFORMED);
     unsigned has = FIELDS[it->kind];
-    WANT((has & F) ? !is_no_flow(&it->flow) && it->flow.from != it->flow.to : is_no_flow(&it->flow));
-    WANT((has & M) || it->moment == 0);
+    WANT((has & F) ? !is_no_flow(&it->flow) && it->flow.source != it->flow.target : is_no_flow(&it->flow));
+    WANT((has & M) || it->time == 0);
     WANT((has & N) || it->number == 0);
     WANT((has & C) || it->count == 0);
     WANT((has & W) || it->window == 0);
     WANT((has & MARKS) || (!it->begin && !it->end));
     WANT((has & RUN) || !it->run);
     WANT((has & SIDE) || !it->sending);
-    WANT(!(has & MINE) || it->flow.from == me);
-    WANT(!(has & TO_ME) || it->flow.to == me);
-    if (it->kind == DT_SENT || it->kind == DT_RESENT) WANT(it->count >= 1 && it->count <= n->params.seg);
-    if (it->kind == DT_RELEASED) WANT((it->sending ? it->flow.from : it->flow.to) == me);
-    if (it->kind == DT_ACCEPTED) WANT(it->count >= 1 && it->count <= n->params.rcap && (!n->has_one_port || it->flow.to_port == n->open_port));
-    if (it->kind == DT_SETTLED || it->kind == DT_IGNORED) WANT(it->window <= 65536);
-    if (it->kind == DT_ACKED || it->kind == DT_REPLIED) WANT(it->window <= n->params.rcap);
-    if (it->kind == DT_UNREADABLE) WANT(it->number >= DT_SHORT && it->number <= DT_SIZE);
-    if (it->kind == DT_TOOK || it->kind == DT_UNCERTAIN) WANT(it->count >= 1);
-    if (it->kind == DT_TOOK || it->kind == DT_SETTLED || it->kind == DT_UNCERTAIN) WANT(it->count <= n->params.cap);
+    WANT(!(has & MINE) || it->flow.source == me);
+    WANT(!(has & TO_ME) || it->flow.target == me);
+    if (it->kind == DT_REPORT_SEGMENT_SENT || it->kind == DT_REPORT_SEGMENT_RESENT) WANT(it->count >= 1 && it->count <= n->params.seg);
+    if (it->kind == DT_REPORT_RECORD_RELEASED) WANT((it->sending ? it->flow.source : it->flow.target) == me);
+    if (it->kind == DT_REPORT_ACCEPTED) WANT(it->count >= 1 && it->count <= n->params.rcap && (!n->has_one_port || it->flow.target_port == n->open_port));
+    if (it->kind == DT_REPORT_ACKNOWLEDGED || it->kind == DT_REPORT_ACK_IGNORED) WANT(it->window <= 65536);
+    if (it->kind == DT_REPORT_ACK_SENT || it->kind == DT_REPORT_REPLY_SENT) WANT(it->window <= n->params.rcap);
+    if (it->kind == DT_REPORT_PACKET_MALFORMED) WANT(it->number >= DT_FAULT_SHORT && it->number <= DT_FAULT_SIZE);
+    if (it->kind == DT_REPORT_SEND_QUEUED || it->kind == DT_REPORT_UNCERTAIN) WANT(it->count >= 1);
+    if (it->kind == DT_REPORT_SEND_QUEUED || it->kind == DT_REPORT_ACKNOWLEDGED || it->kind == DT_REPORT_UNCERTAIN) WANT(it->count <= n->params.cap);
 }
 
 static void add(struct sums *it, const struct dt_report *told) {
-    it->taken += told->kind == DT_TOOK ? told->count : 0;
-    it->settled += told->kind == DT_SETTLED ? told->count : 0;
-    it->uncertain += told->kind == DT_UNCERTAIN ? told->count : 0;
-    it->accepted += told->kind == DT_ACCEPTED ? told->count : 0;
+    it->taken += told->kind == DT_REPORT_SEND_QUEUED ? told->count : 0;
+    it->settled += told->kind == DT_REPORT_ACKNOWLEDGED ? told->count : 0;
+    it->uncertain += told->kind == DT_REPORT_UNCERTAIN ? told->count : 0;
+    it->accepted += told->kind == DT_REPORT_ACCEPTED ? told->count : 0;
 }
 
 static void count(struct node *n, const struct dt_report *it) {
     struct sums sums = {0, 0, 0, 0, 0};
     add(&sums, it);
-    n->counts.taken += sums.taken;
-    n->counts.settled += sums.settled;
-    n->counts.uncertain += sums.uncertain;
-    n->counts.accepted += sums.accepted;
-    n->counts.left += it->kind == DT_PUT;
+    n->counts.octets_queued += sums.taken;
+    n->counts.octets_acknowledged += sums.settled;
+    n->counts.octets_uncertain += sums.uncertain;
+    n->counts.octets_accepted += sums.accepted;
+    n->counts.datagrams_out += it->kind == DT_REPORT_PACKET_OUT;
     for (size_t i = 0; i < n->followed_count; i++)
         if ((FIELDS[it->kind] & F) && is_flow(&n->followed[i].flow, &it->flow)) add(&n->followed[i].sums, it);
     size_t place = (FIELDS[it->kind] & F) ? place_of(&it->flow) : FLOWS;
     if (place == FLOWS) return;
     add(&flows[place].all, it);
-    add(it->kind == DT_ACCEPTED ? &flows[place].of_receiver : &flows[place].of_sender, it);
+    add(it->kind == DT_REPORT_ACCEPTED ? &flows[place].of_receiver : &flows[place].of_sender, it);
 }
 
 /* --- what waits at a node after a call */
 
 static void note(struct told *told, const struct dt_report *it) {
-    told->took += it->kind == DT_TOOK;
-    told->full += it->kind == DT_TOLD_FULL;
-    told->quiet += it->kind == DT_TOLD_QUIET;
-    told->read += it->kind == DT_WAS_READ;
-    told->not_read += it->kind == DT_NOT_READ;
-    told->puts += it->kind == DT_PUT;
-    if (it->kind == DT_TOOK || it->kind == DT_TOLD_FULL) told->count = it->count;
-    if (it->kind == DT_TOLD_QUIET) told->moment = it->moment;
-    if (it->kind == DT_WAS_READ) told->begin = it->begin, told->end = it->end, told->run = it->run;
+    told->took += it->kind == DT_REPORT_SEND_QUEUED;
+    told->full += it->kind == DT_REPORT_SEND_FULL;
+    told->quiet += it->kind == DT_REPORT_SEND_QUIET;
+    told->read += it->kind == DT_REPORT_READ;
+    told->not_read += it->kind == DT_REPORT_READ_NONE;
+    told->puts += it->kind == DT_REPORT_PACKET_OUT;
+    if (it->kind == DT_REPORT_SEND_QUEUED || it->kind == DT_REPORT_SEND_FULL) told->count = it->count;
+    if (it->kind == DT_REPORT_SEND_QUIET) told->moment = it->time;
+    if (it->kind == DT_REPORT_READ) told->begin = it->begin, told->end = it->end, told->run = it->run;
 }
 
 static void hears(struct node *n, const struct dt_flow *flow) {
-    uint8_t status = dt_hear(n->handle[0], flow);
-    WANT(status == DT_DONE && dt_hear(n->handle[1], flow) == DT_DONE);
+    uint8_t status = dt_node_mark_readable(n->handle[0], flow);
+    WANT(status == DT_OK && dt_node_mark_readable(n->handle[1], flow) == DT_OK);
 }
 
 static bool is_same_report(const struct dt_report *one, const struct dt_report *other) {
-    return one->status == other->status && one->kind == other->kind && is_flow(&one->flow, &other->flow) && one->moment == other->moment && one->number == other->number &&
+    return one->kind == other->kind && is_flow(&one->flow, &other->flow) && one->time == other->time && one->number == other->number &&
            one->count == other->count && one->window == other->window && one->begin == other->begin && one->end == other->end && one->run == other->run && one->sending == other->sending;
 }
 
 /* Takes all reports and frames of both, which have to be the same. */
 static struct told takes_all(struct node *n) {
     struct told told = {0, 0, 0, 0, 0, 0, 0, 0, false, false, false};
+    SIZED(dt_report, one);
+    SIZED(dt_report, other);
+    SIZED(dt_datagram, out);
     for (;;) {
-        struct dt_report one = dt_next_report(n->handle[0]), other = dt_next_report(n->handle[1]);
-        WANT(is_same_report(&one, &other));
-        WANT(one.status == (n->is_open ? DT_DONE : DT_CLOSED) || (n->is_open && one.status == DT_NOTHING));
-        if (one.status != DT_DONE) break;
+        dt_status status = dt_node_next_report(n->handle[0], &one);
+        WANT(dt_node_next_report(n->handle[1], &other) == status && is_same_report(&one, &other));
+        WANT(status == (n->is_open ? DT_OK : DT_NOT_OPEN) || (n->is_open && status == DT_NONE));
+        if (status != DT_OK) break;
         look_at_report(n, &one);
         count(n, &one);
         note(&told, &one);
         happens(one.kind);
-        if (one.kind == DT_PUT) {
+        if (one.kind == DT_REPORT_PACKET_OUT) {
             struct left left = takes_frame((size_t)(n - nodes));
             /* a spent node may have had memory for the report, and none for the frame */
             WANT(left.some ? one.number == left.link && one.count == left.life : n->is_spent);
         }
-        if (n->has_inbox && (one.kind == DT_ACCEPTED || one.kind == DT_RELEASED)) hears(n, &one.flow);
+        if (n->has_inbox && (one.kind == DT_REPORT_ACCEPTED || one.kind == DT_REPORT_RECORD_RELEASED)) hears(n, &one.flow);
     }
     uint8_t room[1];
-    WANT(dt_next_frame(n->handle[0], room, 1).status == (n->is_open ? DT_NOTHING : DT_CLOSED));
-    WANT(dt_next_frame(n->handle[1], room, 1).status == (n->is_open ? DT_NOTHING : DT_CLOSED));
+    WANT(dt_node_next_datagram(n->handle[0], room, 1, &out) == (n->is_open ? DT_NONE : DT_NOT_OPEN));
+    WANT(dt_node_next_datagram(n->handle[1], room, 1, &out) == (n->is_open ? DT_NONE : DT_NOT_OPEN));
     return told;
 }
 
-static bool is_same_counts(const struct dt_counts *one, const struct dt_counts *other) {
-    return one->status == other->status && one->left == other->left && one->taken == other->taken && one->settled == other->settled && one->uncertain == other->uncertain &&
-           one->accepted == other->accepted && one->read == other->read;
+static bool is_same_counts(const struct dt_node_counts *one, const struct dt_node_counts *other) {
+    return one->datagrams_out == other->datagrams_out && one->octets_queued == other->octets_queued && one->octets_acknowledged == other->octets_acknowledged &&
+           one->octets_uncertain == other->octets_uncertain && one->octets_accepted == other->octets_accepted && one->octets_read == other->octets_read;
 }
 
 static void looks_on(struct node *n) {
-    struct dt_moment one = dt_wake(n->handle[0]), other = dt_wake(n->handle[1]);
-    WANT(one.some == other.some && one.at == other.at);
-    /* where a call came so late that a segment isn't sent again any more, the node still tells when it was to be */
-    WANT(!one.some || (n->is_open && !n->is_spent && (n->was_late || one.at > n->greatest)));
-    n->wake = one.some ? one.at : UINT64_MAX;
-    WANT(one.some || one.at == 0);
-    struct dt_counts mine = dt_counts(n->handle[0]), twin = dt_counts(n->handle[1]);
-    WANT(mine.status == (n->is_open ? DT_DONE : DT_CLOSED) && is_same_counts(&mine, &twin));
-    struct dt_kept_out kept = dt_kept_out(n->handle[0]);
-    WANT(kept.closed + kept.crowded == n->kept_out && mine.read <= mine.accepted);
+    n->wake = dt_node_wake(n->handle[0]);
+    WANT(n->wake == dt_node_wake(n->handle[1]));
+    /* a node that was called so late that a segment isn't sent again any more still has the time at which it was to be */
+    WANT(n->wake == DT_NEVER || (n->is_open && !n->is_spent && (n->was_late || n->wake > n->greatest)));
+    SIZED(dt_node_counts, mine);
+    SIZED(dt_node_counts, twin);
+    dt_status status = dt_node_get_counts(n->handle[0], &mine);
+    WANT(status == (n->is_open ? DT_OK : DT_NOT_OPEN) && dt_node_get_counts(n->handle[1], &twin) == status && is_same_counts(&mine, &twin));
+    struct dt_blocked_counts kept = dt_node_get_blocked_counts(n->handle[0]);
+    WANT(kept.closed_port + kept.too_many_flows == n->kept_out && mine.octets_read <= mine.octets_accepted);
     if (!n->is_open || n->is_spent) return;
-    WANT(mine.came == n->counts.came && mine.refused == n->counts.refused && is_same_counts(&mine, &n->counts));
+    WANT(mine.datagrams_in == n->counts.datagrams_in && mine.datagrams_refused == n->counts.datagrams_refused && is_same_counts(&mine, &n->counts));
     for (size_t i = 0; i < n->followed_count; i++) {
-        struct dt_totals all = dt_totals(n->handle[0], &n->followed[i].flow);
+        SIZED(dt_flow_counts, all);
         const struct sums *sums = &n->followed[i].sums;
-        WANT(all.status == DT_DONE && all.taken == sums->taken && all.settled == sums->settled && all.uncertain == sums->uncertain);
-        WANT(all.accepted == sums->accepted && (n->has_inbox || all.read == sums->read));
+        WANT(dt_node_get_flow_counts(n->handle[0], &n->followed[i].flow, &all) == DT_OK && all.octets_queued == sums->taken);
+        WANT(all.octets_acknowledged == sums->settled && all.octets_uncertain == sums->uncertain);
+        WANT(all.octets_accepted == sums->accepted && (n->has_inbox || all.octets_read == sums->read));
     }
 }
 
@@ -217,7 +221,7 @@ static void hears_moment(struct node *n, uint64_t moment) {
 }
 
 static bool has_changed_nothing(uint8_t status) {
-    return status == DT_CLOSED || status == DT_REFUSED || status == DT_HELD || status == DT_SPENT || status == DT_BAD || status == DT_STALE || status == DT_KEPT_OUT;
+    return status == DT_NOT_OPEN || status == DT_INVALID || status == DT_EXISTS || status == DT_STOPPED || status == DT_MALFORMED || status == DT_EXPIRED || status == DT_BLOCKED;
 }
 
 /* Behind an event: its status, and whether memory was refused. */
@@ -225,9 +229,9 @@ static struct told event(struct node *n, uint8_t status, uint64_t moment, bool f
     happens(100u + status);
     WANT(found || n->is_open);
     WANT(status != DT_NO_MEMORY || !found);
-    if (n->is_spent) WANT(status == DT_SPENT || status == DT_KEPT_OUT);
-    else WANT(status != DT_SPENT);
-    if (!n->is_open) WANT(status == DT_CLOSED);
+    if (n->is_spent) WANT(status == DT_STOPPED || status == DT_BLOCKED);
+    else WANT(status != DT_STOPPED);
+    if (!n->is_open) WANT(status == DT_NOT_OPEN);
     if (!has_changed_nothing(status)) hears_moment(n, moment);
     if (status == DT_NO_MEMORY) n->is_spent = any_failed = true;
     struct told told = takes_all(n);
@@ -254,11 +258,11 @@ static struct told event(struct node *n, uint8_t status, uint64_t moment, bool f
 
 static uint8_t ticks(struct node *n) {
     uint64_t moment = moment_of(n);
-#define CALL(side) dt_tick(side, moment)
+#define CALL(side) dt_node_tick(side, moment)
     uint8_t one, other;
     BOTH(CALL, one, other, PLAIN, moment)
 #undef CALL
-    WANT(one == DT_DONE || one == DT_NO_MEMORY || one == DT_CLOSED || one == DT_SPENT);
+    WANT(one == DT_OK || one == DT_NO_MEMORY || one == DT_NOT_OPEN || one == DT_STOPPED);
     struct told told = event(n, one, moment, found);
     WANT(told.took + told.full + told.quiet + told.read + told.not_read == 0);
     return one;
@@ -268,24 +272,24 @@ static uint8_t arrives(struct node *n, uint16_t link, const uint8_t *octets, siz
     uint64_t moment = moment_of(n);
     uint8_t *datagram = block(len);
     memcpy(datagram, octets, len);
-#define CALL(side) dt_arrive(side, moment, link, datagram, len, waited)
-    struct dt_came one, other;
+#define CALL(side) dt_node_receive(side, moment, link, datagram, len, waited)
+    struct dt_receive_result one, other;
     BOTH(CALL, one, other, FIELD, moment)
 #undef CALL
     uint32_t value = 0;
     uint8_t status = one.status, wrong = header_fault(octets, len, &value);
     WANT(is_same(datagram, octets, len));
     free(datagram);
-    if (status == DT_KEPT_OUT) {
+    if (status == DT_BLOCKED) {
         WANT(n->is_guarded && n->is_open);
         n->kept_out++;
     } else if (n->is_open && !n->is_spent) {
-        uint8_t right = !has_link((size_t)(n - nodes), link) ? DT_REFUSED : wrong ? DT_BAD : number_at(octets + 4) <= waited ? DT_STALE : DT_DONE;
-        WANT(status == right || (right == DT_DONE && status == DT_NO_MEMORY));
-        n->counts.came += right == DT_DONE;
-        n->counts.refused += right != DT_DONE;
+        uint8_t right = !has_link((size_t)(n - nodes), link) ? DT_INVALID : wrong ? DT_MALFORMED : number_at(octets + 4) <= waited ? DT_EXPIRED : DT_OK;
+        WANT(status == right || (right == DT_OK && status == DT_NO_MEMORY));
+        n->counts.datagrams_in += right == DT_OK;
+        n->counts.datagrams_refused += right != DT_OK;
     }
-    WANT(status == DT_BAD ? one.fault == wrong && one.value == value : one.fault == 0 && one.value == 0);
+    WANT(status == DT_MALFORMED ? one.fault == wrong && one.value == value : one.fault == 0 && one.value == 0);
     struct told told = event(n, status, moment, found);
     WANT(told.took + told.full + told.quiet + told.read + told.not_read == 0);
     return status;
@@ -306,7 +310,7 @@ static void took(struct known *f, size_t len, bool begin, bool end) {
         first--;
         if (f->sent[first].begin) {
             struct span it = {first, last};
-            if (last - first <= longest_of(f->flow.to - 1)) f->spans[f->span_count++] = it;
+            if (last - first <= longest_of(f->flow.target - 1)) f->spans[f->span_count++] = it;
             return;
         }
     }
@@ -315,34 +319,34 @@ static void took(struct known *f, size_t len, bool begin, bool end) {
 static void sends(struct node *n, const struct dt_flow *flow, size_t len, bool begin, bool end) {
     uint32_t me = (uint32_t)(n - nodes) + 1;
     size_t place = place_of(flow);
-    struct known *f = place < FLOWS && flow->from == me ? &flows[place] : NULL;
+    struct known *f = place < FLOWS && flow->source == me ? &flows[place] : NULL;
     if (len > (size_t)MOST_SEGMENTS * n->params.seg) len = (size_t)MOST_SEGMENTS * n->params.seg;
     if (f != NULL && f->sent_len + len > MOST_SENT) return;
     uint64_t moment = moment_of(n);
     uint8_t *octets = block(len);
     for (size_t i = 0; i < len; i++) octets[i] = f != NULL ? octet_of(place, f->sent_len + i) : (uint8_t)i;
-#define CALL(side) dt_send(side, moment, flow, octets, len, begin, end)
-    struct dt_sent one, other;
+#define CALL(side) dt_node_send(side, moment, flow, octets, len, begin, end)
+    struct dt_send_result one, other;
     BOTH(CALL, one, other, FIELD, moment)
 #undef CALL
     free(octets);
     uint8_t status = one.status;
-    bool is_wrong = flow->from != me || flow->to == me || len == 0, is_quiet = n->is_again && counted(n, moment) < n->until;
+    bool is_wrong = flow->source != me || flow->target == me || len == 0, is_quiet = n->is_again && counted(n, moment) < n->until;
     if (n->is_open && !n->is_spent) {
-        if (is_wrong) WANT(status == DT_REFUSED);
-        else if (status == DT_QUIET) WANT(is_quiet && one.until == n->until);
+        if (is_wrong) WANT(status == DT_INVALID);
+        else if (status == DT_QUIET) WANT(is_quiet && one.quiet_until == n->until);
         else if (status == DT_FULL) WANT(!is_quiet && one.free < len && one.free <= n->params.cap);
-        else WANT(status == DT_NO_MEMORY || (status == DT_DONE && !is_quiet && len <= n->params.cap));
+        else WANT(status == DT_NO_MEMORY || (status == DT_OK && !is_quiet && len <= n->params.cap));
     }
-    WANT(status == DT_QUIET || one.until == 0);
+    WANT(status == DT_QUIET || one.quiet_until == 0);
     WANT(status == DT_FULL || one.free == 0);
-    if (f != NULL && (status == DT_DONE || status == DT_NO_MEMORY)) took(f, len, begin, end);
+    if (f != NULL && (status == DT_OK || status == DT_NO_MEMORY)) took(f, len, begin, end);
     struct told told = event(n, status, moment, found);
     if (status == DT_NO_MEMORY) return;
-    WANT(told.took == (status == DT_DONE) && told.full == (status == DT_FULL) && told.quiet == (status == DT_QUIET) && told.read + told.not_read == 0);
-    if (status == DT_DONE) WANT(told.count == len);
+    WANT(told.took == (status == DT_OK) && told.full == (status == DT_FULL) && told.quiet == (status == DT_QUIET) && told.read + told.not_read == 0);
+    if (status == DT_OK) WANT(told.count == len);
     if (status == DT_FULL) WANT(told.count == one.free);
-    if (status == DT_QUIET) WANT(told.moment == one.until);
+    if (status == DT_QUIET) WANT(told.moment == one.quiet_until);
 }
 
 /* Whether a piece stands at a place of what was sent. */
@@ -353,12 +357,12 @@ static bool stands(const struct known *f, size_t at, const uint8_t *octets, size
     return true;
 }
 
-static void was_read(struct known *f, const uint8_t *octets, size_t len, const struct dt_piece *piece) {
+static void was_read(struct known *f, const uint8_t *octets, size_t len, const struct dt_read_result *piece) {
     size_t least = 0;
     bool any = false;
     memset(places, 0, f->sent_len + 1);
     for (size_t at = f->floor; at < f->sent_len; at++) {
-        if ((piece->run || f->next[at]) && stands(f, at, octets, len, piece->begin, piece->end)) {
+        if ((piece->gap || f->next[at]) && stands(f, at, octets, len, piece->begin, piece->end)) {
             places[at + len] = 1;
             if (!any) least = at + len;
             any = true;
@@ -376,28 +380,28 @@ static bool reads(struct node *n, const struct dt_flow *flow, size_t room) {
     uint64_t moment = moment_of(n);
     uint8_t *buf = block(room), *twin = block(room);
 
-#define CALL(side) dt_read(side, moment, flow, side == n->handle[0] ? buf : twin, room)
-    struct dt_piece one, other = {0, 0, false, false, false};
+#define CALL(side) dt_node_read(side, moment, flow, side == n->handle[0] ? buf : twin, room)
+    struct dt_read_result one, other = {0, 0, false, false, false};
     BOTH(CALL, one, other, FIELD, moment)
 #undef CALL
     uint8_t status = one.status;
-    bool is_wrong = flow->to != me || flow->from == me;
-    if (n->is_open && !n->is_spent) WANT(status == (is_wrong ? DT_REFUSED : room == 0 ? DT_ROOM : status == DT_DONE || status == DT_NO_MEMORY ? status : DT_NOTHING));
-    if (status == DT_DONE) {
+    bool is_wrong = flow->target != me || flow->source == me;
+    if (n->is_open && !n->is_spent) WANT(status == (is_wrong ? DT_INVALID : room == 0 ? DT_BUFFER_TOO_SMALL : status == DT_OK || status == DT_NO_MEMORY ? status : DT_NONE));
+    if (status == DT_OK) {
         WANT(one.len >= 1 && one.len <= room && other.len == one.len && is_same(buf, twin, one.len));
-        WANT(one.begin == other.begin && one.end == other.end && one.run == other.run);
-        n->counts.read += one.len;
+        WANT(one.begin == other.begin && one.end == other.end && one.gap == other.gap);
+        n->counts.octets_read += one.len;
         for (size_t i = 0; i < n->followed_count; i++)
             if (is_flow(&n->followed[i].flow, flow)) n->followed[i].sums.read += one.len;
         if (keeps_duties && place < FLOWS && !n->has_inbox) was_read(&flows[place], buf, one.len, &one);
-    } else WANT(one.len == 0 && !one.begin && !one.end && !one.run);
+    } else WANT(one.len == 0 && !one.begin && !one.end && !one.gap);
     free(buf);
     free(twin);
-    struct told told = event(n, status == DT_ROOM ? DT_REFUSED : status, moment, found);
+    struct told told = event(n, status == DT_BUFFER_TOO_SMALL ? DT_INVALID : status, moment, found);
     if (status == DT_NO_MEMORY) return false;
-    WANT(told.took + told.full + told.quiet == 0 && told.read == (status == DT_DONE) && told.not_read == (status == DT_NOTHING));
-    if (status == DT_DONE) WANT(told.begin == one.begin && told.end == one.end && told.run == one.run);
-    return status == DT_DONE;
+    WANT(told.took + told.full + told.quiet == 0 && told.read == (status == DT_OK) && told.not_read == (status == DT_NONE));
+    if (status == DT_OK) WANT(told.begin == one.begin && told.end == one.end && told.run == one.gap);
+    return status == DT_OK;
 }
 
 /* A message is one of those that were sent, behind the last one; the next one, where there is no gap. */
@@ -426,25 +430,25 @@ static bool takes(struct node *n, size_t room) {
     uint64_t moment = moment_of(n);
     uint8_t *buf = block(room), *twin = block(room);
     memset(buf, 0xEE, room);
-#define CALL(side) dt_take(side, moment, side == n->handle[0] ? buf : twin, room)
-    struct dt_message one, other;
-    memset(&other, 0, sizeof other);
-    BOTH(CALL, one, other, FIELD, moment)
+#define CALL(side) dt_node_next_message(side, moment, side == n->handle[0] ? buf : twin, room, side == n->handle[0] ? &one : &other)
+    SIZED(dt_message, one);
+    SIZED(dt_message, other);
+    dt_status status, twin_status;
+    BOTH(CALL, status, twin_status, PLAIN, moment)
 #undef CALL
-    uint8_t status = one.status;
     /* a flow that can't be read is looked at no more */
-    if (status == DT_SPENT) WANT(dt_take(n->handle[1], moment, twin, room).status == DT_SPENT);
-    WANT(status == DT_DONE || status == DT_NOTHING || status == DT_CLOSED || status == DT_SPENT || status == DT_NO_MEMORY || status == DT_ROOM || status == DT_LOST || status == DT_MORE);
-    WANT(n->has_inbox || status == DT_CLOSED);
+    if (status == DT_STOPPED) WANT(dt_node_next_message(n->handle[1], moment, twin, room, &other) == DT_STOPPED);
+    WANT(status == DT_OK || status == DT_NONE || status == DT_NOT_OPEN || status == DT_STOPPED || status == DT_NO_MEMORY || status == DT_BUFFER_TOO_SMALL || status == DT_LOST || status == DT_MORE);
+    WANT(n->has_inbox || status == DT_NOT_OPEN);
     WANT(status != DT_LOST || !found);
-    for (size_t i = status == DT_DONE ? one.len : 0; i < room; i++) WANT(buf[i] == 0xEE);
-    if (status != DT_CLOSED) WANT(one.too_long >= n->too_long);
-    if (status != DT_CLOSED) n->too_long = one.too_long;
-    if (status == DT_DONE || status == DT_ROOM) {
+    for (size_t i = status == DT_OK ? one.len : 0; i < room; i++) WANT(buf[i] == 0xEE);
+    if (status != DT_NOT_OPEN) WANT(one.dropped_too_long >= n->too_long);
+    if (status != DT_NOT_OPEN) n->too_long = one.dropped_too_long;
+    if (status == DT_OK || status == DT_BUFFER_TOO_SMALL) {
         size_t place = place_of(&one.flow);
-        WANT(one.len >= 1 && one.len <= longest_of((size_t)(n - nodes)) && other.len == one.len && is_flow(&one.flow, &other.flow) && one.gap == other.gap && one.flow.to == me);
-        WANT(status == DT_DONE ? one.len <= room && is_same(buf, twin, one.len) : one.len > room);
-        if (status == DT_DONE && keeps_duties) {
+        WANT(one.len >= 1 && one.len <= longest_of((size_t)(n - nodes)) && other.len == one.len && is_flow(&one.flow, &other.flow) && one.gap == other.gap && one.flow.target == me);
+        WANT(status == DT_OK ? one.len <= room && is_same(buf, twin, one.len) : one.len > room);
+        if (status == DT_OK && keeps_duties) {
             WANT(place < FLOWS);
             was_taken(&flows[place], buf, one.len, one.gap);
         }
@@ -462,36 +466,38 @@ static bool takes(struct node *n, size_t room) {
     struct told told = takes_all(n);
     /* where no flow was read nothing was done */
     if (!n->is_spent && told.read + told.not_read > 0) hears_moment(n, moment);
-    n->counts.read = dt_counts(n->handle[0]).read;
+    SIZED(dt_node_counts, counts);
+    dt_node_get_counts(n->handle[0], &counts);
+    n->counts.octets_read = counts.octets_read;
     looks_on(n);
-    return status == DT_DONE;
+    return status == DT_OK;
 }
 
 /* --- openings */
 
 static void makes_inbox(struct node *n) {
-    uint8_t right = !n->is_open ? DT_CLOSED : n->has_inbox ? DT_HELD : DT_DONE;
-    WANT(dt_inbox(n->handle[0], longest_of((size_t)(n - nodes))) == right);
-    if (right != DT_DONE) return;
-    WANT(dt_inbox(n->handle[1], longest_of((size_t)(n - nodes))) == DT_DONE);
+    uint8_t right = !n->is_open ? DT_NOT_OPEN : n->has_inbox ? DT_EXISTS : DT_OK;
+    WANT(dt_node_enable_messages(n->handle[0], longest_of((size_t)(n - nodes))) == right);
+    if (right != DT_OK) return;
+    WANT(dt_node_enable_messages(n->handle[1], longest_of((size_t)(n - nodes))) == DT_OK);
     n->has_inbox = true;
 }
 
 static void opens(struct node *n, bool again) {
     size_t me = (size_t)(n - nodes);
-    struct dt_start start = {now + n->offset, (uint32_t)me + 1, again};
+    struct dt_node_options options = options_of(me, now + n->offset, again);
     for (size_t i = 0; i < 2; i++) {
-        struct dt_opened it = dt_open(n->handle[i], &n->params, &start, links[me], link_count[me], ROUTES[me], 2);
-        WANT(it.status == DT_DONE && it.field == 0 && it.value == 0);
+        struct dt_open_result it = dt_node_open(n->handle[i], &n->params, &options);
+        WANT(it.status == DT_OK && it.field == 0 && it.value == 0);
     }
-    WANT(dt_open(n->handle[0], &n->params, &start, links[me], link_count[me], ROUTES[me], 2).status == DT_HELD);
+    WANT(dt_node_open(n->handle[0], &n->params, &options).status == DT_EXISTS);
     n->is_open = true;
     n->is_again = again;
     n->is_spent = n->was_late = n->has_inbox = n->is_guarded = n->has_one_port = false;
-    n->wake = UINT64_MAX;
+    n->wake = DT_NEVER;
     n->kept_out = 0;
-    n->greatest = again ? counted(n, start.now) : 0;
-    n->until = again ? (start.now < LAST ? start.now : LAST) + dt_quiet(&n->params) : 0;
+    n->greatest = again ? counted(n, options.now) : 0;
+    n->until = again ? (options.now < LAST ? options.now : LAST) + dt_params_quiet_ms(&n->params) : 0;
     n->too_long = 0;
     n->followed_count = 0;
     memset(&n->counts, 0, sizeof n->counts);
@@ -500,18 +506,18 @@ static void opens(struct node *n, bool again) {
 
 static void closes(struct node *n) {
     size_t me = (size_t)(n - nodes);
-    dt_close(n->handle[0]);
-    dt_close(n->handle[1]);
+    dt_node_close(n->handle[0]);
+    dt_node_close(n->handle[1]);
     n->is_open = n->is_spent = n->has_inbox = n->is_guarded = n->has_one_port = false;
     n->greatest = n->kept_out = 0;
     n->followed_count = 0;
     for (size_t i = 0; i < FLOWS; i++) {
         struct known *f = &flows[i];
-        if (f->flow.from == me + 1) {
+        if (f->flow.source == me + 1) {
             f->sender_life++;
             memset(&f->of_sender, 0, sizeof f->of_sender);
         }
-        if (f->flow.to == me + 1) {
+        if (f->flow.target == me + 1) {
             memset(&f->of_receiver, 0, sizeof f->of_receiver);
             /* what comes next has a run mark, so no place is the next one */
             memset(f->next, 0, f->sent_len + 1);
@@ -520,7 +526,7 @@ static void closes(struct node *n) {
     }
     takes_all(n);
     looks_on(n);
-    WANT(dt_tick(n->handle[0], now) == DT_CLOSED);
+    WANT(dt_node_tick(n->handle[0], now) == DT_NOT_OPEN);
 }
 
 /* --- what calls refuse */
@@ -550,20 +556,21 @@ static unsigned out_of_range(const struct dt_params *p, uint32_t *value) {
 static void params_are_judged(const struct dt_params *p) {
     uint32_t value = 0;
     unsigned wrong = out_of_range(p, &value);
-    struct dt_fingerprint one = dt_fingerprint(p), other = dt_fingerprint(p);
-    WANT(one.status == (wrong < 11 ? DT_REFUSED : DT_DONE) && one.status == other.status && one.value == other.value && (wrong == 11 || one.value == 0));
-    WANT(dt_quiet(p) == (wrong < 11 ? 0 : 3 * (uint64_t)p->mpl + p->r + p->a));
-    dt_node *n = (dt_node *)block(dt_size());
-    struct dt_start start = {0, 1, false};
-    dt_init(n);
+    uint64_t one = 1, other = 2;
+    dt_status status = dt_params_fingerprint(p, &one);
+    WANT(status == (wrong < 11 ? DT_INVALID : DT_OK) && dt_params_fingerprint(p, &other) == status && one == other && (wrong == 11 || one == 0));
+    WANT(dt_params_quiet_ms(p) == (wrong < 11 ? 0 : 3 * (uint64_t)p->mpl + p->r + p->a));
+    dt_node *n = (dt_node *)block(dt_node_size());
+    struct dt_node_options options = node_options(1, 0, false, links[0], ROUTES[0]);
+    dt_node_init(n);
     may_fail(&wanted);
-    struct dt_opened it = dt_open(n, p, &start, links[0], 1, ROUTES[0], 1);
+    struct dt_open_result it = dt_node_open(n, p, &options);
     bool found = found_memory(&wanted);
-    if (wrong < 11) WANT(it.status == DT_REFUSED && it.field == wrong && it.value == value);
-    else WANT((it.status == DT_DONE || (it.status == DT_NO_MEMORY && !found)) && it.field == 0 && it.value == 0);
-    WANT(dt_tick(n, 0) == (it.status == DT_DONE ? DT_DONE : DT_CLOSED));
-    dt_close(n);
-    dt_close(n);
+    if (wrong < 11) WANT(it.status == DT_INVALID && it.field == wrong + 1 && it.value == value);
+    else WANT((it.status == DT_OK || (it.status == DT_NO_MEMORY && !found)) && it.field == 0 && it.value == 0);
+    WANT(dt_node_tick(n, 0) == (it.status == DT_OK ? DT_OK : DT_NOT_OPEN));
+    dt_node_close(n);
+    dt_node_close(n);
     free(n);
 }
 
@@ -601,14 +608,14 @@ static void is_refused(struct node *n, uint8_t kind, uint8_t how) {
 static void adds_route(struct node *n, uint8_t to, uint8_t link) {
     struct dt_route it = {(uint32_t)to % 8 + 1, (uint16_t)(link % 4)};
     may_fail(&wanted);
-    uint8_t one = dt_add_route(n->handle[0], &it);
+    uint8_t one = dt_node_add_route(n->handle[0], &it);
     bool found = found_memory(&wanted);
-    WANT(one == DT_DONE || one == DT_CLOSED || one == DT_SPENT || one == DT_REFUSED || one == DT_HELD || one == DT_NO_MEMORY);
+    WANT(one == DT_OK || one == DT_NOT_OPEN || one == DT_STOPPED || one == DT_INVALID || one == DT_EXISTS || one == DT_NO_MEMORY);
     WANT(one != DT_NO_MEMORY || !found);
-    if (n->is_open && !n->is_spent) WANT(one == DT_REFUSED ? !has_link((size_t)(n - nodes), it.link) : one == DT_HELD || has_link((size_t)(n - nodes), it.link));
-    if (one == DT_DONE) {
-        WANT(dt_add_route(n->handle[1], &it) == DT_DONE);
-        WANT(dt_add_route(n->handle[0], &it) == DT_HELD);
+    if (n->is_open && !n->is_spent) WANT(one == DT_INVALID ? !has_link((size_t)(n - nodes), it.link) : one == DT_EXISTS || has_link((size_t)(n - nodes), it.link));
+    if (one == DT_OK) {
+        WANT(dt_node_add_route(n->handle[1], &it) == DT_OK);
+        WANT(dt_node_add_route(n->handle[0], &it) == DT_EXISTS);
     }
     takes_all(n);
     looks_on(n);
@@ -620,11 +627,11 @@ static void guards(struct node *n, uint8_t how, uint8_t most) {
     bool all = (how & 2) == 0;
     uint32_t flow_count = how & 8 ? UINT32_MAX : most;
     may_fail(&wanted);
-    uint8_t one = dt_guard(n->handle[0], ports, count, all, flow_count);
+    uint8_t one = dt_node_set_guard(n->handle[0], ports, count, all, flow_count);
     bool found = found_memory(&wanted);
-    WANT(one == (n->is_open ? one == DT_NO_MEMORY && !found ? DT_NO_MEMORY : DT_DONE : DT_CLOSED));
-    if (one == DT_DONE) {
-        WANT(dt_guard(n->handle[1], ports, count, all, flow_count) == DT_DONE);
+    WANT(one == (n->is_open ? one == DT_NO_MEMORY && !found ? DT_NO_MEMORY : DT_OK : DT_NOT_OPEN));
+    if (one == DT_OK) {
+        WANT(dt_node_set_guard(n->handle[1], ports, count, all, flow_count) == DT_OK);
         n->is_guarded = !all || flow_count != UINT32_MAX;
         n->has_one_port = !all;
         n->open_port = ports[0];
@@ -635,17 +642,18 @@ static void guards(struct node *n, uint8_t how, uint8_t most) {
 
 static void follows(struct node *n, uint8_t which) {
     struct dt_flow flow = flow_of(which);
+    SIZED(dt_flow_counts, counts);
     uint32_t me = (uint32_t)(n - nodes) + 1;
     size_t at = 0;
     while (at < n->followed_count && !is_flow(&n->followed[at].flow, &flow)) at++;
-    if (at == MOST_FOLLOWED || (flow.from != me && flow.to != me)) return;
-    if (n->is_open && at == n->followed_count) WANT(dt_totals(n->handle[0], &flow).status == DT_NOTHING);
+    if (at == MOST_FOLLOWED || (flow.source != me && flow.target != me)) return;
+    if (n->is_open && at == n->followed_count) WANT(dt_node_get_flow_counts(n->handle[0], &flow, &counts) == DT_NONE);
     may_fail(&wanted);
-    uint8_t one = dt_follow(n->handle[0], &flow);
+    uint8_t one = dt_node_count_flow(n->handle[0], &flow);
     bool found = found_memory(&wanted);
-    WANT(one == (n->is_open ? one == DT_NO_MEMORY && !found ? DT_NO_MEMORY : DT_DONE : DT_CLOSED));
-    if (one == DT_DONE) WANT(dt_follow(n->handle[1], &flow) == DT_DONE);
-    if (one == DT_DONE && at == n->followed_count) {
+    WANT(one == (n->is_open ? one == DT_NO_MEMORY && !found ? DT_NO_MEMORY : DT_OK : DT_NOT_OPEN));
+    if (one == DT_OK) WANT(dt_node_count_flow(n->handle[1], &flow) == DT_OK);
+    if (one == DT_OK && at == n->followed_count) {
         n->followed[at].flow = flow;
         memset(&n->followed[at].sums, 0, sizeof n->followed[at].sums);
         n->followed_count++;
@@ -662,11 +670,17 @@ static void takes_in(size_t node, uint16_t link, const uint8_t *octets, size_t l
 
 static void is_ticked(size_t node) { ticks(&nodes[node]); }
 
-static struct dt_moment wake_of(size_t node) { return dt_wake(nodes[node].handle[0]); }
+static uint64_t wake_of(size_t node) { return dt_node_wake(nodes[node].handle[0]); }
 
 static uint64_t offset_of(size_t node) { return nodes[node].offset; }
 
-static struct dt_out next_frame(size_t node, size_t side, uint8_t *buf, size_t room) { return dt_next_frame(nodes[node].handle[side], buf, room); }
+static struct frame next_frame(size_t node, size_t side, uint8_t *buf, size_t room) {
+    struct frame it;
+    memset(&it, 0, sizeof it);
+    it.it.size = sizeof it.it;
+    it.status = dt_node_next_datagram(nodes[node].handle[side], buf, room, &it.it);
+    return it;
+}
 
 static void reads_all(struct node *n, size_t room) {
     size_t me = (size_t)(n - nodes);
@@ -705,12 +719,12 @@ static void made_up(struct node *n, uint8_t which, uint8_t number, uint8_t how) 
     put(octets + 1, 1, 1);
     put(octets + 2, (uint32_t)len - 16, 2);
     put(octets + 4, 1000, 4);
-    put(octets + 8, back ? flow.to : flow.from, 4);
+    put(octets + 8, back ? flow.target : flow.source, 4);
     put(octets + 12, (uint32_t)me + 1, 4);
     put(octets + 16, kind, 1);
     put(octets + 17, kind == 1 ? which & 7 : 0, 1);
-    put(octets + 18, back ? flow.to_port : flow.from_port, 2);
-    put(octets + 20, back ? flow.from_port : flow.to_port, 2);
+    put(octets + 18, back ? flow.target_port : flow.source_port, 2);
+    put(octets + 20, back ? flow.source_port : flow.target_port, 2);
     put(octets + 22, number < 128 ? number : nodes[me].params.start + (number - 192u) * (how & 8 ? 1 : 100), 4);
     put(octets + 26, kind == 2 ? how * 257u : 0, 4);
     arrives(n, 1, octets, len, 0);
@@ -755,15 +769,15 @@ static void begins(struct input *in) {
         n->offset = CHOICE(CLOCKS, octet(in));
         n->uses_inbox = inboxes >> i & 1;
         for (size_t j = 0; j < 2; j++) {
-            n->handle[j] = (dt_node *)block(dt_size());
-            dt_init(n->handle[j]);
+            n->handle[j] = (dt_node *)block(dt_node_size());
+            dt_node_init(n->handle[j]);
         }
     }
     uint8_t charges = octet(in), paces = octet(in);
     for (size_t i = 0; i < NODES; i++) {
         link_count[i] = i == 1 ? 2 : 1;
         for (size_t j = 0; j < link_count[i]; j++) {
-            struct dt_link it = {CHOICE(CHARGES, charges + i), CHOICE(PACES, paces + i + j), (uint16_t)(j + 1)};
+            struct dt_link it = {CHOICE(CHARGES, charges + i), CHOICE(PACES, paces + i + j), (uint16_t)(j + 1), 0};
             links[i][j] = it;
         }
     }
@@ -779,7 +793,7 @@ static void does(const uint8_t *record) {
     case 0: now += a; break;
     case 1: {
         const struct dt_params *p = &n->params;
-        const uint64_t spans[] = {p->mpl, p->r, p->a, p->rto, p->probe, dt_quiet(p), dt_quiet(p) - p->mpl, dt_quiet(p) + p->r};
+        const uint64_t spans[] = {p->mpl, p->r, p->a, p->rto, p->probe, dt_params_quiet_ms(p), dt_params_quiet_ms(p) - p->mpl, dt_params_quiet_ms(p) + p->r};
         now += spans[b % 8] + (c < 3 ? c - (uint64_t)1 : 0);
         break;
     }
@@ -862,7 +876,7 @@ static void ends_well(void) {
         WANT(any_failed || f->of_sender.taken == f->of_sender.settled + f->of_sender.uncertain);
         WANT(any_failed || f->all.settled <= f->all.accepted);
     }
-    uint64_t longest = dt_quiet(&nodes[0].params);
+    uint64_t longest = dt_params_quiet_ms(&nodes[0].params);
     now += longest;
     struct dt_flow last = flow_at(0, 0, true);
     struct known *f = &flows[place_of(&last)];
@@ -912,7 +926,7 @@ static void knows_flows(void) {
 int LLVMFuzzerTestOneInput(const uint8_t *data, size_t size) {
     if (flows[0].sent == NULL) knows_flows();
     struct input in = {data, size};
-    WANT(dt_abi() == DT_ABI && dt_align() <= 16);
+    WANT(dt_abi_version() == DT_ABI_VERSION && dt_node_align() <= 16);
     begins(&in);
     for (at_record = 0; in.left > 0 && at_record < MOST_OPS; at_record++) {
         uint8_t record[RECORD];

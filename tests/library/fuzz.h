@@ -5,7 +5,7 @@
    that is about to be tried is written to the file that --keep names.
 
    An input is HEAD octets and then records of RECORD octets, a call or what happens to the network each. */
-#include "deltat.h"
+#include "calls.h"
 #include <inttypes.h>
 #include <stdio.h>
 #include <stdlib.h>
@@ -106,10 +106,10 @@ static const size_t LENGTHS[] = {1, 2, 3, 5, 7, 8, 50, 99, 100, 101, 300, 1000, 
 /* --- flows and frames */
 
 static inline bool is_flow(const struct dt_flow *one, const struct dt_flow *other) {
-    return one->from == other->from && one->to == other->to && one->from_port == other->from_port && one->to_port == other->to_port;
+    return one->source == other->source && one->target == other->target && one->source_port == other->source_port && one->target_port == other->target_port;
 }
 
-static inline bool is_no_flow(const struct dt_flow *f) { return (f->from | f->to | f->from_port | f->to_port) == 0; }
+static inline bool is_no_flow(const struct dt_flow *f) { return (f->source | f->target | f->source_port | f->target_port) == 0; }
 
 static inline uint8_t octet_of(size_t flow, size_t place) {
     uint64_t it = (flow * 1000003 + place + 1) * 0x9E3779B97F4A7C15u;
@@ -121,12 +121,12 @@ static inline uint32_t number_at(const uint8_t *at) { return (uint32_t)at[0] << 
 
 /* the first test of a header that fails, or 0 */
 static inline uint8_t header_fault(const uint8_t *frame, size_t len, uint32_t *value) {
-    if (len < 16) return *value = (uint32_t)len, DT_SHORT;
-    if (frame[0] != 1 && frame[0] != 2) return *value = frame[0], DT_VERSION;
+    if (len < 16) return *value = (uint32_t)len, DT_FAULT_SHORT;
+    if (frame[0] != 1 && frame[0] != 2) return *value = frame[0], DT_FAULT_VERSION;
     size_t tells = (size_t)(frame[2] << 8 | frame[3]);
-    if (tells != len - 16 || len - 16 > (frame[0] == 1 ? 1038u : 8206u)) return *value = (uint32_t)tells, DT_LENGTH;
+    if (tells != len - 16 || len - 16 > (frame[0] == 1 ? 1038u : 8206u)) return *value = (uint32_t)tells, DT_FAULT_LENGTH;
     *value = 0;
-    return number_at(frame + 4) == 0 ? DT_DEAD : 0;
+    return number_at(frame + 4) == 0 ? DT_FAULT_LIFETIME : 0;
 }
 
 static inline bool has_packet(const uint8_t *frame, size_t len) {
@@ -158,14 +158,16 @@ static bool keeps_duties, leaps, any_failed;
 static bool is_open(size_t node);
 static void takes_in(size_t node, uint16_t link, const uint8_t *octets, size_t len, uint32_t waited);
 static void is_ticked(size_t node);
-static struct dt_moment wake_of(size_t node);
+static uint64_t wake_of(size_t node);
 static uint64_t offset_of(size_t node);
+/* a frame that a node hands out, or the status with which it doesn't */
+struct frame { struct dt_datagram it; dt_status status; };
 /* the first frame of one of a node's two sides */
-static struct dt_out next_frame(size_t node, size_t side, uint8_t *buf, size_t room);
+static struct frame next_frame(size_t node, size_t side, uint8_t *buf, size_t room);
 
 static inline bool has_link(size_t node, uint16_t link) {
     for (size_t i = 0; i < link_count[node]; i++)
-        if (links[node][i].link == link) return true;
+        if (links[node][i].number == link) return true;
     return false;
 }
 
@@ -194,33 +196,33 @@ struct left { bool some; uint16_t link; uint32_t life; };
 static inline struct left takes_frame(size_t from) {
     struct left left = {false, 0, 0};
     uint8_t *small = block(0);
-    struct dt_out none = next_frame(from, 0, small, 0);
-    if (none.status == DT_NOTHING || none.status == DT_CLOSED) {
-        WANT(next_frame(from, 1, small, 0).status == none.status && (none.status == DT_NOTHING) == is_open(from));
+    struct frame none = next_frame(from, 0, small, 0);
+    if (none.status == DT_NONE || none.status == DT_NOT_OPEN) {
+        WANT(next_frame(from, 1, small, 0).status == none.status && (none.status == DT_NONE) == is_open(from));
         free(small);
         return left;
     }
-    WANT(none.status == DT_ROOM && none.len >= 16 && none.len <= DT_MOST_FRAME);
+    WANT(none.status == DT_BUFFER_TOO_SMALL && none.it.len >= 16 && none.it.len <= DT_MAX_DATAGRAM);
     free(small);
-    size_t len = none.len + BEHIND;
-    uint8_t *room = block(len), *other = block(none.len);
-    small = block(none.len - 1);
-    memset(small, 0xEE, none.len - 1);
-    struct dt_out less = next_frame(from, 0, small, none.len - 1);
-    WANT(less.status == DT_ROOM && less.len == none.len);
-    for (size_t i = 0; i < none.len - 1; i++) WANT(small[i] == 0xEE);
+    size_t len = none.it.len + BEHIND;
+    uint8_t *room = block(len), *other = block(none.it.len);
+    small = block(none.it.len - 1);
+    memset(small, 0xEE, none.it.len - 1);
+    struct frame less = next_frame(from, 0, small, none.it.len - 1);
+    WANT(less.status == DT_BUFFER_TOO_SMALL && less.it.len == none.it.len);
+    for (size_t i = 0; i < none.it.len - 1; i++) WANT(small[i] == 0xEE);
     free(small);
     memset(room, 0xEE, len);
-    struct dt_out out = next_frame(from, 0, room, len), twin = next_frame(from, 1, other, none.len);
-    WANT(out.status == DT_DONE && twin.status == DT_DONE && out.len == none.len && twin.len == out.len);
-    WANT(out.to == twin.to && out.link == twin.link && is_same(room, other, out.len));
-    for (size_t i = out.len; i < len; i++) WANT(room[i] == 0xEE);
+    struct frame out = next_frame(from, 0, room, len), twin = next_frame(from, 1, other, none.it.len);
+    WANT(out.status == DT_OK && twin.status == DT_OK && out.it.len == none.it.len && twin.it.len == out.it.len);
+    WANT(out.it.to == twin.it.to && out.it.link == twin.it.link && is_same(room, other, out.it.len));
+    for (size_t i = out.it.len; i < len; i++) WANT(room[i] == 0xEE);
     uint32_t value;
-    WANT(header_fault(room, out.len, &value) == 0 && number_at(room + 12) == out.to);
-    WANT(number_at(room + 8) != from + 1 || has_packet(room, out.len));
-    WANT(has_link(from, out.link));
-    goes_off(from, out.link, room, out.len);
-    left = (struct left){true, out.link, number_at(room + 4)};
+    WANT(header_fault(room, out.it.len, &value) == 0 && number_at(room + 12) == out.it.to);
+    WANT(number_at(room + 8) != from + 1 || has_packet(room, out.it.len));
+    WANT(has_link(from, out.it.link));
+    goes_off(from, out.it.link, room, out.it.len);
+    left = (struct left){true, out.it.link, number_at(room + 4)};
     free(room);
     free(other);
     return left;
@@ -251,9 +253,9 @@ static inline void all_come(uint8_t lost) {
 static inline bool least_wake(uint64_t *at) {
     bool any = false;
     for (size_t i = 0; i < NODES; i++) {
-        struct dt_moment it = wake_of(i);
-        if (!it.some) continue;
-        uint64_t mine = it.at > offset_of(i) ? it.at - offset_of(i) : 0;
+        uint64_t it = wake_of(i);
+        if (it == DT_NEVER) continue;
+        uint64_t mine = it > offset_of(i) ? it - offset_of(i) : 0;
         if (!any || mine < *at) *at = mine;
         any = true;
     }
@@ -265,8 +267,8 @@ static inline void goes_on(bool all) {
     if (!least_wake(&at) || at >= LAST) return;
     if (at > now) now = at;
     for (size_t i = 0; i < NODES; i++) {
-        struct dt_moment it = wake_of(i);
-        if (all || (it.some && it.at <= now + offset_of(i))) is_ticked(i);
+        uint64_t it = wake_of(i);
+        if (all || (it != DT_NEVER && it <= now + offset_of(i))) is_ticked(i);
     }
 }
 
@@ -286,7 +288,16 @@ static inline bool found_memory(unsigned *wanted) {
 
 static unsigned wanted;
 
+/* the options of a node with its links and routes */
+static inline struct dt_node_options options_of(size_t node, uint64_t at, bool again) {
+    struct dt_node_options it = node_options((uint32_t)node + 1, at, again, links[node], ROUTES[node]);
+    it.link_count = link_count[node];
+    it.route_count = 2;
+    return it;
+}
+
 static inline void params_of(struct input *in, struct dt_params *p) {
+    p->size = sizeof *p;
     p->mpl = CHOICE(LIVES, octet(in));
     p->r = CHOICE(RESENDS, octet(in));
     p->a = CHOICE(DELAYS, octet(in));

@@ -43,7 +43,7 @@ static size_t call_count;
 struct node {
     dt_service *handle[2];
     struct dt_params params;
-    struct dt_service_start start;
+    struct dt_service_options limits;
     bool is_open, is_again, is_spent, was_late, is_lazy, is_guarded;
     unsigned openings;
     uint32_t life, count;
@@ -76,16 +76,19 @@ static struct call *call_of(const struct dt_flow *flow, uint64_t number) {
     return NULL;
 }
 
+/* what the program hands over with a call, and gets back with its end */
+static uint64_t user_of(const struct call *it) { return (uint64_t)(it - calls) * 0x9E3779B97F4A7C15u; }
+
 /* a call of this opening of a node */
 static struct call *own_call(const struct node *n, uint64_t number) {
     for (size_t i = call_count; i-- > 0;)
-        if (calls[i].number == number && calls[i].flow.from == name_of(n) && calls[i].made_by == n->openings) return &calls[i];
+        if (calls[i].number == number && calls[i].flow.source == name_of(n) && calls[i].made_by == n->openings) return &calls[i];
     return NULL;
 }
 
-static bool is_of(const struct call *it, const struct node *n) { return it->flow.from == name_of(n) && it->made_by == n->openings; }
+static bool is_of(const struct call *it, const struct node *n) { return it->flow.source == name_of(n) && it->made_by == n->openings; }
 
-static bool is_token_of(const struct call *it, const struct node *n) { return it->is_token && it->flow.to == name_of(n) && it->served_by == n->openings; }
+static bool is_token_of(const struct call *it, const struct node *n) { return it->is_token && it->flow.target == name_of(n) && it->served_by == n->openings; }
 
 static size_t waiting(const struct node *n) {
     size_t count = 0;
@@ -102,8 +105,8 @@ static size_t tokens(const struct node *n, const struct dt_flow *flow) {
 /* --- what was told */
 
 static void is_handed_out(struct node *n, const struct dt_event *it, const uint8_t *octets) {
-    struct call *call = call_of(&it->flow, it->number);
-    WANT(it->flow.to == name_of(n) && it->flow.from != it->flow.to && it->cause == 0);
+    struct call *call = call_of(&it->flow, it->call);
+    WANT(it->flow.target == name_of(n) && it->flow.source != it->flow.target && it->cause == 0 && it->user == 0);
     if (!keeps_duties) {
         /* a payload that was changed may have the name of any call */
         if (call != NULL) call->was_handed_out = call->is_token = true, call->served_by = n->openings;
@@ -114,12 +117,12 @@ static void is_handed_out(struct node *n, const struct dt_event *it, const uint8
     for (const struct call *later = call + 1; later < calls + call_count; later++) WANT(!later->was_handed_out || !is_flow(&later->flow, &call->flow));
     call->was_handed_out = call->is_token = true;
     call->served_by = n->openings;
-    WANT(tokens(n, NULL) <= n->start.requests && tokens(n, &it->flow) <= n->start.of_a_flow);
+    WANT(tokens(n, NULL) <= n->limits.max_requests && tokens(n, &it->flow) <= n->limits.max_requests_per_flow);
 }
 
 static void is_answered(struct node *n, const struct dt_event *it, const uint8_t *octets) {
-    struct call *call = own_call(n, it->number);
-    WANT(call != NULL && call->fate == WAITS && is_no_flow(&it->flow) && it->cause == 0);
+    struct call *call = own_call(n, it->call);
+    WANT(call != NULL && call->fate == WAITS && is_no_flow(&it->flow) && it->cause == 0 && it->user == user_of(call));
     call->fate = ANSWERED;
     if (!keeps_duties) return;
     WANT(call->was_replied && call->reply_len == it->len);
@@ -127,37 +130,41 @@ static void is_answered(struct node *n, const struct dt_event *it, const uint8_t
 }
 
 static void is_unsure(struct node *n, const struct dt_event *it) {
-    struct call *call = own_call(n, it->number);
-    WANT(call != NULL && call->fate == WAITS && is_no_flow(&it->flow) && it->len == 0);
-    WANT(it->cause == DT_GIVEN_UP || it->cause == DT_PATIENCE || it->cause == DT_WAS_CLOSED);
-    if (it->cause == DT_PATIENCE) WANT(n->judged >= call->due);
-    WANT((it->cause == DT_WAS_CLOSED) <= n->is_spent);
+    struct call *call = own_call(n, it->call);
+    WANT(call != NULL && call->fate == WAITS && is_no_flow(&it->flow) && it->len == 0 && it->user == user_of(call));
+    WANT(it->cause == DT_CAUSE_GIVEN_UP || it->cause == DT_CAUSE_TIMEOUT || it->cause == DT_CAUSE_STOPPED);
+    if (it->cause == DT_CAUSE_TIMEOUT) WANT(n->judged >= call->due);
+    WANT((it->cause == DT_CAUSE_STOPPED) <= n->is_spent);
     call->fate = UNSURE;
 }
 
-/* The next thing that both sides tell, into memory of exactly its size. Whether there was one. */
+/* The next event of both sides, into memory of exactly its size. Whether there was one. */
 static bool takes_event(struct node *n) {
     uint8_t *small = block(0);
-    struct dt_event none = dt_next_event(n->handle[0], small, 0);
-    if (none.status == DT_NOTHING || none.status == DT_CLOSED) {
-        WANT(none.status == (n->is_open ? DT_NOTHING : DT_CLOSED) && dt_next_event(n->handle[1], small, 0).status == none.status);
+    SIZED(dt_event, one);
+    SIZED(dt_event, other);
+    dt_status status = dt_service_next_event(n->handle[0], small, 0, &one);
+    if (status == DT_NONE || status == DT_NOT_OPEN) {
+        WANT(status == (n->is_open ? DT_NONE : DT_NOT_OPEN) && dt_service_next_event(n->handle[1], small, 0, &other) == status);
         free(small);
         return false;
     }
     free(small);
-    WANT(none.status == DT_DONE || (none.status == DT_ROOM && none.len >= 1 && none.len <= 65528));
-    size_t len = none.len;
+    WANT(status == DT_OK || (status == DT_BUFFER_TOO_SMALL && one.len >= 1 && one.len <= DT_MAX_PAYLOAD));
+    WANT(status == DT_OK || (one.kind == 0 && one.call == 0 && one.user == 0 && is_no_flow(&one.flow)));
+    size_t len = one.len;
     uint8_t *octets = block(len + BEHIND), *twin = block(len);
     memset(octets, 0xEE, len + BEHIND);
-    struct dt_event one = none.status == DT_DONE ? none : dt_next_event(n->handle[0], octets, len + BEHIND), other = dt_next_event(n->handle[1], twin, len);
-    WANT(one.status == DT_DONE && other.status == DT_DONE && one.len == len && other.len == len && is_same(octets, twin, len));
-    WANT(one.number == other.number && one.kind == other.kind && one.cause == other.cause && is_flow(&one.flow, &other.flow));
+    if (status != DT_OK) WANT(dt_service_next_event(n->handle[0], octets, len + BEHIND, &one) == DT_OK);
+    WANT(dt_service_next_event(n->handle[1], twin, len, &other) == DT_OK && one.len == len && other.len == len && is_same(octets, twin, len));
+    WANT(one.call == other.call && one.kind == other.kind && one.cause == other.cause && one.user == other.user && is_flow(&one.flow, &other.flow));
     for (size_t i = len; i < len + BEHIND; i++) WANT(octets[i] == 0xEE);
     happens(one.kind * 4u + one.cause);
-    if (one.kind == DT_REQUEST) is_handed_out(n, &one, octets);
-    else if (one.kind == DT_ANSWERED) is_answered(n, &one, octets);
+    if (one.kind == DT_EVENT_REQUEST) is_handed_out(n, &one, octets);
+    else if (one.kind == DT_EVENT_ANSWERED) is_answered(n, &one, octets);
+    else if (one.kind == DT_EVENT_REPLY_UNCERTAIN) WANT(one.flow.target == name_of(n) && one.flow.source != one.flow.target && one.call == 0 && one.user == 0 && one.len == 0);
     else {
-        WANT(one.kind == DT_UNSURE);
+        WANT(one.kind == DT_EVENT_UNSURE);
         is_unsure(n, &one);
     }
     free(octets);
@@ -175,27 +182,35 @@ static void takes_events(struct node *n) {
     }
 }
 
+static bool is_same_dropped(const struct dt_call_counts *one, const struct dt_call_counts *other) {
+    return one->late_replies == other->late_replies && one->old_replies == other->old_replies && one->unknown_replies == other->unknown_replies &&
+           one->reused_requests == other->reused_requests && one->cut == other->cut && one->too_long == other->too_long && one->too_short == other->too_short;
+}
+
 static bool is_same_counts(const struct node *n) {
-    struct dt_counts one = dt_service_counts(n->handle[0]), other = dt_service_counts(n->handle[1]);
-    struct dt_call_counts mine = dt_call_counts(n->handle[0]), twin = dt_call_counts(n->handle[1]);
-    struct dt_kept_out kept = dt_service_kept_out(n->handle[0]);
-    WANT(one.status == (n->is_open ? DT_DONE : DT_CLOSED) && mine.status == one.status);
-    WANT(n->is_guarded || kept.closed + kept.crowded == 0);
-    if (keeps_duties) WANT(mine.strange == 0 && mine.reused == 0 && mine.too_long == 0 && mine.too_short == 0);
+    SIZED(dt_node_counts, one);
+    SIZED(dt_node_counts, other);
+    SIZED(dt_call_counts, mine);
+    SIZED(dt_call_counts, twin);
+    dt_status status = n->is_open ? DT_OK : DT_NOT_OPEN;
+    WANT(dt_service_get_counts(n->handle[0], &one) == status && dt_service_get_counts(n->handle[1], &other) == status);
+    WANT(dt_service_get_call_counts(n->handle[0], &mine) == status && dt_service_get_call_counts(n->handle[1], &twin) == status);
+    struct dt_blocked_counts kept = dt_service_get_blocked_counts(n->handle[0]);
+    WANT(n->is_guarded || kept.closed_port + kept.too_many_flows == 0);
+    if (keeps_duties) WANT(mine.unknown_replies == 0 && mine.reused_requests == 0 && mine.too_long == 0 && mine.too_short == 0);
     /* what the second one isn't asked isn't counted there */
-    return one.status == other.status && one.left == other.left && one.taken == other.taken && one.settled == other.settled && one.uncertain == other.uncertain &&
-           one.accepted == other.accepted && one.read == other.read && mine.status == twin.status && mine.late == twin.late && mine.old == twin.old &&
-           mine.strange == twin.strange && mine.reused == twin.reused && mine.cut == twin.cut && mine.too_long == twin.too_long && mine.too_short == twin.too_short;
+    return one.datagrams_out == other.datagrams_out && one.octets_queued == other.octets_queued && one.octets_acknowledged == other.octets_acknowledged &&
+           one.octets_uncertain == other.octets_uncertain && one.octets_accepted == other.octets_accepted && one.octets_read == other.octets_read &&
+           is_same_dropped(&mine, &twin);
 }
 
 static void looks_on(struct node *n) {
     while (takes_frame(index_of(n)).some) {}
     if (!n->is_lazy || !n->is_open) takes_events(n);
-    struct dt_moment one = dt_service_wake(n->handle[0]), other = dt_service_wake(n->handle[1]);
-    WANT(one.some == other.some && one.at == other.at && (one.some || one.at == 0));
-    /* where a call came so late that a segment isn't sent again any more, the node still tells when it was to be */
-    WANT(!one.some || (n->is_open && !n->is_spent && (n->was_late || one.at > n->greatest)));
-    n->wake = one.some ? one.at : UINT64_MAX;
+    n->wake = dt_service_wake(n->handle[0]);
+    WANT(n->wake == dt_service_wake(n->handle[1]));
+    /* a node that was called so late that a segment isn't sent again any more still has the time at which it was to be */
+    WANT(n->wake == DT_NEVER || (n->is_open && !n->is_spent && (n->was_late || n->wake > n->greatest)));
     if (!n->is_lazy && n->is_open && !n->is_spent)
         for (size_t i = 0; i < call_count; i++) WANT(!is_of(&calls[i], n) || calls[i].fate != WAITS || n->wake <= calls[i].due);
     WANT(is_same_counts(n));
@@ -204,8 +219,8 @@ static void looks_on(struct node *n) {
 /* --- calls */
 
 static bool has_changed_nothing(uint8_t status) {
-    return status == DT_CLOSED || status == DT_REFUSED || status == DT_HELD || status == DT_SPENT || status == DT_BAD || status == DT_STALE || status == DT_KEPT_OUT || status == DT_MANY ||
-           status == DT_NUMBERS || status == DT_GONE;
+    return status == DT_NOT_OPEN || status == DT_INVALID || status == DT_EXISTS || status == DT_STOPPED || status == DT_MALFORMED || status == DT_EXPIRED || status == DT_BLOCKED || status == DT_TOO_MANY_CALLS ||
+           status == DT_LIFE_USED_UP || status == DT_GONE;
 }
 
 /* A turn that changed something judges the calls at its moment. */
@@ -218,8 +233,8 @@ static void turned(struct node *n, uint8_t status, uint64_t moment, bool found) 
     happens(100u + status);
     WANT(found || n->is_open);
     WANT(status != DT_NO_MEMORY || !found);
-    WANT(status != DT_SPENT || n->is_spent);
-    WANT((status == DT_CLOSED) == !n->is_open);
+    WANT(status != DT_STOPPED || n->is_spent);
+    WANT((status == DT_NOT_OPEN) == !n->is_open);
     if (n->is_spent) WANT(has_changed_nothing(status));
     judges(n, status, moment);
     if (!has_changed_nothing(status)) {
@@ -253,7 +268,7 @@ static void ticks(struct node *n) {
     uint8_t one, other;
     BOTH(CALL, one, other, PLAIN)
 #undef CALL
-    WANT(one == DT_DONE || one == DT_NO_MEMORY || one == DT_CLOSED || one == DT_SPENT);
+    WANT(one == DT_OK || one == DT_NO_MEMORY || one == DT_NOT_OPEN || one == DT_STOPPED);
     turned(n, one, moment, found);
 }
 
@@ -261,54 +276,54 @@ static void arrives(struct node *n, uint16_t link, const uint8_t *octets, size_t
     uint64_t moment = moment_of(n);
     uint8_t *datagram = block(len);
     memcpy(datagram, octets, len);
-#define CALL(side) dt_service_arrive(side, moment, link, datagram, len, waited)
-    struct dt_came one, other;
+#define CALL(side) dt_service_receive(side, moment, link, datagram, len, waited)
+    struct dt_receive_result one, other;
     BOTH(CALL, one, other, FIELD)
 #undef CALL
     uint32_t value = 0;
     uint8_t status = one.status, wrong = header_fault(octets, len, &value);
     WANT(is_same(datagram, octets, len));
     free(datagram);
-    if (status == DT_KEPT_OUT) WANT(n->is_guarded && n->is_open);
+    if (status == DT_BLOCKED) WANT(n->is_guarded && n->is_open);
     else if (n->is_open && !n->is_spent) {
-        uint8_t right = !has_link(index_of(n), link) ? DT_REFUSED : wrong ? DT_BAD : number_at(octets + 4) <= waited ? DT_STALE : DT_DONE;
-        WANT(status == right || (right == DT_DONE && status == DT_NO_MEMORY));
+        uint8_t right = !has_link(index_of(n), link) ? DT_INVALID : wrong ? DT_MALFORMED : number_at(octets + 4) <= waited ? DT_EXPIRED : DT_OK;
+        WANT(status == right || (right == DT_OK && status == DT_NO_MEMORY));
     }
-    WANT(status == DT_BAD ? one.fault == wrong && one.value == value : one.fault == 0 && one.value == 0);
+    WANT(status == DT_MALFORMED ? one.fault == wrong && one.value == value : one.fault == 0 && one.value == 0);
     turned(n, status, moment, found);
 }
 
 /* the most octets of a payload */
 static size_t longest(const struct node *n) { return n->params.cap < NAME ? 0 : (n->params.cap < 65536 ? n->params.cap : 65536) - NAME; }
 
-static bool is_caller(const struct dt_flow *flow) { return flow->from_port < PORTS; }
+static bool is_caller(const struct dt_flow *flow) { return flow->source_port < PORTS; }
 
-static void makes_call(struct node *n, const struct dt_flow *flow, size_t len, uint32_t patience) {
+static void makes_call(struct node *n, const struct dt_flow *flow, size_t len, uint32_t timeout) {
     if (call_count == MOST_CALLS) return;
     size_t pending = waiting(n);
     uint64_t moment = moment_of(n);
     uint8_t *payload = block(len);
     for (size_t i = 0; i < len; i++) payload[i] = asked_octet(call_count, i);
-#define CALL(side) dt_call(side, moment, flow, payload, len, patience)
-    struct dt_made one, other = {0, 0, 0, 0, 0};
+#define CALL(side) dt_service_call(side, moment, flow, payload, len, timeout, user_of(&calls[call_count]))
+    struct dt_call_result one, other = {0, 0, 0, 0, 0};
     BOTH(CALL, one, other, FIELD)
 #undef CALL
     free(payload);
     uint8_t status = one.status;
-    bool is_wrong = flow->from != name_of(n) || flow->to == flow->from, is_long = n->params.cap < NAME || len > longest(n), is_quiet = n->is_again && counted(n, moment) < n->until;
-    const bool whys[] = {[0] = false, [DT_BAD_FLOW] = is_wrong, [DT_NOT_A_CALLER] = !is_caller(flow), [DT_TOO_LONG] = is_long, [DT_NO_PATIENCE] = patience == 0, [DT_TOO_MANY] = false};
-    WANT(status == DT_REFUSED ? one.unfit >= DT_BAD_FLOW && one.unfit <= DT_TOO_MANY && whys[one.unfit] : one.unfit == 0);
-    WANT(status == DT_QUIET ? is_quiet && one.until == n->until : one.until == 0);
+    bool is_wrong = flow->source != name_of(n) || flow->target == flow->source, is_long = n->params.cap < NAME || len > longest(n), is_quiet = n->is_again && counted(n, moment) < n->until;
+    const bool whys[] = {[0] = false, [DT_INVALID_FLOW] = is_wrong, [DT_INVALID_PORT] = !is_caller(flow), [DT_INVALID_LENGTH] = is_long, [DT_INVALID_TIMEOUT] = timeout == 0, [DT_INVALID_TOTAL] = false};
+    WANT(status == DT_INVALID ? one.invalid >= DT_INVALID_FLOW && one.invalid <= DT_INVALID_TOTAL && whys[one.invalid] : one.invalid == 0);
+    WANT(status == DT_QUIET ? is_quiet && one.quiet_until == n->until : one.quiet_until == 0);
     WANT(status == DT_FULL ? !is_quiet && one.free < len + NAME && one.free <= n->params.cap : one.free == 0);
-    WANT(status != DT_MANY || pending == n->start.calls);
-    if (status == DT_DONE || status == DT_QUIET || status == DT_FULL) {
-        WANT(!is_wrong && !is_long && is_caller(flow) && patience > 0 && pending < n->start.calls);
+    WANT(status != DT_TOO_MANY_CALLS || pending == n->limits.max_calls);
+    if (status == DT_OK || status == DT_QUIET || status == DT_FULL) {
+        WANT(!is_wrong && !is_long && is_caller(flow) && timeout > 0 && pending < n->limits.max_calls);
         WANT((status == DT_QUIET) == is_quiet);
     } else WANT(has_changed_nothing(status) || status == DT_NO_MEMORY);
     uint64_t number = (uint64_t)n->life << 32 | n->count;
-    WANT(status == DT_DONE ? one.number == number && other.number == number : one.number == 0);
-    if (status == DT_DONE || status == DT_NO_MEMORY) {
-        struct call it = {.flow = *flow, .number = number, .due = counted(n, moment) + patience, .len = len, .made_by = n->openings, .in_doubt = status == DT_NO_MEMORY};
+    WANT(status == DT_OK ? one.call == number && other.call == number : one.call == 0);
+    if (status == DT_OK || status == DT_NO_MEMORY) {
+        struct call it = {.flow = *flow, .number = number, .due = counted(n, moment) + timeout, .len = len, .made_by = n->openings, .in_doubt = status == DT_NO_MEMORY};
         calls[call_count++] = it;
         n->count++;
     }
@@ -323,19 +338,19 @@ static void replies(struct node *n, struct call *call, size_t len) {
     takes_events(n);
     uint8_t *payload = block(len);
     for (size_t i = 0; i < len; i++) payload[i] = given_octet((size_t)(call - calls), i);
-#define CALL(side) dt_reply(side, moment, &token, payload, len)
-    struct dt_replied one, other;
+#define CALL(side) dt_service_reply(side, moment, &token, payload, len)
+    struct dt_reply_result one, other;
     BOTH(CALL, one, other, FIELD)
 #undef CALL
     free(payload);
     uint8_t status = one.status;
     bool is_token = is_token_of(call, n), is_long = n->params.cap < NAME || len > longest(n);
-    WANT(status == DT_DONE || status == DT_FULL || status == DT_CLOSED || status == DT_GONE || status == DT_SPENT || status == DT_REFUSED || status == DT_NO_MEMORY);
-    WANT(status == DT_REFUSED ? one.unfit == DT_TOO_LONG && is_long : one.unfit == 0);
+    WANT(status == DT_OK || status == DT_FULL || status == DT_NOT_OPEN || status == DT_GONE || status == DT_STOPPED || status == DT_INVALID || status == DT_NO_MEMORY);
+    WANT(status == DT_INVALID ? one.invalid == DT_INVALID_LENGTH && is_long : one.invalid == 0);
     WANT(status == DT_FULL ? one.free < len + NAME && one.free <= n->params.cap : one.free == 0);
-    if (n->is_open && !n->is_spent && keeps_duties) WANT(is_token ? status != DT_GONE : status == DT_GONE || status == DT_REFUSED);
-    if (status == DT_DONE || status == DT_NO_MEMORY) call->was_replied = true, call->reply_len = len;
-    if (status == DT_DONE) call->is_token = false;
+    if (n->is_open && !n->is_spent && keeps_duties) WANT(is_token ? status != DT_GONE : status == DT_GONE || status == DT_INVALID);
+    if (status == DT_OK || status == DT_NO_MEMORY) call->was_replied = true, call->reply_len = len;
+    if (status == DT_OK) call->is_token = false;
     turned(n, status, moment, found);
 }
 
@@ -343,13 +358,13 @@ static void forgets(struct node *n, struct call *call) {
     struct dt_token token = {call->number, call->flow};
     uint64_t moment = moment_of(n);
     takes_events(n);
-#define CALL(side) dt_forget(side, moment, &token)
+#define CALL(side) dt_service_forget(side, moment, &token)
     uint8_t one, other;
     BOTH(CALL, one, other, PLAIN)
 #undef CALL
-    WANT(one == DT_DONE || one == DT_CLOSED || one == DT_GONE || one == DT_SPENT || one == DT_NO_MEMORY);
+    WANT(one == DT_OK || one == DT_NOT_OPEN || one == DT_GONE || one == DT_STOPPED || one == DT_NO_MEMORY);
     if (n->is_open && !n->is_spent && keeps_duties) WANT((one == DT_GONE) == !is_token_of(call, n));
-    if (one == DT_DONE) call->is_token = false;
+    if (one == DT_OK) call->is_token = false;
     /* no event of the node: what is due at that moment may be due yet, but one that reads may have come too late */
     n->was_late = n->was_late || (!has_changed_nothing(one) && counted(n, moment) > n->wake);
     judges(n, one, moment);
@@ -359,10 +374,10 @@ static void forgets(struct node *n, struct call *call) {
 /* a life that the node had never, or the one that it has */
 static void raises(struct node *n, bool is_new) {
     uint32_t life = is_new ? n->life + 1 : n->life;
-    uint8_t one = dt_raise(n->handle[0], life);
-    WANT(one == (!n->is_open ? DT_CLOSED : is_new ? DT_DONE : DT_HELD));
-    if (one == DT_DONE) {
-        WANT(dt_raise(n->handle[1], life) == DT_DONE);
+    uint8_t one = dt_service_set_life(n->handle[0], life);
+    WANT(one == (!n->is_open ? DT_NOT_OPEN : is_new ? DT_OK : DT_EXISTS));
+    if (one == DT_OK) {
+        WANT(dt_service_set_life(n->handle[1], life) == DT_OK);
         n->life = life;
         n->count = 0;
     }
@@ -371,7 +386,7 @@ static void raises(struct node *n, bool is_new) {
 
 static void stops(struct node *n) {
     uint8_t one = dt_service_stop(n->handle[0]);
-    WANT(one == (n->is_open ? DT_DONE : DT_CLOSED) && dt_service_stop(n->handle[1]) == one);
+    WANT(one == (n->is_open ? DT_OK : DT_NOT_OPEN) && dt_service_stop(n->handle[1]) == one);
     n->is_spent = n->is_open;
     looks_on(n);
 }
@@ -379,11 +394,11 @@ static void stops(struct node *n) {
 static void guards(struct node *n, bool all, uint32_t flow_count) {
     const uint16_t ports[] = {0, 1, SERVICE_PORT};
     may_fail(&wanted);
-    uint8_t one = dt_service_guard(n->handle[0], ports, all ? 0 : 3, all, flow_count);
+    uint8_t one = dt_service_set_guard(n->handle[0], ports, all ? 0 : 3, all, flow_count);
     bool found = found_memory(&wanted);
-    WANT(one == (n->is_open ? one == DT_NO_MEMORY && !found ? DT_NO_MEMORY : DT_DONE : DT_CLOSED));
-    if (one == DT_DONE) {
-        WANT(dt_service_guard(n->handle[1], ports, all ? 0 : 3, all, flow_count) == DT_DONE);
+    WANT(one == (n->is_open ? one == DT_NO_MEMORY && !found ? DT_NO_MEMORY : DT_OK : DT_NOT_OPEN));
+    if (one == DT_OK) {
+        WANT(dt_service_set_guard(n->handle[1], ports, all ? 0 : 3, all, flow_count) == DT_OK);
         n->is_guarded = true;
     }
     looks_on(n);
@@ -395,41 +410,39 @@ static void guards(struct node *n, bool all, uint32_t flow_count) {
 static void has_port(struct node *n, uint16_t port, uint8_t kind) {
     for (size_t i = 0; i < 2; i++) {
         may_fail(&wanted);
-        uint8_t one = dt_port(n->handle[i], port, kind);
+        uint8_t one = dt_service_set_port(n->handle[i], port, kind);
         bool found = found_memory(&wanted);
         if (one == DT_NO_MEMORY) {
             WANT(!found);
-            one = dt_port(n->handle[i], port, kind);
+            one = dt_service_set_port(n->handle[i], port, kind);
         }
-        WANT(one == DT_DONE);
+        WANT(one == DT_OK);
     }
-    WANT(dt_port(n->handle[0], port, DT_CALLER) == DT_HELD && dt_port(n->handle[0], port, 3) == DT_REFUSED);
+    WANT(dt_service_set_port(n->handle[0], port, DT_PORT_CALLER) == DT_EXISTS && dt_service_set_port(n->handle[0], port, 3) == DT_INVALID);
 }
 
 static void opens(struct node *n, bool again, bool new_life) {
     size_t me = index_of(n);
     n->life += new_life;
-    n->start.now = now + n->offset;
-    n->start.me = name_of(n);
-    n->start.life = n->life;
-    n->start.again = again;
+    n->limits.life = n->life;
+    struct dt_node_options options = options_of(me, now + n->offset, again);
     for (size_t i = 0; i < 2; i++) {
-        struct dt_opened it = dt_service_open(n->handle[i], &n->params, &n->start, links[me], link_count[me], ROUTES[me], 2);
-        WANT(it.status == DT_DONE && it.field == 0 && it.value == 0);
+        struct dt_open_result it = dt_service_open(n->handle[i], &n->params, &options, &n->limits);
+        WANT(it.status == DT_OK && it.field == 0 && it.value == 0);
     }
-    WANT(dt_service_open(n->handle[0], &n->params, &n->start, links[me], link_count[me], ROUTES[me], 2).status == DT_HELD);
-    WANT(dt_service_add_route(n->handle[0], &ROUTES[me][0]) == DT_HELD);
+    WANT(dt_service_open(n->handle[0], &n->params, &options, &n->limits).status == DT_EXISTS);
+    WANT(dt_service_add_route(n->handle[0], &ROUTES[me][0]) == DT_EXISTS);
     n->openings++;
     n->count = 0;
     n->is_open = true;
     n->is_again = again;
     n->is_spent = n->was_late = n->is_guarded = false;
-    n->wake = UINT64_MAX;
-    n->greatest = n->judged = again ? counted(n, n->start.now) : 0;
-    n->until = again ? (n->start.now < LAST ? n->start.now : LAST) + dt_quiet(&n->params) : 0;
+    n->wake = DT_NEVER;
+    n->greatest = n->judged = again ? counted(n, options.now) : 0;
+    n->until = again ? (options.now < LAST ? options.now : LAST) + dt_params_quiet_ms(&n->params) : 0;
     for (uint16_t i = 0; i < PORTS; i++) {
-        has_port(n, CALLER_PORT + i, DT_CALLER);
-        has_port(n, SERVICE_PORT + i, DT_SERVICE);
+        has_port(n, CALLER_PORT + i, DT_PORT_CALLER);
+        has_port(n, SERVICE_PORT + i, DT_PORT_SERVICE);
     }
     looks_on(n);
 }
@@ -442,7 +455,7 @@ static void closes(struct node *n) {
     n->is_open = n->is_spent = n->is_guarded = false;
     n->greatest = 0;
     looks_on(n);
-    WANT(dt_service_tick(n->handle[0], now) == DT_CLOSED);
+    WANT(dt_service_tick(n->handle[0], now) == DT_NOT_OPEN);
 }
 
 /* --- the network */
@@ -453,11 +466,17 @@ static void takes_in(size_t node, uint16_t link, const uint8_t *octets, size_t l
 
 static void is_ticked(size_t node) { ticks(&nodes[node]); }
 
-static struct dt_moment wake_of(size_t node) { return dt_service_wake(nodes[node].handle[0]); }
+static uint64_t wake_of(size_t node) { return dt_service_wake(nodes[node].handle[0]); }
 
 static uint64_t offset_of(size_t node) { return nodes[node].offset; }
 
-static struct dt_out next_frame(size_t node, size_t side, uint8_t *buf, size_t room) { return dt_service_next_frame(nodes[node].handle[side], buf, room); }
+static struct frame next_frame(size_t node, size_t side, uint8_t *buf, size_t room) {
+    struct frame it;
+    memset(&it, 0, sizeof it);
+    it.it.size = sizeof it.it;
+    it.status = dt_service_next_datagram(nodes[node].handle[side], buf, room, &it.it);
+    return it;
+}
 
 /* something under way comes with another octet, or the number of its call is another one */
 static void comes_changed(uint8_t which, uint8_t where, uint8_t how) {
@@ -494,9 +513,10 @@ static void begins(struct input *in) {
         n->params.start += CHOICE(STARTS, octet(in));
         n->offset = CHOICE(CLOCKS, octet(in));
         n->is_lazy = lazy >> i & 1;
-        n->start.calls = CHOICE(PLACES, lazy >> 3);
-        n->start.requests = CHOICE(PLACES, (lazy >> 4) + i);
-        n->start.of_a_flow = CHOICE(PLACES, (lazy >> 5) + i);
+        n->limits.size = sizeof n->limits;
+        n->limits.max_calls = CHOICE(PLACES, lazy >> 3);
+        n->limits.max_requests = CHOICE(PLACES, (lazy >> 4) + i);
+        n->limits.max_requests_per_flow = CHOICE(PLACES, (lazy >> 5) + i);
         for (size_t j = 0; j < 2; j++) {
             n->handle[j] = (dt_service *)block(dt_service_size());
             dt_service_init(n->handle[j]);
@@ -506,7 +526,7 @@ static void begins(struct input *in) {
     for (size_t i = 0; i < NODES; i++) {
         link_count[i] = i == 1 ? 2 : 1;
         for (size_t j = 0; j < link_count[i]; j++) {
-            struct dt_link it = {CHOICE(CHARGES, charges + i), CHOICE(PACES, paces + i + j), (uint16_t)(j + 1)};
+            struct dt_link it = {CHOICE(CHARGES, charges + i), CHOICE(PACES, paces + i + j), (uint16_t)(j + 1), 0};
             links[i][j] = it;
         }
     }
@@ -518,7 +538,7 @@ static struct dt_flow flow_from(const struct node *n, uint8_t it) {
     uint32_t me = name_of(n), other = (me + it % 2) % NODES + 1;
     uint16_t port = (uint16_t)(it >> 1 & 1);
     struct dt_flow flow = {me, it < 252 ? other : me, it < 248 ? port : SERVICE_PORT, (uint16_t)(SERVICE_PORT + (it >> 2 & 1))};
-    if (it >= 254) flow.from = other;
+    if (it >= 254) flow.source = other;
     return flow;
 }
 
@@ -563,7 +583,7 @@ static void does(const uint8_t *record) {
     case 0: now += a; break;
     case 1: {
         const struct dt_params *p = &n->params;
-        const uint64_t spans[] = {p->mpl, p->r, p->a, p->rto, p->probe, dt_quiet(p), dt_quiet(p) - p->mpl, dt_quiet(p) + p->r};
+        const uint64_t spans[] = {p->mpl, p->r, p->a, p->rto, p->probe, dt_params_quiet_ms(p), dt_params_quiet_ms(p) - p->mpl, dt_params_quiet_ms(p) + p->r};
         now += spans[b % 8] + (c < 3 ? c - (uint64_t)1 : 0);
         break;
     }
@@ -638,7 +658,7 @@ static void ends(void) {
 
 int LLVMFuzzerTestOneInput(const uint8_t *data, size_t size) {
     struct input in = {data, size};
-    WANT(dt_abi() == DT_ABI && dt_service_align() <= 16);
+    WANT(dt_abi_version() == DT_ABI_VERSION && dt_service_align() <= 16);
     begins(&in);
     for (at_record = 0; in.left > 0 && at_record < MOST_OPS; at_record++) {
         uint8_t record[RECORD];

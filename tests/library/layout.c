@@ -1,69 +1,176 @@
-/* The structs of deltat.h lie as those of the library do: each size that crates/dt_c/src/rows.rt and service_rows.rt prove, and where each
- * field begins, which both sides lay out by the rules of C. It has nothing to run. */
+/* Where the fields of each struct are, by the rules of C, and so in crates/dt_c: made by release/interface.py from include/deltat.h; to change it, change that.
+ * It has nothing to run. */
 #include "deltat.h"
 
 #define SIZE(type, octets) typedef char size_of_##type[sizeof(struct type) == (octets) ? 1 : -1]
 #define AT(type, field, octets) typedef char place_of_##type##_##field[offsetof(struct type, field) == (octets) ? 1 : -1]
 
-SIZE(dt_params, 44);
 SIZE(dt_flow, 12);
-SIZE(dt_link, 12);
-SIZE(dt_route, 8);
-SIZE(dt_start, 16);
-SIZE(dt_opened, 8);
-SIZE(dt_came, 8);
-SIZE(dt_kept_out, 16);
-SIZE(dt_fingerprint, 16);
-SIZE(dt_counts, 72);
-SIZE(dt_totals, 48);
-SIZE(dt_sent, 16);
-SIZE(dt_piece, 16);
-SIZE(dt_message, 40);
-SIZE(dt_out, 16);
-SIZE(dt_moment, 16);
-SIZE(dt_report, 48);
-SIZE(dt_service_start, 32);
-SIZE(dt_token, 24);
-SIZE(dt_made, 24);
-SIZE(dt_replied, 8);
-SIZE(dt_event, 32);
-SIZE(dt_call_counts, 64);
+AT(dt_flow, source, 0);
+AT(dt_flow, target, 4);
+AT(dt_flow, source_port, 8);
+AT(dt_flow, target_port, 10);
 
-AT(dt_params, mpl, 0); AT(dt_params, r, 4); AT(dt_params, a, 8); AT(dt_params, rto, 12); AT(dt_params, probe, 16);
-AT(dt_params, seg, 20); AT(dt_params, cap, 24); AT(dt_params, rcap, 28); AT(dt_params, window, 32);
-AT(dt_params, run_limit, 36); AT(dt_params, start, 40);
-AT(dt_flow, from, 0); AT(dt_flow, to, 4); AT(dt_flow, from_port, 8); AT(dt_flow, to_port, 10);
-AT(dt_link, charge, 0); AT(dt_link, pace, 4); AT(dt_link, link, 8);
-AT(dt_route, to, 0); AT(dt_route, link, 4);
-AT(dt_start, now, 0); AT(dt_start, me, 8); AT(dt_start, again, 12);
-AT(dt_opened, value, 0); AT(dt_opened, status, 4); AT(dt_opened, field, 5);
-AT(dt_came, value, 0); AT(dt_came, status, 4); AT(dt_came, fault, 5);
-AT(dt_kept_out, closed, 0); AT(dt_kept_out, crowded, 8);
-AT(dt_fingerprint, value, 0); AT(dt_fingerprint, status, 8);
-AT(dt_counts, came, 0); AT(dt_counts, refused, 8); AT(dt_counts, left, 16); AT(dt_counts, taken, 24);
-AT(dt_counts, settled, 32); AT(dt_counts, uncertain, 40); AT(dt_counts, accepted, 48); AT(dt_counts, read, 56);
-AT(dt_counts, status, 64);
-AT(dt_totals, taken, 0); AT(dt_totals, settled, 8); AT(dt_totals, uncertain, 16); AT(dt_totals, accepted, 24);
-AT(dt_totals, read, 32); AT(dt_totals, status, 40);
-AT(dt_sent, until, 0); AT(dt_sent, free, 8); AT(dt_sent, status, 12);
-AT(dt_piece, len, 0); AT(dt_piece, status, 8); AT(dt_piece, begin, 9); AT(dt_piece, end, 10); AT(dt_piece, run, 11);
-AT(dt_message, flow, 0); AT(dt_message, len, 16); AT(dt_message, too_long, 24); AT(dt_message, status, 32);
-AT(dt_message, gap, 33);
-AT(dt_out, len, 0); AT(dt_out, to, 8); AT(dt_out, link, 12); AT(dt_out, status, 14);
-AT(dt_moment, at, 0); AT(dt_moment, some, 8);
-AT(dt_report, flow, 0); AT(dt_report, moment, 16); AT(dt_report, number, 24); AT(dt_report, count, 28);
-AT(dt_report, window, 32); AT(dt_report, status, 36); AT(dt_report, kind, 37); AT(dt_report, begin, 38);
-AT(dt_report, end, 39); AT(dt_report, run, 40); AT(dt_report, sending, 41);
-AT(dt_service_start, now, 0); AT(dt_service_start, me, 8); AT(dt_service_start, life, 12);
-AT(dt_service_start, calls, 16); AT(dt_service_start, requests, 20); AT(dt_service_start, of_a_flow, 24);
-AT(dt_service_start, again, 28);
-AT(dt_token, number, 0); AT(dt_token, flow, 8);
-AT(dt_made, number, 0); AT(dt_made, until, 8); AT(dt_made, free, 16); AT(dt_made, status, 20); AT(dt_made, unfit, 21);
-AT(dt_replied, free, 0); AT(dt_replied, status, 4); AT(dt_replied, unfit, 5);
-AT(dt_event, number, 0); AT(dt_event, len, 8); AT(dt_event, flow, 16); AT(dt_event, status, 28); AT(dt_event, kind, 29);
-AT(dt_event, cause, 30);
-AT(dt_call_counts, late, 0); AT(dt_call_counts, old, 8); AT(dt_call_counts, strange, 16); AT(dt_call_counts, reused, 24);
-AT(dt_call_counts, cut, 32); AT(dt_call_counts, too_long, 40); AT(dt_call_counts, too_short, 48);
-AT(dt_call_counts, status, 56);
+SIZE(dt_params, 48);
+AT(dt_params, size, 0);
+AT(dt_params, mpl, 4);
+AT(dt_params, r, 8);
+AT(dt_params, a, 12);
+AT(dt_params, rto, 16);
+AT(dt_params, probe, 20);
+AT(dt_params, seg, 24);
+AT(dt_params, cap, 28);
+AT(dt_params, rcap, 32);
+AT(dt_params, window, 36);
+AT(dt_params, run_limit, 40);
+AT(dt_params, start, 44);
+
+SIZE(dt_link, 12);
+AT(dt_link, charge, 0);
+AT(dt_link, pace, 4);
+AT(dt_link, number, 8);
+AT(dt_link, reserved, 10);
+
+SIZE(dt_route, 8);
+AT(dt_route, to, 0);
+AT(dt_route, link, 4);
+
+SIZE(dt_node_options, 56);
+AT(dt_node_options, size, 0);
+AT(dt_node_options, node, 4);
+AT(dt_node_options, now, 8);
+AT(dt_node_options, links, 16);
+AT(dt_node_options, link_count, 24);
+AT(dt_node_options, routes, 32);
+AT(dt_node_options, route_count, 40);
+AT(dt_node_options, start_as, 48);
+
+SIZE(dt_open_result, 8);
+AT(dt_open_result, value, 0);
+AT(dt_open_result, status, 4);
+AT(dt_open_result, field, 5);
+
+SIZE(dt_receive_result, 8);
+AT(dt_receive_result, value, 0);
+AT(dt_receive_result, status, 4);
+AT(dt_receive_result, fault, 5);
+
+SIZE(dt_send_result, 16);
+AT(dt_send_result, quiet_until, 0);
+AT(dt_send_result, free, 8);
+AT(dt_send_result, status, 12);
+
+SIZE(dt_read_result, 16);
+AT(dt_read_result, len, 0);
+AT(dt_read_result, status, 8);
+AT(dt_read_result, begin, 9);
+AT(dt_read_result, end, 10);
+AT(dt_read_result, gap, 11);
+
+SIZE(dt_message, 40);
+AT(dt_message, size, 0);
+AT(dt_message, flow, 4);
+AT(dt_message, len, 16);
+AT(dt_message, dropped_too_long, 24);
+AT(dt_message, gap, 32);
+
+SIZE(dt_datagram, 24);
+AT(dt_datagram, size, 0);
+AT(dt_datagram, to, 4);
+AT(dt_datagram, len, 8);
+AT(dt_datagram, link, 16);
+
+SIZE(dt_report, 48);
+AT(dt_report, size, 0);
+AT(dt_report, flow, 4);
+AT(dt_report, time, 16);
+AT(dt_report, number, 24);
+AT(dt_report, count, 28);
+AT(dt_report, window, 32);
+AT(dt_report, kind, 36);
+AT(dt_report, begin, 37);
+AT(dt_report, end, 38);
+AT(dt_report, run, 39);
+AT(dt_report, sending, 40);
+
+SIZE(dt_blocked_counts, 16);
+AT(dt_blocked_counts, closed_port, 0);
+AT(dt_blocked_counts, too_many_flows, 8);
+
+SIZE(dt_node_counts, 72);
+AT(dt_node_counts, size, 0);
+AT(dt_node_counts, reserved, 4);
+AT(dt_node_counts, datagrams_in, 8);
+AT(dt_node_counts, datagrams_refused, 16);
+AT(dt_node_counts, datagrams_out, 24);
+AT(dt_node_counts, octets_queued, 32);
+AT(dt_node_counts, octets_acknowledged, 40);
+AT(dt_node_counts, octets_uncertain, 48);
+AT(dt_node_counts, octets_accepted, 56);
+AT(dt_node_counts, octets_read, 64);
+
+SIZE(dt_flow_counts, 48);
+AT(dt_flow_counts, size, 0);
+AT(dt_flow_counts, reserved, 4);
+AT(dt_flow_counts, octets_queued, 8);
+AT(dt_flow_counts, octets_acknowledged, 16);
+AT(dt_flow_counts, octets_uncertain, 24);
+AT(dt_flow_counts, octets_accepted, 32);
+AT(dt_flow_counts, octets_read, 40);
+
+SIZE(dt_service_options, 20);
+AT(dt_service_options, size, 0);
+AT(dt_service_options, life, 4);
+AT(dt_service_options, max_calls, 8);
+AT(dt_service_options, max_requests, 12);
+AT(dt_service_options, max_requests_per_flow, 16);
+
+SIZE(dt_token, 24);
+AT(dt_token, call, 0);
+AT(dt_token, flow, 8);
+
+SIZE(dt_call_result, 24);
+AT(dt_call_result, call, 0);
+AT(dt_call_result, quiet_until, 8);
+AT(dt_call_result, free, 16);
+AT(dt_call_result, status, 20);
+AT(dt_call_result, invalid, 21);
+
+SIZE(dt_reply_result, 8);
+AT(dt_reply_result, free, 0);
+AT(dt_reply_result, status, 4);
+AT(dt_reply_result, invalid, 5);
+
+SIZE(dt_event, 48);
+AT(dt_event, size, 0);
+AT(dt_event, kind, 4);
+AT(dt_event, cause, 5);
+AT(dt_event, call, 8);
+AT(dt_event, user, 16);
+AT(dt_event, len, 24);
+AT(dt_event, flow, 32);
+
+SIZE(dt_call_counts, 64);
+AT(dt_call_counts, size, 0);
+AT(dt_call_counts, reserved, 4);
+AT(dt_call_counts, late_replies, 8);
+AT(dt_call_counts, old_replies, 16);
+AT(dt_call_counts, unknown_replies, 24);
+AT(dt_call_counts, reused_requests, 32);
+AT(dt_call_counts, cut, 40);
+AT(dt_call_counts, too_long, 48);
+AT(dt_call_counts, too_short, 56);
+
+SIZE(dt_network, 48);
+AT(dt_network, size, 0);
+AT(dt_network, hops, 4);
+AT(dt_network, delay_us, 8);
+AT(dt_network, round_trip_us, 16);
+AT(dt_network, drift_ppm, 24);
+AT(dt_network, tries, 28);
+AT(dt_network, mtu, 32);
+AT(dt_network, room, 36);
+AT(dt_network, wait_ms, 40);
+AT(dt_network, shelf, 44);
 
 int main(void) { return 0; }

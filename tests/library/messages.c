@@ -1,6 +1,6 @@
-/* Whole messages: two nodes in memory, and what dt_inbox, dt_hear and dt_take make of what one sends the other. Ends
-   with 0 where all is as deltat.h says, else it prints the line that isn't and ends with 1. */
-#include "deltat.h"
+/* Whole messages: two nodes in memory, and what dt_node_next_message makes of what one sends the other. Ends with 0 if all is as
+   deltat.h says, else it prints the line that isn't and ends with 1. */
+#include "calls.h"
 #include <stdio.h>
 #include <stdlib.h>
 #include <string.h>
@@ -15,55 +15,66 @@
 
 enum { LINK = 7, ROOM = 65536, FLOWS = 50, EACH = 4, MOST = 30000 };
 
-static const struct dt_params params = {1000, 8000, 200, 200, 800, 1000, 65536, 65536, 65536, 2147483648u, 0};
+static const struct dt_params params = {sizeof params, 1000, 8000, 200, 200, 800, 1000, 65536, 65536, 65536, 2147483648u, 0};
 static const struct dt_flow flow = {1, 2, 10, 20};
-static uint8_t message[ROOM], came[ROOM], frame[DT_MOST_FRAME];
+static uint8_t message[ROOM], came[ROOM], frame[DT_MAX_DATAGRAM];
 static dt_node *one, *two;
 
 static dt_node *opened(uint32_t me, uint32_t other) {
-    struct dt_start start = {0, me, false};
-    struct dt_link link = {50, 0, LINK};
-    struct dt_route route = {other, LINK};
-    dt_node *n = (dt_node *)malloc(dt_size());
+    const struct dt_link link = {50, 0, LINK, 0};
+    const struct dt_route route = {other, LINK};
+    struct dt_node_options options = node_options(me, 0, false, &link, &route);
+    dt_node *n = (dt_node *)malloc(dt_node_size());
     WANT(n != NULL);
-    dt_init(n);
-    WANT(dt_inbox(n, MOST) == DT_CLOSED);
-    WANT(dt_open(n, &params, &start, &link, 1, &route, 1).status == DT_DONE);
+    dt_node_init(n);
+    WANT(dt_node_enable_messages(n, MOST) == DT_NOT_OPEN);
+    WANT(dt_node_open(n, &params, &options).status == DT_OK);
     return n;
 }
 
+/* the next message of node 2 */
+static dt_status next(uint64_t now, size_t room, struct dt_message *it) {
+    memset(it, 0, sizeof *it);
+    it->size = sizeof *it;
+    return dt_node_next_message(two, now, came, room, it);
+}
+
 static void starts(size_t longest) {
+    struct dt_message it;
     one = opened(1, 2);
     two = opened(2, 1);
-    WANT(dt_hear(two, &flow) == DT_CLOSED && dt_take(two, 0, came, ROOM).status == DT_CLOSED);
-    WANT(dt_inbox(two, longest) == DT_DONE && dt_inbox(two, longest) == DT_HELD);
-    WANT(dt_take(two, 0, came, ROOM).status == DT_NOTHING);
+    WANT(dt_node_mark_readable(two, &flow) == DT_NOT_OPEN && next(0, ROOM, &it) == DT_NOT_OPEN);
+    WANT(dt_node_enable_messages(two, longest) == DT_OK && dt_node_enable_messages(two, longest) == DT_EXISTS);
+    WANT(next(0, ROOM, &it) == DT_NONE);
+    it.size--;
+    WANT(dt_node_next_message(two, 0, came, ROOM, &it) == DT_INVALID);
 }
 
 static void ends(void) {
-    dt_close(one);
-    dt_close(two);
-    WANT(dt_take(two, 0, came, ROOM).status == DT_CLOSED);
+    struct dt_message it;
+    dt_node_close(one);
+    dt_node_close(two);
+    WANT(next(0, ROOM, &it) == DT_NOT_OPEN);
     free(one);
     free(two);
 }
 
 /* What waits at one comes to the other, or is lost. */
 static void carry(dt_node *from, dt_node *to, uint64_t now, bool lost) {
-    struct dt_out out;
-    while ((out = dt_next_frame(from, frame, sizeof frame)).status == DT_DONE)
-        if (!lost) WANT(dt_arrive(to, now, LINK, frame, out.len, 0).status == DT_DONE);
+    SIZED(dt_datagram, out);
+    while (dt_node_next_datagram(from, frame, sizeof frame, &out) == DT_OK)
+        if (!lost) WANT(dt_node_receive(to, now, LINK, frame, out.len, 0).status == DT_OK);
 }
 
-/* The inbox hears of the flows that the reports name. */
+/* Marks the flows that the reports name. */
 static void hears(dt_node *n) {
-    struct dt_report it;
-    while ((it = dt_next_report(n)).status == DT_DONE)
-        if (it.kind == DT_ACCEPTED || it.kind == DT_RELEASED) WANT(dt_hear(n, &it.flow) == DT_DONE);
+    SIZED(dt_report, it);
+    while (dt_node_next_report(n, &it) == DT_OK)
+        if (it.kind == DT_REPORT_ACCEPTED || (it.kind == DT_REPORT_RECORD_RELEASED && !it.sending)) WANT(dt_node_mark_readable(n, &it.flow) == DT_OK);
 }
 
 static void passes(uint64_t now, bool lost) {
-    WANT(dt_tick(one, now) == DT_DONE && dt_tick(two, now) == DT_DONE);
+    WANT(dt_node_tick(one, now) == DT_OK && dt_node_tick(two, now) == DT_OK);
     carry(one, two, now, lost);
     carry(two, one, now, lost);
     hears(two);
@@ -71,26 +82,28 @@ static void passes(uint64_t now, bool lost) {
 }
 
 static void sends(uint64_t now, const char *text) {
-    WANT(dt_send(one, now, &flow, (const uint8_t *)text, strlen(text), true, true).status == DT_DONE);
+    WANT(dt_node_send(one, now, &flow, (const uint8_t *)text, strlen(text), true, true).status == DT_OK);
 }
 
 /* whether the next message is this one, and the rest of the buffer is as it was */
 static bool takes(uint64_t now, const char *text, bool gap) {
     size_t len = strlen(text);
+    struct dt_message it;
     memset(came, 0xEE, sizeof came);
-    struct dt_message it = dt_take(two, now, came, ROOM);
+    dt_status status = next(now, ROOM, &it);
     for (size_t i = len; i < ROOM; i++)
         if (came[i] != 0xEE) return false;
-    return it.status == DT_DONE && it.len == len && memcmp(came, text, len) == 0 && it.gap == gap && it.flow.from == 1 &&
-           it.flow.to == 2 && it.flow.from_port == 10 && it.flow.to_port == 20;
+    return status == DT_OK && it.len == len && memcmp(came, text, len) == 0 && it.gap == gap && it.flow.source == 1 &&
+           it.flow.target == 2 && it.flow.source_port == 10 && it.flow.target_port == 20;
 }
 
 static bool takes_none(uint64_t now) {
+    struct dt_message it;
     memset(came, 0xEE, sizeof came);
-    struct dt_message it = dt_take(two, now, came, ROOM);
+    dt_status status = next(now, ROOM, &it);
     for (size_t i = 0; i < ROOM; i++)
         if (came[i] != 0xEE) return false;
-    return it.status == DT_NOTHING && it.len == 0 && !it.gap;
+    return status == DT_NONE && it.len == 0 && !it.gap;
 }
 
 /* What is lost between two messages is told with the one behind it, once. */
@@ -114,43 +127,46 @@ static void a_gap_is_told(void) {
 /* A message that comes in parts is whole with the last of them. */
 static void parts_are_joined(void) {
     starts(MOST);
-    WANT(dt_send(one, 0, &flow, (const uint8_t *)"hel", 3, true, false).status == DT_DONE);
+    WANT(dt_node_send(one, 0, &flow, (const uint8_t *)"hel", 3, true, false).status == DT_OK);
     passes(0, false);
     WANT(takes_none(0));
-    WANT(dt_send(one, 1, &flow, (const uint8_t *)"lo", 2, false, true).status == DT_DONE);
+    WANT(dt_node_send(one, 1, &flow, (const uint8_t *)"lo", 2, false, true).status == DT_OK);
     passes(1, false);
     WANT(takes(1, "hello", true) && takes_none(1));
     ends();
 }
 
+/* A message that is too long is a gap before the next one of its flow, also when both came with a run. */
 static void long_ones_are_dropped_and_counted(void) {
     starts(5);
     sends(0, "longer");
     sends(0, "short");
     sends(0, "longest");
     sends(0, "last");
+    sends(0, "more");
     passes(0, false);
-    struct dt_message it = dt_take(two, 0, came, ROOM);
-    WANT(it.status == DT_DONE && it.len == 5 && it.gap && it.too_long == 1 && memcmp(came, "short", 5) == 0);
-    it = dt_take(two, 0, came, ROOM);
-    WANT(it.status == DT_DONE && it.len == 4 && !it.gap && it.too_long == 2 && memcmp(came, "last", 4) == 0);
-    WANT(takes_none(0) && dt_take(two, 0, came, ROOM).too_long == 2);
+    struct dt_message it;
+    WANT(next(0, ROOM, &it) == DT_OK && it.len == 5 && it.gap && it.dropped_too_long == 1 && memcmp(came, "short", 5) == 0);
+    /* what was left out is a gap before the next one, once */
+    WANT(next(0, ROOM, &it) == DT_OK && it.len == 4 && it.gap && it.dropped_too_long == 2 && memcmp(came, "last", 4) == 0);
+    WANT(takes(0, "more", false));
+    WANT(takes_none(0) && next(0, ROOM, &it) == DT_NONE && it.dropped_too_long == 2);
     ends();
 }
 
-/* A buffer with too little room is told the length, and the message waits. */
+/* A buffer with too little room is refused with the length, and the message waits. */
 static void a_message_waits_for_room(void) {
     starts(MOST);
     sends(0, "hello");
     sends(0, "x");
     passes(0, false);
     for (size_t room = 0; room < 5; room++) {
+        struct dt_message it;
         memset(came, 0xEE, 8);
-        struct dt_message it = dt_take(two, 0, came, room);
-        WANT(it.status == DT_ROOM && it.len == 5 && it.gap && it.flow.from_port == 10 && came[0] == 0xEE);
+        WANT(next(0, room, &it) == DT_BUFFER_TOO_SMALL && it.len == 5 && it.gap && it.flow.source_port == 10 && came[0] == 0xEE);
     }
     /* it waits on when the flow's receiver was released, which keeps what is unread */
-    WANT(dt_tick(two, 100000) == DT_DONE);
+    WANT(dt_node_tick(two, 100000) == DT_OK);
     hears(two);
     WANT(takes(100000, "hello", true) && takes(100000, "x", false) && takes_none(100000));
     ends();
@@ -165,19 +181,19 @@ static size_t filled(uint16_t port, unsigned number) {
 
 /* Each of many flows has its messages whole, once and in order. */
 static void many_flows_have_theirs(void) {
-    unsigned next[FLOWS] = {0}, all = 0;
+    unsigned taken[FLOWS] = {0}, all = 0;
     starts(MOST);
     for (unsigned number = 0; number < EACH; number++)
         for (uint16_t port = 0; port < FLOWS; port++) {
             struct dt_flow it = {1, 2, port, 20};
             size_t len = filled(port, number);
-            WANT(dt_send(one, 0, &it, message, len, true, true).status == DT_DONE);
+            WANT(dt_node_send(one, 0, &it, message, len, true, true).status == DT_OK);
         }
     passes(0, false);
-    for (struct dt_message it; (it = dt_take(two, 0, came, ROOM)).status == DT_DONE; all++) {
-        uint16_t port = it.flow.from_port;
-        WANT(port < FLOWS && next[port] < EACH && it.gap == (next[port] == 0) && it.too_long == 0);
-        size_t len = filled(port, next[port]++);
+    for (struct dt_message it; next(0, ROOM, &it) == DT_OK; all++) {
+        uint16_t port = it.flow.source_port;
+        WANT(port < FLOWS && taken[port] < EACH && it.gap == (taken[port] == 0) && it.dropped_too_long == 0);
+        size_t len = filled(port, taken[port]++);
         WANT(it.len == len && memcmp(message, came, len) == 0);
     }
     WANT(all == FLOWS * EACH && takes_none(0));

@@ -1,7 +1,7 @@
 /* Request and reply: a client and a service in memory. Each answer of the calls comes as deltat.h says, and then each
    request for memory fails in turn: a call that can't do without says so once, from then on the service is closed, and
    each call that was made has exactly one end. In the end all memory was given back. It is linked in place of lib/heap.c. */
-#include "deltat.h"
+#include "calls.h"
 #include <stdio.h>
 #include <stdlib.h>
 #include <string.h>
@@ -54,152 +54,243 @@ void rattle_dealloc(uint8_t *p) {
 
 enum { LINK = 7, CALLS = 6, MOST = 3000 };
 
-static const struct dt_params params = {1000, 3000, 200, 500, 800, 1000, 4096, 4096, 4096, 2147483648u, 0};
+static const struct dt_params params = {sizeof params, 1000, 3000, 200, 500, 800, 1000, 4096, 4096, 4096, 2147483648u, 0};
 static const struct dt_flow flow = {1, 2, 10, 20};
-static const struct dt_link links[1] = {{0, 0, LINK}};
-static const struct dt_call_counts none = {0, 0, 0, 0, 0, 0, 0, DT_DONE};
-static uint8_t payload[MOST], came[MOST + 1], frame[DT_MOST_FRAME];
+static const struct dt_link links[1] = {{0, 0, LINK, 0}};
+static const struct dt_call_counts none = {sizeof none, 0, 0, 0, 0, 0, 0, 0, 0};
+static uint8_t payload[MOST], came[MOST + 1], frame[DT_MAX_DATAGRAM];
 
 static uint8_t opens(dt_service *s, uint32_t me, bool again) {
-    struct dt_service_start start = {100, me, 5, 2, 8, 8, again};
-    struct dt_route route = {3 - me, LINK};
-    return dt_service_open(s, &params, &start, links, 1, &route, 1).status;
+    const struct dt_service_options more = {sizeof more, 5, 2, 8, 8};
+    const struct dt_route route = {3 - me, LINK};
+    struct dt_node_options options = node_options(me, 100, again, links, &route);
+    return dt_service_open(s, &params, &options, &more).status;
 }
 
 /* Gives the ports of both their kinds. Where there is no memory it says so, and goes again. */
 static void ports(dt_service *s) {
     uint8_t status;
-    while ((status = dt_port(s, 10, DT_CALLER)) == DT_NO_MEMORY) {}
-    WANT(status == DT_DONE && dt_port(s, 10, DT_SERVICE) == DT_HELD && dt_port(s, 11, 3) == DT_REFUSED);
-    while ((status = dt_port(s, 20, DT_SERVICE)) == DT_NO_MEMORY) {}
-    WANT(status == DT_DONE);
+    while ((status = dt_service_set_port(s, 10, DT_PORT_CALLER)) == DT_NO_MEMORY) {}
+    WANT(status == DT_OK && dt_service_set_port(s, 10, DT_PORT_SERVICE) == DT_EXISTS && dt_service_set_port(s, 11, 3) == DT_INVALID);
+    while ((status = dt_service_set_port(s, 20, DT_PORT_SERVICE)) == DT_NO_MEMORY) {}
+    WANT(status == DT_OK);
 }
 
-static struct dt_event next(dt_service *s) {
+/* an event, or the status with which none was handed out */
+struct next { struct dt_event event; dt_status status; };
+
+static struct next next(dt_service *s) {
+    struct next it;
     memset(came, 0xEE, sizeof came);
-    return dt_next_event(s, came, MOST);
+    memset(&it, 0, sizeof it);
+    it.event.size = sizeof it.event;
+    it.status = dt_service_next_event(s, came, MOST, &it.event);
+    return it;
 }
 
 /* Whether what was handed out is that, and the rest of the buffer is as it was. */
-static bool carries(struct dt_event it, const uint8_t *octets, size_t len) {
+static bool carries(const struct next *it, const uint8_t *octets, size_t len) {
     for (size_t i = len; i < sizeof came; i++)
         if (came[i] != 0xEE) return false;
-    return it.status == DT_DONE && it.len == len && memcmp(came, octets, len) == 0;
+    return it->status == DT_OK && it->event.len == len && memcmp(came, octets, len) == 0;
 }
 
 /* What waits at one comes to the other. Whether it found no memory. */
 static bool carry(dt_service *from, dt_service *to, uint64_t now) {
+    SIZED(dt_datagram, out);
     for (;;) {
-        struct dt_out out = dt_service_next_frame(from, frame, sizeof frame);
-        if (out.status == DT_NOTHING) return false;
-        WANT(out.status == DT_DONE);
-        uint8_t status = dt_service_arrive(to, now, LINK, frame, out.len, 0).status;
-        WANT(status == DT_DONE || status == DT_NO_MEMORY);
+        dt_status status = dt_service_next_datagram(from, frame, sizeof frame, &out);
+        if (status == DT_NONE) return false;
+        WANT(status == DT_OK);
+        status = dt_service_receive(to, now, LINK, frame, out.len, 0).status;
+        WANT(status == DT_OK || status == DT_NO_MEMORY);
         if (status == DT_NO_MEMORY) return true;
     }
 }
 
-static bool is_unsure(dt_service *s, uint64_t number, uint8_t cause) {
-    struct dt_event it = next(s);
-    return it.status == DT_DONE && it.kind == DT_UNSURE && it.number == number && it.cause == cause && carries(it, came, 0);
+/* `user` is the number of the call in its life, as all calls here have it */
+static bool is_unsure(dt_service *s, uint64_t call, uint8_t cause) {
+    struct next it = next(s);
+    return it.event.kind == DT_EVENT_UNSURE && it.event.call == call && it.event.user == (uint32_t)call && it.event.cause == cause && carries(&it, came, 0);
+}
+
+/* A call whose `user` is `count`, its number in its life. */
+static struct dt_call_result calls(dt_service *s, uint64_t now, size_t len, uint32_t timeout, uint64_t count) {
+    return dt_service_call(s, now, &flow, payload, len, timeout, count);
+}
+
+static void a_closed_handle_says_so(dt_service *s) {
+    SIZED(dt_node_counts, counts);
+    SIZED(dt_call_counts, dropped);
+    WANT(dt_service_tick(s, 0) == DT_NOT_OPEN && dt_service_set_port(s, 10, DT_PORT_CALLER) == DT_NOT_OPEN);
+    WANT(calls(s, 0, 1, 9, 0).status == DT_NOT_OPEN && next(s).status == DT_NOT_OPEN);
+    WANT(dt_service_get_call_counts(s, &dropped) == DT_NOT_OPEN && dt_service_get_counts(s, &counts) == DT_NOT_OPEN);
+    WANT(dt_service_set_life(s, 6) == DT_NOT_OPEN && dt_service_stop(s) == DT_NOT_OPEN && dt_service_wake(s) == DT_NEVER);
+}
+
+/* Opens both, the client again: it is silent. Returns the time at which the silence ends. */
+static uint64_t both_open(dt_service *client, dt_service *server) {
+    const struct dt_route route = {2, LINK};
+    const struct dt_service_options short_ones = {sizeof short_ones - 1, 5, 2, 8, 8};
+    struct dt_node_options options = node_options(1, 100, true, links, &route);
+    a_closed_handle_says_so(client);
+    WANT(dt_service_open(client, &params, &options, &short_ones).status == DT_INVALID);
+    WANT(opens(client, 1, true) == DT_OK && opens(client, 1, false) == DT_EXISTS && opens(server, 2, false) == DT_OK);
+    ports(client);
+    ports(server);
+    struct dt_call_result made = calls(client, 100, 1, 300, 0);
+    WANT(made.status == DT_QUIET && made.quiet_until == 100 + dt_params_quiet_ms(&params) && made.call == 0);
+    return made.quiet_until;
+}
+
+/* Each cause for which a call isn't made, and two calls that are. */
+static void calls_are_made_or_declined(dt_service *client, uint64_t now) {
+    const uint64_t first = (uint64_t)5 << 32;
+    const struct dt_flow back = {2, 1, 20, 10}, plain = {1, 2, 11, 20};
+    WANT(dt_service_call(client, now, &back, payload, 1, 9, 0).invalid == DT_INVALID_FLOW);
+    WANT(dt_service_call(client, now, &plain, payload, 1, 9, 0).invalid == DT_INVALID_PORT);
+    WANT(dt_service_call(client, now, &flow, frame, 4089, 9, 0).invalid == DT_INVALID_LENGTH);
+    struct dt_call_result made = calls(client, now, 1, 0, 0);
+    WANT(made.status == DT_INVALID && made.invalid == DT_INVALID_TIMEOUT);
+    made = calls(client, now, MOST, 3000, 0);
+    WANT(made.status == DT_OK && made.call == first);
+    made = calls(client, now, MOST, 3000, 1);
+    WANT(made.status == DT_FULL && made.free == 4096 - 8 - MOST);
+    WANT(calls(client, now, 1, 300, 1).status == DT_OK);
+    WANT(calls(client, now, 1, 300, 2).status == DT_TOO_MANY_CALLS);
+}
+
+/* The first request is answered, and the second one is forgotten. */
+static void requests_are_served(dt_service *server, uint64_t now) {
+    struct dt_token token = {(uint64_t)5 << 32, flow};
+    SIZED(dt_event, event);
+    WANT(dt_service_next_event(server, came, MOST - 1, &event) == DT_BUFFER_TOO_SMALL && event.len == MOST);
+    event.size--;
+    WANT(dt_service_next_event(server, came, MOST, &event) == DT_INVALID);
+    struct next it = next(server);
+    WANT(it.event.kind == DT_EVENT_REQUEST && it.event.call == token.call && it.event.user == 0 && carries(&it, payload, MOST));
+    WANT(it.event.flow.source == 1 && it.event.flow.target_port == 20);
+    WANT(dt_service_reply(server, now, &token, frame, 4089).invalid == DT_INVALID_LENGTH);
+    WANT(dt_service_reply(server, now, &token, payload, 7).status == DT_OK && dt_service_reply(server, now, &token, payload, 7).status == DT_GONE);
+    it = next(server);
+    WANT(it.event.call == token.call + 1);
+    token.call++;
+    WANT(dt_service_forget(server, now, &token) == DT_OK && next(server).status == DT_NONE);
+}
+
+/* The life is set, and the service stopped: the call that waits has its end. */
+static void a_stop_ends_calls(dt_service *client, uint64_t now) {
+    SIZED(dt_node_counts, counts);
+    SIZED(dt_call_counts, dropped);
+    WANT(dt_service_set_life(client, 5) == DT_EXISTS && dt_service_set_life(client, 6) == DT_OK);
+    struct dt_call_result made = calls(client, now, 1, 300, 0);
+    WANT(made.call == (uint64_t)6 << 32 && dt_service_set_life(client, 6) == DT_EXISTS && dt_service_stop(client) == DT_OK);
+    WANT(is_unsure(client, made.call, DT_CAUSE_STOPPED) && next(client).status == DT_NONE);
+    WANT(dt_service_tick(client, now) == DT_STOPPED && calls(client, now, 1, 9, 0).status == DT_STOPPED);
+    WANT(dt_service_get_call_counts(client, &dropped) == DT_OK && memcmp(&dropped, &none, sizeof none) == 0);
+    WANT(dt_service_get_counts(client, &counts) == DT_OK && counts.datagrams_refused == 0);
+    WANT(dt_service_get_blocked_counts(client).closed_port == 0 && dt_service_wake(client) == DT_NEVER);
 }
 
 /* Without want of memory: each answer once. */
 static void answers(dt_service *client, dt_service *server) {
     const uint64_t first = (uint64_t)5 << 32;
-    const struct dt_flow back = {2, 1, 20, 10}, plain = {1, 2, 11, 20};
-    struct dt_token token = {first, flow};
-    WANT(dt_service_tick(client, 0) == DT_CLOSED && dt_port(client, 10, DT_CALLER) == DT_CLOSED);
-    WANT(dt_call(client, 0, &flow, payload, 1, 9).status == DT_CLOSED && dt_next_event(client, came, 1).status == DT_CLOSED);
-    WANT(dt_call_counts(client).status == DT_CLOSED && dt_service_counts(client).status == DT_CLOSED);
-    WANT(dt_raise(client, 6) == DT_CLOSED && dt_service_stop(client) == DT_CLOSED && !dt_service_wake(client).some);
-    WANT(opens(client, 1, true) == DT_DONE && opens(client, 1, false) == DT_HELD && opens(server, 2, false) == DT_DONE);
-    ports(client);
-    ports(server);
-    struct dt_made made = dt_call(client, 100, &flow, payload, 1, 300);
-    WANT(made.status == DT_QUIET && made.until == 100 + dt_quiet(&params));
-    uint64_t now = made.until;
-    WANT(dt_call(client, now, &back, payload, 1, 9).unfit == DT_BAD_FLOW);
-    WANT(dt_call(client, now, &plain, payload, 1, 9).unfit == DT_NOT_A_CALLER);
-    WANT(dt_call(client, now, &flow, frame, 4089, 9).unfit == DT_TOO_LONG);
-    made = dt_call(client, now, &flow, payload, 1, 0);
-    WANT(made.status == DT_REFUSED && made.unfit == DT_NO_PATIENCE);
-    made = dt_call(client, now, &flow, payload, MOST, 3000);
-    WANT(made.status == DT_DONE && made.number == first);
-    made = dt_call(client, now, &flow, payload, MOST, 3000);
-    WANT(made.status == DT_FULL && made.free == 4096 - 8 - MOST);
-    WANT(dt_call(client, now, &flow, payload, 1, 300).status == DT_DONE);
-    WANT(dt_call(client, now, &flow, payload, 1, 300).status == DT_MANY);
-    WANT(dt_reply(server, now, &token, payload, 1).status == DT_GONE && dt_forget(server, now, &token) == DT_GONE);
+    const struct dt_token token = {first, flow};
+    uint64_t now = both_open(client, server);
+    calls_are_made_or_declined(client, now);
+    WANT(dt_service_reply(server, now, &token, payload, 1).status == DT_GONE && dt_service_forget(server, now, &token) == DT_GONE);
     WANT(!carry(client, server, now));
-    struct dt_event it = dt_next_event(server, came, MOST - 1);
-    WANT(it.status == DT_ROOM && it.len == MOST);
-    it = next(server);
-    WANT(it.kind == DT_REQUEST && it.number == first && it.flow.from == 1 && it.flow.to_port == 20 && carries(it, payload, MOST));
-    WANT(dt_reply(server, now, &token, frame, 4089).unfit == DT_TOO_LONG);
-    WANT(dt_reply(server, now, &token, payload, 7).status == DT_DONE && dt_reply(server, now, &token, payload, 7).status == DT_GONE);
-    it = next(server);
-    token.number = it.number;
-    WANT(it.number == first + 1 && dt_forget(server, now, &token) == DT_DONE && next(server).status == DT_NOTHING);
+    requests_are_served(server, now);
     WANT(!carry(server, client, now));
-    it = next(client);
-    WANT(it.kind == DT_ANSWERED && it.number == first && carries(it, payload, 7) && next(client).status == DT_NOTHING);
-    WANT(dt_service_wake(client).at <= now + 300 && dt_service_tick(client, now + 299) == DT_DONE && next(client).status == DT_NOTHING);
-    WANT(dt_service_tick(client, now + 300) == DT_DONE && is_unsure(client, first + 1, DT_PATIENCE));
-    WANT(dt_raise(client, 5) == DT_HELD && dt_raise(client, 6) == DT_DONE);
-    made = dt_call(client, now + 300, &flow, payload, 1, 300);
-    WANT(made.number == (uint64_t)6 << 32 && dt_raise(client, 6) == DT_HELD && dt_service_stop(client) == DT_DONE);
-    WANT(is_unsure(client, made.number, DT_WAS_CLOSED) && next(client).status == DT_NOTHING);
-    WANT(dt_service_tick(client, now + 300) == DT_SPENT && dt_call(client, now, &flow, payload, 1, 9).status == DT_SPENT);
-    struct dt_call_counts counts = dt_call_counts(client);
-    WANT(memcmp(&counts, &none, offsetof(struct dt_call_counts, status)) == 0 && counts.status == DT_DONE);
-    WANT(dt_service_counts(client).refused == 0 && dt_service_kept_out(client).closed == 0 && !dt_service_wake(client).some);
+    struct next it = next(client);
+    WANT(it.event.kind == DT_EVENT_ANSWERED && it.event.call == first && it.event.user == 0 && carries(&it, payload, 7));
+    WANT(next(client).status == DT_NONE && dt_service_wake(client) <= now + 300);
+    WANT(dt_service_tick(client, now + 299) == DT_OK && next(client).status == DT_NONE);
+    WANT(dt_service_tick(client, now + 300) == DT_OK && is_unsure(client, first + 1, DT_CAUSE_TIMEOUT));
+    a_stop_ends_calls(client, now + 300);
 }
 
-/* The ends that a service tells: those of the calls that were made, each once. A call that found no memory may be told. */
+/* What waits at one is lost. */
+static void lose(dt_service *from) {
+    SIZED(dt_datagram, out);
+    while (dt_service_next_datagram(from, frame, sizeof frame, &out) == DT_OK) {}
+}
+
+/* Replies that are lost are given up: the service reports the flow of their requests, once for both. */
+static void replies_are_uncertain(dt_service *client, dt_service *server) {
+    uint64_t now = 100;
+    struct next it;
+    WANT(opens(client, 1, false) == DT_OK && opens(server, 2, false) == DT_OK);
+    ports(client);
+    ports(server);
+    for (unsigned i = 0; i < 2; i++) WANT(calls(client, now, 1, 60000, i).status == DT_OK);
+    WANT(!carry(client, server, now));
+    while ((it = next(server)).status == DT_OK) {
+        struct dt_token token = {it.event.call, it.event.flow};
+        WANT(it.event.kind == DT_EVENT_REQUEST && dt_service_reply(server, now, &token, payload, 1).status == DT_OK);
+    }
+    for (; now < 6000; now += 100) {
+        WANT(dt_service_tick(server, now) == DT_OK);
+        lose(server);
+    }
+    it = next(server);
+    WANT(it.event.kind == DT_EVENT_REPLY_UNCERTAIN && it.event.call == 0 && it.event.cause == 0 && it.event.user == 0 && carries(&it, came, 0));
+    WANT(it.event.flow.source == 1 && it.event.flow.target == 2 && it.event.flow.source_port == 10 && it.event.flow.target_port == 20);
+    WANT(next(server).status == DT_NONE && dt_service_tick(server, now) == DT_OK && next(server).status == DT_NONE);
+    WANT(dt_service_stop(client) == DT_OK && dt_service_stop(server) == DT_OK);
+}
+
+/* The ends that a service reports: those of the calls that were made, each once. A call that found no memory may have one. */
 static void ends(dt_service *s, bool *has_end, unsigned made, bool broke) {
-    struct dt_event it;
-    while ((it = next(s)).status == DT_DONE) {
-        if (it.kind == DT_REQUEST) continue;
-        uint32_t count = (uint32_t)it.number;
-        WANT(count < made + broke && !has_end[count]);
+    struct next it;
+    while ((it = next(s)).status == DT_OK) {
+        if (it.event.kind == DT_EVENT_REQUEST || it.event.kind == DT_EVENT_REPLY_UNCERTAIN) continue;
+        uint32_t count = (uint32_t)it.event.call;
+        WANT(count < made + broke && !has_end[count] && it.event.user == count);
         has_end[count] = true;
     }
-    WANT(it.status == DT_NOTHING);
+    WANT(it.status == DT_NONE);
+}
+
+/* Replies to what the server is asked. Whether a reply found no memory. */
+static bool replies_fail(dt_service *server, uint64_t now, bool has_failed) {
+    bool fails = false;
+    struct next it;
+    while ((it = next(server)).status == DT_OK) {
+        struct dt_token token = {it.event.call, it.event.flow};
+        WANT(it.event.kind == DT_EVENT_REQUEST);
+        dt_status status = dt_service_reply(server, now, &token, payload, 700).status;
+        WANT(status == DT_OK || status == DT_NO_MEMORY || ((fails || has_failed) && (status == DT_STOPPED || status == DT_GONE)));
+        fails = fails || status == DT_NO_MEMORY;
+    }
+    return fails;
 }
 
 /* Calls and replies, until a service finds no memory. Whether one did: then it is closed. */
 static bool exchange_fails(dt_service *client, dt_service *server) {
     bool has_end[CALLS + 1] = {false};
     unsigned made = 0;
-    uint8_t first = opens(client, 1, false), second = opens(server, 2, false);
-    WANT((first == DT_DONE || first == DT_NO_MEMORY) && (second == DT_DONE || second == DT_NO_MEMORY));
-    if (first != DT_DONE || second != DT_DONE) return true;
+    dt_status first = opens(client, 1, false), second = opens(server, 2, false);
+    WANT((first == DT_OK || first == DT_NO_MEMORY) && (second == DT_OK || second == DT_NO_MEMORY));
+    if (first != DT_OK || second != DT_OK) return true;
     ports(client);
     ports(server);
     bool fails = false;
     for (uint64_t now = 100; now < 3000 && !fails; now += 100) {
-        uint8_t status = made < CALLS ? dt_call(client, now, &flow, payload, 500, 900).status : (uint8_t)DT_MANY;
-        WANT(status == DT_DONE || status == DT_MANY || status == DT_NO_MEMORY);
-        made += status == DT_DONE;
+        dt_status status = made < CALLS ? calls(client, now, 500, 900, made).status : (dt_status)DT_TOO_MANY_CALLS;
+        WANT(status == DT_OK || status == DT_TOO_MANY_CALLS || status == DT_NO_MEMORY);
+        made += status == DT_OK;
         fails = status == DT_NO_MEMORY || carry(client, server, now);
-        struct dt_event it;
-        while ((it = next(server)).status == DT_DONE) {
-            struct dt_token token = {it.number, it.flow};
-            WANT(it.kind == DT_REQUEST);
-            status = dt_reply(server, now, &token, payload, 700).status;
-            WANT(status == DT_DONE || status == DT_NO_MEMORY || (fails && (status == DT_SPENT || status == DT_GONE)));
-            fails = fails || status == DT_NO_MEMORY;
-        }
+        fails = replies_fail(server, now, fails) || fails;
         if (!fails) fails = carry(server, client, now);
-        if (!fails) fails = dt_service_tick(client, now) != DT_DONE || dt_service_tick(server, now) != DT_DONE;
+        if (!fails) fails = dt_service_tick(client, now) != DT_OK || dt_service_tick(server, now) != DT_OK;
         if (!fails) ends(client, has_end, made, false);
     }
-    if (!fails) WANT(made == CALLS && dt_service_stop(client) == DT_DONE);
-    if (dt_service_tick(client, 3000) == DT_DONE) WANT(dt_service_stop(client) == DT_DONE);
+    if (!fails) WANT(made == CALLS && dt_service_stop(client) == DT_OK);
+    if (dt_service_tick(client, 3000) == DT_OK) WANT(dt_service_stop(client) == DT_OK);
     ends(client, has_end, made, fails);
     for (unsigned i = 0; i < made; i++) WANT(has_end[i]);
-    WANT(dt_service_tick(client, 3000) == DT_SPENT && !dt_service_wake(client).some);
+    WANT(dt_service_tick(client, 3000) == DT_STOPPED && dt_service_wake(client) == DT_NEVER);
     return fails;
 }
 
@@ -213,7 +304,13 @@ int main(void) {
     answers(client, server);
     dt_service_close(client);
     dt_service_close(server);
-    WANT(held == 0 && dt_service_tick(client, 0) == DT_CLOSED);
+    WANT(held == 0 && dt_service_tick(client, 0) == DT_NOT_OPEN);
+    dt_service_init(client);
+    dt_service_init(server);
+    replies_are_uncertain(client, server);
+    dt_service_close(client);
+    dt_service_close(server);
+    WANT(held == 0);
     do {
         fail_at++;
         requests = 0;

@@ -11,7 +11,7 @@
  *                                  prints what that takes, and how long the tick that releases them
  *
  * Ends with 0 where all is so, else it says what isn't and ends with 1. */
-#include "deltat.h"
+#include "calls.h"
 #include <inttypes.h>
 #include <malloc.h>
 #include <stdio.h>
@@ -23,7 +23,7 @@
 enum { LINK = 1, ME = 2, PEER = 1, PORTS = 3, GROWTH = 2 << 20, MANY = 100000 };
 
 static uint64_t state = 88172645463325252u, now, taken, accepted, answered;
-static uint8_t datagram[DT_MOST_FRAME + 1], frame[DT_MOST_FRAME], came[65536];
+static uint8_t datagram[DT_MAX_DATAGRAM + 1], frame[DT_MAX_DATAGRAM], came[65536];
 static dt_node *node;
 
 /* a number below n, drawn */
@@ -92,32 +92,33 @@ static double seconds(void) {
 }
 
 static void opens(uint32_t room) {
-    struct dt_params params = {1000, 3000, 200, 100, 800, 1400, 4096, room, 4096, 2147483648u, 0};
-    struct dt_start start = {now, ME, false};
-    struct dt_link link = {90, 0, LINK};
-    struct dt_route route = {PEER, LINK};
-    node = (dt_node *)malloc(dt_size());
+    struct dt_params params = {sizeof params, 1000, 3000, 200, 100, 800, 1400, 4096, room, 4096, 2147483648u, 0};
+    const struct dt_link link = {90, 0, LINK, 0};
+    const struct dt_route route = {PEER, LINK};
+    struct dt_node_options options = node_options(ME, now, false, &link, &route);
+    node = (dt_node *)malloc(dt_node_size());
     if (node == NULL) stop("no memory", 0);
-    dt_init(node);
-    struct dt_opened it = dt_open(node, &params, &start, &link, 1, &route, 1);
-    if (it.status != DT_DONE) stop("opening", it.status);
+    dt_node_init(node);
+    struct dt_open_result it = dt_node_open(node, &params, &options);
+    if (it.status != DT_OK) stop("opening", it.status);
 }
 
 /* takes all that waits, and reads what was accepted */
 static void take_all(void) {
-    struct dt_report report;
-    while (dt_next_frame(node, frame, sizeof frame).status == DT_DONE) answered++;
-    while ((report = dt_next_report(node)).status == DT_DONE) {
-        if (report.kind != DT_ACCEPTED) continue;
+    SIZED(dt_report, report);
+    SIZED(dt_datagram, out);
+    while (dt_node_next_datagram(node, frame, sizeof frame, &out) == DT_OK) answered++;
+    while (dt_node_next_report(node, &report) == DT_OK) {
+        if (report.kind != DT_REPORT_ACCEPTED) continue;
         accepted++;
-        while (dt_read(node, now, &report.flow, came, 1 + drawn(sizeof came)).status == DT_DONE) {}
+        while (dt_node_read(node, now, &report.flow, came, 1 + drawn(sizeof came)).status == DT_OK) {}
     }
 }
 
 static void arrives(size_t len) {
-    uint8_t status = dt_arrive(node, now, LINK, datagram, len, 0).status;
+    uint8_t status = dt_node_receive(node, now, LINK, datagram, len, 0).status;
     taken++;
-    if (status != DT_DONE && status != DT_BAD && status != DT_STALE) stop("a datagram", status);
+    if (status != DT_OK && status != DT_MALFORMED && status != DT_EXPIRED) stop("a datagram", status);
 }
 
 static void datagrams(uint64_t count) {
@@ -144,12 +145,12 @@ static void flows(uint64_t count, uint32_t room) {
     for (; taken < count;) {
         double at = seconds();
         size_t len = packet((uint16_t)(taken >> 16), (uint16_t)taken, 1, 7, 0, 1);
-        uint8_t status = dt_arrive(node, now, LINK, datagram, len, 0).status;
+        uint8_t status = dt_node_receive(node, now, LINK, datagram, len, 0).status;
         if (status == DT_NO_MEMORY) {
             printf("no memory: the node is spent after %" PRIu64 " flows of %" PRIu32 " octets each, with %" PRIu64 " KiB\n", taken, room, (resident() - before) / 1024);
             return;
         }
-        if (status != DT_DONE) stop("a flow", status);
+        if (status != DT_OK) stop("a flow", status);
         taken++;
         take_all();
         if (seconds() - at > slowest) slowest = seconds() - at;
@@ -160,9 +161,9 @@ static void flows(uint64_t count, uint32_t room) {
     fflush(stdout);
     begun = seconds();
     now += 86400000;
-    if (dt_tick(node, now) != DT_DONE) stop("a tick", 0);
+    if (dt_node_tick(node, now) != DT_OK) stop("a tick", 0);
     take_all();
-    dt_close(node);
+    dt_node_close(node);
     malloc_trim(0);
     printf("released by one tick of %.2f s: %" PRIu64 " KiB when the node is closed\n", seconds() - begun, (resident() - before) / 1024);
 }
@@ -171,47 +172,49 @@ static void guarded(uint64_t count, uint32_t most) {
     const uint16_t port = 1;
     uint64_t early = 0;
     opens(4096);
-    if (dt_guard(node, &port, 1, false, most) != DT_DONE) stop("the guard", 0);
+    if (dt_node_set_guard(node, &port, 1, false, most) != DT_OK) stop("the guard", 0);
     for (uint8_t status; taken < count; taken++) {
         /* the last port of all flows is 1, which is open */
         size_t len = packet((uint16_t)taken, 1, 1, 7, 0, 1);
         put(datagram + 8, PEER + 10 * (uint32_t)(taken >> 16), 4);
-        status = dt_arrive(node, now, LINK, datagram, len, 0).status;
-        if (status != (taken < most ? DT_DONE : DT_KEPT_OUT)) stop("a flow", status);
+        status = dt_node_receive(node, now, LINK, datagram, len, 0).status;
+        if (status != (taken < most ? DT_OK : DT_BLOCKED)) stop("a flow", status);
         take_all();
         if (taken == most) early = resident();
     }
-    struct dt_kept_out kept = dt_kept_out(node);
-    if (kept.closed != 0 || kept.crowded != count - most || accepted != most) stop("the count", 0);
+    struct dt_blocked_counts kept = dt_node_get_blocked_counts(node);
+    if (kept.closed_port != 0 || kept.too_many_flows != count - most || accepted != most) stop("the count", 0);
     if (resident() > early + GROWTH) stop("the memory grew", 0);
     /* a flow that has a receiver goes on; another port is closed; and both again where all are open */
-    if (dt_arrive(node, now, LINK, datagram, packet(0, 1, 1, 7, 0, 1), 0).status != DT_DONE) stop("a flow that stands", 0);
-    if (dt_arrive(node, now, LINK, datagram, packet(0, 2, 1, 7, 0, 1), 0).status != DT_KEPT_OUT) stop("a closed port", 0);
-    if (dt_kept_out(node).closed != 1) stop("the count of closed ports", 0);
-    if (dt_guard(node, &port, 0, true, UINT32_MAX) != DT_DONE) stop("no guard", 0);
-    if (dt_arrive(node, now, LINK, datagram, packet(0, 2, 1, 7, 0, 1), 0).status != DT_DONE) stop("all ports", 0);
+    if (dt_node_receive(node, now, LINK, datagram, packet(0, 1, 1, 7, 0, 1), 0).status != DT_OK) stop("a flow that stands", 0);
+    if (dt_node_receive(node, now, LINK, datagram, packet(0, 2, 1, 7, 0, 1), 0).status != DT_BLOCKED) stop("a closed port", 0);
+    if (dt_node_get_blocked_counts(node).closed_port != 1) stop("the count of closed ports", 0);
+    if (dt_node_set_guard(node, &port, 0, true, UINT32_MAX) != DT_OK) stop("no guard", 0);
+    if (dt_node_receive(node, now, LINK, datagram, packet(0, 2, 1, 7, 0, 1), 0).status != DT_OK) stop("all ports", 0);
     printf("%" PRIu64 " flows, of which %" PRIu32 " came in\n", count, most);
 }
 
 static void messages(uint64_t count) {
     uint64_t early = 0, whole = 0;
-    struct dt_report report;
-    struct dt_message it;
+    SIZED(dt_report, report);
+    SIZED(dt_datagram, out);
+    SIZED(dt_message, it);
+    dt_status taking;
     opens(64);
-    if (dt_inbox(node, 100) != DT_DONE) stop("an inbox", 0);
+    if (dt_node_enable_messages(node, 100) != DT_OK) stop("an inbox", 0);
     for (; taken < count; now += 20) {
         /* a data run of two packets: a message, and what begins one */
         for (uint32_t i = 0; i < 2; i++) {
             size_t len = packet((uint16_t)taken, (uint16_t)(taken >> 16), 1, i == 0 ? 7 : 2, i, 1);
-            uint8_t status = dt_arrive(node, now, LINK, datagram, len, 0).status;
-            if (status != DT_DONE) stop("a packet", status);
+            uint8_t status = dt_node_receive(node, now, LINK, datagram, len, 0).status;
+            if (status != DT_OK) stop("a packet", status);
         }
         taken++;
-        while (dt_next_frame(node, frame, sizeof frame).status == DT_DONE) answered++;
-        while ((report = dt_next_report(node)).status == DT_DONE)
-            if ((report.kind == DT_ACCEPTED || report.kind == DT_RELEASED) && dt_hear(node, &report.flow) != DT_DONE) stop("a flow", 0);
-        while ((it = dt_take(node, now, came, sizeof came)).status == DT_DONE) whole++;
-        if (it.status != DT_NOTHING) stop("a message", it.status);
+        while (dt_node_next_datagram(node, frame, sizeof frame, &out) == DT_OK) answered++;
+        while (dt_node_next_report(node, &report) == DT_OK)
+            if ((report.kind == DT_REPORT_ACCEPTED || (report.kind == DT_REPORT_RECORD_RELEASED && !report.sending)) && dt_node_mark_readable(node, &report.flow) != DT_OK) stop("a flow", 0);
+        while ((taking = dt_node_next_message(node, now, came, sizeof came, &it)) == DT_OK) whole++;
+        if (taking != DT_NONE) stop("a message", taking);
         if (taken == count / 10) early = resident();
     }
     uint64_t late = resident();
@@ -227,7 +230,7 @@ int main(int argc, char **words) {
     else if (argc >= 4 && !strcmp(words[1], "guard")) guarded(strtoull(words[2], NULL, 10), (uint32_t)strtoul(words[3], NULL, 10));
     else if (argc >= 3 && !strcmp(words[1], "messages")) messages(strtoull(words[2], NULL, 10));
     else return fprintf(stderr, "strangers datagrams N | strangers messages N | strangers flows N ROOM | strangers guard N FLOWS\n"), 1;
-    dt_close(node);
+    dt_node_close(node);
     free(node);
     return 0;
 }

@@ -62,7 +62,7 @@ module _ {M : Type 1} {𝓤 : Ura M} (𝓛 : Logic 𝓤) (𝓜 : Model 𝓤 𝓛
   abbrev Made : Ptr → Val → SProp 𝓤
   Made p v = H.⇛ (ex 𝓤 (λ (u : Unit {0}). sep 𝓤 (sep 𝓤 (emp 𝓤) (sem 𝓛 (unit.own_val u (v ∷ [])))) (ex 𝓤 (λ (ws : Unit {0} × Unit {0}). sep 𝓤 (sem 𝓛 (fsep ftrue ftrue)) (sem 𝓛 (lies_at R full_share p e))))))
 
-  module _ {f : Callee} (met : (y : Bound 0 (λ κs. []) × Unit {0}) → ent 𝓤 Asked (𝓣.C f [] Given)) where
+  module _ {f : Callee} (met : (y : Bound 0 [] (λ κs. []) × Unit {0}) → ent 𝓤 Asked (𝓣.C f [] Given)) where
     writes : (p : Ptr) → ent 𝓤 (sem 𝓛 (room_at R p)) (WpFn 𝓤 H 𝓣.C 𝓣.Λ (making f (lone R.mir)) (ptr_val p ∷ []) (Made p))
     writes p =
         let σ = lone R.mir in
@@ -84,7 +84,7 @@ module _ {M : Type 1} {𝓤 : Ura M} (𝓛 : Logic 𝓤) (𝓜 : Model 𝓤 𝓛
         feq_i ! _ (vunit ∷ []) (vunit ∷ []) refl $ nothing ! $ join ! $ frame ! $
         show ! (λ (ws : Unit {0} × Unit {0}). sep 𝓤 (sem 𝓛 (fsep ftrue ftrue)) (sem 𝓛 (part_at R full_share e b o))) (tt, tt) $ nothing ! $ nothing ! $ fjoin ! $ frame ! $ done !)))))))
 
-    pub made : {k : Callee} → Closed 𝓤 H 𝓣.C 𝓣.Λ k (making f (lone R.mir)) → (y : Bound 0 (λ κs. RawPtr ∷ []) × Unit {0})
+    pub made : {k : Callee} → Closed 𝓤 H 𝓣.C 𝓣.Λ k (making f (lone R.mir)) → (y : Bound 0 [] (λ κs. RawPtr ∷ []) × Unit {0})
         → ent 𝓤 (sep 𝓤 (sep 𝓤 (emp 𝓤) (sem 𝓛 (owns (RawPtr ∷ []) y.0.3 y.0.4))) (sem 𝓛 (room_at R y.0.3.0))) (𝓣.C k (flat (RawPtr ∷ []) y.0.4) (Made y.0.3.0))
     made {k} closes y =
         let p = y.0.3.0 in let room = sem 𝓛 (room_at R p) in let owned = sem 𝓛 (owns (RawPtr ∷ []) y.0.3 y.0.4) in

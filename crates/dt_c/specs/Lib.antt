@@ -1,5 +1,6 @@
 pub mod Handle
-pub mod Rows
+pub mod CStructs
 pub mod Calls
-pub mod ServiceRows
+pub mod Networks
+pub mod ServiceStructs
 pub mod Serving

@@ -1,17 +1,18 @@
 //! The calls, on what a handle holds.
 ghost use Rattle.std.specs.Prelude.{◌≡◌, IfErr, IfOk, false, length, map};
 ghost use Rattle.dt_units.specs.Limits.{IsWithinLimits};
-ghost use Rattle.dt_c.specs.Calls.{AddingRoute, Arriving, Counting, FingerprintIs, Following, Guarding, HandsOut, Hearing, KeptOut, MakesInbox, NextFrame, NextReport, Opening, Opens, QuietIs, Reading, Sending, TakesReport, Taking, Ticking, Totalling, Waking, IsSet, chosen, StandsInTheWay};
+ghost use Rattle.dt_c.specs.Calls.{AddingRoute, Arriving, Counting, FingerprintIs, Following, Guarding, HandsOut, Hearing, KeptOut, MakesInbox, NextFrame, NextReport, Opening, Opens, QuietIs, Reading, Sending, TakesReport, Taking, Ticking, Totalling, Waking, IsSet, chosen, RulesOf, StandsInTheWay};
 ghost use Rattle.dt_c.specs.Handle.{empty};
-ghost use Rattle.dt_c.specs.Rows.{in_link, out_link, params_of, route, started};
+ghost use Rattle.dt_c.specs.CStructs.{in_link, out_link, params_of, route, started};
 
-use crate::rows::{
-    CLOSED, CameRow, CountsRow, DONE, FingerprintRow, FlowRow, HELD, KEPT_OUT, KeptOutRow, LinkRow,
-    MessageRow, MomentRow, NO_MEMORY, NOTHING, Opened, OpenedRow, OutRow, ParamsRow, PieceRow,
-    REFUSED, ReportRow, RouteRow, SentRow, StartRow, TotalsRow, came_as, came_row, counts_row,
-    frame_row, kept_out_row, message_row, moment_row, no_counts_row, no_frame, no_message,
-    no_piece, no_report, no_totals_row, opened_row, piece_row, report_row, routed_status, sent_as,
-    sent_row, ticked_status, totals_row,
+use crate::c_structs::{
+    BLOCKED, BUFFER_TOO_SMALL, BlockedCounts, CFlow, CLink, CParams, CReport, CRoute,
+    DATAGRAM_SIZE, Datagram, EXISTS, FLOW_COUNTS_SIZE, FlowCounts, INVALID, MESSAGE_SIZE, Message,
+    NO_MEMORY, NODE_COUNTS_SIZE, NONE, NOT_OPEN, NodeCounts, NodeOptions, OK, OpenResult, Opened,
+    PARAMS_SIZE, REPORT_SIZE, ReadResult, ReceiveResult, SendResult, blocked_counts, fill_datagram,
+    fill_flow_counts, fill_message, fill_node_counts, fill_report, has_room, message_status,
+    no_piece, open_result, read_result, receive_result, received_as, routed_status, send_result,
+    sent_as, ticked_status, wake_time,
 };
 use crate::slots::Slot;
 use dt_endpoint::{Admission, Endpoint, Guard, InLink, Links, OutLink, Route};
@@ -43,178 +44,208 @@ impl Slot {
     {
         match &mut self.endpoint {
             Some(endpoint) => ticked_status(endpoint.tick(now)),
-            None => CLOSED,
+            None => NOT_OPEN,
         }
     }
 
-    pub(crate) fn arrive(&mut self, now: u64, link: u16, datagram: &[u8], waited: u32) -> CameRow
+    pub(crate) fn receive(
+        &mut self,
+        now: u64,
+        link: u16,
+        datagram: &[u8],
+        waited: u32,
+    ) -> ReceiveResult
         ensures { Arriving result now link datagram.now waited self.old self.new }
     {
         let Some(endpoint) = &mut self.endpoint else {
-            return came_as(CLOSED);
+            return received_as(NOT_OPEN);
         };
         match self.guard.admits(endpoint, datagram) {
-            Admission::Admitted => came_row(endpoint.arrive(now, link, datagram, waited)),
-            Admission::ClosedPort | Admission::TooManyFlows => came_as(KEPT_OUT),
+            Admission::Admitted => receive_result(endpoint.arrive(now, link, datagram, waited)),
+            Admission::ClosedPort | Admission::TooManyFlows => received_as(BLOCKED),
         }
     }
 
-    pub(crate) fn limit(&mut self, alloc: Global, ports: &[u16], all: bool, most: u32) -> u8
+    pub(crate) fn set_guard(&mut self, alloc: Global, ports: &[u16], all: bool, most: u32) -> u8
         ensures { Guarding result ports.now all most self.old self.new }
     {
         match &self.endpoint {
             Some(_) => set_guard(&mut self.guard, alloc, ports, all, most),
-            None => CLOSED,
+            None => NOT_OPEN,
         }
     }
 
-    pub(crate) fn kept_out(&mut self) -> KeptOutRow
+    pub(crate) fn get_blocked_counts(&mut self) -> BlockedCounts
         ensures { KeptOut result self.old self.new }
     {
-        kept_out_row(&self.guard)
+        blocked_counts(&self.guard)
     }
 
-    pub(crate) fn counts(&mut self) -> CountsRow
-        ensures { Counting result self.old self.new }
+    pub(crate) fn get_counts(&mut self, out: &mut NodeCounts) -> u8
+        ensures { Counting result out.old out.new self.old self.new }
     {
-        match &self.endpoint {
-            Some(endpoint) => counts_row(endpoint.counts()),
-            None => no_counts_row(CLOSED),
+        if !has_room(out.size, NODE_COUNTS_SIZE) {
+            return INVALID;
         }
+        let Some(endpoint) = &self.endpoint else {
+            return NOT_OPEN;
+        };
+        fill_node_counts(out, endpoint.counts());
+        OK
     }
 
-    pub(crate) fn follow(&mut self, flow: &FlowRow) -> u8
+    pub(crate) fn count_flow(&mut self, flow: &CFlow) -> u8
         ensures { Following result flow.now self.old self.new }
     {
         let Some(endpoint) = &mut self.endpoint else {
-            return CLOSED;
+            return NOT_OPEN;
         };
         match endpoint.follow(&flow.flow()) {
-            Ok(()) => DONE,
+            Ok(()) => OK,
             Err(NoMemory) => NO_MEMORY,
         }
     }
 
-    pub(crate) fn totals(&mut self, flow: &FlowRow) -> TotalsRow
-        ensures { Totalling result flow.now self.old self.new }
+    pub(crate) fn get_flow_counts(&mut self, flow: &CFlow, out: &mut FlowCounts) -> u8
+        ensures { Totalling result flow.now out.old out.new self.old self.new }
     {
-        match &self.endpoint {
-            Some(endpoint) => totals_row(endpoint.totals(&flow.flow())),
-            None => no_totals_row(CLOSED),
+        if !has_room(out.size, FLOW_COUNTS_SIZE) {
+            return INVALID;
         }
+        let Some(endpoint) = &self.endpoint else {
+            return NOT_OPEN;
+        };
+        let Some(octets) = endpoint.totals(&flow.flow()) else {
+            return NONE;
+        };
+        fill_flow_counts(out, octets);
+        OK
     }
 
-    pub(crate) fn add_route(&mut self, route: &RouteRow) -> u8
+    pub(crate) fn add_route(&mut self, route: &CRoute) -> u8
         ensures { AddingRoute result route.now self.old self.new }
     {
         match &mut self.endpoint {
             Some(endpoint) => routed_status(endpoint.add_route(route.route())),
-            None => CLOSED,
+            None => NOT_OPEN,
         }
     }
 
     pub(crate) fn send(
         &mut self,
         now: u64,
-        flow: &FlowRow,
+        flow: &CFlow,
         octets: &[u8],
         begin: bool,
         end: bool,
-    ) -> SentRow
+    ) -> SendResult
         ensures { Sending result now flow.now octets.now begin end self.old self.new }
     {
         match &mut self.endpoint {
-            Some(endpoint) => sent_row(endpoint.send(now, flow.flow(), octets, begin, end)),
-            None => sent_as(CLOSED),
+            Some(endpoint) => send_result(endpoint.send(now, flow.flow(), octets, begin, end)),
+            None => sent_as(NOT_OPEN),
         }
     }
 
-    pub(crate) fn read(&mut self, now: u64, flow: &FlowRow, buf: &mut [u8]) -> PieceRow
+    pub(crate) fn read(&mut self, now: u64, flow: &CFlow, buf: &mut [u8]) -> ReadResult
         ensures { Reading result now flow.now (length buf.old) buf.new self.old self.new }
     {
         match &mut self.endpoint {
-            Some(endpoint) => piece_row(endpoint.read(now, flow.flow(), buf)),
-            None => no_piece(CLOSED),
+            Some(endpoint) => read_result(endpoint.read(now, flow.flow(), buf)),
+            None => no_piece(NOT_OPEN),
         }
     }
 
-    pub(crate) fn inbox(&mut self, alloc: Global, longest: usize) -> u8
+    pub(crate) fn enable_messages(&mut self, alloc: Global, longest: usize) -> u8
         ensures { MakesInbox result longest self.old self.new }
     {
         let Some(_) = &self.endpoint else {
-            return CLOSED;
+            return NOT_OPEN;
         };
         if self.mailbox.is_some() {
-            return HELD;
+            return EXISTS;
         }
         self.mailbox = Some(Mailbox::new(alloc, Some(longest)));
-        DONE
+        OK
     }
 
-    pub(crate) fn hear(&mut self, flow: &FlowRow) -> u8
+    pub(crate) fn mark_readable(&mut self, flow: &CFlow) -> u8
         ensures { Hearing result flow.now self.old self.new }
     {
         let Some(mailbox) = &mut self.mailbox else {
-            return CLOSED;
+            return NOT_OPEN;
         };
         match mailbox.hear(flow.flow()) {
-            Ok(()) => DONE,
+            Ok(()) => OK,
             Err(NoMemory) => NO_MEMORY,
         }
     }
 
-    pub(crate) fn take(&mut self, alloc: Global, now: u64, buf: &mut [u8]) -> MessageRow
-        ensures { Taking result now buf.old buf.new self.old self.new }
+    pub(crate) fn next_message(
+        &mut self,
+        alloc: Global,
+        now: u64,
+        buf: &mut [u8],
+        out: &mut Message,
+    ) -> u8
+        ensures { Taking result now buf.old buf.new out.old out.new self.old self.new }
     {
+        if !has_room(out.size, MESSAGE_SIZE) {
+            return INVALID;
+        }
         let Some(endpoint) = &mut self.endpoint else {
-            return no_message(CLOSED, 0);
+            return NOT_OPEN;
         };
         let Some(mailbox) = &mut self.mailbox else {
-            return no_message(CLOSED, 0);
+            return NOT_OPEN;
         };
         let answer = mailbox.take(alloc, endpoint, now, buf);
-        message_row(answer, mailbox.dropped())
+        fill_message(out, answer, mailbox.dropped());
+        message_status(answer)
     }
 
-    pub(crate) fn next_frame(&mut self, buf: &mut [u8]) -> OutRow
-        ensures { NextFrame result buf.old buf.new self.old self.new }
+    pub(crate) fn next_datagram(&mut self, buf: &mut [u8], out: &mut Datagram) -> u8
+        ensures { NextFrame result buf.old buf.new out.old out.new self.old self.new }
     {
+        if !has_room(out.size, DATAGRAM_SIZE) {
+            return INVALID;
+        }
         match &mut self.endpoint {
-            Some(endpoint) => hand_out(endpoint, buf),
-            None => no_frame(CLOSED),
+            Some(endpoint) => hand_out(endpoint, buf, out),
+            None => NOT_OPEN,
         }
     }
 
-    pub(crate) fn next_report(&mut self) -> ReportRow
-        ensures { NextReport result self.old self.new }
+    pub(crate) fn next_report(&mut self, out: &mut CReport) -> u8
+        ensures { NextReport result out.old out.new self.old self.new }
     {
+        if !has_room(out.size, REPORT_SIZE) {
+            return INVALID;
+        }
         match &mut self.endpoint {
-            Some(endpoint) => take_report(endpoint),
-            None => no_report(CLOSED),
+            Some(endpoint) => take_report(endpoint, out),
+            None => NOT_OPEN,
         }
     }
 
-    pub(crate) fn wake(&mut self) -> MomentRow
+    pub(crate) fn wake(&mut self) -> u64
         ensures { Waking result self.old self.new }
     {
         match &self.endpoint {
-            Some(endpoint) => moment_row(endpoint.wake()),
-            None => moment_row(None),
+            Some(endpoint) => wake_time(endpoint.wake()),
+            None => wake_time(None),
         }
     }
 
     pub(crate) fn open(
         &mut self,
         alloc: Global,
-        params: &ParamsRow,
-        start: &StartRow,
-        links: &[LinkRow],
-        routes: &[RouteRow],
-    ) -> OpenedRow
-        ensures { Opening result params.now start.now links.now routes.now self.old self.new }
+        params: &CParams,
+        options: &NodeOptions<'_>,
+    ) -> OpenResult
+        ensures { Opening result params.now options.now self.old self.new }
     {
-        let around = Surroundings::of(params, links, routes);
-        opened_row(opens(self, alloc, start, &around))
+        open_result(opens(self, alloc, params, options))
     }
 }
 
@@ -224,105 +255,95 @@ pub fn set_guard(guard: &mut Guard, alloc: Global, ports: &[u16], all: bool, mos
 {
     let ports = if all { None } else { Some(ports) };
     match guard.limit(alloc, ports, most) {
-        Ok(()) => DONE,
+        Ok(()) => OK,
         Err(NoMemory) => NO_MEMORY,
     }
 }
 
 /// The first frame that waits goes out, where the buffer has room for it.
-fn hand_out(endpoint: &mut Endpoint, buf: &mut [u8]) -> OutRow
-    ensures { HandsOut result buf.old buf.new endpoint.old endpoint.new }
+fn hand_out(endpoint: &mut Endpoint, buf: &mut [u8], out: &mut Datagram) -> u8
+    ensures { HandsOut result buf.old buf.new out.old out.new endpoint.old endpoint.new }
 {
     let Some(frame) = endpoint.first_frame() else {
-        return no_frame(NOTHING);
+        return NONE;
     };
-    let row = frame_row(frame, buf.len());
-    if row.len <= buf.len() {
-        buf[..row.len].copy_from_slice(frame.octets());
-        let _ = endpoint.next_frame();
+    fill_datagram(out, frame);
+    let octets = frame.octets();
+    let len = octets.len();
+    if len > buf.len() {
+        return BUFFER_TOO_SMALL;
     }
-    row
+    buf[..len].copy_from_slice(octets);
+    let _ = endpoint.next_frame();
+    OK
 }
 
 /// The first report that waits goes out.
-fn take_report(endpoint: &mut Endpoint) -> ReportRow
-    ensures { TakesReport result endpoint.old endpoint.new }
+fn take_report(endpoint: &mut Endpoint, out: &mut CReport) -> u8
+    ensures { TakesReport result out.old out.new endpoint.old endpoint.new }
 {
     match endpoint.next_report() {
-        Some(report) => report_row(&report),
-        None => no_report(NOTHING),
+        Some(report) => {
+            fill_report(out, &report);
+            OK
+        }
+        None => NONE,
     }
 }
 
 /// The links on which packets leave.
-fn outs_of(alloc: Global, links: &[LinkRow]) -> Result<Vec<OutLink>, NoMemory>
+fn outs_of(alloc: Global, links: &[CLink]) -> Result<Vec<OutLink>, NoMemory>
     ensures { IfOk result (λ v. v.items ≡ map out_link links.now) }
 {
     Ok(
         links
             .iter()
-            .map(|row| OutLink {
-                link: row.link,
-                pace: row.pace,
+            .map(|link| OutLink {
+                link: link.number,
+                pace: link.pace,
             })
             .collect(alloc)?,
     )
 }
 
 /// The links on which packets come.
-fn ins_of(alloc: Global, links: &[LinkRow]) -> Result<Vec<InLink>, NoMemory>
+fn ins_of(alloc: Global, links: &[CLink]) -> Result<Vec<InLink>, NoMemory>
     ensures { IfOk result (λ v. v.items ≡ map in_link links.now) }
 {
     Ok(
         links
             .iter()
-            .map(|row| InLink {
-                link: row.link,
-                charge: row.charge,
+            .map(|link| InLink {
+                link: link.number,
+                charge: link.charge,
             })
             .collect(alloc)?,
     )
 }
 
-fn routes_of(alloc: Global, routes: &[RouteRow]) -> Result<Vec<Route>, NoMemory>
+fn routes_of(alloc: Global, routes: &[CRoute]) -> Result<Vec<Route>, NoMemory>
     ensures { IfOk result (λ v. v.items ≡ map route routes.now) }
 {
-    Ok(routes.iter().map(|row| row.route()).collect(alloc)?)
+    Ok(routes.iter().map(|route| route.route()).collect(alloc)?)
 }
 
-/// What is about a node, as C gives it: the parameters of all, its links and its routes.
-#[derive(Clone, Copy)]
-pub struct Surroundings<'a> {
-    pub params: &'a ParamsRow,
-    pub links: &'a [LinkRow],
-    pub routes: &'a [RouteRow],
-}
-
-impl<'a> Surroundings<'a> {
-    pub fn of(params: &'a ParamsRow, links: &'a [LinkRow], routes: &'a [RouteRow]) -> Self
-        ensures { result ≡ record { params = params.entry; links = links.entry; routes = routes.entry } }
-    {
-        Surroundings {
-            params,
-            links,
-            routes,
-        }
-    }
-
-    /// The parameters within their limits, unless the handle holds a node already.
+impl CParams {
+    /// The parameters within their limits, unless the handle is open already.
     pub fn rules(&self, held: bool) -> Result<Rules, Opened>
-        ensures within { IfOk result (λ rules. (held ≡ false) × (rules ≡ params_of self.now.params.now) × IsWithinLimits (params_of self.now.params.now)) }
-        ensures otherwise { IfErr result (λ answer. StandsInTheWay answer held (params_of self.now.params.now)) }
+        ensures within { IfOk result (λ rules. (held ≡ false) × (rules ≡ params_of self.now) × IsWithinLimits (params_of self.now)) }
+        ensures otherwise { IfErr result (λ answer. StandsInTheWay answer held (params_of self.now)) }
     {
         if held {
             return Err(Opened::Held);
         }
-        match self.params.params().check() {
+        match self.params().check() {
             Ok(rules) => Ok(rules),
             Err(fault) => Err(Opened::Refused { fault }),
         }
     }
+}
 
+impl NodeOptions<'_> {
     /// The links and routes, in memory of their own.
     pub fn wires(&self, alloc: Global) -> Result<Wires, NoMemory>
         ensures { IfOk result (λ w. (w.outs.items ≡ map out_link self.now.links.now) × (w.ins.items ≡ map in_link self.now.links.now) × (w.routes.items ≡ map route self.now.routes.now)) }
@@ -346,29 +367,30 @@ pub struct Wires {
 fn new_endpoint(
     alloc: Global,
     rules: &Rules,
-    start: &StartRow,
-    around: &Surroundings<'_>,
+    options: &NodeOptions<'_>,
 ) -> Result<Endpoint, NoMemory>
-    ensures { IfOk result (λ e. e ≡ started rules.now start.now around.now.links.now around.now.routes.now) }
+    ensures { IfOk result (λ e. e ≡ started rules.now options.now) }
 {
-    let again = if start.again { Some(start.at) } else { None };
-    let wires = around.wires(alloc)?;
+    let wires = options.wires(alloc)?;
     let links = Links {
         outs: &wires.outs,
         ins: &wires.ins,
         routes: &wires.routes,
     };
-    Endpoint::open(alloc, rules, NodeId(start.me), again, &links)
+    Endpoint::open(alloc, rules, NodeId(options.node), options.again(), &links)
 }
 
-fn opens(slot: &mut Slot, alloc: Global, start: &StartRow, around: &Surroundings<'_>) -> Opened
-    ensures { Opens result around.now.params.now start.now around.now.links.now around.now.routes.now slot.old slot.new }
+fn opens(slot: &mut Slot, alloc: Global, params: &CParams, options: &NodeOptions<'_>) -> Opened
+    ensures { Opens result params.now options.now slot.old slot.new }
 {
-    let rules = match around.rules(slot.endpoint.is_some()) {
+    if !options.is_fit(params) {
+        return Opened::Unfit;
+    }
+    let rules = match params.rules(slot.endpoint.is_some()) {
         Ok(rules) => rules,
         Err(answer) => return answer,
     };
-    match new_endpoint(alloc, &rules, start, around) {
+    match new_endpoint(alloc, &rules, options) {
         Ok(endpoint) => {
             slot.endpoint = Some(endpoint);
             Opened::Done
@@ -377,28 +399,38 @@ fn opens(slot: &mut Slot, alloc: Global, start: &StartRow, around: &Surroundings
     }
 }
 
+/// The parameters within their limits, if their struct has the size that is known here.
+fn rules_of(params: &CParams) -> Option<Rules>
+    ensures { RulesOf result params.now }
+{
+    if params.size != PARAMS_SIZE {
+        return None;
+    }
+    params.params().check().ok()
+}
+
 /// How long a node is silent after it starts again, or 0 where a parameter is out of its range.
-pub fn quiet_of(params: &ParamsRow) -> u64
+pub fn quiet_of(params: &CParams) -> u64
     ensures { QuietIs result params.now }
 {
-    match params.params().check() {
-        Ok(rules) => rules.times().quiet,
-        Err(_) => 0,
+    match rules_of(params) {
+        Some(rules) => rules.times().quiet,
+        None => 0,
     }
 }
 
 /// The fingerprint of parameters, unless one is out of its range.
-pub fn fingerprint_in(params: &ParamsRow) -> FingerprintRow
-    ensures { FingerprintIs result params.now }
+pub fn fingerprint_in(params: &CParams, out: &mut u64) -> u8
+    ensures { FingerprintIs result out.new params.now }
 {
-    match params.params().check() {
-        Ok(rules) => FingerprintRow {
-            value: fingerprint(&rules),
-            status: DONE,
-        },
-        Err(_) => FingerprintRow {
-            value: 0,
-            status: REFUSED,
-        },
+    match rules_of(params) {
+        Some(rules) => {
+            *out = fingerprint(&rules);
+            OK
+        }
+        None => {
+            *out = 0;
+            INVALID
+        }
     }
 }

@@ -5,14 +5,14 @@ ghost use Rattle.dt_c.specs.Calls.{Arriving, Counting, Following, KeptOut, NextF
 ghost use Rattle.dt_c.specs.contracts.slots.Slot.{the_row};
 ghost use Rattle.dt_c.specs.declared.slots.Slot.{Slot};
 
-use crate::rows::{
-    CameRow, CountsRow, FlowRow, KeptOutRow, MomentRow, OutRow, ReportRow, TotalsRow,
+use crate::c_structs::{
+    BlockedCounts, CFlow, CReport, Datagram, FlowCounts, NodeCounts, ReceiveResult,
 };
 use crate::slots::{Handle, Slot};
 
 /// What is due at `now` is done.
 #[unsafe(no_mangle)]
-pub unsafe extern "C" fn dt_tick(node: *mut Handle, now: u64) -> u8
+pub unsafe extern "C" fn dt_node_tick(node: *mut Handle, now: u64) -> u8
     ghost g: { Slot }
     requires* { sem 𝓛 (points_to the_row node g) }
     ensures* { ∃ₛ (λ h. sem 𝓛 (points_to the_row node h) ∗ ⌜ Ticking result now g h ⌝) }
@@ -22,18 +22,18 @@ pub unsafe extern "C" fn dt_tick(node: *mut Handle, now: u64) -> u8
 
 /// A datagram came on a link, and waited so many milliseconds until this call.
 #[unsafe(no_mangle)]
-pub unsafe extern "C" fn dt_arrive(
+pub unsafe extern "C" fn dt_node_receive(
     node: *mut Handle,
     now: u64,
     link: u16,
     datagram: &[u8],
     waited: u32,
-) -> CameRow
+) -> ReceiveResult
     ghost g: { Slot }
     requires* { sem 𝓛 (points_to the_row node g) }
     ensures* { ∃ₛ (λ h. sem 𝓛 (points_to the_row node h) ∗ ⌜ Arriving result now link datagram.now waited g h ⌝) }
 {
-    Slot::arrive(
+    Slot::receive(
         unsafe { &mut *(node as *mut Slot) },
         now,
         link,
@@ -44,17 +44,21 @@ pub unsafe extern "C" fn dt_arrive(
 
 /// The first frame that waits, where the buffer has room for it.
 #[unsafe(no_mangle)]
-pub unsafe extern "C" fn dt_next_frame(node: *mut Handle, buf: &mut [u8]) -> OutRow
+pub unsafe extern "C" fn dt_node_next_datagram(
+    node: *mut Handle,
+    buf: &mut [u8],
+    out: &mut Datagram,
+) -> u8
     ghost g: { Slot }
     requires* { sem 𝓛 (points_to the_row node g) }
-    ensures* { ∃ₛ (λ h. sem 𝓛 (points_to the_row node h) ∗ ⌜ NextFrame result buf.old buf.new g h ⌝) }
+    ensures* { ∃ₛ (λ h. sem 𝓛 (points_to the_row node h) ∗ ⌜ NextFrame result buf.old buf.new out.old out.new g h ⌝) }
 {
-    Slot::next_frame(unsafe { &mut *(node as *mut Slot) }, buf)
+    Slot::next_datagram(unsafe { &mut *(node as *mut Slot) }, buf, out)
 }
 
 /// The moment of the next tick that does something, or none.
 #[unsafe(no_mangle)]
-pub unsafe extern "C" fn dt_wake(node: *mut Handle) -> MomentRow
+pub unsafe extern "C" fn dt_node_wake(node: *mut Handle) -> u64
     ghost g: { Slot }
     requires* { sem 𝓛 (points_to the_row node g) }
     ensures* { ∃ₛ (λ h. sem 𝓛 (points_to the_row node h) ∗ ⌜ Waking result g h ⌝) }
@@ -64,50 +68,54 @@ pub unsafe extern "C" fn dt_wake(node: *mut Handle) -> MomentRow
 
 /// The first report that waits.
 #[unsafe(no_mangle)]
-pub unsafe extern "C" fn dt_next_report(node: *mut Handle) -> ReportRow
+pub unsafe extern "C" fn dt_node_next_report(node: *mut Handle, out: &mut CReport) -> u8
     ghost g: { Slot }
     requires* { sem 𝓛 (points_to the_row node g) }
-    ensures* { ∃ₛ (λ h. sem 𝓛 (points_to the_row node h) ∗ ⌜ NextReport result g h ⌝) }
+    ensures* { ∃ₛ (λ h. sem 𝓛 (points_to the_row node h) ∗ ⌜ NextReport result out.old out.new g h ⌝) }
 {
-    Slot::next_report(unsafe { &mut *(node as *mut Slot) })
+    Slot::next_report(unsafe { &mut *(node as *mut Slot) }, out)
 }
 
 /// From now on it is counted what is reported of the octets of a flow.
 #[unsafe(no_mangle)]
-pub unsafe extern "C" fn dt_follow(node: *mut Handle, flow: &FlowRow) -> u8
+pub unsafe extern "C" fn dt_node_count_flow(node: *mut Handle, flow: &CFlow) -> u8
     ghost g: { Slot }
     requires* { sem 𝓛 (points_to the_row node g) }
     ensures* { ∃ₛ (λ h. sem 𝓛 (points_to the_row node h) ∗ ⌜ Following result flow.now g h ⌝) }
 {
-    Slot::follow(unsafe { &mut *(node as *mut Slot) }, flow)
+    Slot::count_flow(unsafe { &mut *(node as *mut Slot) }, flow)
 }
 
 /// What was reported of the octets of a flow since it is followed.
 #[unsafe(no_mangle)]
-pub unsafe extern "C" fn dt_totals(node: *mut Handle, flow: &FlowRow) -> TotalsRow
+pub unsafe extern "C" fn dt_node_get_flow_counts(
+    node: *mut Handle,
+    flow: &CFlow,
+    out: &mut FlowCounts,
+) -> u8
     ghost g: { Slot }
     requires* { sem 𝓛 (points_to the_row node g) }
-    ensures* { ∃ₛ (λ h. sem 𝓛 (points_to the_row node h) ∗ ⌜ Totalling result flow.now g h ⌝) }
+    ensures* { ∃ₛ (λ h. sem 𝓛 (points_to the_row node h) ∗ ⌜ Totalling result flow.now out.old out.new g h ⌝) }
 {
-    Slot::totals(unsafe { &mut *(node as *mut Slot) }, flow)
+    Slot::get_flow_counts(unsafe { &mut *(node as *mut Slot) }, flow, out)
 }
 
 /// What the node counted since it was opened.
 #[unsafe(no_mangle)]
-pub unsafe extern "C" fn dt_counts(node: *mut Handle) -> CountsRow
+pub unsafe extern "C" fn dt_node_get_counts(node: *mut Handle, out: &mut NodeCounts) -> u8
     ghost g: { Slot }
     requires* { sem 𝓛 (points_to the_row node g) }
-    ensures* { ∃ₛ (λ h. sem 𝓛 (points_to the_row node h) ∗ ⌜ Counting result g h ⌝) }
+    ensures* { ∃ₛ (λ h. sem 𝓛 (points_to the_row node h) ∗ ⌜ Counting result out.old out.new g h ⌝) }
 {
-    Slot::counts(unsafe { &mut *(node as *mut Slot) })
+    Slot::get_counts(unsafe { &mut *(node as *mut Slot) }, out)
 }
 
 /// How many datagrams the guard kept out.
 #[unsafe(no_mangle)]
-pub unsafe extern "C" fn dt_kept_out(node: *mut Handle) -> KeptOutRow
+pub unsafe extern "C" fn dt_node_get_blocked_counts(node: *mut Handle) -> BlockedCounts
     ghost g: { Slot }
     requires* { sem 𝓛 (points_to the_row node g) }
     ensures* { ∃ₛ (λ h. sem 𝓛 (points_to the_row node h) ∗ ⌜ KeptOut result g h ⌝) }
 {
-    Slot::kept_out(unsafe { &mut *(node as *mut Slot) })
+    Slot::get_blocked_counts(unsafe { &mut *(node as *mut Slot) })
 }

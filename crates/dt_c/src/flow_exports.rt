@@ -6,20 +6,20 @@ ghost use Rattle.dt_c.specs.Calls.{Hearing, Reading, Sending, Taking};
 ghost use Rattle.dt_c.specs.contracts.slots.Slot.{the_row};
 ghost use Rattle.dt_c.specs.declared.slots.Slot.{Slot};
 
-use crate::rows::{FlowRow, MessageRow, PieceRow, SentRow};
+use crate::c_structs::{CFlow, Message, ReadResult, SendResult};
 use crate::slots::{Handle, Slot};
 use std::alloc::Global;
 
 /// Octets are sent on a flow from this node.
 #[unsafe(no_mangle)]
-pub unsafe extern "C" fn dt_send(
+pub unsafe extern "C" fn dt_node_send(
     node: *mut Handle,
     now: u64,
-    flow: &FlowRow,
+    flow: &CFlow,
     octets: &[u8],
     begin: bool,
     end: bool,
-) -> SentRow
+) -> SendResult
     ghost g: { Slot }
     requires* { sem 𝓛 (points_to the_row node g) }
     ensures* { ∃ₛ (λ h. sem 𝓛 (points_to the_row node h) ∗ ⌜ Sending result now flow.now octets.now begin end g h ⌝) }
@@ -36,12 +36,12 @@ pub unsafe extern "C" fn dt_send(
 
 /// Unread octets of a flow to this node are read, at most as many as the buffer holds.
 #[unsafe(no_mangle)]
-pub unsafe extern "C" fn dt_read(
+pub unsafe extern "C" fn dt_node_read(
     node: *mut Handle,
     now: u64,
-    flow: &FlowRow,
+    flow: &CFlow,
     buf: &mut [u8],
-) -> PieceRow
+) -> ReadResult
     ghost g: { Slot }
     requires* { sem 𝓛 (points_to the_row node g) }
     ensures* { ∃ₛ (λ h. sem 𝓛 (points_to the_row node h) ∗ ⌜ Reading result now flow.now (length buf.old) buf.new g h ⌝) }
@@ -51,25 +51,26 @@ pub unsafe extern "C" fn dt_read(
 
 /// Octets of a flow to this node may be unread.
 #[unsafe(no_mangle)]
-pub unsafe extern "C" fn dt_hear(node: *mut Handle, flow: &FlowRow) -> u8
+pub unsafe extern "C" fn dt_node_mark_readable(node: *mut Handle, flow: &CFlow) -> u8
     ghost g: { Slot }
     requires* { sem 𝓛 (points_to the_row node g) }
     ensures* { ∃ₛ (λ h. sem 𝓛 (points_to the_row node h) ∗ ⌜ Hearing result flow.now g h ⌝) }
 {
-    Slot::hear(unsafe { &mut *(node as *mut Slot) }, flow)
+    Slot::mark_readable(unsafe { &mut *(node as *mut Slot) }, flow)
 }
 
 /// A whole message of the first flow that was heard of and has one, where the buffer has room for it.
 #[unsafe(no_mangle)]
-pub unsafe extern "C" fn dt_take(
+pub unsafe extern "C" fn dt_node_next_message(
     node: *mut Handle,
     alloc: Global,
     now: u64,
     buf: &mut [u8],
-) -> MessageRow
+    out: &mut Message,
+) -> u8
     ghost g: { Slot }
     requires* { sem 𝓛 (points_to the_row node g) }
-    ensures* { ∃ₛ (λ h. sem 𝓛 (points_to the_row node h) ∗ ⌜ Taking result now buf.old buf.new g h ⌝) }
+    ensures* { ∃ₛ (λ h. sem 𝓛 (points_to the_row node h) ∗ ⌜ Taking result now buf.old buf.new out.old out.new g h ⌝) }
 {
-    Slot::take(unsafe { &mut *(node as *mut Slot) }, alloc, now, buf)
+    Slot::next_message(unsafe { &mut *(node as *mut Slot) }, alloc, now, buf, out)
 }

@@ -2,22 +2,24 @@
 //! pointer to it.
 #![tactic(auto)]
 
+mod c_structs;
 mod calls;
 mod drive_exports;
 mod flow_exports;
-mod rows;
+mod networks;
 mod service_calls;
 mod service_events;
 mod service_exports;
-mod service_rows;
 mod service_slots;
+mod service_structs;
 mod setup_exports;
 mod slots;
 
-pub use rows::{
-    CameRow, CountsRow, FingerprintRow, FlowRow, KeptOutRow, LinkRow, MessageRow, MomentRow,
-    OpenedRow, OutRow, ParamsRow, PieceRow, ReportRow, RouteRow, SentRow, StartRow, TotalsRow,
+pub use c_structs::{
+    BlockedCounts, CFlow, CLink, CParams, CReport, CRoute, Datagram, FlowCounts, Message,
+    NodeCounts, NodeOptions, OpenResult, ReadResult, ReceiveResult, SendResult,
 };
-pub use service_rows::{CallCountsRow, EventRow, MadeRow, RepliedRow, ServiceStartRow, TokenRow};
+pub use networks::CNetwork;
 pub use service_slots::{ServiceHandle, ServiceSlot};
+pub use service_structs::{CCallCounts, CToken, CallResult, Event, ReplyResult, ServiceOptions};
 pub use slots::{Handle, Slot};

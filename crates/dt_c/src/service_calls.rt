@@ -1,21 +1,22 @@
 //! The calls, on what a handle of a service holds.
 ghost use Rattle.std.specs.Prelude.{◌≡◌, IfOk};
-ghost use Rattle.dt_c.specs.Serving.{CallCounting, Calling, Forgetting, GetsKind, HandsFrame, NextEvent, Porting, Raises, Raising, Replying, ServiceAddingRoute, ServiceArriving, ServiceCounting, ServiceGuarding, ServiceKeptOut, ServiceNextFrame, ServiceOpening, ServiceOpens, ServiceTicking, ServiceWaking, Stopping, empty_service, service_started};
-ghost use Rattle.dt_c.specs.ServiceRows.{kind_of};
+ghost use Rattle.dt_c.specs.Serving.{CallCounting, Calling, Forgetting, GetsKind, HandsFrame, NextEvent, Porting, Raises, Raising, Replying, ServiceAddingRoute, ServiceArriving, ServiceCounting, ServiceGuarding, ServiceKeptOut, ServiceNextFrame, ServiceOpening, ServiceOpens, ServiceTicking, ServiceWaking, Stopping, empty_service, is_service_fit, service_started};
+ghost use Rattle.dt_c.specs.ServiceStructs.{kind_of};
 
-use crate::calls::{Surroundings, set_guard};
-use crate::rows::{
-    CLOSED, CameRow, CountsRow, DONE, FlowRow, HELD, KEPT_OUT, KeptOutRow, LinkRow, MomentRow,
-    NO_MEMORY, NOTHING, Opened, OpenedRow, OutRow, ParamsRow, REFUSED, RouteRow, came_as, came_row,
-    counts_row, frame_row, kept_out_row, moment_row, no_counts_row, no_frame, opened_row,
-    routed_status, ticked_status,
+use crate::c_structs::{
+    BLOCKED, BUFFER_TOO_SMALL, BlockedCounts, CFlow, CParams, CRoute, DATAGRAM_SIZE, Datagram,
+    EXISTS, INVALID, NO_MEMORY, NODE_COUNTS_SIZE, NONE, NOT_OPEN, NodeCounts, NodeOptions, OK,
+    OpenResult, Opened, ReceiveResult, blocked_counts, fill_datagram, fill_node_counts, has_room,
+    open_result, receive_result, received_as, routed_status, ticked_status, wake_time,
 };
+use crate::calls::set_guard;
 use crate::service_events::take_event;
-use crate::service_rows::{
-    CallCountsRow, EventRow, MadeRow, RepliedRow, ServiceStartRow, TokenRow, call_counts_row,
-    forgot_status, kind_of, made_as, made_row, no_call_counts, no_event, replied_as, replied_row,
-};
 use crate::service_slots::ServiceSlot;
+use crate::service_structs::{
+    CALL_COUNTS_SIZE, CCallCounts, CToken, CallResult, EVENT_SIZE, Event, ReplyResult,
+    SERVICE_OPTIONS_SIZE, ServiceOptions, call_result, called_as, fill_call_counts, forgot_status,
+    kind_of, replied_as, reply_result,
+};
 use dt_endpoint::{Admission, Guard, Links};
 use dt_items::NoMemory;
 use dt_service::Service;
@@ -42,56 +43,54 @@ impl ServiceSlot {
     pub(crate) fn open(
         &mut self,
         alloc: Global,
-        params: &ParamsRow,
-        start: &ServiceStartRow,
-        links: &[LinkRow],
-        routes: &[RouteRow],
-    ) -> OpenedRow
-        ensures { ServiceOpening result params.now start.now links.now routes.now self.old self.new }
+        params: &CParams,
+        options: &NodeOptions<'_>,
+        service_options: &ServiceOptions,
+    ) -> OpenResult
+        ensures { ServiceOpening result params.now options.now service_options.now self.old self.new }
     {
-        let around = Surroundings::of(params, links, routes);
-        opened_row(opens_service(self, alloc, start, &around))
+        open_result(opens_service(self, alloc, params, options, service_options))
     }
 
-    pub(crate) fn port(&mut self, port: u16, kind: u8) -> u8
+    pub(crate) fn set_port(&mut self, port: u16, kind: u8) -> u8
         ensures { Porting result port kind self.old self.new }
     {
         match &mut self.service {
             Some(service) => give_kind(service, port, kind_of(kind)),
-            None => CLOSED,
+            None => NOT_OPEN,
         }
     }
 
     pub(crate) fn call(
         &mut self,
         now: u64,
-        flow: &FlowRow,
+        flow: &CFlow,
         payload: &[u8],
         patience: u32,
-    ) -> MadeRow
+    ) -> CallResult
         ensures { Calling result now flow.now payload.now patience self.old self.new }
     {
         match &mut self.service {
-            Some(service) => made_row(service.call(now, flow.flow(), payload, patience)),
-            None => made_as(CLOSED),
+            Some(service) => call_result(service.call(now, flow.flow(), payload, patience)),
+            None => called_as(NOT_OPEN),
         }
     }
 
-    pub(crate) fn reply(&mut self, now: u64, token: &TokenRow, payload: &[u8]) -> RepliedRow
+    pub(crate) fn reply(&mut self, now: u64, token: &CToken, payload: &[u8]) -> ReplyResult
         ensures { Replying result now token.now payload.now self.old self.new }
     {
         match &mut self.service {
-            Some(service) => replied_row(service.reply(now, token.token(), payload)),
-            None => replied_as(CLOSED),
+            Some(service) => reply_result(service.reply(now, token.token(), payload)),
+            None => replied_as(NOT_OPEN),
         }
     }
 
-    pub(crate) fn forget(&mut self, now: u64, token: &TokenRow) -> u8
+    pub(crate) fn forget(&mut self, now: u64, token: &CToken) -> u8
         ensures { Forgetting result now token.now self.old self.new }
     {
         match &mut self.service {
             Some(service) => forgot_status(service.forget(now, &token.token())),
-            None => CLOSED,
+            None => NOT_OPEN,
         }
     }
 
@@ -100,37 +99,46 @@ impl ServiceSlot {
     {
         match &mut self.service {
             Some(service) => ticked_status(service.tick(now)),
-            None => CLOSED,
+            None => NOT_OPEN,
         }
     }
 
-    pub(crate) fn arrive(&mut self, now: u64, link: u16, datagram: &[u8], waited: u32) -> CameRow
+    pub(crate) fn receive(
+        &mut self,
+        now: u64,
+        link: u16,
+        datagram: &[u8],
+        waited: u32,
+    ) -> ReceiveResult
         ensures { ServiceArriving result now link datagram.now waited self.old self.new }
     {
         let Some(service) = &mut self.service else {
-            return came_as(CLOSED);
+            return received_as(NOT_OPEN);
         };
         match self.guard.admits(service.endpoint(), datagram) {
-            Admission::Admitted => came_row(service.arrive(now, link, datagram, waited)),
-            Admission::ClosedPort | Admission::TooManyFlows => came_as(KEPT_OUT),
+            Admission::Admitted => receive_result(service.arrive(now, link, datagram, waited)),
+            Admission::ClosedPort | Admission::TooManyFlows => received_as(BLOCKED),
         }
     }
 
-    pub(crate) fn next_event(&mut self, buf: &mut [u8]) -> EventRow
-        ensures { NextEvent result buf.old buf.new self.old self.new }
+    pub(crate) fn next_event(&mut self, buf: &mut [u8], out: &mut Event) -> u8
+        ensures { NextEvent result buf.old buf.new out.old out.new self.old self.new }
     {
+        if !has_room(out.size, EVENT_SIZE) {
+            return INVALID;
+        }
         match &mut self.service {
-            Some(service) => take_event(service, buf),
-            None => no_event(CLOSED),
+            Some(service) => take_event(service, buf, out),
+            None => NOT_OPEN,
         }
     }
 
-    pub(crate) fn raise(&mut self, life: u32) -> u8
+    pub(crate) fn set_life(&mut self, life: u32) -> u8
         ensures { Raising result life self.old self.new }
     {
         match &mut self.service {
             Some(service) => raise_life(service, life),
-            None => CLOSED,
+            None => NOT_OPEN,
         }
     }
 
@@ -140,103 +148,129 @@ impl ServiceSlot {
         match &mut self.service {
             Some(service) => {
                 service.close();
-                DONE
+                OK
             }
-            None => CLOSED,
+            None => NOT_OPEN,
         }
     }
 
-    pub(crate) fn next_frame(&mut self, buf: &mut [u8]) -> OutRow
-        ensures { ServiceNextFrame result buf.old buf.new self.old self.new }
+    pub(crate) fn next_datagram(&mut self, buf: &mut [u8], out: &mut Datagram) -> u8
+        ensures { ServiceNextFrame result buf.old buf.new out.old out.new self.old self.new }
     {
+        if !has_room(out.size, DATAGRAM_SIZE) {
+            return INVALID;
+        }
         match &mut self.service {
-            Some(service) => hand_frame(service, buf),
-            None => no_frame(CLOSED),
+            Some(service) => hand_frame(service, buf, out),
+            None => NOT_OPEN,
         }
     }
 
-    pub(crate) fn wake(&mut self) -> MomentRow
+    pub(crate) fn wake(&mut self) -> u64
         ensures { ServiceWaking result self.old self.new }
     {
         match &self.service {
-            Some(service) => moment_row(service.wake()),
-            None => moment_row(None),
+            Some(service) => wake_time(service.wake()),
+            None => wake_time(None),
         }
     }
 
-    pub(crate) fn add_route(&mut self, route: &RouteRow) -> u8
+    pub(crate) fn add_route(&mut self, route: &CRoute) -> u8
         ensures { ServiceAddingRoute result route.now self.old self.new }
     {
         match &mut self.service {
             Some(service) => routed_status(service.add_route(route.route())),
-            None => CLOSED,
+            None => NOT_OPEN,
         }
     }
 
-    pub(crate) fn limit(&mut self, alloc: Global, ports: &[u16], all: bool, most: u32) -> u8
+    pub(crate) fn set_guard(&mut self, alloc: Global, ports: &[u16], all: bool, most: u32) -> u8
         ensures { ServiceGuarding result ports.now all most self.old self.new }
     {
         match &self.service {
             Some(_) => set_guard(&mut self.guard, alloc, ports, all, most),
-            None => CLOSED,
+            None => NOT_OPEN,
         }
     }
 
-    pub(crate) fn kept_out(&mut self) -> KeptOutRow
+    pub(crate) fn get_blocked_counts(&mut self) -> BlockedCounts
         ensures { ServiceKeptOut result self.old self.new }
     {
-        kept_out_row(&self.guard)
+        blocked_counts(&self.guard)
     }
 
-    pub(crate) fn counts(&mut self) -> CountsRow
-        ensures { ServiceCounting result self.old self.new }
+    pub(crate) fn get_counts(&mut self, out: &mut NodeCounts) -> u8
+        ensures { ServiceCounting result out.old out.new self.old self.new }
     {
-        match &self.service {
-            Some(service) => counts_row(service.endpoint().counts()),
-            None => no_counts_row(CLOSED),
+        if !has_room(out.size, NODE_COUNTS_SIZE) {
+            return INVALID;
         }
+        let Some(service) = &self.service else {
+            return NOT_OPEN;
+        };
+        fill_node_counts(out, service.endpoint().counts());
+        OK
     }
 
-    pub(crate) fn call_counts(&mut self) -> CallCountsRow
-        ensures { CallCounting result self.old self.new }
+    pub(crate) fn get_call_counts(&mut self, out: &mut CCallCounts) -> u8
+        ensures { CallCounting result out.old out.new self.old self.new }
     {
-        match &self.service {
-            Some(service) => call_counts_row(service.counts()),
-            None => no_call_counts(),
+        if !has_room(out.size, CALL_COUNTS_SIZE) {
+            return INVALID;
         }
+        let Some(service) = &self.service else {
+            return NOT_OPEN;
+        };
+        fill_call_counts(out, service.counts());
+        OK
     }
 }
 
 fn new_service(
     alloc: Global,
     rules: &Rules,
-    start: &ServiceStartRow,
-    around: &Surroundings<'_>,
+    options: &NodeOptions<'_>,
+    service_options: &ServiceOptions,
 ) -> Result<Service, NoMemory>
-    ensures { IfOk result (λ s. s ≡ service_started rules.now start.now around.now.links.now around.now.routes.now) }
+    ensures { IfOk result (λ s. s ≡ service_started rules.now options.now service_options.now) }
 {
-    let wires = around.wires(alloc)?;
+    let wires = options.wires(alloc)?;
     let links = Links {
         outs: &wires.outs,
         ins: &wires.ins,
         routes: &wires.routes,
     };
-    Service::open(alloc, rules, &start.start(), &links)
+    Service::open(alloc, rules, &service_options.start(options), &links)
+}
+
+/// Whether all options have the size and the values that are known here.
+fn is_service_fit(
+    params: &CParams,
+    options: &NodeOptions<'_>,
+    service_options: &ServiceOptions,
+) -> bool
+    ensures { result ≡ is_service_fit params.now options.now service_options.now }
+{
+    options.is_fit(params) && service_options.size == SERVICE_OPTIONS_SIZE
 }
 
 fn opens_service(
     slot: &mut ServiceSlot,
     alloc: Global,
-    start: &ServiceStartRow,
-    around: &Surroundings<'_>,
+    params: &CParams,
+    options: &NodeOptions<'_>,
+    service_options: &ServiceOptions,
 ) -> Opened
-    ensures { ServiceOpens result around.now.params.now start.now around.now.links.now around.now.routes.now slot.old slot.new }
+    ensures { ServiceOpens result params.now options.now service_options.now slot.old slot.new }
 {
-    let rules = match around.rules(slot.service.is_some()) {
+    if !is_service_fit(params, options, service_options) {
+        return Opened::Unfit;
+    }
+    let rules = match params.rules(slot.service.is_some()) {
         Ok(rules) => rules,
         Err(answer) => return answer,
     };
-    let Ok(service) = new_service(alloc, &rules, start, around) else {
+    let Ok(service) = new_service(alloc, &rules, options, service_options) else {
         return Opened::NoMemory;
     };
     slot.service = Some(service);
@@ -247,11 +281,11 @@ fn give_kind(service: &mut Service, port: u16, kind: Option<PortKind>) -> u8
     ensures { GetsKind result port kind service.old service.new }
 {
     let Some(kind) = kind else {
-        return REFUSED;
+        return INVALID;
     };
     match service.port(port, kind) {
-        Ok(true) => DONE,
-        Ok(false) => HELD,
+        Ok(true) => OK,
+        Ok(false) => EXISTS,
         Err(NoMemory) => NO_MEMORY,
     }
 }
@@ -259,20 +293,23 @@ fn give_kind(service: &mut Service, port: u16, kind: Option<PortKind>) -> u8
 fn raise_life(service: &mut Service, life: u32) -> u8
     ensures { Raises result life service.old service.new }
 {
-    if service.raise(life) { DONE } else { HELD }
+    if service.raise(life) { OK } else { EXISTS }
 }
 
 /// The first frame that waits goes out, where the buffer has room for it.
-fn hand_frame(service: &mut Service, buf: &mut [u8]) -> OutRow
-    ensures { HandsFrame result buf.old buf.new service.old service.new }
+fn hand_frame(service: &mut Service, buf: &mut [u8], out: &mut Datagram) -> u8
+    ensures { HandsFrame result buf.old buf.new out.old out.new service.old service.new }
 {
     let Some(frame) = service.endpoint().first_frame() else {
-        return no_frame(NOTHING);
+        return NONE;
     };
-    let row = frame_row(frame, buf.len());
-    if row.len <= buf.len() {
-        buf[..row.len].copy_from_slice(frame.octets());
-        let _ = service.next_frame();
+    fill_datagram(out, frame);
+    let octets = frame.octets();
+    let len = octets.len();
+    if len > buf.len() {
+        return BUFFER_TOO_SMALL;
     }
-    row
+    buf[..len].copy_from_slice(octets);
+    let _ = service.next_frame();
+    OK
 }

@@ -5,15 +5,13 @@ ghost use Rattle.dt_c.specs.contracts.service_slots.ServiceSlot.{the_row as serv
 ghost use Rattle.dt_c.specs.declared.service_slots.ServiceSlot.{ServiceSlot};
 ghost use Rattle.dt_c.specs.Serving.{CallCounting, Calling, Forgetting, NextEvent, Porting, Raising, Replying, ServiceAddingRoute, ServiceArriving, ServiceCounting, ServiceGuarding, ServiceKeptOut, ServiceNextFrame, ServiceOpening, ServiceTicking, ServiceWaking, Stopping, empty_service};
 
-use crate::rows::{
-    CameRow, CountsRow, FlowRow, KeptOutRow, LinkRow, MomentRow, OpenedRow, OutRow, ParamsRow,
-    RouteRow,
+use crate::c_structs::{
+    BlockedCounts, CFlow, CParams, CRoute, Datagram, NodeCounts, NodeOptions, OpenResult,
+    ReceiveResult,
 };
 use crate::service_calls::empty_service_slot;
-use crate::service_rows::{
-    CallCountsRow, EventRow, MadeRow, RepliedRow, ServiceStartRow, TokenRow,
-};
 use crate::service_slots::{ServiceHandle, ServiceSlot};
+use crate::service_structs::{CCallCounts, CToken, CallResult, Event, ReplyResult, ServiceOptions};
 use std::alloc::Global;
 
 /// Makes a handle with no service of fresh memory.
@@ -52,44 +50,42 @@ pub extern "C" fn dt_service_align() -> usize {
 pub unsafe extern "C" fn dt_service_open(
     service: *mut ServiceHandle,
     alloc: Global,
-    params: &ParamsRow,
-    start: &ServiceStartRow,
-    links: &[LinkRow],
-    routes: &[RouteRow],
-) -> OpenedRow
+    params: &CParams,
+    options: &NodeOptions<'_>,
+    service_options: &ServiceOptions,
+) -> OpenResult
     ghost g: { ServiceSlot }
     requires* { sem 𝓛 (points_to service_row service g) }
-    ensures* { ∃ₛ (λ h. sem 𝓛 (points_to service_row service h) ∗ ⌜ ServiceOpening result params.now start.now links.now routes.now g h ⌝) }
+    ensures* { ∃ₛ (λ h. sem 𝓛 (points_to service_row service h) ∗ ⌜ ServiceOpening result params.now options.now service_options.now g h ⌝) }
 {
     ServiceSlot::open(
         unsafe { &mut *(service as *mut ServiceSlot) },
         alloc,
         params,
-        start,
-        links,
-        routes,
+        options,
+        service_options,
     )
 }
 
 /// A port gets its kind.
 #[unsafe(no_mangle)]
-pub unsafe extern "C" fn dt_port(service: *mut ServiceHandle, port: u16, kind: u8) -> u8
+pub unsafe extern "C" fn dt_service_set_port(service: *mut ServiceHandle, port: u16, kind: u8) -> u8
     ghost g: { ServiceSlot }
     requires* { sem 𝓛 (points_to service_row service g) }
     ensures* { ∃ₛ (λ h. sem 𝓛 (points_to service_row service h) ∗ ⌜ Porting result port kind g h ⌝) }
 {
-    ServiceSlot::port(unsafe { &mut *(service as *mut ServiceSlot) }, port, kind)
+    ServiceSlot::set_port(unsafe { &mut *(service as *mut ServiceSlot) }, port, kind)
 }
 
 /// A call to a service of another node.
 #[unsafe(no_mangle)]
-pub unsafe extern "C" fn dt_call(
+pub unsafe extern "C" fn dt_service_call(
     service: *mut ServiceHandle,
     now: u64,
-    flow: &FlowRow,
+    flow: &CFlow,
     payload: &[u8],
     patience: u32,
-) -> MadeRow
+) -> CallResult
     ghost g: { ServiceSlot }
     requires* { sem 𝓛 (points_to service_row service g) }
     ensures* { ∃ₛ (λ h. sem 𝓛 (points_to service_row service h) ∗ ⌜ Calling result now flow.now payload.now patience g h ⌝) }
@@ -105,12 +101,12 @@ pub unsafe extern "C" fn dt_call(
 
 /// The reply to a request that was handed out.
 #[unsafe(no_mangle)]
-pub unsafe extern "C" fn dt_reply(
+pub unsafe extern "C" fn dt_service_reply(
     service: *mut ServiceHandle,
     now: u64,
-    token: &TokenRow,
+    token: &CToken,
     payload: &[u8],
-) -> RepliedRow
+) -> ReplyResult
     ghost g: { ServiceSlot }
     requires* { sem 𝓛 (points_to service_row service g) }
     ensures* { ∃ₛ (λ h. sem 𝓛 (points_to service_row service h) ∗ ⌜ Replying result now token.now payload.now g h ⌝) }
@@ -125,7 +121,11 @@ pub unsafe extern "C" fn dt_reply(
 
 /// A request won't be replied to.
 #[unsafe(no_mangle)]
-pub unsafe extern "C" fn dt_forget(service: *mut ServiceHandle, now: u64, token: &TokenRow) -> u8
+pub unsafe extern "C" fn dt_service_forget(
+    service: *mut ServiceHandle,
+    now: u64,
+    token: &CToken,
+) -> u8
     ghost g: { ServiceSlot }
     requires* { sem 𝓛 (points_to service_row service g) }
     ensures* { ∃ₛ (λ h. sem 𝓛 (points_to service_row service h) ∗ ⌜ Forgetting result now token.now g h ⌝) }
@@ -135,22 +135,26 @@ pub unsafe extern "C" fn dt_forget(service: *mut ServiceHandle, now: u64, token:
 
 /// What happened next, where the buffer has room for what it carries.
 #[unsafe(no_mangle)]
-pub unsafe extern "C" fn dt_next_event(service: *mut ServiceHandle, buf: &mut [u8]) -> EventRow
+pub unsafe extern "C" fn dt_service_next_event(
+    service: *mut ServiceHandle,
+    buf: &mut [u8],
+    out: &mut Event,
+) -> u8
     ghost g: { ServiceSlot }
     requires* { sem 𝓛 (points_to service_row service g) }
-    ensures* { ∃ₛ (λ h. sem 𝓛 (points_to service_row service h) ∗ ⌜ NextEvent result buf.old buf.new g h ⌝) }
+    ensures* { ∃ₛ (λ h. sem 𝓛 (points_to service_row service h) ∗ ⌜ NextEvent result buf.old buf.new out.old out.new g h ⌝) }
 {
-    ServiceSlot::next_event(unsafe { &mut *(service as *mut ServiceSlot) }, buf)
+    ServiceSlot::next_event(unsafe { &mut *(service as *mut ServiceSlot) }, buf, out)
 }
 
 /// From now on calls have numbers of this life.
 #[unsafe(no_mangle)]
-pub unsafe extern "C" fn dt_raise(service: *mut ServiceHandle, life: u32) -> u8
+pub unsafe extern "C" fn dt_service_set_life(service: *mut ServiceHandle, life: u32) -> u8
     ghost g: { ServiceSlot }
     requires* { sem 𝓛 (points_to service_row service g) }
     ensures* { ∃ₛ (λ h. sem 𝓛 (points_to service_row service h) ∗ ⌜ Raising result life g h ⌝) }
 {
-    ServiceSlot::raise(unsafe { &mut *(service as *mut ServiceSlot) }, life)
+    ServiceSlot::set_life(unsafe { &mut *(service as *mut ServiceSlot) }, life)
 }
 
 /// Each call that waits is unsure, and no turn is done any more.
@@ -165,18 +169,18 @@ pub unsafe extern "C" fn dt_service_stop(service: *mut ServiceHandle) -> u8
 
 /// A datagram came on a link, and waited so many milliseconds until this call.
 #[unsafe(no_mangle)]
-pub unsafe extern "C" fn dt_service_arrive(
+pub unsafe extern "C" fn dt_service_receive(
     service: *mut ServiceHandle,
     now: u64,
     link: u16,
     datagram: &[u8],
     waited: u32,
-) -> CameRow
+) -> ReceiveResult
     ghost g: { ServiceSlot }
     requires* { sem 𝓛 (points_to service_row service g) }
     ensures* { ∃ₛ (λ h. sem 𝓛 (points_to service_row service h) ∗ ⌜ ServiceArriving result now link datagram.now waited g h ⌝) }
 {
-    ServiceSlot::arrive(
+    ServiceSlot::receive(
         unsafe { &mut *(service as *mut ServiceSlot) },
         now,
         link,
@@ -197,7 +201,7 @@ pub unsafe extern "C" fn dt_service_tick(service: *mut ServiceHandle, now: u64) 
 
 /// From now on the service receives at these ports, or at all, and of so many flows at most.
 #[unsafe(no_mangle)]
-pub unsafe extern "C" fn dt_service_guard(
+pub unsafe extern "C" fn dt_service_set_guard(
     service: *mut ServiceHandle,
     alloc: Global,
     ports: &[u16],
@@ -208,7 +212,7 @@ pub unsafe extern "C" fn dt_service_guard(
     requires* { sem 𝓛 (points_to service_row service g) }
     ensures* { ∃ₛ (λ h. sem 𝓛 (points_to service_row service h) ∗ ⌜ ServiceGuarding result ports.now all flows g h ⌝) }
 {
-    ServiceSlot::limit(
+    ServiceSlot::set_guard(
         unsafe { &mut *(service as *mut ServiceSlot) },
         alloc,
         ports,
@@ -219,20 +223,21 @@ pub unsafe extern "C" fn dt_service_guard(
 
 /// The first frame that waits, where the buffer has room for it.
 #[unsafe(no_mangle)]
-pub unsafe extern "C" fn dt_service_next_frame(
+pub unsafe extern "C" fn dt_service_next_datagram(
     service: *mut ServiceHandle,
     buf: &mut [u8],
-) -> OutRow
+    out: &mut Datagram,
+) -> u8
     ghost g: { ServiceSlot }
     requires* { sem 𝓛 (points_to service_row service g) }
-    ensures* { ∃ₛ (λ h. sem 𝓛 (points_to service_row service h) ∗ ⌜ ServiceNextFrame result buf.old buf.new g h ⌝) }
+    ensures* { ∃ₛ (λ h. sem 𝓛 (points_to service_row service h) ∗ ⌜ ServiceNextFrame result buf.old buf.new out.old out.new g h ⌝) }
 {
-    ServiceSlot::next_frame(unsafe { &mut *(service as *mut ServiceSlot) }, buf)
+    ServiceSlot::next_datagram(unsafe { &mut *(service as *mut ServiceSlot) }, buf, out)
 }
 
 /// From now on packets to the route's node leave on its link.
 #[unsafe(no_mangle)]
-pub unsafe extern "C" fn dt_service_add_route(service: *mut ServiceHandle, route: &RouteRow) -> u8
+pub unsafe extern "C" fn dt_service_add_route(service: *mut ServiceHandle, route: &CRoute) -> u8
     ghost g: { ServiceSlot }
     requires* { sem 𝓛 (points_to service_row service g) }
     ensures* { ∃ₛ (λ h. sem 𝓛 (points_to service_row service h) ∗ ⌜ ServiceAddingRoute result route.now g h ⌝) }
@@ -242,7 +247,7 @@ pub unsafe extern "C" fn dt_service_add_route(service: *mut ServiceHandle, route
 
 /// The moment of the next tick that does something, or none.
 #[unsafe(no_mangle)]
-pub unsafe extern "C" fn dt_service_wake(service: *mut ServiceHandle) -> MomentRow
+pub unsafe extern "C" fn dt_service_wake(service: *mut ServiceHandle) -> u64
     ghost g: { ServiceSlot }
     requires* { sem 𝓛 (points_to service_row service g) }
     ensures* { ∃ₛ (λ h. sem 𝓛 (points_to service_row service h) ∗ ⌜ ServiceWaking result g h ⌝) }
@@ -252,30 +257,36 @@ pub unsafe extern "C" fn dt_service_wake(service: *mut ServiceHandle) -> MomentR
 
 /// What the endpoint counted since it was opened.
 #[unsafe(no_mangle)]
-pub unsafe extern "C" fn dt_service_counts(service: *mut ServiceHandle) -> CountsRow
+pub unsafe extern "C" fn dt_service_get_counts(
+    service: *mut ServiceHandle,
+    out: &mut NodeCounts,
+) -> u8
     ghost g: { ServiceSlot }
     requires* { sem 𝓛 (points_to service_row service g) }
-    ensures* { ∃ₛ (λ h. sem 𝓛 (points_to service_row service h) ∗ ⌜ ServiceCounting result g h ⌝) }
+    ensures* { ∃ₛ (λ h. sem 𝓛 (points_to service_row service h) ∗ ⌜ ServiceCounting result out.old out.new g h ⌝) }
 {
-    ServiceSlot::counts(unsafe { &mut *(service as *mut ServiceSlot) })
+    ServiceSlot::get_counts(unsafe { &mut *(service as *mut ServiceSlot) }, out)
 }
 
 /// How many messages were dropped, by cause.
 #[unsafe(no_mangle)]
-pub unsafe extern "C" fn dt_call_counts(service: *mut ServiceHandle) -> CallCountsRow
+pub unsafe extern "C" fn dt_service_get_call_counts(
+    service: *mut ServiceHandle,
+    out: &mut CCallCounts,
+) -> u8
     ghost g: { ServiceSlot }
     requires* { sem 𝓛 (points_to service_row service g) }
-    ensures* { ∃ₛ (λ h. sem 𝓛 (points_to service_row service h) ∗ ⌜ CallCounting result g h ⌝) }
+    ensures* { ∃ₛ (λ h. sem 𝓛 (points_to service_row service h) ∗ ⌜ CallCounting result out.old out.new g h ⌝) }
 {
-    ServiceSlot::call_counts(unsafe { &mut *(service as *mut ServiceSlot) })
+    ServiceSlot::get_call_counts(unsafe { &mut *(service as *mut ServiceSlot) }, out)
 }
 
 /// How many datagrams the guard kept out.
 #[unsafe(no_mangle)]
-pub unsafe extern "C" fn dt_service_kept_out(service: *mut ServiceHandle) -> KeptOutRow
+pub unsafe extern "C" fn dt_service_get_blocked_counts(service: *mut ServiceHandle) -> BlockedCounts
     ghost g: { ServiceSlot }
     requires* { sem 𝓛 (points_to service_row service g) }
     ensures* { ∃ₛ (λ h. sem 𝓛 (points_to service_row service h) ∗ ⌜ ServiceKeptOut result g h ⌝) }
 {
-    ServiceSlot::kept_out(unsafe { &mut *(service as *mut ServiceSlot) })
+    ServiceSlot::get_blocked_counts(unsafe { &mut *(service as *mut ServiceSlot) })
 }

@@ -4,37 +4,39 @@ ghost use Rattle.std.specs.Borrow.{sem};
 ghost use Rattle.std.specs.Ptr.{points_to, uninit_at};
 ghost use Rattle.dt_c.specs.Calls.{AddingRoute, FingerprintIs, Guarding, MakesInbox, Opening, QuietIs};
 ghost use Rattle.dt_c.specs.Handle.{empty};
+ghost use Rattle.dt_c.specs.Networks.{ParamsFor};
 ghost use Rattle.dt_c.specs.contracts.slots.Slot.{the_row};
 ghost use Rattle.dt_c.specs.declared.slots.Slot.{Slot};
 
+use crate::c_structs::{CParams, CRoute, NodeOptions, OpenResult};
 use crate::calls::{empty_slot, fingerprint_in, quiet_of};
-use crate::rows::{FingerprintRow, LinkRow, OpenedRow, ParamsRow, RouteRow, StartRow};
+use crate::networks::{CNetwork, params_for};
 use crate::slots::{Handle, Slot};
 use std::alloc::Global;
 
 /// The version of this interface.
 #[unsafe(no_mangle)]
-pub extern "C" fn dt_abi() -> u32
-    ensures { result ≡ 1 }
+pub extern "C" fn dt_abi_version() -> u32
+    ensures { result ≡ 2 }
 {
-    1
+    2
 }
 
 /// How many octets a handle takes.
 #[unsafe(no_mangle)]
-pub extern "C" fn dt_size() -> usize {
+pub extern "C" fn dt_node_size() -> usize {
     std::mem::size_of::<Slot>()
 }
 
 /// To how many octets a handle is aligned.
 #[unsafe(no_mangle)]
-pub extern "C" fn dt_align() -> usize {
+pub extern "C" fn dt_node_align() -> usize {
     std::mem::align_of::<Slot>()
 }
 
 /// Makes a handle with no node of fresh memory.
 #[unsafe(no_mangle)]
-pub unsafe extern "C" fn dt_init(node: *mut Handle)
+pub unsafe extern "C" fn dt_node_init(node: *mut Handle)
     requires* { sem 𝓛 (uninit_at the_row node) }
     ensures* { sem 𝓛 (points_to the_row node empty) }
 {
@@ -43,7 +45,7 @@ pub unsafe extern "C" fn dt_init(node: *mut Handle)
 
 /// Frees what the node holds. The handle holds no node.
 #[unsafe(no_mangle)]
-pub unsafe extern "C" fn dt_close(node: *mut Handle)
+pub unsafe extern "C" fn dt_node_close(node: *mut Handle)
     ghost g: { Slot }
     requires* { sem 𝓛 (points_to the_row node g) }
     ensures* { sem 𝓛 (points_to the_row node empty) }
@@ -53,31 +55,22 @@ pub unsafe extern "C" fn dt_close(node: *mut Handle)
 
 /// A node starts, in a handle that holds none.
 #[unsafe(no_mangle)]
-pub unsafe extern "C" fn dt_open(
+pub unsafe extern "C" fn dt_node_open(
     node: *mut Handle,
     alloc: Global,
-    params: &ParamsRow,
-    start: &StartRow,
-    links: &[LinkRow],
-    routes: &[RouteRow],
-) -> OpenedRow
+    params: &CParams,
+    options: &NodeOptions<'_>,
+) -> OpenResult
     ghost g: { Slot }
     requires* { sem 𝓛 (points_to the_row node g) }
-    ensures* { ∃ₛ (λ h. sem 𝓛 (points_to the_row node h) ∗ ⌜ Opening result params.now start.now links.now routes.now g h ⌝) }
+    ensures* { ∃ₛ (λ h. sem 𝓛 (points_to the_row node h) ∗ ⌜ Opening result params.now options.now g h ⌝) }
 {
-    Slot::open(
-        unsafe { &mut *(node as *mut Slot) },
-        alloc,
-        params,
-        start,
-        links,
-        routes,
-    )
+    Slot::open(unsafe { &mut *(node as *mut Slot) }, alloc, params, options)
 }
 
 /// From now on packets to the route's node leave on its link.
 #[unsafe(no_mangle)]
-pub unsafe extern "C" fn dt_add_route(node: *mut Handle, route: &RouteRow) -> u8
+pub unsafe extern "C" fn dt_node_add_route(node: *mut Handle, route: &CRoute) -> u8
     ghost g: { Slot }
     requires* { sem 𝓛 (points_to the_row node g) }
     ensures* { ∃ₛ (λ h. sem 𝓛 (points_to the_row node h) ∗ ⌜ AddingRoute result route.now g h ⌝) }
@@ -87,7 +80,7 @@ pub unsafe extern "C" fn dt_add_route(node: *mut Handle, route: &RouteRow) -> u8
 
 /// From now on the node receives at these ports, or at all, and of so many flows at most.
 #[unsafe(no_mangle)]
-pub unsafe extern "C" fn dt_guard(
+pub unsafe extern "C" fn dt_node_set_guard(
     node: *mut Handle,
     alloc: Global,
     ports: &[u16],
@@ -98,7 +91,7 @@ pub unsafe extern "C" fn dt_guard(
     requires* { sem 𝓛 (points_to the_row node g) }
     ensures* { ∃ₛ (λ h. sem 𝓛 (points_to the_row node h) ∗ ⌜ Guarding result ports.now all flows g h ⌝) }
 {
-    Slot::limit(
+    Slot::set_guard(
         unsafe { &mut *(node as *mut Slot) },
         alloc,
         ports,
@@ -109,17 +102,21 @@ pub unsafe extern "C" fn dt_guard(
 
 /// From now on whole messages of at most so many octets are put together.
 #[unsafe(no_mangle)]
-pub unsafe extern "C" fn dt_inbox(node: *mut Handle, alloc: Global, longest: usize) -> u8
+pub unsafe extern "C" fn dt_node_enable_messages(
+    node: *mut Handle,
+    alloc: Global,
+    longest: usize,
+) -> u8
     ghost g: { Slot }
     requires* { sem 𝓛 (points_to the_row node g) }
     ensures* { ∃ₛ (λ h. sem 𝓛 (points_to the_row node h) ∗ ⌜ MakesInbox result longest g h ⌝) }
 {
-    Slot::inbox(unsafe { &mut *(node as *mut Slot) }, alloc, longest)
+    Slot::enable_messages(unsafe { &mut *(node as *mut Slot) }, alloc, longest)
 }
 
 /// How long a node is silent after it starts again, or 0 where a parameter is out of its range.
 #[unsafe(no_mangle)]
-pub extern "C" fn dt_quiet(params: &ParamsRow) -> u64
+pub extern "C" fn dt_params_quiet_ms(params: &CParams) -> u64
     ensures { QuietIs result params.now }
 {
     quiet_of(params)
@@ -127,8 +124,16 @@ pub extern "C" fn dt_quiet(params: &ParamsRow) -> u64
 
 /// A number that says whether two programs have the same parameters.
 #[unsafe(no_mangle)]
-pub extern "C" fn dt_fingerprint(params: &ParamsRow) -> FingerprintRow
-    ensures { FingerprintIs result params.now }
+pub extern "C" fn dt_params_fingerprint(params: &CParams, fingerprint: &mut u64) -> u8
+    ensures { FingerprintIs result fingerprint.new params.now }
 {
-    fingerprint_in(params)
+    fingerprint_in(params, fingerprint)
+}
+
+/// The parameters that suit a network, and the charge of each of its links.
+#[unsafe(no_mangle)]
+pub extern "C" fn dt_params_for(network: &CNetwork, params: &mut CParams, charge: &mut u32) -> u8
+    ensures { ParamsFor result network.now params.old params.new charge.old charge.new }
+{
+    params_for(network, params, charge)
 }

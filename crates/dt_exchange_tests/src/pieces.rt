@@ -36,17 +36,22 @@ static ANY_LENGTH: [Row; 16] = [
     (b"rbe", b"end", Some((b"end", true)), 0),
 ];
 
-static FOUR_AT_MOST: [Row; 9] = [
+static FOUR_AT_MOST: [Row; 13] = [
     (b"be", b"four", Some((b"four", false)), 0),
+    // one that was too long is a gap at the next, once
     (b"be", b"five!", None, 1),
+    (b"be", b"six", Some((b"six", true)), 1),
+    (b"be", b"six", Some((b"six", false)), 1),
     // the rest of one that has outgrown it is no part of any, and isn't counted again
     (b"b", b"sev", None, 1),
     (b"", b"en", None, 2),
     (b"", b"more octets", None, 2),
     (b"e", b"s", None, 2),
     (b"b", b"ni", None, 2),
-    (b"e", b"ne", Some((b"nine", false)), 2),
+    (b"e", b"ne", Some((b"nine", true)), 2),
+    (b"be", b"ten", Some((b"ten", false)), 2),
     (b"rb", b"eight", None, 3),
+    (b"be", b"one", Some((b"one", true)), 3),
 ];
 
 fn marks(letters: &[u8]) -> Marks {

@@ -104,6 +104,7 @@ enum Told {
     Request { count: u32, first: u8 },
     Answered { count: u32, first: u8 },
     Unsure { count: u32, cause: Cause },
+    Uncertain(Flow),
 }
 
 /// The request of one octet, its answer, and what a call comes to without one.
@@ -150,6 +151,7 @@ fn words_of(happening: &Happening) -> Told {
             count: call.count,
             cause: *cause,
         },
+        Happening::ReplyUncertain { flow } => Told::Uncertain(*flow),
     }
 }
 
@@ -463,6 +465,26 @@ static FORGOTTEN: [Step; 5] = [
 #[test]
 fn a_request_is_forgotten(rt: HostRuntime) -> Result<(), NoMemory> {
     follows(&rt, rt.alloc(), None, Trial::Steps(&FORGOTTEN))
+}
+
+/// A reply that is lost is given up at 5240, and no sooner, and its service hears of it once.
+static LOST_REPLY: [Step; 11] = [
+    Step::Client(0, Ask::Call(FLOW, b"a", 300, FIRST)),
+    Step::HandOver(40),
+    Step::Server(40, Ask::Next(REQUEST)),
+    Step::Server(40, Ask::Reply(b"A", Replied::Done)),
+    Step::Server(5239, Ask::Tick(Ticked::Done)),
+    Step::Server(5239, Ask::Next(Told::Nothing)),
+    Step::Server(5240, Ask::Tick(Ticked::Done)),
+    Step::Server(5240, Ask::NextSize(Some(0))),
+    Step::Server(5240, Ask::Next(Told::Uncertain(FLOW))),
+    Step::Server(5240, Ask::Next(Told::Nothing)),
+    Step::Server(5240, Ask::NextSize(None)),
+];
+
+#[test]
+fn a_reply_that_is_given_up_is_told(rt: HostRuntime) -> Result<(), NoMemory> {
+    follows(&rt, rt.alloc(), None, Trial::Steps(&LOST_REPLY))
 }
 
 /// Whether the service is closed for want of memory: each call that waited is reported so, and none else.

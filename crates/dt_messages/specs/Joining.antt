@@ -1,11 +1,11 @@
 -- How whole messages are put together from pieces where there is a longest message.
-use Rattle.std.specs.Prelude.{ℕ, ◌+◌, ◌^◌, ◌-◌, ◌&&◌, ◌||◌, min, nat_le, not, is_some, option_map, Bool, true, false, List, length, Option, Some, None, if◌then◌else◌}
+use Rattle.std.specs.Prelude.{◌≡◌, ℕ, ◌+◌, ◌^◌, ◌-◌, ◌&&◌, ◌||◌, min, nat_le, not, is_some, option_map, Bool, true, false, List, [], ◌∷◌, length, Option, Some, None, if◌then◌else◌}
 use Rattle.dt_calls_model.specs.Messages.{Piece, joined}
 use Rattle.dt_messages.specs.declared.joiners.Marks.{Marks}
 
 pub record MessageValue : Type 0 where
   pub octets : List ℕ
-  -- whether a run mark was read since the message before it: octets before this one are lost, or may be
+  -- whether octets were left out since the message before it, or may have been: a run mark was read, or a message was too long
   pub gap : Bool
 
 pub record JoinerValue : Type 0 where
@@ -13,7 +13,7 @@ pub record JoinerValue : Type 0 where
   pub longest : Option ℕ
   -- what was read of a message that isn't whole yet
   pub begun : Option (List ℕ)
-  -- whether a run mark was read since the last whole message
+  -- whether octets were left out since the last whole message, or may have been
   pub gap : Bool
   -- how many messages were longer, up to 2^64 - 1
   pub dropped : ℕ
@@ -56,16 +56,20 @@ begun_within longest begun p = if p.end then None else joined_within longest beg
 abbrev pub counted_up : ℕ → ℕ
 counted_up n = min (n + 1) (2 ^ 64 - 1)
 
+-- A GAP: octets were left out since the last whole message, or may have been. A run mark was read, or a message outgrew the longest, with this piece or before it
+abbrev pub has_gap : JoinerValue → Piece → Bool
+has_gap j p = j.gap || p.run || outgrows j.longest j.begun p
+
 -- A PIECE GOES ON IT: the message that it makes whole, and the joiner after it. A gap is reported once, with the next whole message.
 abbrev pub message_with : JoinerValue → Piece → Option MessageValue
-message_with j p = option_map (λ octets. record { octets = octets; gap = j.gap || p.run }) (whole_within j.longest j.begun p)
+message_with j p = option_map (λ octets. record { octets = octets; gap = has_gap j p }) (whole_within j.longest j.begun p)
 
 abbrev pub joiner_after : JoinerValue → Piece → JoinerValue
 joiner_after j p =
     record {
       longest = j.longest;
       begun = begun_within j.longest j.begun p;
-      gap = (j.gap || p.run) && not (is_some (whole_within j.longest j.begun p));
+      gap = has_gap j p && not (is_some (whole_within j.longest j.begun p));
       dropped = if outgrows j.longest j.begun p then counted_up j.dropped else j.dropped;
     }
 
@@ -75,9 +79,18 @@ grown j p =
     record {
       longest = j.longest;
       begun = joined_within j.longest j.begun p;
-      gap = j.gap || p.run;
+      gap = has_gap j p;
       dropped = if outgrows j.longest j.begun p then counted_up j.dropped else j.dropped;
     }
+
+-- PIECES ONE AFTER THE OTHER, of which none makes a message whole
+abbrev pub joiner_by : JoinerValue → List Piece → JoinerValue
+joiner_by j [] = j
+joiner_by j (p ∷ pieces) = joiner_by (joiner_after j p) pieces
+
+abbrev pub NoneWhole : JoinerValue → List Piece → Type 0
+NoneWhole j [] = Unit {0}
+NoneWhole j (p ∷ pieces) = (message_with j p ≡ None) × NoneWhole (joiner_after j p) pieces
 
 -- Octets that were read are lost with what was begun, and that is reported as a gap.
 abbrev pub lost : JoinerValue → JoinerValue

@@ -1,5 +1,5 @@
 //! Messages are put together from pieces.
-ghost use Rattle.std.specs.Prelude.{◌≡◌, ◌+◌, None, true, false, IfOk, OnErr, OnOk, length, option_map};
+ghost use Rattle.std.specs.Prelude.{◌≡◌, ◌+◌, true, false, IfOk, OnErr, OnOk, length, option_map};
 ghost use Rattle.dt_messages.specs.Joining.{MessageValue, counted_up, fits, grown, is_idle, joiner_after, lost, message_with, new_joiner, piece_with};
 
 use dt_items::NoMemory;
@@ -19,7 +19,8 @@ pub struct Marks {
 #[derive(Drop)]
 pub struct Message {
     pub octets: Vec<u8>,
-    /// Octets before it are lost, or may be: a run mark was read since the whole message before it.
+    /// Octets before it were left out, or may have been: since the whole message before it a run mark was
+    /// read, or a message was longer than the longest.
     pub gap: bool,
 }
 
@@ -33,7 +34,8 @@ impl Model for Message {
 ///
 /// A message is whole from a begin mark to the next end mark, where no octet but its first has a run
 /// mark. A begin mark begins one anew, and after a run mark the octets before it are no part of any. One
-/// that is longer than the longest is dropped and counted once it has outgrown that.
+/// that is longer than the longest is dropped and counted once it has outgrown that, and the next whole
+/// message has a gap.
 #[derive(Drop)]
 pub struct Joiner {
     longest: Option<usize>,
@@ -158,11 +160,11 @@ impl Joiner {
         Ok(())
     }
 
-    /// A message has outgrown the longest.
+    /// A message has outgrown the longest. It is left out, so the next one has a gap.
     fn drop_begun(&mut self)
-        ensures { self.new ≡ record self.old { begun = None; dropped = counted_up self.old.dropped } }
+        ensures { self.new ≡ record (lost self.old) { dropped = counted_up self.old.dropped } }
     {
-        self.begun = None;
+        self.lose();
         self.dropped = self.dropped.saturating_add(1);
     }
 

@@ -44,7 +44,7 @@ pub fn carried(happening: &Happening) -> &[u8]
     match happening {
         Happening::Request { payload, .. } => payload.octets.as_slice(),
         Happening::Answered { answer, .. } => answer.octets.as_slice(),
-        Happening::Unsure { .. } => &[],
+        Happening::Unsure { .. } | Happening::ReplyUncertain { .. } => &[],
     }
 }
 

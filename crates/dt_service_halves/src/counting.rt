@@ -38,7 +38,8 @@ fn is_request(happening: &Happening) -> bool
 {
     match happening {
         Happening::Request { .. } => true,
-        Happening::Answered { .. } | Happening::Unsure { .. } => false,
+        Happening::Answered { .. } | Happening::Unsure { .. } | Happening::ReplyUncertain { .. } =>
+            false,
     }
 }
 
@@ -53,8 +54,8 @@ fn is_end(happening: &Happening) -> bool
     ensures { result ≡ is_end happening.now }
 {
     match happening {
-        Happening::Request { .. } => false,
         Happening::Answered { .. } | Happening::Unsure { .. } => true,
+        Happening::Request { .. } | Happening::ReplyUncertain { .. } => false,
     }
 }
 

@@ -13,6 +13,7 @@ mod judging;
 mod numbers;
 mod ports;
 mod reports;
+mod uncertain;
 mod whole;
 
 pub use asked::carried;

@@ -1,7 +1,7 @@
 //! The kinds of ports.
 ghost use Rattle.std.specs.Prelude.{◌≡◌, IfOk, OnErr, OnOk, is_some, not};
 ghost use Rattle.dt_service_model.specs.Asked.{with_kind};
-ghost use Rattle.dt_service_model.specs.Halves.{kind_in};
+ghost use Rattle.dt_service_model.specs.Halves.{is_service, kind_in};
 
 use crate::halves::Halves;
 use dt_items::NoMemory;
@@ -12,6 +12,15 @@ pub fn kind_in(port: u16, ports: &[Port]) -> Option<PortKind>
     ensures { result ≡ kind_in port ports.now }
 {
     ports.iter().find(|p| p.port == port).map(|p| p.kind)
+}
+
+pub fn is_service(kind: Option<PortKind>) -> bool
+    ensures { result ≡ is_service kind }
+{
+    match kind {
+        Some(PortKind::Service) => true,
+        Some(PortKind::Caller) | None => false,
+    }
 }
 
 impl Halves {

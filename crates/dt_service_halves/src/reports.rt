@@ -14,6 +14,7 @@ use crate::halves::Halves;
 use crate::hearing::with_fates;
 use crate::judging;
 use crate::ports::kind_in;
+use crate::uncertain::tell_given_up;
 use dt_endpoint::Endpoint;
 use dt_items::NoMemory;
 use dt_reports::{Matter, Report};
@@ -39,6 +40,7 @@ impl Halves {
                 with_fates(false, &flow, count, &mut self.calls);
             }
             Matter::GivenUp { flow, count } => {
+                tell_given_up(&flow, &self.ports, &mut self.happenings)?;
                 with_fates(true, &flow, count, &mut self.calls);
             }
             Matter::Accepted { flow, .. } => self.accept(flow)?,

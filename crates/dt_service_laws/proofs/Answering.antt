@@ -22,7 +22,7 @@ use Rattle.dt_network.specs.Octets.{all_read, items_read, read_if}
 use Rattle.dt_network.specs.Steps.{Step}
 use Rattle.dt_service_model.specs.declared.calls.OpenCall.{OpenCall}
 use Rattle.dt_service_model.specs.declared.happenings.Happening.{Happening}
-use Rattle.dt_service_model.specs.declared.happenings.Happening.TheVariants.{Answered, Request, Unsure}
+use Rattle.dt_service_model.specs.declared.happenings.Happening.TheVariants.{Answered, ReplyUncertain, Request, Unsure}
 use Rattle.dt_service_model.specs.declared.names.CallNumber.{CallNumber}
 use Rattle.dt_service_model.specs.declared.names.Token.{Token}
 use Rattle.dt_service_model.specs.declared.ports.PortKind.{PortKind}
@@ -37,16 +37,17 @@ use Rattle.dt_service_laws.specs.Orders.{AreSomeOf, none, skips, takes}
 use Rattle.dt_service_laws.specs.Wholes.{begun_after, listed, messages_from}
 use Rattle.dt_service_laws.proofs.Begun.{begun_same}
 use Rattle.dt_service_laws.proofs.Keeping.{piece_keeps}
-use Rattle.dt_service_laws.proofs.Moves.{AreKeptFrom, IsKeptFrom, IsQuiet, IsUnsure, Moves, Tracks, calls, changes, open_count, pulls, reads, rests}
+use Rattle.dt_service_laws.proofs.Moves.{AreKeptFrom, IsKeptFrom, IsQuiet, IsNoMessage, Moves, Tracks, calls, changes, open_count, pulls, reads, rests}
 use Rattle.dt_service_laws.proofs.Pieces.{messages_append, piece_messages, piece_with, whole_stays}
 use Rattle.dt_service_laws.proofs.Quiet.{all_heard_quiet, fewer_open, quiet_itself, kept_through}
 use Rattle.dt_service_laws.proofs.Telling.{behind_read, each_append, read_tells, said, unsure_requests}
 
-pub unsure_answers : (told : List Happening) → All IsUnsure told → each_of answer_in told ≡ []
+pub unsure_answers : (told : List Happening) → All IsNoMessage told → each_of answer_in told ≡ []
 unsure_answers [] all = refl
-unsure_answers (Unsure number cause ∷ told) all = unsure_answers told (All-tail IsUnsure (Unsure number cause) told all)
-unsure_answers (Request token payload ∷ told) all = absurd (All-head IsUnsure (Request token payload) told all)
-unsure_answers (Answered number answer ∷ told) all = absurd (All-head IsUnsure (Answered number answer) told all)
+unsure_answers (Unsure number cause ∷ told) all = unsure_answers told (All-tail IsNoMessage (Unsure number cause) told all)
+unsure_answers (ReplyUncertain flow ∷ told) all = unsure_answers told (All-tail IsNoMessage (ReplyUncertain flow) told all)
+unsure_answers (Request token payload ∷ told) all = absurd (All-head IsNoMessage (Request token payload) told all)
+unsure_answers (Answered number answer ∷ told) all = absurd (All-head IsNoMessage (Answered number answer) told all)
 
 contains_at : {A : Type 0} (y x : A) (ys : List A) (k : ℕ) → k < length (y ∷ ys) → get_or (y ∷ ys) k x ≡ x → (y ≡ x) ⊎ Contains ys x
 contains_at y x ys zero lt is = inl is

@@ -28,7 +28,7 @@ use Rattle.dt_service_model.specs.declared.calls.OpenCall.{OpenCall}
 use Rattle.dt_service_model.specs.declared.calls.Cause.{Cause}
 use Rattle.dt_service_model.specs.declared.calls.Cause.TheVariants as cause
 use Rattle.dt_service_model.specs.declared.happenings.Happening.{Happening}
-use Rattle.dt_service_model.specs.declared.happenings.Happening.TheVariants.{Answered, Request, Unsure}
+use Rattle.dt_service_model.specs.declared.happenings.Happening.TheVariants.{Answered, ReplyUncertain, Request, Unsure}
 use Rattle.dt_service_model.specs.declared.names.CallNumber.{CallNumber}
 use Rattle.dt_service_model.specs.declared.names.Token.{Token}
 use Rattle.dt_service_model.specs.declared.ports.PortKind.{PortKind}
@@ -70,6 +70,7 @@ none_given_up x open_x sure = All-weaker (IsCalm x.endpoint.latest) (λ (c : Ope
 not_unsure : (deed : Deed) (x y : Node) (happening : Happening) → NotUnsure happening → HasCause deed x y happening
 not_unsure deed x y (Request token payload) h = tt
 not_unsure deed x y (Answered number answer) h = tt
+not_unsure deed x y (ReplyUncertain flow) h = tt
 not_unsure deed x y (Unsure number why) h = absurd h
 
 lt_by : (m n : ℕ) → nat_le m n ≡ false → n < m

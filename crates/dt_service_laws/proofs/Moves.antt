@@ -17,7 +17,7 @@ use Rattle.dt_network.specs.Octets.{Takes, read_by}
 use Rattle.dt_network.specs.Steps.{Call, CallRead, Calls, Does, PullReport, Step}
 use Rattle.dt_service_model.specs.declared.calls.OpenCall.{OpenCall as Kept}
 use Rattle.dt_service_model.specs.declared.happenings.Happening.{Happening}
-use Rattle.dt_service_model.specs.declared.happenings.Happening.TheVariants.{Answered, Request, Unsure}
+use Rattle.dt_service_model.specs.declared.happenings.Happening.TheVariants.{Answered, ReplyUncertain, Request, Unsure}
 use Rattle.dt_service_model.specs.declared.names.Token.{Token}
 use Rattle.dt_service_model.specs.Names.{same_token}
 use Rattle.dt_service_model.specs.Halves.{Halves}
@@ -33,11 +33,12 @@ pub record One (g : Flow) (b : Option (List ℕ)) (entries : List (Flow × List 
 abbrev pub Tracks : Flow → Option (List ℕ) → List (Flow × List ℕ) → Type 0
 Tracks g b entries = (filter (is_of g) entries ≡ []) ⊎ One g b entries
 
--- what tells that a call is unsure, and nothing else
-abbrev pub IsUnsure : Happening → Type 0
-IsUnsure (Request token payload) = ⊥
-IsUnsure (Answered number answer) = ⊥
-IsUnsure (Unsure number cause) = Unit {0}
+-- neither a request nor an answer
+abbrev pub IsNoMessage : Happening → Type 0
+IsNoMessage (Request token payload) = ⊥
+IsNoMessage (Answered number answer) = ⊥
+IsNoMessage (Unsure number cause) = Unit {0}
+IsNoMessage (ReplyUncertain flow) = Unit {0}
 
 -- a call that waits, as it was made
 pub record IsKeptFrom (before : List Kept) (call : Kept) : Type 0 where
@@ -54,7 +55,7 @@ AreKeptFrom before after = All (λ (call : Kept). call.waits ≡ true → IsKept
 abbrev pub open_count : Token → List Token → ℕ
 open_count t tokens = total (λ (s : Token). one_if (same_token t s)) tokens
 
--- A QUIET CHANGE: nothing is opened, and nothing is told but that calls are unsure
+-- A QUIET CHANGE: nothing is opened, and no request and no answer is told
 pub record IsQuiet (h k : Halves) : Type 0 where
   pub ports : k.ports ≡ h.ports
   pub closes : h.closed ≡ true → k.closed ≡ true
@@ -66,7 +67,7 @@ pub record IsQuiet (h k : Halves) : Type 0 where
   pub waits : AreKeptFrom h.calls k.calls
   pub told : List Happening
   pub happenings : k.happenings ≡ h.happenings ++ told
-  pub unsure : All IsUnsure told
+  pub unsure : All IsNoMessage told
 
 -- a network of the same moment, from which all that had left one has left too
 pub record IsLater (base m : Network) : Type 0 where

@@ -1,27 +1,28 @@
 -- Changes of what a node has that tell no request and no answer, and open no token.
 use Rattle.std.proofs.Common.{ℕ, ◌-◌, ◌≤◌, ◌≡◌, Bool, true, false, List, [], ◌∷◌, ◌++◌, map, Option, Some, None, refl, ap, sym, subst, ◌∙◌, inl, inr, append-nil, append_assoc, arith}
 use Rattle.std.specs.Prelude.{All, Contains, cond, filter, filter_map, fold, is_some, not}
-use Rattle.std.specs.List.{cons_option}
+use Rattle.std.specs.List.{cons_option, list_any}
 use Rattle.std.proofs.lemmas.Bool.{cases_Bool}
 use Rattle.std.proofs.lemmas.List.Elements.{All-append, All-cons, All-contains, All-contains_itself, All-head, All-nil, All-tail, All-weaker}
 use Rattle.dt_units.specs.declared.endpoints.Flow.{Flow}
 use Rattle.dt_reports.specs.Told.{Told}
 use Rattle.dt_world_model.specs.Host.{Host}
 use Rattle.dt_world_model.specs.Tables.{same_flow}
+use Rattle.dt_calls_model.specs.Messages.{reversed}
 use Rattle.dt_service_model.specs.declared.calls.OpenCall.{OpenCall}
 use Rattle.dt_service_model.specs.declared.calls.Cause.{Cause}
 use Rattle.dt_service_model.specs.declared.call_counts.CallCounts.{CallCounts}
 use Rattle.dt_service_model.specs.declared.happenings.Happening.{Happening}
-use Rattle.dt_service_model.specs.declared.happenings.Happening.TheVariants.{Unsure}
+use Rattle.dt_service_model.specs.declared.happenings.Happening.TheVariants.{ReplyUncertain, Unsure}
 use Rattle.dt_service_model.specs.declared.names.Token.{Token}
 use Rattle.dt_service_model.specs.Names.{same_token}
 use Rattle.dt_service_model.specs.Asked.{forgotten}
 use Rattle.dt_service_model.specs.Ends.{cause_of, close, is_kept, judge, judged_as, judged_call, unsure_by, unsure_of}
-use Rattle.dt_service_model.specs.Halves.{Halves, kind_in}
-use Rattle.dt_service_model.specs.Hearing.{Accepts, GivesUp, Heard, NoMatter, Settles, hear, hear_as, heard, with_fates, with_flow}
+use Rattle.dt_service_model.specs.Halves.{Halves, is_service, kind_in}
+use Rattle.dt_service_model.specs.Hearing.{Accepts, GivesUp, Heard, NoMatter, Settles, hear, hear_as, heard, is_uncertain, with_fates, with_flow}
 use Rattle.dt_service_model.specs.Turns.{done_with, has_receiver, sweep}
 use Rattle.dt_service_laws.proofs.Begun.{swept_tracks}
-use Rattle.dt_service_laws.proofs.Moves.{AreKeptFrom, IsKeptFrom, IsQuiet, IsUnsure, Tracks, open_count}
+use Rattle.dt_service_laws.proofs.Moves.{AreKeptFrom, IsKeptFrom, IsQuiet, IsNoMessage, Tracks, open_count}
 
 pub kept_itself : (calls : List OpenCall) → AreKeptFrom calls calls
 kept_itself calls = All-weaker (Contains calls) (λ (c : OpenCall). c.waits ≡ true → IsKeptFrom calls c) (λ c there waits. record { was = c; there = there; waits = waits; number = refl; flow = refl }) calls (All-contains_itself calls)
@@ -48,7 +49,7 @@ quiet_same h k ports closes life count tokens begun calls happenings = record {
   waits = subst (λ (cs : List OpenCall). AreKeptFrom h.calls cs) (sym calls) (kept_itself h.calls);
   told = [];
   happenings = happenings ∙ sym (append-nil h.happenings);
-  unsure = All-nil IsUnsure;
+  unsure = All-nil IsNoMessage;
 }
 
 pub quiet_itself : (h : Halves) → IsQuiet h h
@@ -66,11 +67,11 @@ quiet_then h k l p q = record {
   waits = kept_through h.calls k.calls l.calls p.waits q.waits;
   told = p.told ++ q.told;
   happenings = q.happenings ∙ ap (λ (xs : List Happening). xs ++ q.told) p.happenings ∙ append_assoc h.happenings p.told q.told;
-  unsure = All-append IsUnsure p.told q.told p.unsure q.unsure;
+  unsure = All-append IsNoMessage p.told q.told p.unsure q.unsure;
 }
 
 -- what calls, what was begun and what was told change to
-quiet_to : (h : Halves) (calls : List OpenCall) (begun : List (Flow × List ℕ)) (counts : CallCounts) (happenings told : List Happening) → AreKeptFrom h.calls calls → ((g : Flow) (b : Option (List ℕ)) → Tracks g b h.begun → Tracks g b begun) → happenings ≡ h.happenings ++ told → All IsUnsure told
+quiet_to : (h : Halves) (calls : List OpenCall) (begun : List (Flow × List ℕ)) (counts : CallCounts) (happenings told : List Happening) → AreKeptFrom h.calls calls → ((g : Flow) (b : Option (List ℕ)) → Tracks g b h.begun → Tracks g b begun) → happenings ≡ h.happenings ++ told → All IsNoMessage told
     → IsQuiet h (record h { calls = calls; begun = begun; counts = counts; happenings = happenings })
 quiet_to h calls begun counts happenings told kept tracked more unsure = record {
   ports = refl;
@@ -87,7 +88,7 @@ quiet_to h calls begun counts happenings told kept tracked more unsure = record 
 }
 
 quiet_calls : (h : Halves) (calls : List OpenCall) → AreKeptFrom h.calls calls → IsQuiet h (record h { calls = calls })
-quiet_calls h calls kept = quiet_to h calls h.begun h.counts h.happenings [] kept (λ g b tracks. tracks) (sym (append-nil h.happenings)) (All-nil IsUnsure)
+quiet_calls h calls kept = quiet_to h calls h.begun h.counts h.happenings [] kept (λ g b tracks. tracks) (sym (append-nil h.happenings)) (All-nil IsNoMessage)
 
 -- WHAT IS HEARD
 all_fates : (base : List OpenCall) (given_up : Bool) (f : Flow) (count : ℕ) (calls : List OpenCall) → All (Contains base) calls → AreKeptFrom base (with_fates given_up f count calls)
@@ -104,9 +105,14 @@ accepts_quiet : (b : Bool) (f : Flow) (h : Halves) → IsQuiet h (cond b (record
 accepts_quiet true f h = quiet_same h (record h { unread = with_flow f h.unread }) refl (λ c. c) refl refl refl refl refl refl
 accepts_quiet false f h = quiet_same h h refl (λ c. c) refl refl refl refl refl refl
 
+given_up_quiet : (b c : Bool) (f : Flow) (calls : List OpenCall) (h : Halves) → AreKeptFrom h.calls calls → IsQuiet h (record h { calls = calls; happenings = cond b (cond c h.happenings (h.happenings ++ ReplyUncertain f ∷ [])) h.happenings })
+given_up_quiet true true f calls h kept = quiet_calls h calls kept
+given_up_quiet true false f calls h kept = quiet_to h calls h.begun h.counts (h.happenings ++ ReplyUncertain f ∷ []) (ReplyUncertain f ∷ []) kept (λ g b tracks. tracks) refl (All-cons IsNoMessage (ReplyUncertain f) [] tt (All-nil IsNoMessage))
+given_up_quiet false c f calls h kept = quiet_calls h calls kept
+
 heard_quiet : (x : Heard) (h : Halves) → IsQuiet h (hear_as x h)
 heard_quiet (Settles f count) h = quiet_calls h (with_fates false f count h.calls) (all_fates h.calls false f count h.calls (All-contains_itself h.calls))
-heard_quiet (GivesUp f count) h = quiet_calls h (with_fates true f count h.calls) (all_fates h.calls true f count h.calls (All-contains_itself h.calls))
+heard_quiet (GivesUp f count) h = given_up_quiet (is_service (kind_in f.from_port h.ports)) (list_any (is_uncertain (reversed f)) h.happenings) (reversed f) (with_fates true f count h.calls) h (all_fates h.calls true f count h.calls (All-contains_itself h.calls))
 heard_quiet (Accepts f) h = accepts_quiet (is_some (kind_in f.to_port h.ports)) f h
 heard_quiet NoMatter h = quiet_same h h refl (λ c. c) refl refl refl refl refl refl
 
@@ -120,16 +126,16 @@ done_quiet f h = quiet_same h (done_with f h) refl (λ c. c) refl refl refl refl
 
 -- WHAT WAS BEGUN without a receiver goes
 pub sweep_quiet : (host : Host) (h : Halves) → IsQuiet h (sweep host h)
-sweep_quiet host h = quiet_to h h.calls (sweep host h).begun (sweep host h).counts h.happenings [] (kept_itself h.calls) (λ g b tracks. swept_tracks (has_receiver host) g b h.begun tracks) (sym (append-nil h.happenings)) (All-nil IsUnsure)
+sweep_quiet host h = quiet_to h h.calls (sweep host h).begun (sweep host h).counts h.happenings [] (kept_itself h.calls) (λ g b tracks. swept_tracks (has_receiver host) g b h.begun tracks) (sym (append-nil h.happenings)) (All-nil IsNoMessage)
 
 -- CALLS ARE JUDGED
-unsure_all : (now : ℕ) (calls : List OpenCall) → All IsUnsure (filter_map (unsure_of now) calls)
-unsure_all now [] = All-nil IsUnsure
+unsure_all : (now : ℕ) (calls : List OpenCall) → All IsNoMessage (filter_map (unsure_of now) calls)
+unsure_all now [] = All-nil IsNoMessage
 unsure_all now (call ∷ calls) = by_cause (cause_of now call) (unsure_all now calls)
   where
-    by_cause : (o : Option Cause) → All IsUnsure (filter_map (unsure_of now) calls) → All IsUnsure (cons_option (unsure_by call o) (filter_map (unsure_of now) calls))
+    by_cause : (o : Option Cause) → All IsNoMessage (filter_map (unsure_of now) calls) → All IsNoMessage (cons_option (unsure_by call o) (filter_map (unsure_of now) calls))
     by_cause None rest = rest
-    by_cause (Some cause) rest = All-cons IsUnsure (Unsure call.number cause) (filter_map (unsure_of now) calls) tt rest
+    by_cause (Some cause) rest = All-cons IsNoMessage (Unsure call.number cause) (filter_map (unsure_of now) calls) tt rest
 
 all_judged : (base : List OpenCall) (now : ℕ) (calls : List OpenCall) → All (Contains base) calls → AreKeptFrom base (filter is_kept (map (judged_call now) calls))
 all_judged base now [] all = All-nil (λ (c : OpenCall). c.waits ≡ true → IsKeptFrom base c)
@@ -171,7 +177,7 @@ quiet_tokens h keep = record {
   waits = kept_itself h.calls;
   told = [];
   happenings = sym (append-nil h.happenings);
-  unsure = All-nil IsUnsure;
+  unsure = All-nil IsNoMessage;
 }
 
 pub forgotten_quiet : (token : Token) (h : Halves) → IsQuiet h (forgotten token h)
@@ -190,5 +196,5 @@ close_quiet h = record {
   waits = all_filtered (λ (c : OpenCall). c.waits ≡ true → IsKeptFrom h.calls c) (λ (call : OpenCall). call.waits) h.calls (kept_itself h.calls);
   told = [];
   happenings = sym (append-nil h.happenings);
-  unsure = All-nil IsUnsure;
+  unsure = All-nil IsNoMessage;
 }

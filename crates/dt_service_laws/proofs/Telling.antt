@@ -20,7 +20,7 @@ use Rattle.dt_network.specs.Network.{Network}
 use Rattle.dt_network.specs.Octets.{all_read, items_read, read_if, read_in_step}
 use Rattle.dt_network.specs.Steps.{Step}
 use Rattle.dt_service_model.specs.declared.happenings.Happening.{Happening}
-use Rattle.dt_service_model.specs.declared.happenings.Happening.TheVariants.{Answered, Request, Unsure}
+use Rattle.dt_service_model.specs.declared.happenings.Happening.TheVariants.{Answered, ReplyUncertain, Request, Unsure}
 use Rattle.dt_service_model.specs.declared.names.CallNumber.{CallNumber}
 use Rattle.dt_service_model.specs.declared.ports.PortKind.{PortKind}
 use Rattle.dt_service_model.specs.declared.ports.PortKind.TheVariants.{Caller, Service}
@@ -33,7 +33,7 @@ use Rattle.dt_service_laws.specs.Histories.{Message, each_of, request_in}
 use Rattle.dt_service_laws.specs.Orders.{AreSomeOf, none}
 use Rattle.dt_service_laws.specs.Wholes.{begun_after, listed, messages_from}
 use Rattle.dt_service_laws.proofs.Begun.{begun_same, other_tracks, piece_tracks}
-use Rattle.dt_service_laws.proofs.Moves.{IsQuiet, IsUnsure, Moves, Tracks, calls, changes, pulls, reads, rests}
+use Rattle.dt_service_laws.proofs.Moves.{IsQuiet, IsNoMessage, Moves, Tracks, calls, changes, pulls, reads, rests}
 use Rattle.dt_service_laws.proofs.Orders.{all_of, both, mapped, some_through}
 use Rattle.dt_service_laws.proofs.Pieces.{begun_append, messages_append, piece_begun, piece_messages, piece_with, whole_stays}
 use Rattle.dt_service_laws.proofs.Quiet.{all_heard_quiet}
@@ -42,11 +42,12 @@ pub each_append : (pick : Happening → List Message) (xs ys : List Happening) �
 each_append pick [] ys = refl
 each_append pick (x ∷ xs) ys = ap (λ (ms : List Message). pick x ++ ms) (each_append pick xs ys) ∙ sym (append_assoc (pick x) (each_of pick xs) (each_of pick ys))
 
-pub unsure_requests : (g : Flow) (told : List Happening) → All IsUnsure told → each_of (request_in g) told ≡ []
+pub unsure_requests : (g : Flow) (told : List Happening) → All IsNoMessage told → each_of (request_in g) told ≡ []
 unsure_requests g [] all = refl
-unsure_requests g (Unsure number cause ∷ told) all = unsure_requests g told (All-tail IsUnsure (Unsure number cause) told all)
-unsure_requests g (Request token payload ∷ told) all = absurd (All-head IsUnsure (Request token payload) told all)
-unsure_requests g (Answered number answer ∷ told) all = absurd (All-head IsUnsure (Answered number answer) told all)
+unsure_requests g (Unsure number cause ∷ told) all = unsure_requests g told (All-tail IsNoMessage (Unsure number cause) told all)
+unsure_requests g (ReplyUncertain flow ∷ told) all = unsure_requests g told (All-tail IsNoMessage (ReplyUncertain flow) told all)
+unsure_requests g (Request token payload ∷ told) all = absurd (All-head IsNoMessage (Request token payload) told all)
+unsure_requests g (Answered number answer ∷ told) all = absurd (All-head IsNoMessage (Answered number answer) told all)
 
 -- what a message of octets says
 abbrev pub said : List ℕ → Message

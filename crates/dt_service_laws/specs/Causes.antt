@@ -11,7 +11,7 @@ use Rattle.dt_endpoint.specs.Endpoints.{after_event, moment_of}
 use Rattle.dt_service_model.specs.declared.calls.OpenCall.{OpenCall}
 use Rattle.dt_service_model.specs.declared.calls.Cause.TheVariants as cause
 use Rattle.dt_service_model.specs.declared.happenings.Happening.{Happening}
-use Rattle.dt_service_model.specs.declared.happenings.Happening.TheVariants.{Answered, Request, Unsure}
+use Rattle.dt_service_model.specs.declared.happenings.Happening.TheVariants.{Answered, ReplyUncertain, Request, Unsure}
 use Rattle.dt_service_model.specs.declared.names.CallNumber.{CallNumber}
 use Rattle.dt_service_model.specs.Asked.{message_event, with_call}
 use Rattle.dt_service_model.specs.Ends.{judge}
@@ -112,6 +112,7 @@ pub record IsOver (now : ℕ) (x : Node) (number : CallNumber) : Type 0 where
 abbrev pub HasCause : (deed : Deed) → (x y : Node) → Happening → Type 0
 HasCause deed x y (Request token payload) = Unit {0}
 HasCause deed x y (Answered number answer) = Unit {0}
+HasCause deed x y (ReplyUncertain flow) = Unit {0}
 HasCause deed x y (Unsure number cause.GivenUp) = (end : EndsAt deed x y) × WasGivenUp deed x end.judges number
 HasCause deed x y (Unsure number cause.Patience) = (end : EndsAt deed x y) × IsOver (moment_told deed) end.judges number
 HasCause deed x y (Unsure number cause.Closed) = (x.halves.closed ≡ false) × (y.halves.closed ≡ true)

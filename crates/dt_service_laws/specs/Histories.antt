@@ -11,7 +11,7 @@ use Rattle.dt_service_model.specs.declared.answers.Made.TheVariants as made
 use Rattle.dt_service_model.specs.declared.answers.Replied.{Replied}
 use Rattle.dt_service_model.specs.declared.answers.Replied.TheVariants as replied
 use Rattle.dt_service_model.specs.declared.happenings.Happening.{Happening}
-use Rattle.dt_service_model.specs.declared.happenings.Happening.TheVariants.{Answered, Request, Unsure}
+use Rattle.dt_service_model.specs.declared.happenings.Happening.TheVariants.{Answered, ReplyUncertain, Request, Unsure}
 use Rattle.dt_service_model.specs.declared.names.CallNumber.{CallNumber}
 use Rattle.dt_service_model.specs.declared.names.Token.{Token}
 use Rattle.dt_service_model.specs.Asked.{call, call_refusals, is_life_in_use, next_number, reply, reply_refusals}
@@ -109,11 +109,13 @@ abbrev pub request_in : Flow → Happening → List Message
 request_in f (Request token payload) = if same_flow token.flow f then record { number = token.number; carried = payload } ∷ [] else []
 request_in f (Answered number answer) = []
 request_in f (Unsure number cause) = []
+request_in f (ReplyUncertain flow) = []
 
 abbrev pub answer_in : Happening → List Message
 answer_in (Request token payload) = []
 answer_in (Answered number answer) = record { number = number; carried = answer } ∷ []
 answer_in (Unsure number cause) = []
+answer_in (ReplyUncertain flow) = []
 
 abbrev pub each_of : (Happening → List Message) → List Happening → List Message
 each_of pick [] = []

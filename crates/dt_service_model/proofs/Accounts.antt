@@ -5,14 +5,16 @@ use Rattle.std.specs.List.{cons_option, filter_map, list_any}
 use Rattle.dt_units.specs.declared.endpoints.Flow.{Flow}
 use Rattle.dt_world_model.specs.Host.{one_if}
 use Rattle.dt_world_model.specs.Tables.{same_flow}
+use Rattle.dt_calls_model.specs.Messages.{reversed}
 use Rattle.dt_service_model.specs.declared.calls.OpenCall.{OpenCall}
 use Rattle.dt_service_model.specs.declared.calls.Cause.{Cause}
 use Rattle.dt_service_model.specs.declared.calls.Cause.TheVariants as cause
 use Rattle.dt_service_model.specs.declared.happenings.Happening.{Happening}
+use Rattle.dt_service_model.specs.declared.happenings.Happening.TheVariants.{ReplyUncertain}
 use Rattle.dt_service_model.specs.declared.names.CallNumber.{CallNumber}
 use Rattle.dt_service_model.specs.Names.{same_number}
-use Rattle.dt_service_model.specs.Halves.{Halves, kind_in}
-use Rattle.dt_service_model.specs.Hearing.{Accepts, GivesUp, Heard, NoMatter, Settles, hear_as, with_fate, with_fates, with_flow}
+use Rattle.dt_service_model.specs.Halves.{Halves, is_service, kind_in}
+use Rattle.dt_service_model.specs.Hearing.{Accepts, GivesUp, Heard, NoMatter, Settles, hear_as, is_uncertain, with_fate, with_fates, with_flow}
 use Rattle.dt_service_model.specs.Ends.{cause_of, is_kept, judge, judged_as, judged_call, unsure_by, unsure_of}
 use Rattle.dt_service_model.specs.Accounts.{account, ends_in, has_cause, waits_in, waits_with}
 
@@ -78,9 +80,17 @@ accepted : (n : CallNumber) (b : Bool) (f : Flow) (h : Halves) → account n (co
 accepted n true f h = refl
 accepted n false f h = refl
 
+given_up_ends : (n : CallNumber) (b c : Bool) (f : Flow) (told : List Happening) → ends_in n (cond b (cond c told (told ++ ReplyUncertain f ∷ [])) told) ≡ ends_in n told
+given_up_ends n true true f told = refl
+given_up_ends n true false f told = let e = ends_append n told (ReplyUncertain f ∷ []) in omega (arith, e)
+given_up_ends n false c f told = refl
+
 pub hear_keeps : (n : CallNumber) (x : Heard) (h : Halves) → account n (hear_as x h) ≡ account n h
 hear_keeps n (Settles f count) h = ap (λ (k : ℕ). k + ends_in n h.happenings) (fates_wait n false f count h.calls)
-hear_keeps n (GivesUp f count) h = ap (λ (k : ℕ). k + ends_in n h.happenings) (fates_wait n true f count h.calls)
+hear_keeps n (GivesUp f count) h =
+    let a = fates_wait n true f count h.calls in
+    let b = given_up_ends n (is_service (kind_in f.from_port h.ports)) (list_any (is_uncertain (reversed f)) h.happenings) (reversed f) h.happenings in
+    omega (arith, a, b)
 hear_keeps n (Accepts f) h = accepted n (is_some (kind_in f.to_port h.ports)) f h
 hear_keeps n NoMatter h = refl
 

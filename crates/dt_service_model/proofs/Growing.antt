@@ -1,7 +1,7 @@
 -- The end of a turn tells more and forgets nothing that was told, and closes no node.
 use Rattle.std.proofs.Common.{ℕ, ◌≡◌, Bool, true, false, List, [], ◌∷◌, ◌++◌, Option, Some, None, refl, ap, sym, subst, ◌∙◌, append-nil, append_assoc}
 use Rattle.std.specs.Prelude.{All, cond, filter_map, fold, is_some, take}
-use Rattle.std.specs.List.{position}
+use Rattle.std.specs.List.{list_any, position}
 use Rattle.std.proofs.lemmas.List.Elements.{All-append, All-cons, All-nil}
 use Rattle.dt_units.specs.declared.endpoints.Flow.{Flow}
 use Rattle.dt_reports.specs.Told.{Told}
@@ -9,15 +9,16 @@ use Rattle.dt_world_model.specs.Station.{Event, Read}
 use Rattle.dt_calls_model.specs.Messages.{Piece, carried_in, has_number, number_in, reversed}
 use Rattle.dt_messages.specs.Joining.{whole_within}
 use Rattle.dt_endpoint.specs.Endpoints.{after_event, moment_of}
+use Rattle.dt_service_model.specs.declared.calls.OpenCall.{OpenCall}
 use Rattle.dt_service_model.specs.declared.happenings.Happening.{Happening}
-use Rattle.dt_service_model.specs.declared.happenings.Happening.TheVariants.{Answered, Request, Unsure}
+use Rattle.dt_service_model.specs.declared.happenings.Happening.TheVariants.{Answered, ReplyUncertain, Request, Unsure}
 use Rattle.dt_service_model.specs.declared.names.CallNumber.{CallNumber}
 use Rattle.dt_service_model.specs.declared.names.Token.{Token}
 use Rattle.dt_service_model.specs.declared.ports.PortKind.{PortKind}
 use Rattle.dt_service_model.specs.declared.ports.PortKind.TheVariants.{Caller, Service}
 use Rattle.dt_service_model.specs.Ends.{judge, unsure_of}
-use Rattle.dt_service_model.specs.Halves.{Halves, counted_up, kind_in, most_octets}
-use Rattle.dt_service_model.specs.Hearing.{Accepts, GivesUp, Heard, NoMatter, Settles, hear, hear_as, heard, with_flow}
+use Rattle.dt_service_model.specs.Halves.{Halves, counted_up, is_service, kind_in, most_octets}
+use Rattle.dt_service_model.specs.Hearing.{Accepts, GivesUp, Heard, NoMatter, Settles, hear, hear_as, heard, is_uncertain, with_fates, with_flow}
 use Rattle.dt_service_model.specs.Names.{call_number, token_with}
 use Rattle.dt_service_model.specs.Stopping.{EventStops, breaks_off, hears_part}
 use Rattle.dt_service_model.specs.Turns.{Node, happens, most_read, turn_end}
@@ -45,6 +46,7 @@ abbrev pub NotUnsure : Happening → Type 0
 NotUnsure (Request token payload) = Unit {0}
 NotUnsure (Answered number answer) = Unit {0}
 NotUnsure (Unsure number cause) = ⊥
+NotUnsure (ReplyUncertain flow) = Unit {0}
 
 pub record Tells (h k : Halves) : Type 0 where
   pub grows : Grows h k
@@ -65,9 +67,14 @@ accepts_tells : (b : Bool) (f : Flow) (h : Halves) → Tells h (cond b (record h
 accepts_tells true f h = tells_same h (record h { unread = with_flow f h.unread }) refl refl
 accepts_tells false f h = tells_same h h refl refl
 
+given_up_tells : (b c : Bool) (f : Flow) (calls : List OpenCall) (h : Halves) → Tells h (record h { calls = calls; happenings = cond b (cond c h.happenings (h.happenings ++ ReplyUncertain f ∷ [])) h.happenings })
+given_up_tells true true f calls h = tells_same h _ refl refl
+given_up_tells true false f calls h = tells_one h _ (ReplyUncertain f) refl refl tt
+given_up_tells false c f calls h = tells_same h _ refl refl
+
 hear_tells : (what : Heard) (h : Halves) → Tells h (hear_as what h)
 hear_tells (Settles f count) h = tells_same h (hear_as (Settles f count) h) refl refl
-hear_tells (GivesUp f count) h = tells_same h (hear_as (GivesUp f count) h) refl refl
+hear_tells (GivesUp f count) h = given_up_tells (is_service (kind_in f.from_port h.ports)) (list_any (is_uncertain (reversed f)) h.happenings) (reversed f) (with_fates true f count h.calls) h
 hear_tells (Accepts f) h = accepts_tells (is_some (kind_in f.to_port h.ports)) f h
 hear_tells NoMatter h = tells_same h h refl refl
 

@@ -5,3 +5,4 @@ pub mod Accounts
 pub mod Turning
 pub mod Making
 pub mod Going
+pub mod Uncertain

@@ -6,7 +6,7 @@ use Rattle.dt_service_model.specs.declared.answers.Made.{Made}
 use Rattle.dt_service_model.specs.declared.answers.Made.TheVariants as made
 use Rattle.dt_service_model.specs.declared.calls.OpenCall.{OpenCall}
 use Rattle.dt_service_model.specs.declared.happenings.Happening.{Happening}
-use Rattle.dt_service_model.specs.declared.happenings.Happening.TheVariants.{Answered, Request, Unsure}
+use Rattle.dt_service_model.specs.declared.happenings.Happening.TheVariants.{Answered, ReplyUncertain, Request, Unsure}
 use Rattle.dt_service_model.specs.declared.names.CallNumber.{CallNumber}
 use Rattle.dt_service_model.specs.Names.{same_number}
 use Rattle.dt_service_model.specs.Halves.{Halves}
@@ -19,6 +19,7 @@ abbrev pub is_end_of : CallNumber → Happening → Bool
 is_end_of n (Request token payload) = false
 is_end_of n (Answered call answer) = same_number call n
 is_end_of n (Unsure call cause) = same_number call n
+is_end_of n (ReplyUncertain flow) = false
 
 abbrev pub waits_in : CallNumber → List OpenCall → ℕ
 waits_in n calls = total (λ call. one_if (waits_with n call)) calls

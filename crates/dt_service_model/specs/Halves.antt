@@ -5,23 +5,25 @@ use Rattle.dt_world_model.specs.Tables.{same_flow}
 use Rattle.dt_service_model.specs.declared.calls.OpenCall.{OpenCall}
 use Rattle.dt_service_model.specs.declared.call_counts.CallCounts.{CallCounts}
 use Rattle.dt_service_model.specs.declared.happenings.Happening.{Happening}
-use Rattle.dt_service_model.specs.declared.happenings.Happening.TheVariants.{Answered, Request, Unsure}
+use Rattle.dt_service_model.specs.declared.happenings.Happening.TheVariants.{Answered, ReplyUncertain, Request, Unsure}
 use Rattle.dt_service_model.specs.declared.names.Token.{Token}
 use Rattle.dt_service_model.specs.declared.ports.PortKind.{PortKind}
 use Rattle.dt_service_model.specs.declared.ports.PortKind.TheVariants.{Caller, Service}
 use Rattle.dt_service_model.specs.declared.ports.Most.{Most}
 use Rattle.dt_service_model.specs.declared.ports.Port.{Port}
 
--- what happens at a node: a request is handed out, or a call ends
+-- what happens at a node: a request is handed out, a call ends, or a reply is given up
 abbrev pub is_request : Happening → Bool
 is_request (Request token payload) = true
 is_request (Answered call answer) = false
 is_request (Unsure call cause) = false
+is_request (ReplyUncertain flow) = false
 
 abbrev pub is_end : Happening → Bool
 is_end (Request token payload) = false
 is_end (Answered call answer) = true
 is_end (Unsure call cause) = true
+is_end (ReplyUncertain flow) = false
 
 pub record Halves : Type 0 where
   pub most : Most

@@ -1,4 +1,4 @@
--- What a node hears of its endpoint's reports: the fates of the octets of its calls, and at which flows something may be unread.
+-- What a node hears of its endpoint's reports: the fates of the octets of its calls and replies, and at which flows something may be unread.
 use Rattle.std.specs.Prelude.{ℕ, ◌-◌, ◌&&◌, ◌||◌, Bool, true, false, nat_lt, is_some, List, [], ◌∷◌, ◌++◌, fold, if◌then◌else◌}
 use Rattle.std.specs.List.{list_any}
 use Rattle.dt_units.specs.declared.endpoints.Flow.{Flow}
@@ -6,8 +6,12 @@ use Rattle.dt_reports.specs.Matters as matter
 use Rattle.dt_reports.specs.Matters.{Matter, matter_of}
 use Rattle.dt_reports.specs.Told.{Told}
 use Rattle.dt_world_model.specs.Tables.{same_flow}
+use Rattle.dt_calls_model.specs.Messages.{reversed}
 use Rattle.dt_service_model.specs.declared.calls.OpenCall.{OpenCall}
-use Rattle.dt_service_model.specs.Halves.{Halves, kind_in}
+use Rattle.dt_service_model.specs.declared.happenings.Happening.{Happening}
+use Rattle.dt_service_model.specs.declared.happenings.Happening.TheVariants.{Answered, ReplyUncertain, Request, Unsure}
+use Rattle.dt_service_model.specs.declared.ports.Port.{Port}
+use Rattle.dt_service_model.specs.Halves.{Halves, is_service, kind_in}
 
 pub data Heard : Type 0 where
   Settles : (flow : Flow) → (count : ℕ) → Heard
@@ -48,9 +52,22 @@ with_fates given_up f count (call ∷ calls) =
 abbrev pub with_flow : Flow → List Flow → List Flow
 with_flow f flows = if list_any (λ g. same_flow g f) flows then flows else flows ++ f ∷ []
 
+-- OCTETS OF A REPLY WERE GIVEN UP: what went from a service's port. The flow of its request is told, unless that was told before and wasn't taken
+abbrev pub is_uncertain : Flow → Happening → Bool
+is_uncertain f (ReplyUncertain g) = same_flow g f
+is_uncertain f (Request token payload) = false
+is_uncertain f (Answered call answer) = false
+is_uncertain f (Unsure call cause) = false
+
+abbrev pub with_uncertain : Flow → List Happening → List Happening
+with_uncertain f told = if list_any (is_uncertain f) told then told else told ++ ReplyUncertain f ∷ []
+
+abbrev pub told_given_up : Flow → List Port → List Happening → List Happening
+told_given_up f ports told = if is_service (kind_in f.from_port ports) then with_uncertain (reversed f) told else told
+
 abbrev pub hear_as : Heard → Halves → Halves
 hear_as (Settles f count) h = record h { calls = with_fates false f count h.calls }
-hear_as (GivesUp f count) h = record h { calls = with_fates true f count h.calls }
+hear_as (GivesUp f count) h = record h { calls = with_fates true f count h.calls; happenings = told_given_up f h.ports h.happenings }
 hear_as (Accepts f) h = if is_some (kind_in f.to_port h.ports) then record h { unread = with_flow f h.unread } else h
 hear_as NoMatter h = h
 

@@ -10,3 +10,4 @@ pub mod Stopping
 pub mod Worked
 pub mod Runs
 pub mod Carrying
+pub mod Uncertain

@@ -1,4 +1,4 @@
--- Ten worked runs: what is done in each. The contracts of the crate say what is told.
+-- Eleven worked runs: what is done in each. The contracts of the crate say what is told.
 use Rattle.std.specs.Prelude.{ℕ, List, [], ◌∷◌}
 use Rattle.dt_world_model.specs.Worked.{standard}
 use Rattle.dt_service_model.specs.Names.{number_with}
@@ -39,6 +39,20 @@ reply_late =
     ∷ (3000, ClientTicks)
     ∷ (3000, ServerTicks)
     ∷ (3010, ToClient 2)
+    ∷ []
+
+abbrev pub reply_given_up : List (ℕ × Deed)
+reply_given_up =
+    (0, Calls (97 ∷ []) 8000)
+    ∷ (0, Calls (98 ∷ []) 8000)
+    ∷ (40, ToServer 0)
+    ∷ (40, ToServer 1)
+    ∷ (40, ToClient 1)
+    ∷ (40, Replies (five 0) (65 ∷ []))
+    ∷ (40, Replies (five 1) (66 ∷ []))
+    ∷ (5239, ServerTicks)
+    ∷ (5240, ServerTicks)
+    ∷ (8000, ClientTicks)
     ∷ []
 
 abbrev pub client_restarts_at_a_slow_service : List (ℕ × Deed)

@@ -1,6 +1,7 @@
 //! The events that a program takes from a service: a request, an answer, or a call with an unsure end.
 use crate::calls::Cause;
 use crate::names::{CallNumber, Token};
+use dt_units::Flow;
 use std::marker::Model;
 
 /// What a request or an answer carries: 0 to 65,528 octets.
@@ -26,4 +27,7 @@ pub enum Happening {
     Answered { call: CallNumber, answer: Payload },
     /// A call ended without one. It was served once or not at all, and may still be.
     Unsure { call: CallNumber, cause: Cause },
+    /// Octets of replies to requests of this flow were given up: each of them was delivered once or not at
+    /// all. Their callers aren't told. Until this is taken it isn't handed out again.
+    ReplyUncertain { flow: Flow },
 }

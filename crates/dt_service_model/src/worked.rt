@@ -6,10 +6,11 @@ ghost use Rattle.dt_service_model.specs.declared.answers.Declined.TheVariants as
 ghost use Rattle.dt_service_model.specs.declared.answers.Made.TheVariants as made;
 ghost use Rattle.dt_service_model.specs.declared.answers.Replied.TheVariants as replied;
 ghost use Rattle.dt_service_model.specs.declared.calls.Cause.TheVariants as cause;
-ghost use Rattle.dt_service_model.specs.declared.happenings.Happening.TheVariants.{Answered, Request, Unsure};
+ghost use Rattle.dt_service_model.specs.declared.happenings.Happening.TheVariants.{Answered, ReplyUncertain, Request, Unsure};
+ghost use Rattle.dt_world_model.specs.Worked.{main_flow};
 ghost use Rattle.dt_service_model.specs.Halves.{no_counts};
 ghost use Rattle.dt_service_model.specs.Names.{number_with};
-ghost use Rattle.dt_service_model.specs.Runs.{answered_in_any_order, asked_again, client_restarts_at_a_slow_service, given_up_and_served, life_used_twice, narrow, no_room_for_a_reply, reply_late, request_lost, server_restarts_before_its_reply, short_of_room, tail_and_head_lost};
+ghost use Rattle.dt_service_model.specs.Runs.{answered_in_any_order, asked_again, client_restarts_at_a_slow_service, given_up_and_served, life_used_twice, narrow, no_room_for_a_reply, reply_given_up, reply_late, request_lost, server_restarts_before_its_reply, short_of_room, tail_and_head_lost};
 ghost use Rattle.dt_service_model.specs.Worked.{Happens, IsMade, IsReplied, five, on_main, rest_after, told_by, usual};
 
 /// Two calls are answered, the later one first, and a token has one reply.
@@ -28,6 +29,13 @@ pub fn request_lost()
 pub fn reply_late()
     ensures told { told_by reply_late usual ≡ IsMade 0 (made.Call (five 0)) ∷ Happens 40 (Request (on_main (five 0)) (97 ∷ [])) ∷ IsReplied 40 replied.Done ∷ Happens 3000 (Unsure (five 0) cause.Patience) ∷ [] }
     ensures rest { rest_after reply_late usual ≡ record { waiting = []; open_names = []; at_client = record no_counts { late = 1 }; at_server = no_counts } }
+{}
+
+/// Two replies are lost and given up, which is told once, with the flow of their requests. Patience ends the
+/// calls.
+pub fn reply_given_up()
+    ensures told { told_by reply_given_up usual ≡ IsMade 0 (made.Call (five 0)) ∷ IsMade 0 (made.Call (five 1)) ∷ Happens 40 (Request (on_main (five 0)) (97 ∷ [])) ∷ Happens 40 (Request (on_main (five 1)) (98 ∷ [])) ∷ IsReplied 40 replied.Done ∷ IsReplied 40 replied.Done ∷ Happens 5240 (ReplyUncertain main_flow) ∷ Happens 8000 (Unsure (five 0) cause.Patience) ∷ Happens 8000 (Unsure (five 1) cause.Patience) ∷ [] }
+    ensures rest { rest_after reply_given_up usual ≡ record { waiting = []; open_names = []; at_client = no_counts; at_server = no_counts } }
 {}
 
 /// A reply to a call of a former life of the client answers no call of the present one.

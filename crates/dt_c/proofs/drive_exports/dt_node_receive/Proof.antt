@@ -1,0 +1,17 @@
+-- `dt_node_receive` lends what lies at the handle to `Slot::receive`.
+use Rattle.std.proofs.Common.{refl, w16, w32, w64}
+use mir.Syntax.{named}
+use denote.Builtin.{u8}
+use Rattle.dt_c.proofs.Exports.{exported}
+use Rattle.dt_c.proofs.Parameters.{items, none, number, ◌&◌}
+use Rattle.dt_c.specs.Calls.{Arriving}
+use Rattle.dt_c.specs.contracts.c_structs.ReceiveResult.{the_row as Q}
+use Rattle.dt_c.proofs.c_structs.ReceiveResult.TheLaws.{the_row_laws}
+use Rattle.dt_c.specs.contracts.slots.Slot.{the_row as R}
+use Rattle.dt_c.proofs.drive_exports.dt_node_receive.Statement.{statement}
+use Rattle.dt_c.proofs.drive_exports.dt_node_receive.Code as code
+use Rattle.dt_c.proofs.slots.Slot.receive.Met.{met}
+
+pub dt_node_receive_spec : {M : Type 1} → statement M
+dt_node_receive_spec 𝓤 𝓛 𝓜 𝓡 wired = exported 𝓛 𝓜 𝓡 R (record { row = Q; lawful = the_row_laws.lawful 𝓛; one = refl }) 1 (λ κs. number w64 & number w16 & items (named 0) κs.0 u8 & number w32 & none)
+    (λ κs a x row h ws. Arriving row a.0 a.1.0 a.1.1.0.now a.1.1.1.0 x h) (λ κs. tt) (λ κs. code.unfolded 𝓤 𝓛.H 𝓜 𝓡 wired) (met 𝓤 𝓛 𝓜 𝓡 (code.calls-dt_c::slots::Slot::receive 𝓡.env wired))
