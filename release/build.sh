@@ -128,6 +128,10 @@ if [ -f "$libraries/libdeltat.so.2" ]; then
     ln -s ../../../../include/deltat.h "$doc/include/deltat.h"
     ln -s ../../../../include/deltat.hpp "$doc/include/deltat.hpp"
     install -m 644 "$top/bindings/python/_deltat_c.py" "$top/bindings/python/deltat.py" "$top/bindings/python/deltat_record.py" "$top/bindings/python/deltat_service.py" "$root/usr/lib/python3/dist-packages"
+    # crates by path: their build finds the library by its deltat.pc
+    mkdir -p "$root/usr/share/deltat"
+    cp -R "$top/bindings/rust" "$root/usr/share/deltat/rust"
+    rm -rf "$root/usr/share/deltat/rust/target"
     python3 "$top/release/manpage.py" "$top/docs/library.md" "$version" "$date" >"$room/library.3"
     gzip -n9 <"$room/library.3" >"$root/usr/share/man/man3/libdeltat.3.gz"
     sed -i -e '$s/(5)$/(5),/' -e '$a.BR libdeltat (3)' "$room/deltat.1"

@@ -121,6 +121,7 @@ def files(root: Path) -> list[Case]:
               "usr/share/man/man5/deltat-formats.5.gz", "usr/share/bash-completion/completions/deltat", "usr/share/zsh/vendor-completions/_deltat"]
     if LIBRARY.exists():
         wanted += ["usr/include/deltat.h", "usr/include/deltat.hpp", "usr/lib/python3/dist-packages/_deltat_c.py", "usr/lib/python3/dist-packages/deltat.py", "usr/lib/python3/dist-packages/deltat_record.py", "usr/lib/python3/dist-packages/deltat_service.py", "usr/share/man/man3/libdeltat.3.gz"]
+        wanted += [f"usr/share/deltat/rust/{it}" for it in ("Cargo.toml", "deltat/src/lib.rs", "deltat-sys/build.rs", "deltat-sys/src/sys.rs")]
         wanted += [f"usr/lib/{os.uname().machine}-linux-gnu/{it}" for it in ("libdeltat.a", "libdeltat.so.2", "libdeltat.so", "pkgconfig/deltat.pc", "cmake/deltat/deltatConfig.cmake")]
     missing = [it for it in wanted if not (root / it).is_file()] + [it.name for it in (TOP / "docs").glob("*.md") if not (doc / "docs" / it.name).is_file()]
     missing += [it.name for it in (TOP / "examples").rglob("*") if it.is_file() and it.suffix != ".pyc" and not (doc / it.relative_to(TOP)).is_file()]
