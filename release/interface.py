@@ -267,6 +267,17 @@ def header() -> Header:
     return read(text[text.index('#ifdef __cplusplus\nextern "C" {'):])
 
 
+# --- the loops at its head
+
+
+def code(begins: str) -> list[str]:
+    """The pieces of code in the comment of the header that has this line: lines with three blanks before them."""
+    text = HEADER.read_text()
+    comment = text[text.index(begins):].partition("*/")[0]
+    lines = [it[5:] if it.startswith(" *   ") else "" for it in comment.splitlines()]
+    return ["\n".join(it.splitlines()) + "\n" for it in re.split(r"\n{2,}", "\n".join(lines).strip("\n"))]
+
+
 # --- places of fields
 
 
