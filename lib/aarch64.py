@@ -5,7 +5,7 @@
 
 `./build --only dt_c` is for the processor that it runs on, and rattle, which it calls, for others too. So this calls rattle
 on crates/dt_c, over the libraries below it, which `./build` proves first where that wasn't done yet, and adds lib/heap.c,
-compiled by $CC or aarch64-linux-gnu-gcc. Ends with rattle's status, 1 where a crate isn't proved, and 2 where a tool is
+names.c and handles.c, compiled by $CC or aarch64-linux-gnu-gcc. Ends with rattle's status, 1 where a crate isn't proved, and 2 where a tool is
 missing."""
 import importlib.machinery
 import importlib.util
@@ -22,6 +22,8 @@ TOP = HERE.parent
 CRATES = TOP / "crates"
 CRATE, TARGET = "dt_c", "aarch64-unknown-linux-gnu"
 WANTED = HERE / "libdeltat-aarch64.a"
+# plain C beside what is proved
+PLAIN = ("heap", "names", "handles")
 
 
 def build() -> ModuleType:
@@ -50,7 +52,7 @@ def main() -> int:
         print(f"aarch64.py: there is no {missing[0]}", file=sys.stderr)
         return 2
     with tempfile.TemporaryDirectory() as folder:
-        archive, heap = pathlib.Path(folder, "libdt_c.a"), pathlib.Path(folder, "heap.o")
+        archive = pathlib.Path(folder, "libdt_c.a")
         try:
             proves = words(archive, TARGET)
         except subprocess.CalledProcessError:
@@ -61,9 +63,12 @@ def main() -> int:
             print(told)
             return done.returncode
         print(next((it for it in told.splitlines() if it.startswith("logic=")), "proved"))
-        subprocess.run([compiler, "-O2", "-Wall", "-Wextra", "-Werror", "-fPIC", "-c", HERE / "heap.c", "-o", heap], check=True)
+        members = [pathlib.Path(folder, f"{name}.o") for name in PLAIN]
+        for name, member in zip(PLAIN, members):
+            plain = [compiler, "-O2", "-Wall", "-Wextra", "-Werror", "-fPIC", "-I", HERE.parent / "include"]
+            subprocess.run([*plain, "-c", HERE / f"{name}.c", "-o", member], check=True)
         tools = pathlib.Path(proves[proves.index("--toolchain") + 1])
-        subprocess.run([tools / "bin" / "llvm-ar", "rs", archive, heap], check=True, stderr=subprocess.DEVNULL)
+        subprocess.run([tools / "bin" / "llvm-ar", "rs", archive, *members], check=True, stderr=subprocess.DEVNULL)
         shutil.move(archive, WANTED)
     print(WANTED)
     return 0
