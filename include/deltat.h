@@ -29,10 +29,10 @@
  *     memory, aligned to dt_node_align() (a service: the dt_service_ functions), on which
  *     dt_node_init is called once before any other call. Don't read, write, copy or move a handle,
  *     and call dt_node_close before you release its memory. No pointer may be null, even if a
- *     length is 0. A length is the number of elements at the pointer, and they take less than 2^63
- *     octets. Nothing passed to a call may overlap what the call writes. A bool is 0 or 1. The
- *     library allocates with rattle_alloc, rattle_realloc and rattle_dealloc (lib/heap.c: malloc,
- *     realloc, free); link your own to replace them.
+ *     length is 0, unless the function says so. A length is the number of elements at the pointer,
+ *     and they take less than 2^63 octets. Nothing passed to a call may overlap what the call
+ *     writes. A bool is 0 or 1. The library allocates with rattle_alloc, rattle_realloc and
+ *     rattle_dealloc (lib/heap.c: malloc, realloc, free); link your own to replace them.
  *  2. Threads. One call at a time per handle, from any thread; different handles may be used at the
  *     same time if the allocator allows it. No call blocks or calls back. Make no call in a signal
  *     handler, nor in the forked child of a process with threads. After any fork only one of the

@@ -4,7 +4,8 @@
 `tests/library.py [ARCHIVE] [--datagrams N]` takes the archive at that path; with no word it is the one that
 `./build --only dt_c` leaves in crates/dt_c/out, which it builds where there is none. The header is compiled alone too. Compilers are gcc and
 clang, languages C99, C11 and C++17, all with -Wall -Wextra -Werror; each program runs bare, and those of C99 also under
-valgrind and with the address and undefined-behaviour sanitizers, where the machine has them. The C files of lib/ are compiled by each compiler with these warnings, and linked:
+valgrind and with the address and undefined-behaviour sanitizers, where the machine has them. The C files of lib/
+are compiled by each compiler with these warnings, and linked:
 
 - layout.c: sizes and places of fields, by the compiler alone, as release/interface.py has them of the header; crates/dt_c
   proves the same sizes.
