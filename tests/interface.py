@@ -78,7 +78,8 @@ def run(*command: object, **more: str) -> subprocess.CompletedProcess[str]:
 
 def found_with(text: str) -> list[str]:
     """What is found when the header has this text: the files that aren't made of it, and where the exports differ."""
-    real, interface.header = interface.header, lambda: interface.read(text[text.index('#ifdef __cplusplus\nextern "C" {'):])
+    begins = text.index('#ifdef __cplusplus\nextern "C" {')
+    real, interface.header = interface.header, lambda: interface.read(text[begins:])
     interface.layout.cache_clear()
     try:
         stale = [path.name for path, made in interface.MADE.items() if path.read_text() != made()]
@@ -95,7 +96,7 @@ def copies() -> Iterator[Case]:
     for what, old, new, stale in (
         ("a field that was moved", "uint32_t source, target;", "uint32_t target, source;", "sys.rs"),
         ("another number of a status", "DT_GONE = 18 ", "DT_GONE = 19 ", "_deltat_c.py"),
-        ("another type of a parameter", "dt_node_tick(dt_node *node, uint64_t now)", "dt_node_tick(dt_node *node, uint32_t now)", "dt_node_tick has another"),
+        ("another type of a parameter", "_tick(dt_node *node, uint64_t now)", "_tick(dt_node *node, uint32_t now)", "dt_node_tick has"),
         ("another type of a field", "    uint32_t mpl; ", "    uint64_t mpl; ", "struct dt_params and"),
         ("another name of a status", "DT_FULL = 7", "DT_ROOM = 7", "names.c"),
     ):
@@ -114,10 +115,10 @@ def layouts(tables: object) -> Iterator[Case]:
 
 def names(library: ctypes.CDLL) -> Iterator[Case]:
     wrong = []
-    for function, enum in (("dt_status_name", "dt_status_code"), ("dt_fault_name", "dt_fault"), ("dt_report_name", "dt_report_kind")):
+    for what, enum, _ in interface.NAMED:
         wanted = {it.value: it.name for it in interface.header().enum(enum).members}
-        unknown = f"unknown {function.split('_')[1]}"
-        wrong += [f"{function}({it})" for it in range(256) if getattr(library, function)(it).decode() != wanted.get(it, unknown)]
+        name_of = getattr(library, f"dt_{what}_name")
+        wrong += [f"{what} {it}" for it in range(256) if name_of(it).decode() != wanted.get(it, f"unknown {what}")]
     yield "each constant has its name", not wrong, " ".join(wrong[:5])
     version = library.dt_version().decode()
     yield "the library has the version of VERSION", version == (TOP / "VERSION").read_text().strip(), version
@@ -129,28 +130,34 @@ def former(folder: pathlib.Path, libraries: pathlib.Path, tables: object) -> Ite
     (folder / "library.c").write_text(FORMER_LIBRARY)
     (folder / "former.map").write_text("DELTAT_0 { global: dt_*; local: *; };\n")
     old = folder / "libdeltat.so.0"
-    run("cc", "-shared", "-fPIC", folder / "library.c", f"-Wl,--version-script={folder / 'former.map'}", "-Wl,-soname,libdeltat.so.0", "-o", old)
+    words = [f"-Wl,--version-script={folder / 'former.map'}", "-Wl,-soname,libdeltat.so.0"]
+    run("cc", "-shared", "-fPIC", folder / "library.c", *words, "-o", old)
     gnu = "GNU ld" in run("ld", "--version").stdout
     for library in (libraries / "libdeltat.a", libraries / SONAME):
         ran = run("cc", folder / "former.c", library, "-o", folder / "linked")
         names_it = "undefined reference to `dt_init'" in ran.stderr or "undefined symbol: dt_init" in ran.stderr
         says_why = "dt_init is of interface 1 of libdeltat" in ran.stderr and "see dt_node_init" in ran.stderr
-        yield f"a program of interface 1 isn't linked with {library.name}, which says why", ran.returncode != 0 and names_it and (says_why or not gnu), ran.stderr[-300:]
+        good = ran.returncode != 0 and names_it and (says_why or not gnu)
+        yield f"a program of interface 1 isn't linked with {library.name}, which says why", good, ran.stderr[-300:]
     program, place = folder / "program", folder / "place"
     place.mkdir()
     ran = run("cc", folder / "former.c", old, "-o", program)
-    yield "(it is linked with its own library, and runs)", ran.returncode == 0 and run(program, LD_LIBRARY_PATH=str(folder)).returncode == 0, ran.stderr
+    runs = ran.returncode == 0 and run(program, LD_LIBRARY_PATH=str(folder)).returncode == 0
+    yield "(it is linked with its own library, and runs)", runs, ran.stderr
     shutil.copy(libraries / SONAME, place)
     ran = run(program, LD_LIBRARY_PATH=str(place))
-    yield "it doesn't start with the new library", ran.returncode != 0 and "libdeltat.so.0: cannot open shared object file" in ran.stderr, ran.stderr
+    why = "libdeltat.so.0: cannot open shared object file"
+    yield "it doesn't start with the new library", ran.returncode != 0 and why in ran.stderr, ran.stderr
     (place / "libdeltat.so.0").symlink_to(SONAME)
     ran = run(program, LD_LIBRARY_PATH=str(place))
-    yield "nor with the new library by the old name", ran.returncode != 0 and "version `DELTAT_0' not found" in ran.stderr, ran.stderr
+    why = "version `DELTAT_0' not found"
+    yield "nor with the new library by the old name", ran.returncode != 0 and why in ran.stderr, ran.stderr
     try:
         tables.load(str(old))
         yield "a library of interface 1 isn't loaded by ctypes", False, ""
-    except ImportError as why:
-        yield "a library of interface 1 isn't loaded by ctypes", "has interface 1, this module is for 2" in str(why), str(why)
+    except ImportError as said:
+        good = "has interface 1, this module is for 2" in str(said)
+        yield "a library of interface 1 isn't loaded by ctypes", good, str(said)
 
 
 def installed(folder: pathlib.Path, libraries: pathlib.Path) -> Iterator[Case]:
@@ -163,14 +170,15 @@ def installed(folder: pathlib.Path, libraries: pathlib.Path) -> Iterator[Case]:
     for it in ("libdeltat.a", SONAME):
         shutil.copy(libraries / it, clone / "lib")
     # what is linked already is newer than what it is made of
-    ran = run("make", "-C", clone / "lib", "install", f"PREFIX={prefix}", f"ARCHIVE={libraries / 'libdeltat.a'}", "--old-file=libdeltat.a", f"--old-file={SONAME}")
+    words = [f"PREFIX={prefix}", f"ARCHIVE={libraries / 'libdeltat.a'}", "--old-file=libdeltat.a", f"--old-file={SONAME}"]
+    ran = run("make", "-C", clone / "lib", "install", *words)
     yield "make install", ran.returncode == 0, ran.stderr[-500:]
     finds = {"PKG_CONFIG_PATH": str(prefix / "lib" / "pkgconfig"), "LD_LIBRARY_PATH": str(prefix / "lib")}
     if shutil.which("pkg-config"):
         words = run("pkg-config", "--cflags", "--libs", "deltat", **finds).stdout.split()
-        for compiler, name in (("cc", "hello.c"), ("c++", "hello.cpp")):
+        for compiler, standard, name in (("cc", "-std=c11", "hello.c"), ("c++", "-std=c++17", "hello.cpp")):
             built = folder / f"{name}.out"
-            ran = run(compiler, "-Wall", "-Wextra", "-Werror", TOP / "examples" / name, *words, *([] if name.endswith(".c") else ["-std=c++17"]), "-o", built)
+            ran = run(compiler, standard, "-Wall", "-Wextra", "-Werror", TOP / "examples" / name, *words, "-o", built)
             said = run(built, **finds).stdout if ran.returncode == 0 else ran.stderr
             yield f"{name} by pkg-config", said == greets, said[-300:]
     if not shutil.which("cmake"):
@@ -183,11 +191,13 @@ def installed(folder: pathlib.Path, libraries: pathlib.Path) -> Iterator[Case]:
     for wanted, is_there in ((version[0] if version else "", True), ("99.0", False)):
         (project / "CMakeLists.txt").write_text(CMAKE.format(version=wanted))
         ran = run("cmake", "-S", project, "-B", project / wanted, f"-DCMAKE_PREFIX_PATH={prefix}")
-        yield f"find_package(deltat {wanted}) {'finds it' if is_there else 'is refused'}", (ran.returncode == 0) == is_there, ran.stderr[-300:]
+        good = (ran.returncode == 0) == is_there
+        yield f"find_package(deltat {wanted}) {'finds it' if is_there else 'is refused'}", good, ran.stderr[-300:]
         if not is_there:
             continue
         ran = run("cmake", "--build", project / wanted)
-        said = [run(project / wanted / name).stdout for name in ("hello_c", "hello_cpp")] if ran.returncode == 0 else ran.stderr[-500:]
+        built = [project / wanted / name for name in ("hello_c", "hello_cpp")]
+        said = [run(it).stdout if it.exists() else ran.stderr[-300:] for it in built]
         yield "deltat::deltat and deltat::static by CMake", said == [greets, greets], str(said)
 
 
