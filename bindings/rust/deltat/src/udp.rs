@@ -91,8 +91,8 @@ impl<K: Kind> Udp<K> {
         Udp::with_clock(UdpSocket::bind(own)?, empty_at, node, peers, now)
     }
 
-    /// As [`bind`](Udp::bind), over a socket that the program has bound: with a larger receive buffer, say,
-    /// which std can't set. Nobody knows how long what waits in it has waited, so that is dropped.
+    /// As [`bind`](Udp::bind), over a socket that the program has bound, as one with a larger receive
+    /// buffer, which std can't set. Datagrams that wait in it are dropped: nobody knows for how long.
     ///
     /// # Errors
     ///
@@ -122,7 +122,7 @@ impl<K: Kind> Udp<K> {
             buf: vec![0; ROOM],
             clock,
             empty_at,
-            // nobody knows when the node made what waits in it by now: that is dropped, and resent
+            // datagrams that wait in the node are dropped, and resent: nobody knows for how long they wait
             turned_at: 0,
             not_sent: 0,
         })
