@@ -1,5 +1,5 @@
 #!/usr/bin/env python3
-"""The Python binding over libdeltat, in memory and over sockets of this machine, and the one for Rust.
+"""The Python binding over libdeltat, in memory and over sockets of this machine.
 `tests/binding.py [LIBRARY] [TEST ..]`; LIBRARY is lib/libdeltat.so.2 where none is named. Ends with 1 where one of
 these fails, and with 77 where there is no library:
 
@@ -19,7 +19,6 @@ these fails, and with 77 where there is no library:
   a service is told of a reply to a client that is away; 100 calls at once in a loop of asyncio are answered, and one that waits when it is closed is unsure.
 - examples: examples/echo.py asks itself, and examples/echo.c, which is compiled first, at the ports that they name; and
   tools/dtcat.py asks examples/counter.py and examples/counter.c.
-- rust: the tests of bindings/rust, where there is cargo, and its example is asked.
 
 In tests/all: no words, 300 s."""
 from __future__ import annotations
@@ -591,24 +590,9 @@ def examples() -> bool:
     return right
 
 
-def rust() -> bool:
-    if not shutil.which("cargo"):
-        print("rust: there is no cargo")
-        return True
-    with tempfile.TemporaryDirectory() as folder:
-        how = {"cwd": TOP / "bindings" / "rust", "env": {**os.environ, "CARGO_TARGET_DIR": folder}, "capture_output": True, "text": True}
-        for words in (["test"], ["build", "--example", "echo"]):
-            ran = subprocess.run(["cargo", *words, "--offline", "--quiet"], **how)
-            if ran.returncode or "warning" in ran.stderr:
-                print(f"rust: cargo {words[0]} ended with {ran.returncode}: {(ran.stdout + ran.stderr)[-500:]}")
-                return False
-        time.sleep(PARAMS.quiet / 1000)
-        return asked([f"{folder}/debug/examples/echo"])
-
-
 def main() -> int:
     words = sys.argv[2:] if named else sys.argv[1:]
-    tests = {"refusals": refusals, "whole": whole, "simulated": simulated, "processes": processes, "asynchronous": asynchronous, "recorded": recorded, "services": services, "examples": examples, "rust": rust}
+    tests = {"refusals": refusals, "whole": whole, "simulated": simulated, "processes": processes, "asynchronous": asynchronous, "recorded": recorded, "services": services, "examples": examples}
     failed = 0
     for name in words or tests:
         begun = time.monotonic()

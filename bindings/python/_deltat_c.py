@@ -176,6 +176,8 @@ class Route(ctypes.Structure):
 
 
 class NodeOptions(ctypes.Structure):
+    """`struct dt_node_options`."""
+
     _fields_ = [
         ("size", ctypes.c_uint32),
         ("node", ctypes.c_uint32),
@@ -189,6 +191,8 @@ class NodeOptions(ctypes.Structure):
 
 
 class OpenResult(ctypes.Structure):
+    """`struct dt_open_result`."""
+
     _fields_ = [
         ("value", ctypes.c_uint32),
         ("status", ctypes.c_uint8),
@@ -197,6 +201,8 @@ class OpenResult(ctypes.Structure):
 
 
 class ReceiveResult(ctypes.Structure):
+    """`struct dt_receive_result`."""
+
     _fields_ = [
         ("value", ctypes.c_uint32),
         ("status", ctypes.c_uint8),
@@ -205,6 +211,8 @@ class ReceiveResult(ctypes.Structure):
 
 
 class SendResult(ctypes.Structure):
+    """`struct dt_send_result`."""
+
     _fields_ = [
         ("quiet_until", ctypes.c_uint64),
         ("free", ctypes.c_uint32),
@@ -213,6 +221,8 @@ class SendResult(ctypes.Structure):
 
 
 class ReadResult(ctypes.Structure):
+    """`struct dt_read_result`."""
+
     _fields_ = [
         ("len", ctypes.c_size_t),
         ("status", ctypes.c_uint8),
@@ -223,6 +233,8 @@ class ReadResult(ctypes.Structure):
 
 
 class Message(ctypes.Structure):
+    """`struct dt_message`."""
+
     _fields_ = [
         ("size", ctypes.c_uint32),
         ("flow", Flow),
@@ -233,6 +245,8 @@ class Message(ctypes.Structure):
 
 
 class Datagram(ctypes.Structure):
+    """`struct dt_datagram`."""
+
     _fields_ = [
         ("size", ctypes.c_uint32),
         ("to", ctypes.c_uint32),
@@ -242,6 +256,8 @@ class Datagram(ctypes.Structure):
 
 
 class Report(ctypes.Structure):
+    """`struct dt_report`."""
+
     _fields_ = [
         ("size", ctypes.c_uint32),
         ("flow", Flow),
@@ -258,6 +274,8 @@ class Report(ctypes.Structure):
 
 
 class BlockedCounts(ctypes.Structure):
+    """`struct dt_blocked_counts`."""
+
     _fields_ = [
         ("closed_port", ctypes.c_uint64),
         ("too_many_flows", ctypes.c_uint64),
@@ -296,6 +314,8 @@ class FlowCounts(ctypes.Structure):
 
 
 class ServiceOptions(ctypes.Structure):
+    """`struct dt_service_options`."""
+
     _fields_ = [
         ("size", ctypes.c_uint32),
         ("life", ctypes.c_uint32),
@@ -315,6 +335,8 @@ class Token(ctypes.Structure):
 
 
 class CallResult(ctypes.Structure):
+    """`struct dt_call_result`."""
+
     _fields_ = [
         ("call", ctypes.c_uint64),
         ("quiet_until", ctypes.c_uint64),
@@ -325,6 +347,8 @@ class CallResult(ctypes.Structure):
 
 
 class ReplyResult(ctypes.Structure):
+    """`struct dt_reply_result`."""
+
     _fields_ = [
         ("free", ctypes.c_uint32),
         ("status", ctypes.c_uint8),
@@ -333,6 +357,8 @@ class ReplyResult(ctypes.Structure):
 
 
 class Event(ctypes.Structure):
+    """`struct dt_event`."""
+
     _fields_ = [
         ("size", ctypes.c_uint32),
         ("kind", ctypes.c_uint8),
@@ -436,11 +462,26 @@ FUNCTIONS: dict[str, tuple[object, list[object]]] = {
     ),
     "dt_node_receive": (
         ReceiveResult,
-        [ctypes.c_void_p, ctypes.c_uint64, ctypes.c_uint16, ctypes.c_void_p, ctypes.c_size_t, ctypes.c_uint32],
+        [
+            ctypes.c_void_p,
+            ctypes.c_uint64,
+            ctypes.c_uint16,
+            ctypes.c_void_p,
+            ctypes.c_size_t,
+            ctypes.c_uint32,
+        ],
     ),
     "dt_node_send": (
         SendResult,
-        [ctypes.c_void_p, ctypes.c_uint64, ctypes.POINTER(Flow), ctypes.c_void_p, ctypes.c_size_t, ctypes.c_bool, ctypes.c_bool],
+        [
+            ctypes.c_void_p,
+            ctypes.c_uint64,
+            ctypes.POINTER(Flow),
+            ctypes.c_void_p,
+            ctypes.c_size_t,
+            ctypes.c_bool,
+            ctypes.c_bool,
+        ],
     ),
     "dt_node_read": (
         ReadResult,
@@ -516,7 +557,12 @@ FUNCTIONS: dict[str, tuple[object, list[object]]] = {
     ),
     "dt_service_open": (
         OpenResult,
-        [ctypes.c_void_p, ctypes.POINTER(Params), ctypes.POINTER(NodeOptions), ctypes.POINTER(ServiceOptions)],
+        [
+            ctypes.c_void_p,
+            ctypes.POINTER(Params),
+            ctypes.POINTER(NodeOptions),
+            ctypes.POINTER(ServiceOptions),
+        ],
     ),
     "dt_service_set_port": (
         ctypes.c_uint8,
@@ -524,7 +570,15 @@ FUNCTIONS: dict[str, tuple[object, list[object]]] = {
     ),
     "dt_service_call": (
         CallResult,
-        [ctypes.c_void_p, ctypes.c_uint64, ctypes.POINTER(Flow), ctypes.c_void_p, ctypes.c_size_t, ctypes.c_uint32, ctypes.c_uint64],
+        [
+            ctypes.c_void_p,
+            ctypes.c_uint64,
+            ctypes.POINTER(Flow),
+            ctypes.c_void_p,
+            ctypes.c_size_t,
+            ctypes.c_uint32,
+            ctypes.c_uint64,
+        ],
     ),
     "dt_service_reply": (
         ReplyResult,
@@ -556,7 +610,14 @@ FUNCTIONS: dict[str, tuple[object, list[object]]] = {
     ),
     "dt_service_receive": (
         ReceiveResult,
-        [ctypes.c_void_p, ctypes.c_uint64, ctypes.c_uint16, ctypes.c_void_p, ctypes.c_size_t, ctypes.c_uint32],
+        [
+            ctypes.c_void_p,
+            ctypes.c_uint64,
+            ctypes.c_uint16,
+            ctypes.c_void_p,
+            ctypes.c_size_t,
+            ctypes.c_uint32,
+        ],
     ),
     "dt_service_next_datagram": (
         ctypes.c_uint8,

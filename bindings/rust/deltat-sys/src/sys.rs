@@ -2,8 +2,8 @@
 //! What libdeltat exports, as include/deltat.h has it: names, duties and statuses are those of C.
 #![allow(non_camel_case_types)]
 
-use core::ffi::c_char;
 use core::marker::{PhantomData, PhantomPinned};
+use std::os::raw::c_char; // in core since Rust 1.64
 
 pub const DELTAT_VERSION: &str = "0.1.1";
 pub const DELTAT_VERSION_MAJOR: u32 = 0;
@@ -887,7 +887,7 @@ pub struct dt_network {
     pub size: u32,
     /// links of the longest path: 1 to 256
     pub hops: u32,
-    /// longest delay of a link, with all queues, under load, in microseconds: at most a day
+    /// longest delay of a link in microseconds, with all queues, under load: at most a day
     pub delay_us: u64,
     /// a usual round trip from end to end: at most a day
     pub round_trip_us: u64,
@@ -954,7 +954,7 @@ extern "C" {
     /// - `DT_NO_MEMORY`: nothing changed
     /// - `DT_EXISTS`: the handle is open; nothing changed
     /// - `DT_INVALID`: a size, `start_as` or a reserved field is wrong (`field` is 0), or a parameter is out of
-    /// range (`field`, `value`: the first such); nothing changed
+    ///   range (`field`, `value`: the first such); nothing changed
     ///
     /// Cost: each link reserves room for 64 of the longest datagrams, about 526,000 octets.
     pub fn dt_node_open(
@@ -1025,7 +1025,7 @@ extern "C" {
     /// - `DT_NOT_OPEN`
     /// - `DT_STOPPED`: nothing changed
     /// - `DT_INVALID`: `flow` doesn't go from this node to another, `len` is 0, or 2^62 octets would have been
-    /// passed in; nothing changed
+    ///   passed in; nothing changed
     /// - `DT_QUIET`: the node is silent until `quiet_until`; none was taken
     /// - `DT_FULL`: only `free` octets fit; none was taken. More than `cap` octets never fit
     pub fn dt_node_send(
@@ -1112,7 +1112,7 @@ extern "C" {
     /// - `DT_MORE`: 65,537 flows had none; others may: call again
     /// - `DT_BUFFER_TOO_SMALL`: it has `len` octets and waits: call again with room for them
     /// - `DT_LOST`: out of memory: octets of `flow` are lost, and its next message has `gap`; the node is usable:
-    /// call again
+    ///   call again
     /// - `DT_NO_MEMORY`: the node is stopped
     /// - `DT_STOPPED`: as DT_NO_MEMORY; a message that waits for room can still be taken
     /// - `DT_NOT_OPEN`: or messages aren't enabled
@@ -1217,7 +1217,7 @@ extern "C" {
     ///
     /// - `DT_OK`: `call` is its number
     /// - `DT_NO_MEMORY`: the service is stopped. The call may have been made, so take it as unsure; if it was, an
-    /// event says so
+    ///   event says so
     /// - `DT_NOT_OPEN`
     /// - `DT_STOPPED`: nothing changed
     /// - `DT_INVALID`: `invalid` says why; nothing changed
@@ -1272,7 +1272,7 @@ extern "C" {
     /// - `DT_OK`
     /// - `DT_NONE`
     /// - `DT_BUFFER_TOO_SMALL`: `len` octets are needed; this event, and those after it, wait. Of `out` only `len`
-    /// is set, all else is 0
+    ///   is set, all else is 0
     /// - `DT_NOT_OPEN`
     pub fn dt_service_next_event(
         service: *mut dt_service,
