@@ -4,10 +4,10 @@
 Usage: tests/looks.py [ARCHIVE]
 
 examples/echo.c and examples/counter.c are compiled over ARCHIVE (lib/libdeltat.a) and run with a library before the
-system's, which stops them for STOP seconds when recvmsg has found nothing. While one is stopped a datagram arrives that lives for
-less than that. The program must not answer it: it has waited for all of its life, which only a clock that was read
-before the look can say. A datagram before the stop is answered, and so is one after it. A copy of each program that
-reads the clock after the look answers the old one, so the test would see it.
+system's, which stops them for STOP seconds when recvmsg has found nothing. While one is stopped a datagram arrives that
+lives for less than that. The program must not answer it: it has waited for all of its life, which only a clock that was
+read before the look can say. A datagram before the stop is answered, and so is one after it. A copy of each program
+that reads the clock after the look answers the old one, so the test would see it.
 
 In tests/all: no words, 120 s."""
 import os
@@ -44,7 +44,7 @@ ssize_t recvmsg(int wire, struct msghdr *head, int flags) {
     return len;
 }
 """
-# what each program is asked, the port for it, the lifetime of its packets, and how a copy reads the clock after the look
+# what each program is asked, the port, the lifetime of its packets, and how a copy reads the clock after the look
 PROGRAMS = {
     "echo": (b"hello", 20, 480, ("(it->empty_at = looked_at)", "(it->empty_at = now())")),
     "counter": (b"apples 1", 10, 100, ("(empty_at = looked_at)", "(empty_at = now())")),
