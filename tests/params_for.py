@@ -45,13 +45,25 @@ class Network:
 
 # the table of docs/parameters.md
 ROWS = (
-    Network(2_000, 300), Network(2_000, 300, mtu=9000), Network(20_000, 4_000), Network(250_000, 50_000),
-    Network(250_000, 50_000, shelf=2), Network(1_000_000, 600_000), Network(30_000_000, 4_000_000, hops=3, mtu=250),
+    Network(2_000, 300),
+    Network(2_000, 300, mtu=9000),
+    Network(20_000, 4_000),
+    Network(250_000, 50_000),
+    Network(250_000, 50_000, shelf=2),
+    Network(1_000_000, 600_000),
+    Network(30_000_000, 4_000_000, hops=3, mtu=250),
 )
 LEAST = {"hops": 1, "tries": 1, "mtu": 59, "room": 1}
 MOST = {
-    "delay_us": 86_400_000_000, "round_trip_us": 86_400_000_000, "hops": 256, "drift_ppm": 100_000, "tries": 1000,
-    "mtu": 65_535, "room": 65_536, "wait_ms": 86_400_000, "shelf": 1000,
+    "delay_us": 86_400_000_000,
+    "round_trip_us": 86_400_000_000,
+    "hops": 256,
+    "drift_ppm": 100_000,
+    "tries": 1000,
+    "mtu": 65_535,
+    "room": 65_536,
+    "wait_ms": 86_400_000,
+    "shelf": 1000,
 }
 
 
@@ -85,13 +97,24 @@ class Library:
 def drawn(dice: random.Random) -> Network:
     """A network, with a number out of the ordinary now and then."""
 
-    def up_to(most: int, usual: int) -> int:
-        return dice.choice((dice.randrange(usual + 1), int(2 ** dice.uniform(0, most.bit_length())) % (most + 1), dice.choice((0, 1, most))))
+    usual = {
+        "delay_us": 1_000_000,
+        "round_trip_us": 500_000,
+        "hops": 4,
+        "drift_ppm": 200,
+        "tries": 10,
+        "mtu": 9_000,
+        "room": 65_536,
+        "wait_ms": 20,
+        "shelf": 3,
+    }
 
-    return Network(
-        up_to(MOST["delay_us"], 1_000_000), up_to(MOST["round_trip_us"], 500_000), max(1, up_to(256, 4)), up_to(100_000, 200),
-        max(1, up_to(1000, 10)), max(59, up_to(65_535, 9000)), max(1, up_to(65_536, 65_536)), up_to(MOST["wait_ms"], 20), up_to(1000, 3),
-    )
+    def number(name: str) -> int:
+        most = MOST[name]
+        wide = int(2 ** dice.uniform(0, most.bit_length())) % (most + 1)
+        return max(LEAST.get(name, 0), dice.choice((dice.randrange(usual[name] + 1), wide, dice.choice((0, 1, most)))))
+
+    return Network(**{name: number(name) for name in MOST})
 
 
 def compare(library: Library, network: Network) -> None:
